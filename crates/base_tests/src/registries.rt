@@ -14,7 +14,7 @@ enum Step {
     Expand(u16, bool, Result<(), RegRefusal>),
     /// A broker that is up or not.
     Elect(u16, bool, Result<u32, RegRefusal>),
-    /// A broker that is up or not, and its stable end.
+    /// A broker that is up or not, and its flushed end.
     Unclean(u16, bool, u64, Result<u32, RegRefusal>),
     /// An epoch and a start.
     Raise(u32, u64, Result<u64, RegRefusal>),

@@ -53,7 +53,7 @@ pub stays_closed_kept : {D : Type 0} (content : D → Content) (settings : Setti
 stays_closed_kept content settings d d' k = record {
   up = refl;
   end = refl;
-  stable = refl;
+  flushed_end = refl;
   line = refl;
   local = refl;
   layout = refl;
@@ -61,7 +61,7 @@ stays_closed_kept content settings d d' k = record {
   seen = λ s h. (
     s,
     record {
-      told = k.tells ∙ h.told;
+      told = k.is_observable ∙ h.told;
       kept = h.kept;
       images = λ c now. h.images c (k.images c now);
       again = record { opens = λ c now. h.again.opens c (k.images c now); fronts = λ c x m now at says. h.again.fronts c x m (k.images c now) (k.images x at) says };

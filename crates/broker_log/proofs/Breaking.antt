@@ -7,7 +7,7 @@ use Rattle.log_terms.specs.Log.{end_of, up_to, from_offset}
 use Rattle.epoch_line.specs.Line.{cut_end}
 use Rattle.log_steps.specs.Opens.{Opened, Opens}
 use Rattle.log_steps.specs.Reopens.{Reopens}
-use Rattle.local_log.specs.Log.{Log, committed, stable_log}
+use Rattle.local_log.specs.Log.{Log, committed, flushed_log}
 use Rattle.local_log.specs.Cutting.{OpensAs, OpensAsOr}
 use Rattle.broker_log.specs.Seen.{Seen, Back, Up, Down, OpensBetween, back_of, returning, returns, ComesBack, IsBack, IsKept, ShowsOpen}
 use Rattle.broker_log.specs.Turns.{Breaks, BreaksUnsaved, Stops, loosened, torn}
@@ -17,10 +17,10 @@ use Rattle.broker_log.proofs.Local.{opened_as, local_low, local_ends, up_local, 
 
 -- the cut log or that of before, whichever ends first
 pub torn_back : (i : ℕ) (s : Seen) (back : Back) (c : Files) → Opens c (returns i s) ⊎ Opens c (returning i s back) → ComesBack i (torn s back) c
-torn_back i s back c = go (nat_lt back.0 s.stable)
+torn_back i s back c = go (nat_lt back.0 s.flushed_end)
   where
     go : (b : Bool) → Opens c (returns i s) ⊎ Opens c (returning i s back)
-        → ComesBack i (if b then record s { stable = back.0; saved = back.1; local = back.2; loose = Some (back_of s) } else loosened s back) c
+        → ComesBack i (if b then record s { flushed_end = back.0; saved = back.1; local = back.2; loose = Some (back_of s) } else loosened s back) c
     go true (inl was) = inr was
     go true (inr made) = inl made
     go false (inl was) = inl was
@@ -28,9 +28,9 @@ torn_back i s back c = go (nat_lt back.0 s.stable)
 
 -- it was opened as often
 pub torn_most : (i : ℕ) (s : Seen) (back : Back) → s.incarnation ≤ i → (torn s back).incarnation ≤ i
-torn_most i s back le = go (nat_lt back.0 s.stable)
+torn_most i s back le = go (nat_lt back.0 s.flushed_end)
   where
-    go : (b : Bool) → (if b then record s { stable = back.0; saved = back.1; local = back.2; loose = Some (back_of s) } else loosened s back).incarnation ≤ i
+    go : (b : Bool) → (if b then record s { flushed_end = back.0; saved = back.1; local = back.2; loose = Some (back_of s) } else loosened s back).incarnation ≤ i
     go true = le
     go false = le
 
@@ -43,12 +43,12 @@ loosened_kept s back k is = record {
 }
 
 pub torn_kept : (s : Seen) (back : Back) → IsKept s → IsBack s back → IsKept (torn s back)
-torn_kept s back k is = go (nat_lt back.0 s.stable)
+torn_kept s back k is = go (nat_lt back.0 s.flushed_end)
   where
     low : Seen
-    low = record s { stable = back.0; saved = back.1; local = back.2; loose = Some (back_of s) }
+    low = record s { flushed_end = back.0; saved = back.1; local = back.2; loose = Some (back_of s) }
 
-    go : (b : Bool) → IsKept (if b then record s { stable = back.0; saved = back.1; local = back.2; loose = Some (back_of s) } else loosened s back)
+    go : (b : Bool) → IsKept (if b then record s { flushed_end = back.0; saved = back.1; local = back.2; loose = Some (back_of s) } else loosened s back)
     go true = record {
       consecutive = k.consecutive;
       back = record { begins = is.begins; within = is.within };
@@ -70,15 +70,15 @@ stops_by content log again = record {
 }
 
 module _ {D : Type 0} (content : D → Content) (old new : Log D) where
-  pub breaks_by : (after : Seen → Seen) → (content new.disk).tells ≡ (content old.disk).tells → Reopens (content new.disk)
+  pub breaks_by : (after : Seen → Seen) → (content new.disk).is_observable ≡ (content old.disk).is_observable → Reopens (content new.disk)
       → ((s : Seen) → ShowsOpen content old s → IsKept (after s))
       → ((s : Seen) → ShowsOpen content old s → (c : Files) → Image (content new.disk) c → (i : ℕ) × ((after s).incarnation ≤ i) × ComesBack i (after s) c)
       → OpensBetween (content old.disk) (content new.disk) → Breaks content (Up old) (Down old.settings new.disk) after
-  breaks_by after tells again kept images between = record {
+  breaks_by after is_observable again kept images between = record {
     between = between;
     down = refl;
     settings = refl;
-    seen = λ s h. (after s, record { told = tells ∙ h.told; kept = kept s h; images = images s h; again = again }, refl);
+    seen = λ s h. (after s, record { told = is_observable ∙ h.told; kept = kept s h; images = images s h; again = again }, refl);
   }
 
   module _ (laws : Lawful (content new.disk)) where
@@ -94,26 +94,26 @@ module _ {D : Type 0} (content : D → Content) (old new : Log D) where
 
     module _ (again : Reopens (content new.disk)) where
       -- each image opens as before
-      pub breaks_unsaved : (content new.disk).tells ≡ (content old.disk).tells → LeavesOnly (content old.disk) (content new.disk) (OpensAs (content old.disk)) → BreaksUnsaved content (Up old) (Down old.settings new.disk)
-      breaks_unsaved tells opens =
-          breaks_by _ tells again
+      pub breaks_unsaved : (content new.disk).is_observable ≡ (content old.disk).is_observable → LeavesOnly (content old.disk) (content new.disk) (OpensAs (content old.disk)) → BreaksUnsaved content (Up old) (Down old.settings new.disk)
+      breaks_unsaved is_observable opens =
+          breaks_by _ is_observable again
           (λ s h. loosened_kept s (back_of s) (kept_stands content old s h) (back_stands content old s h))
           (λ s h c now. (let was = image_as (content old.disk) (content new.disk) laws opens c now in (old.incarnation, most h.incarnation_is, inl (was.2 (returns old.incarnation s) (h.images was.0 was.1)))))
           (between_as (content old.disk) (content new.disk) opens)
 
-      -- all of the log was to be stable
-      pub breaks_settling : (f : List (ℕ × ℕ) → ℕ → List (ℕ × ℕ)) → (IsTrue (content old.disk).tells → cut_end (f old.line old.end) (old.end + 1) ≡ f old.line old.end)
-          → (content new.disk).tells ≡ (content old.disk).tells → LeavesOnly (content old.disk) (content new.disk) (OpensAsOr (content old.disk) (stable_log (committed old (f old.line old.end))))
+      -- all of the log was to be flushed
+      pub breaks_settling : (f : List (ℕ × ℕ) → ℕ → List (ℕ × ℕ)) → (IsTrue (content old.disk).is_observable → cut_end (f old.line old.end) (old.end + 1) ≡ f old.line old.end)
+          → (content new.disk).is_observable ≡ (content old.disk).is_observable → LeavesOnly (content old.disk) (content new.disk) (OpensAsOr (content old.disk) (flushed_log (committed old (f old.line old.end))))
           → OpensBetween (content old.disk) (content new.disk) → Breaks content (Up old) (Down old.settings new.disk) (λ s. loosened s (end_of s.batches, f s.line (end_of s.batches), s.local))
-      breaks_settling f within tells opens between =
-          breaks_by _ tells again
+      breaks_settling f within is_observable opens between =
+          breaks_by _ is_observable again
           (λ s h. loosened_kept s (end_of s.batches, f s.line (end_of s.batches), s.local) (kept_stands content old s h) (record { begins = local_ends content old s h; within = local_low content old s h }))
-          (λ s h c now. (old.incarnation, most h.incarnation_is, image_or (stable_log (committed old (f old.line old.end))) opens s h (returning old.incarnation s (end_of s.batches, f s.line (end_of s.batches), s.local)) (made s h) c now))
+          (λ s h c now. (old.incarnation, most h.incarnation_is, image_or (flushed_log (committed old (f old.line old.end))) opens s h (returning old.incarnation s (end_of s.batches, f s.line (end_of s.batches), s.local)) (made s h) c now))
           between
         where
-          made : (s : Seen) → ShowsOpen content old s → stable_log (committed old (f old.line old.end)) ≡ returning old.incarnation s (end_of s.batches, f s.line (end_of s.batches), s.local)
+          made : (s : Seen) → ShowsOpen content old s → flushed_log (committed old (f old.line old.end)) ≡ returning old.incarnation s (end_of s.batches, f s.line (end_of s.batches), s.local)
           made s h =
-              opened_as (stable_log (committed old (f old.line old.end))) old.incarnation s.local (from_offset s.local (up_to (end_of s.batches) s.batches)) (f s.line (end_of s.batches))
+              opened_as (flushed_log (committed old (f old.line old.end))) old.incarnation s.local (from_offset s.local (up_to (end_of s.batches) s.batches)) (f s.line (end_of s.batches))
               refl
               (sym h.local_is)
               (ap (λ (n : ℕ). up_to n old.batches) (sym h.ends) ∙ sym (up_local content old s h (end_of s.batches) (local_low content old s h)))

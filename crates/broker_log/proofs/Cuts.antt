@@ -32,7 +32,7 @@ end_below_it log end lt = rw (lt-ltb end log.local_start lt) refl
 -- the log after a cut, whatever is seen
 pub record IsCutTo {D : Type 0} (log cut : Log D) (end now : ℕ) : Type 0 where
   pub end_is : cut.end ≡ now
-  pub stable_is : cut.stable ≡ now
+  pub flushed_end_is : cut.flushed_end ≡ now
   pub line_is : cut.line ≡ cut_end log.line now
   pub local_is : cut.local_start ≡ min log.local_start end
 
@@ -41,11 +41,11 @@ cut_told {D = D} old end = elim (cases_lt end old.local_start) [
   | inl lt ↦
       subst (λ (l : Log D). IsCutTo old l end (cut_end_at old end)) (sym (cut_below old end lt))
       (subst (λ (n : ℕ). IsCutTo old (restarted old end (cut_end old.line end)) end n) (sym (end_below_it old end lt))
-      (record { end_is = refl; stable_is = refl; line_is = refl; local_is = omega (arith, lt) }))
+      (record { end_is = refl; flushed_end_is = refl; line_is = refl; local_is = omega (arith, lt) }))
   | inr ge ↦
       subst (λ (l : Log D). IsCutTo old l end (cut_end_at old end)) (sym (cut_above old end ge))
       (subst (λ (n : ℕ). IsCutTo old (cut old (cut_point end old.closed old.active)) end n) (sym (end_above_it old end ge))
-      (record { end_is = refl; stable_is = refl; line_is = refl; local_is = omega (arith, ge) }))
+      (record { end_is = refl; flushed_end_is = refl; line_is = refl; local_is = omega (arith, ge) }))
 ]
 
 -- and where it is seen
@@ -56,7 +56,7 @@ pub record IsSeenCut {D : Type 0} (cut : Log D) (s : Seen) (end now : ℕ) : Typ
   pub begins : end_of below ≡ cut.local_start
   pub local_is : cut.local_start ≡ min s.local now
 
-module _ {D : Type 0} (content : D → Content) (old : Log D) (end : ℕ) (coheres : IsTrue (content old.disk).tells → Coheres old) where
+module _ {D : Type 0} (content : D → Content) (old : Log D) (end : ℕ) (coheres : IsTrue (content old.disk).is_observable → Coheres old) where
   module _ (s : Seen) (h : ShowsOpen content old s) where
     low : old.local_start ≤ end → old.local_start ≤ cut_point end old.closed old.active
     low le =
@@ -136,16 +136,16 @@ module _ {D : Type 0} (content : D → Content) (old : Log D) (end : ℕ) (coher
 
   module _ (new : Log D) where
     -- the cut may be done
-    pub cut_breaks : (content new.disk).tells ≡ (content old.disk).tells → Lawful (content new.disk) → Reopens (content new.disk) → LeavesOnly (content old.disk) (content new.disk) (OpensAsOr (content old.disk) (all_of (cut_at old end)))
+    pub cut_breaks : (content new.disk).is_observable ≡ (content old.disk).is_observable → Lawful (content new.disk) → Reopens (content new.disk) → LeavesOnly (content old.disk) (content new.disk) (OpensAsOr (content old.disk) (all_of (cut_at old end)))
         → (cut_at old end).incarnation ≡ old.incarnation → OpensBetween (content old.disk) (content new.disk) → BreaksIf content (Up old) (Down old.settings new.disk) (MayCut end) (λ s. torn s (cut_back s end))
-    cut_breaks tells laws again opens inc between = record {
+    cut_breaks is_observable laws again opens inc between = record {
       between = between;
       down = refl;
       settings = refl;
       seen = λ s h may. (
         torn s (cut_back s end),
         record {
-          told = tells ∙ h.told;
+          told = is_observable ∙ h.told;
           kept = torn_kept s (cut_back s end) (kept_stands content old s h) (back_cut s h);
           images = λ c now. (
             old.incarnation,
@@ -163,18 +163,18 @@ module _ {D : Type 0} (content : D → Content) (old : Log D) (end : ℕ) (coher
     -- the cut is done
     module _ (unbroken : old.broken ≡ false) (b : Becomes content (cut_at old end) new) (durable : (c : Files) → Image (content new.disk) c → Opens c (all_of (cut_at old end)))
         (same : (cut_at old end).disk ≡ old.disk) (again : (cut_at old end).incarnation ≡ old.incarnation) (whole : (cut_at old end).broken ≡ old.broken)
-        (coheres' : new.broken ≡ false → IsTrue (content new.disk).tells → Coheres new) (between : OpensBetween (content old.disk) (content new.disk)) where
+        (coheres' : new.broken ≡ false → IsTrue (content new.disk).is_observable → Coheres new) (between : OpensBetween (content old.disk) (content new.disk)) where
       t : IsCutTo old (cut_at old end) end (cut_end_at old end)
       t = cut_told old end
 
-      told_then : (s : Seen) → ShowsOpen content old s → IsTrue (content (cut_at old end).disk).tells
-      told_then s h = ap (λ (d : D). (content d).tells) same ∙ h.told
+      told_then : (s : Seen) → ShowsOpen content old s → IsTrue (content (cut_at old end).disk).is_observable
+      told_then s h = ap (λ (d : D). (content d).is_observable) same ∙ h.told
 
       end_now : new.end ≡ cut_end_at old end
       end_now = ap (λ (l : Log D). l.end) b.fields ∙ t.end_is
 
-      stable_now : new.stable ≡ cut_end_at old end
-      stable_now = ap (λ (l : Log D). l.stable) b.fields ∙ t.stable_is
+      flushed_end_now : new.flushed_end ≡ cut_end_at old end
+      flushed_end_now = ap (λ (l : Log D). l.flushed_end) b.fields ∙ t.flushed_end_is
 
       line_now : new.line ≡ cut_end old.line (cut_end_at old end)
       line_now = ap (λ (l : Log D). l.line) b.fields ∙ t.line_is
@@ -189,7 +189,7 @@ module _ {D : Type 0} (content : D → Content) (old : Log D) (end : ℕ) (coher
           let follow : IsConsecutive 0 (up_to end s.batches) = consecutive_prefix 0 (up_to end s.batches) s.batches (up_to_prefix end s.batches) h.consecutive in
           let inc : new.incarnation ≡ (cut_at old end).incarnation = ap (λ (l : Log D). l.incarnation) b.fields in
           record {
-            told = b.tells ∙ told_then s h;
+            told = b.is_observable ∙ told_then s h;
             unbroken = ap (λ (l : Log D). l.broken) b.fields ∙ whole ∙ unbroken;
             below = k.below;
             batches_are = k.parts ∙ ap (λ (l : List (List ℕ)). k.below ++ l) (sym (b.batches (told_then s h)));
@@ -198,14 +198,14 @@ module _ {D : Type 0} (content : D → Content) (old : Log D) (end : ℕ) (coher
             local_is = ap (λ (n : ℕ). min s.local n) (sym k.end_is) ∙ sym k.local_is ∙ sym (ap (λ (l : Log D). l.local_start) b.fields);
             within = omega arith;
             line_is = ap (λ (l : List (ℕ × ℕ)). cut_end l e) h.line_is ∙ ap (cut_end old.line) (sym k.end_is) ∙ sym line_now;
-            stable_is = sym k.end_is ∙ sym stable_now;
+            flushed_end_is = sym k.end_is ∙ sym flushed_end_now;
             ends = sym k.end_is ∙ sym end_now;
             tight = h.tight;
             images = λ c now. subst (Opens c)
                 (opens_cut s h may ∙ ap (λ (i : ℕ). returning i s (cut_back s end)) (sym inc) ∙ anew s e follow (up_to_is 0 e (up_to end s.batches) s.batches h.consecutive (up_to_prefix end s.batches) refl) refl new.incarnation)
                 (durable c now);
             incarnation_is = h.incarnation_is ∙ sym again ∙ sym inc;
-            segments = (coheres' (ap (λ (l : Log D). l.broken) b.fields ∙ whole ∙ unbroken) (b.tells ∙ told_then s h)).segments;
+            segments = (coheres' (ap (λ (l : Log D). l.broken) b.fields ∙ whole ∙ unbroken) (b.is_observable ∙ told_then s h)).segments;
           }
         where
           anew : (s : Seen) (e : ℕ) → IsConsecutive 0 (up_to end s.batches) → up_to e s.batches ≡ up_to end s.batches → e ≡ end_of (up_to end s.batches) → (i : ℕ)
@@ -218,7 +218,7 @@ module _ {D : Type 0} (content : D → Content) (old : Log D) (end : ℕ) (coher
       cuts_by = record {
         between = between;
         end_is = refl;
-        stable_is = ap Some (stable_now ∙ sym end_now);
+        flushed_end_is = ap Some (flushed_end_now ∙ sym end_now);
         line_is = ap Some (line_now ∙ ap (cut_end old.line) (sym end_now));
         local_is = ap Some local_now;
         point = end_now;

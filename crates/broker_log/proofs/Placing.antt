@@ -7,8 +7,8 @@ use Rattle.tier_base.specs.declared.fault.Trouble.{Trouble}
 use Rattle.tier_base.specs.declared.fault.Trouble.TheVariants.{Failed, NoMemory}
 use Rattle.local_log.specs.declared.refusal.RollRefusal.{RollRefusal}
 use Rattle.local_log.specs.declared.refusal.RollRefusal.TheVariants.{TooManySegments, EmptySegment, DiskFault}
-use Rattle.broker_log.specs.declared.place.Place.{Place}
-use Rattle.broker_log.specs.declared.place.Place.TheVariants as place
+use Rattle.broker_log.specs.declared.place.LogOrDisk.{LogOrDisk}
+use Rattle.broker_log.specs.declared.place.LogOrDisk.TheVariants as place
 use Rattle.broker_log.specs.Seen.{Up}
 use Rattle.broker_log.specs.Inside.{kept_of, IsWell}
 
@@ -55,12 +55,12 @@ whole_by P Q A B (Err e) ok (inr (inr h)) f a b not = absurd (not h)
 
 module _ {D : Type 0} where
   -- an open log was taken out
-  pub well_up : (p : Place D) (log : Log D) → kept_of p ≡ Up log → IsWell p → log.broken ≡ false
+  pub well_up : (p : LogOrDisk D) (log : Log D) → kept_of p ≡ Up log → IsWell p → log.broken ≡ false
   well_up (place.Up l) log is well = let same : l ≡ log = cc is in subst (λ (x : Log D). x.broken ≡ false) same well
   well_up (place.Down settings disk) log is well = absurd (cc is)
   well_up place.Away log is well = absurd well
 
-  pub place_well : (p : Place D) (settings : Settings) (n : Log D) (b : Bool) → AreSettings settings → (b ≡ false → p ≡ place.Up n) → (b ≡ true → p ≡ place.Down settings n.disk)
+  pub place_well : (p : LogOrDisk D) (settings : Settings) (n : Log D) (b : Bool) → AreSettings settings → (b ≡ false → p ≡ place.Up n) → (b ≡ true → p ≡ place.Down settings n.disk)
       → (b ≡ false → n.broken ≡ false) → IsWell p
   place_well p settings n true are up down whole = subst IsWell (sym (down refl)) are
   place_well p settings n false are up down whole = subst IsWell (sym (up refl)) (whole refl)

@@ -12,12 +12,12 @@ use Rattle.broker_log.specs.Seen.{Kept, Up, Down, Away, WhileUp, OnDisk}
 use Rattle.broker_log.specs.Turns.{Reads}
 
 module _ {D : Type 0} (content : D → Content) (control : D → Control call_code) (offset limit mark : ℕ) (out : RunOut) where
-  on_disk : (log : Log D) (new : Kept D) → OnDisk new (λ d. IsCut log.line (control d).handed offset limit mark (piece_of log offset) out) → AreChecked out.bytes
-  on_disk log (Up after) c = cut_checked log.line (control after.disk).handed offset limit mark (piece_of log offset) out c
-  on_disk log (Down settings disk) c = cut_checked log.line (control disk).handed offset limit mark (piece_of log offset) out c
+  on_disk : (log : Log D) (new : Kept D) → OnDisk new (λ d. IsCut log.line (control d).last_read offset limit mark (piece_of log offset) out) → AreChecked out.bytes
+  on_disk log (Up after) c = cut_checked log.line (control after.disk).last_read offset limit mark (piece_of log offset) out c
+  on_disk log (Down settings disk) c = cut_checked log.line (control disk).last_read offset limit mark (piece_of log offset) out c
   on_disk log Away c = absurd c
 
-  while_up : (old new : Kept D) → WhileUp old (λ log. OnDisk new (λ d. IsCut log.line (control d).handed offset limit mark (piece_of log offset) out)) → AreChecked out.bytes
+  while_up : (old new : Kept D) → WhileUp old (λ log. OnDisk new (λ d. IsCut log.line (control d).last_read offset limit mark (piece_of log offset) out)) → AreChecked out.bytes
   while_up (Up log) new c = on_disk log new c
   while_up (Down settings disk) new c = absurd c
   while_up Away new c = absurd c

@@ -21,18 +21,18 @@ module _ {D : Type 0} (content : D → Content) (old : Log D) (n : ℕ) (line : 
       opened_as (all_of (restarted_log old n line)) old.incarnation n (from_offset n (up_to n whole)) line refl refl (sym (from_end n whole w.consecutive w.ends)) refl
 
   pub restarts_by : (new : Log D) → old.broken ≡ false → Becomes content (restarted_log old n line) new → ((c : Files) → Image (content new.disk) c → Opens c (all_of (restarted_log old n line)))
-      → (new.broken ≡ false → IsTrue (content new.disk).tells → Coheres new) → OpensBetween (content old.disk) (content new.disk) → Restarts content (Up old) (Up new) n line
+      → (new.broken ≡ false → IsTrue (content new.disk).is_observable → Coheres new) → OpensBetween (content old.disk) (content new.disk) → Restarts content (Up old) (Up new) n line
   restarts_by new unbroken b durable coheres between = record {
     between = between;
     end_is = ap (λ (l : Log D). Some l.end) b.fields;
-    stable_is = ap (λ (l : Log D). Some l.stable) b.fields;
+    flushed_end_is = ap (λ (l : Log D). Some l.flushed_end) b.fields;
     local_is = ap (λ (l : Log D). Some l.local_start) b.fields;
     line_is = ap (λ (l : Log D). Some l.line) b.fields;
     layout = ap (λ (l : Log D). Some (layout_of l)) b.fields;
     seen = λ s h whole w.
         let inc : new.incarnation ≡ old.incarnation = ap (λ (l : Log D). l.incarnation) b.fields in
         record {
-          told = b.tells ∙ h.told;
+          told = b.is_observable ∙ h.told;
           unbroken = ap (λ (l : Log D). l.broken) b.fields ∙ unbroken;
           below = whole;
           batches_are = sym (append-nil whole) ∙ ap (λ (l : List (List ℕ)). whole ++ l) (sym (b.batches h.told));
@@ -41,32 +41,32 @@ module _ {D : Type 0} (content : D → Content) (old : Log D) (n : ℕ) (line : 
           local_is = sym (ap (λ (l : Log D). l.local_start) b.fields);
           within = omega arith;
           line_is = sym (ap (λ (l : Log D). l.line) b.fields);
-          stable_is = sym (ap (λ (l : Log D). l.stable) b.fields);
+          flushed_end_is = sym (ap (λ (l : Log D). l.flushed_end) b.fields);
           ends = w.ends ∙ sym (ap (λ (l : Log D). l.end) b.fields);
           tight = h.tight;
           images = λ c now. subst (Opens c) (opens_restarted s whole w ∙ ap (λ (i : ℕ). returning i (restarted s whole line n) (n, line, n)) (sym inc)) (durable c now);
           incarnation_is = h.incarnation_is ∙ sym inc;
-          segments = (coheres (ap (λ (l : Log D). l.broken) b.fields ∙ unbroken) (b.tells ∙ h.told)).segments;
+          segments = (coheres (ap (λ (l : Log D). l.broken) b.fields ∙ unbroken) (b.is_observable ∙ h.told)).segments;
         };
   }
 
-  -- an end of what is stable is one of batches that have it
-  ends_then : (s : Seen) (whole : List (List ℕ)) → ShowsOpen content old s → LeadsTo whole n → up_to s.stable whole ≡ up_to s.stable s.batches → EndsAt s.local whole
+  -- an end of what is flushed is one of batches that have it
+  ends_then : (s : Seen) (whole : List (List ℕ)) → ShowsOpen content old s → LeadsTo whole n → up_to s.flushed_end whole ≡ up_to s.flushed_end s.batches → EndsAt s.local whole
   ends_then s whole h w same =
       let at = up_to_end s.local s.batches h.consecutive (local_ends content old s h) in
       let here : up_to s.local whole ≡ up_to s.local s.batches =
-      sym (up_up s.local s.stable whole h.within) ∙ ap (up_to s.local) same ∙ up_up s.local s.stable s.batches h.within in
+      sym (up_up s.local s.flushed_end whole h.within) ∙ ap (up_to s.local) same ∙ up_up s.local s.flushed_end s.batches h.within in
       (up_to s.local whole, up_to_prefix s.local whole, ap end_of here ∙ at)
 
-  pub restart_breaks : (new : Log D) → (content new.disk).tells ≡ (content old.disk).tells → Lawful (content new.disk) → Reopens (content new.disk)
+  pub restart_breaks : (new : Log D) → (content new.disk).is_observable ≡ (content old.disk).is_observable → Lawful (content new.disk) → Reopens (content new.disk)
       → LeavesOnly (content old.disk) (content new.disk) (OpensAsOr (content old.disk) (all_of (restarted_log old n line))) → OpensBetween (content old.disk) (content new.disk) → RestartBreaks content (Up old) (Down old.settings new.disk) n line
-  restart_breaks new tells laws again opens between = record {
+  restart_breaks new is_observable laws again opens between = record {
     between = between;
     down = refl;
     settings = refl;
     seen = λ s h whole w same.
         record {
-          told = tells ∙ h.told;
+          told = is_observable ∙ h.told;
           kept = record {
             consecutive = w.consecutive;
             back = record { begins = ends_then s whole h w same; within = h.within };

@@ -42,11 +42,11 @@ module _ {D : Type 0} (content : D → Content) (settings : Settings) (disk : D)
   pub reads : (s : Seen) (h : ShowsClosed content disk s) → (i : ℕ) × (s.incarnation ≤ i) × ComesBack i s (content disk).files
   reads s h = h.images (content disk).files (laws.reads h.told)
 
-  module _ (log : Log D) (tells : (content log.disk).tells ≡ (content disk).tells) (stable : log.stable ≡ log.end) (unbroken : log.broken ≡ false)
-      (is_of : IsTrue (content disk).tells → (o : Opened) × Opens (content disk).files o × IsOf o log) (coheres : IsTrue (content log.disk).tells → Coheres log)
+  module _ (log : Log D) (is_observable : (content log.disk).is_observable ≡ (content disk).is_observable) (flushed_end : log.flushed_end ≡ log.end) (unbroken : log.broken ≡ false)
+      (is_of : IsTrue (content disk).is_observable → (o : Opened) × Opens (content disk).files o × IsOf o log) (coheres : IsTrue (content log.disk).is_observable → Coheres log)
       (durable : (c : Files) → Image (content log.disk) c → Opens c (whole_log log)) where
     -- what was read is seen, behind whatever leads up to it
-    module _ (told : IsTrue (content log.disk).tells) (o : Opened) (is : IsOf o log) (below : List (List ℕ)) (leads : LeadsTo below o.local_start) where
+    module _ (told : IsTrue (content log.disk).is_observable) (o : Opened) (is : IsOf o log) (below : List (List ℕ)) (leads : LeadsTo below o.local_start) where
       c : Coheres log
       c = coheres told
 
@@ -80,7 +80,7 @@ module _ {D : Type 0} (content : D → Content) (settings : Settings) (disk : D)
         local_is = sym is.local_start;
         within = (let low = prefix_end below (below ++ o.batches) all (o.batches, refl) in omega (arith, low, leads.ends));
         line_is = sym is.line;
-        stable_is = ends ∙ sym stable;
+        flushed_end_is = ends ∙ sym flushed_end;
         ends = ends;
         tight = refl;
         images = λ f now. subst (Opens f) whole_is (durable f now);
@@ -88,8 +88,8 @@ module _ {D : Type 0} (content : D → Content) (settings : Settings) (disk : D)
         segments = c.segments;
       }
 
-    pub read_by : IsTrue (content disk).tells → (o : Opened) × Opens (content disk).files o × ((below : List (List ℕ)) → LeadsTo below o.local_start → ShowsOpen content log (read_behind o below))
-    read_by t = (let x = is_of t in (x.0, x.1, seen_behind (subst IsTrue (sym tells) t) x.0 x.2))
+    pub read_by : IsTrue (content disk).is_observable → (o : Opened) × Opens (content disk).files o × ((below : List (List ℕ)) → LeadsTo below o.local_start → ShowsOpen content log (read_behind o below))
+    read_by t = (let x = is_of t in (x.0, x.1, seen_behind (subst IsTrue (sym is_observable) t) x.0 x.2))
 
     -- what came back
     module _ (s : Seen) (h : ShowsClosed content disk s) (i : ℕ) (back : Back) (from : IsBack s back) (is : Opens (content disk).files (returning i s back)) where
@@ -115,12 +115,12 @@ module _ {D : Type 0} (content : D → Content) (settings : Settings) (disk : D)
 
       -- as it came back, with these batches
       abbrev whole : List (List ℕ) → ℕ → Seen
-      whole batches n = record { batches = batches; line = back.1; stable = end_of batches; saved = back.1; local = back.2; loose = None; incarnation = n }
+      whole batches n = record { batches = batches; line = back.1; flushed_end = end_of batches; saved = back.1; local = back.2; loose = None; incarnation = n }
 
       pub comes_back : ShowsOpen content log (opened s back log.incarnation)
       comes_back =
           subst (ShowsOpen content log) (ap (λ (l : List (List ℕ)). whole l (i + 1)) parts ∙ ap (whole (up_to back.0 s.batches)) (sym is_back.incarnation))
-          (seen_behind (tells ∙ h.told) (returning i s back) is_back below leads)
+          (seen_behind (is_observable ∙ h.told) (returning i s back) is_back below leads)
 
       pub opens_at : s.incarnation ≤ i → (s' : Seen) × ShowsOpen content log s' × OpensAt log.end s s' back × (s.incarnation < s'.incarnation)
       opens_at least = (opened s back log.incarnation, comes_back, (refl, sym comes_back.ends), (let next = is_back.incarnation in omega (arith, least, next)))
@@ -139,7 +139,7 @@ module _ {D : Type 0} (content : D → Content) (settings : Settings) (disk : D)
             )
 
   -- it couldn't be opened, or was closed again
-  module _ (disk' : D) (laws' : Lawful (content disk')) (tells : (content disk').tells ≡ (content disk).tells)
+  module _ (disk' : D) (laws' : Lawful (content disk')) (is_observable : (content disk').is_observable ≡ (content disk).is_observable)
       (leaves : Reopens (content disk) → LeavesOnly (content disk) (content disk') (Opening (content disk))) (again : Reopens (content disk) → Reopens (content disk')) where
     still : (s : Seen) (h : ShowsClosed content disk s) (c : Files) → Opening (content disk) c → (i : ℕ) × (s.incarnation ≤ i) × ComesBack i s c
     still s h c (inl like) =
@@ -156,7 +156,7 @@ module _ {D : Type 0} (content : D → Content) (settings : Settings) (disk : D)
     stays_closed s h = (
       s,
       record {
-        told = tells ∙ h.told;
+        told = is_observable ∙ h.told;
         kept = h.kept;
         images = λ c now. (let l = leaves h.again in still s h c (l.each c (laws'.earlier (content disk).moment (content disk').moment c l.later now)));
         again = again h.again;
@@ -166,14 +166,14 @@ module _ {D : Type 0} (content : D → Content) (settings : Settings) (disk : D)
 
     -- so is the log
     pub stays_by_closing : Stays content (Down settings disk) (Down settings disk')
-    stays_by_closing = record { up = refl; end = refl; stable = refl; line = refl; local = refl; layout = refl; settings = refl; seen = stays_closed; between = between_opening (content disk) (content disk') laws leaves }
+    stays_by_closing = record { up = refl; end = refl; flushed_end = refl; line = refl; local = refl; layout = refl; settings = refl; seen = stays_closed; between = between_opening (content disk) (content disk') laws leaves }
 
     -- what was handed has no reading, so nothing was seen of the log
-    pub unopened : (control : D → Control call_code) (why : OpenRefusal) (name : FileName) (at : ℕ) → why ≡ Damaged name at → OpenFails (control disk').handed why
-        → (IsTrue (content disk).tells → OpenFailsIn (content disk).files why) → (IsTrue (content disk).tells → (o : Opened) → Opens (content disk).files o → IsSoundCause why) → Unopened content control (Down settings disk) (Down settings disk') name at
+    pub unopened : (control : D → Control call_code) (why : OpenRefusal) (name : FileName) (at : ℕ) → why ≡ Damaged name at → OpenFails (control disk').last_read why
+        → (IsTrue (content disk).is_observable → OpenFailsIn (content disk).files why) → (IsTrue (content disk).is_observable → (o : Opened) → Opens (content disk).files o → IsSoundCause why) → Unopened content control (Down settings disk) (Down settings disk') name at
     unopened control why name at is fails place sound = record {
       stays = stays_by_closing;
-      cause = subst (OpenFails (control disk').handed) is fails;
+      cause = subst (OpenFails (control disk').last_read) is fails;
       place = λ t. subst (OpenFailsIn (content disk).files) is (place t);
       unread = λ t o opens. subst IsSoundCause is (sound t o opens);
       unseen = λ s h. (let o = h.again.opens (content disk).files (laws.reads h.told) in subst IsSoundCause is (sound h.told o.0 o.1));

@@ -125,8 +125,8 @@ module _ {D : Type 0} (content : D → Content) (old new : Log D) (b : Becomes c
 
   module _ (control : D → Control call_code) (offset limit mark : ℕ) (from : old.local_start ≤ offset) (below : offset < mark) where
     -- the run that was read
-    pub reads_by : (IsTrue (content old.disk).tells → Coheres old) → (out : RunOut) → (IsTrue (content old.disk).tells → IsRunOf old offset limit mark out) → out.base ≡ (segment_at old offset).base
-        → IsCut old.line (control new.disk).handed offset limit mark (piece_of old offset) out → Ran Read Went (control old.disk) (control new.disk) → Reads content control (Up old) (Up new) offset limit mark out
+    pub reads_by : (IsTrue (content old.disk).is_observable → Coheres old) → (out : RunOut) → (IsTrue (content old.disk).is_observable → IsRunOf old offset limit mark out) → out.base ≡ (segment_at old offset).base
+        → IsCut old.line (control new.disk).last_read offset limit mark (piece_of old offset) out → Ran Read Went (control old.disk) (control new.disk) → Reads content control (Up old) (Up new) offset limit mark out
     reads_by coheres out run base part ran = record {
       stays = reading_stays;
       base = base;
@@ -136,7 +136,7 @@ module _ {D : Type 0} (content : D → Content) (old new : Log D) (b : Becomes c
     }
 
     -- what was damaged
-    pub misreads_by : (name : FileName) (at : ℕ) → RunFails old offset limit mark (control new.disk).handed (Damaged name at) → (IsTrue (content old.disk).tells → IsEdge old mark → IsOfDevice (Damaged name at))
+    pub misreads_by : (name : FileName) (at : ℕ) → RunFails old offset limit mark (control new.disk).last_read (Damaged name at) → (IsTrue (content old.disk).is_observable → IsEdge old mark → IsOfDevice (Damaged name at))
         → Misreads content control (Up old) (Up new) offset limit mark name at
     misreads_by name at fails whole = record {
       stays = reading_stays;
@@ -150,7 +150,7 @@ armed_stays {D = D} content old new is k =
     reading_stays content old new
     (record {
       fields = is ∙ ap (λ (b : List (List ℕ)). (let l : Log D = record old { disk = new.disk; batches = b } in l)) (sym (ap (λ (l : Log D). l.batches) is));
-      tells = k.tells;
+      is_observable = k.is_observable;
       batches = λ t. ap (λ (l : Log D). l.batches) is;
     })
     k

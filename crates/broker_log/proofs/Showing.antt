@@ -16,7 +16,7 @@ use Rattle.local_log.proofs.Pieces.{consecutive_append}
 use Rattle.epoch_line.specs.Line.{cut_end, assign}
 use Rattle.local_log.proofs.Lines.{cut_within, within_assign}
 use Rattle.log_steps.specs.Opens.{Opens}
-use Rattle.local_log.specs.Log.{Log, Becomes, committed, stable_log}
+use Rattle.local_log.specs.Log.{Log, Becomes, committed, flushed_log}
 use Rattle.local_log.specs.Coheres.{Coheres, Hold}
 use Rattle.local_log.specs.Cutting.{OpensAs}
 use Rattle.broker_log.specs.Seen.{Seen, Up, Stays, OpensBetween, layout_of, returns, ShowsOpen}
@@ -52,7 +52,7 @@ module _ {D : Type 0} (content : D → Content) (old new : Log D) where
     between = between;
     up = refl;
     end = ap (λ (l : Log D). Some l.end) b.fields;
-    stable = ap (λ (l : Log D). Some l.stable) b.fields;
+    flushed_end = ap (λ (l : Log D). Some l.flushed_end) b.fields;
     line = ap (λ (l : Log D). Some l.line) b.fields;
     local = ap (λ (l : Log D). Some l.local_start) b.fields;
     layout = ap (λ (l : Log D). Some (layout_of l)) b.fields;
@@ -60,7 +60,7 @@ module _ {D : Type 0} (content : D → Content) (old new : Log D) where
     seen = λ s h. (
       s,
       record {
-        told = b.tells ∙ h.told;
+        told = b.is_observable ∙ h.told;
         unbroken = ap (λ (l : Log D). l.broken) b.fields ∙ h.unbroken;
         below = h.below;
         batches_are = h.batches_are ∙ ap (λ (l : List (List ℕ)). h.below ++ l) (sym (b.batches h.told));
@@ -69,7 +69,7 @@ module _ {D : Type 0} (content : D → Content) (old new : Log D) where
         local_is = h.local_is ∙ sym (ap (λ (l : Log D). l.local_start) b.fields);
         within = h.within;
         line_is = h.line_is ∙ sym (ap (λ (l : Log D). l.line) b.fields);
-        stable_is = h.stable_is ∙ sym (ap (λ (l : Log D). l.stable) b.fields);
+        flushed_end_is = h.flushed_end_is ∙ sym (ap (λ (l : Log D). l.flushed_end) b.fields);
         ends = h.ends ∙ sym (ap (λ (l : Log D). l.end) b.fields);
         tight = h.tight;
         images = λ c now. (let was = opens c now in
@@ -83,18 +83,18 @@ module _ {D : Type 0} (content : D → Content) (old new : Log D) where
 
   -- a new segment is begun
   pub rolls_by : Becomes content (rolled old) new → ((c : Files) → Image (content new.disk) c → OpensAs (content old.disk) c)
-      → (new.broken ≡ false → IsTrue (content new.disk).tells → Coheres new) → OpensBetween (content old.disk) (content new.disk) → Rolls content (Up old) (Up new)
+      → (new.broken ≡ false → IsTrue (content new.disk).is_observable → Coheres new) → OpensBetween (content old.disk) (content new.disk) → Rolls content (Up old) (Up new)
   rolls_by b opens coheres between = record {
     between = between;
     layout = ap (λ (l : Log D). Some (layout_of l)) b.fields;
     up = refl;
     end = ap (λ (l : Log D). Some l.end) b.fields;
-    stable = ap (λ (l : Log D). Some l.stable) b.fields;
+    flushed_end = ap (λ (l : Log D). Some l.flushed_end) b.fields;
     line = ap (λ (l : Log D). Some l.line) b.fields;
     seen = λ s h. (
       s,
       record {
-        told = b.tells ∙ h.told;
+        told = b.is_observable ∙ h.told;
         unbroken = ap (λ (l : Log D). l.broken) b.fields ∙ h.unbroken;
         below = h.below;
         batches_are = h.batches_are ∙ ap (λ (l : List (List ℕ)). h.below ++ l) (sym (b.batches h.told));
@@ -103,33 +103,33 @@ module _ {D : Type 0} (content : D → Content) (old new : Log D) where
         local_is = h.local_is ∙ sym (ap (λ (l : Log D). l.local_start) b.fields);
         within = h.within;
         line_is = h.line_is ∙ sym (ap (λ (l : Log D). l.line) b.fields);
-        stable_is = h.stable_is ∙ sym (ap (λ (l : Log D). l.stable) b.fields);
+        flushed_end_is = h.flushed_end_is ∙ sym (ap (λ (l : Log D). l.flushed_end) b.fields);
         ends = h.ends ∙ sym (ap (λ (l : Log D). l.end) b.fields);
         tight = h.tight;
         images = λ c now. (let was = opens c now in
             subst (λ (i : ℕ). Opens c (returns i s)) (sym (ap (λ (l : Log D). l.incarnation) b.fields)) (was.2 (returns old.incarnation s) (h.images was.0 was.1)));
         incarnation_is = h.incarnation_is ∙ sym (ap (λ (l : Log D). l.incarnation) b.fields);
-        segments = (coheres (ap (λ (l : Log D). l.broken) b.fields ∙ h.unbroken) (b.tells ∙ h.told)).segments;
+        segments = (coheres (ap (λ (l : Log D). l.broken) b.fields ∙ h.unbroken) (b.is_observable ∙ h.told)).segments;
       },
       refl,
     );
   }
 
-  -- all of the log is stable
-  pub settles_by : (f : List (ℕ × ℕ) → ℕ → List (ℕ × ℕ)) → (old.broken ≡ false) → (IsTrue (content old.disk).tells → cut_end (f old.line old.end) (old.end + 1) ≡ f old.line old.end)
-      → Becomes content (committed old (f old.line old.end)) new → ((c : Files) → Image (content new.disk) c → Opens c (stable_log new)) → OpensBetween (content old.disk) (content new.disk) → Settles content (Up old) (Up new) f old.end
+  -- all of the log is flushed
+  pub settles_by : (f : List (ℕ × ℕ) → ℕ → List (ℕ × ℕ)) → (old.broken ≡ false) → (IsTrue (content old.disk).is_observable → cut_end (f old.line old.end) (old.end + 1) ≡ f old.line old.end)
+      → Becomes content (committed old (f old.line old.end)) new → ((c : Files) → Image (content new.disk) c → Opens c (flushed_log new)) → OpensBetween (content old.disk) (content new.disk) → Settles content (Up old) (Up new) f old.end
   settles_by f unbroken within b durable between =
       record {
         between = between;
         base_is = refl;
         end_is = ap Some end;
-        stable_is = ap Some stable;
+        flushed_end_is = ap Some flushed_end;
         line_is = ap Some line;
         layout = ap (λ (l : Log D). Some (layout_of l)) b.fields;
         seen = λ s h. (
           settled s (f s.line (end_of s.batches)),
           record {
-            told = b.tells ∙ h.told;
+            told = b.is_observable ∙ h.told;
             unbroken = ap (λ (l : Log D). l.broken) b.fields ∙ unbroken;
             below = h.below;
             batches_are = h.batches_are ∙ ap (λ (l : List (List ℕ)). h.below ++ l) (sym (b.batches h.told));
@@ -138,7 +138,7 @@ module _ {D : Type 0} (content : D → Content) (old new : Log D) where
             local_is = h.local_is ∙ sym local_start;
             within = local_low content old s h;
             line_is = line_told s h;
-            stable_is = h.ends ∙ sym stable;
+            flushed_end_is = h.ends ∙ sym flushed_end;
             ends = h.ends ∙ sym end;
             tight = h.tight;
             images = λ c now. subst (Opens c) (opened s h) (durable c now);
@@ -152,8 +152,8 @@ module _ {D : Type 0} (content : D → Content) (old new : Log D) where
       end : new.end ≡ old.end
       end = ap (λ (l : Log D). l.end) b.fields
 
-      stable : new.stable ≡ old.end
-      stable = ap (λ (l : Log D). l.stable) b.fields
+      flushed_end : new.flushed_end ≡ old.end
+      flushed_end = ap (λ (l : Log D). l.flushed_end) b.fields
 
       line : new.line ≡ f old.line old.end
       line = ap (λ (l : Log D). l.line) b.fields
@@ -164,13 +164,13 @@ module _ {D : Type 0} (content : D → Content) (old new : Log D) where
       line_told : (s : Seen) → ShowsOpen content old s → f s.line (end_of s.batches) ≡ new.line
       line_told s h = ap (λ (l : List (ℕ × ℕ)). f l (end_of s.batches)) h.line_is ∙ ap (f old.line) h.ends ∙ sym line
 
-      opened : (s : Seen) → ShowsOpen content old s → stable_log new ≡ returns new.incarnation (settled s (f s.line (end_of s.batches)))
+      opened : (s : Seen) → ShowsOpen content old s → flushed_log new ≡ returns new.incarnation (settled s (f s.line (end_of s.batches)))
       opened s h =
-          opened_as (stable_log new) new.incarnation s.local (from_offset s.local (up_to (end_of s.batches) s.batches)) (f s.line (end_of s.batches))
+          opened_as (flushed_log new) new.incarnation s.local (from_offset s.local (up_to (end_of s.batches) s.batches)) (f s.line (end_of s.batches))
           refl
           (local_start ∙ sym h.local_is)
-          (ap (λ (n : ℕ). up_to n new.batches) (stable ∙ sym h.ends) ∙ ap (up_to (end_of s.batches)) (b.batches h.told) ∙ sym (up_local content old s h (end_of s.batches) (local_low content old s h)))
-          (ap (λ (n : ℕ). cut_end new.line (n + 1)) stable ∙ ap (λ (l : List (ℕ × ℕ)). cut_end l (old.end + 1)) line ∙ within h.told ∙ sym line ∙ sym (line_told s h))
+          (ap (λ (n : ℕ). up_to n new.batches) (flushed_end ∙ sym h.ends) ∙ ap (up_to (end_of s.batches)) (b.batches h.told) ∙ sym (up_local content old s h (end_of s.batches) (local_low content old s h)))
+          (ap (λ (n : ℕ). cut_end new.line (n + 1)) flushed_end ∙ ap (λ (l : List (ℕ × ℕ)). cut_end l (old.end + 1)) line ∙ within h.told ∙ sym line ∙ sym (line_told s h))
 
 -- what was taken of a run stands at the end
 module _ {D : Type 0} (content : D → Content) where
@@ -181,17 +181,17 @@ module _ {D : Type 0} (content : D → Content) where
     pub local_start : base.local_start ≡ old.local_start
     pub batches : base.batches ≡ old.batches
     pub end : base.end ≡ old.end
-    pub stable : base.stable ≡ old.stable
+    pub flushed_end : base.flushed_end ≡ old.flushed_end
     pub line : base.line ≡ old.line
     pub broken : base.broken ≡ old.broken
 
   perhaps_rolled : (b : Bool) (old : Log D) → SameSeen old (cond b (rolled old) old)
-  perhaps_rolled true old = record { disk = refl; incarnation = refl; local_start = refl; batches = refl; end = refl; stable = refl; line = refl; broken = refl }
-  perhaps_rolled false old = record { disk = refl; incarnation = refl; local_start = refl; batches = refl; end = refl; stable = refl; line = refl; broken = refl }
+  perhaps_rolled true old = record { disk = refl; incarnation = refl; local_start = refl; batches = refl; end = refl; flushed_end = refl; line = refl; broken = refl }
+  perhaps_rolled false old = record { disk = refl; incarnation = refl; local_start = refl; batches = refl; end = refl; flushed_end = refl; line = refl; broken = refl }
 
-  module _ (old base new : Log D) (same : SameSeen old base) (laws : Lawful (content new.disk)) (coheres : IsTrue (content old.disk).tells → Coheres old)
+  module _ (old base new : Log D) (same : SameSeen old base) (laws : Lawful (content new.disk)) (coheres : IsTrue (content old.disk).is_observable → Coheres old)
       (run : List ℕ) (answer : ℕ × ℕ) (a : IsAppendedTo content old base new run answer) (up : answer.0 ≤ answer.1) (opens : LeavesOnly (content old.disk) (content new.disk) (OpensAs (content old.disk)))
-      (whole : new.broken ≡ false → IsTrue (content new.disk).tells → Coheres new) where
+      (whole : new.broken ≡ false → IsTrue (content new.disk).is_observable → Coheres new) where
     abbrev pub front : List (List ℕ)
     front = taking base.settings.segment_bytes base.active.base (size_of base.active) a.is.batches
 
@@ -210,14 +210,14 @@ module _ {D : Type 0} (content : D → Content) where
     new_line : new.line ≡ lined old.line front
     new_line = ap (λ (l : Log D). l.line) a.becomes.fields ∙ ap (λ (l : List (ℕ × ℕ)). lined l front) same.line
 
-    new_stable : new.stable ≡ old.stable
-    new_stable = ap (λ (l : Log D). l.stable) a.becomes.fields ∙ same.stable
+    new_flushed_end : new.flushed_end ≡ old.flushed_end
+    new_flushed_end = ap (λ (l : Log D). l.flushed_end) a.becomes.fields ∙ same.flushed_end
 
-    tells : (content new.disk).tells ≡ (content old.disk).tells
-    tells = a.becomes.tells ∙ ap (λ (d : D). (content d).tells) same.disk
+    is_observable : (content new.disk).is_observable ≡ (content old.disk).is_observable
+    is_observable = a.becomes.is_observable ∙ ap (λ (d : D). (content d).is_observable) same.disk
 
-    new_batches : IsTrue (content old.disk).tells → new.batches ≡ old.batches ++ front
-    new_batches t = a.becomes.batches (subst (λ (d : D). IsTrue (content d).tells) (sym same.disk) t) ∙ ap (λ (l : List (List ℕ)). l ++ front) same.batches
+    new_batches : IsTrue (content old.disk).is_observable → new.batches ≡ old.batches ++ front
+    new_batches t = a.becomes.batches (subst (λ (d : D). IsTrue (content d).is_observable) (sym same.disk) t) ∙ ap (λ (l : List (List ℕ)). l ++ front) same.batches
 
     some : front ≢ []
     some none =
@@ -232,12 +232,12 @@ module _ {D : Type 0} (content : D → Content) where
         consecutive_append 0 s.batches front
         h.consecutive
         (subst (λ (n : ℕ). IsConsecutive n front) (sym ends) follow) in
-        let low : s.stable ≤ end_from 0 s.batches = omega (arith, h.stable_is, ends, c.stable_within) in
-        let kept : up_to s.stable (s.batches ++ front) ≡ up_to s.stable s.batches = up_to_more 0 s.stable s.batches front all low in
+        let low : s.flushed_end ≤ end_from 0 s.batches = omega (arith, h.flushed_end_is, ends, c.flushed_end_within) in
+        let kept : up_to s.flushed_end (s.batches ++ front) ≡ up_to s.flushed_end s.batches = up_to_more 0 s.flushed_end s.batches front all low in
         let inc : new.incarnation ≡ old.incarnation = ap (λ (l : Log D). l.incarnation) a.becomes.fields ∙ same.incarnation in
         let local : new.local_start ≡ old.local_start = ap (λ (l : Log D). l.local_start) a.becomes.fields ∙ same.local_start in
         record {
-          told = tells ∙ h.told;
+          told = is_observable ∙ h.told;
           unbroken = ap (λ (l : Log D). l.broken) a.becomes.fields ∙ same.broken ∙ h.unbroken;
           below = h.below;
           batches_are = ap (λ (l : List (List ℕ)). l ++ front) h.batches_are ∙ append_assoc h.below old.batches front
@@ -247,7 +247,7 @@ module _ {D : Type 0} (content : D → Content) where
           local_is = h.local_is ∙ sym local;
           within = h.within;
           line_is = ap (λ (l : List (ℕ × ℕ)). lined l front) h.line_is ∙ sym new_line;
-          stable_is = h.stable_is ∙ sym new_stable;
+          flushed_end_is = h.flushed_end_is ∙ sym new_flushed_end;
           ends = end_append 0 s.batches front ∙ ap (λ (n : ℕ). end_from n front) ends ∙ sym new_end;
           tight = h.tight;
           images = λ f now. (
@@ -256,7 +256,7 @@ module _ {D : Type 0} (content : D → Content) where
               subst (Opens f) (ap (λ (i : ℕ). returns i s) (sym inc) ∙ ap (λ (l : List (List ℕ)). record { incarnation = new.incarnation; local_start = s.local; batches = from_offset s.local l; line = s.saved }) (sym kept)) o
               );
           incarnation_is = h.incarnation_is ∙ sym inc;
-          segments = (whole (ap (λ (l : Log D). l.broken) a.becomes.fields ∙ same.broken ∙ h.unbroken) (tells ∙ h.told)).segments;
+          segments = (whole (ap (λ (l : Log D). l.broken) a.becomes.fields ∙ same.broken ∙ h.unbroken) (is_observable ∙ h.told)).segments;
         }
 
     pub appends_to : base ≡ open_for old run → Appends content (Up old) (Up new) run answer
@@ -273,14 +273,14 @@ module _ {D : Type 0} (content : D → Content) where
       base_is = ap Some (sym a.base_is);
       end_is = ap Some (sym a.last_is);
       last_is = a.last_is ∙ new_end ∙ ap (λ (n : ℕ). end_from n front) (sym a.base_is);
-      stable_is = ap Some new_stable;
+      flushed_end_is = ap Some new_flushed_end;
       line_is = ap Some new_line;
       layout = subst (λ (log : Log D). Some (layout_of new) ≡ Some (layout_of (gaining log front))) opened (ap (λ (l : Log D). Some (layout_of l)) a.becomes.fields);
       seen = λ s h. (with_batches s front, shows s h, refl);
     }
 
-  pub appends_by : (old new : Log D) → Lawful (content new.disk) → (IsTrue (content old.disk).tells → Coheres old) → (run : List ℕ) (answer : ℕ × ℕ) → IsAppended content old new run answer → answer.0 ≤ answer.1
-      → LeavesOnly (content old.disk) (content new.disk) (OpensAs (content old.disk)) → (new.broken ≡ false → IsTrue (content new.disk).tells → Coheres new) → Appends content (Up old) (Up new) run answer
+  pub appends_by : (old new : Log D) → Lawful (content new.disk) → (IsTrue (content old.disk).is_observable → Coheres old) → (run : List ℕ) (answer : ℕ × ℕ) → IsAppended content old new run answer → answer.0 ≤ answer.1
+      → LeavesOnly (content old.disk) (content new.disk) (OpensAs (content old.disk)) → (new.broken ≡ false → IsTrue (content new.disk).is_observable → Coheres new) → Appends content (Up old) (Up new) run answer
   appends_by old new laws coheres run answer a up opens whole =
       appends_to old (open_for old run) new (perhaps_rolled (is_due old run) old) laws coheres run answer a up opens whole refl
 

@@ -2,12 +2,12 @@
 use Rattle.std.specs.Prelude.{◌≡◌, false}
 use Rattle.local_log.specs.Log.{AreSettings}
 use Rattle.broker_log.specs.Seen.{Kept, Up, Down, Away}
-use Rattle.broker_log.specs.declared.place.Place.{Place}
-use Rattle.broker_log.specs.declared.place.Place.TheVariants as place
+use Rattle.broker_log.specs.declared.place.LogOrDisk.{LogOrDisk}
+use Rattle.broker_log.specs.declared.place.LogOrDisk.TheVariants as place
 use Rattle.broker_log.specs.declared.broker.BrokerLog.TheInside.{Inside}
 
 module _ {D : Type 0} where
-  abbrev pub kept_of : Place D → Kept D
+  abbrev pub kept_of : LogOrDisk D → Kept D
   kept_of (place.Up log) = Up log
   kept_of (place.Down settings disk) = Down settings disk
   kept_of place.Away = Away
@@ -16,7 +16,7 @@ module _ {D : Type 0} where
   kept_in broker = kept_of broker.place
 
   -- an open log isn't broken, and one that is closed has a log's settings
-  abbrev pub IsWell : Place D → Type 0
+  abbrev pub IsWell : LogOrDisk D → Type 0
   IsWell (place.Up log) = log.broken ≡ false
   IsWell (place.Down settings disk) = AreSettings settings
   IsWell place.Away = ⊥

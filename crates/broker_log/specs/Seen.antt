@@ -10,7 +10,7 @@
 --   Stays content old new     a call leaves what is seen, and the plain facts
 --   LeavesBetween .. old new  whatever a crash in the course of a call leaves is opened as before the call or as after it
 --
--- Of a disk that doesn't tell nothing is seen. A log that is up also has its end, its stable end and its line, and its
+-- Of a disk that doesn't tell nothing is seen. A log that is up also has its end, its flushed end and its line, and its
 -- layout: how it stands in segments, whose batches it has. Its settings last as long as the broker.
 use Rattle.std.specs.Prelude.{◌≡◌, ◌⊎◌, ◌≤◌, [], ◌∷◌, ℕ, Bool, true, false, List, ◌++◌, Option, Some, None, IsTrue, IsSomeAnd}
 use Rattle.tier_base.specs.declared.plain.Settings.{Settings}
@@ -34,7 +34,7 @@ pub record Seen : Type 0 where
   -- from offset 0 on
   pub batches : List (List ℕ)
   pub line : List (ℕ × ℕ)
-  pub stable : ℕ
+  pub flushed_end : ℕ
   -- the line that comes back after a stop
   pub saved : List (ℕ × ℕ)
   -- where the local log begins
@@ -53,7 +53,7 @@ pub data Kept (D : Type 0) : Type 0 where
 
 -- what comes back where no write fails
 abbrev pub back_of : Seen → Back
-back_of s = (s.stable, s.saved, s.local)
+back_of s = (s.flushed_end, s.saved, s.local)
 
 -- what is opened where this comes back of the log, opened so many times
 abbrev pub returning : ℕ → Seen → Back → Opened
@@ -74,7 +74,7 @@ ComesBack i s c = Opens c (returns i s) ⊎ IsSomeAnd s.loose (λ back. Opens c 
 
 -- an open log is seen so
 pub record ShowsOpen {D : Type 0} (content : D → Content) (log : Log D) (s : Seen) : Type 0 where
-  pub told : IsTrue (content log.disk).tells
+  pub told : IsTrue (content log.disk).is_observable
   pub unbroken : log.broken ≡ false
   -- the batches below the local start, and those of the local log
   pub below : List (List ℕ)
@@ -82,9 +82,9 @@ pub record ShowsOpen {D : Type 0} (content : D → Content) (log : Log D) (s : S
   pub begins : end_of below ≡ log.local_start
   pub consecutive : IsConsecutive 0 s.batches
   pub local_is : s.local ≡ log.local_start
-  pub within : s.local ≤ s.stable
+  pub within : s.local ≤ s.flushed_end
   pub line_is : s.line ≡ log.line
-  pub stable_is : s.stable ≡ log.stable
+  pub flushed_end_is : s.flushed_end ≡ log.flushed_end
   pub ends : end_of s.batches ≡ log.end
   pub tight : s.loose ≡ None
   pub images : (c : Files) → Image (content log.disk) c → Opens c (returns log.incarnation s)
@@ -105,7 +105,7 @@ pub record IsKept (s : Seen) : Type 0 where
 
 -- a log that is closed is seen so, by its disk
 pub record ShowsClosed {D : Type 0} (content : D → Content) (disk : D) (s : Seen) : Type 0 where
-  pub told : IsTrue (content disk).tells
+  pub told : IsTrue (content disk).is_observable
   pub kept : IsKept s
   pub images : (c : Files) → Image (content disk) c → (i : ℕ) × (s.incarnation ≤ i) × ComesBack i s c
   -- a log can be opened from it, also after a crash in the course of an opening
@@ -150,11 +150,11 @@ module _ {D : Type 0} where
   end_in (Down settings disk) = None
   end_in Away = None
 
-  -- the offset up to which it is stable
-  abbrev pub stable_in : Kept D → Option ℕ
-  stable_in (Up log) = Some log.stable
-  stable_in (Down settings disk) = None
-  stable_in Away = None
+  -- the offset up to which it is flushed
+  abbrev pub flushed_end_in : Kept D → Option ℕ
+  flushed_end_in (Up log) = Some log.flushed_end
+  flushed_end_in (Down settings disk) = None
+  flushed_end_in Away = None
 
   -- which leader epoch starts where
   abbrev pub line_in : Kept D → Option (List (ℕ × ℕ))
@@ -213,7 +213,7 @@ module _ {D : Type 0} where
   OnDisk (Down settings disk) P = P disk
   OnDisk Away P = ⊥
 
-  -- the disk's plan and calm last
+  -- the disk's plan lasts, and it stays infallible if it is
   abbrev pub Lasting : (D → Control call_code) → Kept D → Kept D → Type 0
   Lasting control old new = OnDisk old (λ d. OnDisk new (λ d'. Lasts (control d) (control d')))
 
@@ -229,7 +229,7 @@ module _ {D : Type 0} where
   abbrev pub OneFault : (D → Control call_code) → Kept D → Kept D → Type 0
   OneFault control old new = OnDisk old (λ d. OnDisk new (λ d'. (control d').faults ≡ counted (control d).faults 1))
 
-  -- the disk's plan and calm last, and no call of it failed
+  -- the disk's plan lasts, and it stays infallible if it is, and no call of it failed
   abbrev pub Quiet : (D → Control call_code) → Kept D → Kept D → Type 0
   Quiet control old new = Lasting control old new × NoFault control old new
 
@@ -238,10 +238,10 @@ abbrev pub OpensLater : Content → Files → Type 0
 OpensLater d c = (x : Files) × Image d x
     × ((o : Opened) → Opens x o → (i : ℕ) × (o.incarnation ≤ i) × Opens c (record o { incarnation = i }))
 
--- Of a disk that tells, from which a log could be opened after any crash before: a crash at any moment between leaves files
+-- Of an observable disk, from which a log could be opened after any crash before: a crash at any moment between leaves files
 -- that open as an image of before does, or as one of now.
 abbrev pub OpensBetween : Content → Content → Type 0
-OpensBetween d d' = IsTrue d.tells → Reopens d → LeavesOnly d d' (λ c. OpensLater d c ⊎ OpensLater d' c)
+OpensBetween d d' = IsTrue d.is_observable → Reopens d → LeavesOnly d d' (λ c. OpensLater d c ⊎ OpensLater d' c)
 
 -- of the disk of a log
 abbrev pub LeavesBetween : {D : Type 0} → (D → Content) → Kept D → Kept D → Type 0
@@ -251,7 +251,7 @@ LeavesBetween content old new = OnDisk old (λ d. OnDisk new (λ d'. OpensBetwee
 pub record Stays {D : Type 0} (content : D → Content) (old new : Kept D) : Type 0 where
   pub up : is_up new ≡ is_up old
   pub end : end_in new ≡ end_in old
-  pub stable : stable_in new ≡ stable_in old
+  pub flushed_end : flushed_end_in new ≡ flushed_end_in old
   pub line : line_in new ≡ line_in old
   pub local : local_in new ≡ local_in old
   pub layout : layout_in new ≡ layout_in old

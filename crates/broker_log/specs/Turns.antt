@@ -26,15 +26,15 @@ use Rattle.log_steps.specs.Opens.{Opened, Opens as OpenAs}
 use Rattle.local_log.specs.Run.{lined, taking, open_for, rolled, with_batches as gaining}
 use Rattle.local_log.specs.Stored.{size_of}
 use Rattle.local_log.specs.Log.{Log}
-use Rattle.broker_log.specs.Seen.{Back, Seen, Kept, Layout, back_of, Shows, Goes, GoesIf, Stays, LeavesBetween, WhileUp, OnDisk, end_in, stable_in, line_in, local_in, closed_in, layout_of, layout_in, settings_in, is_up}
+use Rattle.broker_log.specs.Seen.{Back, Seen, Kept, Layout, back_of, Shows, Goes, GoesIf, Stays, LeavesBetween, WhileUp, OnDisk, end_in, flushed_end_in, line_in, local_in, closed_in, layout_of, layout_in, settings_in, is_up}
 
 -- the log with batches more
 abbrev pub with_batches : Seen → List (List ℕ) → Seen
 with_batches s front = record s { batches = s.batches ++ front; line = lined s.line front }
 
--- all of the log is stable, with this line
+-- all of the log is flushed, with this line
 abbrev pub settled : Seen → List (ℕ × ℕ) → Seen
-settled s line = record s { line = line; stable = end_of s.batches; saved = line }
+settled s line = record s { line = line; flushed_end = end_of s.batches; saved = line }
 
 -- the log with an epoch that starts at its end
 abbrev pub led : Seen → ℕ → Seen
@@ -45,7 +45,7 @@ abbrev pub cut_to : Seen → ℕ → Seen
 cut_to s end = record s {
   batches = up_to end s.batches;
   line = cut_end s.line (end_of (up_to end s.batches));
-  stable = end_of (up_to end s.batches);
+  flushed_end = end_of (up_to end s.batches);
   saved = cut_end s.line (end_of (up_to end s.batches));
   local = min s.local (end_of (up_to end s.batches));
 }
@@ -58,9 +58,9 @@ MayCut end s = (s.local ≤ end) ⊎ EndsAt end s.batches
 abbrev pub cut_back : Seen → ℕ → Back
 cut_back s end = back_of (cut_to s end)
 
--- the line without the entries that start past what is stable
+-- the line without the entries that start past what is flushed
 abbrev pub kept_line : Seen → List (ℕ × ℕ)
-kept_line s = cut_end s.line (s.stable + 1)
+kept_line s = cut_end s.line (s.flushed_end + 1)
 
 -- the log whose local log begins further on
 abbrev pub dropped : Seen → ℕ → Seen
@@ -68,7 +68,7 @@ dropped s start = record s { local = start; saved = kept_line s }
 
 -- these batches, which end at n, with this line; nothing of them is in the local log
 abbrev pub restarted : Seen → List (List ℕ) → List (ℕ × ℕ) → ℕ → Seen
-restarted s whole line n = record s { batches = whole; line = line; stable = n; saved = line; local = n }
+restarted s whole line n = record s { batches = whole; line = line; flushed_end = n; saved = line; local = n }
 
 -- these batches, where it may have failed that all of them come back
 abbrev pub unbuilt : Seen → List (List ℕ) → List (ℕ × ℕ) → ℕ → Seen
@@ -79,7 +79,7 @@ abbrev pub opened : Seen → Back → ℕ → Seen
 opened s back incarnation = record {
   batches = up_to back.0 s.batches;
   line = back.1;
-  stable = end_of (up_to back.0 s.batches);
+  flushed_end = end_of (up_to back.0 s.batches);
   saved = back.1;
   local = back.2;
   loose = None;
@@ -98,11 +98,11 @@ Opens now s s' = OpensAt now s s' (back_of s) ⊎ IsSomeAnd s.loose (λ back. Op
 abbrev pub loosened : Seen → Back → Seen
 loosened s back = record s { loose = Some back }
 
--- a cut failed that was to make this come back: the smaller end is stable
+-- a cut failed that was to make this come back: the smaller end is flushed
 abbrev pub torn : Seen → Back → Seen
 torn s back =
-    if nat_lt back.0 s.stable then record s {
-      stable =
+    if nat_lt back.0 s.flushed_end then record s {
+      flushed_end =
           back.0;
       saved = back.1;
       local = back.2;
@@ -125,7 +125,7 @@ pub record BreaksIf {D : Type 0} (content : D → Content) (old new : Kept D) (P
   pub seen : GoesIf content old new P (λ s s'. s' ≡ after s)
   pub between : LeavesBetween content old new
 
--- a write of what isn't stable yet failed
+-- a write of what isn't flushed yet failed
 abbrev pub BreaksUnsaved : {D : Type 0} → (D → Content) → Kept D → Kept D → Type 0
 BreaksUnsaved content old new = Breaks content old new (λ s. loosened s (back_of s))
 
@@ -150,18 +150,18 @@ pub record Appends {D : Type 0} (content : D → Content) (old new : Kept D) (ru
   pub base_is : end_in old ≡ Some answer.0
   pub end_is : end_in new ≡ Some (answer.1 + 1)
   pub last_is : answer.1 + 1 ≡ end_from answer.0 front
-  pub stable_is : stable_in new ≡ stable_in old
+  pub flushed_end_is : flushed_end_in new ≡ flushed_end_in old
   pub line_is : WhileUp old (λ log. line_in new ≡ Some (lined log.line front))
   pub layout : WhileUp old (λ log. layout_in new ≡ Some (layout_of (gaining (open_for log run) front)))
   pub seen : Goes content old new (λ s s'. s' ≡ with_batches s front)
   pub between : LeavesBetween content old new
 
--- all of the log is stable, with this line, and this is its end
+-- all of the log is flushed, with this line, and this is its end
 pub record Settles {D : Type 0} (content : D → Content) (old new : Kept D) (line : List (ℕ × ℕ) → ℕ → List (ℕ × ℕ))
     (end : ℕ) : Type 0 where
   pub base_is : end_in old ≡ Some end
   pub end_is : end_in new ≡ Some end
-  pub stable_is : stable_in new ≡ Some end
+  pub flushed_end_is : flushed_end_in new ≡ Some end
   pub line_is : WhileUp old (λ log. line_in new ≡ Some (line log.line log.end))
   pub layout : layout_in new ≡ layout_in old
   pub seen : Goes content old new (λ s s'. s' ≡ settled s (line s.line (end_of s.batches)))
@@ -172,14 +172,14 @@ pub record Rolls {D : Type 0} (content : D → Content) (old new : Kept D) : Typ
   pub layout : WhileUp old (λ log. layout_in new ≡ Some (layout_of (rolled log)))
   pub up : is_up new ≡ is_up old
   pub end : end_in new ≡ end_in old
-  pub stable : stable_in new ≡ stable_in old
+  pub flushed_end : flushed_end_in new ≡ flushed_end_in old
   pub line : line_in new ≡ line_in old
   pub seen : Goes content old new (λ s s'. s' ≡ s)
   pub between : LeavesBetween content old new
 
 -- the empty log of a disk
 abbrev pub first_seen : Seen
-first_seen = record { batches = []; line = []; stable = 0; saved = []; local = 0; loose = None; incarnation = 1 }
+first_seen = record { batches = []; line = []; flushed_end = 0; saved = []; local = 0; loose = None; incarnation = 1 }
 
 -- how it stands in segments
 abbrev pub first_layout : Settings → Layout
@@ -195,9 +195,9 @@ first_layout settings = record {
 pub record IsFirst {D : Type 0} (content : D → Content) (disk : D) (settings : Settings) (new : Kept D) : Type 0 where
   pub layout : layout_in new ≡ Some (first_layout settings)
   pub end_is : end_in new ≡ Some 0
-  pub stable_is : stable_in new ≡ Some 0
+  pub flushed_end_is : flushed_end_in new ≡ Some 0
   pub line_is : line_in new ≡ Some []
-  pub seen : IsTrue (content disk).tells → Shows content new first_seen
+  pub seen : IsTrue (content disk).is_observable → Shows content new first_seen
 
 -- where a log ends that is cut to an offset
 abbrev pub cut_end_at : {D : Type 0} → Log D → ℕ → ℕ
@@ -206,7 +206,7 @@ cut_end_at log end = if nat_lt end log.local_start then end else cut_point end l
 -- the log ends at the last batch's end at or below an offset, all of it stable; below the local start it is empty there
 pub record Cuts {D : Type 0} (content : D → Content) (old new : Kept D) (end now : ℕ) : Type 0 where
   pub end_is : end_in new ≡ Some now
-  pub stable_is : stable_in new ≡ Some now
+  pub flushed_end_is : flushed_end_in new ≡ Some now
   pub line_is : WhileUp old (λ log. line_in new ≡ Some (cut_end log.line now))
   pub local_is : WhileUp old (λ log. local_in new ≡ Some (min log.local_start end))
   pub point : WhileUp old (λ log. now ≡ cut_end_at log end)
@@ -219,12 +219,12 @@ pub record Drops {D : Type 0} (content : D → Content) (old new : Kept D) (answ
   pub spans : SpansFirst (closed_in old) answer
   pub local_is : local_in new ≡ Some (answer.1 + 1)
   pub end_is : end_in new ≡ end_in old
-  pub stable_is : stable_in new ≡ stable_in old
+  pub flushed_end_is : flushed_end_in new ≡ flushed_end_in old
   pub line_is : line_in new ≡ line_in old
   pub layout : WhileUp old (λ log. layout_in new ≡ Some (layout_of (dropped_log log)))
-  -- from the local start up to an end of the log that is stable
+  -- from the local start up to an end of the log that is flushed
   pub ends : (s : Seen) → Shows content old s
-      → (answer.0 ≡ s.local) × EndsAt (answer.1 + 1) s.batches × (answer.1 + 1 ≤ s.stable)
+      → (answer.0 ≡ s.local) × EndsAt (answer.1 + 1) s.batches × (answer.1 + 1 ≤ s.flushed_end)
       × (s.local ≤ answer.1 + 1)
   pub seen : Goes content old new (λ s s'. s' ≡ dropped s (answer.1 + 1))
   pub between : LeavesBetween content old new
@@ -233,8 +233,9 @@ pub record Drops {D : Type 0} (content : D → Content) (old new : Kept D) (answ
 pub record DropBreaks {D : Type 0} (content : D → Content) (old new : Kept D) : Type 0 where
   pub down : is_up new ≡ false
   pub settings : settings_in new ≡ settings_in old
-  pub seen : (s : Seen) → Shows content old s → (start : ℕ) × EndsAt start s.batches × (start ≤ s.stable)
-      × Shows content new (loosened s (s.stable, kept_line s, start)) × (start ≡ start_behind s.local (closed_in old))
+  pub seen : (s : Seen) → Shows content old s → (start : ℕ) × EndsAt start s.batches × (start ≤ s.flushed_end)
+      × Shows content new (loosened s (s.flushed_end, kept_line s, start))
+      × (start ≡ start_behind s.local (closed_in old))
       × (s.local ≤ start)
   pub between : LeavesBetween content old new
 
@@ -246,7 +247,7 @@ pub record LeadsTo (whole : List (List ℕ)) (n : ℕ) : Type 0 where
 -- the local log is empty at an offset, with this line; whatever batches lead up to there are seen
 pub record Restarts {D : Type 0} (content : D → Content) (old new : Kept D) (n : ℕ) (line : List (ℕ × ℕ)) : Type 0 where
   pub end_is : end_in new ≡ Some n
-  pub stable_is : stable_in new ≡ Some n
+  pub flushed_end_is : flushed_end_in new ≡ Some n
   pub local_is : local_in new ≡ Some n
   pub line_is : line_in new ≡ Some line
   pub layout : WhileUp old (λ log. layout_in new ≡ Some (layout_of (restarted_log log n line)))
@@ -254,13 +255,13 @@ pub record Restarts {D : Type 0} (content : D → Content) (old new : Kept D) (n
       → Shows content new (restarted s whole line n)
   pub between : LeavesBetween content old new
 
--- a write failed that was to do so: of batches that have what was stable, that or all comes back
+-- a write failed that was to do so: of batches that have what was flushed, that or all comes back
 pub record RestartBreaks {D : Type 0} (content : D → Content) (old new : Kept D) (n : ℕ)
     (line : List (ℕ × ℕ)) : Type 0 where
   pub down : is_up new ≡ false
   pub settings : settings_in new ≡ settings_in old
   pub seen : (s : Seen) → Shows content old s → (whole : List (List ℕ)) → LeadsTo whole n
-      → up_to s.stable whole ≡ up_to s.stable s.batches
+      → up_to s.flushed_end whole ≡ up_to s.flushed_end s.batches
       → Shows content new (unbuilt s whole line n)
   pub between : LeavesBetween content old new
 
@@ -314,31 +315,31 @@ module _ {D : Type 0} (content : D → Content) (control : D → Control call_co
     pub base : WhileUp old (λ log. out.base ≡ (segment_at log offset).base)
     pub ran : OnDisk old (λ d. OnDisk new (λ d'. Ran Read Went (control d) (control d')))
     pub part : WhileUp old (λ log. OnDisk new
-        (λ d. IsCut log.line (control d).handed offset limit mark (piece_of log offset) out))
+        (λ d. IsCut log.line (control d).last_read offset limit mark (piece_of log offset) out))
     pub run : (s : Seen) → Shows content old s → EndsAt mark s.batches → IsRunIn old s offset limit mark out
 
   -- no run was read, since what the disk handed has none, or no batch ends at the mark
   pub record Misreads (old new : Kept D) (offset limit mark : ℕ) (name : FileName) (at : ℕ) : Type 0 where
     pub stays : Stays content old new
     pub cause : WhileUp old (λ log. OnDisk new
-        (λ d. RunFails log offset limit mark (control d).handed (refusal.Damaged name at)))
+        (λ d. RunFails log offset limit mark (control d).last_read (refusal.Damaged name at)))
     pub unmarked : (s : Seen) → Shows content old s → EndsAt mark s.batches → ⊥
 
   -- the log wasn't opened, since what the disk handed has no reading
   pub record Unopened (old new : Kept D) (name : FileName) (at : ℕ) : Type 0 where
     pub stays : Stays content old new
-    pub cause : OnDisk new (λ d. OpenFails (control d).handed (Damaged name at))
+    pub cause : OnDisk new (λ d. OpenFails (control d).last_read (Damaged name at))
     -- of a disk that tells it is the first place of its files that has none
-    pub place : OnDisk old (λ d. IsTrue (content d).tells → IsDamage (content d).files name at)
-    -- nor do the files of a disk that tells open
-    pub unread : OnDisk old (λ d. IsTrue (content d).tells → (o : Opened) → OpenAs (content d).files o → ⊥)
+    pub place : OnDisk old (λ d. IsTrue (content d).is_observable → IsDamage (content d).files name at)
+    -- nor do the files of an observable disk open
+    pub unread : OnDisk old (λ d. IsTrue (content d).is_observable → (o : Opened) → OpenAs (content d).files o → ⊥)
     pub unseen : (s : Seen) → Shows content old s → ⊥
 
   -- the log wasn't opened, since its manifest has the last incarnation
   pub record IsSpent (old new : Kept D) : Type 0 where
     pub stays : Stays content old new
-    pub cause : OnDisk new (λ d. OpenFails (control d).handed LastIncarnation)
-    pub holds : OnDisk old (λ d. IsTrue (content d).tells → HoldsLast (content d).files)
+    pub cause : OnDisk new (λ d. OpenFails (control d).last_read LastIncarnation)
+    pub holds : OnDisk old (λ d. IsTrue (content d).is_observable → HoldsLast (content d).files)
 
 -- the broker is down, and its log as it was
 pub record Stops {D : Type 0} (content : D → Content) (old new : Kept D) : Type 0 where
@@ -352,7 +353,7 @@ abbrev pub read_behind : Opened → List (List ℕ) → Seen
 read_behind o below = record {
   batches = below ++ o.batches;
   line = o.line;
-  stable = end_of (below ++ o.batches);
+  flushed_end = end_of (below ++ o.batches);
   saved = o.line;
   local = o.local_start;
   loose = None;
@@ -362,17 +363,17 @@ read_behind o below = record {
 -- the broker is up, and its log ends there
 pub record ComesUp {D : Type 0} (content : D → Content) (old new : Kept D) (end : ℕ) : Type 0 where
   pub end_is : end_in new ≡ Some end
-  pub stable_is : stable_in new ≡ Some end
+  pub flushed_end_is : flushed_end_in new ≡ Some end
   pub settings : settings_in new ≡ settings_in old
   -- its segments' indexes have the settings' interval
   pub intervals : WhileUp new
       (λ log. Each (λ (segment : Grown). segment.interval ≡ log.settings.index_interval)
       (log.closed ++ log.active ∷ []))
-  -- its segments are those that the manifest of a disk that tells lists
-  pub layout : OnDisk old (λ d. IsTrue (content d).tells
+  -- its segments are those that the manifest of an observable disk lists
+  pub layout : OnDisk old (λ d. IsTrue (content d).is_observable
       → WhileUp new (λ log. Lists (content d).files (log.closed ++ log.active ∷ [])))
-  -- what the files of a disk that tells open as is seen, whatever batches lead up to it
-  pub read : OnDisk old (λ d. IsTrue (content d).tells → (o : Opened) × OpenAs (content d).files o
+  -- what the files of an observable disk open as is seen, whatever batches lead up to it
+  pub read : OnDisk old (λ d. IsTrue (content d).is_observable → (o : Opened) × OpenAs (content d).files o
       × ((below : List (List ℕ)) → LeadsTo below o.local_start → Shows content new (read_behind o below)))
   -- one incarnation on, at least
   pub seen : Goes content old new (λ s s'. Opens end s s' × (s.incarnation < s'.incarnation))

@@ -22,13 +22,15 @@ ghost use Rattle.local_log.specs.declared.refusal.AppendRefusal.TheVariants as a
 ghost use Rattle.local_log.specs.declared.refusal.RollRefusal.TheVariants as roll;
 ghost use Rattle.local_log.specs.declared.refusal.ReadRefusal.TheVariants as reading;
 ghost use Rattle.local_log.specs.declared.refusal.OpenRefusal.TheVariants as opening;
-ghost use Rattle.broker_log.specs.Seen.{Seen, Down, Shows, Goes, Stays, WhileUp, OnDisk, Lasting, Faulted, NoFault, OneFault, is_up, end_in, stable_in, line_in, local_in, incarnation_in, closed_in, layout_in, settings_in};
+ghost use Rattle.broker_log.specs.Seen.{Seen, Down, Shows, Goes, Stays, WhileUp, OnDisk, Lasting, Faulted, NoFault, OneFault, is_up, end_in, flushed_end_in, line_in, local_in, incarnation_in, closed_in, layout_in, settings_in};
 ghost use Rattle.broker_log.specs.Turns.{IsFirst, Appends, Settles, Cuts, MayCut, cut_back, Drops, DropBreaks, Restarts, RestartBreaks, IsSegmentOf, Breaks, BreaksIf, BreaksUnsaved, loosened, torn, IsEndUpTo, Rolls, Reads, Misreads, Unopened, IsSpent, Stops, ComesUp};
 ghost use Rattle.log_steps.specs.Fronts.{Each};
-ghost use Rattle.local_log.specs.Dropping.{IsFirstStable};
+ghost use Rattle.local_log.specs.Dropping.{IsFirstFlushed};
 ghost use Rattle.local_log.specs.Reading.{IsClosedFrom, ClosedFails};
 
-use crate::place::{Place, is_append_fault, is_fault, is_roll_fault, placed, taken, taken_disk};
+use crate::place::{
+    LogOrDisk, is_append_fault, is_fault, is_roll_fault, placed, taken, taken_disk,
+};
 use disk_model::Disk;
 use epoch_line::Line;
 use local_log::{
@@ -43,7 +45,7 @@ use tier_base::{Settings, Trouble};
 #[derive(Drop)]
 pub struct BrokerLog<D: Disk> {
     alloc: Global,
-    place: Place<D>,
+    place: LogOrDisk<D>,
 }
 
 impl<D: Disk> Model for BrokerLog<D> {
@@ -66,7 +68,7 @@ impl<D: Disk> BrokerLog<D> {
         settings: Settings,
     ) -> Result<BrokerLog<D>, (D, CreateRefusal)>
         requires settings { AreSettings settings }
-        requires empty { IsTrue (D.content disk).tells → (n : FileName) → (D.content disk).files n ≡ None }
+        requires empty { IsTrue (D.content disk).is_observable → (n : FileName) → (D.content disk).files n ≡ None }
         ensures ok { IfOk result (λ broker. IsFirst D.content disk settings broker) }
         ensures control { IfOk result (λ broker. OnDisk broker (λ d. Lasts (D.control disk) (D.control d))) }
         ensures control_err { IfErr result (λ e. Lasts (D.control disk) (D.control e.0)) }
@@ -81,7 +83,7 @@ impl<D: Disk> BrokerLog<D> {
         match LocalLog::create(alloc, disk, settings) {
             Ok(log) => Ok(BrokerLog {
                 alloc,
-                place: Place::Up(log),
+                place: LogOrDisk::Up(log),
             }),
             Err(refused) => Err(refused),
         }
@@ -94,7 +96,7 @@ impl<D: Disk> BrokerLog<D> {
     {
         BrokerLog {
             alloc,
-            place: Place::Down(settings, disk),
+            place: LogOrDisk::Down(settings, disk),
         }
     }
 
@@ -102,7 +104,7 @@ impl<D: Disk> BrokerLog<D> {
     pub fn is_up(&self) -> bool
         ensures { result ≡ is_up self.now }
     {
-        matches!(self.place, Place::Up(_))
+        matches!(self.place, LogOrDisk::Up(_))
     }
 
     /// The log end offset, while the broker is up.
@@ -110,18 +112,18 @@ impl<D: Disk> BrokerLog<D> {
         ensures { result ≡ end_in self.now }
     {
         match &self.place {
-            Place::Up(log) => Some(log.end()),
-            Place::Down(..) | Place::Away => None,
+            LogOrDisk::Up(log) => Some(log.end()),
+            LogOrDisk::Down(..) | LogOrDisk::Away => None,
         }
     }
 
-    /// The offset up to which the log is stable, while the broker is up.
+    /// The offset up to which the log is flushed, while the broker is up.
     pub fn stable(&self) -> Option<u64>
-        ensures { result ≡ stable_in self.now }
+        ensures { result ≡ flushed_end_in self.now }
     {
         match &self.place {
-            Place::Up(log) => Some(log.stable()),
-            Place::Down(..) | Place::Away => None,
+            LogOrDisk::Up(log) => Some(log.stable()),
+            LogOrDisk::Down(..) | LogOrDisk::Away => None,
         }
     }
 
@@ -130,8 +132,8 @@ impl<D: Disk> BrokerLog<D> {
         ensures { option_map (λ line. line.now) result ≡ line_in self.now }
     {
         match &self.place {
-            Place::Up(log) => Some(log.line()),
-            Place::Down(..) | Place::Away => None,
+            LogOrDisk::Up(log) => Some(log.line()),
+            LogOrDisk::Down(..) | LogOrDisk::Away => None,
         }
     }
 
@@ -141,8 +143,8 @@ impl<D: Disk> BrokerLog<D> {
         ensures low { IfSome result (λ start. start ≤ 2 ^ 62) }
     {
         match &self.place {
-            Place::Up(log) => Some(log.local_start()),
-            Place::Down(..) | Place::Away => None,
+            LogOrDisk::Up(log) => Some(log.local_start()),
+            LogOrDisk::Down(..) | LogOrDisk::Away => None,
         }
     }
 
@@ -151,8 +153,8 @@ impl<D: Disk> BrokerLog<D> {
         ensures { result ≡ incarnation_in self.now }
     {
         match &self.place {
-            Place::Up(log) => Some(log.incarnation()),
-            Place::Down(..) | Place::Away => None,
+            LogOrDisk::Up(log) => Some(log.incarnation()),
+            LogOrDisk::Down(..) | LogOrDisk::Away => None,
         }
     }
 
@@ -161,8 +163,8 @@ impl<D: Disk> BrokerLog<D> {
         ensures { result.now ≡ closed_in self.now }
     {
         match &self.place {
-            Place::Up(log) => log.closed(),
-            Place::Down(..) | Place::Away => &[],
+            LogOrDisk::Up(log) => log.closed(),
+            LogOrDisk::Down(..) | LogOrDisk::Away => &[],
         }
     }
 
@@ -171,8 +173,8 @@ impl<D: Disk> BrokerLog<D> {
         ensures { option_map (λ segment. segment.now) result ≡ first_past offset (closed_in self.now) }
     {
         match &self.place {
-            Place::Up(log) => log.first_past(offset),
-            Place::Down(..) | Place::Away => None,
+            LogOrDisk::Up(log) => log.first_past(offset),
+            LogOrDisk::Down(..) | LogOrDisk::Away => None,
         }
     }
 
@@ -181,8 +183,8 @@ impl<D: Disk> BrokerLog<D> {
         ensures { result ≡ option_map (λ layout. size_of layout.active) (layout_in self.now) }
     {
         match &self.place {
-            Place::Up(log) => Some(log.open_size()),
-            Place::Down(..) | Place::Away => None,
+            LogOrDisk::Up(log) => Some(log.open_size()),
+            LogOrDisk::Down(..) | LogOrDisk::Away => None,
         }
     }
 
@@ -191,9 +193,9 @@ impl<D: Disk> BrokerLog<D> {
         ensures { result ≡ settings_in self.now }
     {
         match &self.place {
-            Place::Up(log) => Some(*log.settings()),
-            Place::Down(settings, _) => Some(*settings),
-            Place::Away => None,
+            LogOrDisk::Up(log) => Some(*log.settings()),
+            LogOrDisk::Down(settings, _) => Some(*settings),
+            LogOrDisk::Away => None,
         }
     }
 
@@ -202,7 +204,7 @@ impl<D: Disk> BrokerLog<D> {
         requires { IsTrue (is_up self.now) }
         ensures { WhileUp self.now (λ log. IsTrue result ↔ IsRun log.end log.line run.now) }
     {
-        let Place::Up(log) = &self.place else {
+        let LogOrDisk::Up(log) = &self.place else {
             unreachable!()
         };
         log.takes(run)
@@ -215,7 +217,7 @@ impl<D: Disk> BrokerLog<D> {
         requires checked { AreChecked run.now }
         ensures { WhileUp self.now (λ log. IsTrue result ↔ IsRun log.end log.line run.now) }
     {
-        let Place::Up(log) = &self.place else {
+        let LogOrDisk::Up(log) = &self.place else {
             unreachable!()
         };
         log.takes_checked(run)
@@ -226,9 +228,9 @@ impl<D: Disk> BrokerLog<D> {
         ensures { OnDisk self.now (λ d. result.now ≡ d) }
     {
         match &self.place {
-            Place::Up(log) => log.disk(),
-            Place::Down(_, disk) => disk,
-            Place::Away => unreachable!(),
+            LogOrDisk::Up(log) => log.disk(),
+            LogOrDisk::Down(_, disk) => disk,
+            LogOrDisk::Away => unreachable!(),
         }
     }
 
@@ -238,7 +240,7 @@ impl<D: Disk> BrokerLog<D> {
         requires { IsTrue (is_up self.now) }
         ensures { IsEndUpTo D.content self.now offset result }
     {
-        let Place::Up(log) = &self.place else {
+        let LogOrDisk::Up(log) = &self.place else {
             unreachable!()
         };
         log.coheres();
@@ -248,7 +250,7 @@ impl<D: Disk> BrokerLog<D> {
         log.end_up_to(offset)
     }
 
-    /// Makes all of the log stable, and answers its end.
+    /// Makes all of the log flushed, and answers its end.
     pub fn flush(&mut self) -> Result<u64, Trouble>
         requires { IsTrue (is_up self.old) }
         ensures ok { IfOk result (λ end. Settles D.content self.old self.new (λ line _. line) end) }
@@ -298,7 +300,7 @@ impl<D: Disk> BrokerLog<D> {
         outcome
     }
 
-    /// Enters a leader epoch that begins at the log's end, makes all stable, and answers the end.
+    /// Enters a leader epoch that begins at the log's end, makes all flushed, and answers the end.
     pub fn lead(&mut self, epoch: u32) -> Result<u64, Trouble>
         requires fits { epoch < 2 ^ 31 }
         requires above { WhileUp self.old (λ log. ForSome (last_epoch log.line) (λ last. last < epoch)) }
@@ -373,22 +375,22 @@ impl<D: Disk> BrokerLog<D> {
         ended(outcome, now)
     }
 
-    /// Whether there is a closed segment, and the first one is stable.
+    /// Whether there is a closed segment, and the first one is flushed.
     pub fn may_drop(&self) -> bool
-        ensures { IsTrue result ↔ WhileUp self.now (λ log. IsFirstStable log.stable log.closed) }
+        ensures { IsTrue result ↔ WhileUp self.now (λ log. IsFirstFlushed log.flushed_end log.closed) }
     {
         match &self.place {
-            Place::Up(log) => {
+            LogOrDisk::Up(log) => {
                 let closed = log.closed();
                 !closed.is_empty() && closed[0].end() <= log.stable()
             }
-            Place::Down(..) | Place::Away => false,
+            LogOrDisk::Down(..) | LogOrDisk::Away => false,
         }
     }
 
     /// Drops the first closed segment, durably, and answers its base and its last offset.
     pub fn drop_first(&mut self) -> Result<(u64, u64), Trouble>
-        requires { WhileUp self.old (λ log. IsFirstStable log.stable log.closed) }
+        requires { WhileUp self.old (λ log. IsFirstFlushed log.flushed_end log.closed) }
         ensures ok { IfOk result (λ answer. Drops D.content self.old self.new answer) }
         ensures refused { OnErr result (IsErrOf result NoMemory ⊎ IsErrOf result Failed) }
         ensures no_memory { IsErrOf result NoMemory → Stays D.content self.old self.new }
@@ -432,11 +434,11 @@ impl<D: Disk> BrokerLog<D> {
         requires { IsTrue (is_up self.old) }
         ensures stays { Stays D.content self.old self.new }
         ensures segment { IfOk result (λ segment. WhileUp self.old (λ log. OnDisk self.new (λ d.
-            IsClosedFrom log offset (D.control d).handed segment))) }
+            IsClosedFrom log offset (D.control d).last_read segment))) }
         ensures part { IfOk result (λ segment. (s : Seen) → Shows D.content self.old s
             → IfSome segment (λ segment. IsSegmentOf s segment)) }
         ensures err { IfErr result
-            (λ e. WhileUp self.old (λ log. OnDisk self.new (λ d. ClosedFails log offset (D.control d).handed e))) }
+            (λ e. WhileUp self.old (λ log. OnDisk self.new (λ d. ClosedFails log offset (D.control d).last_read e))) }
         ensures whole { IfErr result (λ e. (s : Seen) → Shows D.content self.old s → IsOfDevice e) }
         ensures ran { WhileUp self.old (λ log. first_past offset log.closed ≢ None
             → OnDisk self.old (λ d. OnDisk self.new (λ d'. ReadOnce result (D.control d) (D.control d')))) }
@@ -448,7 +450,7 @@ impl<D: Disk> BrokerLog<D> {
         let mut log = taken(&mut self.place);
         log.coheres();
         let outcome = log.closed_from(offset);
-        self.place = Place::Up(log);
+        self.place = LogOrDisk::Up(log);
         outcome
     }
 
@@ -460,11 +462,11 @@ impl<D: Disk> BrokerLog<D> {
         ensures stays { Stays D.content self.old self.new }
         ensures ok { IfOk result (Reads D.content D.control self.old self.new offset limit mark) }
 
-        // Each cause. Where the disk tells and a batch ends at the mark, nothing is damaged.
+        // Each cause. Where the disk is observable and a batch ends at the mark, nothing is damaged.
         ensures damaged { (name : FileName) (at : ℕ) → IsErrOf result (reading.Damaged name at)
             → Misreads D.content D.control self.old self.new offset limit mark name at }
         ensures refused { IfErr result (λ e. WhileUp self.old (λ log. OnDisk self.new (λ d.
-            RunFails log offset limit mark (D.control d).handed e))) }
+            RunFails log offset limit mark (D.control d).last_read e))) }
         ensures ran { WhileUp self.old (λ log. is_edge (segment_at log mark) mark ≡ true
             → OnDisk self.old (λ d. OnDisk self.new (λ d'. ReadOnce result (D.control d) (D.control d')))) }
         ensures control { Lasting D.control self.old self.new }
@@ -475,7 +477,7 @@ impl<D: Disk> BrokerLog<D> {
         let mut log = taken(&mut self.place);
         log.coheres();
         let outcome = log.read_run(offset, limit, mark);
-        self.place = Place::Up(log);
+        self.place = LogOrDisk::Up(log);
         outcome
     }
 
@@ -485,9 +487,9 @@ impl<D: Disk> BrokerLog<D> {
         ensures control { OnDisk self.old (λ d. OnDisk self.new (λ d'. Arms (D.control d) (D.control d'))) }
     {
         match &mut self.place {
-            Place::Up(log) => log.arm(),
-            Place::Down(_, disk) => disk.arm(),
-            Place::Away => unreachable!(),
+            LogOrDisk::Up(log) => log.arm(),
+            LogOrDisk::Down(_, disk) => disk.arm(),
+            LogOrDisk::Away => unreachable!(),
         }
     }
 
@@ -497,9 +499,9 @@ impl<D: Disk> BrokerLog<D> {
         ensures again { IsTrue (is_up self) ⊎ ((s : Seen) × Shows D.content self s) → Reopens (D.content result) }
     {
         match self.place {
-            Place::Up(log) => log.close(),
-            Place::Down(_, disk) => disk,
-            Place::Away => unreachable!(),
+            LogOrDisk::Up(log) => log.close(),
+            LogOrDisk::Down(_, disk) => disk,
+            LogOrDisk::Away => unreachable!(),
         }
     }
 
@@ -508,7 +510,7 @@ impl<D: Disk> BrokerLog<D> {
     pub fn reopens(&self)
         ensures { IsTrue (is_up self.now) → OnDisk self.now (λ d. Reopens (D.content d)) }
     {
-        if let Place::Up(log) = &self.place {
+        if let LogOrDisk::Up(log) = &self.place {
             log.reopens();
         }
     }
@@ -545,11 +547,11 @@ impl<D: Disk> BrokerLog<D> {
             Ok(log) => {
                 log.coheres();
                 let end = log.end();
-                self.place = Place::Up(log);
+                self.place = LogOrDisk::Up(log);
                 Ok(end)
             }
             Err((disk, refusal)) => {
-                self.place = Place::Down(settings, disk);
+                self.place = LogOrDisk::Down(settings, disk);
                 Err(refusal)
             }
         }

@@ -8,7 +8,7 @@ ghost use Rattle.local_log.specs.Coheres.{Coheres};
 ghost use Rattle.tier_base.specs.declared.fault.Trouble.TheVariants.{Failed};
 ghost use Rattle.local_log.specs.declared.refusal.AppendRefusal.TheVariants as append;
 ghost use Rattle.local_log.specs.declared.refusal.RollRefusal.TheVariants as roll;
-ghost use Rattle.broker_log.specs.declared.place.Place.TheVariants as place;
+ghost use Rattle.broker_log.specs.declared.place.LogOrDisk.TheVariants as place;
 ghost use Rattle.broker_log.specs.Seen.{is_up, is_down, Up, Down};
 ghost use Rattle.broker_log.specs.Inside.{kept_of};
 
@@ -19,7 +19,7 @@ use tier_base::{Settings, Trouble};
 
 /// Where a log is.
 #[derive(Drop)]
-pub(crate) enum Place<D: Disk> {
+pub(crate) enum LogOrDisk<D: Disk> {
     /// It is open.
     Up(LocalLog<D>),
     /// The broker is down. Its log is opened with these settings again.
@@ -29,39 +29,39 @@ pub(crate) enum Place<D: Disk> {
 }
 
 /// Takes an open log out.
-pub(crate) fn taken<D: Disk>(place: &mut Place<D>) -> LocalLog<D>
+pub(crate) fn taken<D: Disk>(place: &mut LogOrDisk<D>) -> LocalLog<D>
     requires { IsTrue (is_up (kept_of place.old)) }
     ensures { kept_of place.old ≡ Up result }
 {
-    match mem::replace(place, Place::Away) {
-        Place::Up(log) => log,
-        Place::Down(..) | Place::Away => unreachable!(),
+    match mem::replace(place, LogOrDisk::Away) {
+        LogOrDisk::Up(log) => log,
+        LogOrDisk::Down(..) | LogOrDisk::Away => unreachable!(),
     }
 }
 
 /// Takes the disk of a broker that is down out, and its log's settings.
-pub(crate) fn taken_disk<D: Disk>(place: &mut Place<D>) -> (Settings, D)
+pub(crate) fn taken_disk<D: Disk>(place: &mut LogOrDisk<D>) -> (Settings, D)
     requires { IsTrue (is_down (kept_of place.old)) }
     ensures { kept_of place.old ≡ Down result.0 result.1 }
 {
-    match mem::replace(place, Place::Away) {
-        Place::Down(settings, disk) => (settings, disk),
-        Place::Up(_) | Place::Away => unreachable!(),
+    match mem::replace(place, LogOrDisk::Away) {
+        LogOrDisk::Down(settings, disk) => (settings, disk),
+        LogOrDisk::Up(_) | LogOrDisk::Away => unreachable!(),
     }
 }
 
 /// Puts a log where it was, or its disk and these settings alone where that failed.
-pub(crate) fn placed<D: Disk>(settings: Settings, log: LocalLog<D>, failed: bool) -> Place<D>
+pub(crate) fn placed<D: Disk>(settings: Settings, log: LocalLog<D>, failed: bool) -> LogOrDisk<D>
     ensures up { failed ≡ false → result ≡ place.Up log }
     ensures down { failed ≡ true → result ≡ place.Down settings log.disk }
     ensures again { failed ≡ true → Reopens (D.content log.disk) }
-    ensures coheres { failed ≡ false → log.broken ≡ false → IsTrue (D.content log.disk).tells → Coheres log }
+    ensures coheres { failed ≡ false → log.broken ≡ false → IsTrue (D.content log.disk).is_observable → Coheres log }
 {
     log.coheres();
     if failed {
-        Place::Down(settings, log.close())
+        LogOrDisk::Down(settings, log.close())
     } else {
-        Place::Up(log)
+        LogOrDisk::Up(log)
     }
 }
 

@@ -1,16 +1,16 @@
 //! The program: runs a script of log commands, and writes what each was answered; or runs a load and sums it up; or audits or
 //! sweeps the remote tiers in a folder.
 //!
-//! `broker_call` has the call with the headline. What stands here hands it the words, standard input, a yard over the folder
+//! `tiered_call` has the call with the headline. What stands here hands it the words, standard input, a yard over the folder
 //! that the words name, standard output and a gate that holds nobody, prints the status's line to standard error and what
 //! explains it behind that, and ends with the status's number.
 #![tactic(auto)]
 
-use broker_call::{OpenGate, Status, explained, folder, printed, script_source, tiered};
 use folder_yard::FolderYard;
 use std::process::ExitCode;
 use std::{env, io};
 use tier_base::{StdSink, StdSource};
+use tiered_call::{OpenGate, Status, explained, folder, printed, script_source, tiered};
 
 /// Collects the words behind the program's name. A word that isn't text has no form.
 fn arguments(rt: &HostRuntime) -> Result<Vec<String>, Status> {

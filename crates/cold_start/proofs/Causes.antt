@@ -23,9 +23,9 @@ use Rattle.registry_disk.specs.declared.refusal.FindRefusal.TheVariants as find
 use Rattle.plain_log.specs.declared.command.ActorList.{ActorList}
 use Rattle.plain_log.specs.declared.command.Config.{Config}
 use Rattle.plain_log.specs.declared.state.State.{State}
-use Rattle.partition_turns.specs.Fresh.{OneFailed}
-use Rattle.partition_turns.specs.declared.refusal.WorldRefusal.{WorldRefusal}
-use Rattle.partition_turns.specs.declared.refusal.WorldRefusal.TheVariants as world
+use Rattle.partition_commands.specs.Fresh.{OneFailed}
+use Rattle.partition_commands.specs.declared.refusal.WorldRefusal.{WorldRefusal}
+use Rattle.partition_commands.specs.declared.refusal.WorldRefusal.TheVariants as world
 use Rattle.cold_start.specs.Opening.{AllLast, Starts, Continues, HasCause, ComesBack, IsSaid, says, refusal_of_registry, refusal_of_device, refusal_of_world, refusal_of_find}
 use Rattle.cold_start.specs.Running.{Running}
 use Rattle.cold_start.specs.Stands.{StandsFor, IsBlank}
@@ -60,16 +60,16 @@ says_none asked view same = go (view.brokers == asked) refl
 module _ {D M : Type 0} (disk : DiskGhosts D) (meta : MetaGhosts M) where
   -- what the file says ends no opening
   abbrev pub SaysNothing : Config → D → Type 0
-  SaysNothing config reg = IsTrue (disk.content reg).tells → (bytes : List ℕ) (said : ColdRefusal) → (disk.content reg).files RegistryName ≡ Some bytes → says config.brokers (view_in bytes) ≡ Some said → ⊥
+  SaysNothing config reg = IsTrue (disk.content reg).is_observable → (bytes : List ℕ) (said : ColdRefusal) → (disk.content reg).files RegistryName ≡ Some bytes → says config.brokers (view_in bytes) ≡ Some said → ⊥
 
-  pub none_says : (config : Config) (reg : D) → (IsTrue (disk.content reg).tells → (disk.content reg).files RegistryName ≡ None) → SaysNothing config reg
+  pub none_says : (config : Config) (reg : D) → (IsTrue (disk.content reg).is_observable → (disk.content reg).files RegistryName ≡ None) → SaysNothing config reg
   none_says config reg none told bytes said there is = let gone = none told in absurd (cc (gone, there))
 
-  pub same_says : (config : Config) (reg : D) (handed : List ℕ) (view : RegView) → (IsTrue (disk.content reg).tells → (disk.content reg).files RegistryName ≡ Some handed) → view_in handed ≡ Ok view → view.brokers ≡ config.brokers
+  pub same_says : (config : Config) (reg : D) (last_read : List ℕ) (view : RegView) → (IsTrue (disk.content reg).is_observable → (disk.content reg).files RegistryName ≡ Some last_read) → view_in last_read ≡ Ok view → view.brokers ≡ config.brokers
       → SaysNothing config reg
-  same_says config reg handed view file read count told bytes said there is =
+  same_says config reg last_read view file read count told bytes said there is =
       let here = file told in
-      let one : bytes ≡ handed = cc (here, there) in
+      let one : bytes ≡ last_read = cc (here, there) in
       let nothing : says config.brokers (view_in bytes) ≡ None = ap (λ (b : List ℕ). says config.brokers (view_in b)) one ∙ (ap (says config.brokers) read ∙ says_none config.brokers view count) in
       absurd (cc (nothing, is))
 
@@ -81,7 +81,7 @@ module _ {D M : Type 0} (disk : DiskGhosts D) (meta : MetaGhosts M) where
       device_fault = λ is. failed refl;
       bad_registry = λ at is. absurd (cc (is));
       brokers = λ kept asked is. absurd (cc (is));
-      handed = λ of. absurd of;
+      last_read = λ of. absurd of;
       told = λ yes bytes said there is. absurd (quiet yes bytes said there is);
     }
     device_cause trouble.NoMemory failed quiet = record {
@@ -89,7 +89,7 @@ module _ {D M : Type 0} (disk : DiskGhosts D) (meta : MetaGhosts M) where
       device_fault = λ is. absurd (cc (is));
       bad_registry = λ at is. absurd (cc (is));
       brokers = λ kept asked is. absurd (cc (is));
-      handed = λ of. absurd of;
+      last_read = λ of. absurd of;
       told = λ yes bytes said there is. absurd (quiet yes bytes said there is);
     }
 
@@ -107,7 +107,7 @@ module _ {D M : Type 0} (disk : DiskGhosts D) (meta : MetaGhosts M) where
       device_fault = λ other. absurd (cc (is, other));
       bad_registry = λ at other. absurd (cc (is, other));
       brokers = λ kept asked other. absurd (cc (is, other));
-      handed = λ of. absurd (subst IsSaid is of);
+      last_read = λ of. absurd (subst IsSaid is of);
       told = λ yes bytes said there so. absurd (quiet yes bytes said there so);
     }
     registry_cause why (inr is) failed quiet = record {
@@ -115,26 +115,26 @@ module _ {D M : Type 0} (disk : DiskGhosts D) (meta : MetaGhosts M) where
       device_fault = λ other. absurd (cc (is, other));
       bad_registry = λ at other. absurd (cc (is, other));
       brokers = λ kept asked other. absurd (cc (is, other));
-      handed = λ of. absurd (subst IsSaid is of);
+      last_read = λ of. absurd (subst IsSaid is of);
       told = λ yes bytes said there so. absurd (quiet yes bytes said there so);
     }
 
   -- another count of brokers
-  pub count_cause : (config : Config) (disks : List D) (m : M) (reg : D) (view : RegView) → view_in (disk.control reg).handed ≡ Ok view
-      → (IsTrue (disk.content reg).tells → (disk.content reg).files RegistryName ≡ Some (disk.control reg).handed) → view.brokers ≢ config.brokers
+  pub count_cause : (config : Config) (disks : List D) (m : M) (reg : D) (view : RegView) → view_in (disk.control reg).last_read ≡ Ok view
+      → (IsTrue (disk.content reg).is_observable → (disk.content reg).files RegistryName ≡ Some (disk.control reg).last_read) → view.brokers ≢ config.brokers
       → HasCause disk meta config disks m reg disks m reg (Brokers view.brokers config.brokers)
   count_cause config disks m reg view read file other =
-      let is : says config.brokers (view_in (disk.control reg).handed) ≡ Some (Brokers view.brokers config.brokers) = ap (says config.brokers) read ∙ says_other config.brokers view other in
+      let is : says config.brokers (view_in (disk.control reg).last_read) ≡ Some (Brokers view.brokers config.brokers) = ap (says config.brokers) read ∙ says_other config.brokers view other in
       record {
         registry_fault = λ so. absurd (cc (so));
         device_fault = λ so. absurd (cc (so));
         bad_registry = λ at so. absurd (cc (so));
         brokers = λ kept asked so. is;
-        handed = λ of. file;
+        last_read = λ of. file;
         told = λ yes bytes said there so.
             let here = file yes in
-            let one : bytes ≡ (disk.control reg).handed = cc (here, there) in
-            let told_so : says config.brokers (view_in (disk.control reg).handed) ≡ Some said = subst (λ (b : List ℕ). says config.brokers (view_in b) ≡ Some said) one so in
+            let one : bytes ≡ (disk.control reg).last_read = cc (here, there) in
+            let told_so : says config.brokers (view_in (disk.control reg).last_read) ≡ Some said = subst (λ (b : List ℕ). says config.brokers (view_in b) ≡ Some said) one so in
             inl (cc (is, told_so));
       }
 
@@ -146,21 +146,21 @@ module _ {D M : Type 0} (disk : DiskGhosts D) (meta : MetaGhosts M) where
     device_fault = λ is. absurd (cc (is));
     bad_registry = λ at is. absurd (cc (is));
     brokers = λ kept asked is. absurd (cc (is));
-    handed = λ of. absurd of;
+    last_read = λ of. absurd of;
     told = λ yes bytes said there is. inr (inl refl);
   }
   find_cause config disks m reg r (find.Bad at) finds =
-      let says_so : says config.brokers (view_in (disk.control r).handed) ≡ Some (BadRegistry at) = ap (says config.brokers) finds.0 in
+      let says_so : says config.brokers (view_in (disk.control r).last_read) ≡ Some (BadRegistry at) = ap (says config.brokers) finds.0 in
       record {
         registry_fault = λ is. absurd (cc (is));
         device_fault = λ is. absurd (cc (is));
         bad_registry = λ a is. says_so;
         brokers = λ kept asked is. absurd (cc (is));
-        handed = λ of. finds.1;
+        last_read = λ of. finds.1;
         told = λ yes bytes said there is.
             let here = finds.1 yes in
-            let one : bytes ≡ (disk.control r).handed = cc (here, there) in
-            let told_so : says config.brokers (view_in (disk.control r).handed) ≡ Some said = subst (λ (b : List ℕ). says config.brokers (view_in b) ≡ Some said) one is in
+            let one : bytes ≡ (disk.control r).last_read = cc (here, there) in
+            let told_so : says config.brokers (view_in (disk.control r).last_read) ≡ Some said = subst (λ (b : List ℕ). says config.brokers (view_in b) ≡ Some said) one is in
             inl (cc (says_so, told_so));
       }
   find_cause config disks m reg r find.NoMemory finds = record {
@@ -168,7 +168,7 @@ module _ {D M : Type 0} (disk : DiskGhosts D) (meta : MetaGhosts M) where
     device_fault = λ is. absurd (cc (is));
     bad_registry = λ at is. absurd (cc (is));
     brokers = λ kept asked is. absurd (cc (is));
-    handed = λ of. absurd of;
+    last_read = λ of. absurd of;
     told = λ yes bytes said there is. inr (inr refl);
   }
 
@@ -180,8 +180,8 @@ module _ {D M : Type 0} (disk : DiskGhosts D) (meta : MetaGhosts M) where
     device_fault = h.device_fault;
     bad_registry = h.bad_registry;
     brokers = h.brokers;
-    handed = λ of yes. sym (k.files RegistryName) ∙ h.handed of (subst IsTrue (sym k.tells) yes);
-    told = λ yes bytes said there is. h.told (subst IsTrue (sym k.tells) yes) bytes said (k.files RegistryName ∙ there) is;
+    last_read = λ of yes. sym (k.files RegistryName) ∙ h.last_read of (subst IsTrue (sym k.is_observable) yes);
+    told = λ yes bytes said there is. h.told (subst IsTrue (sym k.is_observable) yes) bytes said (k.files RegistryName ∙ there) is;
   }
 
 module _ {D S M : Type 0} (disk : DiskGhosts D) (meta : MetaGhosts M) where
@@ -242,14 +242,14 @@ module _ {D S M : Type 0} (disk : DiskGhosts D) (store : StoreGhosts S) (meta : 
   pub stands_read : (partition : PartitionId) (disks : List D) (s : S) (m : M) (old reg : D) (p : State) → KeepsFiles (disk.content old) (disk.content reg) → StandsFor disk store meta partition disks s m old p
       → StandsFor disk store meta partition disks s m reg p
   stands_read partition disks s m old reg p k h = record {
-    file_tells = subst IsTrue (sym k.tells) h.file_tells;
+    file_tells = subst IsTrue (sym k.is_observable) h.file_tells;
     file = subst (λ (o : Option (List ℕ)). IsSomeAnd o (λ bytes. view_in bytes ≡ Ok (view_of p.registry))) (sym (k.files RegistryName)) h.file;
     stand = h.stand;
   }
 
   pub blank_read : (s : S) (m : M) (old reg : D) → KeepsFiles (disk.content old) (disk.content reg) → IsBlank disk store meta s m old → IsBlank disk store meta s m reg
   blank_read s m old reg k b = record {
-    file_tells = subst IsTrue (sym k.tells) b.file_tells;
+    file_tells = subst IsTrue (sym k.is_observable) b.file_tells;
     file = k.files RegistryName ∙ b.file;
     store_tells = b.store_tells;
     objects = b.objects;
@@ -260,10 +260,10 @@ module _ {D S M : Type 0} (disk : DiskGhosts D) (store : StoreGhosts S) (meta : 
   pub starts_read : (partition : PartitionId) (config : Config) (lists : List ActorList) (disks : List D) (s : S) (m : M) (old reg : D) (t : Running D S M) → KeepsFiles (disk.content old) (disk.content reg)
       → Starts disk store meta partition config lists disks s m reg t → Starts disk store meta partition config lists disks s m old t
   starts_read partition config lists disks s m old reg t k h = record {
-    none = λ told. sym (k.files RegistryName) ∙ h.none (subst IsTrue (sym k.tells) told);
+    none = λ told. sym (k.files RegistryName) ∙ h.none (subst IsTrue (sym k.is_observable) told);
     cleared = h.cleared;
     disks_last = h.disks_last;
-    noted = h.noted;
+    recorded = h.recorded;
     notes = h.notes;
     notes_last = h.notes_last;
     fresh = h.fresh;
@@ -274,9 +274,9 @@ module _ {D S M : Type 0} (disk : DiskGhosts D) (store : StoreGhosts S) (meta : 
   continues_read partition config lists disks s m old reg t k h = record {
     view = h.view;
     read = h.read;
-    there = λ told. sym (k.files RegistryName) ∙ h.there (subst IsTrue (sym k.tells) told);
+    there = λ told. sym (k.files RegistryName) ∙ h.there (subst IsTrue (sym k.is_observable) told);
     count = h.count;
-    noted = h.noted;
+    recorded = h.recorded;
     notes = h.notes;
     notes_last = h.notes_last;
     reopened = h.reopened;

@@ -9,7 +9,7 @@ use Rattle.disk_model.specs.Call.{call_code}
 use Rattle.tier_base.specs.Told.{In, Names}
 use Rattle.disk_model.specs.Content.{Content, Files}
 use Rattle.disk_model.proofs.Names.{cases_name}
-use Rattle.partition_turns.specs.Fresh.{AreFreshDisks, DisksTell, ComeBack, OneFailed}
+use Rattle.partition_commands.specs.Fresh.{AreFreshDisks, DisksTell, ComeBack, OneFailed}
 use Rattle.cold_start.specs.Opening.{IsGone, AreUnarmed, AllLast}
 
 -- the files of these names are there no more, and each other one is as it was or isn't there
@@ -63,12 +63,12 @@ module _ {D : Type 0} (content : D → Content) (control : D → Control call_co
   -- a disk some calls later, which tells as it did
   pub record IsLater (old new : D) : Type 0 where
     pub lasts : Lasts (control old) (control new)
-    pub tells : (content new).tells ≡ (content old).tells
+    pub is_observable : (content new).is_observable ≡ (content old).is_observable
 
   -- whose files are gone
   pub record IsCleared (old new : D) : Type 0 where
     pub later : IsLater old new
-    pub empty : IsTrue (content old).tells → (n : FileName) → (content new).files n ≡ None
+    pub empty : IsTrue (content old).is_observable → (n : FileName) → (content new).files n ≡ None
 
   -- those of the first so many are
   abbrev pub ClearedTo : ℕ → List D → List D → Type 0
@@ -109,7 +109,7 @@ module _ {D : Type 0} (content : D → Content) (control : D → Control call_co
   cleared_long (suc n) (d ∷ ds) [] c = absurd c
 
   later_same : (d e : D) → e ≡ d → IsLater d e
-  later_same d e same = subst (λ (k : D). IsLater d k) (sym same) (record { lasts = lasts_same (control d); tells = refl })
+  later_same d e same = subst (λ (k : D). IsLater d k) (sym same) (record { lasts = lasts_same (control d); is_observable = refl })
 
   -- all are so, one is later, and the others last
   pub cleared_last : (n : ℕ) (ds es : List D) → ClearedTo n ds es → AllLast control ds es
@@ -123,8 +123,8 @@ module _ {D : Type 0} (content : D → Content) (control : D → Control call_co
 
   pub cleared_tell : (n : ℕ) (ds es : List D) → ClearedTo n ds es → DisksTell content ds → DisksTell content es
   cleared_tell n [] [] c tell = tt
-  cleared_tell zero (d ∷ ds) (e ∷ es) c tell = (subst IsTrue (sym (later_same d e c.0).tells) tell.0, cleared_tell zero ds es c.1 tell.1)
-  cleared_tell (suc n) (d ∷ ds) (e ∷ es) c tell = (subst IsTrue (sym c.0.later.tells) tell.0, cleared_tell n ds es c.1 tell.1)
+  cleared_tell zero (d ∷ ds) (e ∷ es) c tell = (subst IsTrue (sym (later_same d e c.0).is_observable) tell.0, cleared_tell zero ds es c.1 tell.1)
+  cleared_tell (suc n) (d ∷ ds) (e ∷ es) c tell = (subst IsTrue (sym c.0.later.is_observable) tell.0, cleared_tell n ds es c.1 tell.1)
   cleared_tell zero [] (e ∷ es) c tell = absurd c
   cleared_tell (suc n) [] (e ∷ es) c tell = absurd c
   cleared_tell zero (d ∷ ds) [] c tell = absurd c
@@ -135,7 +135,7 @@ module _ {D : Type 0} (content : D → Content) (control : D → Control call_co
   cleared_fresh [] [] c u = tt
   cleared_fresh (d ∷ ds) (e ∷ es) c u = (
     record {
-      empty = λ told. c.0.empty (subst IsTrue c.0.later.tells told);
+      empty = λ told. c.0.empty (subst IsTrue c.0.later.is_observable told);
       unarmed = c.0.later.lasts.armed ∙ u.0.unarmed;
       unmade = λ kind. c.0.later.lasts.unmade u.0.unarmed kind ∙ u.0.unmade kind;
     },
@@ -173,11 +173,11 @@ module _ {D : Type 0} (content : D → Content) (control : D → Control call_co
   pub lasting_step : (n : ℕ) (ds es : List D) (e f : D) → AllLast control ds es → slice_get es n ≡ Some e → Lasts (control e) (control f) → AllLast control ds (slice_set es n f)
   lasting_step = lasting_next
 
-  pub telling_step : (n : ℕ) (es : List D) (e f : D) → DisksTell content es → slice_get es n ≡ Some e → (content f).tells ≡ (content e).tells → DisksTell content (slice_set es n f)
+  pub telling_step : (n : ℕ) (es : List D) (e f : D) → DisksTell content es → slice_get es n ≡ Some e → (content f).is_observable ≡ (content e).is_observable → DisksTell content (slice_set es n f)
   telling_step n [] e f tell at same = absurd cc
   telling_step zero (x ∷ es) e f tell at same =
       let one : x ≡ e = cc (at) in
-      (subst IsTrue (sym same) (subst (λ (k : D). IsTrue (content k).tells) one tell.0), tell.1)
+      (subst IsTrue (sym same) (subst (λ (k : D). IsTrue (content k).is_observable) one tell.0), tell.1)
   telling_step (suc n) (x ∷ es) e f tell at same = (tell.0, telling_step n es e f tell.1 at same)
 
 module _ {D : Type 0} (control : D → Control call_code) where

@@ -19,26 +19,26 @@ use Rattle.plain_log.specs.declared.command.Order.{Order}
 use Rattle.plain_log.specs.declared.journal.JournalEntry.{JournalEntry}
 use Rattle.plain_log.specs.declared.state.State.{State}
 use Rattle.plain_log.specs.Orders.{AreRising}
-use Rattle.partition_seen.specs.Seen as seen
-use Rattle.partition_seen.specs.Central as seen_central
-use Rattle.partition_tier.specs.Sites.{Side as SideSeen, sites_of}
-use Rattle.partition_turns.specs.declared.held.Node.{Node}
-use Rattle.partition_turns.specs.Held.{ShowsNode, ShowNodes}
-use Rattle.tier_safe.specs.Scene.{Work as WorkSeen, Free}
-use Rattle.partition_world.specs.declared.seat.Seat.{Seat}
-use Rattle.partition_world.specs.declared.seat.Work.TheVariants.{Idle}
-use Rattle.partition_world.specs.declared.tier.Side.{Side}
-use Rattle.partition_world.specs.Central.{IsCentral, IsNoted, IsDated, sides_seen, side_seen, work_of, desk_of, notes_left}
-use Rattle.partition_world.specs.Fresh.{fresh_seat, fresh_side}
+use Rattle.laws_partition.specs.Seen as seen
+use Rattle.laws_partition.specs.Central as seen_central
+use Rattle.laws_tier_turns.specs.BrokerTiers.{BrokerTierModel as BrokerTierIsSeen, tier_views_of}
+use Rattle.partition_commands.specs.declared.partition_state.Node.{Node}
+use Rattle.partition_commands.specs.Partition.{ShowsNode, ShowNodes}
+use Rattle.tier_safe.specs.Scene.{TierTask as InProgressIsSeen, Free}
+use Rattle.partition_world.specs.declared.actor_state.ActorState.{ActorState}
+use Rattle.partition_world.specs.declared.actor_state.InProgress.TheVariants.{Idle}
+use Rattle.partition_world.specs.declared.tier.BrokerTierState.{BrokerTierState}
+use Rattle.partition_world.specs.Central.{IsCentral, IsRecorded, IsDated, broker_tiers_seen, broker_tier_seen, work_of, desk_of, notes_left}
+use Rattle.partition_world.specs.Fresh.{fresh_actor_state, fresh_broker_tier}
 use Rattle.partition_world.specs.Left.{IsCentralLeft, resolved, whole_with}
 use Rattle.partition_world.specs.Whole.{Whole, seen_as}
 use Rattle.partition_world.proofs.WorldFresh.{all_fresh}
 use Rattle.cold_state.specs.Cold.{cold_of}
-use Rattle.cold_start.specs.Cold.{cold_site, cold_node, cold_held, cold_whole, cold_sides, cold_scene}
+use Rattle.cold_start.specs.Cold.{cold_tier_view, cold_node, cold_held, cold_whole, cold_broker_tiers, cold_scene}
 use Rattle.cold_start.specs.Laws.{IsFree}
 use Rattle.cold_start.specs.ColdWorld.{IsCutDisk, IsCutStore, IsCutLog, LeavesDisk, LeaveDisks, cold_dev, reopened, plain_in}
 use Rattle.cold_start.proofs.ColdLaw.{cold_tier}
-use Rattle.cold_start.proofs.ColdSeen.{cold_central, cold_sites}
+use Rattle.cold_start.proofs.ColdSeen.{cold_central, cold_tier_views}
 
 -- a log can be opened from fewer images
 fewer_reopens : (d n : Content) → Reopens d → IsCutDisk d n → Reopens n
@@ -46,7 +46,7 @@ fewer_reopens d n again cut = record { opens = λ c image. again.opens c (cut.im
 
 module _ {D : Type 0} (content : D → Content) (set : Settings) where
   pub closed_shown : (old new : D) (s : log.Seen) → IsCutDisk (content old) (content new) → ShowsClosed content old s → ShowsClosed content new s
-  closed_shown old new s cut h = record { told = cut.tells h.told; kept = h.kept; images = λ c image. h.images c (cut.images c image); again = fewer_reopens (content old) (content new) h.again cut }
+  closed_shown old new s cut h = record { told = cut.is_observable h.told; kept = h.kept; images = λ c image. h.images c (cut.images c image); again = fewer_reopens (content old) (content new) h.again cut }
 
   -- what is left of a log is seen as the log was
   pub log_shown : (k : Kept D) (disk : D) (s : log.Seen) → LeavesDisk content k disk → Shows content k s → ShowsClosed content disk s
@@ -66,19 +66,19 @@ module _ {D : Type 0} (content : D → Content) (set : Settings) where
   nodes_shown (x ∷ xs) (y ∷ ys) [] cut h = absurd cut
 
 -- the sides of a world that begins anew
-sides_cold : (sides : List Side) → cold_sides (sides_seen sides) ≡ sides_seen (map (λ side. fresh_side) sides)
-sides_cold [] = refl
-sides_cold (side ∷ sides) = ap (λ (l : List SideSeen). side_seen fresh_side ∷ l) (sides_cold sides)
+broker_tiers_cold : (broker_tiers : List BrokerTierState) → cold_broker_tiers (broker_tiers_seen broker_tiers) ≡ broker_tiers_seen (map (λ broker_tier. fresh_broker_tier) broker_tiers)
+broker_tiers_cold [] = refl
+broker_tiers_cold (broker_tier ∷ broker_tiers) = ap (λ (l : List BrokerTierIsSeen). broker_tier_seen fresh_broker_tier ∷ l) (broker_tiers_cold broker_tiers)
 
 free : (o : Option Order) → work_of o Idle ≡ Free
 free None = refl
 free (Some order) = refl
 
-pub all_free : (lists : List ActorList) → replicate (length lists) Free ≡ desk_of lists (replicate (length lists) fresh_seat)
+pub all_free : (lists : List ActorList) → replicate (length lists) Free ≡ desk_of lists (replicate (length lists) fresh_actor_state)
 all_free [] = refl
 all_free (l ∷ lists) =
-    ap (λ (ws : List WorkSeen). Free ∷ ws) (all_free lists)
-    ∙ ap (λ (w : WorkSeen). w ∷ desk_of lists (replicate (length lists) fresh_seat)) (sym (free (slice_get l.orders 0)))
+    ap (λ (ws : List InProgressIsSeen). Free ∷ ws) (all_free lists)
+    ∙ ap (λ (w : InProgressIsSeen). w ∷ desk_of lists (replicate (length lists) fresh_actor_state)) (sym (free (slice_get l.orders 0)))
 
 replicated : {A : Type 0} (n : ℕ) (x : A) (i : ℕ) (y : A) → slice_get (replicate n x) i ≡ Some y → x ≡ y
 replicated zero x i y e = absurd cc
@@ -95,7 +95,7 @@ idle_dated p (Some order) = tt
 module _ {D S M : Type 0} (disk : DiskGhosts D) (store : StoreGhosts S) (meta : MetaGhosts M) where
   module _ (opening : State) (config : Config) (w : Whole D S M) (lists : List ActorList) (journal : Rolled JournalEntry) (disks : List D) (s : S) (m : M) (l : List Note)
       (cut : LeaveDisks disk.content w.held.nodes disks) (kept : IsCutStore (store.content w.tier.store) (store.content s)) (told : IsCutLog (meta.content w.tier.meta) (meta.content m))
-      (rising : AreRising lists) (empty : journal.items ≡ []) (low : length l + notes_left lists (replicate (length lists) fresh_seat) < 2 ^ 64)
+      (rising : AreRising lists) (empty : journal.items ≡ []) (low : length l + notes_left lists (replicate (length lists) fresh_actor_state) < 2 ^ 64)
       (k : IsCentral disk store (resolved meta) opening (whole_with w l)) where
     abbrev base : seen_central.IsCentral (cold_of k.central.plain) (cold_whole (seen_as (whole_with w l) k.partition) (pos 0) lists journal)
     base = cold_central opening (seen_as (whole_with w l) k.partition) (pos 0) lists journal k.central rising empty
@@ -111,25 +111,25 @@ module _ {D S M : Type 0} (disk : DiskGhosts D) (store : StoreGhosts S) (meta : 
         stands = record {
           held = base.stands.held;
           lines = base.stands.lines;
-          desk = λ place list seat at there. base.stands.desk place list seat at (ap (λ (d : List _). slice_get d place) (sym (all_fresh (length lists))) ∙ there);
+          desk = λ place list actor_state at there. base.stands.desk place list actor_state at (ap (λ (d : List _). slice_get d place) (sym (all_fresh (length lists))) ∙ there);
           rising = base.stands.rising;
-          seats = ap length (all_fresh (length lists)) ∙ base.stands.seats;
+          actor_states = ap length (all_fresh (length lists)) ∙ base.stands.actor_states;
         };
       };
       scene = cold_scene k.scene (replicate (length lists) Free);
       shows_tier = record {
         partition = k.shows_tier.partition;
-        store_tells = kept.tells k.shows_tier.store_tells;
+        store_tells = kept.is_observable k.shows_tier.store_tells;
         objects = k.shows_tier.objects ∙ sym kept.objects;
-        meta_tells = told.tells k.shows_tier.meta_tells;
+        meta_tells = told.is_observable k.shows_tier.meta_tells;
         notes = k.shows_tier.notes;
-        sites = ap (map cold_site) k.shows_tier.sites ∙ sym (cold_sites k.partition.nodes (sides_seen w.tier.sides)) ∙ ap (sites_of (map cold_node k.partition.nodes)) (sides_cold w.tier.sides);
+        tier_views = ap (map cold_tier_view) k.shows_tier.tier_views ∙ sym (cold_tier_views k.partition.nodes (broker_tiers_seen w.tier.broker_tiers)) ∙ ap (tier_views_of (map cold_node k.partition.nodes)) (broker_tiers_cold w.tier.broker_tiers);
         desk = all_free lists;
       };
       tier = cold_tier k.scene k.central.plain (replicate (length lists) Free) (is_free (length lists)) k.tier;
-      noted = λ place seat at. subst (λ (s : Seat). IsNoted s.work) (replicated (length lists) fresh_seat place seat at) tt;
-      dated = λ place list seat there at. subst (λ (s : Seat). IsDated (cold_of k.central.plain) (slice_get list.orders s.number) s.work) (replicated (length lists) fresh_seat place seat at) (idle_dated (cold_of k.central.plain) (slice_get list.orders 0));
-      few = subst (λ (notes : List Note). length notes + notes_left lists (replicate (length lists) fresh_seat) < 2 ^ 64) (sym k.shows_tier.notes) low;
+      recorded = λ place actor_state at. subst (λ (s : ActorState). IsRecorded s.work) (replicated (length lists) fresh_actor_state place actor_state at) tt;
+      dated = λ place list actor_state there at. subst (λ (s : ActorState). IsDated (cold_of k.central.plain) (slice_get list.orders s.number) s.work) (replicated (length lists) fresh_actor_state place actor_state at) (idle_dated (cold_of k.central.plain) (slice_get list.orders 0));
+      few = subst (λ (notes : List Note). length notes + notes_left lists (replicate (length lists) fresh_actor_state) < 2 ^ 64) (sym k.shows_tier.notes) low;
     }
 
   -- the journal has come to one plain state, whatever notes are left
@@ -139,7 +139,7 @@ module _ {D S M : Type 0} (disk : DiskGhosts D) (store : StoreGhosts S) (meta : 
 
   pub power_cut : (opening : State) (config : Config) (w : Whole D S M) (lists : List ActorList) (journal : Rolled JournalEntry) (disks : List D) (s : S) (m : M) (c : IsCentralLeft disk store meta opening w)
       → LeaveDisks disk.content w.held.nodes disks → IsCutStore (store.content w.tier.store) (store.content s) → IsCutLog (meta.content w.tier.meta) (meta.content m)
-      → AreRising lists → journal.items ≡ [] → ((l : List Note) → Left (meta.content m) l → length l + notes_left lists (replicate (length lists) fresh_seat) < 2 ^ 64)
+      → AreRising lists → journal.items ≡ [] → ((l : List Note) → Left (meta.content m) l → length l + notes_left lists (replicate (length lists) fresh_actor_state) < 2 ^ 64)
       → IsCentralLeft disk store meta (cold_of (plain_in disk store meta opening w c)) (reopened config w lists journal disks s m)
   power_cut opening config w lists journal disks s m c cut kept told rising empty low l left =
       let now = c (meta.content w.tier.meta).notes (inl refl) in

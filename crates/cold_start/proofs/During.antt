@@ -12,13 +12,13 @@ use Rattle.registry.specs.declared.registry.Registry.{Registry}
 use Rattle.registry_disk.specs.Keeping.{registry_bytes, KeepsFile, KeepsOneOf}
 use Rattle.broker_log.specs.Seen.{Seen, Kept, Up, Down, Away, Shows, OnDisk, OpensLater, LeavesBetween, is_up}
 use Rattle.plain_log.specs.declared.state.State.{State}
-use Rattle.partition_seen.specs.Seen as seen
-use Rattle.partition_turns.specs.declared.held.Node.{Node}
-use Rattle.partition_turns.specs.Disks.{AllReopen}
-use Rattle.partition_turns.specs.Held.{ShowNodes}
+use Rattle.laws_partition.specs.Seen as seen
+use Rattle.partition_commands.specs.declared.partition_state.Node.{Node}
+use Rattle.partition_commands.specs.Disks.{AllReopen}
+use Rattle.partition_commands.specs.Partition.{ShowNodes}
 use Rattle.partition_world.specs.Left.{IsCentralLeft}
 use Rattle.partition_world.specs.Whole.{Whole}
-use Rattle.partition_world.specs.declared.tier.Tier.{Tier}
+use Rattle.partition_world.specs.declared.tier.RemoteTier.{RemoteTier}
 use Rattle.cold_state.specs.Cold.{cold_of}
 use Rattle.cold_start.specs.ColdWorld.{IsCutStore, IsCutLog, plain_in}
 use Rattle.cold_start.specs.FileLaws.{FileLaws}
@@ -49,13 +49,13 @@ module _ {D : Type 0} (content : D → Content) where
   again_of (Down was e) s h up = h.again
   again_of Away s h up = absurd h
 
-  told_of : (k : Kept D) (s : Seen) → Shows content k s → OnDisk k (λ e. IsTrue (content e).tells)
+  told_of : (k : Kept D) (s : Seen) → Shows content k s → OnDisk k (λ e. IsTrue (content e).is_observable)
   told_of (Up log) s h = h.told
   told_of (Down was e) s h = h.told
   told_of Away s h = absurd h
 
   -- a call did: the log of before or that of after
-  one_changes : (k l : Kept D) (d : D) → LeavesBetween content k l → OnDisk k (λ e. IsTrue (content e).tells) → OnDisk k (λ e. Reopens (content e)) → IsSince k l d → IsShownAs content k d ⊎ IsShownAs content l d
+  one_changes : (k l : Kept D) (d : D) → LeavesBetween content k l → OnDisk k (λ e. IsTrue (content e).is_observable) → OnDisk k (λ e. Reopens (content e)) → IsSince k l d → IsShownAs content k d ⊎ IsShownAs content l d
   one_changes (Up a) (Up b) d between told again cut =
       ⊎_elim
       (λ was. inl (shown_later content d (Up a) a.disk b.disk cut told a.disk refl was))
@@ -143,11 +143,11 @@ module _ {D : Type 0} (content : D → Content) where
 
 -- the registry's file on a disk that has the files of some moment
 module _ {D : Type 0} (disk : DiskGhosts D) (lawful : (d : D) → Lawful (disk.content d)) where
-  pub file_since : (old now r : D) (cut : IsCutSince (disk.content old) (disk.content now) (disk.content r)) → IsTrue (disk.content old).tells → (bytes : List ℕ) → cut.files RegistryName ≡ Some bytes → (disk.content r).files RegistryName ≡ Some bytes
-  file_since old now r cut told bytes is = cut.images (disk.content r).files ((lawful r).reads (cut.tells told)) RegistryName ∙ is
+  pub file_since : (old now r : D) (cut : IsCutSince (disk.content old) (disk.content now) (disk.content r)) → IsTrue (disk.content old).is_observable → (bytes : List ℕ) → cut.files RegistryName ≡ Some bytes → (disk.content r).files RegistryName ≡ Some bytes
+  file_since old now r cut told bytes is = cut.images (disk.content r).files ((lawful r).reads (cut.is_observable told)) RegistryName ∙ is
 
 module _ {D S M : Type 0} (laws : FileLaws) (disk : DiskGhosts D) (store : StoreGhosts S) (meta : MetaGhosts M) (lawful : (d : D) → Lawful (disk.content d)) where
-  module _ (opening : State) (v w : Whole D S M) (reg now : D) (told : IsTrue (disk.content reg).tells) (here : w.partition ≡ v.partition) (some : 1 ≤ length v.held.registry.replicas) (few : length v.held.registry.replicas ≤ 8)
+  module _ (opening : State) (v w : Whole D S M) (reg now : D) (told : IsTrue (disk.content reg).is_observable) (here : w.partition ≡ v.partition) (some : 1 ≤ length v.held.registry.replicas) (few : length v.held.registry.replicas ≤ 8)
       (more : 1 ≤ length w.held.registry.replicas) (fewer : length w.held.registry.replicas ≤ 8) where
     module _ (b : IsCentralLeft disk store meta opening v) (c : IsCentralLeft disk store meta opening w) (disks : List D) (s : S) (m : M) (r : D) (left : IsLeftSince disk store meta v reg w now disks s m r) where
       -- the state before, and the state after
@@ -167,11 +167,11 @@ module _ {D S M : Type 0} (laws : FileLaws) (disk : DiskGhosts D) (store : Store
           → left.file.files RegistryName ≡ Some (registry_bytes v.held.registry) → Before
       before logs objects notes file =
           subst (λ (p : PartitionId). StandsFor disk store meta p disks s m r (cold_of (plain_in disk store meta opening v b))) (sym here)
-          (shown_stands laws disk store meta opening v b disks s m r logs objects notes (left.file.tells told) (old_file file) some few)
+          (shown_stands laws disk store meta opening v b disks s m r logs objects notes (left.file.is_observable told) (old_file file) some few)
 
       after : AreShownAs disk.content w.held.nodes disks → IsCutStore (store.content w.tier.store) (store.content s) → IsCutLog (meta.content w.tier.meta) (meta.content m)
           → left.file.files RegistryName ≡ Some (registry_bytes w.held.registry) → After
-      after logs objects notes file = shown_stands laws disk store meta opening w c disks s m r logs objects notes (left.file.tells told) (new_file file) more fewer
+      after logs objects notes file = shown_stands laws disk store meta opening w c disks s m r logs objects notes (left.file.is_observable told) (new_file file) more fewer
 
       -- the store, or the metadata log, is as it was
       store_as : w.tier.store ≡ v.tier.store → IsCutStore (store.content v.tier.store) (store.content s) × IsCutStore (store.content w.tier.store) (store.content s)
@@ -223,8 +223,8 @@ module _ {D S M : Type 0} (laws : FileLaws) (disk : DiskGhosts D) (store : Store
       replacing : SameDevices v w → (left.file.files RegistryName ≡ Some (registry_bytes v.held.registry)) ⊎ (left.file.files RegistryName ≡ Some (registry_bytes w.held.registry)) → Before ⊎ After
       replacing same file =
           let was = all_rest disk.content v.held.nodes w.held.nodes disks same.logs left.logs in
-          let objects = store_as (ap (λ (t : Tier S M). t.store) same.tier) in
-          let notes = meta_as (ap (λ (t : Tier S M). t.meta) same.tier) in
+          let objects = store_as (ap (λ (t : RemoteTier S M). t.store) same.tier) in
+          let notes = meta_as (ap (λ (t : RemoteTier S M). t.meta) same.tier) in
           ⊎_elim
           (λ old. inl (before was objects.0 notes.0 old))
           (λ new. inr (after (shown_by disk.content v.held.nodes w.held.nodes disks same.logs was) objects.1 notes.1 new))

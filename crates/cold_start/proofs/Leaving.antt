@@ -13,19 +13,19 @@ use Rattle.registry_file.specs.Reading.{view_in}
 use Rattle.registry_disk.specs.Keeping.{registry_bytes, HasFile, KeepsFile, KeepsOneOf}
 use Rattle.broker_log.specs.Seen.{Kept}
 use Rattle.plain_log.specs.declared.state.State.{State}
-use Rattle.partition_turns.specs.declared.held.Node.{Node}
-use Rattle.partition_turns.specs.Cold.{DisksReopen}
-use Rattle.partition_turns.specs.Fresh.{AreDisksOf}
+use Rattle.partition_commands.specs.declared.partition_state.Node.{Node}
+use Rattle.partition_commands.specs.Cold.{DisksReopen}
+use Rattle.partition_commands.specs.Fresh.{AreDisksOf}
 use Rattle.partition_world.specs.Cold.{StandCold}
 use Rattle.partition_world.specs.Left.{IsCentralLeft, resolved, whole_with}
 use Rattle.partition_world.specs.Whole.{Whole}
-use Rattle.partition_world.specs.declared.tier.Tier.{Tier}
+use Rattle.partition_world.specs.declared.tier.RemoteTier.{RemoteTier}
 use Rattle.cold_state.specs.Cold.{cold_of}
 use Rattle.cold_start.specs.ColdWorld.{IsCutDisk, IsCutStore, IsCutLog, LeavesDisk, LeaveDisks, AreCut, plain_in}
 use Rattle.cold_start.specs.Stands.{StandsFor, LeavesCold, LeavesOneOf}
 use Rattle.cold_start.specs.Stepping.{SameDevices, logs_of}
 use Rattle.cold_start.specs.FileLaws.{FileLaws}
-use Rattle.cold_start.proofs.Registries.{registries_ruled}
+use Rattle.cold_start.proofs.Registries.{registries_scripted}
 use Rattle.cold_start.proofs.StandLaw.{AreShownAs, left_as, shown_cold, closed_left}
 
 -- the spelling of a registry that keeps the rules reads as it
@@ -34,7 +34,7 @@ spelled laws r files rules is = subst (λ (o : Option (List ℕ)). IsSomeAnd o (
 
 -- no power cut at all
 pub uncut : (d : Content) → IsCutDisk d d
-uncut d = record { tells = λ told. told; images = λ c at. at }
+uncut d = record { is_observable = λ told. told; images = λ c at. at }
 
 module _ {D : Type 0} (content : D → Content) where
   pub all_uncut : (disks : List D) → AreCut content disks disks
@@ -62,57 +62,57 @@ module _ {D S M : Type 0} (laws : FileLaws) (disk : DiskGhosts D) (store : Store
       let now = c (meta.content w.tier.meta).notes (inl refl) in
       now.central.stands.held.registry ∙ now.shows.registry
 
-  pub ruled : (opening : State) (w : Whole D S M) → IsCentralLeft disk store meta opening w → 1 ≤ length w.held.registry.replicas → length w.held.registry.replicas ≤ 8 → IsRegistry w.held.registry
-  ruled opening w c some few =
-      registries_ruled disk store (resolved meta) opening (whole_with w (meta.content w.tier.meta).notes) (c (meta.content w.tier.meta).notes (inl refl)) some few
+  pub scripted : (opening : State) (w : Whole D S M) → IsCentralLeft disk store meta opening w → 1 ≤ length w.held.registry.replicas → length w.held.registry.replicas ≤ 8 → IsRegistry w.held.registry
+  scripted opening w c some few =
+      registries_scripted disk store (resolved meta) opening (whole_with w (meta.content w.tier.meta).notes) (c (meta.content w.tier.meta).notes (inl refl)) some few
 
   -- devices whose logs are seen as those of a world, and a disk with the file of its registry
   pub shown_stands : (opening : State) (w : Whole D S M) (c : IsCentralLeft disk store meta opening w) (disks : List D) (s : S) (m : M) (r : D) → AreShownAs disk.content w.held.nodes disks
-      → IsCutStore (store.content w.tier.store) (store.content s) → IsCutLog (meta.content w.tier.meta) (meta.content m) → IsTrue (disk.content r).tells → (disk.content r).files RegistryName ≡ Some (registry_bytes w.held.registry)
+      → IsCutStore (store.content w.tier.store) (store.content s) → IsCutLog (meta.content w.tier.meta) (meta.content m) → IsTrue (disk.content r).is_observable → (disk.content r).files RegistryName ≡ Some (registry_bytes w.held.registry)
       → 1 ≤ length w.held.registry.replicas → length w.held.registry.replicas ≤ 8 → StandsFor disk store meta w.partition disks s m r (cold_of (plain_in disk store meta opening w c))
-  shown_stands opening w c disks s m r cut kept noted told file some few =
+  shown_stands opening w c disks s m r cut kept recorded told file some few =
       let same = plain_registry opening w c in
       record {
         file_tells = told;
-        file = subst (λ (k : Registry). HasFile (disk.content r).files k) (sym same) (spelled laws w.held.registry (disk.content r).files (ruled opening w c some few) file);
-        stand = λ l at. subst (λ (k : Registry). StandCold disk store meta w.partition k disks s m (cold_of (plain_in disk store meta opening w c)) l) (sym same) (shown_cold disk store meta opening w disks s m c cut kept noted l at);
+        file = subst (λ (k : Registry). HasFile (disk.content r).files k) (sym same) (spelled laws w.held.registry (disk.content r).files (scripted opening w c some few) file);
+        stand = λ l at. subst (λ (k : Registry). StandCold disk store meta w.partition k disks s m (cold_of (plain_in disk store meta opening w c)) l) (sym same) (shown_cold disk store meta opening w disks s m c cut kept recorded l at);
       }
 
   -- devices that are left of a world, and such a disk
   pub stands_by : (opening : State) (w : Whole D S M) (c : IsCentralLeft disk store meta opening w) (disks : List D) (s : S) (m : M) (r : D) → LeaveDisks disk.content w.held.nodes disks
-      → IsCutStore (store.content w.tier.store) (store.content s) → IsCutLog (meta.content w.tier.meta) (meta.content m) → IsTrue (disk.content r).tells → (disk.content r).files RegistryName ≡ Some (registry_bytes w.held.registry)
+      → IsCutStore (store.content w.tier.store) (store.content s) → IsCutLog (meta.content w.tier.meta) (meta.content m) → IsTrue (disk.content r).is_observable → (disk.content r).files RegistryName ≡ Some (registry_bytes w.held.registry)
       → 1 ≤ length w.held.registry.replicas → length w.held.registry.replicas ≤ 8 → StandsFor disk store meta w.partition disks s m r (cold_of (plain_in disk store meta opening w c))
-  stands_by opening w c disks s m r cut kept noted told file some few =
-      shown_stands opening w c disks s m r (left_as disk.content w.held.nodes disks cut) kept noted told file some few
+  stands_by opening w c disks s m r cut kept recorded told file some few =
+      shown_stands opening w c disks s m r (left_as disk.content w.held.nodes disks cut) kept recorded told file some few
 
   module _ (lawful : (d : D) → Lawful (disk.content d)) where
     -- what a disk reads as after a power cut is an image that it had before
-    read_was : (old new : D) → IsTrue (disk.content old).tells → IsCutDisk (disk.content old) (disk.content new) → Image (disk.content old) (disk.content new).files
-    read_was old new told cut = cut.images (disk.content new).files ((lawful new).reads (cut.tells told))
+    read_was : (old new : D) → IsTrue (disk.content old).is_observable → IsCutDisk (disk.content old) (disk.content new) → Image (disk.content old) (disk.content new).files
+    read_was old new told cut = cut.images (disk.content new).files ((lawful new).reads (cut.is_observable told))
 
-    pub left_cold : (opening : State) (w : Whole D S M) (reg : D) → IsTrue (disk.content reg).tells → KeepsFile (disk.content reg) w.held.registry → 1 ≤ length w.held.registry.replicas → length w.held.registry.replicas ≤ 8
+    pub left_cold : (opening : State) (w : Whole D S M) (reg : D) → IsTrue (disk.content reg).is_observable → KeepsFile (disk.content reg) w.held.registry → 1 ≤ length w.held.registry.replicas → length w.held.registry.replicas ≤ 8
         → LeavesCold disk store meta opening w reg
     left_cold opening w reg told kept some few c disks s m r left =
-        stands_by opening w c disks s m r left.logs left.objects left.notes (left.file.tells told) (kept (disk.content r).files (read_was reg r told left.file)) some few
+        stands_by opening w c disks s m r left.logs left.objects left.notes (left.file.is_observable told) (kept (disk.content r).files (read_was reg r told left.file)) some few
 
-    pub left_either : (opening : State) (v w : Whole D S M) (reg : D) → IsTrue (disk.content reg).tells → KeepsOneOf (disk.content reg) v.held.registry w.held.registry → SameDevices v w → w.partition ≡ v.partition
+    pub left_either : (opening : State) (v w : Whole D S M) (reg : D) → IsTrue (disk.content reg).is_observable → KeepsOneOf (disk.content reg) v.held.registry w.held.registry → SameDevices v w → w.partition ≡ v.partition
         → 1 ≤ length v.held.registry.replicas → length v.held.registry.replicas ≤ 8 → 1 ≤ length w.held.registry.replicas → length w.held.registry.replicas ≤ 8 → LeavesOneOf disk store meta opening v w reg
     left_either opening v w reg told kept same here some few more fewer b c disks s m r left =
         elim (kept (disk.content r).files (read_was reg r told left.file)) [
           | inl old ↦ inl (subst (λ (p : PartitionId). StandsFor disk store meta p disks s m r (cold_of (plain_in disk store meta opening v b))) (sym here)
               (stands_by opening v b disks s m r (left_by disk.content w.held.nodes v.held.nodes disks same.logs left.logs)
-              (subst (λ (t : Tier S M). IsCutStore (store.content t.store) (store.content s)) same.tier left.objects)
-              (subst (λ (t : Tier S M). IsCutLog (meta.content t.meta) (meta.content m)) same.tier left.notes)
-              (left.file.tells told) old some few))
-          | inr new ↦ inr (stands_by opening w c disks s m r left.logs left.objects left.notes (left.file.tells told) new more fewer)
+              (subst (λ (t : RemoteTier S M). IsCutStore (store.content t.store) (store.content s)) same.tier left.objects)
+              (subst (λ (t : RemoteTier S M). IsCutLog (meta.content t.meta) (meta.content m)) same.tier left.notes)
+              (left.file.is_observable told) old some few))
+          | inr new ↦ inr (stands_by opening w c disks s m r left.logs left.objects left.notes (left.file.is_observable told) new more fewer)
         ]
 
   -- the devices that a closed world gives back stand for what is left of its plain state
   pub closed_cold : (opening : State) (w : Whole D S M) (c : IsCentralLeft disk store meta opening w) (disks : List D) (s : S) (m : M) (r : D) → AreDisksOf w.held.nodes disks → DisksReopen disk.content w.held.nodes disks
-      → s ≡ w.tier.store → m ≡ w.tier.meta → IsTrue (disk.content r).tells → (disk.content r).files RegistryName ≡ Some (registry_bytes w.held.registry)
+      → s ≡ w.tier.store → m ≡ w.tier.meta → IsTrue (disk.content r).is_observable → (disk.content r).files RegistryName ≡ Some (registry_bytes w.held.registry)
       → 1 ≤ length w.held.registry.replicas → length w.held.registry.replicas ≤ 8 → StandsFor disk store meta w.partition disks s m r (cold_of (plain_in disk store meta opening w c))
   closed_cold opening w c disks s m r are again one two told file some few =
       stands_by opening w c disks s m r (closed_left disk w.held.nodes disks disks are again (all_uncut disk.content disks))
-      (subst (λ (k : S). IsCutStore (store.content w.tier.store) (store.content k)) (sym one) (record { tells = λ yes. yes; objects = refl }))
-      (subst (λ (k : M). IsCutLog (meta.content w.tier.meta) (meta.content k)) (sym two) (record { tells = λ yes. yes; left = λ l at. at }))
+      (subst (λ (k : S). IsCutStore (store.content w.tier.store) (store.content k)) (sym one) (record { is_observable = λ yes. yes; objects = refl }))
+      (subst (λ (k : M). IsCutLog (meta.content w.tier.meta) (meta.content k)) (sym two) (record { is_observable = λ yes. yes; left = λ l at. at }))
       told file some few

@@ -19,7 +19,7 @@ use Rattle.plain_log.specs.declared.command.Config.{Config}
 use Rattle.plain_log.specs.declared.journal.JournalEntry.{JournalEntry}
 use Rattle.plain_log.specs.declared.state.State.{State}
 use Rattle.plain_log.specs.Runs.{replay}
-use Rattle.partition_turns.specs.Fresh.{AllSeen}
+use Rattle.partition_commands.specs.Fresh.{AllSeen}
 use Rattle.partition_world.specs.Cold.{StandCold, AreCold}
 use Rattle.partition_world.specs.Fresh.{IsFresh, IsSeenEmpty}
 use Rattle.partition_world.specs.Left.{IsCentralLeft}
@@ -48,7 +48,7 @@ read_again laws files view r rules is file =
     subst (λ (o : Option (List ℕ)). IsSomeAnd o (λ b. view_in b ≡ Ok (view_of r))) (sym file) (laws.again (view_of r) (subst IsView is rules))
 
 -- the file that was there, or that of what was read
-pub replaced_has : (laws : FileLaws) (old new : Content) (view : RegView) (r k : Registry) → IsView view → view ≡ view_of r → k ≡ registry_of view → IsTrue old.tells → Replaces k old new → HasFile old.files r → HasFile new.files r
+pub replaced_has : (laws : FileLaws) (old new : Content) (view : RegView) (r k : Registry) → IsView view → view ≡ view_of r → k ≡ registry_of view → IsTrue old.is_observable → Replaces k old new → HasFile old.files r → HasFile new.files r
 replaced_has laws old new view r k rules is of told rep has =
     elim (rep.reads told) [
       | inl same ↦ subst (λ (o : Option (List ℕ)). IsSomeAnd o (λ b. view_in b ≡ Ok (view_of r))) (sym same) has
@@ -57,30 +57,30 @@ replaced_has laws old new view r k rules is of told rep has =
 
 module _ {D S M : Type 0} (disk : DiskGhosts D) (store : StoreGhosts S) (meta : MetaGhosts M) where
   cut_notes : (m n : M) → KeepsNotes (meta.content m) (meta.content n) → IsCutLog (meta.content m) (meta.content n)
-  cut_notes m n k = record { tells = λ told. subst IsTrue (sym k.tells) told; left = k.left }
+  cut_notes m n k = record { is_observable = λ told. subst IsTrue (sym k.is_observable) told; left = k.left }
 
   -- it goes on after the notes were read
-  pub stand_noted : (partition : PartitionId) (disks : List D) (s : S) (m n : M) (reg : D) (p : State) → StandsFor disk store meta partition disks s m reg p → KeepsNotes (meta.content m) (meta.content n)
+  pub stand_recorded : (partition : PartitionId) (disks : List D) (s : S) (m n : M) (reg : D) (p : State) → StandsFor disk store meta partition disks s m reg p → KeepsNotes (meta.content m) (meta.content n)
       → (l : List Note) → Left (meta.content n) l → StandCold disk store meta partition p.registry disks s n p l
-  stand_noted partition disks s m n reg p h k =
-      keeps_cold disk store meta partition p.registry disks disks s m s n p h.stand (all_uncut disk.content disks) (record { tells = λ yes. yes; objects = refl }) (cut_notes m n k)
+  stand_recorded partition disks s m n reg p h k =
+      keeps_cold disk store meta partition p.registry disks disks s m s n p h.stand (all_uncut disk.content disks) (record { is_observable = λ yes. yes; objects = refl }) (cut_notes m n k)
 
   -- and so it does over a registry's disk whose file reads as the same
   pub still_stands : (partition : PartitionId) (disks : List D) (s : S) (m n : M) (reg r : D) (p : State) → StandsFor disk store meta partition disks s m reg p → KeepsNotes (meta.content m) (meta.content n)
-      → IsTrue (disk.content r).tells → HasFile (disk.content r).files p.registry → StandsFor disk store meta partition disks s n r p
-  still_stands partition disks s m n reg r p h k told file = record { file_tells = told; file = file; stand = stand_noted partition disks s m n reg p h k }
+      → IsTrue (disk.content r).is_observable → HasFile (disk.content r).files p.registry → StandsFor disk store meta partition disks s n r p
+  still_stands partition disks s m n reg r p h k told file = record { file_tells = told; file = file; stand = stand_recorded partition disks s m n reg p h k }
 
-  pub notes_told : (partition : PartitionId) (disks : List D) (s : S) (m : M) (reg : D) (p : State) → StandsFor disk store meta partition disks s m reg p → IsTrue (meta.content m).tells
+  pub notes_told : (partition : PartitionId) (disks : List D) (s : S) (m : M) (reg : D) (p : State) → StandsFor disk store meta partition disks s m reg p → IsTrue (meta.content m).is_observable
   notes_told partition disks s m reg p h = (h.stand (meta.content m).notes (inl refl)).meta_tells
 
   -- the notes that were read are the only ones left, and can be counted
-  pub cold_noted : (partition : PartitionId) (disks : List D) (s : S) (m n : M) (reg : D) (p : State) (registry : Registry) → StandsFor disk store meta partition disks s m reg p → KeepsNotes (meta.content m) (meta.content n)
-      → (IsTrue (meta.content m).tells → LeavesTold (meta.content n)) → (IsTrue (meta.content m).tells → length (meta.content n).notes ≤ 2 ^ 59) → registry ≡ p.registry
+  pub cold_recorded : (partition : PartitionId) (disks : List D) (s : S) (m n : M) (reg : D) (p : State) (registry : Registry) → StandsFor disk store meta partition disks s m reg p → KeepsNotes (meta.content m) (meta.content n)
+      → (IsTrue (meta.content m).is_observable → LeavesTold (meta.content n)) → (IsTrue (meta.content m).is_observable → length (meta.content n).notes ≤ 2 ^ 59) → registry ≡ p.registry
       → AreCold disk store meta partition registry disks s n p
-  cold_noted partition disks s m n reg p registry h k settled few is =
+  cold_recorded partition disks s m n reg p registry h k settled few is =
       let told = notes_told partition disks s m reg p h in
       record {
-        stand = λ l at. subst (λ (r : Registry). StandCold disk store meta partition r disks s n p l) (sym is) (stand_noted partition disks s m n reg p h k l at);
+        stand = λ l at. subst (λ (r : Registry). StandCold disk store meta partition r disks s n p l) (sym is) (stand_recorded partition disks s m n reg p h k l at);
         few = λ l at.
             let low = few told in
             let small : length (meta.content n).notes < 2 ^ 63 = omega (arith, low) in
@@ -88,25 +88,25 @@ module _ {D S M : Type 0} (disk : DiskGhosts D) (store : StoreGhosts S) (meta : 
       }
 
   -- devices that hold nothing, after the notes were read
-  pub blank_noted : (s : S) (m n : M) (reg : D) → IsBlank disk store meta s m reg → KeepsNotes (meta.content m) (meta.content n) → IsBlank disk store meta s n reg
-  blank_noted s m n reg b k = record {
+  pub blank_recorded : (s : S) (m n : M) (reg : D) → IsBlank disk store meta s m reg → KeepsNotes (meta.content m) (meta.content n) → IsBlank disk store meta s n reg
+  blank_recorded s m n reg b k = record {
     file_tells = b.file_tells;
     file = b.file;
     store_tells = b.store_tells;
     objects = b.objects;
-    meta_tells = subst IsTrue (sym k.tells) b.meta_tells;
+    meta_tells = subst IsTrue (sym k.is_observable) b.meta_tells;
     notes = λ told. k.notes ∙ b.notes b.meta_tells;
   }
 
   -- and after they were armed
   blank_armed : (partition : PartitionId) (config : Config) (lists : List ActorList) (disks : List D) (s : S) (n : M) (reg r : D) (w : Whole D S M) → IsBlank disk store meta s n reg → IsFresh disk store meta partition config lists disks s n w
-      → IsTrue (disk.content r).tells → (disk.content r).files RegistryName ≡ None → IsBlank disk store meta w.tier.store w.tier.meta r
+      → IsTrue (disk.content r).is_observable → (disk.content r).files RegistryName ≡ None → IsBlank disk store meta w.tier.store w.tier.meta r
   blank_armed partition config lists disks s n reg r w b f told file = record {
     file_tells = told;
     file = file;
-    store_tells = subst IsTrue (sym f.tier.objects.tells) b.store_tells;
+    store_tells = subst IsTrue (sym f.tier.objects.is_observable) b.store_tells;
     objects = λ yes key. f.tier.objects.objects key ∙ b.objects b.store_tells key;
-    meta_tells = subst IsTrue (sym f.tier.notes.tells) b.meta_tells;
+    meta_tells = subst IsTrue (sym f.tier.notes.is_observable) b.meta_tells;
     notes = λ yes. f.tier.notes.notes ∙ b.notes b.meta_tells;
   }
 
@@ -133,7 +133,7 @@ module _ {D S M : Type 0} (disk : DiskGhosts D) (store : StoreGhosts S) (meta : 
       → IsBlank disk store meta s n reg → IsFresh disk store meta partition config lists cleared s n w → IsCentralLeft disk store meta opening w → GivesBack disk w reg disks t m r why
       → IsBlank disk store meta t m r ⊎ StandsFor disk store meta partition disks t m r (cold_of opening)
   begun_stands laws partition config lists cleared s n reg w opening disks t m r why b f c g =
-      let told : IsTrue (disk.content r).tells = subst IsTrue (sym g.file.tells) b.file_tells in
+      let told : IsTrue (disk.content r).is_observable = subst IsTrue (sym g.file.is_observable) b.file_tells in
       elim (g.file.reads b.file_tells) [
         | inl same ↦ inl (subst (λ (k : S). IsBlank disk store meta k m r) (sym g.store_is) (subst (λ (k : M). IsBlank disk store meta w.tier.store k r) (sym g.meta_is)
             (blank_armed partition config lists cleared s n reg r w b f told (same ∙ b.file))))

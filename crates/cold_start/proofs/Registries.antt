@@ -14,9 +14,9 @@ use Rattle.registry.specs.declared.registry.Replica.{Replica}
 use Rattle.plain_log.specs.declared.state.Broker.{Broker}
 use Rattle.plain_log.specs.declared.state.State.{State}
 use Rattle.plain_log.specs.Safe.{PlainSafe}
-use Rattle.partition_seen.specs.Seen as seen
-use Rattle.partition_seen.specs.Held.{broker_of}
-use Rattle.partition_seen.specs.Central.{HeldStands, LinesStand}
+use Rattle.laws_partition.specs.Seen as seen
+use Rattle.laws_partition.specs.Partition.{broker_of}
+use Rattle.laws_partition.specs.Central.{PartitionMatches, LinesStand}
 use Rattle.cold_start.specs.Laws.{RegistriesKeepRules}
 
 -- the end that each acknowledged is within the offsets
@@ -30,15 +30,15 @@ node_of_broker [] b x at = absurd cc
 node_of_broker (y ∷ ys) zero x at = (y, refl, cc (at))
 node_of_broker (y ∷ ys) (suc b) x at = node_of_broker ys b x at
 
-module _ (a : seen.Held) (p : State) (safe : PlainSafe p) (held : HeldStands a p) (lines : LinesStand a p.paths p.broken) where
+module _ (a : seen.SeenPartition) (p : State) (safe : PlainSafe p) (held : PartitionMatches a p) (lines : LinesStand a p.paths p.broken) where
   -- flushed ends are within the offsets
-  stable_low : (b : ℕ) (x : Broker) → slice_get p.brokers b ≡ Some x → x.stable ≤ 2 ^ 62
-  stable_low b x at =
+  flushed_end_low : (b : ℕ) (x : Broker) → slice_get p.brokers b ≡ Some x → x.flushed_end ≤ 2 ^ 62
+  flushed_end_low b x at =
       let y = node_of_broker a.nodes b x (ap (λ (bs : List Broker). slice_get bs b) (sym held.brokers) ∙ at) in
       let sound = (lines.each b y.0 y.1).sound in
-      let low = ends_below y.0.stable y.0.log.batches sound.log.consecutive sound.stable in
+      let low = ends_below y.0.flushed_end y.0.log.batches sound.log.consecutive sound.flushed_end in
       let small = sound.log.small in
-      let same : y.0.stable ≡ x.stable = ap (λ (z : Broker). z.stable) y.2 in
+      let same : y.0.flushed_end ≡ x.flushed_end = ap (λ (z : Broker). z.flushed_end) y.2 in
       omega (arith, low, small, same)
 
   acked_low : (b : ℕ) (s : Replica) → slice_get p.registry.replicas b ≡ Some s → s.acked ≤ 2 ^ 62
@@ -46,8 +46,8 @@ module _ (a : seen.Held) (p : State) (safe : PlainSafe p) (held : HeldStands a p
       let under = within p.registry.replicas b s at in
       let many = safe.same_count in
       let x = look p.brokers b (omega (arith, under, many)) in
-      let ack = (safe.acks b x.0 s x.1 at).stable in
-      let low = stable_low b x.0 x.1 in
+      let ack = (safe.acks b x.0 s x.1 at).flushed_end in
+      let low = flushed_end_low b x.0 x.1 in
       omega (arith, ack, low)
 
   pub registry_rules : 1 ≤ length p.registry.replicas → length p.registry.replicas ≤ 8 → IsRegistry p.registry
@@ -70,8 +70,8 @@ module _ (a : seen.Held) (p : State) (safe : PlainSafe p) (held : HeldStands a p
       }
 
 module _ {D S M : Type 0} (disk : DiskGhosts D) (store : StoreGhosts S) (meta : MetaGhosts M) where
-  pub registries_ruled : RegistriesKeepRules disk store meta
-  registries_ruled opening w c some few =
+  pub registries_scripted : RegistriesKeepRules disk store meta
+  registries_scripted opening w c some few =
       let same : c.central.plain.registry ≡ w.held.registry = c.central.stands.held.registry ∙ c.shows.registry in
       subst IsRegistry same
       (registry_rules c.partition c.central.plain c.central.safe c.central.stands.held c.central.stands.lines

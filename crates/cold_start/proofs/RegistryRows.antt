@@ -24,18 +24,18 @@ use Rattle.plain_log.specs.declared.command.Which.{Which}
 use Rattle.plain_log.specs.declared.command.Which.TheVariants.{LatestTiered, At}
 use Rattle.plain_log.specs.State.{acking}
 use Rattle.broker_log.specs.Seen.{Kept}
-use Rattle.partition_seen.specs.declared.begun.Begun.{Begun}
-use Rattle.partition_seen.specs.declared.begun.Turned.{Turned}
-use Rattle.partition_seen.specs.declared.begun.Turned.TheVariants.{Answers, Begins}
-use Rattle.partition_seen.proofs.BoolTests.{some_of}
-use Rattle.partition_turns.specs.declared.held.Node.{Node}
-use Rattle.partition_turns.specs.declared.held.Held.{Held}
-use Rattle.partition_turns.specs.Held.{put_node, is_up, end_of, stable_of, the_leader}
-use Rattle.partition_turns.specs.Turns.{ClockRow, PackRow, CopyingRow, OffsetRow, StopRow, UpRow, AnswerRow, FirstRow, LaterRow, Row}
-use Rattle.partition_turns.specs.TurnsOfLog.{AppendRow, RawRow, FlushRow, RollRow, TrimRow, TrimOnRow}
-use Rattle.partition_turns.specs.TurnsOfFetch.{FetchRow, FetchTurn}
-use Rattle.partition_turns.specs.TurnsOfElections.{Leaves, ElectRow, UncleanRow, LearnRow, AckRow, ShrinkRow, ExpandRow, RaiseRow}
-use Rattle.partition_turns.specs.TurnsOfFollowers.{JoinRow, JoinOnRow, FollowRow, FollowOnRow}
+use Rattle.laws_partition.specs.declared.start_snapshot.StartSnapshot.{StartSnapshot}
+use Rattle.laws_partition.specs.declared.start_snapshot.Turned.{Turned}
+use Rattle.laws_partition.specs.declared.start_snapshot.Turned.TheVariants.{Answers, Begins}
+use Rattle.laws_partition.proofs.BoolTests.{some_of}
+use Rattle.partition_commands.specs.declared.partition_state.Node.{Node}
+use Rattle.partition_commands.specs.declared.partition_state.PartitionState.{PartitionState}
+use Rattle.partition_commands.specs.Partition.{put_node, is_up, end_of, flushed_end_of, the_leader}
+use Rattle.partition_commands.specs.Turns.{ClockRow, PackRow, CopyingRow, OffsetRow, StopRow, UpRow, AnswerRow, FirstRow, LaterRow, Row}
+use Rattle.partition_commands.specs.TurnsOfLog.{AppendRow, RawRow, FlushRow, RollRow, TrimRow, TrimOnRow}
+use Rattle.partition_commands.specs.TurnsOfFetch.{FetchRow, FetchTurn}
+use Rattle.partition_commands.specs.TurnsOfElections.{Leaves, ElectRow, UncleanRow, LearnRow, AckRow, ShrinkRow, ExpandRow, RaiseRow}
+use Rattle.partition_commands.specs.TurnsOfFollowers.{JoinRow, JoinOnRow, FollowRow, FollowOnRow}
 use Rattle.cold_start.specs.Stepping.{logs_of}
 
 -- as many replicas as the registry has
@@ -54,18 +54,18 @@ elect_many r b s up (Err reg.DownBroker) = when_many r _ r refl
 elect_many r b s up (Done epoch) = when_many r _ (elected r b) (length-map r.replicas (renewed r.mark))
 elect_many r b s up other = tt
 
-unclean_many : (r : Registry) (b : ℕ) (up : Bool) (stable : ℕ) (answer : Result ℕ RegRefusal) → AsMany r (after_unclean r b up stable answer)
-unclean_many r b up stable (Err reg.LastEpoch) = when_many r _ r refl
-unclean_many r b up stable (Err reg.DownBroker) = when_many r _ r refl
-unclean_many r b up stable (Err (reg.BehindStart end start)) = when_many r _ r refl
-unclean_many r b up stable (Done epoch) =
-    when_many r _ (elected_alone r b stable) (length-slice_set (all_out r.replicas) b (record { in_sync = true; acked = stable }) ∙ length-map r.replicas (λ s. outsider))
-unclean_many r b up stable other = tt
+unclean_many : (r : Registry) (b : ℕ) (up : Bool) (flushed_end : ℕ) (answer : Result ℕ RegRefusal) → AsMany r (after_unclean r b up flushed_end answer)
+unclean_many r b up flushed_end (Err reg.LastEpoch) = when_many r _ r refl
+unclean_many r b up flushed_end (Err reg.DownBroker) = when_many r _ r refl
+unclean_many r b up flushed_end (Err (reg.BehindStart end start)) = when_many r _ r refl
+unclean_many r b up flushed_end (Done epoch) =
+    when_many r _ (elected_alone r b flushed_end) (length-slice_set (all_out r.replicas) b (record { in_sync = true; acked = flushed_end }) ∙ length-map r.replicas (λ s. outsider))
+unclean_many r b up flushed_end other = tt
 
-ack_many : (r : Registry) (b : ℕ) (s : Replica) (epoch stable : ℕ) (answer : Result ℕ RegRefusal) → AsMany r (after_ack r b s epoch stable answer)
-ack_many r b s epoch stable (Err (reg.StaleEpoch current)) = when_many r _ r refl
-ack_many r b s epoch stable (Done mark) = when_many r _ (with_ack r b s stable) (length-slice_set r.replicas b (record s { acked = stable }))
-ack_many r b s epoch stable other = tt
+ack_many : (r : Registry) (b : ℕ) (s : Replica) (epoch flushed_end : ℕ) (answer : Result ℕ RegRefusal) → AsMany r (after_ack r b s epoch flushed_end answer)
+ack_many r b s epoch flushed_end (Err (reg.StaleEpoch current)) = when_many r _ r refl
+ack_many r b s epoch flushed_end (Done mark) = when_many r _ (with_ack r b s flushed_end) (length-slice_set r.replicas b (record s { acked = flushed_end }))
+ack_many r b s epoch flushed_end other = tt
 
 shrink_many : (r : Registry) (b : ℕ) (s : Replica) (answer : Result (Unit {0}) RegRefusal) → AsMany r (after_shrink r b s answer)
 shrink_many r b s (Err reg.NotInSync) = when_many r _ r refl
@@ -88,35 +88,35 @@ raise_many r epoch wanted other = tt
 
 module _ {D : Type 0} where
   -- the registry is as it was, or each log is, and the registry has as many replicas
-  abbrev pub ChangesOne : Held D → Held D → Type 0
+  abbrev pub ChangesOne : PartitionState D → PartitionState D → Type 0
   ChangesOne h h' = (h'.registry ≡ h.registry) ⊎ ((logs_of h'.nodes ≡ logs_of h.nodes) × (length h'.registry.replicas ≡ length h.registry.replicas))
 
-  pub held_same : (h h' : Held D) → h' ≡ h → ChangesOne h h'
-  held_same h h' e = inl (ap (λ (k : Held D). k.registry) e)
+  pub held_same : (h h' : PartitionState D) → h' ≡ h → ChangesOne h h'
+  held_same h h' e = inl (ap (λ (k : PartitionState D). k.registry) e)
 
-  pub held_put : (h : Held D) (b : ℕ) (y : Node D) (h' : Held D) → h' ≡ put_node h b y → ChangesOne h h'
-  held_put h b y h' e = inl (ap (λ (k : Held D). k.registry) e)
+  pub held_put : (h : PartitionState D) (b : ℕ) (y : Node D) (h' : PartitionState D) → h' ≡ put_node h b y → ChangesOne h h'
+  held_put h b y h' e = inl (ap (λ (k : PartitionState D). k.registry) e)
 
-  held_leaves : (h : Held D) (after : Option Registry) (h' : Held D) → AsMany h.registry after → Leaves h after h' → ChangesOne h h'
+  held_leaves : (h : PartitionState D) (after : Option Registry) (h' : PartitionState D) → AsMany h.registry after → Leaves h after h' → ChangesOne h h'
   held_leaves h None h' many w = absurd w
-  held_leaves h (Some r) h' many w = inr (ap (λ (k : Held D). logs_of k.nodes) w, ap (λ (k : Held D). length k.registry.replicas) w ∙ many)
+  held_leaves h (Some r) h' many w = inr (ap (λ (k : PartitionState D). logs_of k.nodes) w, ap (λ (k : PartitionState D). length k.registry.replicas) w ∙ many)
 
-  elect_leaves : (h : Held D) (b : ℕ) (s : Replica) (up : Bool) (answer : Result ℕ RegRefusal) (h' : Held D) → Leaves h (after_elect h.registry b s up answer) h' → ChangesOne h h'
+  elect_leaves : (h : PartitionState D) (b : ℕ) (s : Replica) (up : Bool) (answer : Result ℕ RegRefusal) (h' : PartitionState D) → Leaves h (after_elect h.registry b s up answer) h' → ChangesOne h h'
   elect_leaves h b s up answer h' w = held_leaves h (after_elect h.registry b s up answer) h' (elect_many h.registry b s up answer) w
 
-  unclean_leaves : (h : Held D) (b : ℕ) (up : Bool) (stable : ℕ) (answer : Result ℕ RegRefusal) (h' : Held D) → Leaves h (after_unclean h.registry b up stable answer) h' → ChangesOne h h'
-  unclean_leaves h b up stable answer h' w = held_leaves h (after_unclean h.registry b up stable answer) h' (unclean_many h.registry b up stable answer) w
+  unclean_leaves : (h : PartitionState D) (b : ℕ) (up : Bool) (flushed_end : ℕ) (answer : Result ℕ RegRefusal) (h' : PartitionState D) → Leaves h (after_unclean h.registry b up flushed_end answer) h' → ChangesOne h h'
+  unclean_leaves h b up flushed_end answer h' w = held_leaves h (after_unclean h.registry b up flushed_end answer) h' (unclean_many h.registry b up flushed_end answer) w
 
-  ack_leaves : (h : Held D) (b : ℕ) (s : Replica) (epoch stable : ℕ) (answer : Result ℕ RegRefusal) (h' : Held D) → Leaves h (after_ack h.registry b s epoch stable answer) h' → ChangesOne h h'
-  ack_leaves h b s epoch stable answer h' w = held_leaves h (after_ack h.registry b s epoch stable answer) h' (ack_many h.registry b s epoch stable answer) w
+  ack_leaves : (h : PartitionState D) (b : ℕ) (s : Replica) (epoch flushed_end : ℕ) (answer : Result ℕ RegRefusal) (h' : PartitionState D) → Leaves h (after_ack h.registry b s epoch flushed_end answer) h' → ChangesOne h h'
+  ack_leaves h b s epoch flushed_end answer h' w = held_leaves h (after_ack h.registry b s epoch flushed_end answer) h' (ack_many h.registry b s epoch flushed_end answer) w
 
-  shrink_leaves : (h : Held D) (b : ℕ) (s : Replica) (answer : Result (Unit {0}) RegRefusal) (h' : Held D) → Leaves h (after_shrink h.registry b s answer) h' → ChangesOne h h'
+  shrink_leaves : (h : PartitionState D) (b : ℕ) (s : Replica) (answer : Result (Unit {0}) RegRefusal) (h' : PartitionState D) → Leaves h (after_shrink h.registry b s answer) h' → ChangesOne h h'
   shrink_leaves h b s answer h' w = held_leaves h (after_shrink h.registry b s answer) h' (shrink_many h.registry b s answer) w
 
-  expand_leaves : (h : Held D) (b : ℕ) (s : Replica) (up : Bool) (answer : Result (Unit {0}) RegRefusal) (h' : Held D) → Leaves h (after_expand h.registry b s up answer) h' → ChangesOne h h'
+  expand_leaves : (h : PartitionState D) (b : ℕ) (s : Replica) (up : Bool) (answer : Result (Unit {0}) RegRefusal) (h' : PartitionState D) → Leaves h (after_expand h.registry b s up answer) h' → ChangesOne h h'
   expand_leaves h b s up answer h' w = held_leaves h (after_expand h.registry b s up answer) h' (expand_many h.registry b s up answer) w
 
-  pub raise_leaves : (h : Held D) (epoch wanted : ℕ) (answer : Result ℕ RegRefusal) (h' : Held D) → Leaves h (after_raise h.registry epoch wanted answer) h' → ChangesOne h h'
+  pub raise_leaves : (h : PartitionState D) (epoch wanted : ℕ) (answer : Result ℕ RegRefusal) (h' : PartitionState D) → Leaves h (after_raise h.registry epoch wanted answer) h' → ChangesOne h h'
   raise_leaves h epoch wanted answer h' w = held_leaves h (after_raise h.registry epoch wanted answer) h' (raise_many h.registry epoch wanted answer) w
 
   -- a node with another log doesn't come in the place of one
@@ -128,7 +128,7 @@ module _ {D : Type 0} where
   logs_put (z ∷ xs) (suc b) x y at same = ap (λ (l : List (Kept D)). z.log ∷ l) (logs_put xs b x y at same)
 
 module _ {D : Type 0} (content : D → Content) (control : D → Control call_code) where
-  append_one : (h : Held D) (b : ℕ) (x : Node D) (batch : List ℕ) (answer : Answer) (h' : Held D) → AppendRow content control h b x batch answer h' → ChangesOne h h'
+  append_one : (h : PartitionState D) (b : ℕ) (x : Node D) (batch : List ℕ) (answer : Answer) (h' : PartitionState D) → AppendRow content control h b x batch answer h' → ChangesOne h h'
   append_one h b x batch Down h' w = held_same h h' w.1
   append_one h b x batch NotLeader h' w = held_same h h' w.2
   append_one h b x batch LastOffset h' w = held_same h h' w.3
@@ -137,7 +137,7 @@ module _ {D : Type 0} (content : D → Content) (control : D → Control call_co
   append_one h b x batch (OkSpan base last e) h' w = held_put h b _ h' w.6.5
   append_one h b x batch other h' w = elim w [ ]
 
-  raw_one : (h : Held D) (b : ℕ) (x : Node D) (bytes : List ℕ) (answer : Answer) (h' : Held D) → RawRow content control h b x bytes answer h' → ChangesOne h h'
+  raw_one : (h : PartitionState D) (b : ℕ) (x : Node D) (bytes : List ℕ) (answer : Answer) (h' : PartitionState D) → RawRow content control h b x bytes answer h' → ChangesOne h h'
   raw_one h b x bytes Down h' w = append_one h b x bytes Down h' w
   raw_one h b x bytes NotLeader h' w = append_one h b x bytes NotLeader h' w
   raw_one h b x bytes (Refused cause) h' w = held_same h h' w.3
@@ -147,13 +147,13 @@ module _ {D : Type 0} (content : D → Content) (control : D → Control call_co
   raw_one h b x bytes (OkSpan base last e) h' w = append_one h b x bytes (OkSpan base last e) h' w.1
   raw_one h b x bytes other h' w = elim w [ ]
 
-  flush_one : (h : Held D) (b : ℕ) (x : Node D) (answer : Answer) (h' : Held D) → FlushRow content control h b x answer h' → ChangesOne h h'
+  flush_one : (h : PartitionState D) (b : ℕ) (x : Node D) (answer : Answer) (h' : PartitionState D) → FlushRow content control h b x answer h' → ChangesOne h h'
   flush_one h b x Down h' w = held_same h h' w.1
   flush_one h b x DiskFault h' w = held_put h b _ h' w.1.after
   flush_one h b x (OkAt n) h' w = held_put h b _ h' w.1.3
   flush_one h b x other h' w = elim w [ ]
 
-  roll_one : (h : Held D) (b : ℕ) (x : Node D) (answer : Answer) (h' : Held D) → RollRow content control h b x answer h' → ChangesOne h h'
+  roll_one : (h : PartitionState D) (b : ℕ) (x : Node D) (answer : Answer) (h' : PartitionState D) → RollRow content control h b x answer h' → ChangesOne h h'
   roll_one h b x Down h' w = held_same h h' w.1
   roll_one h b x EmptySegment h' w = held_same h h' w.2
   roll_one h b x TooManySegments h' w = held_same h h' w.2
@@ -161,7 +161,7 @@ module _ {D : Type 0} (content : D → Content) (control : D → Control call_co
   roll_one h b x (OkAt n) h' w = held_put h b _ h' w.3.3
   roll_one h b x other h' w = elim w [ ]
 
-  fetch_one : (h : Held D) (b : ℕ) (x : Node D) (offset limit : ℕ) (answer : Answer) (h' : Held D) → FetchRow content control h b x offset limit answer h' → ChangesOne h h'
+  fetch_one : (h : PartitionState D) (b : ℕ) (x : Node D) (offset limit : ℕ) (answer : Answer) (h' : PartitionState D) → FetchRow content control h b x offset limit answer h' → ChangesOne h h'
   fetch_one h b x offset limit Down h' w = held_same h h' w.1
   fetch_one h b x offset limit NotLeader h' w = held_same h h' w.2
   fetch_one h b x offset limit (OutOfRange start end) h' w = held_same h h' w.5
@@ -171,21 +171,21 @@ module _ {D : Type 0} (content : D → Content) (control : D → Control call_co
   fetch_one h b x offset limit (Damaged (File name) from) h' w = held_put h b _ h' w.4.after
   fetch_one h b x offset limit other h' w = elim w [ ]
 
-  elect_one : (h : Held D) (b : ℕ) (x : Node D) (answer : Answer) (h' : Held D) → ElectRow h b x answer h' → ChangesOne h h'
+  elect_one : (h : PartitionState D) (b : ℕ) (x : Node D) (answer : Answer) (h' : PartitionState D) → ElectRow h b x answer h' → ChangesOne h h'
   elect_one h b x LastEpoch h' w = let t = some_of _ (slice_get h.registry.replicas b) w in elect_leaves h b t.0 (is_up x) (Err reg.LastEpoch) h' t.2
   elect_one h b x NotInSync h' w = let t = some_of _ (slice_get h.registry.replicas b) w in elect_leaves h b t.0 (is_up x) (Err reg.NotInSync) h' t.2
   elect_one h b x DownBroker h' w = let t = some_of _ (slice_get h.registry.replicas b) w in elect_leaves h b t.0 (is_up x) (Err reg.DownBroker) h' t.2
   elect_one h b x (OkAt n) h' w = let t = some_of _ (slice_get h.registry.replicas b) w in elect_leaves h b t.0 (is_up x) (Done n) h' t.2
   elect_one h b x other h' w = elim w [ ]
 
-  unclean_one : (h : Held D) (b : ℕ) (x : Node D) (answer : Answer) (h' : Held D) → UncleanRow h b x answer h' → ChangesOne h h'
-  unclean_one h b x LastEpoch h' w = unclean_leaves h b (is_up x) (stable_of x) (Err reg.LastEpoch) h' w
-  unclean_one h b x DownBroker h' w = unclean_leaves h b (is_up x) (stable_of x) (Err reg.DownBroker) h' w
-  unclean_one h b x (BehindStart end start) h' w = unclean_leaves h b (is_up x) (stable_of x) (Err (reg.BehindStart end start)) h' w
-  unclean_one h b x (OkAt n) h' w = unclean_leaves h b (is_up x) (stable_of x) (Done n) h' w
+  unclean_one : (h : PartitionState D) (b : ℕ) (x : Node D) (answer : Answer) (h' : PartitionState D) → UncleanRow h b x answer h' → ChangesOne h h'
+  unclean_one h b x LastEpoch h' w = unclean_leaves h b (is_up x) (flushed_end_of x) (Err reg.LastEpoch) h' w
+  unclean_one h b x DownBroker h' w = unclean_leaves h b (is_up x) (flushed_end_of x) (Err reg.DownBroker) h' w
+  unclean_one h b x (BehindStart end start) h' w = unclean_leaves h b (is_up x) (flushed_end_of x) (Err (reg.BehindStart end start)) h' w
+  unclean_one h b x (OkAt n) h' w = unclean_leaves h b (is_up x) (flushed_end_of x) (Done n) h' w
   unclean_one h b x other h' w = elim w [ ]
 
-  learn_one : (h : Held D) (b : ℕ) (x : Node D) (answer : Answer) (h' : Held D) → LearnRow content control h b x answer h' → ChangesOne h h'
+  learn_one : (h : PartitionState D) (b : ℕ) (x : Node D) (answer : Answer) (h' : PartitionState D) → LearnRow content control h b x answer h' → ChangesOne h h'
   learn_one h b x Down h' w = held_same h h' w.1
   learn_one h b x Known h' w = held_same h h' w.2
   learn_one h b x (Follows n) h' w = held_put h b _ h' w.4
@@ -194,35 +194,35 @@ module _ {D : Type 0} (content : D → Content) (control : D → Control call_co
   learn_one h b x DiskFault h' w = held_put h b _ h' w.4.after
   learn_one h b x other h' w = elim w [ ]
 
-  ack_one : (h : Held D) (b : ℕ) (x : Node D) (answer : Answer) (h' : Held D) → slice_get h.nodes b ≡ Some x → AckRow h b x answer h' → ChangesOne h h'
+  ack_one : (h : PartitionState D) (b : ℕ) (x : Node D) (answer : Answer) (h' : PartitionState D) → slice_get h.nodes b ≡ Some x → AckRow h b x answer h' → ChangesOne h h'
   ack_one h b x Down h' at w = held_same h h' w.1
   ack_one h b x NotJoined h' at w = held_same h h' w.2
   ack_one h b x (StaleEpoch e) h' at w =
       let o = some_of _ (acking x.role) w.1 in
       let t = some_of _ (slice_get h.registry.replicas b) o.2 in
-      ack_leaves h b t.0 o.0 (stable_of x) (Err (reg.StaleEpoch e)) h' t.2
+      ack_leaves h b t.0 o.0 (flushed_end_of x) (Err (reg.StaleEpoch e)) h' t.2
   ack_one h b x (OkAt mark) h' at w =
       let o = some_of _ (acking x.role) w.1 in
       let t = some_of _ (slice_get h.registry.replicas b) o.2 in
-      let r = some_of _ (after_ack h.registry b t.0 o.0 (stable_of x) (Done mark)) t.2 in
-      let y = record x { known = min r.0.mark (end_of x) } in
-      let many = subst (AsMany h.registry) r.1 (ack_many h.registry b t.0 o.0 (stable_of x) (Done mark)) in
-      inr (ap (λ (k : Held D). logs_of k.nodes) r.2 ∙ logs_put h.nodes b x y at refl, ap (λ (k : Held D). length k.registry.replicas) r.2 ∙ many)
+      let r = some_of _ (after_ack h.registry b t.0 o.0 (flushed_end_of x) (Done mark)) t.2 in
+      let y = record x { known_high_watermark = min r.0.mark (end_of x) } in
+      let many = subst (AsMany h.registry) r.1 (ack_many h.registry b t.0 o.0 (flushed_end_of x) (Done mark)) in
+      inr (ap (λ (k : PartitionState D). logs_of k.nodes) r.2 ∙ logs_put h.nodes b x y at refl, ap (λ (k : PartitionState D). length k.registry.replicas) r.2 ∙ many)
   ack_one h b x other h' at w = elim w [ ]
 
-  shrink_one : (h : Held D) (b : ℕ) (answer : Answer) (h' : Held D) → ShrinkRow h b answer h' → ChangesOne h h'
+  shrink_one : (h : PartitionState D) (b : ℕ) (answer : Answer) (h' : PartitionState D) → ShrinkRow h b answer h' → ChangesOne h h'
   shrink_one h b NotInSync h' w = let t = some_of _ (slice_get h.registry.replicas b) w in shrink_leaves h b t.0 (Err reg.NotInSync) h' t.2
   shrink_one h b IsLeader h' w = let t = some_of _ (slice_get h.registry.replicas b) w in shrink_leaves h b t.0 (Err reg.IsLeader) h' t.2
   shrink_one h b Ok h' w = let t = some_of _ (slice_get h.registry.replicas b) w in shrink_leaves h b t.0 (Done tt) h' t.2
   shrink_one h b other h' w = elim w [ ]
 
-  expand_one : (h : Held D) (b : ℕ) (x : Node D) (answer : Answer) (h' : Held D) → ExpandRow h b x answer h' → ChangesOne h h'
+  expand_one : (h : PartitionState D) (b : ℕ) (x : Node D) (answer : Answer) (h' : PartitionState D) → ExpandRow h b x answer h' → ChangesOne h h'
   expand_one h b x DownBroker h' w = let t = some_of _ (slice_get h.registry.replicas b) w in expand_leaves h b t.0 (is_up x) (Err reg.DownBroker) h' t.2
   expand_one h b x (Behind ack mark) h' w = let t = some_of _ (slice_get h.registry.replicas b) w in expand_leaves h b t.0 (is_up x) (Err (reg.Behind ack mark)) h' t.2
   expand_one h b x Ok h' w = let t = some_of _ (slice_get h.registry.replicas b) w in expand_leaves h b t.0 (is_up x) (Done tt) h' t.2
   expand_one h b x other h' w = elim w [ ]
 
-  raise_one : (h : Held D) (b : ℕ) (x : Node D) (wanted : ℕ) (answer : Answer) (h' : Held D) → RaiseRow h b x wanted answer h' → ChangesOne h h'
+  raise_one : (h : PartitionState D) (b : ℕ) (x : Node D) (wanted : ℕ) (answer : Answer) (h' : PartitionState D) → RaiseRow h b x wanted answer h' → ChangesOne h h'
   raise_one h b x wanted Down h' w = held_same h h' w.1
   raise_one h b x wanted NotLeader h' w = held_same h h' w.2
   raise_one h b x wanted (StaleEpoch e) h' w = raise_leaves h w.1.0 wanted (Err (reg.StaleEpoch e)) h' w.1.2
@@ -231,12 +231,12 @@ module _ {D : Type 0} (content : D → Content) (control : D → Control call_co
   raise_one h b x wanted (OkAt start) h' w = raise_leaves h w.1.0 wanted (Done start) h' w.1.2
   raise_one h b x wanted other h' w = elim w [ ]
 
-  stop_one : (h : Held D) (b : ℕ) (x : Node D) (answer : Answer) (h' : Held D) → StopRow content control h b x answer h' → ChangesOne h h'
+  stop_one : (h : PartitionState D) (b : ℕ) (x : Node D) (answer : Answer) (h' : PartitionState D) → StopRow content control h b x answer h' → ChangesOne h h'
   stop_one h b x Down h' w = held_same h h' w.1
   stop_one h b x Ok h' w = held_put h b _ h' w.1.3
   stop_one h b x other h' w = elim w [ ]
 
-  up_one : (h : Held D) (b : ℕ) (x : Node D) (answer : Answer) (h' : Held D) → UpRow content control h b x answer h' → ChangesOne h h'
+  up_one : (h : PartitionState D) (b : ℕ) (x : Node D) (answer : Answer) (h' : PartitionState D) → UpRow content control h b x answer h' → ChangesOne h h'
   up_one h b x IsUp h' w = held_same h h' w.1
   up_one h b x (IsOpen n) h' w = held_put h b _ h' w.1.3
   up_one h b x DiskFault h' w = held_put h b _ h' w.1.4
@@ -244,25 +244,25 @@ module _ {D : Type 0} (content : D → Content) (control : D → Control call_co
   up_one h b x LastIncarnation h' w = held_put h b _ h' w.1.3
   up_one h b x other h' w = elim w [ ]
 
-  clock_one : (h : Held D) (ms : ℤ) (answer : Answer) (h' : Held D) → ClockRow h ms answer h' → ChangesOne h h'
-  clock_one h ms Ok h' w = inl (ap (λ (k : Held D). k.registry) w)
+  clock_one : (h : PartitionState D) (ms : ℤ) (answer : Answer) (h' : PartitionState D) → ClockRow h ms answer h' → ChangesOne h h'
+  clock_one h ms Ok h' w = inl (ap (λ (k : PartitionState D). k.registry) w)
   clock_one h ms other h' w = elim w [ ]
 
-  pack_one : (h : Held D) (on : Bool) (answer : Answer) (h' : Held D) → PackRow h on answer h' → ChangesOne h h'
-  pack_one h on Ok h' w = inl (ap (λ (k : Held D). k.registry) w)
+  pack_one : (h : PartitionState D) (on : Bool) (answer : Answer) (h' : PartitionState D) → PackRow h on answer h' → ChangesOne h h'
+  pack_one h on Ok h' w = inl (ap (λ (k : PartitionState D). k.registry) w)
   pack_one h on other h' w = elim w [ ]
 
-  copying_one : (h : Held D) (on : Bool) (answer : Answer) (h' : Held D) → CopyingRow h on answer h' → ChangesOne h h'
-  copying_one h on Ok h' w = inl (ap (λ (k : Held D). k.registry) w)
+  copying_one : (h : PartitionState D) (on : Bool) (answer : Answer) (h' : PartitionState D) → CopyingRow h on answer h' → ChangesOne h h'
+  copying_one h on Ok h' w = inl (ap (λ (k : PartitionState D). k.registry) w)
   copying_one h on other h' w = elim w [ ]
 
-  offset_one : (h : Held D) (x : Node D) (which : Which) (answer : Answer) (h' : Held D) → OffsetRow h x which answer h' → ChangesOne h h'
+  offset_one : (h : PartitionState D) (x : Node D) (which : Which) (answer : Answer) (h' : PartitionState D) → OffsetRow h x which answer h' → ChangesOne h h'
   offset_one h x which Down h' w = held_same h h' w.1
   offset_one h x which NotLeader h' w = held_same h h' w.2
   offset_one h x which (OffsetAnswer n) h' w = held_same h h' w.3
   offset_one h x which other h' w = elim w [ ]
 
-  answer_one : (h : Held D) (b : ℕ) (x : Node D) (command : Command) (answer : Answer) (h' : Held D) → slice_get h.nodes b ≡ Some x
+  answer_one : (h : PartitionState D) (b : ℕ) (x : Node D) (command : Command) (answer : Answer) (h' : PartitionState D) → slice_get h.nodes b ≡ Some x
       → AnswerRow content control h b x command answer h' → ChangesOne h h'
   answer_one h b x (Append recs) answer h' at w = append_one h b x (built recs) answer h' w
   answer_one h b x (Raw bytes) answer h' at w = raw_one h b x bytes answer h' w
@@ -283,11 +283,11 @@ module _ {D : Type 0} (content : D → Content) (control : D → Control call_co
   answer_one h b x UpCommand answer h' at w = up_one h b x answer h' w
   answer_one h b x other answer h' at w = elim w [ ]
 
-  fetch_turn_one : (h : Held D) (b : ℕ) (x : Node D) (offset limit : ℕ) (turned : Turned) (h' : Held D) → FetchTurn content control h b x offset limit turned h' → ChangesOne h h'
+  fetch_turn_one : (h : PartitionState D) (b : ℕ) (x : Node D) (offset limit : ℕ) (turned : Turned) (h' : PartitionState D) → FetchTurn content control h b x offset limit turned h' → ChangesOne h h'
   fetch_turn_one h b x offset limit (Answers answer) h' w = fetch_one h b x offset limit answer h' w
   fetch_turn_one h b x offset limit (Begins g) h' w = held_same h h' w.6
 
-  join_one : (h : Held D) (b : ℕ) (x : Node D) (turned : Turned) (h' : Held D) → JoinRow content control h b x turned h' → ChangesOne h h'
+  join_one : (h : PartitionState D) (b : ℕ) (x : Node D) (turned : Turned) (h' : PartitionState D) → JoinRow content control h b x turned h' → ChangesOne h h'
   join_one h b x (Answers Down) h' w = held_same h h' w.1
   join_one h b x (Answers NotFollower) h' w = held_same h h' w.2
   join_one h b x (Answers (StaleEpoch e)) h' w = held_same h h' w.3
@@ -297,7 +297,7 @@ module _ {D : Type 0} (content : D → Content) (control : D → Control call_co
   join_one h b x (Begins g) h' w = held_put h b _ h' (some_of _ (the_leader h) w.2).2.4.cuts.after
   join_one h b x other h' w = elim w [ ]
 
-  join_on_one : (h : Held D) (b : ℕ) (x : Node D) (g : Begun) (answer : Answer) (h' : Held D) → JoinOnRow content control h b x g answer h' → ChangesOne h h'
+  join_on_one : (h : PartitionState D) (b : ℕ) (x : Node D) (g : StartSnapshot) (answer : Answer) (h' : PartitionState D) → JoinOnRow content control h b x g answer h' → ChangesOne h h'
   join_on_one h b x g Stopped h' w = held_same h h' w.1
   join_on_one h b x g (StaleEpoch e) h' w = held_same h h' w.3
   join_on_one h b x g (Passed n) h' w = held_same h h' w.3
@@ -306,19 +306,19 @@ module _ {D : Type 0} (content : D → Content) (control : D → Control call_co
   join_on_one h b x g (Rebuilt n) h' w = held_put h b _ h' w.2.after
   join_on_one h b x g other h' w = elim w [ ]
 
-  trim_one : (h : Held D) (x : Node D) (turned : Turned) (h' : Held D) → TrimRow content control h x turned h' → ChangesOne h h'
+  trim_one : (h : PartitionState D) (x : Node D) (turned : Turned) (h' : PartitionState D) → TrimRow content control h x turned h' → ChangesOne h h'
   trim_one h x (Answers Down) h' w = held_same h h' w.1
   trim_one h x (Begins g) h' w = held_same h h' w.2
   trim_one h x other h' w = elim w [ ]
 
-  pub trim_on_one : (h : Held D) (b : ℕ) (x : Node D) (g : Begun) (answer : Answer) (h' : Held D) → TrimOnRow content control h b x g answer h' → ChangesOne h h'
+  pub trim_on_one : (h : PartitionState D) (b : ℕ) (x : Node D) (g : StartSnapshot) (answer : Answer) (h' : PartitionState D) → TrimOnRow content control h b x g answer h' → ChangesOne h h'
   trim_on_one h b x g Stopped h' w = held_same h h' w.1
   trim_on_one h b x g Remains h' w = held_same h h' w.1
   trim_on_one h b x g DiskFault h' w = held_put h b _ h' w.2.after
   trim_on_one h b x g (Dropped base last) h' w = held_put h b _ h' w.2.3
   trim_on_one h b x g other h' w = elim w [ ]
 
-  follow_one : (h : Held D) (b : ℕ) (x : Node D) (limit : ℕ) (turned : Turned) (h' : Held D) → FollowRow content control h b x limit turned h' → ChangesOne h h'
+  follow_one : (h : PartitionState D) (b : ℕ) (x : Node D) (limit : ℕ) (turned : Turned) (h' : PartitionState D) → FollowRow content control h b x limit turned h' → ChangesOne h h'
   follow_one h b x limit (Answers Down) h' w = held_same h h' w.1
   follow_one h b x limit (Answers NotJoined) h' w = held_same h h' w.2
   follow_one h b x limit (Answers (StaleEpoch e)) h' w = held_same h h' w.3
@@ -330,7 +330,7 @@ module _ {D : Type 0} (content : D → Content) (control : D → Control call_co
   follow_one h b x limit (Begins g) h' w = let y = some_of _ (the_leader h) w.2 in held_put h h.registry.leader.0 _ h' y.2.2.after
   follow_one h b x limit other h' w = elim w [ ]
 
-  follow_on_one : (h : Held D) (b : ℕ) (x : Node D) (g : Begun) (answer : Answer) (h' : Held D) → FollowOnRow content control h b x g answer h' → ChangesOne h h'
+  follow_on_one : (h : PartitionState D) (b : ℕ) (x : Node D) (g : StartSnapshot) (answer : Answer) (h' : PartitionState D) → FollowOnRow content control h b x g answer h' → ChangesOne h h'
   follow_on_one h b x g Stopped h' w = held_same h h' w.1
   follow_on_one h b x g (StaleEpoch e) h' w = held_same h h' w.3
   follow_on_one h b x g (Passed n) h' w = held_same h h' w.3
@@ -339,7 +339,7 @@ module _ {D : Type 0} (content : D → Content) (control : D → Control call_co
   follow_on_one h b x g (Copied n) h' w = held_put h b _ h' w.3.after
   follow_on_one h b x g other h' w = elim w [ ]
 
-  first_one : (h : Held D) (b : ℕ) (x : Node D) (command : Command) (turned : Turned) (h' : Held D) → slice_get h.nodes b ≡ Some x → FirstRow content control h b x command turned h' → ChangesOne h h'
+  first_one : (h : PartitionState D) (b : ℕ) (x : Node D) (command : Command) (turned : Turned) (h' : PartitionState D) → slice_get h.nodes b ≡ Some x → FirstRow content control h b x command turned h' → ChangesOne h h'
   first_one h b x (Follow limit) turned h' at w = follow_one h b x limit turned h' w
   first_one h b x Join turned h' at w = join_one h b x turned h' w
   first_one h b x Trim turned h' at w = trim_one h x turned h' w
@@ -349,12 +349,12 @@ module _ {D : Type 0} (content : D → Content) (control : D → Control call_co
   first_one h b x command (Answers answer) h' at w = answer_one h b x command answer h' at w
   first_one h b x command (Begins g) h' at w = elim w [ ]
 
-  later_one : (h : Held D) (b : ℕ) (x : Node D) (command : Command) (g : Begun) (turned : Turned) (h' : Held D) → LaterRow content control h b x command g turned h' → ChangesOne h h'
+  later_one : (h : PartitionState D) (b : ℕ) (x : Node D) (command : Command) (g : StartSnapshot) (turned : Turned) (h' : PartitionState D) → LaterRow content control h b x command g turned h' → ChangesOne h h'
   later_one h b x (Follow limit) g (Answers answer) h' w = follow_on_one h b x g answer h' w
   later_one h b x Join g (Answers answer) h' w = join_on_one h b x g answer h' w
   later_one h b x Trim g (Answers answer) h' w = trim_on_one h b x g answer h' w
   later_one h b x command g turned h' w = elim w [ ]
 
-  pub row_one : (h : Held D) (b : ℕ) (x : Node D) (begun : Option Begun) (command : Command) (turned : Turned) (h' : Held D) → slice_get h.nodes b ≡ Some x → Row content control h b x begun command turned h' → ChangesOne h h'
+  pub row_one : (h : PartitionState D) (b : ℕ) (x : Node D) (snapshot : Option StartSnapshot) (command : Command) (turned : Turned) (h' : PartitionState D) → slice_get h.nodes b ≡ Some x → Row content control h b x snapshot command turned h' → ChangesOne h h'
   row_one h b x None command turned h' at w = first_one h b x command turned h' at w
   row_one h b x (Some g) command turned h' at w = later_one h b x command g turned h' w

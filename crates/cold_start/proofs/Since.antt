@@ -73,7 +73,7 @@ module _ {D : Type 0} (content : D → Content) (old now d : D) (cut : IsCutSinc
         let k = later (returning i s other.0) other.2 in
         (k.0, omega (arith, most, k.1), inr (subst (λ (x : Option Back). IsSomeAnd x (λ back. Opens c (returning k.0 s back))) (sym other.1) k.2))
 
-  module _ (told : IsTrue (content old).tells) (e : D) (later : OpensLater (content e) cut.files) where
+  module _ (told : IsTrue (content old).is_observable) (e : D) (later : OpensLater (content e) cut.files) where
     -- each image of the disk opens as these files
     each : (s : Seen) (i : ℕ) → s.incarnation ≤ i → ComesBack i s later.0 → (c : Files) → Image (content d) c → (j : ℕ) × (s.incarnation ≤ j) × ComesBack j s c
     each s i most was c at =
@@ -89,7 +89,7 @@ module _ {D : Type 0} (content : D → Content) (old now d : D) (cut : IsCutSinc
     shown_open log is s h =
         let at : Image (content log.disk) later.0 = subst (λ (k : D). Image (content k) later.0) (sym is) later.1 in
         record {
-          told = cut.tells told;
+          told = cut.is_observable told;
           kept = kept_stands content log s h;
           images = each s log.incarnation (omega (arith, h.incarnation_is)) (inl (h.images later.0 at));
           again = again (returns log.incarnation s) (h.images later.0 at);
@@ -101,7 +101,7 @@ module _ {D : Type 0} (content : D → Content) (old now d : D) (cut : IsCutSinc
         let was = h.images later.0 later.1 in
         let o = h.again.opens later.0 later.1 in
         record {
-          told = cut.tells told;
+          told = cut.is_observable told;
           kept = h.kept;
           images = each s was.0 was.1 was.2;
           again = again o.0 o.1;
@@ -110,7 +110,7 @@ module _ {D : Type 0} (content : D → Content) (old now d : D) (cut : IsCutSinc
 -- the disk that a log is on
 module _ {D : Type 0} (content : D → Content) (d : D) where
   -- it is seen as a log whose disk has an image that opens so
-  pub shown_later : (k : Kept D) (old now : D) (cut : IsCutSince (content old) (content now) (content d)) → IsTrue (content old).tells → (e : D) → OnDisk k (λ x. x ≡ e) → OpensLater (content e) cut.files → IsShownAs content k d
+  pub shown_later : (k : Kept D) (old now : D) (cut : IsCutSince (content old) (content now) (content d)) → IsTrue (content old).is_observable → (e : D) → OnDisk k (λ x. x ≡ e) → OpensLater (content e) cut.files → IsShownAs content k d
   shown_later (Up log) old now cut told e is later s h = shown_open content old now d cut told e later log is s h
   shown_later (Down was disk) old now cut told e is later s h = shown_closed content old now d cut told e later s (subst (λ (x : D). ShowsClosed content x s) is h)
   shown_later Away old now cut told e is later s h = absurd h

@@ -14,18 +14,18 @@ use Rattle.log_steps.specs.Reopens.{Reopens}
 use Rattle.broker_log.specs.Seen.{Kept, Up, Down, Away, Seen, Shows, ShowsClosed, OnDisk, is_up}
 use Rattle.plain_log.specs.declared.state.Broker.{Broker}
 use Rattle.plain_log.specs.declared.state.State.{State}
-use Rattle.partition_seen.specs.Seen as seen
-use Rattle.partition_seen.specs.Central.{LinesStand}
-use Rattle.partition_seen.specs.Held.{broker_of}
-use Rattle.partition_tier.specs.Sites.{Side as SideSeen, site_of, sites_of, fresh_side as fresh_seen}
-use Rattle.partition_turns.specs.declared.held.Node.{Node}
-use Rattle.partition_turns.specs.Cold.{ShowDisks, DisksReopen, node_back, held_back}
-use Rattle.partition_turns.specs.Fresh.{AreDisksOf}
-use Rattle.partition_turns.specs.Held.{ShowNodes}
-use Rattle.tier_safe.specs.Scene.{Site, Scene}
+use Rattle.laws_partition.specs.Seen as seen
+use Rattle.laws_partition.specs.Central.{LinesStand}
+use Rattle.laws_partition.specs.Partition.{broker_of}
+use Rattle.laws_tier_turns.specs.BrokerTiers.{BrokerTierModel as BrokerTierIsSeen, tier_view_of, tier_views_of, fresh_broker_tier as fresh_seen}
+use Rattle.partition_commands.specs.declared.partition_state.Node.{Node}
+use Rattle.partition_commands.specs.Cold.{ShowDisks, DisksReopen, node_back, held_back}
+use Rattle.partition_commands.specs.Fresh.{AreDisksOf}
+use Rattle.partition_commands.specs.Partition.{ShowNodes}
+use Rattle.tier_safe.specs.Scene.{BrokerTierView, Scene}
 use Rattle.tier_safe.specs.Safe.{TierSafe}
 use Rattle.tier_safe.proofs.Turning.{scene_same}
-use Rattle.partition_world.specs.Central.{IsCentral, sides_seen}
+use Rattle.partition_world.specs.Central.{IsCentral, broker_tiers_seen}
 use Rattle.plain_log.specs.declared.command.ActorList.{ActorList}
 use Rattle.plain_log.specs.declared.command.Config.{Config}
 use Rattle.plain_log.specs.declared.command.Pace.{Pace}
@@ -37,11 +37,11 @@ use Rattle.partition_world.proofs.ColdLaw.{reopened_runs}
 use Rattle.partition_world.specs.Left.{IsCentralLeft, resolved, whole_with}
 use Rattle.partition_world.specs.Whole.{Whole}
 use Rattle.cold_state.specs.Cold.{cold_of, cold_broker}
-use Rattle.cold_start.specs.Cold.{cold_site, cold_node, cold_held, cold_scene, cold_sides}
+use Rattle.cold_start.specs.Cold.{cold_tier_view, cold_node, cold_held, cold_scene, cold_broker_tiers}
 use Rattle.cold_start.specs.ColdWorld.{IsCutDisk, IsCutStore, IsCutLog, LeavesDisk, LeaveDisks, AreCut, plain_in}
 use Rattle.cold_start.proofs.ColdLaw.{cold_tier}
 use Rattle.cold_state.proofs.ColdStates.{cold_safe}
-use Rattle.cold_start.proofs.ColdSeen.{cold_brokers, cold_lines, cold_sites}
+use Rattle.cold_start.proofs.ColdSeen.{cold_brokers, cold_lines, cold_tier_views}
 use Rattle.cold_start.proofs.ColdWorldLaw.{closed_shown, log_shown, same_plain}
 
 module _ {D : Type 0} (content : D → Content) where
@@ -82,12 +82,12 @@ module _ {D : Type 0} (content : D → Content) where
   left_as (x ∷ xs) [] cut = absurd cut
 
 -- as many sides as brokers are seen, or more
-sides_anew : (nodes : List seen.Node) (sides : List SideSeen) → length (sites_of nodes sides) ≡ length nodes → sites_of (map cold_node nodes) (cold_sides sides) ≡ sites_of (map cold_node nodes) (replicate (length nodes) fresh_seen)
-sides_anew [] sides e = refl
-sides_anew (x ∷ nodes) [] e = absurd cc
-sides_anew (x ∷ nodes) (side ∷ sides) e =
-    let rest : length (sites_of nodes sides) ≡ length nodes = cc (e) in
-    ap (λ (l : List Site). site_of (cold_node x) fresh_seen ∷ l) (sides_anew nodes sides rest)
+broker_tiers_anew : (nodes : List seen.Node) (broker_tiers : List BrokerTierIsSeen) → length (tier_views_of nodes broker_tiers) ≡ length nodes → tier_views_of (map cold_node nodes) (cold_broker_tiers broker_tiers) ≡ tier_views_of (map cold_node nodes) (replicate (length nodes) fresh_seen)
+broker_tiers_anew [] broker_tiers e = refl
+broker_tiers_anew (x ∷ nodes) [] e = absurd cc
+broker_tiers_anew (x ∷ nodes) (broker_tier ∷ broker_tiers) e =
+    let rest : length (tier_views_of nodes broker_tiers) ≡ length nodes = cc (e) in
+    ap (λ (l : List BrokerTierView). tier_view_of (cold_node x) fresh_seen ∷ l) (broker_tiers_anew nodes broker_tiers rest)
 
 long : {A B : Type 0} (f : A → B) (xs : List A) → length (map f xs) ≡ length xs
 long f [] = refl
@@ -104,24 +104,24 @@ module _ {D S M : Type 0} (disk : DiskGhosts D) (store : StoreGhosts S) (meta : 
 
     held_is : cold_held k.partition (pos 0) ≡ held_back w.held.registry b.logs
     held_is =
-        ap (λ (r : Registry). (let h : seen.Held = record { registry = r; nodes = map cold_node k.partition.nodes; clock = pos 0 } in h)) registry_is
-        ∙ ap (λ (nodes : List seen.Node). (let h : seen.Held = record { registry = w.held.registry; nodes = nodes; clock = pos 0 } in h)) (sym b.same)
+        ap (λ (r : Registry). (let h : seen.SeenPartition = record { registry = r; nodes = map cold_node k.partition.nodes; clock = pos 0 } in h)) registry_is
+        ∙ ap (λ (nodes : List seen.Node). (let h : seen.SeenPartition = record { registry = w.held.registry; nodes = nodes; clock = pos 0 } in h)) (sym b.same)
 
-    many : length (sites_of k.partition.nodes (sides_seen w.tier.sides)) ≡ length k.partition.nodes
+    many : length (tier_views_of k.partition.nodes (broker_tiers_seen w.tier.broker_tiers)) ≡ length k.partition.nodes
     many =
-        ap (λ (sites : List Site). length sites) (sym k.shows_tier.sites) ∙ k.tier.sites.count
+        ap (λ (tier_views : List BrokerTierView). length tier_views) (sym k.shows_tier.tier_views) ∙ k.tier.tier_views.count
         ∙ ap (λ (brokers : List Broker). length brokers) k.central.stands.held.brokers ∙ long broker_of k.partition.nodes
 
     count : length k.partition.nodes ≡ length b.logs
     count = sym (long cold_node k.partition.nodes) ∙ ap (λ (nodes : List seen.Node). length nodes) (sym b.same) ∙ long node_back b.logs
 
-    sites_are : map cold_site k.scene.sites ≡ sites_of (map node_back b.logs) (replicate (length b.logs) fresh_seen)
-    sites_are =
-        ap (map cold_site) k.shows_tier.sites ∙ sym (cold_sites k.partition.nodes (sides_seen w.tier.sides)) ∙ sides_anew k.partition.nodes (sides_seen w.tier.sides) many
-        ∙ ap (λ (nodes : List seen.Node). sites_of nodes (replicate (length k.partition.nodes) fresh_seen)) (sym b.same) ∙ ap (λ (n : ℕ). sites_of (map node_back b.logs) (replicate n fresh_seen)) count
+    tier_views_are : map cold_tier_view k.scene.tier_views ≡ tier_views_of (map node_back b.logs) (replicate (length b.logs) fresh_seen)
+    tier_views_are =
+        ap (map cold_tier_view) k.shows_tier.tier_views ∙ sym (cold_tier_views k.partition.nodes (broker_tiers_seen w.tier.broker_tiers)) ∙ broker_tiers_anew k.partition.nodes (broker_tiers_seen w.tier.broker_tiers) many
+        ∙ ap (λ (nodes : List seen.Node). tier_views_of nodes (replicate (length k.partition.nodes) fresh_seen)) (sym b.same) ∙ ap (λ (n : ℕ). tier_views_of (map node_back b.logs) (replicate n fresh_seen)) count
 
     scene_is : cold_scene k.scene [] ≡ scene_back w.partition (store.content s).objects l b.logs
-    scene_is = scene_same _ _ k.shows_tier.partition (k.shows_tier.objects ∙ sym kept.objects) k.shows_tier.notes sites_are refl
+    scene_is = scene_same _ _ k.shows_tier.partition (k.shows_tier.objects ∙ sym kept.objects) k.shows_tier.notes tier_views_are refl
 
     pub stand_cut : StandCold disk store meta w.partition w.held.registry disks s m (cold_of k.central.plain) l
     stand_cut = record {
@@ -131,9 +131,9 @@ module _ {D S M : Type 0} (disk : DiskGhosts D) (store : StoreGhosts S) (meta : 
       registry_is = k.central.stands.held.registry ∙ registry_is;
       brokers = ap (map cold_broker) k.central.stands.held.brokers ∙ cold_brokers k.partition.nodes ∙ ap (map broker_of) (sym b.same);
       actors = refl;
-      lines = subst (λ (h : seen.Held). LinesStand h k.central.plain.paths k.central.plain.broken) held_is (cold_lines k.partition (pos 0) k.central.plain.paths k.central.plain.broken k.central.stands.lines);
-      store_tells = kept.tells k.shows_tier.store_tells;
-      meta_tells = told.tells k.shows_tier.meta_tells;
+      lines = subst (λ (h : seen.SeenPartition). LinesStand h k.central.plain.paths k.central.plain.broken) held_is (cold_lines k.partition (pos 0) k.central.plain.paths k.central.plain.broken k.central.stands.lines);
+      store_tells = kept.is_observable k.shows_tier.store_tells;
+      meta_tells = told.is_observable k.shows_tier.meta_tells;
       tier = subst (λ (c : Scene). TierSafe c (cold_of k.central.plain)) scene_is (cold_tier k.scene k.central.plain [] (λ a work at. absurd cc) k.tier);
     }
 
@@ -173,8 +173,8 @@ module _ {D S M : Type 0} (disk : DiskGhosts D) (store : StoreGhosts S) (meta : 
         brokers = k.brokers;
         actors = k.actors;
         lines = k.lines;
-        store_tells = kept.tells k.store_tells;
-        meta_tells = told.tells k.meta_tells;
+        store_tells = kept.is_observable k.store_tells;
+        meta_tells = told.is_observable k.meta_tells;
         tier = subst (λ (o : Objects). TierSafe (scene_back partition o l k.logs) p) (sym kept.objects) k.tier;
       }
 

@@ -53,7 +53,7 @@ module _ {D S M : Type 0} where
 module _ {D S M : Type 0} (disk : DiskGhosts D) (store : StoreGhosts S) (meta : MetaGhosts M) where
   -- a step whose registry couldn't be kept
   pub halts_now : (t t' : Running D S M) (why : ColdRefusal) → Ends disk t.reg t.world t' why
-      → (IsTrue (disk.content t'.reg).tells → (opening : State) → LeavesOneOf disk store meta opening t.world t'.world t'.reg) → Halts disk store meta t t' why
+      → (IsTrue (disk.content t'.reg).is_observable → (opening : State) → LeavesOneOf disk store meta opening t.world t'.world t'.reg) → Halts disk store meta t t' why
   halts_now t t' why e either = inr (t.world, later_same disk store meta t.world, e, either)
 
   -- some steps before

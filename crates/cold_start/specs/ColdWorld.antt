@@ -18,13 +18,13 @@ use Rattle.plain_log.specs.declared.journal.JournalEntry.{JournalEntry}
 use Rattle.plain_log.specs.declared.state.Role.TheVariants.{Idle}
 use Rattle.plain_log.specs.declared.state.State.{State}
 use Rattle.plain_log.specs.Orders.{AreListsFor, AreRising}
-use Rattle.partition_turns.specs.declared.held.Node.{Node}
+use Rattle.partition_commands.specs.declared.partition_state.Node.{Node}
 use Rattle.partition_world.specs.Central.{notes_left}
-use Rattle.partition_world.specs.Fresh.{fresh_seat, fresh_side}
+use Rattle.partition_world.specs.Fresh.{fresh_actor_state, fresh_broker_tier}
 use Rattle.tier_base.specs.declared.names.PartitionId.{PartitionId}
 use Rattle.registry.specs.declared.registry.Registry.{Registry}
-use Rattle.partition_turns.specs.Cold.{DisksReopen}
-use Rattle.partition_turns.specs.Fresh.{AreDisksOf}
+use Rattle.partition_commands.specs.Cold.{DisksReopen}
+use Rattle.partition_commands.specs.Fresh.{AreDisksOf}
 use Rattle.plain_log.specs.declared.command.Pace.{Pace}
 use Rattle.partition_world.specs.Cold.{IsReopened, StandCold}
 use Rattle.partition_world.specs.Laws.{IsRunFrom}
@@ -35,17 +35,17 @@ use Rattle.cold_state.specs.Cold.{cold_of}
 
 -- a disk after a power cut: it has no images but those that it had
 pub record IsCutDisk (old new : Content) : Type 0 where
-  pub tells : IsTrue old.tells → IsTrue new.tells
+  pub is_observable : IsTrue old.is_observable → IsTrue new.is_observable
   pub images : (c : Files) → Image new c → Image old c
 
 -- a metadata log after it: it tells notes that were left, and no others are left
 pub record IsCutLog (old new : NotesContent) : Type 0 where
-  pub tells : IsTrue old.tells → IsTrue new.tells
+  pub is_observable : IsTrue old.is_observable → IsTrue new.is_observable
   pub left : (l : List Note) → Left new l → Left old l
 
 -- a store after it: it is as it was
 pub record IsCutStore (old new : StoreContent) : Type 0 where
-  pub tells : IsTrue old.tells → IsTrue new.tells
+  pub is_observable : IsTrue old.is_observable → IsTrue new.is_observable
   pub objects : new.objects ≡ old.objects
 
 module _ {D : Type 0} (content : D → Content) where
@@ -73,7 +73,7 @@ module _ {D : Type 0} (content : D → Content) where
 module _ {D : Type 0} where
   -- a broker that is down and has never stopped, over a disk
   abbrev pub cold_dev : Settings → D → Node D
-  cold_dev set disk = record { stops = 0; role = Idle; log = Down set disk; known = 0 }
+  cold_dev set disk = record { stops = 0; role = Idle; log = Down set disk; known_high_watermark = 0 }
 
 module _ {D S M : Type 0} where
   -- a world with a registry that begins over these devices, with these lists and this journal
@@ -83,8 +83,8 @@ module _ {D S M : Type 0} where
     config = config;
     lists = lists;
     held = record { registry = w.held.registry; nodes = map (cold_dev config.settings) disks; clock = pos 0; copying = true; packed = false };
-    tier = record { store = s; meta = m; sides = map (λ side. fresh_side) w.tier.sides };
-    desk = replicate (length lists) fresh_seat;
+    tier = record { store = s; meta = m; broker_tiers = map (λ broker_tier. fresh_broker_tier) w.tier.broker_tiers };
+    desk = replicate (length lists) fresh_actor_state;
     journal = journal;
   }
 
@@ -100,7 +100,7 @@ module _ {D S M : Type 0} (disk : DiskGhosts D) (store : StoreGhosts S) (meta : 
       (disks : List D) (s : S) (m : M) (c : IsCentralLeft disk store meta opening w) → LeaveDisks disk.content w.held.nodes disks
       → IsCutStore (store.content w.tier.store) (store.content s) → IsCutLog (meta.content w.tier.meta) (meta.content m)
       → AreRising lists → journal.items ≡ []
-      → ((l : List Note) → Left (meta.content m) l → length l + notes_left lists (replicate (length lists) fresh_seat) < 2 ^ 64)
+      → ((l : List Note) → Left (meta.content m) l → length l + notes_left lists (replicate (length lists) fresh_actor_state) < 2 ^ 64)
       → IsCentralLeft disk store meta (cold_of (plain_in opening w c)) (reopened config w lists journal disks s m)
 
   -- after a power cut of everything between two turns what is left of the devices stands for what is left of the plain state, with

@@ -7,7 +7,7 @@ use Rattle.disk_model.specs.declared.disk.Disk.{Ghosts as DiskGhosts}
 use Rattle.segment_meta.specs.declared.note.Note.{Note}
 use Rattle.meta_log.specs.declared.log.MetaLog.{Ghosts as MetaGhosts}
 use Rattle.meta_log.specs.Content.{Left, Keeps as KeepsNotes}
-use Rattle.meta_file.specs.Told.{IsLeft as IsLeftOn, told_of}
+use Rattle.meta_log_file.specs.Told.{IsLeft as IsLeftOn, told_of}
 use Rattle.cold_start.specs.ColdWorld.{IsCutDisk, IsCutLog}
 
 module _ {D : Type 0} (disk : DiskGhosts D) where
@@ -22,7 +22,7 @@ module _ {D : Type 0} (disk : DiskGhosts D) where
   -- a metadata log on a disk that a power cut left of another log's: it leaves no notes that can't be opened from there
   abbrev pub ReopenedLogIsCut : Type 0
   ReopenedLogIsCut = (old cut new : D) → IsCutDisk (disk.content old) (disk.content cut)
-      → (disk.content new).tells ≡ (disk.content cut).tells
+      → (disk.content new).is_observable ≡ (disk.content cut).is_observable
       → ((l : List Note) → Left (told_of (disk.content new)) l → IsLeftOn (disk.content cut) l)
       → IsCutLog (told_of (disk.content old)) (told_of (disk.content new))
 

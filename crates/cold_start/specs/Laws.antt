@@ -10,23 +10,23 @@ use Rattle.partition_world.specs.Whole.{Whole as World}
 use Rattle.plain_log.specs.declared.command.ActorList.{ActorList}
 use Rattle.plain_log.specs.declared.journal.JournalEntry.{JournalEntry}
 use Rattle.plain_log.specs.Orders.{AreRising}
-use Rattle.partition_seen.specs.Seen.{Node}
-use Rattle.partition_seen.specs.Whole.{Whole}
-use Rattle.partition_seen.specs.Central.{IsCentral}
-use Rattle.partition_tier.specs.Sites.{Side, sites_of}
+use Rattle.laws_partition.specs.Seen.{Node}
+use Rattle.laws_partition.specs.Whole.{Whole}
+use Rattle.laws_partition.specs.Central.{IsCentral}
+use Rattle.laws_tier_turns.specs.BrokerTiers.{BrokerTierModel, tier_views_of}
 use Rattle.plain_log.specs.declared.state.State.{State}
-use Rattle.tier_safe.specs.Scene.{Work, Free, Scene}
+use Rattle.tier_safe.specs.Scene.{TierTask, Free, Scene}
 use Rattle.tier_safe.specs.Safe.{TierSafe}
 use Rattle.cold_state.specs.Cold.{cold_of}
-use Rattle.cold_start.specs.Cold.{cold_scene, cold_site, cold_node, cold_whole, cold_sides}
+use Rattle.cold_start.specs.Cold.{cold_scene, cold_tier_view, cold_node, cold_whole, cold_broker_tiers}
 
 -- nothing is on the desk
-abbrev pub IsFree : List Work → Type 0
-IsFree desk = (a : ℕ) (work : Work) → slice_get desk a ≡ Some work → work ≡ Free
+abbrev pub IsFree : List TierTask → Type 0
+IsFree desk = (a : ℕ) (work : TierTask) → slice_get desk a ≡ Some work → work ≡ Free
 
 -- the tier's safety rules hold in what is left, beside the plain state that is left
 abbrev pub ColdTierIsSafe : Type 0
-ColdTierIsSafe = (c : Scene) (p : State) (desk : List Work) → IsFree desk → TierSafe c p → TierSafe (cold_scene c desk) (cold_of p)
+ColdTierIsSafe = (c : Scene) (p : State) (desk : List TierTask) → IsFree desk → TierSafe c p → TierSafe (cold_scene c desk) (cold_of p)
 
 -- a partition that has the central fact for some opening state has it, as a power cut leaves it, for the state that is left
 abbrev pub ColdIsCentral : Type 0
@@ -34,8 +34,8 @@ ColdIsCentral = (opening : State) (w : Whole) (clock : ℤ) (lists : List ActorL
     → AreRising lists → journal.items ≡ [] → IsCentral (cold_of c.plain) (cold_whole w clock lists journal)
 
 -- the sides of the brokers that are left are those of the tier that is left
-abbrev pub ColdSidesAreSeen : Type 0
-ColdSidesAreSeen = (nodes : List Node) (sides : List Side) → sites_of (map cold_node nodes) (cold_sides sides) ≡ map cold_site (sites_of nodes sides)
+abbrev pub ColdBrokerTiersAreSeen : Type 0
+ColdBrokerTiersAreSeen = (nodes : List Node) (broker_tiers : List BrokerTierModel) → tier_views_of (map cold_node nodes) (cold_broker_tiers broker_tiers) ≡ map cold_tier_view (tier_views_of nodes broker_tiers)
 
 module _ {D S M : Type 0} (disk : DiskGhosts D) (store : StoreGhosts S) (meta : MetaGhosts M) where
   -- the registry of a world of at most 8 brokers that has the central fact keeps the rules of its file

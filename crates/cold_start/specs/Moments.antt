@@ -19,8 +19,8 @@ use Rattle.object_store.specs.declared.store.Store.{Ghosts as StoreGhosts}
 use Rattle.meta_log.specs.declared.log.MetaLog.{Ghosts as MetaGhosts}
 use Rattle.broker_log.specs.Seen.{Kept, OnDisk, LeavesBetween}
 use Rattle.plain_log.specs.declared.state.State.{State}
-use Rattle.partition_seen.specs.declared.seat.Stepped.{Stepped}
-use Rattle.partition_turns.specs.declared.held.Node.{Node}
+use Rattle.laws_partition.specs.declared.actor_progress.Stepped.{Stepped}
+use Rattle.partition_commands.specs.declared.partition_state.Node.{Node}
 use Rattle.partition_world.specs.Left.{IsCentralLeft}
 use Rattle.partition_world.specs.Turn.{Steps}
 use Rattle.partition_world.specs.Whole.{Whole}
@@ -32,7 +32,7 @@ use Rattle.cold_start.specs.Stepping.{logs_of}
 
 -- a disk after a power cut at some moment since: it has the files that were left then, and a further cut leaves no others
 pub record IsCutSince (old now new : Content) : Type 0 where
-  pub tells : IsTrue old.tells → IsTrue new.tells
+  pub is_observable : IsTrue old.is_observable → IsTrue new.is_observable
   pub files : Files
   pub left : now.left old.moment files
   pub images : (c : Files) → Image new c → (n : FileName) → c n ≡ files n
@@ -84,7 +84,7 @@ module _ {D S M : Type 0} (disk : DiskGhosts D) (store : StoreGhosts S) (meta : 
 
   -- a step in the course of which that holds, where the registry's disk tells
   abbrev pub GoesSafely : Running D S M → Running D S M → Type 0
-  GoesSafely t t' = IsTrue (disk.content t.reg).tells → (opening : State) → LeavesDuring opening t.world t.reg t'.world t'.reg
+  GoesSafely t t' = IsTrue (disk.content t.reg).is_observable → (opening : State) → LeavesDuring opening t.world t.reg t'.world t'.reg
 
   -- such steps, one after the other
   abbrev pub GoesThrough : List (Running D S M) → Running D S M → Running D S M → Type 0

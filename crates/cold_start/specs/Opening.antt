@@ -30,10 +30,10 @@ use Rattle.registry_file.specs.Reading.{view_in}
 use Rattle.plain_log.specs.declared.command.ActorList.{ActorList}
 use Rattle.plain_log.specs.declared.command.Config.{Config}
 use Rattle.registry_disk.specs.Keeping.{Replaces}
-use Rattle.partition_turns.specs.Cold.{DisksReopen}
-use Rattle.partition_turns.specs.Fresh.{OneFailed, AreDisksOf}
-use Rattle.partition_turns.specs.declared.refusal.WorldRefusal.{WorldRefusal}
-use Rattle.partition_turns.specs.declared.refusal.WorldRefusal.TheVariants as world
+use Rattle.partition_commands.specs.Cold.{DisksReopen}
+use Rattle.partition_commands.specs.Fresh.{OneFailed, AreDisksOf}
+use Rattle.partition_commands.specs.declared.refusal.WorldRefusal.{WorldRefusal}
+use Rattle.partition_commands.specs.declared.refusal.WorldRefusal.TheVariants as world
 use Rattle.registry_disk.specs.declared.refusal.FindRefusal.{FindRefusal}
 use Rattle.registry_disk.specs.declared.refusal.FindRefusal.TheVariants as find
 use Rattle.partition_world.specs.Cold.{IsReopened}
@@ -101,25 +101,25 @@ module _ {D S M : Type 0} (disk : DiskGhosts D) (store : StoreGhosts S) (meta : 
   -- there was no registry: the world is fresh, over disks whose files were removed
   pub record Starts (partition : PartitionId) (config : Config) (lists : List ActorList) (disks : List D) (s : S) (m : M) (reg : D)
       (t : Running D S M) : Type 0 where
-    pub none : IsTrue (disk.content reg).tells → (disk.content reg).files RegistryName ≡ None
+    pub none : IsTrue (disk.content reg).is_observable → (disk.content reg).files RegistryName ≡ None
     pub cleared : List D
     pub disks_last : AllLast disk.control disks cleared
-    pub noted : M
-    pub notes : KeepsNotes (meta.content m) (meta.content noted)
-    pub notes_last : Lasts (meta.control m) (meta.control noted)
-    pub fresh : IsFresh disk store meta partition config lists cleared s noted t.world
+    pub recorded : M
+    pub notes : KeepsNotes (meta.content m) (meta.content recorded)
+    pub notes_last : Lasts (meta.control m) (meta.control recorded)
+    pub fresh : IsFresh disk store meta partition config lists cleared s recorded t.world
 
   -- the registry was read: the world begins anew with it, over the disks as they were
   pub record Continues (partition : PartitionId) (config : Config) (lists : List ActorList) (disks : List D) (s : S) (m : M) (reg : D)
       (t : Running D S M) : Type 0 where
     pub view : RegView
-    pub read : view_in (disk.control t.reg).handed ≡ Ok view
-    pub there : IsTrue (disk.content reg).tells → (disk.content reg).files RegistryName ≡ Some (disk.control t.reg).handed
+    pub read : view_in (disk.control t.reg).last_read ≡ Ok view
+    pub there : IsTrue (disk.content reg).is_observable → (disk.content reg).files RegistryName ≡ Some (disk.control t.reg).last_read
     pub count : view.brokers ≡ config.brokers
-    pub noted : M
-    pub notes : KeepsNotes (meta.content m) (meta.content noted)
-    pub notes_last : Lasts (meta.control m) (meta.control noted)
-    pub reopened : IsReopened disk store meta partition config lists (registry_of view) disks s noted t.world
+    pub recorded : M
+    pub notes : KeepsNotes (meta.content m) (meta.content recorded)
+    pub notes_last : Lasts (meta.control m) (meta.control recorded)
+    pub reopened : IsReopened disk store meta partition config lists (registry_of view) disks s recorded t.world
 
   abbrev pub IsOpened : PartitionId → Config → List ActorList → List D → S → M → D → Running D S M → Type 0
   IsOpened partition config lists disks s m reg t =
@@ -131,12 +131,12 @@ module _ {D M : Type 0} (disk : DiskGhosts D) (meta : MetaGhosts M) where
       : Type 0 where
     pub registry_fault : why ≡ RegistryFault → Rose (disk.control reg).faults (disk.control r).faults
     pub device_fault : why ≡ DeviceFault → OneFailed disk.control disks nows ⊎ Rose (meta.control m).faults (meta.control n).faults
-    pub bad_registry : (at : ℕ) → why ≡ BadRegistry at → says config.brokers (view_in (disk.control r).handed) ≡ Some why
-    pub brokers : (kept asked : ℕ) → why ≡ Brokers kept asked → says config.brokers (view_in (disk.control r).handed) ≡ Some why
+    pub bad_registry : (at : ℕ) → why ≡ BadRegistry at → says config.brokers (view_in (disk.control r).last_read) ≡ Some why
+    pub brokers : (kept asked : ℕ) → why ≡ Brokers kept asked → says config.brokers (view_in (disk.control r).last_read) ≡ Some why
     -- what was handed is the file
-    pub handed : IsSaid why → IsTrue (disk.content reg).tells → (disk.content reg).files RegistryName ≡ Some (disk.control r).handed
+    pub last_read : IsSaid why → IsTrue (disk.content reg).is_observable → (disk.content reg).files RegistryName ≡ Some (disk.control r).last_read
     -- what the file says comes before all but a fault of its disk, and want of memory
-    pub told : IsTrue (disk.content reg).tells → (bytes : List ℕ) (said : ColdRefusal)
+    pub told : IsTrue (disk.content reg).is_observable → (bytes : List ℕ) (said : ColdRefusal)
         → (disk.content reg).files RegistryName ≡ Some bytes → says config.brokers (view_in bytes) ≡ Some said
         → (why ≡ said) ⊎ ((why ≡ RegistryFault) ⊎ (why ≡ NoMemory))
 

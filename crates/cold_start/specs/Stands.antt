@@ -27,17 +27,17 @@ module _ {D S M : Type 0} (disk : DiskGhosts D) (store : StoreGhosts S) (meta : 
   -- The registry's file reads as the plain state's registry, and with it the brokers' disks, the store and the metadata log are those
   -- of that state, with whatever notes a power cut now may leave.
   pub record StandsFor (partition : PartitionId) (disks : List D) (s : S) (m : M) (reg : D) (p : State) : Type 0 where
-    pub file_tells : IsTrue (disk.content reg).tells
+    pub file_tells : IsTrue (disk.content reg).is_observable
     pub file : HasFile (disk.content reg).files p.registry
     pub stand : (l : List Note) → Left (meta.content m) l → StandCold disk store meta partition p.registry disks s m p l
 
   -- nothing of the partition was ever kept
   pub record IsBlank (s : S) (m : M) (reg : D) : Type 0 where
-    pub file_tells : IsTrue (disk.content reg).tells
+    pub file_tells : IsTrue (disk.content reg).is_observable
     pub file : (disk.content reg).files RegistryName ≡ None
-    pub store_tells : IsTrue (store.content s).tells
+    pub store_tells : IsTrue (store.content s).is_observable
     pub objects : IsEmptyStore (store.content s)
-    pub meta_tells : IsTrue (meta.content m).tells
+    pub meta_tells : IsTrue (meta.content m).is_observable
     pub notes : IsEmptyLog (meta.content m)
 
   -- a power cut of everything may leave these of an open partition's devices

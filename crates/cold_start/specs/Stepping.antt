@@ -13,8 +13,8 @@ use Rattle.meta_log.specs.declared.log.MetaLog.{Ghosts as MetaGhosts}
 use Rattle.registry_disk.specs.Keeping.{KeepsFile, KeepsOneOf}
 use Rattle.broker_log.specs.Seen.{Kept}
 use Rattle.plain_log.specs.declared.state.State.{State}
-use Rattle.partition_seen.specs.declared.seat.Stepped.{Stepped}
-use Rattle.partition_turns.specs.declared.held.Node.{Node}
+use Rattle.laws_partition.specs.declared.actor_progress.Stepped.{Stepped}
+use Rattle.partition_commands.specs.declared.partition_state.Node.{Node}
 use Rattle.partition_world.specs.Later.{IsLater}
 use Rattle.partition_world.specs.Turn.{Steps}
 use Rattle.partition_world.specs.Whole.{Whole}
@@ -55,4 +55,4 @@ module _ {D S M : Type 0} (disk : DiskGhosts D) (store : StoreGhosts S) (meta : 
   abbrev pub Halts : Running D S M → Running D S M → ColdRefusal → Type 0
   Halts t t' why = ((why ≡ NoMemory) × (t'.ended ≡ false))
       ⊎ ((w : Whole D S M) × IsLater disk store meta t.world w × Ends disk t.reg w t' why
-      × (IsTrue (disk.content t'.reg).tells → (opening : State) → LeavesOneOf disk store meta opening w t'.world t'.reg))
+      × (IsTrue (disk.content t'.reg).is_observable → (opening : State) → LeavesOneOf disk store meta opening w t'.world t'.reg))

@@ -8,7 +8,7 @@ use Rattle.meta_log.specs.declared.log.MetaLog.{Ghosts as MetaGhosts}
 use Rattle.meta_log.specs.Content.{Left}
 use Rattle.plain_log.specs.declared.state.State.{State}
 use Rattle.partition_world.specs.Central.{notes_left}
-use Rattle.partition_world.specs.Fresh.{fresh_seat}
+use Rattle.partition_world.specs.Fresh.{fresh_actor_state}
 use Rattle.partition_world.specs.Left.{IsCentralLeft}
 use Rattle.partition_world.specs.Whole.{Whole}
 use Rattle.tier_sweep.specs.Sweeping.{LeavesUnder}
@@ -21,7 +21,7 @@ with_devices w s m = record {
   config = w.config;
   lists = w.lists;
   held = w.held;
-  tier = record { store = s; meta = m; sides = w.tier.sides };
+  tier = record { store = s; meta = m; broker_tiers = w.tier.broker_tiers };
   desk = w.desk;
   journal = w.journal;
 }
@@ -31,8 +31,8 @@ module _ {D S M : Type 0} (disk : DiskGhosts D) (store : StoreGhosts S) (meta : 
   -- for the opening state that it had it for
   abbrev pub SweepKeepsCentral : Type 0
   SweepKeepsCentral = (opening : State) (w : Whole D S M) (s : S) (m : M) → IsCentralLeft disk store meta opening w
-      → w.desk ≡ replicate (length w.lists) fresh_seat
-      → (store.content s).tells ≡ (store.content w.tier.store).tells → (meta.content m).tells ≡ (meta.content w.tier.meta).tells
+      → w.desk ≡ replicate (length w.lists) fresh_actor_state
+      → (store.content s).is_observable ≡ (store.content w.tier.store).is_observable → (meta.content m).is_observable ≡ (meta.content w.tier.meta).is_observable
       → LeavesUnder (store.content w.tier.store) (meta.content w.tier.meta) (store.content s) (meta.content m)
       → ((l : List Note) → Left (meta.content m) l → length l + notes_left w.lists w.desk < 2 ^ 64)
       → IsCentralLeft disk store meta opening (with_devices w s m)

@@ -8,8 +8,8 @@ ghost use Rattle.tier_base.specs.Device.{Lasts};
 ghost use Rattle.plain_log.specs.declared.state.State.{State};
 ghost use Rattle.registry.specs.View.{view_of};
 ghost use Rattle.registry_disk.specs.Keeping.{KeepsFile};
-ghost use Rattle.partition_turns.specs.Fresh.{AreDisksOf};
-ghost use Rattle.partition_turns.specs.Cold.{DisksReopen};
+ghost use Rattle.partition_commands.specs.Fresh.{AreDisksOf};
+ghost use Rattle.partition_commands.specs.Cold.{DisksReopen};
 ghost use Rattle.partition_world.specs.Later.{IsLater};
 ghost use Rattle.partition_world.specs.Left.{IsCentralLeft};
 ghost use Rattle.partition_world.specs.Turn.{Steps};
@@ -23,9 +23,9 @@ ghost use Rattle.cold_start.specs.Stepping.{Ends};
 use crate::laws::{a_step_changes_the_registry_or_a_device, a_step_works_on_one_device, file_laws};
 use crate::refusal::ColdRefusal;
 use disk_model::Disk;
+use laws_partition::Stepped;
 use meta_log::MetaLog;
 use object_store::Store;
-use partition_seen::Stepped;
 use partition_world::{Devices, World};
 use registry::{RegView, Registry};
 use registry_disk::keep_registry;
@@ -89,7 +89,7 @@ impl<D: Disk, S: Store, M: MetaLog> Cold<D, S, M> {
     pub fn leaves(&self)
         ensures file { self.now.ended ≡ false → KeepsFile (D.content self.now.reg) self.now.world.held.registry }
         ensures unarmed { (D.control self.now.reg).armed ≡ false }
-        ensures cold { self.now.ended ≡ false → IsTrue (D.content self.now.reg).tells → (opening : State)
+        ensures cold { self.now.ended ≡ false → IsTrue (D.content self.now.reg).is_observable → (opening : State)
             → LeavesCold D.Disk S.Store M.MetaLog opening self.now.world self.now.reg }
     {
         file_laws();
@@ -109,14 +109,14 @@ impl<D: Disk, S: Store, M: MetaLog> Cold<D, S, M> {
         // Whatever it answers, the world is a later one, and a power cut leaves what stands for the state before or after it.
         ensures later { IsLater D.Disk S.Store M.MetaLog self.old.world self.new.world }
         ensures control { Lasts (D.control self.old.reg) (D.control self.new.reg) }
-        ensures tells { (D.content self.new.reg).tells ≡ (D.content self.old.reg).tells }
-        ensures cold { OnOk result (IsTrue (D.content self.new.reg).tells → (opening : State)
+        ensures is_observable { (D.content self.new.reg).is_observable ≡ (D.content self.old.reg).is_observable }
+        ensures cold { OnOk result (IsTrue (D.content self.new.reg).is_observable → (opening : State)
             → LeavesCold D.Disk S.Store M.MetaLog opening self.new.world self.new.reg) }
-        ensures either { OnErr result (IsTrue (D.content self.new.reg).tells → (opening : State)
+        ensures either { OnErr result (IsTrue (D.content self.new.reg).is_observable → (opening : State)
             → LeavesOneOf D.Disk S.Store M.MetaLog opening self.old.world self.new.world self.new.reg) }
 
         // So does what a power cut leaves at any moment since the step began, whatever moment each device's files are of.
-        ensures during { IsTrue (D.content self.old.reg).tells → (opening : State)
+        ensures during { IsTrue (D.content self.old.reg).is_observable → (opening : State)
             → LeavesDuring D.Disk S.Store M.MetaLog opening self.old.world self.old.reg self.new.world self.new.reg }
     {
         file_laws();
@@ -148,7 +148,7 @@ impl<D: Disk, S: Store, M: MetaLog> Cold<D, S, M> {
         ensures unarmed { (D.control result.1).armed ≡ false }
 
         // They stand for what is left of the plain state that the journal has come to.
-        ensures cold { self.ended ≡ false → IsTrue (D.content self.reg).tells → (opening : State)
+        ensures cold { self.ended ≡ false → IsTrue (D.content self.reg).is_observable → (opening : State)
             (c : IsCentralLeft D.Disk S.Store M.MetaLog opening self.world)
             → StandsFor D.Disk S.Store M.MetaLog self.world.partition result.0.disks.items result.0.store result.0.meta result.1
             (cold_of (plain_in D.Disk S.Store M.MetaLog opening self.world c)) }

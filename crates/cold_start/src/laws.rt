@@ -4,7 +4,7 @@
 ghost use Rattle.cold_start.specs.ColdWorld.{PowerCutKeepsCentral, PowerCutLeavesCold, PowerCutKeepsCold, RunsGoOn, ClosedAreLeft};
 ghost use Rattle.cold_start.specs.Cuts.{CrashedDiskIsCut, KeptDiskIsCut, KeptLogIsCut, ReopenedLogIsCut};
 ghost use Rattle.cold_start.specs.FileLaws.{FileLaws};
-ghost use Rattle.cold_start.specs.Laws.{ColdTierIsSafe, ColdIsCentral, ColdSidesAreSeen, RegistriesKeepRules};
+ghost use Rattle.cold_start.specs.Laws.{ColdTierIsSafe, ColdIsCentral, ColdBrokerTiersAreSeen, RegistriesKeepRules};
 ghost use Rattle.cold_start.specs.Moments.{StepsWorkOnOne};
 ghost use Rattle.cold_start.specs.Stepping.{StepsChangeOne};
 ghost use Rattle.cold_start.specs.SweptWorld.{SweepKeepsCentral, KeptStoreIsCut};
@@ -29,8 +29,8 @@ pub fn a_cold_partition_is_central()
 {}
 
 /// What its brokers know of the tier is what those of the cold tier know: nothing.
-pub fn cold_sides_are_seen()
-    ensures { ColdSidesAreSeen }
+pub fn cold_broker_tiers_are_seen()
+    ensures { ColdBrokerTiersAreSeen }
 {}
 
 /// After a power cut of everything between two turns, a world that begins anew over what it left has

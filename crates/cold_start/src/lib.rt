@@ -16,7 +16,7 @@ pub use laws::{
     a_kept_log_is_cut, a_kept_store_is_cut, a_power_cut_keeps_central, a_power_cut_keeps_cold,
     a_power_cut_leaves_cold, a_reopened_log_is_cut, a_run_goes_on,
     a_step_changes_the_registry_or_a_device, a_sweep_keeps_central, closed_disks_are_left,
-    cold_sides_are_seen, registries_keep_the_rules,
+    cold_broker_tiers_are_seen, registries_keep_the_rules,
 };
 pub use refusal::ColdRefusal;
 pub use registry_file::{RegFileRefusal, reg_decode, reg_encode};

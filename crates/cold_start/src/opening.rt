@@ -19,7 +19,7 @@ ghost use Rattle.registry_file.specs.Reading.{view_in};
 ghost use Rattle.plain_log.specs.Fresh.{fresh as fresh_plain};
 ghost use Rattle.plain_log.specs.Orders.{AreListsFor, IsConfig};
 ghost use Rattle.plain_log.specs.declared.state.State.{State};
-ghost use Rattle.partition_turns.specs.Fresh.{AreFreshDisks, DisksTell, OneFailed};
+ghost use Rattle.partition_commands.specs.Fresh.{AreFreshDisks, DisksTell, OneFailed};
 ghost use Rattle.partition_world.specs.Fresh.{IsNew};
 ghost use Rattle.partition_world.specs.Left.{IsCentralLeft};
 ghost use Rattle.cold_state.specs.Cold.{cold_of};
@@ -62,8 +62,8 @@ fn world_refusal(why: WorldRefusal) -> ColdRefusal
 
 /// Removes a file.
 fn remove_one<D: Disk>(disk: &mut D, name: FileName) -> Result<(), Trouble>
-    ensures removed { OnOk result (IsTrue (D.content disk.old).tells → IsGone name (D.content disk.old).files (D.content disk.new).files) }
-    ensures tells { (D.content disk.new).tells ≡ (D.content disk.old).tells }
+    ensures removed { OnOk result (IsTrue (D.content disk.old).is_observable → IsGone name (D.content disk.old).files (D.content disk.new).files) }
+    ensures is_observable { (D.content disk.new).is_observable ≡ (D.content disk.old).is_observable }
     ensures control { Lasts (D.control disk.old) (D.control disk.new) }
     ensures fault { IsErrOf result Failed → Rose (D.control disk.old).faults (D.control disk.new).faults }
 {
@@ -74,8 +74,8 @@ fn remove_one<D: Disk>(disk: &mut D, name: FileName) -> Result<(), Trouble>
 
 /// Removes a disk's files.
 fn clear<D: Disk>(disk: &mut D) -> Result<(), Trouble>
-    ensures cleared { OnOk result (IsTrue (D.content disk.old).tells → (n : Name) → (D.content disk.new).files n ≡ None) }
-    ensures tells { (D.content disk.new).tells ≡ (D.content disk.old).tells }
+    ensures cleared { OnOk result (IsTrue (D.content disk.old).is_observable → (n : Name) → (D.content disk.new).files n ≡ None) }
+    ensures is_observable { (D.content disk.new).is_observable ≡ (D.content disk.old).is_observable }
     ensures control { Lasts (D.control disk.old) (D.control disk.new) }
     ensures fault { IsErrOf result Failed → Rose (D.control disk.old).faults (D.control disk.new).faults }
 {
@@ -109,8 +109,8 @@ fn clear_all<D: Disk>(disks: &mut Vec<D>) -> Result<(), Trouble>
 
 /// Makes sure that the notes which a metadata log reads are the only ones that a power cut leaves, and that they can be counted.
 fn settle_notes<M: MetaLog>(meta: &mut M) -> Result<(), Trouble>
-    ensures settled { OnOk result (IsTrue (M.content meta.old).tells → LeavesTold (M.content meta.new)) }
-    ensures few { OnOk result (IsTrue (M.content meta.old).tells → length (M.content meta.new).notes ≤ 2 ^ 59) }
+    ensures settled { OnOk result (IsTrue (M.content meta.old).is_observable → LeavesTold (M.content meta.new)) }
+    ensures few { OnOk result (IsTrue (M.content meta.old).is_observable → length (M.content meta.new).notes ≤ 2 ^ 59) }
     ensures content { KeepsNotes (M.content meta.old) (M.content meta.new) }
     ensures control { Lasts (M.control meta.old) (M.control meta.new) }
     ensures fault { IsErrOf result Failed → Rose (M.control meta.old).faults (M.control meta.new).faults }
@@ -141,7 +141,7 @@ impl<D: Disk, S: Store, M: MetaLog> Cold<D, S, M> {
         ensures opened { IfOk result (IsOpened D.Disk S.Store M.MetaLog partition config lists
             devices.disks.items devices.store devices.meta reg) }
         ensures going { IfOk result (λ t. t.ended ≡ false) }
-        ensures tells { IfOk result (λ t. (D.content t.reg).tells ≡ (D.content reg).tells) }
+        ensures is_observable { IfOk result (λ t. (D.content t.reg).is_observable ≡ (D.content reg).is_observable) }
         ensures new { IfOk result (λ t. IsNew lists t.world) }
 
         // For each plain state that the devices stand for its journal is a run from there on, and so it is from the beginning
@@ -151,7 +151,7 @@ impl<D: Disk, S: Store, M: MetaLog> Cold<D, S, M> {
         ensures blank { IfOk result (λ t. DisksTell D.content devices.disks.items
             → IsBlank D.Disk S.Store M.MetaLog devices.store devices.meta reg
             → IsCentralLeft D.Disk S.Store M.MetaLog (fresh_plain config) t.world) }
-        ensures cold { IfOk result (λ t. IsTrue (D.content t.reg).tells → (opening : State)
+        ensures cold { IfOk result (λ t. IsTrue (D.content t.reg).is_observable → (opening : State)
             → LeavesCold D.Disk S.Store M.MetaLog opening t.world t.reg) }
 
         // A refusal has its cause, and leaves devices that stand for what they stood for.
@@ -161,7 +161,7 @@ impl<D: Disk, S: Store, M: MetaLog> Cold<D, S, M> {
             e.0.disks.items e.0.store e.0.meta e.1 e.2) }
         ensures stand { IfErr result (λ e. (p : State) → StandsFor D.Disk S.Store M.MetaLog partition devices.disks.items
             devices.store devices.meta reg p → StandsFor D.Disk S.Store M.MetaLog partition e.0.disks.items e.0.store e.0.meta e.1 p) }
-        ensures begun { IfErr result (λ e. DisksTell D.content devices.disks.items
+        ensures snapshot { IfErr result (λ e. DisksTell D.content devices.disks.items
             → IsBlank D.Disk S.Store M.MetaLog devices.store devices.meta reg
             → IsBlank D.Disk S.Store M.MetaLog e.0.store e.0.meta e.1
             ⊎ StandsFor D.Disk S.Store M.MetaLog partition e.0.disks.items e.0.store e.0.meta e.1 (cold_of (fresh_plain config))) }
@@ -188,22 +188,22 @@ impl<D: Disk, S: Store, M: MetaLog> Cold<D, S, M> {
         requires count { length devices.disks.items ≡ config.brokers }
         requires disks { AreUnarmed D.control devices.disks.items }
         requires registry { (D.control reg).armed ≡ false }
-        requires none { IsTrue (D.content reg).tells → (D.content reg).files RegistryName ≡ None }
+        requires none { IsTrue (D.content reg).is_observable → (D.content reg).files RegistryName ≡ None }
         ensures opened { IfOk result (Starts D.Disk S.Store M.MetaLog partition config lists
             devices.disks.items devices.store devices.meta reg) }
         ensures going { IfOk result (λ t. t.ended ≡ false) }
-        ensures tells { IfOk result (λ t. (D.content t.reg).tells ≡ (D.content reg).tells) }
+        ensures is_observable { IfOk result (λ t. (D.content t.reg).is_observable ≡ (D.content reg).is_observable) }
         ensures new { IfOk result (λ t. IsNew lists t.world) }
         ensures blank { IfOk result (λ t. DisksTell D.content devices.disks.items
             → IsBlank D.Disk S.Store M.MetaLog devices.store devices.meta reg
             → IsCentralLeft D.Disk S.Store M.MetaLog (fresh_plain config) t.world) }
-        ensures cold { IfOk result (λ t. IsTrue (D.content t.reg).tells → (opening : State)
+        ensures cold { IfOk result (λ t. IsTrue (D.content t.reg).is_observable → (opening : State)
             → LeavesCold D.Disk S.Store M.MetaLog opening t.world t.reg) }
         ensures cause { IfErr result (λ e. HasCause D.Disk M.MetaLog config devices.disks.items devices.meta reg
             e.0.disks.items e.0.meta e.1 e.2) }
         ensures back { IfErr result (λ e. ComesBack D.Disk M.MetaLog devices.disks.items devices.store devices.meta reg
             e.0.disks.items e.0.store e.0.meta e.1 e.2) }
-        ensures begun { IfErr result (λ e. DisksTell D.content devices.disks.items
+        ensures snapshot { IfErr result (λ e. DisksTell D.content devices.disks.items
             → IsBlank D.Disk S.Store M.MetaLog devices.store devices.meta reg
             → IsBlank D.Disk S.Store M.MetaLog e.0.store e.0.meta e.1
             ⊎ StandsFor D.Disk S.Store M.MetaLog partition e.0.disks.items e.0.store e.0.meta e.1 (cold_of (fresh_plain config))) }
@@ -229,13 +229,13 @@ impl<D: Disk, S: Store, M: MetaLog> Cold<D, S, M> {
             lists,
             Devices { disks, store, meta },
         ) {
-            Ok(world) => Self::begun(alloc, world, reg),
+            Ok(world) => Self::snapshot(alloc, world, reg),
             Err((devices, why)) => Err((devices, reg, world_refusal(why))),
         }
     }
 
     /// Writes the registry of a world that has just begun.
-    fn begun(
+    fn snapshot(
         alloc: Global,
         world: World<D, S, M>,
         reg: D,
@@ -244,8 +244,8 @@ impl<D: Disk, S: Store, M: MetaLog> Cold<D, S, M> {
         requires some { 1 ≤ length world.held.registry.replicas }
         requires few { length world.held.registry.replicas ≤ 8 }
         ensures ok { IfOk result (λ t. (t.world ≡ world) × (t.ended ≡ false)) }
-        ensures tells { IfOk result (λ t. (D.content t.reg).tells ≡ (D.content reg).tells) }
-        ensures cold { IfOk result (λ t. IsTrue (D.content t.reg).tells → (opening : State)
+        ensures is_observable { IfOk result (λ t. (D.content t.reg).is_observable ≡ (D.content reg).is_observable) }
+        ensures cold { IfOk result (λ t. IsTrue (D.content t.reg).is_observable → (opening : State)
             → LeavesCold D.Disk S.Store M.MetaLog opening t.world t.reg) }
         ensures err { IfErr result (λ e. GivesBack D.Disk world reg e.0.disks.items e.0.store e.0.meta e.1 e.2) }
     {
@@ -276,16 +276,16 @@ impl<D: Disk, S: Store, M: MetaLog> Cold<D, S, M> {
         requires count { length devices.disks.items ≡ config.brokers }
         requires registry { (D.control reg).armed ≡ false }
         requires rules { IsView view }
-        requires read { view_in (D.control reg).handed ≡ Ok view }
-        requires there { IsTrue (D.content reg).tells → (D.content reg).files RegistryName ≡ Some (D.control reg).handed }
+        requires read { view_in (D.control reg).last_read ≡ Ok view }
+        requires there { IsTrue (D.content reg).is_observable → (D.content reg).files RegistryName ≡ Some (D.control reg).last_read }
         ensures opened { IfOk result (Continues D.Disk S.Store M.MetaLog partition config lists
             devices.disks.items devices.store devices.meta reg) }
         ensures going { IfOk result (λ t. t.ended ≡ false) }
-        ensures tells { IfOk result (λ t. (D.content t.reg).tells ≡ (D.content reg).tells) }
+        ensures is_observable { IfOk result (λ t. (D.content t.reg).is_observable ≡ (D.content reg).is_observable) }
         ensures new { IfOk result (λ t. IsNew lists t.world) }
         ensures central { IfOk result (λ t. (p : State) → StandsFor D.Disk S.Store M.MetaLog partition devices.disks.items
             devices.store devices.meta reg p → IsCentralLeft D.Disk S.Store M.MetaLog p t.world) }
-        ensures cold { IfOk result (λ t. IsTrue (D.content t.reg).tells → (opening : State)
+        ensures cold { IfOk result (λ t. IsTrue (D.content t.reg).is_observable → (opening : State)
             → LeavesCold D.Disk S.Store M.MetaLog opening t.world t.reg) }
         ensures cause { IfErr result (λ e. HasCause D.Disk M.MetaLog config devices.disks.items devices.meta reg
             e.0.disks.items e.0.meta e.1 e.2) }

@@ -2,7 +2,7 @@
 
 ghost use Rattle.std.specs.Prelude.{◌≡◌, ◌≢◌, ◌⊎◌, ℕ, false, OnOk, IfOk, IfErr};
 ghost use Rattle.tier_base.specs.Device.{Lasts};
-ghost use Rattle.partition_seen.specs.declared.seat.Stepped.TheVariants.{NoMemory};
+ghost use Rattle.laws_partition.specs.declared.actor_progress.Stepped.TheVariants.{NoMemory};
 ghost use Rattle.partition_world.specs.Later.{IsLater};
 ghost use Rattle.partition_world.specs.Reaches.{GoesTimes, GoesUntil, Paces, Reaches};
 ghost use Rattle.partition_world.specs.Turn.{Steps};
@@ -12,9 +12,9 @@ ghost use Rattle.cold_start.specs.Stepping.{Halts};
 use crate::cold::Cold;
 use crate::refusal::ColdRefusal;
 use disk_model::Disk;
+use laws_partition::Stepped;
 use meta_log::MetaLog;
 use object_store::Store;
-use partition_seen::Stepped;
 use plain_log::Pace;
 use std::alloc::Global;
 use tier_base::ActorId;
@@ -32,7 +32,7 @@ fn turn<D: Disk, S: Store, M: MetaLog>(
     ensures going { OnOk result (cold.new.ended ≡ false) }
     ensures err { IfErr result (λ why. Halts D.Disk S.Store M.MetaLog cold.old cold.new why) }
     ensures control { Lasts (D.control cold.old.reg) (D.control cold.new.reg) }
-    ensures tells { (D.content cold.new.reg).tells ≡ (D.content cold.old.reg).tells }
+    ensures is_observable { (D.content cold.new.reg).is_observable ≡ (D.content cold.old.reg).is_observable }
     ensures during { RunsThrough D.Disk S.Store M.MetaLog cold.old cold.new }
 {
     match cold.step(alloc, actor) {
@@ -55,7 +55,7 @@ fn run_until<D: Disk, S: Store, M: MetaLog>(
     ensures going { OnOk result (cold.new.ended ≡ false) }
     ensures err { IfErr result (λ why. Halts D.Disk S.Store M.MetaLog cold.old cold.new why) }
     ensures control { Lasts (D.control cold.old.reg) (D.control cold.new.reg) }
-    ensures tells { (D.content cold.new.reg).tells ≡ (D.content cold.old.reg).tells }
+    ensures is_observable { (D.content cold.new.reg).is_observable ≡ (D.content cold.old.reg).is_observable }
     ensures during { RunsThrough D.Disk S.Store M.MetaLog cold.old cold.new }
 {
     while !cold.world().has_answered(actor, number) {
@@ -80,7 +80,7 @@ fn run_times<D: Disk, S: Store, M: MetaLog>(
     ensures going { OnOk result (cold.new.ended ≡ false) }
     ensures err { IfErr result (λ why. Halts D.Disk S.Store M.MetaLog cold.old cold.new why) }
     ensures control { Lasts (D.control cold.old.reg) (D.control cold.new.reg) }
-    ensures tells { (D.content cold.new.reg).tells ≡ (D.content cold.old.reg).tells }
+    ensures is_observable { (D.content cold.new.reg).is_observable ≡ (D.content cold.old.reg).is_observable }
     ensures during { RunsThrough D.Disk S.Store M.MetaLog cold.old cold.new }
 {
     for _i in 0..turns {
@@ -108,7 +108,7 @@ fn run_pace<D: Disk, S: Store, M: MetaLog>(
     ensures going { OnOk result (cold.new.ended ≡ false) }
     ensures err { IfErr result (λ why. Halts D.Disk S.Store M.MetaLog cold.old cold.new why) }
     ensures control { Lasts (D.control cold.old.reg) (D.control cold.new.reg) }
-    ensures tells { (D.content cold.new.reg).tells ≡ (D.content cold.old.reg).tells }
+    ensures is_observable { (D.content cold.new.reg).is_observable ≡ (D.content cold.old.reg).is_observable }
     ensures during { RunsThrough D.Disk S.Store M.MetaLog cold.old cold.new }
 {
     match pace {
@@ -130,7 +130,7 @@ pub fn run_cold<D: Disk, S: Store, M: MetaLog>(
     ensures going { OnOk result (cold.new.ended ≡ false) }
     ensures err { IfErr result (λ why. Halts D.Disk S.Store M.MetaLog cold.old cold.new why) }
     ensures control { Lasts (D.control cold.old.reg) (D.control cold.new.reg) }
-    ensures tells { (D.content cold.new.reg).tells ≡ (D.content cold.old.reg).tells }
+    ensures is_observable { (D.content cold.new.reg).is_observable ≡ (D.content cold.old.reg).is_observable }
 
     // A power cut at any moment of the run comes in the course of a step, and leaves the state before or after that one.
     ensures during { RunsThrough D.Disk S.Store M.MetaLog cold.old cold.new }

@@ -32,21 +32,21 @@ cold_safe p s = record {
   marks = s.marks;
   paths = s.paths;
   brokers = brokers;
-  known = known;
+  known_high_watermark = known;
   one_leader = λ b c x y e at to leads other. absurd (let m = made cold_broker p.brokers b x at in let none = ap (λ (k : Broker). k.role) m.is in cc);
   acks = acks;
   leader = s.leader;
   leader_within = s.leader_within;
   same_count = s.same_count ∙ sym (length-map p.brokers cold_broker);
   broken = s.broken;
-  noted = λ a n x begun at. absurd cc;
+  recorded = λ a n x snapshot at. absurd cc;
 }
   where
     brokers : (b : ℕ) (x : Broker) → slice_get (map cold_broker p.brokers) b ≡ Some x → BrokerSafe p.paths p.registry.epoch x
     brokers b x at =
         let m = made cold_broker p.brokers b x at in
         let k = s.brokers b m.x m.there in
-        subst (BrokerSafe p.paths p.registry.epoch) (sym m.is) (record { log = k.log; role = tt; stable = k.stable; known = ends_at_zero m.x.log; down = λ down. (refl, refl) })
+        subst (BrokerSafe p.paths p.registry.epoch) (sym m.is) (record { log = k.log; role = tt; flushed_end = k.flushed_end; known_high_watermark = ends_at_zero m.x.log; down = λ down. (refl, refl) })
 
     known : (b : ℕ) (x : Broker) → slice_get (map cold_broker p.brokers) b ≡ Some x → KnownSafe p.unclean p.registry.epoch p.registry.mark p.committed x
     known b x at =
@@ -58,4 +58,4 @@ cold_safe p s = record {
     acks b x r at to =
         let m = made cold_broker p.brokers b x at in
         let k = s.acks b m.x r m.there to in
-        subst (λ (y : Broker). AckSafe (current p.paths p.registry.epoch p.committed) p.registry.mark y r) (sym m.is) (record { stable = k.stable; shared = k.shared; in_sync = k.in_sync })
+        subst (λ (y : Broker). AckSafe (current p.paths p.registry.epoch p.committed) p.registry.mark y r) (sym m.is) (record { flushed_end = k.flushed_end; shared = k.shared; in_sync = k.in_sync })

@@ -6,7 +6,7 @@ use Rattle.plain_log.specs.declared.state.State.{State}
 
 -- a broker that is down and has never stopped
 abbrev pub cold_broker : Broker → Broker
-cold_broker x = record x { up = false; stops = 0; role = Idle; known = 0 }
+cold_broker x = record x { up = false; stops = 0; role = Idle; known_high_watermark = 0 }
 
 -- all brokers are, and no command has begun
 abbrev pub cold_of : State → State

@@ -7,7 +7,7 @@ ghost use Rattle.cold_start.specs.Opening.{IsUnarmed, AreUnarmed};
 
 use cold_start::{Cold, ColdRefusal, run_cold};
 use disk_model::{Disk, MemoryDisk};
-use meta_file::DiskLog;
+use meta_log_file::DiskLog;
 use object_store::MemoryStore;
 use partition_world::Devices;
 use plain_log::Config;

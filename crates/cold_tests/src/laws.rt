@@ -5,7 +5,7 @@ use cold_start::{
     a_sweep_keeps_central, closed_disks_are_left,
 };
 use disk_model::MemoryDisk;
-use meta_file::DiskLog;
+use meta_log_file::DiskLog;
 use object_store::MemoryStore;
 
 #[test]

@@ -12,7 +12,7 @@ use Rattle.segment_file.specs.Growing.{Grown}
 use Rattle.local_log.specs.Stored.{end_of}
 use Rattle.local_log.specs.Reading.{first_past}
 
--- a segment that there may be, where it ends at or below the known mark
+-- a segment that there may be, where it ends at or below the known high watermark
 abbrev pub below : ℕ → Option Grown → Option Grown
 below known None = None
 below known (Some segment) = if nat_le (end_of segment) known then Some segment else None

@@ -14,7 +14,7 @@ use Rattle.object_store.specs.Place.{keys_of}
 use Rattle.segment_meta.specs.declared.note.Entry.{Entry}
 use Rattle.segment_meta.specs.declared.note.Note.{Note}
 use Rattle.segment_meta.specs.declared.note.Note.TheVariants.{Add, Update}
-use Rattle.meta_log.specs.declared.teller.Teller.{Teller}
+use Rattle.meta_log.specs.declared.event_origin.EventOrigin.{EventOrigin}
 use Rattle.copy_task.specs.Source.{batches_in}
 
 -- A copy keeps a segment, its log's line and the interval of its indexes. What it puts is a function of these:
@@ -68,15 +68,15 @@ abbrev pub keys : Copied → List ObjectKey
 keys copy = keys_of copy.partition copy.id copy.packed
 
 -- its entry, as it is told
-abbrev pub entry_of : Copied → Teller → Entry
-entry_of copy teller = record {
+abbrev pub entry_of : Copied → EventOrigin → Entry
+entry_of copy origin = record {
   id = copy.id;
   partition = copy.partition;
   start = copy.segment.base;
   end = copy.segment.last;
   max_ts = copy.segment.max_ts;
-  broker = teller.broker;
-  event_ts = teller.now;
+  broker = origin.broker;
+  event_ts = origin.now;
   size = length copy.segment.bytes;
   state = CopyStarted;
   map = copy.segment.epochs;
@@ -85,13 +85,13 @@ entry_of copy teller = record {
 }
 
 -- that the copy starts
-abbrev pub start_note : Copied → Teller → Note
-start_note copy teller = Add (entry_of copy teller)
+abbrev pub start_note : Copied → EventOrigin → Note
+start_note copy origin = Add (entry_of copy origin)
 
 -- the custom metadata of what it puts: of a packed segment the layout of its object
 abbrev pub custom_of : Copied → Option (List ℕ)
 custom_of copy = if copy.packed then Some (layout_bytes (layout_of copy.parts)) else None
 
 -- that it is whole
-abbrev pub finish_note : Copied → Teller → Note
-finish_note copy teller = Update copy.id teller.broker teller.now CopyFinished (custom_of copy)
+abbrev pub finish_note : Copied → EventOrigin → Note
+finish_note copy origin = Update copy.id origin.broker origin.now CopyFinished (custom_of copy)

@@ -37,12 +37,12 @@ use Rattle.plain_log.specs.declared.answer.Place.TheVariants.{Meta}
 use Rattle.copy_task.specs.Copying.{Copied, keys, start_note, finish_note}
 use Rattle.copy_task.specs.declared.turn.CopyTurn.{CopyTurn}
 use Rattle.copy_task.specs.declared.turn.CopyTurn.TheVariants.{Goes, Ends}
-use Rattle.meta_log.specs.declared.teller.Teller.{Teller}
-use Rattle.copy_task.specs.declared.turn.Next.{Next}
-use Rattle.copy_task.specs.declared.turn.Next.TheVariants.{Start, Put, Finish, Check, Delete}
+use Rattle.meta_log.specs.declared.event_origin.EventOrigin.{EventOrigin}
+use Rattle.copy_task.specs.declared.turn.CopyStep.{CopyStep}
+use Rattle.copy_task.specs.declared.turn.CopyStep.TheVariants.{Start, Put, Finish, Check, Delete}
 
 -- the turn that puts the object of a number, where it has a key, or the one behind the last
-abbrev pub put_at : ℕ → Option ObjectKey → Next
+abbrev pub put_at : ℕ → Option ObjectKey → CopyStep
 put_at n None = Finish
 put_at n (Some key) = Put n
 
@@ -68,16 +68,16 @@ checked copy notes None = Ends (Damaged Meta notes)
 
 module _ {M : Type 0} (notes : M → meta.Content) (calls : M → Control meta_call.call_code) where
   -- the copy starts
-  abbrev pub StartRow : Copied → Teller → Result CopyTurn AllocError → M → M → Type 0
-  StartRow copy teller (Ok (Ends MetaFault)) old new = Appends notes calls (start_note copy teller) Fault old new
-  StartRow copy teller (Ok turn) old new = (turn ≡ Goes (Put 0)) × Appends notes calls (start_note copy teller) Went old new
-  StartRow copy teller (Err e) old new = (new ≡ old) ⊎ Appends notes calls (start_note copy teller) Dry old new
+  abbrev pub StartRow : Copied → EventOrigin → Result CopyTurn AllocError → M → M → Type 0
+  StartRow copy origin (Ok (Ends MetaFault)) old new = Appends notes calls (start_note copy origin) Fault old new
+  StartRow copy origin (Ok turn) old new = (turn ≡ Goes (Put 0)) × Appends notes calls (start_note copy origin) Went old new
+  StartRow copy origin (Err e) old new = (new ≡ old) ⊎ Appends notes calls (start_note copy origin) Dry old new
 
   -- it is whole
-  abbrev pub FinishRow : Copied → Teller → Result CopyTurn AllocError → M → M → Type 0
-  FinishRow copy teller (Ok (Ends MetaFault)) old new = Appends notes calls (finish_note copy teller) Fault old new
-  FinishRow copy teller (Ok turn) old new = (turn ≡ Goes Check) × Appends notes calls (finish_note copy teller) Went old new
-  FinishRow copy teller (Err e) old new = (new ≡ old) ⊎ Appends notes calls (finish_note copy teller) Dry old new
+  abbrev pub FinishRow : Copied → EventOrigin → Result CopyTurn AllocError → M → M → Type 0
+  FinishRow copy origin (Ok (Ends MetaFault)) old new = Appends notes calls (finish_note copy origin) Fault old new
+  FinishRow copy origin (Ok turn) old new = (turn ≡ Goes Check) × Appends notes calls (finish_note copy origin) Went old new
+  FinishRow copy origin (Err e) old new = (new ≡ old) ⊎ Appends notes calls (finish_note copy origin) Dry old new
 
   -- how its entry stands
   abbrev pub CheckRow : Copied → Result CopyTurn AllocError → Seen → Seen → M → M → Type 0
@@ -117,16 +117,16 @@ pub record Tiers (S M : Type 0) : Type 0 where
 module _ {S M : Type 0} (objects : S → store.Content) (calls : S → Control store_call.call_code)
     (notes : M → meta.Content) (notings : M → Control meta_call.call_code) where
   -- a turn of a copy, by what was next: what it came to, or that it wanted memory
-  abbrev pub CopyRow : Copied → Teller → Next → Result CopyTurn AllocError → Tiers S M → Tiers S M → Type 0
-  CopyRow copy teller Start result old new =
-      (new ≡ record old { meta = new.meta }) × StartRow notes notings copy teller result old.meta new.meta
-  CopyRow copy teller (Put n) result old new =
+  abbrev pub CopyRow : Copied → EventOrigin → CopyStep → Result CopyTurn AllocError → Tiers S M → Tiers S M → Type 0
+  CopyRow copy origin Start result old new =
+      (new ≡ record old { meta = new.meta }) × StartRow notes notings copy origin result old.meta new.meta
+  CopyRow copy origin (Put n) result old new =
       (new ≡ record old { store = new.store }) × PutRow objects calls copy n (slice_get (keys copy) n) result old.store new.store
-  CopyRow copy teller Finish result old new =
-      (new ≡ record old { meta = new.meta }) × FinishRow notes notings copy teller result old.meta new.meta
-  CopyRow copy teller Check result old new =
+  CopyRow copy origin Finish result old new =
+      (new ≡ record old { meta = new.meta }) × FinishRow notes notings copy origin result old.meta new.meta
+  CopyRow copy origin Check result old new =
       (new.store ≡ old.store) × CheckRow notes notings copy result old.view new.view old.meta new.meta
-  CopyRow copy teller (Delete n) (Ok turn) old new =
+  CopyRow copy origin (Delete n) (Ok turn) old new =
       (new ≡ record old { store = new.store })
       × DeleteRow objects calls copy old.view n (slice_get (keys copy) n) turn old.store new.store
-  CopyRow copy teller (Delete n) (Err e) old new = ⊥
+  CopyRow copy origin (Delete n) (Err e) old new = ⊥

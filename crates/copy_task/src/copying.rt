@@ -7,7 +7,7 @@ ghost use Rattle.copy_task.specs.Copying.{Copied, IsBundleOf, keys, custom_of, s
 
 use bytes::Bytes;
 use epoch_line::Line;
-use meta_log::Teller;
+use meta_log::EventOrigin;
 use object_store::{ObjectKey, keys_of};
 use segment_bundle::Bundle;
 use segment_file::Closed;
@@ -230,8 +230,8 @@ impl Copying {
     }
 
     /// The event that the copy starts.
-    pub fn start_note(&self, alloc: Global, teller: Teller) -> Result<Note, AllocError>
-        ensures note { IfOk result (λ note. note ≡ start_note self.now teller) }
+    pub fn start_note(&self, alloc: Global, origin: EventOrigin) -> Result<Note, AllocError>
+        ensures note { IfOk result (λ note. note ≡ start_note self.now origin) }
         ensures rules { IfOk result IsNote }
     {
         let map = self.segment.epochs().copy(alloc)?;
@@ -243,8 +243,8 @@ impl Copying {
             start: self.segment.base(),
             end: self.segment.last(),
             max_ts: self.segment.max_ts(),
-            broker: teller.broker,
-            event_ts: teller.now,
+            broker: origin.broker,
+            event_ts: origin.now,
             size: self.segment.bytes().len() as u32,
             state: State::CopyStarted,
             map,
@@ -254,15 +254,15 @@ impl Copying {
     }
 
     /// The event that the copy is finished, to be appended once its objects are put.
-    pub fn finish_note(&mut self, alloc: Global, teller: Teller) -> Result<Note, AllocError>
-        ensures note { IfOk result (λ note. note ≡ finish_note self.old teller) }
+    pub fn finish_note(&mut self, alloc: Global, origin: EventOrigin) -> Result<Note, AllocError>
+        ensures note { IfOk result (λ note. note ≡ finish_note self.old origin) }
         ensures rules { IfOk result IsNote }
         ensures same { self.new ≡ self.old }
     {
         Ok(Note::Update {
             id: self.id,
-            broker: teller.broker,
-            event_ts: teller.now,
+            broker: origin.broker,
+            event_ts: origin.now,
             state: State::CopyFinished,
             custom: self.custom(alloc)?,
         })

@@ -13,5 +13,5 @@ mod turns;
 
 pub use choosing::candidate;
 pub use copying::Copying;
-pub use turn::{CopyTurn, Next};
+pub use turn::{CopyStep, CopyTurn};
 pub use turns::copy_turn;

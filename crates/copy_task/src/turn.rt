@@ -4,7 +4,7 @@ use plain_log::Answer;
 
 /// What the next turn of a copy does.
 #[derive(Clone, Copy, Debug, PartialEq, Eq)]
-pub enum Next {
+pub enum CopyStep {
     /// Append the event that the copy starts.
     Start,
     /// Put the object whose key has this number among those of its segment.
@@ -21,7 +21,7 @@ pub enum Next {
 #[derive(Debug, Drop)]
 pub enum CopyTurn {
     /// The copy continues with this turn.
-    Goes(Next),
+    Goes(CopyStep),
     /// The copy has ended with this answer.
     Ends(Answer),
 }

@@ -6,8 +6,8 @@ ghost use Rattle.copy_task.specs.Copying.{keys};
 ghost use Rattle.copy_task.specs.Turns.{Tiers, put_at, delete_at, overtaken, checked, StartRow, PutRow, FinishRow, CheckRow, DeleteRow, CopyRow};
 
 use crate::copying::Copying;
-use crate::turn::{CopyTurn, Next};
-use meta_log::{MetaLog, Teller};
+use crate::turn::{CopyStep, CopyTurn};
+use meta_log::{EventOrigin, MetaLog};
 use object_store::Store;
 use plain_log::{Answer, Place};
 use remote_view::View;
@@ -19,23 +19,23 @@ use view_refresh::refresh;
 pub fn copy_turn<S: Store, M: MetaLog>(
     alloc: Global,
     copying: &mut Copying,
-    next: Next,
-    teller: Teller,
+    next: CopyStep,
+    origin: EventOrigin,
     view: &mut View,
     store: &mut S,
     meta: &mut M,
 ) -> Result<CopyTurn, AllocError>
-    ensures row { CopyRow S.content S.control M.content M.control copying.old teller next result
+    ensures row { CopyRow S.content S.control M.content M.control copying.old origin next result
         (record { view = view.old; store = store.old; meta = meta.old })
         (record { view = view.new; store = store.new; meta = meta.new }) }
     ensures same { copying.new ≡ copying.old }
 {
     match next {
-        Next::Start => start(alloc, copying, teller, meta),
-        Next::Put(n) => put(alloc, copying, n, store),
-        Next::Finish => finish(alloc, copying, teller, meta),
-        Next::Check => check(copying, view, meta),
-        Next::Delete(n) => Ok(delete(copying, n, view, store)),
+        CopyStep::Start => start(alloc, copying, origin, meta),
+        CopyStep::Put(n) => put(alloc, copying, n, store),
+        CopyStep::Finish => finish(alloc, copying, origin, meta),
+        CopyStep::Check => check(copying, view, meta),
+        CopyStep::Delete(n) => Ok(delete(copying, n, view, store)),
     }
 }
 
@@ -43,14 +43,14 @@ pub fn copy_turn<S: Store, M: MetaLog>(
 fn start<M: MetaLog>(
     alloc: Global,
     copying: &Copying,
-    teller: Teller,
+    origin: EventOrigin,
     meta: &mut M,
 ) -> Result<CopyTurn, AllocError>
-    ensures { StartRow M.content M.control copying.now teller result meta.old meta.new }
+    ensures { StartRow M.content M.control copying.now origin result meta.old meta.new }
 {
-    let note = copying.start_note(alloc, teller)?;
+    let note = copying.start_note(alloc, origin)?;
     match meta.append(&note) {
-        Ok(_) => Ok(CopyTurn::Goes(Next::Put(0))),
+        Ok(_) => Ok(CopyTurn::Goes(CopyStep::Put(0))),
         Err(Trouble::Failed) => Ok(CopyTurn::Ends(Answer::MetaFault)),
         Err(Trouble::NoMemory) => Err(AllocError),
     }
@@ -68,7 +68,7 @@ fn put<S: Store>(
     ensures same { copying.new ≡ copying.old }
 {
     let Some(key) = copying.key(n) else {
-        return Ok(CopyTurn::Goes(Next::Finish));
+        return Ok(CopyTurn::Goes(CopyStep::Finish));
     };
     let bytes = copying.part(alloc, key.part)?;
     match store.put(&key, &bytes) {
@@ -79,12 +79,12 @@ fn put<S: Store>(
 }
 
 /// The turn that puts the object of this number, or the one behind the last.
-fn put_at(copying: &Copying, n: u8) -> Next
+fn put_at(copying: &Copying, n: u8) -> CopyStep
     ensures { result ≡ put_at n (slice_get (keys copying.now) n) }
 {
     match copying.key(n) {
-        Some(_) => Next::Put(n),
-        None => Next::Finish,
+        Some(_) => CopyStep::Put(n),
+        None => CopyStep::Finish,
     }
 }
 
@@ -92,15 +92,15 @@ fn put_at(copying: &Copying, n: u8) -> Next
 fn finish<M: MetaLog>(
     alloc: Global,
     copying: &mut Copying,
-    teller: Teller,
+    origin: EventOrigin,
     meta: &mut M,
 ) -> Result<CopyTurn, AllocError>
-    ensures row { FinishRow M.content M.control copying.old teller result meta.old meta.new }
+    ensures row { FinishRow M.content M.control copying.old origin result meta.old meta.new }
     ensures same { copying.new ≡ copying.old }
 {
-    let note = copying.finish_note(alloc, teller)?;
+    let note = copying.finish_note(alloc, origin)?;
     match meta.append(&note) {
-        Ok(_) => Ok(CopyTurn::Goes(Next::Check)),
+        Ok(_) => Ok(CopyTurn::Goes(CopyStep::Check)),
         Err(Trouble::Failed) => Ok(CopyTurn::Ends(Answer::MetaFault)),
         Err(Trouble::NoMemory) => Err(AllocError),
     }
@@ -131,7 +131,7 @@ fn found(copying: &Copying, view: &View) -> CopyTurn
             copying.base(),
             copying.last(),
         )),
-        Some(State::DeleteStarted | State::DeleteFinished) => CopyTurn::Goes(Next::Delete(0)),
+        Some(State::DeleteStarted | State::DeleteFinished) => CopyTurn::Goes(CopyStep::Delete(0)),
         Some(State::CopyStarted) | None => CopyTurn::Ends(Answer::Damaged(
             Place::Meta,
             view.seen(),
@@ -158,7 +158,7 @@ fn delete_at(copying: &Copying, n: u8, view: &View) -> CopyTurn
     ensures { result ≡ delete_at copying.now view.now n (slice_get (keys copying.now) n) }
 {
     match copying.key(n) {
-        Some(_) => CopyTurn::Goes(Next::Delete(n)),
+        Some(_) => CopyTurn::Goes(CopyStep::Delete(n)),
         None => CopyTurn::Ends(overtaken(copying, view)),
     }
 }

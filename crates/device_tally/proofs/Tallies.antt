@@ -4,6 +4,6 @@ use Rattle.tier_base.specs.Device.{Fate, Ran, RanQuietly}
 use Rattle.device_tally.specs.Tally.{Counts, control_of}
 
 -- what was handed stays
-pub quiet : {K : Type 0} {code : K → ℕ} (call : K) (fate : Fate) (t u : Counts) (handed : List ℕ) → ((before after : List ℕ) → Ran call fate (control_of code t before) (control_of code u after))
-    → RanQuietly call fate (control_of code t handed) (control_of code u handed)
-quiet call fate t u handed ran = record { ran = ran handed handed; handed = refl }
+pub quiet : {K : Type 0} {code : K → ℕ} (call : K) (fate : Fate) (t u : Counts) (last_read : List ℕ) → ((before after : List ℕ) → Ran call fate (control_of code t before) (control_of code u after))
+    → RanQuietly call fate (control_of code t last_read) (control_of code u last_read)
+quiet call fate t u last_read ran = record { ran = ran last_read last_read; last_read = refl }

@@ -15,17 +15,17 @@ pub record Counts : Type 0 where
 module _ {K : Type 0} (code : K → ℕ) where
   -- what a device with these counts tells, where the last read gave these bytes
   abbrev pub control_of : Counts → List ℕ → Control code
-  control_of t handed =
+  control_of t last_read =
       record {
         faults = t.faults;
         plan = [];
         armed = t.armed;
         made = λ kind. get_or t.counts (code kind) 0;
-        calm = false;
-        ruled = false;
-        handed = handed;
+        infallible = false;
+        scripted = false;
+        last_read = last_read;
       }
 
   -- no plan decides which of its calls fail
-  pub fails_as_planned : (t : Counts) (handed : List ℕ) → FailsAsPlanned (control_of t handed)
-  fails_as_planned t handed = λ ruled. absurd (false≢true ruled)
+  pub fails_as_planned : (t : Counts) (last_read : List ℕ) → FailsAsPlanned (control_of t last_read)
+  fails_as_planned t last_read = λ scripted. absurd (false≢true scripted)

@@ -55,8 +55,8 @@ impl<K: CallKind> Tally<K> {
 
     /// From the first time on calls are counted.
     pub fn arm(&mut self)
-        ensures { (handed : List ℕ)
-            → Arms (control_of K.code self.old handed) (control_of K.code self.new handed) }
+        ensures { (last_read : List ℕ)
+            → Arms (control_of K.code self.old last_read) (control_of K.code self.new last_read) }
     {
         self.armed = true;
     }

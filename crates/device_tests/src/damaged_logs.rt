@@ -3,7 +3,7 @@
 
 use crate::disk_logs::{STARTED, UPDATE, disk_of};
 use disk_model::FileName;
-use meta_file::{
+use meta_log_file::{
     DiskLog, NotesRefusal, damaged_files_open_with_nothing, files_are_damaged_at_one_place,
 };
 use std::alloc::{AllocError, Global};

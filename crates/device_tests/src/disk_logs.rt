@@ -7,8 +7,8 @@ use crate::ends::{End, right, troubled};
 use crate::log_calls::{append, arm};
 use bytes::Bytes;
 use disk_model::{DeafDisk, Disk, DiskCall, FileName, MemoryDisk, Planned};
-use meta_file::{DiskLog, NotesRefusal, files_open_once};
 use meta_log::MetaLog;
+use meta_log_file::{DiskLog, NotesRefusal, files_open_once};
 use segment_meta::{Entry, Note};
 use std::alloc::{AllocError, Global};
 

@@ -258,7 +258,7 @@ fn are_handed(found: &[ReadRegistry], wanted: &[(u16, &[u8])]) -> bool {
         return false;
     }
     for (read, wanted) in found.iter().zip(wanted) {
-        if read.partition.0 != wanted.0 || read.handed.as_slice() != wanted.1 {
+        if read.partition.0 != wanted.0 || read.last_read.as_slice() != wanted.1 {
             return false;
         }
     }

@@ -7,7 +7,7 @@ use Rattle.tier_base.specs.declared.object_key.ObjectKey.{ObjectKey}
 use Rattle.disk_model.specs.Content as disk
 use Rattle.object_store.specs.Content as store
 use Rattle.meta_log.specs.Content as log
-use Rattle.device_yard.specs.Held.{Held, Has, HandsDisk, HandsStore, HandsLog}
+use Rattle.device_yard.specs.YardContent.{YardContent, Has, HandsDisk, HandsStore, HandsLog}
 use Rattle.device_yard.specs.Laws.{NamelessHasNoTier, TierlessIsEmpty, RegistryIsAbsent}
 
 -- nothing is there

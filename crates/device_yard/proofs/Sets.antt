@@ -11,7 +11,7 @@ use Rattle.std.proofs.lemmas.Map.Lookups.{exact_unsigned}
 use Rattle.tier_base.specs.declared.names.PartitionId.{PartitionId}
 use Rattle.tier_base.specs.contracts.names.PartitionIdOrd.TheImpl as id_ord
 use Rattle.tier_base.specs.Told.{In}
-use Rattle.device_yard.specs.Held.{Rise}
+use Rattle.device_yard.specs.YardContent.{Rise}
 
 -- the order of partitions
 abbrev id_cmp : PartitionId → PartitionId → Ordering

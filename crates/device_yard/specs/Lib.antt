@@ -1,4 +1,4 @@
 pub mod Control
-pub mod Held
+pub mod YardContent
 pub mod Laws
 pub mod Plan

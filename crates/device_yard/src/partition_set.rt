@@ -2,7 +2,7 @@
 
 ghost use Rattle.std.specs.Prelude.{◌≡◌, ◌⊎◌, ◌↔◌, [], OnOk, OnErr, IfOk};
 ghost use Rattle.tier_base.specs.Told.{In};
-ghost use Rattle.device_yard.specs.Held.{Rise};
+ghost use Rattle.device_yard.specs.YardContent.{Rise};
 
 use std::alloc::{AllocError, Global};
 use std::collections::BTreeSet;

@@ -7,5 +7,5 @@ use tier_base::PartitionId;
 #[derive(Debug, PartialEq, Eq, Drop)]
 pub struct ReadRegistry {
     pub partition: PartitionId,
-    pub handed: Bytes,
+    pub last_read: Bytes,
 }

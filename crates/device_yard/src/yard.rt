@@ -1,6 +1,6 @@
 //! What a yard's calls hand out and take back.
 //!
-//! A device is handed out unarmed and with no fault, and tells what it holds exactly where its yard tells. What is handed out
+//! A device is handed out unarmed and with no fault, and tells what it holds exactly where its yard is observable. What is handed out
 //! comes back by one of the four `keep` calls, which can't be refused: the call that handed the device out made the room.
 
 ghost use Rattle.std.specs.Prelude.{◌≡◌, ◌≤◌, Option, Some, None, IfOk, OnOk, OnErr, IsTrue};
@@ -8,7 +8,7 @@ ghost use Rattle.tier_base.specs.Device.{fate_of, IsFresh};
 ghost use Rattle.device_yard.specs.declared.came.Came.{Came};
 ghost use Rattle.device_yard.specs.Control.{Control, Names, Asks, Hands, TakesBack, TakesRegistry};
 ghost use Rattle.device_yard.specs.Plan.{Plan, Counts, CountsOpening};
-ghost use Rattle.device_yard.specs.Held.{Held, Same, DiskIs, StoreIs, LogIs, RegistryIs, IsOut, HoldsDisk, IsName, IsFirst, AreUsed, Rise, HandsDisk, HandsStore, HandsLog};
+ghost use Rattle.device_yard.specs.YardContent.{YardContent, Same, DiskIs, StoreIs, LogIs, RegistryIs, IsOut, HoldsDisk, IsName, IsFirst, AreUsed, Rise, HandsDisk, HandsStore, HandsLog};
 
 use disk_model::Disk;
 use meta_log::MetaLog;
@@ -25,7 +25,7 @@ pub trait Yard {
     type M: MetaLog;
 
     /// The devices that came back, and the names.
-    ghost held: { Self → Held Self.D Self.S Self.M };
+    ghost held: { Self → YardContent Self.D Self.S Self.M };
 
     /// The faults, the last first name, how devices came back, and how many are out.
     ghost control: { Self → Control };
@@ -39,7 +39,7 @@ pub trait Yard {
         ensures plan { Counts (fate_of result) (plan self.old) (plan self.new) }
         ensures held { Same Self.D.content Self.S.content Self.M.content
             (held self.old) (held self.new) }
-        ensures first { IsTrue (held self.old).tells → IfOk result
+        ensures first { IsTrue (held self.old).is_observable → IfOk result
             (IsFirst (IsName Self.D.content Self.S.content Self.M.content (held self.old))) };
 
     /// Names the partitions of which something stands, in rising order.
@@ -49,63 +49,63 @@ pub trait Yard {
         ensures held { Same Self.D.content Self.S.content Self.M.content
             (held self.old) (held self.new) }
         ensures rise { IfOk result Rise }
-        ensures used { IsTrue (held self.old).tells → IfOk result
+        ensures used { IsTrue (held self.old).is_observable → IfOk result
             (AreUsed Self.D.content Self.S.content Self.M.content (held self.old)) };
 
     /// Hands out a broker's disk.
     fn disk(&mut self, partition: PartitionId, broker: BrokerId) -> Result<Self::D, Trouble>
         ensures control { Hands (fate_of result) (control self.old) (control self.new) }
         ensures plan { Counts (fate_of result) (plan self.old) (plan self.new) }
-        ensures tells { (held self.new).tells ≡ (held self.old).tells }
+        ensures is_observable { (held self.new).is_observable ≡ (held self.old).is_observable }
         ensures fresh { IfOk result (λ disk. IsFresh (Self.D.control disk)) }
-        ensures told { IfOk result (λ disk. (Self.D.content disk).tells ≡ (held self.old).tells) }
-        ensures content { IsTrue (held self.old).tells → IfOk result (λ disk.
+        ensures told { IfOk result (λ disk. (Self.D.content disk).is_observable ≡ (held self.old).is_observable) }
+        ensures content { IsTrue (held self.old).is_observable → IfOk result (λ disk.
             HandsDisk Self.D.content ((held self.old).disks partition broker) (Self.D.content disk)) }
-        ensures out { IsTrue (held self.old).tells → OnOk result
+        ensures out { IsTrue (held self.old).is_observable → OnOk result
             (DiskIs partition broker None (held self.old) (held self.new)) }
-        ensures err { IsTrue (held self.old).tells → OnErr result
+        ensures err { IsTrue (held self.old).is_observable → OnErr result
             (Same Self.D.content Self.S.content Self.M.content (held self.old) (held self.new)) };
 
     /// Hands out a partition's store.
     fn store(&mut self, partition: PartitionId) -> Result<Self::S, Trouble>
         ensures control { Hands (fate_of result) (control self.old) (control self.new) }
         ensures plan { Counts (fate_of result) (plan self.old) (plan self.new) }
-        ensures tells { (held self.new).tells ≡ (held self.old).tells }
+        ensures is_observable { (held self.new).is_observable ≡ (held self.old).is_observable }
         ensures fresh { IfOk result (λ store. IsFresh (Self.S.control store)) }
-        ensures told { IfOk result (λ store. (Self.S.content store).tells ≡ (held self.old).tells) }
-        ensures content { IsTrue (held self.old).tells → IfOk result (λ store.
+        ensures told { IfOk result (λ store. (Self.S.content store).is_observable ≡ (held self.old).is_observable) }
+        ensures content { IsTrue (held self.old).is_observable → IfOk result (λ store.
             HandsStore Self.S.content ((held self.old).stores partition) (Self.S.content store)) }
-        ensures out { IsTrue (held self.old).tells → OnOk result
+        ensures out { IsTrue (held self.old).is_observable → OnOk result
             (StoreIs partition None (held self.old) (held self.new)) }
-        ensures err { IsTrue (held self.old).tells → OnErr result
+        ensures err { IsTrue (held self.old).is_observable → OnErr result
             (Same Self.D.content Self.S.content Self.M.content (held self.old) (held self.new)) };
 
     /// Hands out a partition's metadata log.
     fn meta(&mut self, partition: PartitionId) -> Result<Self::M, Trouble>
         ensures control { Hands (fate_of result) (control self.old) (control self.new) }
         ensures plan { CountsOpening (fate_of result) (plan self.old) (plan self.new) }
-        ensures tells { (held self.new).tells ≡ (held self.old).tells }
+        ensures is_observable { (held self.new).is_observable ≡ (held self.old).is_observable }
         ensures fresh { IfOk result (λ log. IsFresh (Self.M.control log)) }
-        ensures told { IfOk result (λ log. (Self.M.content log).tells ≡ (held self.old).tells) }
-        ensures content { IsTrue (held self.old).tells → IfOk result (λ log.
+        ensures told { IfOk result (λ log. (Self.M.content log).is_observable ≡ (held self.old).is_observable) }
+        ensures content { IsTrue (held self.old).is_observable → IfOk result (λ log.
             HandsLog Self.M.content ((held self.old).logs partition) (Self.M.content log)) }
-        ensures out { IsTrue (held self.old).tells → OnOk result
+        ensures out { IsTrue (held self.old).is_observable → OnOk result
             (LogIs partition None (held self.old) (held self.new)) }
-        ensures err { IsTrue (held self.old).tells → OnErr result
+        ensures err { IsTrue (held self.old).is_observable → OnErr result
             (Same Self.D.content Self.S.content Self.M.content (held self.old) (held self.new)) };
 
     /// Hands out the disk that keeps a partition's registry.
     fn registry(&mut self, partition: PartitionId) -> Result<Self::D, Trouble>
         ensures control { Hands (fate_of result) (control self.old) (control self.new) }
         ensures plan { Counts (fate_of result) (plan self.old) (plan self.new) }
-        ensures tells { (held self.new).tells ≡ (held self.old).tells }
+        ensures is_observable { (held self.new).is_observable ≡ (held self.old).is_observable }
         ensures fresh { IfOk result (λ disk. IsFresh (Self.D.control disk)) }
-        ensures told { IfOk result (λ disk. (Self.D.content disk).tells ≡ (held self.old).tells) }
-        ensures content { IsTrue (held self.old).tells → IfOk result (λ disk.
+        ensures told { IfOk result (λ disk. (Self.D.content disk).is_observable ≡ (held self.old).is_observable) }
+        ensures content { IsTrue (held self.old).is_observable → IfOk result (λ disk.
             HandsDisk Self.D.content ((held self.old).registries partition) (Self.D.content disk)) }
-        ensures out { IsTrue (held self.old).tells → OnOk result
+        ensures out { IsTrue (held self.old).is_observable → OnOk result
             (RegistryIs partition IsOut (held self.old) (held self.new)) }
-        ensures err { IsTrue (held self.old).tells → OnErr result
+        ensures err { IsTrue (held self.old).is_observable → OnErr result
             (Same Self.D.content Self.S.content Self.M.content (held self.old) (held self.new)) };
 
     /// Takes a broker's disk back.
@@ -116,8 +116,8 @@ pub trait Yard {
           armed = (Self.D.control disk).armed;
         }) (control self.old) (control self.new) }
         ensures plan { plan self.new ≡ plan self.old }
-        ensures tells { (held self.new).tells ≡ (held self.old).tells }
-        ensures held { IsTrue (held self.old).tells
+        ensures is_observable { (held self.new).is_observable ≡ (held self.old).is_observable }
+        ensures held { IsTrue (held self.old).is_observable
             → DiskIs partition broker (Some disk) (held self.old) (held self.new) };
 
     /// Takes a partition's store back.
@@ -128,8 +128,8 @@ pub trait Yard {
           armed = (Self.S.control store).armed;
         }) (control self.old) (control self.new) }
         ensures plan { plan self.new ≡ plan self.old }
-        ensures tells { (held self.new).tells ≡ (held self.old).tells }
-        ensures held { IsTrue (held self.old).tells
+        ensures is_observable { (held self.new).is_observable ≡ (held self.old).is_observable }
+        ensures held { IsTrue (held self.old).is_observable
             → StoreIs partition (Some store) (held self.old) (held self.new) };
 
     /// Takes a partition's metadata log back.
@@ -140,8 +140,8 @@ pub trait Yard {
           armed = (Self.M.control meta).armed;
         }) (control self.old) (control self.new) }
         ensures plan { plan self.new ≡ plan self.old }
-        ensures tells { (held self.new).tells ≡ (held self.old).tells }
-        ensures held { IsTrue (held self.old).tells
+        ensures is_observable { (held self.new).is_observable ≡ (held self.old).is_observable }
+        ensures held { IsTrue (held self.old).is_observable
             → LogIs partition (Some meta) (held self.old) (held self.new) };
 
     /// Takes the disk back that keeps a partition's registry, and notes the bytes that it handed last.
@@ -150,10 +150,10 @@ pub trait Yard {
         ensures control { TakesRegistry (record {
           faults = (Self.D.control disk).faults;
           armed = (Self.D.control disk).armed;
-        }) (record { partition = partition; handed = (Self.D.control disk).handed })
+        }) (record { partition = partition; last_read = (Self.D.control disk).last_read })
             (control self.old) (control self.new) }
         ensures plan { plan self.new ≡ plan self.old }
-        ensures tells { (held self.new).tells ≡ (held self.old).tells }
-        ensures held { IsTrue (held self.old).tells
+        ensures is_observable { (held self.new).is_observable ≡ (held self.old).is_observable }
+        ensures held { IsTrue (held self.old).is_observable
             → RegistryIs partition (HoldsDisk Self.D.content disk) (held self.old) (held self.new) };
 }

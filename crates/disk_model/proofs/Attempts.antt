@@ -12,8 +12,8 @@ use Rattle.disk_model.specs.Kept.{Kept, attempts}
 use Rattle.disk_model.proofs.Steps.{attempted, sync_attempted, after_only, synced_begins, left_now}
 
 -- a call that hands nothing
-pub quiet : {K : Type 0} {code : K → ℕ} (call : K) (fate : Fate) (f g : Faults K) (handed : List ℕ) → ((before after : List ℕ) → Ran call fate (control_of code f before) (control_of code g after)) → RanQuietly call fate (control_of code f handed) (control_of code g handed)
-quiet call fate f g handed ran = record { ran = ran handed handed; handed = refl }
+pub quiet : {K : Type 0} {code : K → ℕ} (call : K) (fate : Fate) (f g : Faults K) (last_read : List ℕ) → ((before after : List ℕ) → Ran call fate (control_of code f before) (control_of code g after)) → RanQuietly call fate (control_of code f last_read) (control_of code g last_read)
+quiet call fate f g last_read ran = record { ran = ran last_read last_read; last_read = refl }
 
 attempt : (old new : Kept) (s : Step) (done d : Bool) (name : FileName) (make : Option (List ℕ) → Option (List ℕ)) (R : Option (List ℕ) → Option (List ℕ) → Type 0) (M : Bool → Type 0) → new ≡ attempts done s old → done ≡ d → M d
     → ((n : FileName) → reads (s ∷ old.past) n ≡ changed name make (reads old.past) n) → ((c : Files) → LeftAfter (s ∷ old.past) c → After (LeftAfter old.past) name R c) → ((file : Option (List ℕ)) → R file file)

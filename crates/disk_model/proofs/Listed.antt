@@ -11,11 +11,11 @@ use Rattle.std.specs.List.{AllByRecursion}
 use Rattle.std.proofs.lemmas.Map.Lookups.{exact_unsigned}
 use Rattle.tier_base.specs.declared.plain.FileName.{FileName}
 use Rattle.tier_base.specs.declared.plain.FileName.TheVariants.{Manifest, Log, Notes, Gate, Registry}
-use Rattle.disk_model.specs.declared.held.Held.{Held}
+use Rattle.disk_model.specs.declared.file_bytes.FileBytes.{FileBytes}
 use Rattle.disk_model.specs.declared.shelf.Shelf.{Shelf}
 use Rattle.tier_base.specs.Told.{In, Once, Names}
 use Rattle.disk_model.specs.Content.{Files}
-use Rattle.disk_model.specs.Held.{bytes_at}
+use Rattle.disk_model.specs.FileBytes.{bytes_at}
 use Rattle.disk_model.specs.Shelf.{files_on, if_there, names_on}
 
 in_left : (n : FileName) (xs ys : List FileName) → In n xs → In n (xs ++ ys)
@@ -50,20 +50,20 @@ kind Notes = 2
 kind Gate = 3
 kind Registry = 4
 
-slot : (name : FileName) (held : Option Held) → IsSome (bytes_at held) → In name (if_there name held)
+slot : (name : FileName) (held : Option FileBytes) → IsSome (bytes_at held) → In name (if_there name held)
 slot name None some = cc
 slot name (Some held) some = inl refl
 
-slot_back : (n name : FileName) (held : Option Held) → In n (if_there name held) → (n ≡ name) × IsSome (bytes_at held)
+slot_back : (n name : FileName) (held : Option FileBytes) → In n (if_there name held) → (n ≡ name) × IsSome (bytes_at held)
 slot_back n name None h = absurd h
 slot_back n name (Some held) (inl is) = (is, refl)
 slot_back n name (Some held) (inr h) = absurd h
 
-slot_once : (name : FileName) (held : Option Held) → Once (if_there name held)
+slot_once : (name : FileName) (held : Option FileBytes) → Once (if_there name held)
 slot_once name None = tt
 slot_once name (Some held) = (λ h. h, tt)
 
-key_in : (es : List (ℕ × Held)) (b : ℕ) → IsSome (bytes_at (lookup (is_at (nat_cmp b)) es)) → In (Log b) (map Log (keys_of es))
+key_in : (es : List (ℕ × FileBytes)) (b : ℕ) → IsSome (bytes_at (lookup (is_at (nat_cmp b)) es)) → In (Log b) (map Log (keys_of es))
 key_in [] b some = cc
 key_in (e ∷ es) b some = here (is_at (nat_cmp b) e.0) refl (key_in es b) some where
   here : (t : Bool) → is_at (nat_cmp b) e.0 ≡ t → (IsSome (bytes_at (lookup (is_at (nat_cmp b)) es)) → In (Log b) (map Log (keys_of es))) → IsSome (bytes_at (cond t (Some e.1) (lookup (is_at (nat_cmp b)) es))) → In (Log b) (map Log (keys_of (e ∷ es)))
@@ -73,11 +73,11 @@ key_in (e ∷ es) b some = here (is_at (nat_cmp b) e.0) refl (key_in es b) some 
 at_itself : (b : ℕ) → is_at (nat_cmp b) b ≡ true
 at_itself b = grind (arith)
 
-some_either : (t : Bool) (v : Held) (o : Option Held) → IsSome (bytes_at o) → IsSome (bytes_at (cond t (Some v) o))
+some_either : (t : Bool) (v : FileBytes) (o : Option FileBytes) → IsSome (bytes_at o) → IsSome (bytes_at (cond t (Some v) o))
 some_either true v o some = refl
 some_either false v o some = some
 
-key_back : (es : List (ℕ × Held)) (n : FileName) → In n (map Log (keys_of es)) → (b : ℕ) × (n ≡ Log b) × IsSome (bytes_at (lookup (is_at (nat_cmp b)) es))
+key_back : (es : List (ℕ × FileBytes)) (n : FileName) → In n (map Log (keys_of es)) → (b : ℕ) × (n ≡ Log b) × IsSome (bytes_at (lookup (is_at (nat_cmp b)) es))
 key_back [] n h = absurd h
 key_back (e ∷ es) n (inl is) = (e.0, is, subst (λ (t : Bool). IsSome (bytes_at (cond t (Some e.1) (lookup (is_at (nat_cmp e.0)) es)))) (sym (at_itself e.0)) refl)
 key_back (e ∷ es) n (inr more) = later (key_back es n more) where
@@ -138,7 +138,7 @@ real shelf n h =
         ]
       ]
     ] where
-      in_slot : (name : FileName) (held : Option Held) → files_on shelf name ≡ bytes_at held → In n (if_there name held) → IsSome (files_on shelf n)
+      in_slot : (name : FileName) (held : Option FileBytes) → files_on shelf name ≡ bytes_at held → In n (if_there name held) → IsSome (files_on shelf n)
       in_slot name held is h = (let r = slot_back n name held h in subst (λ (m : FileName). IsSome (files_on shelf m)) (sym r.0) (subst IsSome (sym is) r.1))
 
 -- no name stands twice

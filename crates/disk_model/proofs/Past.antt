@@ -6,12 +6,12 @@ use Rattle.disk_model.specs.declared.history.Event.{Event}
 use Rattle.disk_model.specs.Content.{Files}
 use Rattle.disk_model.specs.Shelf.{Becomes}
 use Rattle.disk_model.specs.Steps.{Step, same_name, changed}
-use Rattle.disk_model.specs.History.{step_of, noted, newest_first, past_of}
+use Rattle.disk_model.specs.History.{step_of, recorded, newest_first, past_of}
 use Rattle.disk_model.proofs.Names.{becomes_changed, cases_name, same_name_refl, same_name_other}
 
-newest_first-push : (past : List Step) (es : List Event) (e : Event) → newest_first past (es ++ e ∷ []) ≡ noted (newest_first past es) e
+newest_first-push : (past : List Step) (es : List Event) (e : Event) → newest_first past (es ++ e ∷ []) ≡ recorded (newest_first past es) e
 newest_first-push past [] e = refl
-newest_first-push past (x ∷ es) e = newest_first-push (noted past x) es e
+newest_first-push past (x ∷ es) e = newest_first-push (recorded past x) es e
 
 -- one event more is one step more
 pub pushed : (events events' : List Event) (crashed crashed' : Bool) (op : Op) → events' ≡ events ++ (record { op = op; crashed = crashed }) ∷ [] → crashed' ≡ false

@@ -20,7 +20,7 @@ left_now (s ∷ past) c (inr earlier) = absurd (omega (arith, earlier.0))
 -- no step
 pub rests : (past : List Step) → Keeps (content_of past) (content_of past)
 rests past = record {
-  tells = refl;
+  is_observable = refl;
   files = λ n. refl;
   images = λ c left. left;
   time = record { later = omega arith; nothing_else = λ t c le left. inl left; keeps = λ t c le left. left };
@@ -37,7 +37,7 @@ elapses s past = record {
 -- the sync of a file
 pub synced : (name : FileName) (past : List Step) → Keeps (content_of past) (content_of (Sync name ∷ past))
 synced name past = record {
-  tells = refl;
+  is_observable = refl;
   files = λ n. refl;
   images = λ c left. now_left past c (λ n. (left_now (Sync name ∷ past) c left n).0);
   time = elapses (Sync name) past;
@@ -70,7 +70,7 @@ pub attempted : (past : List Step) (s : Step) (done : Bool) (name : FileName) (m
     → ((n : FileName) → reads (s ∷ past) n ≡ changed name make (reads past) n) → ((c : Files) → LeftAfter (s ∷ past) c → After (LeftAfter past) name R c) → ((file : Option (List ℕ)) → R file file)
     → Changes name make R M (content_of past) (content_of (if done then s ∷ past else past))
 attempted past s true name make R M m read left same = record {
-  tells = refl;
+  is_observable = refl;
   files = λ told. (
     true,
     m,
@@ -84,7 +84,7 @@ attempted past s true name make R M m read left same = record {
   time = elapses s past;
 }
 attempted past s false name make R M m read left same = record {
-  tells = refl;
+  is_observable = refl;
   files = λ told. (false, m, record { there = refl; others = λ n ne. refl });
   images = λ c now. (c, now, record { there = same (c name); others = λ n ne. refl });
   undone = λ not c now. now;
@@ -99,7 +99,7 @@ sync_attempted past false name = rests past
 -- the crash leaves an image, and no new one
 crash_step : (past : List Step) → Crashes (content_of past) (content_of (Crash ∷ past))
 crash_step past = record {
-  tells = refl;
+  is_observable = refl;
   image = now_left past (safe past) (left_safe past);
   fewer = λ c left. now_left past c (left_now (Crash ∷ past) c left);
   time = elapses Crash past;
@@ -108,7 +108,7 @@ crash_step past = record {
 -- where there was one right before, nothing has changed
 crash_again : (past : List Step) → Crashes (content_of past) (content_of past)
 crash_again past = record {
-  tells = refl;
+  is_observable = refl;
   image = reads_as_image past;
   fewer = λ c left. left;
   time = (rests past).time;

@@ -24,9 +24,9 @@ use Rattle.tier_base.specs.Told.{OnlyAt, bytes_in}
 abbrev pub Files : Type 0
 Files = FileName → Option (List ℕ)
 
--- Of a disk that doesn't tell, `files` means nothing and no image is claimed.
+-- Of a disk that isn't observable, `files` means nothing and no image is claimed.
 pub record Content : Type 1 where
-  pub tells : Bool
+  pub is_observable : Bool
   pub files : Files
   -- a number that doesn't fall
   pub moment : ℕ
@@ -39,8 +39,8 @@ Image d c = d.left d.moment c
 
 -- A disk as it reads is one of its images, an earlier moment has more of them, and only one that tells has any.
 pub record Lawful (d : Content) : Type 0 where
-  pub reads : IsTrue d.tells → Image d d.files
-  pub told : (c : Files) → Image d c → IsTrue d.tells
+  pub reads : IsTrue d.is_observable → Image d d.files
+  pub told : (c : Files) → Image d c → IsTrue d.is_observable
   pub earlier : (t u : ℕ) (c : Files) → t ≤ u → d.left u c → d.left t c
 
 -- Time goes on: a crash since t might have left what it might have left before, or what it may leave now.
@@ -60,8 +60,8 @@ pub record LeavesOnly (old new : Content) (P : Files → Type 0) : Type 0 where
 pub record Changes (name : FileName) (made : Option (List ℕ) → Option (List ℕ))
     (crash : Option (List ℕ) → Option (List ℕ) → Type 0) (may_be_done : Bool → Type 0)
     (old new : Content) : Type 0 where
-  pub tells : new.tells ≡ old.tells
-  pub files : IsTrue old.tells
+  pub is_observable : new.is_observable ≡ old.is_observable
+  pub files : IsTrue old.is_observable
       → (done : Bool) × may_be_done done
       × OnlyAt name (λ before after. after ≡ (if done then made before else before)) old.files new.files
   pub images : (c : Files) → Image new c → (d : Files) × Image old d × OnlyAt name crash d c
@@ -70,7 +70,7 @@ pub record Changes (name : FileName) (made : Option (List ℕ) → Option (List 
 
 -- a call that changes no file
 pub record Keeps (old new : Content) : Type 0 where
-  pub tells : new.tells ≡ old.tells
+  pub is_observable : new.is_observable ≡ old.is_observable
   pub files : (n : FileName) → new.files n ≡ old.files n
   pub images : (c : Files) → Image new c → Image old c
   pub time : Elapses old new

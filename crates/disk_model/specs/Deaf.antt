@@ -5,7 +5,7 @@ use Rattle.disk_model.specs.Content.{Content, Lawful}
 
 -- nothing is told, and no image is claimed
 abbrev pub nothing_told : Content
-nothing_told = record { tells = false; files = λ n. None; moment = 0; left = λ t c. ⊥ }
+nothing_told = record { is_observable = false; files = λ n. None; moment = 0; left = λ t c. ⊥ }
 
 -- the laws of a disk hold of it
 pub deaf_lawful : Lawful nothing_told

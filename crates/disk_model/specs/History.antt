@@ -24,13 +24,13 @@ abbrev pub crashed_if : Bool → List Step → List Step
 crashed_if crashed past = if crashed then Crash ∷ past else past
 
 -- an event after these steps, and what was earlier
-abbrev pub noted : List Step → Event → List Step
-noted past e = step_of (crashed_if e.crashed past) e.op ∷ crashed_if e.crashed past
+abbrev pub recorded : List Step → Event → List Step
+recorded past e = step_of (crashed_if e.crashed past) e.op ∷ crashed_if e.crashed past
 
 -- all events, the newest first, before those that were earlier
 abbrev pub newest_first : List Step → List Event → List Step
 newest_first past [] = past
-newest_first past (e ∷ es) = newest_first (noted past e) es
+newest_first past (e ∷ es) = newest_first (recorded past e) es
 
 -- all that was done
 abbrev pub past_of : List Event → Bool → List Step

@@ -1,7 +1,7 @@
 pub mod Call
 pub mod Content
 pub mod Deaf
-pub mod Held
+pub mod FileBytes
 pub mod Patch
 pub mod Pieces
 pub mod History

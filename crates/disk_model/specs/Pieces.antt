@@ -1,15 +1,15 @@
 -- Bytes in pieces.
 use Rattle.std.specs.Prelude.{◌≡◌, ◌+◌, ◌<◌, ◌^◌, ℕ, List, [], ◌∷◌, length, map}
 use Rattle.std.specs.List.{concat}
-use Rattle.disk_model.specs.declared.pieces.Piece.{Piece}
+use Rattle.disk_model.specs.declared.pieces.Chunk.{Chunk}
 use Rattle.disk_model.specs.declared.pieces.Pieces.TheInside.{Inside}
 
 -- the bytes of one piece after another
-abbrev pub joined : List Piece → List ℕ
+abbrev pub joined : List Chunk → List ℕ
 joined pieces = concat (map (λ piece. piece.bytes) pieces)
 
 -- behind so many bytes each piece has where it ends
-abbrev pub AreEnded : ℕ → List Piece → Type 0
+abbrev pub AreEnded : ℕ → List Chunk → Type 0
 AreEnded from [] = Unit {0}
 AreEnded from (piece ∷ pieces) = (piece.end ≡ from + length piece.bytes) × AreEnded piece.end pieces
 

@@ -4,11 +4,11 @@ use Rattle.std.specs.Ordering.{nat_cmp}
 use Rattle.std.specs.BTreeMap.{get, keys}
 use Rattle.tier_base.specs.declared.plain.FileName.{FileName}
 use Rattle.tier_base.specs.declared.plain.FileName.TheVariants.{Manifest, Log, Notes, Gate, Registry}
-use Rattle.disk_model.specs.declared.held.Held.{Held}
+use Rattle.disk_model.specs.declared.file_bytes.FileBytes.{FileBytes}
 use Rattle.disk_model.specs.declared.shelf.Shelf.{Shelf}
 use Rattle.tier_base.specs.Told.{OnlyAt, bytes_in}
 use Rattle.disk_model.specs.Content.{Files}
-use Rattle.disk_model.specs.Held.{bytes_at, safe_at}
+use Rattle.disk_model.specs.FileBytes.{bytes_at, safe_at}
 
 -- a file that is there, with no bytes where it was absent
 abbrev pub made : Option (List ℕ) → Option (List ℕ)
@@ -39,7 +39,7 @@ abbrev pub IsFront : List ℕ → Option (List ℕ) → Type 0
 IsFront front file = (rest : List ℕ) × (bytes_in file ≡ front ++ rest)
 
 -- the name of a file that is there
-abbrev pub if_there : FileName → Option Held → List FileName
+abbrev pub if_there : FileName → Option FileBytes → List FileName
 if_there name None = []
 if_there name (Some held) = name ∷ []
 

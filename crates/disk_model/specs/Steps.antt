@@ -112,4 +112,4 @@ LeftSince (s ∷ past) t c = LeftAfter (s ∷ past) c ⊎ ((t ≤ length past) �
 
 -- what the disk tells
 abbrev pub content_of : List Step → Content
-content_of past = record { tells = true; files = reads past; moment = length past; left = LeftSince past }
+content_of past = record { is_observable = true; files = reads past; moment = length past; left = LeftSince past }

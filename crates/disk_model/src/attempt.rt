@@ -107,10 +107,10 @@ pub fn front_of(file: Option<Bytes>, most: usize) -> Option<Bytes>
 }
 
 /// Hands bytes where they are given.
-pub fn hand(handed: &mut Bytes, given: bool, bytes: Bytes)
-    ensures { handed.new ≡ (if given then bytes else handed.old) }
+pub fn hand(last_read: &mut Bytes, given: bool, bytes: Bytes)
+    ensures { last_read.new ≡ (if given then bytes else last_read.old) }
 {
     if given {
-        *handed = bytes;
+        *last_read = bytes;
     }
 }

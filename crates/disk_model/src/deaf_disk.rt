@@ -24,7 +24,7 @@ pub struct DeafDisk {
     alloc: Global,
     files: Vec<(FileName, Bytes)>,
     faults: FaultPlan<DiskCall>,
-    handed: Bytes,
+    last_read: Bytes,
     spare: u32,
 }
 
@@ -33,14 +33,14 @@ impl DeafDisk {
     pub fn new(alloc: Global, files: Vec<(FileName, Bytes)>) -> DeafDisk
         ensures fresh { IsFresh (⟦<DeafDisk as Disk>⟧.control result) }
         ensures plan { (⟦<DeafDisk as Disk>⟧.control result).plan ≡ [] }
-        ensures calm { IsTrue (⟦<DeafDisk as Disk>⟧.control result).calm }
+        ensures infallible { IsTrue (⟦<DeafDisk as Disk>⟧.control result).infallible }
         ensures spare { ⟦<DeafDisk as Disk>⟧.spare result ≡ 0 }
     {
         DeafDisk {
             alloc,
             files,
             faults: FaultPlan::new(Vec::new(alloc)),
-            handed: Bytes::new(),
+            last_read: Bytes::new(),
             spare: 0,
         }
     }
@@ -49,7 +49,7 @@ impl DeafDisk {
 impl Disk for DeafDisk {
     ghost content = { λ d. nothing_told };
 
-    ghost control = { λ d. control_of call_code d.faults d.handed };
+    ghost control = { λ d. control_of call_code d.faults d.last_read };
 
     ghost spare = { λ d. d.spare };
 
@@ -76,16 +76,16 @@ impl Disk for DeafDisk {
         let file = share_from(&self.files, name, at as usize)?;
         let shared = share(&file)?;
         let outcome = self.faults.note(DiskCall::Read, ending);
-        hand(&mut self.handed, outcome.is_ok(), shared);
+        hand(&mut self.last_read, outcome.is_ok(), shared);
         give(outcome, file)
     }
 
     fn read_part(&mut self, name: FileName, at: u64, most: u64) -> Result<Option<Bytes>, Trouble> {
         let ending = self.faults.ending(DiskCall::Read);
         let part = front_of(share_from(&self.files, name, at as usize)?, most as usize);
-        let handed = share(&part)?;
+        let last_read = share(&part)?;
         let outcome = self.faults.note(DiskCall::Read, ending);
-        hand(&mut self.handed, outcome.is_ok(), handed);
+        hand(&mut self.last_read, outcome.is_ok(), last_read);
         give(outcome, part)
     }
 
@@ -119,8 +119,8 @@ impl Disk for DeafDisk {
         give(self.faults.note(DiskCall::List, ending), names)
     }
 
-    fn take_handed(&mut self) -> Bytes {
-        mem::replace(&mut self.handed, Bytes::new())
+    fn take_last_read(&mut self) -> Bytes {
+        mem::replace(&mut self.last_read, Bytes::new())
     }
 
     fn arm(&mut self) {
@@ -129,7 +129,7 @@ impl Disk for DeafDisk {
 
     ghost lawful = { λ d. deaf_lawful };
 
-    ghost planned = { λ d. fails_as_planned call_code d.faults d.handed };
+    ghost planned = { λ d. fails_as_planned call_code d.faults d.last_read };
 }
 
 /// Finds a file by its name.

@@ -8,7 +8,7 @@ ghost use Rattle.std.specs.Prelude.{◌≡◌, ◌+◌, ◌≤◌, List, [], ℕ
 ghost use Rattle.tier_base.specs.Device.{Control, Ran, RanQuietly, MayBeDone, Rests, Arms, FailsAsPlanned, fate_of, failing};
 ghost use Rattle.disk_model.specs.declared.call.DiskCall.TheVariants.{Append, Sync, Read, Cut, Replace, Remove, List as Listing};
 ghost use Rattle.disk_model.specs.Call.{call_code};
-ghost use Rattle.tier_base.specs.Told.{Names, replaced, removed, handed_after};
+ghost use Rattle.tier_base.specs.Told.{Names, replaced, removed, last_read_after};
 ghost use Rattle.disk_model.specs.Content.{Content, Lawful, Files, Image, Changes, Keeps, appended, Grown, cut_to, CutBack, Swapped, Gone, Begins, part_of};
 
 use bytes::Bytes;
@@ -57,21 +57,21 @@ pub trait Disk: Drop {
     /// Returns a file's bytes from a position on, none past its end, or `None` if the file is absent.
     fn read(&mut self, name: FileName, at: u64) -> Result<Option<Bytes>, Trouble>
         ensures control { Ran Read (fate_of result) (control self.old) (control self.new) }
-        ensures handed { (control self.new).handed
-            ≡ handed_after result (control self.old).handed }
+        ensures last_read { (control self.new).last_read
+            ≡ last_read_after result (control self.old).last_read }
         ensures room { spare self.new ≡ spare self.old }
         ensures content { Keeps (content self.old) (content self.new) }
-        ensures bytes { IsTrue (content self.old).tells → IfOk result (λ bytes. bytes
+        ensures bytes { IsTrue (content self.old).is_observable → IfOk result (λ bytes. bytes
             ≡ option_map (drop at) ((content self.old).files name)) };
 
     /// Returns at most so many of the bytes that `read` returns, and fewer only if these end.
     fn read_part(&mut self, name: FileName, at: u64, most: u64) -> Result<Option<Bytes>, Trouble>
         ensures control { Ran Read (fate_of result) (control self.old) (control self.new) }
-        ensures handed { (control self.new).handed
-            ≡ handed_after result (control self.old).handed }
+        ensures last_read { (control self.new).last_read
+            ≡ last_read_after result (control self.old).last_read }
         ensures room { spare self.new ≡ spare self.old }
         ensures content { Keeps (content self.old) (content self.new) }
-        ensures bytes { IsTrue (content self.old).tells → IfOk result (λ bytes. bytes
+        ensures bytes { IsTrue (content self.old).is_observable → IfOk result (λ bytes. bytes
             ≡ option_map (part_of at most) ((content self.old).files name)) };
 
     /// Cuts a file to a length in bytes. Does nothing if the file is shorter or absent.
@@ -110,14 +110,14 @@ pub trait Disk: Drop {
             (control self.old) (control self.new) }
         ensures room { spare self.new ≡ spare self.old }
         ensures content { Keeps (content self.old) (content self.new) }
-        ensures names { IsTrue (content self.old).tells
+        ensures names { IsTrue (content self.old).is_observable
             → IfOk result (λ names. Names (content self.old).files names) };
 
     /// Takes out the bytes that the last read returned, without using memory. None are kept then until the next read.
     /// No plan can make this call fail.
-    fn take_handed(&mut self) -> Bytes
-        ensures taken { result ≡ (control self.old).handed }
-        ensures control { control self.new ≡ record (control self.old) { handed = [] } }
+    fn take_last_read(&mut self) -> Bytes
+        ensures taken { result ≡ (control self.old).last_read }
+        ensures control { control self.new ≡ record (control self.old) { last_read = [] } }
         ensures room { spare self.new ≡ spare self.old }
         ensures content { Keeps (content self.old) (content self.new) };
 

@@ -12,7 +12,7 @@ mod call;
 mod deaf_disk;
 mod disk;
 mod file;
-mod held;
+mod file_bytes;
 mod history;
 mod memory_disk;
 mod patch;

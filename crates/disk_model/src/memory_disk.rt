@@ -27,7 +27,7 @@ use tier_base::{Failed, FaultPlan, FileName, Row, Trouble, give};
 pub struct MemoryDisk {
     history: History,
     faults: FaultPlan<DiskCall>,
-    handed: Bytes,
+    last_read: Bytes,
 }
 
 impl MemoryDisk {
@@ -39,15 +39,15 @@ impl MemoryDisk {
         ensures content { IsEmptyDisk (⟦<MemoryDisk as Disk>⟧.content result) }
         ensures fresh { IsFresh (⟦<MemoryDisk as Disk>⟧.control result) }
         ensures plan { (⟦<MemoryDisk as Disk>⟧.control result).plan ≡ plan.items }
-        ensures calm { IsTrue (⟦<MemoryDisk as Disk>⟧.control result).calm }
-        ensures ruled { IsTrue (⟦<MemoryDisk as Disk>⟧.control result).ruled }
+        ensures infallible { IsTrue (⟦<MemoryDisk as Disk>⟧.control result).infallible }
+        ensures scripted { IsTrue (⟦<MemoryDisk as Disk>⟧.control result).scripted }
         ensures spare { ⟦<MemoryDisk as Disk>⟧.spare result ≡ 0 }
         ensures fuse { fuse_of result ≡ None }
     {
         MemoryDisk {
             history: History::new(alloc),
             faults: FaultPlan::new(plan),
-            handed: Bytes::new(),
+            last_read: Bytes::new(),
         }
     }
 
@@ -57,14 +57,14 @@ impl MemoryDisk {
             (⟦<MemoryDisk as Disk>⟧.content self.new) }
         ensures fresh { IsFresh (⟦<MemoryDisk as Disk>⟧.control self.new) }
         ensures plan { (⟦<MemoryDisk as Disk>⟧.control self.new).plan ≡ plan.items }
-        ensures calm { IsTrue (⟦<MemoryDisk as Disk>⟧.control self.new).calm }
-        ensures ruled { IsTrue (⟦<MemoryDisk as Disk>⟧.control self.new).ruled }
+        ensures infallible { IsTrue (⟦<MemoryDisk as Disk>⟧.control self.new).infallible }
+        ensures scripted { IsTrue (⟦<MemoryDisk as Disk>⟧.control self.new).scripted }
         ensures spare { ⟦<MemoryDisk as Disk>⟧.spare self.new
             ≡ ⟦<MemoryDisk as Disk>⟧.spare self.old }
         ensures fuse { fuse_of self.new ≡ None }
     {
         self.faults = FaultPlan::new(plan);
-        self.handed = Bytes::new();
+        self.last_read = Bytes::new();
     }
 
     /// Lets so many calls pass, and then every call fails.
@@ -105,9 +105,9 @@ impl MemoryDisk {
 
     /// Answers whether there is a fuse, or was one.
     pub fn fused(&self) -> bool
-        ensures { IsTrue result ↔ IsFalse (⟦<MemoryDisk as Disk>⟧.control self.now).ruled }
+        ensures { IsTrue result ↔ IsFalse (⟦<MemoryDisk as Disk>⟧.control self.now).scripted }
     {
-        !self.faults.is_ruled()
+        !self.faults.is_scripted()
     }
 
     /// Answers whether planned calls fail.
@@ -128,7 +128,7 @@ impl MemoryDisk {
 impl Disk for MemoryDisk {
     ghost content = { λ m. content_of m.history.past };
 
-    ghost control = { λ m. control_of call_code m.faults m.handed };
+    ghost control = { λ m. control_of call_code m.faults m.last_read };
 
     ghost spare = { λ m. m.history.spare };
 
@@ -153,16 +153,16 @@ impl Disk for MemoryDisk {
         let file = self.history.read(name, at)?;
         let shared = share(&file)?;
         let outcome = self.faults.note(DiskCall::Read, ending);
-        hand(&mut self.handed, outcome.is_ok(), shared);
+        hand(&mut self.last_read, outcome.is_ok(), shared);
         give(outcome, file)
     }
 
     fn read_part(&mut self, name: FileName, at: u64, most: u64) -> Result<Option<Bytes>, Trouble> {
         let ending = self.faults.ending(DiskCall::Read);
         let part = self.history.read_part(name, at, most)?;
-        let handed = share(&part)?;
+        let last_read = share(&part)?;
         let outcome = self.faults.note(DiskCall::Read, ending);
-        hand(&mut self.handed, outcome.is_ok(), handed);
+        hand(&mut self.last_read, outcome.is_ok(), last_read);
         give(outcome, part)
     }
 
@@ -196,8 +196,8 @@ impl Disk for MemoryDisk {
         give(self.faults.note(DiskCall::List, ending), names)
     }
 
-    fn take_handed(&mut self) -> Bytes {
-        mem::replace(&mut self.handed, Bytes::new())
+    fn take_last_read(&mut self) -> Bytes {
+        mem::replace(&mut self.last_read, Bytes::new())
     }
 
     fn arm(&mut self) {
@@ -206,5 +206,5 @@ impl Disk for MemoryDisk {
 
     ghost lawful = { λ m. lawful_at m.history.past };
 
-    ghost planned = { λ m. fails_as_planned call_code m.faults m.handed };
+    ghost planned = { λ m. fails_as_planned call_code m.faults m.last_read };
 }

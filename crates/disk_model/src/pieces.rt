@@ -19,7 +19,7 @@ const MOST: usize = usize::MAX / 2;
 
 /// A piece, and where it ends, so that a place is found by halving.
 #[derive(Drop)]
-pub struct Piece {
+pub struct Chunk {
     bytes: Bytes,
     end: usize,
 }
@@ -27,7 +27,7 @@ pub struct Piece {
 /// Bytes in pieces, and how many they are.
 #[derive(Drop)]
 pub struct Pieces {
-    items: Vec<Piece>,
+    items: Vec<Chunk>,
     len: usize,
 }
 
@@ -80,7 +80,7 @@ impl Pieces {
         if end > MOST {
             return Err(AllocError);
         }
-        self.items.push(Piece { bytes, end })?;
+        self.items.push(Chunk { bytes, end })?;
         self.len = end;
         Ok(())
     }
@@ -132,7 +132,7 @@ impl Pieces {
 }
 
 /// How many pieces end at or below a place: those in front.
-fn count_passed(pieces: &[Piece], at: usize) -> usize
+fn count_passed(pieces: &[Chunk], at: usize) -> usize
     requires { AreEnded 0 pieces.now }
     ensures within { result ≤ length pieces.now }
     ensures passed { length (joined (take result pieces.now)) ≤ at }
@@ -144,8 +144,8 @@ fn count_passed(pieces: &[Piece], at: usize) -> usize
 /// Shares a part of a piece that has so many bytes of it, or copies one that spans pieces.
 fn read_in(
     alloc: Global,
-    piece: &Piece,
-    behind: &[Piece],
+    piece: &Chunk,
+    behind: &[Chunk],
     here: usize,
     most: usize,
 ) -> Result<Bytes, AllocError>
@@ -165,7 +165,7 @@ fn read_in(
 
 /// Copies so many of the first bytes of pieces to the end of others. Where memory fails, some of
 /// them may stand there.
-fn copy_front(pieces: &[Piece], mut most: usize, all: &mut Vec<u8>) -> Result<(), AllocError>
+fn copy_front(pieces: &[Chunk], mut most: usize, all: &mut Vec<u8>) -> Result<(), AllocError>
     ensures { OnOk result (all.new.items ≡ all.old.items ++ take most (joined pieces.now)) }
 {
     for piece in pieces {
@@ -180,7 +180,7 @@ fn copy_front(pieces: &[Piece], mut most: usize, all: &mut Vec<u8>) -> Result<()
 }
 
 /// Drops so many bytes from the end.
-fn drop_last(pieces: &mut Vec<Piece>, mut count: usize)
+fn drop_last(pieces: &mut Vec<Chunk>, mut count: usize)
     requires { AreEnded 0 pieces.old.items }
     ensures bytes { joined pieces.new.items
         ≡ take (length (joined pieces.old.items) - count) (joined pieces.old.items) }

@@ -7,11 +7,11 @@ ghost use Rattle.std.specs.List.Sorted.{IsStrictlySortedBy};
 ghost use Rattle.tier_base.specs.declared.plain.FileName.TheVariants.{Log};
 ghost use Rattle.tier_base.specs.Told.{replaced, removed};
 ghost use Rattle.disk_model.specs.Content.{appended, cut_to, part_of};
-ghost use Rattle.disk_model.specs.Held.{all_of, safe_of, bytes_at, safe_at};
+ghost use Rattle.disk_model.specs.FileBytes.{all_of, safe_of, bytes_at, safe_at};
 ghost use Rattle.disk_model.specs.Shelf.{made, files_on, names_on, safe_on, Becomes, IsFront};
 
 use crate::file::{drop_unsynced, extend, read, settle, shorten};
-use crate::held::Held;
+use crate::file_bytes::FileBytes;
 use bytes::Bytes;
 use std::alloc::{AllocError, Global};
 use std::collections::BTreeMap;
@@ -20,11 +20,11 @@ use tier_base::{FileName, Row};
 /// The files.
 #[derive(Drop)]
 pub struct Shelf {
-    manifest: Option<Held>,
-    logs: BTreeMap<u64, Held>,
-    notes: Option<Held>,
-    gate: Option<Held>,
-    registry: Option<Held>,
+    manifest: Option<FileBytes>,
+    logs: BTreeMap<u64, FileBytes>,
+    notes: Option<FileBytes>,
+    gate: Option<FileBytes>,
+    registry: Option<FileBytes>,
 }
 
 impl Shelf {
@@ -82,7 +82,7 @@ impl Shelf {
         ensures err { OnErr result ((n : _) → files_on self.new n ≡ files_on self.old n) }
         ensures safe_err { OnErr result ((n : _) → safe_on self.new n ≡ safe_on self.old n) }
     {
-        let held = Held::synced(alloc, bytes)?;
+        let held = FileBytes::synced(alloc, bytes)?;
         match name {
             FileName::Manifest => self.manifest = Some(held),
             FileName::Log(base) => put_at(&mut self.logs, base, held)?,
@@ -192,7 +192,7 @@ impl Shelf {
     }
 }
 
-fn append_to(alloc: Global, slot: &mut Option<Held>, bytes: Bytes) -> Result<(), AllocError>
+fn append_to(alloc: Global, slot: &mut Option<FileBytes>, bytes: Bytes) -> Result<(), AllocError>
     ensures ok { OnOk result (bytes_at slot.new ≡ appended bytes (bytes_at slot.old)) }
     ensures safe { OnOk result (safe_at slot.new ≡ made (safe_at slot.old)) }
     ensures err { OnErr result (bytes_at slot.new ≡ bytes_at slot.old) }
@@ -201,7 +201,7 @@ fn append_to(alloc: Global, slot: &mut Option<Held>, bytes: Bytes) -> Result<(),
     match slot {
         Some(held) => extend(held, bytes),
         None => {
-            *slot = Some(Held::unsynced(alloc, bytes)?);
+            *slot = Some(FileBytes::unsynced(alloc, bytes)?);
             Ok(())
         }
     }
@@ -209,7 +209,7 @@ fn append_to(alloc: Global, slot: &mut Option<Held>, bytes: Bytes) -> Result<(),
 
 fn append_at(
     alloc: Global,
-    logs: &mut BTreeMap<u64, Held>,
+    logs: &mut BTreeMap<u64, FileBytes>,
     base: u64,
     bytes: Bytes,
 ) -> Result<(), AllocError>
@@ -226,13 +226,13 @@ fn append_at(
     match logs.get_mut(&base) {
         Some(held) => extend(held, bytes),
         None => {
-            logs.insert(base, Held::unsynced(alloc, bytes)?)?;
+            logs.insert(base, FileBytes::unsynced(alloc, bytes)?)?;
             Ok(())
         }
     }
 }
 
-fn cut_slot(slot: &mut Option<Held>, len: usize)
+fn cut_slot(slot: &mut Option<FileBytes>, len: usize)
     ensures bytes { bytes_at slot.new ≡ cut_to len (bytes_at slot.old) }
     ensures safe { safe_at slot.new ≡ cut_to len (safe_at slot.old) }
 {
@@ -241,7 +241,7 @@ fn cut_slot(slot: &mut Option<Held>, len: usize)
     }
 }
 
-fn cut_at(logs: &mut BTreeMap<u64, Held>, base: u64, len: usize)
+fn cut_at(logs: &mut BTreeMap<u64, FileBytes>, base: u64, len: usize)
     ensures there { bytes_at (get nat_cmp logs.new base)
         ≡ cut_to len (bytes_at (get nat_cmp logs.old base)) }
     ensures safe { safe_at (get nat_cmp logs.new base)
@@ -253,7 +253,7 @@ fn cut_at(logs: &mut BTreeMap<u64, Held>, base: u64, len: usize)
     }
 }
 
-fn front_in(slot: &Option<Held>) -> &[u8]
+fn front_in(slot: &Option<FileBytes>) -> &[u8]
     ensures { IsFront result.now (bytes_at slot.now) }
 {
     match slot {
@@ -262,7 +262,7 @@ fn front_in(slot: &Option<Held>) -> &[u8]
     }
 }
 
-fn sync_slot(slot: &mut Option<Held>)
+fn sync_slot(slot: &mut Option<FileBytes>)
     ensures bytes { bytes_at slot.new ≡ bytes_at slot.old }
     ensures safe { safe_at slot.new ≡ bytes_at slot.old }
 {
@@ -271,7 +271,7 @@ fn sync_slot(slot: &mut Option<Held>)
     }
 }
 
-fn sync_at(logs: &mut BTreeMap<u64, Held>, base: u64)
+fn sync_at(logs: &mut BTreeMap<u64, FileBytes>, base: u64)
     ensures bytes { bytes_at (get nat_cmp logs.new base) ≡ bytes_at (get nat_cmp logs.old base) }
     ensures safe { safe_at (get nat_cmp logs.new base) ≡ bytes_at (get nat_cmp logs.old base) }
     ensures others { (q : ℕ) → q ≢ base → get nat_cmp logs.new q ≡ get nat_cmp logs.old q }
@@ -281,7 +281,7 @@ fn sync_at(logs: &mut BTreeMap<u64, Held>, base: u64)
     }
 }
 
-fn crash_slot(slot: &mut Option<Held>)
+fn crash_slot(slot: &mut Option<FileBytes>)
     ensures bytes { bytes_at slot.new ≡ safe_at slot.old }
     ensures safe { safe_at slot.new ≡ safe_at slot.old }
 {
@@ -290,7 +290,7 @@ fn crash_slot(slot: &mut Option<Held>)
     }
 }
 
-fn crash_all(logs: &mut BTreeMap<u64, Held>)
+fn crash_all(logs: &mut BTreeMap<u64, FileBytes>)
     ensures bytes { (q : ℕ)
         → bytes_at (get nat_cmp logs.new q) ≡ safe_at (get nat_cmp logs.old q) }
     ensures safe { (q : ℕ)
@@ -302,7 +302,7 @@ fn crash_all(logs: &mut BTreeMap<u64, Held>)
     });
 }
 
-fn put_at(logs: &mut BTreeMap<u64, Held>, base: u64, held: Held) -> Result<(), AllocError>
+fn put_at(logs: &mut BTreeMap<u64, FileBytes>, base: u64, held: FileBytes) -> Result<(), AllocError>
     ensures there { OnOk result (get nat_cmp logs.new base ≡ Some held) }
     ensures others { (q : ℕ) → q ≢ base → get nat_cmp logs.new q ≡ get nat_cmp logs.old q }
     ensures err { OnErr result ((q : ℕ) → get nat_cmp logs.new q ≡ get nat_cmp logs.old q) }
@@ -311,7 +311,7 @@ fn put_at(logs: &mut BTreeMap<u64, Held>, base: u64, held: Held) -> Result<(), A
     Ok(())
 }
 
-fn remove_at(logs: &mut BTreeMap<u64, Held>, base: u64)
+fn remove_at(logs: &mut BTreeMap<u64, FileBytes>, base: u64)
     ensures there { get nat_cmp logs.new base ≡ None }
     ensures others { (q : ℕ) → q ≢ base → get nat_cmp logs.new q ≡ get nat_cmp logs.old q }
 {
@@ -320,7 +320,7 @@ fn remove_at(logs: &mut BTreeMap<u64, Held>, base: u64)
 
 fn read_slot(
     alloc: Global,
-    slot: &mut Option<Held>,
+    slot: &mut Option<FileBytes>,
     at: usize,
     most: usize,
 ) -> Result<Option<Bytes>, AllocError>
@@ -337,7 +337,7 @@ fn read_slot(
 
 fn read_at(
     alloc: Global,
-    logs: &mut BTreeMap<u64, Held>,
+    logs: &mut BTreeMap<u64, FileBytes>,
     base: u64,
     at: usize,
     most: usize,
@@ -355,7 +355,7 @@ fn read_at(
     }
 }
 
-fn log_names(alloc: Global, logs: &BTreeMap<u64, Held>) -> Result<Row<FileName>, AllocError>
+fn log_names(alloc: Global, logs: &BTreeMap<u64, FileBytes>) -> Result<Row<FileName>, AllocError>
     ensures names { IfOk result (λ names. names ≡ map Log (keys logs.now)) }
     ensures sorted { OnOk result (IsStrictlySortedBy nat_cmp (keys logs.now)) }
 {

@@ -58,7 +58,7 @@ fn print_partition<W: Write>(
 }
 
 /// Starts a line with a partition's number.
-fn begun(rt: &HostRuntime, style: Style, partition: u16) -> io::Result<LineText> {
+fn snapshot(rt: &HostRuntime, style: Style, partition: u16) -> io::Result<LineText> {
     let mut line = LineText::new(rt.alloc(), style);
     let fields = [field(Name::Partition, Value::Unsigned(partition as u64))];
     line.fields(rt.alloc(), fields.as_slice())?;
@@ -84,7 +84,7 @@ fn print_registry<W: Write>(
     match registry_file::reg_decode(bytes.as_slice()) {
         Ok(view) => {
             let fields = partition_line(rt.alloc(), &view)?;
-            let mut line = begun(rt, style, partition)?;
+            let mut line = snapshot(rt, style, partition)?;
             line.fields(rt.alloc(), fields.as_slice())?;
             finish(rt, out, line)?;
             Ok(0)
@@ -109,7 +109,7 @@ fn print_brokers<W: Write>(
         let log = format!(in rt.alloc(); "{folder}/b{broker}")?;
         let manifest = format!(in rt.alloc(); "{log}/manifest")?;
         if exists(rt, manifest.as_str()) {
-            let line = begun(rt, style, partition)?;
+            let line = snapshot(rt, style, partition)?;
             status |= print_broker(rt, out, line, broker, log.as_str(), manifest.as_str())?;
         }
     }
@@ -210,7 +210,7 @@ fn print_tier<W: Write>(
         field(Name::RemoteSegments, Value::Unsigned(totals.segments)),
         field(Name::Size, Value::Bytes(totals.size)),
     ];
-    let mut line = begun(rt, style, partition)?;
+    let mut line = snapshot(rt, style, partition)?;
     line.fields(rt.alloc(), fields.as_slice())?;
     finish(rt, out, line)?;
     Ok(status)

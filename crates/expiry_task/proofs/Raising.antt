@@ -50,7 +50,7 @@ from_up : (start at : ℕ) (pieces : List Piece) → start ≤ at → ((k : ℕ)
 from_up start at [] low each = low
 from_up start at (p ∷ pieces) low each = let past = each zero p refl in from_up start p.to pieces (omega (arith, past)) (λ k q e. each (suc k) q e)
 
--- each closed segment that passes ends past the offset, and at the known mark at most
+-- each closed segment that passes ends past the offset, and at the known high watermark at most
 passed_within : (offset known : ℕ) (closed : List Grown) (k s : ℕ) → slice_get (map (λ (one : Uncopied). one.end) (map uncopied_of (filter (is_within offset known) closed))) k ≡ Some s
     → (offset < s) × (s ≤ known)
 passed_within offset known [] k s e = cc

@@ -1,10 +1,10 @@
 -- How far retention lets a log start rise.
 --
 -- The items are the pieces of remote segments from the log start on, one after another, as long as they end at or
--- below the known mark. Each counts the whole of its remote segment. Where segments aren't copied any more, and the
--- local log goes on where the pieces end, its closed segments from there on are items too, as long as they end at or
--- below the known mark. Behind all of them the local segments count that end past the last one. The log start comes
--- to the end of the last item that is due.
+-- below the known high watermark. Each counts the whole of its remote segment. Where segments aren't copied any more,
+-- and the local log goes on where the pieces end, its closed segments from there on are items too, as long as they
+-- end at or below the known high watermark. Behind all of them the local segments count that end past the last one.
+-- The log start comes to the end of the last item that is due.
 --
 -- Source: Kafka's retention.ms and retention.bytes, which count the remote log and what of the local log isn't
 -- copied. A segment that is still to be copied never goes by them (KIP-405); where copying is disabled (KIP-950)
@@ -44,7 +44,7 @@ uncopied_of segment = record {
   end = end_of segment;
 }
 
--- a segment ends past an offset, and at or below the known mark
+-- a segment ends past an offset, and at or below the known high watermark
 abbrev pub is_within : ℕ → ℕ → Grown → Bool
 is_within offset known segment = nat_lt offset (end_of segment) && nat_le (end_of segment) known
 

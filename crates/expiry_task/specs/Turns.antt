@@ -24,52 +24,57 @@ use Rattle.object_store.specs.Call as store_call
 use Rattle.object_store.specs.Calls.{Deletes}
 use Rattle.object_store.specs.Content as store
 use Rattle.object_store.specs.Place.{keys_of}
-use Rattle.meta_log.specs.declared.teller.Teller.{Teller}
+use Rattle.meta_log.specs.declared.event_origin.EventOrigin.{EventOrigin}
 use Rattle.meta_log.specs.Call as meta_call
 use Rattle.meta_log.specs.Calls.{Appends}
 use Rattle.meta_log.specs.Content as meta
 use Rattle.plain_log.specs.declared.answer.Answer.TheVariants.{MetaFault, StoreFault, Deleted}
-use Rattle.expiry_task.specs.declared.turn.Doomed.{Doomed}
+use Rattle.expiry_task.specs.declared.turn.ExpiredSegment.{ExpiredSegment}
 use Rattle.expiry_task.specs.declared.turn.ExpiryTurn.{ExpiryTurn}
 use Rattle.expiry_task.specs.declared.turn.ExpiryTurn.TheVariants.{Goes, Ends}
-use Rattle.expiry_task.specs.declared.turn.Next.{Next}
-use Rattle.expiry_task.specs.declared.turn.Next.TheVariants.{Start, Delete, Finish}
+use Rattle.expiry_task.specs.declared.turn.DeletionStep.{DeletionStep}
+use Rattle.expiry_task.specs.declared.turn.DeletionStep.TheVariants.{Start, Delete, Finish}
 
 -- the segment has another state
-abbrev pub note_of : Doomed → Teller → State → Note
-note_of doomed teller state = Update doomed.id teller.broker teller.now state (bare_custom doomed.packed)
+abbrev pub note_of : ExpiredSegment → EventOrigin → State → Note
+note_of expired_segment origin state =
+    Update expired_segment.id origin.broker origin.now state (bare_custom expired_segment.packed)
 
 -- the keys of its objects
-abbrev pub keys : Doomed → List ObjectKey
-keys doomed = keys_of doomed.partition doomed.id doomed.packed
+abbrev pub keys : ExpiredSegment → List ObjectKey
+keys expired_segment = keys_of expired_segment.partition expired_segment.id expired_segment.packed
 
 -- the turn that takes the object of a number away, where it has a key, or the one behind the last
-abbrev pub delete_at : ℕ → Option ObjectKey → Next
+abbrev pub delete_at : ℕ → Option ObjectKey → DeletionStep
 delete_at n None = Finish
 delete_at n (Some key) = Delete n
 
 module _ {M : Type 0} (notes : M → meta.Content) (calls : M → Control meta_call.call_code) where
   -- the deletion starts
-  abbrev pub StartRow : Doomed → Teller → Result ExpiryTurn AllocError → M → M → Type 0
-  StartRow doomed teller (Ok (Ends MetaFault)) old new = Appends notes calls (note_of doomed teller DeleteStarted) Fault old new
-  StartRow doomed teller (Ok turn) old new =
-      (turn ≡ Goes (Delete 0)) × Appends notes calls (note_of doomed teller DeleteStarted) Went old new
-  StartRow doomed teller (Err e) old new = Appends notes calls (note_of doomed teller DeleteStarted) Dry old new
+  abbrev pub StartRow : ExpiredSegment → EventOrigin → Result ExpiryTurn AllocError → M → M → Type 0
+  StartRow expired_segment origin (Ok (Ends MetaFault)) old new = Appends notes calls (note_of expired_segment origin DeleteStarted) Fault old new
+  StartRow expired_segment origin (Ok turn) old new =
+      (turn ≡ Goes (Delete 0)) × Appends notes calls (note_of expired_segment origin DeleteStarted) Went old new
+  StartRow expired_segment origin (Err e) old new =
+      Appends notes calls (note_of expired_segment origin DeleteStarted) Dry old new
 
   -- no object stands any more
-  abbrev pub FinishRow : Doomed → Teller → Result ExpiryTurn AllocError → M → M → Type 0
-  FinishRow doomed teller (Ok (Ends MetaFault)) old new = Appends notes calls (note_of doomed teller DeleteFinished) Fault old new
-  FinishRow doomed teller (Ok turn) old new =
-      (turn ≡ Ends (Deleted doomed.id)) × Appends notes calls (note_of doomed teller DeleteFinished) Went old new
-  FinishRow doomed teller (Err e) old new = Appends notes calls (note_of doomed teller DeleteFinished) Dry old new
+  abbrev pub FinishRow : ExpiredSegment → EventOrigin → Result ExpiryTurn AllocError → M → M → Type 0
+  FinishRow expired_segment origin (Ok (Ends MetaFault)) old new = Appends notes calls (note_of expired_segment origin DeleteFinished) Fault old new
+  FinishRow expired_segment origin (Ok turn) old new =
+      (turn ≡ Ends (Deleted expired_segment.id))
+      × Appends notes calls (note_of expired_segment origin DeleteFinished) Went old new
+  FinishRow expired_segment origin (Err e) old new =
+      Appends notes calls (note_of expired_segment origin DeleteFinished) Dry old new
 
 module _ {S : Type 0} (objects : S → store.Content) (calls : S → Control store_call.call_code) where
   -- the object of a number is taken away, where it has a key
-  abbrev pub DeleteRow : Doomed → ℕ → Option ObjectKey → ExpiryTurn → S → S → Type 0
-  DeleteRow doomed n None turn old new = (turn ≡ Goes Finish) × (new ≡ old)
-  DeleteRow doomed n (Some key) (Ends StoreFault) old new = Deletes objects calls key Fault old new
-  DeleteRow doomed n (Some key) turn old new =
-      (turn ≡ Goes (delete_at (n + 1) (slice_get (keys doomed) (n + 1)))) × Deletes objects calls key Went old new
+  abbrev pub DeleteRow : ExpiredSegment → ℕ → Option ObjectKey → ExpiryTurn → S → S → Type 0
+  DeleteRow expired_segment n None turn old new = (turn ≡ Goes Finish) × (new ≡ old)
+  DeleteRow expired_segment n (Some key) (Ends StoreFault) old new = Deletes objects calls key Fault old new
+  DeleteRow expired_segment n (Some key) turn old new =
+      (turn ≡ Goes (delete_at (n + 1) (slice_get (keys expired_segment) (n + 1))))
+      × Deletes objects calls key Went old new
 
 -- what an expiry's turns change: the store and the metadata log
 pub record Tiers (S M : Type 0) : Type 0 where
@@ -79,12 +84,13 @@ pub record Tiers (S M : Type 0) : Type 0 where
 module _ {S M : Type 0} (objects : S → store.Content) (calls : S → Control store_call.call_code)
     (notes : M → meta.Content) (notings : M → Control meta_call.call_code) where
   -- a turn of an expiry, by what was next: what it came to, or that it wanted memory
-  abbrev pub ExpiryRow : Doomed → Teller → Next → Result ExpiryTurn AllocError → Tiers S M → Tiers S M → Type 0
-  ExpiryRow doomed teller Start result old new =
-      (new ≡ record old { meta = new.meta }) × StartRow notes notings doomed teller result old.meta new.meta
-  ExpiryRow doomed teller (Delete n) (Ok turn) old new =
+  abbrev pub ExpiryRow : ExpiredSegment → EventOrigin → DeletionStep → Result ExpiryTurn AllocError → Tiers S M
+      → Tiers S M → Type 0
+  ExpiryRow expired_segment origin Start result old new =
+      (new ≡ record old { meta = new.meta }) × StartRow notes notings expired_segment origin result old.meta new.meta
+  ExpiryRow expired_segment origin (Delete n) (Ok turn) old new =
       (new ≡ record old { store = new.store })
-      × DeleteRow objects calls doomed n (slice_get (keys doomed) n) turn old.store new.store
-  ExpiryRow doomed teller (Delete n) (Err e) old new = ⊥
-  ExpiryRow doomed teller Finish result old new =
-      (new ≡ record old { meta = new.meta }) × FinishRow notes notings doomed teller result old.meta new.meta
+      × DeleteRow objects calls expired_segment n (slice_get (keys expired_segment) n) turn old.store new.store
+  ExpiryRow expired_segment origin (Delete n) (Err e) old new = ⊥
+  ExpiryRow expired_segment origin Finish result old new =
+      (new ≡ record old { meta = new.meta }) × FinishRow notes notings expired_segment origin result old.meta new.meta

@@ -97,7 +97,7 @@ pub fn end_behind(offset: u64, own: &[Uncopied]) -> u64
     end
 }
 
-/// Whether a segment ends past an offset, and at or below the known mark.
+/// Whether a segment ends past an offset, and at or below the known high watermark.
 fn is_within(offset: u64, known: u64, segment: &Growing) -> bool
     ensures { result ≡ is_within offset known segment.now }
 {

@@ -5,7 +5,7 @@ use tier_base::{PartitionId, SegmentId};
 
 /// A remote segment that is to be deleted.
 #[derive(Clone, Copy, Debug, PartialEq, Eq)]
-pub struct Doomed {
+pub struct ExpiredSegment {
     pub partition: PartitionId,
     pub id: SegmentId,
     /// Whether its parts are packed into one object.
@@ -14,7 +14,7 @@ pub struct Doomed {
 
 /// What the next turn of an expiry does.
 #[derive(Clone, Copy, Debug, PartialEq, Eq)]
-pub enum Next {
+pub enum DeletionStep {
     /// Append the event that the deletion starts.
     Start,
     /// Delete the object whose key has this number among those of its segment.
@@ -27,7 +27,7 @@ pub enum Next {
 #[derive(Debug, Drop)]
 pub enum ExpiryTurn {
     /// The expiry continues with this turn.
-    Goes(Next),
+    Goes(DeletionStep),
     /// The expiry has ended with this answer.
     Ends(Answer),
 }

@@ -3,8 +3,8 @@
 ghost use Rattle.std.specs.Prelude.{◌≡◌, slice_get};
 ghost use Rattle.expiry_task.specs.Turns.{Tiers, keys, note_of, delete_at, StartRow, FinishRow, DeleteRow, ExpiryRow};
 
-use crate::turn::{Doomed, ExpiryTurn, Next};
-use meta_log::{MetaLog, Teller};
+use crate::turn::{DeletionStep, ExpiredSegment, ExpiryTurn};
+use meta_log::{EventOrigin, MetaLog};
 use object_store::{ObjectKey, Store, keys_of};
 use plain_log::Answer;
 use segment_meta::{Note, bare_custom};
@@ -14,67 +14,71 @@ use tier_base::{State, Trouble};
 /// Takes the next turn of an expiry.
 pub fn expiry_turn<S: Store, M: MetaLog>(
     alloc: Global,
-    doomed: Doomed,
-    next: Next,
-    teller: Teller,
+    expired_segment: ExpiredSegment,
+    next: DeletionStep,
+    origin: EventOrigin,
     store: &mut S,
     meta: &mut M,
 ) -> Result<ExpiryTurn, AllocError>
-    ensures { ExpiryRow S.content S.control M.content M.control doomed teller next result
+    ensures { ExpiryRow S.content S.control M.content M.control expired_segment origin next result
         (record { store = store.old; meta = meta.old }) (record { store = store.new; meta = meta.new }) }
 {
     match next {
-        Next::Start => start(alloc, doomed, teller, meta),
-        Next::Delete(n) => Ok(delete(doomed, n, store)),
-        Next::Finish => finish(alloc, doomed, teller, meta),
+        DeletionStep::Start => start(alloc, expired_segment, origin, meta),
+        DeletionStep::Delete(n) => Ok(delete(expired_segment, n, store)),
+        DeletionStep::Finish => finish(alloc, expired_segment, origin, meta),
     }
 }
 
 /// Tells the metadata log that a deletion starts.
 fn start<M: MetaLog>(
     alloc: Global,
-    doomed: Doomed,
-    teller: Teller,
+    expired_segment: ExpiredSegment,
+    origin: EventOrigin,
     meta: &mut M,
 ) -> Result<ExpiryTurn, AllocError>
-    ensures { StartRow M.content M.control doomed teller result meta.old meta.new }
+    ensures { StartRow M.content M.control expired_segment origin result meta.old meta.new }
 {
-    match meta.append(&note_of(alloc, doomed, teller, State::DeleteStarted)) {
-        Ok(_) => Ok(ExpiryTurn::Goes(Next::Delete(0))),
+    match meta.append(&note_of(alloc, expired_segment, origin, State::DeleteStarted)) {
+        Ok(_) => Ok(ExpiryTurn::Goes(DeletionStep::Delete(0))),
         Err(Trouble::Failed) => Ok(ExpiryTurn::Ends(Answer::MetaFault)),
         Err(Trouble::NoMemory) => Err(AllocError),
     }
 }
 
 /// Takes an object away, where one has this number.
-fn delete<S: Store>(doomed: Doomed, n: u8, store: &mut S) -> ExpiryTurn
-    ensures { DeleteRow S.content S.control doomed n (slice_get (keys doomed) n) result
+fn delete<S: Store>(expired_segment: ExpiredSegment, n: u8, store: &mut S) -> ExpiryTurn
+    ensures { DeleteRow S.content S.control expired_segment n (slice_get (keys expired_segment) n) result
         store.old store.new }
 {
-    let Some(key) = key_at(&doomed, n) else {
-        return ExpiryTurn::Goes(Next::Finish);
+    let Some(key) = key_at(&expired_segment, n) else {
+        return ExpiryTurn::Goes(DeletionStep::Finish);
     };
     match store.delete(&key) {
-        Ok(()) => ExpiryTurn::Goes(delete_at(&doomed, n + 1)),
+        Ok(()) => ExpiryTurn::Goes(delete_at(&expired_segment, n + 1)),
         Err(_) => ExpiryTurn::Ends(Answer::StoreFault),
     }
 }
 
 /// The turn that takes the object of this number away, or the one behind the last.
-fn delete_at(doomed: &Doomed, n: u8) -> Next
-    ensures { result ≡ delete_at n (slice_get (keys doomed.now) n) }
+fn delete_at(expired_segment: &ExpiredSegment, n: u8) -> DeletionStep
+    ensures { result ≡ delete_at n (slice_get (keys expired_segment.now) n) }
 {
-    match key_at(doomed, n) {
-        Some(_) => Next::Delete(n),
-        None => Next::Finish,
+    match key_at(expired_segment, n) {
+        Some(_) => DeletionStep::Delete(n),
+        None => DeletionStep::Finish,
     }
 }
 
 /// The key of an object, where one has this number, counted from 0.
-fn key_at(doomed: &Doomed, n: u8) -> Option<ObjectKey>
-    ensures { result ≡ slice_get (keys doomed.now) n }
+fn key_at(expired_segment: &ExpiredSegment, n: u8) -> Option<ObjectKey>
+    ensures { result ≡ slice_get (keys expired_segment.now) n }
 {
-    let keys = keys_of(doomed.partition, doomed.id, doomed.packed);
+    let keys = keys_of(
+        expired_segment.partition,
+        expired_segment.id,
+        expired_segment.packed,
+    );
     if n < keys.count() {
         Some(keys.get(n))
     } else {
@@ -85,14 +89,14 @@ fn key_at(doomed: &Doomed, n: u8) -> Option<ObjectKey>
 /// Tells the metadata log that no object stands.
 fn finish<M: MetaLog>(
     alloc: Global,
-    doomed: Doomed,
-    teller: Teller,
+    expired_segment: ExpiredSegment,
+    origin: EventOrigin,
     meta: &mut M,
 ) -> Result<ExpiryTurn, AllocError>
-    ensures { FinishRow M.content M.control doomed teller result meta.old meta.new }
+    ensures { FinishRow M.content M.control expired_segment origin result meta.old meta.new }
 {
-    let id = doomed.id;
-    match meta.append(&note_of(alloc, doomed, teller, State::DeleteFinished)) {
+    let id = expired_segment.id;
+    match meta.append(&note_of(alloc, expired_segment, origin, State::DeleteFinished)) {
         Ok(_) => Ok(ExpiryTurn::Ends(Answer::Deleted(id))),
         Err(Trouble::Failed) => Ok(ExpiryTurn::Ends(Answer::MetaFault)),
         Err(Trouble::NoMemory) => Err(AllocError),
@@ -100,14 +104,19 @@ fn finish<M: MetaLog>(
 }
 
 /// That a segment has another state.
-fn note_of(alloc: Global, doomed: Doomed, teller: Teller, state: State) -> Note
-    ensures { result ≡ note_of doomed teller state }
+fn note_of(
+    alloc: Global,
+    expired_segment: ExpiredSegment,
+    origin: EventOrigin,
+    state: State,
+) -> Note
+    ensures { result ≡ note_of expired_segment origin state }
 {
     Note::Update {
-        id: doomed.id,
-        broker: teller.broker,
-        event_ts: teller.now,
+        id: expired_segment.id,
+        broker: origin.broker,
+        event_ts: origin.now,
         state,
-        custom: bare_custom(alloc, doomed.packed),
+        custom: bare_custom(alloc, expired_segment.packed),
     }
 }

@@ -23,7 +23,7 @@ use tier_base::{Failed, FileName, Row, Trouble, give};
 pub struct FolderDisk<R: Files + AllocGlobal + Clone + Drop> {
     folder: Folder<R>,
     tally: Tally<DiskCall>,
-    handed: Bytes,
+    last_read: Bytes,
     spare: u32,
 }
 
@@ -33,17 +33,17 @@ impl<R: Files + AllocGlobal + Clone + Drop> FolderDisk<R> {
     pub fn open(rt: R, path: &str) -> Result<FolderDisk<R>, Trouble>
         ensures fresh { IfOk result (λ disk. IsFresh (⟦<FolderDisk<R> as Disk>⟧.control disk)) }
         ensures plan { IfOk result (λ disk. (⟦<FolderDisk<R> as Disk>⟧.control disk).plan ≡ []) }
-        ensures calm { IfOk result (λ disk.
-            (⟦<FolderDisk<R> as Disk>⟧.control disk).calm ≡ false) }
-        ensures ruled { IfOk result (λ disk.
-            (⟦<FolderDisk<R> as Disk>⟧.control disk).ruled ≡ false) }
+        ensures infallible { IfOk result (λ disk.
+            (⟦<FolderDisk<R> as Disk>⟧.control disk).infallible ≡ false) }
+        ensures scripted { IfOk result (λ disk.
+            (⟦<FolderDisk<R> as Disk>⟧.control disk).scripted ≡ false) }
         ensures spare { IfOk result (λ disk. ⟦<FolderDisk<R> as Disk>⟧.spare disk ≡ 0) }
     {
         let folder = told(Folder::open(rt, path))?;
         Ok(FolderDisk {
             folder,
             tally: Tally::new(),
-            handed: Bytes::new(),
+            last_read: Bytes::new(),
             spare: 0,
         })
     }
@@ -66,7 +66,7 @@ impl<R: Files + AllocGlobal + Clone + Drop> FolderDisk<R> {
 impl<R: Files + AllocGlobal + Clone + Drop> Disk for FolderDisk<R> {
     ghost content = { λ d. nothing_told };
 
-    ghost control = { λ d. control_of call_code d.tally d.handed };
+    ghost control = { λ d. control_of call_code d.tally d.last_read };
 
     ghost spare = { λ d. d.spare };
 
@@ -95,7 +95,7 @@ impl<R: Files + AllocGlobal + Clone + Drop> Disk for FolderDisk<R> {
         let outcome = told(self.folder.read_part(name, at, most));
         let shared = share(&outcome)?;
         let answer = self.tally.note_any(DiskCall::Read, outcome);
-        hand(&mut self.handed, answer.is_ok(), shared);
+        hand(&mut self.last_read, answer.is_ok(), shared);
         answer
     }
 
@@ -121,8 +121,8 @@ impl<R: Files + AllocGlobal + Clone + Drop> Disk for FolderDisk<R> {
         self.tally.note_any(DiskCall::List, names)
     }
 
-    fn take_handed(&mut self) -> Bytes {
-        mem::replace(&mut self.handed, Bytes::new())
+    fn take_last_read(&mut self) -> Bytes {
+        mem::replace(&mut self.last_read, Bytes::new())
     }
 
     fn arm(&mut self) {
@@ -131,7 +131,7 @@ impl<R: Files + AllocGlobal + Clone + Drop> Disk for FolderDisk<R> {
 
     ghost lawful = { λ d. deaf_lawful };
 
-    ghost planned = { λ d. fails_as_planned call_code d.tally d.handed };
+    ghost planned = { λ d. fails_as_planned call_code d.tally d.last_read };
 }
 
 /// Whether a call that changes files went well. Want of memory in the system is a failure too, since
@@ -168,10 +168,10 @@ pub(crate) fn share(file: &Result<Option<Bytes>, Trouble>) -> Result<Bytes, Allo
 }
 
 /// Hands bytes where they are given.
-pub(crate) fn hand(handed: &mut Bytes, given: bool, bytes: Bytes)
-    ensures { handed.new ≡ (if given then bytes else handed.old) }
+pub(crate) fn hand(last_read: &mut Bytes, given: bool, bytes: Bytes)
+    ensures { last_read.new ≡ (if given then bytes else last_read.old) }
 {
     if given {
-        *handed = bytes;
+        *last_read = bytes;
     }
 }

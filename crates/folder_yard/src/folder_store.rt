@@ -20,7 +20,7 @@ use tier_base::{Failed, ObjectKey, PartitionId, Row, Trouble, give};
 pub struct FolderStore<R: Files + AllocGlobal + Clone + Drop> {
     objects: Objects<R>,
     tally: Tally<StoreCall>,
-    handed: Bytes,
+    last_read: Bytes,
 }
 
 impl<R: Files + AllocGlobal + Clone + Drop> FolderStore<R> {
@@ -29,16 +29,16 @@ impl<R: Files + AllocGlobal + Clone + Drop> FolderStore<R> {
     pub fn open(rt: R, path: &str, partition: PartitionId) -> Result<FolderStore<R>, Trouble>
         ensures fresh { IfOk result (λ store. IsFresh (⟦<FolderStore<R> as Store>⟧.control store)) }
         ensures plan { IfOk result (λ store. (⟦<FolderStore<R> as Store>⟧.control store).plan ≡ []) }
-        ensures calm { IfOk result (λ store.
-            (⟦<FolderStore<R> as Store>⟧.control store).calm ≡ false) }
-        ensures ruled { IfOk result (λ store.
-            (⟦<FolderStore<R> as Store>⟧.control store).ruled ≡ false) }
+        ensures infallible { IfOk result (λ store.
+            (⟦<FolderStore<R> as Store>⟧.control store).infallible ≡ false) }
+        ensures scripted { IfOk result (λ store.
+            (⟦<FolderStore<R> as Store>⟧.control store).scripted ≡ false) }
     {
         let objects = told(Objects::open(rt, path, partition))?;
         Ok(FolderStore {
             objects,
             tally: Tally::new(),
-            handed: Bytes::new(),
+            last_read: Bytes::new(),
         })
     }
 
@@ -60,7 +60,7 @@ impl<R: Files + AllocGlobal + Clone + Drop> FolderStore<R> {
 impl<R: Files + AllocGlobal + Clone + Drop> Store for FolderStore<R> {
     ghost content = { λ s. nothing_told };
 
-    ghost control = { λ s. control_of call_code s.tally s.handed };
+    ghost control = { λ s. control_of call_code s.tally s.last_read };
 
     fn put(&mut self, key: &ObjectKey, bytes: &Bytes) -> Result<(), Trouble> {
         let outcome = done(self.objects.put(key, bytes.as_slice()));
@@ -75,7 +75,7 @@ impl<R: Files + AllocGlobal + Clone + Drop> Store for FolderStore<R> {
         let outcome = told(self.objects.get_part(key, at, most));
         let shared = share(&outcome)?;
         let answer = self.tally.note_any(StoreCall::Get, outcome);
-        hand(&mut self.handed, answer.is_ok(), shared);
+        hand(&mut self.last_read, answer.is_ok(), shared);
         answer
     }
 
@@ -93,5 +93,5 @@ impl<R: Files + AllocGlobal + Clone + Drop> Store for FolderStore<R> {
         self.tally.arm();
     }
 
-    ghost planned = { λ s. fails_as_planned call_code s.tally s.handed };
+    ghost planned = { λ s. fails_as_planned call_code s.tally s.last_read };
 }

@@ -1,7 +1,7 @@
 //! The partitions of a yard's folder in whose folders something stands.
 
 ghost use Rattle.std.specs.Prelude.{IfOk};
-ghost use Rattle.device_yard.specs.Held.{Rise};
+ghost use Rattle.device_yard.specs.YardContent.{Rise};
 
 use crate::listing::readable;
 use crate::partition_folder::{is_used, partition_of};

@@ -9,7 +9,7 @@
 ghost use Rattle.std.specs.Prelude.{◌≡◌, None, IfOk};
 ghost use Rattle.tier_base.specs.Device.{IsFresh};
 ghost use Rattle.device_yard.specs.Control as control;
-ghost use Rattle.device_yard.specs.Held.{Rise};
+ghost use Rattle.device_yard.specs.YardContent.{Rise};
 ghost use Rattle.folder_yard.specs.Yard.{nothing_held};
 
 use crate::first_name::first_name;
@@ -19,7 +19,7 @@ use crate::making::make_folder;
 use crate::partitions::partitions;
 use device_yard::{Came, ReadRegistry, Yard, YardCounts};
 use disk_model::Disk;
-use meta_file::{DiskLog, NotesRefusal};
+use meta_log_file::{DiskLog, NotesRefusal};
 use std::alloc::{AllocError, Global};
 use std::fs::{File, TryLockError};
 use std::io::{self, ErrorKind};
@@ -298,8 +298,13 @@ impl<R: Files<File = File> + AllocGlobal + Clone + Drop> Yard for FolderYard<R> 
             armed: disk.is_armed(),
         };
         let mut disk = disk;
-        let handed = disk.take_handed();
-        self.counts
-            .take_registry(came, ReadRegistry { partition, handed });
+        let last_read = disk.take_last_read();
+        self.counts.take_registry(
+            came,
+            ReadRegistry {
+                partition,
+                last_read,
+            },
+        );
     }
 }

@@ -33,7 +33,7 @@ fn settings() -> Settings
 /// Opens the log on a disk. A new disk has the empty log at offset 0.
 pub fn open<D: Disk>(alloc: Global, disk: D) -> Result<LocalLog<D>>
     ensures whole { IfOk result (λ log. log.broken ≡ false) }
-    ensures flushed { IfOk result (λ log. log.stable ≡ log.end) }
+    ensures flushed { IfOk result (λ log. log.flushed_end ≡ log.end) }
 {
     match LocalLog::open_at(alloc, disk, settings()) {
         Ok(log) => Ok(log),

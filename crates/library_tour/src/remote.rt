@@ -4,15 +4,15 @@ ghost use Rattle.std.specs.Prelude.{◌≡◌, IfOk, OnOk, IsTrue, slice_range};
 ghost use Rattle.remote_find.specs.Pieces.{covered_to};
 ghost use Rattle.segment_file.specs.declared.taking.Cutout.{Cutout};
 ghost use Rattle.segment_file.specs.Run.{IsRun};
-ghost use Rattle.local_log.specs.Dropping.{IsFirstStable, SpansFirst};
+ghost use Rattle.local_log.specs.Dropping.{IsFirstFlushed, SpansFirst};
 
 use anyhow::{Context, Result, bail, ensure};
 use bytes::Bytes;
 use copy_task::Copying;
 use disk_model::Disk;
 use local_log::LocalLog;
-use meta_file::DiskLog;
-use meta_log::{MetaLog, Teller};
+use meta_log::{EventOrigin, MetaLog};
+use meta_log_file::DiskLog;
 use object_store::{Store, get_spot, place};
 use remote_find::{Piece, covered_to, find};
 use remote_view::View;
@@ -26,7 +26,7 @@ use view_refresh::refresh;
 pub const PARTITION: PartitionId = PartitionId(0);
 
 /// The broker that copies, and the time of its events in milliseconds.
-const TELLER: Teller = Teller {
+const TELLER: EventOrigin = EventOrigin {
     broker: BrokerId(0),
     now: 1_700_000_000_000,
 };
@@ -127,7 +127,7 @@ impl<S: Store, M: MetaLog> Remote<S, M> {
     /// Drops the first local segment, if the tier has each of its offsets. Returns its first and its last offset.
     pub fn trim<L: Disk>(&mut self, log: &mut LocalLog<L>) -> Result<(u64, u64)>
         ensures span { IfOk result (λ span. SpansFirst log.old.closed span) }
-        ensures covered { OnOk result (IsFirstStable
+        ensures covered { OnOk result (IsFirstFlushed
             (covered_to self.new.view.entries log.old.line log.old.end log.old.local_start) log.old.closed) }
     {
         let covered = self.covered(log)?;
@@ -161,7 +161,7 @@ fn bundle_of<L: Disk>(alloc: Global, log: &LocalLog<L>, closed: &Closed) -> Resu
 
 /// Whether there is a first segment, and it ends at or below an offset.
 fn is_first_below(closed: &[Growing], offset: u64) -> bool
-    ensures { IsTrue result → IsFirstStable offset closed.now }
+    ensures { IsTrue result → IsFirstFlushed offset closed.now }
 {
     match closed {
         [first, ..] => first.end() <= offset,
@@ -172,7 +172,7 @@ fn is_first_below(closed: &[Growing], offset: u64) -> bool
 /// Drops the first local segment, if it is flushed and ends at or below an offset. Returns its first and its last offset.
 fn drop_below<L: Disk>(log: &mut LocalLog<L>, covered: u64) -> Result<(u64, u64)>
     ensures span { IfOk result (λ span. SpansFirst log.old.closed span) }
-    ensures covered { OnOk result (IsFirstStable covered log.old.closed) }
+    ensures covered { OnOk result (IsFirstFlushed covered log.old.closed) }
 {
     if log.is_broken() || !is_first_below(log.closed(), log.stable()) {
         bail!("the log is broken, or has no first segment that is flushed");

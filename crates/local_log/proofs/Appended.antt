@@ -59,7 +59,7 @@ all_placed line base n (b ∷ bs) c near low oks epochs =
     let up = end_above (last_of b + 1) bs c.1 in
     (record { is = oks.0; near = omega (arith, up, near); low = omega (arith, up, low); epoch = epochs.0 }, all_placed line base (last_of b + 1) bs c.1 near low oks.1 epochs.1)
 
-module _ (d d' : Content) (laws : Lawful d) (laws' : Lawful d') (incarnation local_start : ℕ) (closed : List Grown) (active : Grown) (line : List (ℕ × ℕ)) (stable : ℕ) (has : HasLog d incarnation local_start closed active line stable)
+module _ (d d' : Content) (laws : Lawful d) (laws' : Lawful d') (incarnation local_start : ℕ) (closed : List Grown) (active : Grown) (line : List (ℕ × ℕ)) (flushed_end : ℕ) (has : HasLog d incarnation local_start closed active line flushed_end)
     (more : List ℕ) (M : Bool → Type 0) (change : Changes (file.Log active.base) (appended more) MayGrow M d d') where
   abbrev pub segments : List Grown
   segments = closed ++ active ∷ []
@@ -67,18 +67,18 @@ module _ (d d' : Content) (laws : Lawful d) (laws' : Lawful d') (incarnation loc
   abbrev pub bytes : List ℕ
   bytes = manifest_bytes has.listed
 
-  told : IsTrue d'.tells → IsTrue d.tells
-  told t = subst IsTrue change.tells t
+  told : IsTrue d'.is_observable → IsTrue d.is_observable
+  told t = subst IsTrue change.is_observable t
 
-  pub appended_since : LeavesOnly d d' (OpensUpTo incarnation local_start stable (all_batches d.files segments) line)
+  pub appended_since : LeavesOnly d d' (OpensUpTo incarnation local_start flushed_end (all_batches d.files segments) line)
   appended_since =
-      leaves_weaker d d' _ _ (held_up d laws incarnation local_start closed active line stable has)
+      leaves_weaker d d' _ _ (held_up d laws incarnation local_start closed active line flushed_end has)
       (append_since d d' laws laws' bytes has.listed.segments (map extent_of closed) has.images (file.Log active.base) (manifest_other active.base) more M change)
 
   stands : Stands d' bytes has.listed.segments (map extent_of closed)
   stands = append_stands d d' laws laws' bytes has.listed.segments (map extent_of closed) has.images (file.Log active.base) (manifest_other active.base) more M change
 
-  read : IsTrue d.tells → IsRead has.listed d'.files has.opened
+  read : IsTrue d.is_observable → IsRead has.listed d'.files has.opened
   read t =
       let grown = files_grown d d' laws laws' bytes has.listed.segments (map extent_of closed) has.images (file.Log active.base) (manifest_other active.base) more M change t in
       let r = has.read t in
@@ -86,23 +86,23 @@ module _ (d d' : Content) (laws : Lawful d) (laws' : Lawful d') (incarnation loc
       (each_map (λ e w. grown_kept (file.Log active.base) d.files d'.files grown e w.long) has.listed.segments (segments_whole d.files has.listed.line has.listed.local_start has.listed.segments has.opened.batches r.batches)) r
 
   pub appended_reopens : Reopens d'
-  appended_reopens = stands_reopens d' laws' bytes has.listed (map extent_of closed) has.opened (reading d laws incarnation local_start closed active line stable has) stands (λ t. read (told t))
+  appended_reopens = stands_reopens d' laws' bytes has.listed (map extent_of closed) has.opened (reading d laws incarnation local_start closed active line flushed_end has) stands (λ t. read (told t))
 
   -- what memory knows of reads as before
-  pub appended_kept : IsTrue d.tells → all_batches d'.files segments ≡ all_batches d.files segments
+  pub appended_kept : IsTrue d.is_observable → all_batches d'.files segments ≡ all_batches d.files segments
   appended_kept t =
       let grown = files_grown d d' laws laws' bytes has.listed.segments (map extent_of closed) has.images (file.Log active.base) (manifest_other active.base) more M change t in
       all_kept d.files d'.files line segments (grown_kept (file.Log active.base) d.files d'.files grown) (has.stored t)
 
   -- it wasn't done
-  pub appended_dry : (M true → ⊥) → HasLog d' incarnation local_start closed active line stable
+  pub appended_dry : (M true → ⊥) → HasLog d' incarnation local_start closed active line flushed_end
   appended_dry not =
-      has_same d laws incarnation local_start closed active line stable has d' laws' change.tells (change.undone not)
+      has_same d laws incarnation local_start closed active line flushed_end has d' laws' change.is_observable (change.undone not)
       (λ t. undone_files (file.Log active.base) (appended more) M d.files d'.files not (change.files t))
 
   -- it was done, and what was appended are batches
   module _ (done : (b : Bool) → M b → IsTrue b) (taken : List (List ℕ)) (is : more ≡ joined taken) (oks : Each (λ (b : List ℕ). IsOk (checked b)) taken) (follow : IsConsecutive (end_of active) taken)
-      (are : AreSegmentsOf local_start closed active) (stable_low : stable ≤ end_of active)
+      (are : AreSegmentsOf local_start closed active) (flushed_end_low : flushed_end ≤ end_of active)
       (is_line : IsLine line) (lined_is : IsLined line (lined line taken) (end_of active) taken)
       (laid : IsLaidOut (grown_by active taken)) (low : end_of (grown_by active taken) ≤ 2 ^ 62) where
     abbrev pub active' : Grown
@@ -111,23 +111,23 @@ module _ (d d' : Content) (laws : Lawful d) (laws' : Lawful d') (incarnation loc
     abbrev pub line' : List (ℕ × ℕ)
     line' = lined line taken
 
-    written : IsTrue d.tells → d'.files (file.Log active.base) ≡ appended more (d.files (file.Log active.base))
+    written : IsTrue d.is_observable → d'.files (file.Log active.base) ≡ appended more (d.files (file.Log active.base))
     written t = let w = change.files t in w.2.there ∙ ap (λ (b : Bool). cond b (appended more (d.files (file.Log active.base))) (d.files (file.Log active.base))) (done w.0 w.1)
 
-    bytes_now : IsTrue d.tells → bytes_of d'.files active' ≡ bytes_of d.files active ++ joined taken
+    bytes_now : IsTrue d.is_observable → bytes_of d'.files active' ≡ bytes_of d.files active ++ joined taken
     bytes_now t = ap bytes_in (written t) ∙ ap (λ (l : List ℕ). bytes_of d.files active ++ l) is
 
-    other : IsTrue d.tells → (b : ℕ) → b ≢ active.base → d'.files (file.Log b) ≡ d.files (file.Log b)
+    other : IsTrue d.is_observable → (b : ℕ) → b ≢ active.base → d'.files (file.Log b) ≡ d.files (file.Log b)
     other t b ne = (change.files t).2.others (file.Log b) (log_differs b active.base ne)
 
     end_now : end_of active' ≡ end_from (end_of active) taken
     end_now = end_append active.base active.batches (placed_from (size_of active) taken) ∙ end_placed (end_of active) (size_of active) taken
 
-    old_stored : IsTrue d.tells → IsStored d.files line active
+    old_stored : IsTrue d.is_observable → IsStored d.files line active
     old_stored t = (each_right (IsStored d.files line) closed (active ∷ []) (has.stored t)).0
 
     -- the open segment
-    module _ (t : IsTrue d.tells) where
+    module _ (t : IsTrue d.is_observable) where
       old_batches : List (List ℕ)
       old_batches = (old_stored t).batches
 
@@ -179,10 +179,10 @@ module _ (d d' : Content) (laws : Lawful d) (laws' : Lawful d') (incarnation loc
           ∙ ap (λ (l : List (List ℕ)). l ++ taken) (sym (stored_batches d.files line active (old_stored t)))
 
     -- the closed ones are as before
-    closed_bytes : IsTrue d.tells → Each (λ (g : Grown). bytes_of d'.files g ≡ bytes_of d.files g) closed
+    closed_bytes : IsTrue d.is_observable → Each (λ (g : Grown). bytes_of d'.files g ≡ bytes_of d.files g) closed
     closed_bytes t = each_map (λ g lt. ap bytes_in (other t g.base (λ e. omega (arith, lt, e)))) closed (bases_below local_start closed active are.chained are.laid are.some)
 
-    closed_batches : IsTrue d.tells → all_batches d'.files closed ≡ all_batches d.files closed
+    closed_batches : IsTrue d.is_observable → all_batches d'.files closed ≡ all_batches d.files closed
     closed_batches t = all_each d.files d'.files closed (closed_bytes t)
 
     closed_ends : Each (λ (g : Grown). end_of g ≤ end_of active) closed
@@ -202,18 +202,18 @@ module _ (d d' : Content) (laws : Lawful d) (laws' : Lawful d') (incarnation loc
       };
     }
 
-    closed_stored : IsTrue d.tells → Each (IsStored d'.files line') closed
+    closed_stored : IsTrue d.is_observable → Each (IsStored d'.files line') closed
     closed_stored t =
         each_both (λ g same s. stored_same d.files d'.files line' g same s) closed (closed_bytes t)
         (each_both (λ g s le. store_by g s le) closed (each_left (IsStored d.files line) closed (active ∷ []) (has.stored t)) closed_ends)
 
-    all_consecutive : IsTrue d.tells → IsConsecutive local_start (all_batches d.files segments)
+    all_consecutive : IsTrue d.is_observable → IsConsecutive local_start (all_batches d.files segments)
     all_consecutive t = consecutive_segments d.files line local_start (map extent_of segments) (all_batches d.files segments) (stored_segments d.files line local_start segments are.chained (has.stored t))
 
-    all_ends : IsTrue d.tells → end_from local_start (all_batches d.files segments) ≡ end_of active
+    all_ends : IsTrue d.is_observable → end_from local_start (all_batches d.files segments) ≡ end_of active
     all_ends t = all_end d.files line local_start segments are.chained (has.stored t) ∙ chain_snoc local_start closed active
 
-    pub appended_batches : IsTrue d.tells → all_batches d'.files (closed ++ active' ∷ []) ≡ all_batches d.files segments ++ taken
+    pub appended_batches : IsTrue d.is_observable → all_batches d'.files (closed ++ active' ∷ []) ≡ all_batches d.files segments ++ taken
     appended_batches t =
         all_append d'.files closed (active' ∷ [])
         ∙ ap (λ (l : List (List ℕ)). l ++ (batches_of d'.files active' ++ [])) (closed_batches t)
@@ -233,14 +233,14 @@ module _ (d d' : Content) (laws : Lawful d) (laws' : Lawful d') (incarnation loc
       few = are.few;
     }
 
-    stable_same : IsTrue d.tells → up_to stable (all_batches d'.files (closed ++ active' ∷ [])) ≡ up_to stable (all_batches d.files segments)
-    stable_same t =
-        ap (up_to stable) (appended_batches t)
-        ∙ up_to_more local_start stable (all_batches d.files segments) taken
+    flushed_end_same : IsTrue d.is_observable → up_to flushed_end (all_batches d'.files (closed ++ active' ∷ [])) ≡ up_to flushed_end (all_batches d.files segments)
+    flushed_end_same t =
+        ap (up_to flushed_end) (appended_batches t)
+        ∙ up_to_more local_start flushed_end (all_batches d.files segments) taken
         (consecutive_append local_start (all_batches d.files segments) taken (all_consecutive t) (subst (λ (n : ℕ). IsConsecutive n taken) (sym (all_ends t)) follow))
-        (omega (arith, stable_low, all_ends t))
+        (omega (arith, flushed_end_low, all_ends t))
 
-    pub appended_has : HasLog d' incarnation local_start closed active' line' stable
+    pub appended_has : HasLog d' incarnation local_start closed active' line' flushed_end
     appended_has = record {
       listed = has.listed;
       opened = has.opened;
@@ -251,15 +251,15 @@ module _ (d d' : Content) (laws : Lawful d) (laws' : Lawful d') (incarnation loc
       incarnation_is = has.incarnation_is;
       start_is = has.start_is;
       end_is = λ t. has.end_is (told t);
-      batches_are = λ t. has.batches_are (told t) ∙ sym (stable_same (told t));
+      batches_are = λ t. has.batches_are (told t) ∙ sym (flushed_end_same (told t));
       line_is =
           has.line_is
-          ∙ sym (cut_cut line (end_of active) stable stable_low)
-          ∙ ap (λ (l : List (ℕ × ℕ)). cut_end l stable) (sym lined_is.same)
-          ∙ cut_cut line' (end_of active) stable stable_low;
+          ∙ sym (cut_cut line (end_of active) flushed_end flushed_end_low)
+          ∙ ap (λ (l : List (ℕ × ℕ)). cut_end l flushed_end) (sym lined_is.same)
+          ∙ cut_cut line' (end_of active) flushed_end flushed_end_low;
       stored = λ t. each_join (IsStored d'.files line') closed (active' ∷ []) (closed_stored (told t)) (stored_now (told t), tt);
       exact = λ t. sym (size_all (told t));
-      lists = listed_last stable has.listed.segments closed active active' refl (ap (λ (l : List Placed). extent_of (record active { batches = l })) (ending_more active.base 0 stable active.batches (placed_from (size_of active) taken) laid.laid stable_low)) has.lists;
+      lists = listed_last flushed_end has.listed.segments closed active active' refl (ap (λ (l : List Placed). extent_of (record active { batches = l })) (ending_more active.base 0 flushed_end active.batches (placed_from (size_of active) taken) laid.laid flushed_end_low)) has.lists;
       clear = λ t b unlisted. (
           let last = (each_right (λ (g : Grown). b ≢ g.base) closed (active' ∷ []) unlisted).0 in
           other (told t) b last

@@ -8,6 +8,6 @@ use Rattle.local_log.specs.Log.{Log, Becomes}
 module _ {D : Type 0} where
   -- a log of these fields
   pub becomes_by : (content : D → Content) (then new : Log D) → new.settings ≡ then.settings → new.incarnation ≡ then.incarnation → new.local_start ≡ then.local_start
-      → new.end ≡ then.end → new.stable ≡ then.stable → new.line ≡ then.line → new.closed ≡ then.closed → new.active ≡ then.active → new.broken ≡ then.broken
-      → (content new.disk).tells ≡ (content then.disk).tells → (IsTrue (content then.disk).tells → new.batches ≡ then.batches) → Becomes content then new
-  becomes_by content then new s i l e st ln cl ac br tells batches = record { fields = rw (← s, ← i, ← l, ← e, ← st, ← ln, ← cl, ← ac, ← br) refl; tells = tells; batches = batches }
+      → new.end ≡ then.end → new.flushed_end ≡ then.flushed_end → new.line ≡ then.line → new.closed ≡ then.closed → new.active ≡ then.active → new.broken ≡ then.broken
+      → (content new.disk).is_observable ≡ (content then.disk).is_observable → (IsTrue (content then.disk).is_observable → new.batches ≡ then.batches) → Becomes content then new
+  becomes_by content then new s i l e st ln cl ac br is_observable batches = record { fields = rw (← s, ← i, ← l, ← e, ← st, ← ln, ← cl, ← ac, ← br) refl; is_observable = is_observable; batches = batches }

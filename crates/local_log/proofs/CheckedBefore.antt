@@ -41,7 +41,7 @@ pub record CheckedAt (run : List ℕ) (at : ℕ) (head : Head) : Type 0 where
   pub batch : List ℕ
   pub is : IsOk (checked batch)
   pub parts : drop at run ≡ batch ++ drop (at + size_in head) run
-  pub tells : Tells batch head
+  pub is_observable : Tells batch head
   pub inside : at + size_in head ≤ length run
   pub rest : AreChecked (drop (at + size_in head) run)
 
@@ -64,7 +64,7 @@ module _ (run : List ℕ) (at : ℕ) (inside : at < length run) (a : AreChecked 
         batch = first.batch;
         is = first.is;
         parts = first.parts ∙ ap (λ (l : List ℕ). first.batch ++ l) (sym behind);
-        tells = t;
+        is_observable = t;
         inside = omega (arith, all, size, t.size, inside);
         rest = subst AreChecked (sym behind) first.rest;
       }

@@ -1,4 +1,4 @@
--- A closed segment over a disk that tells is a part of the log.
+-- A closed segment over an observable disk is a part of the log.
 use Rattle.std.proofs.Common.{◌≡◌, ◌≢◌, ◌⊎◌, ◌∙◌, ap, sym, refl, subst, inl, inr, ℕ, ◌+◌, ◌^◌, ◌<◌, ◌≤◌, nat_lt, nat_le, Bool, true, false, List, [], ◌∷◌, ◌++◌, length, take, Option, Some, IsOk, IsTrue, arith, append_assoc}
 use Rattle.std.specs.List.{AllByRecursion}
 use Rattle.std.specs.Prelude.{unwrap_or}
@@ -156,7 +156,7 @@ found_holder offset closed active g found = ap (λ (o : Option Grown). unwrap_or
 not_none : (batches : List (List ℕ)) → 0 < length (joined batches) → batches ≢ []
 not_none batches some e = let n = ap (λ (l : List (List ℕ)). length (joined l)) e in omega (arith, n, some)
 
-module _ {D : Type 0} (content : D → Content) (s : Inside D) (sound : IsSound content s) (unbroken : s.broken ≡ false) (t : IsTrue (content s.disk).tells) (offset : ℕ) (found : Grown) (is : first_past offset s.closed.items ≡ Some found) where
+module _ {D : Type 0} (content : D → Content) (s : Inside D) (sound : IsSound content s) (unbroken : s.broken ≡ false) (t : IsTrue (content s.disk).is_observable) (offset : ℕ) (found : Grown) (is : first_past offset s.closed.items ≡ Some found) where
   abbrev pub f : Files
   f = (content s.disk).files
 

@@ -50,7 +50,7 @@ held f line start (g ∷ segments) chained each =
     let s = each.0 in
     (s.batches, all_batches f segments, ap (λ (l : List (List ℕ)). l ++ all_batches f segments) (stored_batches f line g s), chained.0, s.placed, held f line (end_of g) segments chained.1 each.1)
 
-module _ {D : Type 0} (content : D → Content) (s : Inside D) (sound : IsSound content s) (unbroken : s.broken ≡ false) (t : IsTrue (content s.disk).tells) where
+module _ {D : Type 0} (content : D → Content) (s : Inside D) (sound : IsSound content s) (unbroken : s.broken ≡ false) (t : IsTrue (content s.disk).is_observable) where
   abbrev pub segments : List Grown
   segments = s.closed.items ++ s.active ∷ []
 
@@ -64,7 +64,7 @@ module _ {D : Type 0} (content : D → Content) (s : Inside D) (sound : IsSound 
       record {
         consecutive = consecutive_segments f s.line s.local_start (map extent_of segments) (all_batches f segments) (stored_segments f s.line s.local_start segments are.chained each);
         ends = all_end f s.line s.local_start segments are.chained each ∙ chain_snoc s.local_start s.closed.items s.active;
-        stable_within = sound.stable_within;
+        flushed_end_within = sound.flushed_end_within;
         line_within = cut_within s.line (end_of s.active) sound.line_within;
         cuts = λ n le. ap (λ (g : Grown). begin_of g n) (open_holds n s.closed.items s.active) ∙ sym (edge_told content s sound unbroken t n le);
         segments = held f s.line s.local_start segments are.chained each;

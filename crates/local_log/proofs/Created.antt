@@ -106,9 +106,9 @@ module _ (d d' : Content) (interval : ℕ) (M : Bool → Type 0) (change : Chang
         );
   }
 
-  module _ (laws' : Lawful d') (empty : IsTrue d.tells → (n : FileName) → d.files n ≡ None) (sure : (c : Files) → Image d' c → c file.Manifest ≡ Some bytes) where
-    none_now : IsTrue d'.tells → (b : ℕ) → d'.files (file.Log b) ≡ None
-    none_now t b = let told = subst IsTrue change.tells t in (change.files told).2.others (file.Log b) (log_no_manifest b) ∙ empty told (file.Log b)
+  module _ (laws' : Lawful d') (empty : IsTrue d.is_observable → (n : FileName) → d.files n ≡ None) (sure : (c : Files) → Image d' c → c file.Manifest ≡ Some bytes) where
+    none_now : IsTrue d'.is_observable → (b : ℕ) → d'.files (file.Log b) ≡ None
+    none_now t b = let told = subst IsTrue change.is_observable t in (change.files told).2.others (file.Log b) (log_no_manifest b) ∙ empty told (file.Log b)
 
     pub create_has : HasLog d' 1 0 [] (first interval) [] 0
     create_has = record {

@@ -23,7 +23,7 @@ use Rattle.log_steps.specs.Fronts.{Each}
 use Rattle.log_steps.proofs.Lists.{each_right}
 use Rattle.local_log.specs.Stored.{size_of, end_of}
 use Rattle.local_log.specs.Listing.{IsLaidOut}
-use Rattle.local_log.specs.Run.{IsRun, rolls_before, taking, begun, lined, is_last}
+use Rattle.local_log.specs.Run.{IsRun, rolls_before, taking, snapshot, lined, is_last}
 use Rattle.local_log.specs.Taking.{head_asks, AsksOf, line_or, grown_by, IsGathering, IsTakenIn}
 use Rattle.local_log.specs.declared.run.Asked.{Asked}
 use Rattle.local_log.proofs.Pieces.{joined_append, size_placed, end_placed, placed_append}
@@ -44,18 +44,18 @@ eq_of a b line None is true e = absurd (cc (e))
 eq_of a b line (Some x) is true e = let same : x ≡ b = grind (arith, nat_tests, e) in is ∙ ap (λ (n : ℕ). Some n) same
 
 -- the epoch has begun
-pub begun_last : (line : List (ℕ × ℕ)) (epoch start : ℕ) → last_epoch (begun line epoch start) ≡ Some epoch
+pub begun_last : (line : List (ℕ × ℕ)) (epoch start : ℕ) → last_epoch (snapshot line epoch start) ≡ Some epoch
 begun_last line epoch start = eq_of start epoch line (last_epoch line) refl (is_last (last_epoch line) epoch) refl
 
-pub lined_snoc : (line : List (ℕ × ℕ)) (bs : List (List ℕ)) (b : List ℕ) → lined line (bs ++ b ∷ []) ≡ begun (lined line bs) (epoch_of b) (base_of b)
+pub lined_snoc : (line : List (ℕ × ℕ)) (bs : List (List ℕ)) (b : List ℕ) → lined line (bs ++ b ∷ []) ≡ snapshot (lined line bs) (epoch_of b) (base_of b)
 lined_snoc line [] b = refl
-lined_snoc line (x ∷ bs) b = lined_snoc (begun line (epoch_of x) (base_of x)) bs b
+lined_snoc line (x ∷ bs) b = lined_snoc (snapshot line (epoch_of x) (base_of x)) bs b
 
 -- the epochs behind the front don't fall
 pub lined_rise : (line : List (ℕ × ℕ)) (front rest : List (List ℕ)) → EpochsRise (unwrap_or (last_epoch line) 0) (front ++ rest) → EpochsRise (unwrap_or (last_epoch (lined line front)) 0) rest
 lined_rise line [] rest h = h
 lined_rise line (b ∷ front) rest h =
-    lined_rise (begun line (epoch_of b) (base_of b)) front rest
+    lined_rise (snapshot line (epoch_of b) (base_of b)) front rest
     (subst (λ (o : Option ℕ). EpochsRise (unwrap_or o 0) (front ++ rest)) (sym (begun_last line (epoch_of b) (base_of b))) h.2)
 
 or_false : (a b : Bool) → (a || b) ≡ false → (a ≡ false) × (b ≡ false)
@@ -188,7 +188,7 @@ module _ (old : Grown) (line : List (ℕ × ℕ)) (run : List ℕ) (most at : �
 
         module _ (test : (rolls_before most segment.base (size_of segment) (length k.batch) (last_of k.batch) || nat_le (2 ^ 62) (last_of k.batch)) ≡ false)
             (new : Grown) (pushed : new ≡ with_batch segment (placed_in (size_of segment) head))
-            (next : Option (List (ℕ × ℕ))) (entered : line_or line next ≡ begun (line_or line newer) (epoch_of k.batch) (base_of k.batch)) where
+            (next : Option (List (ℕ × ℕ))) (entered : line_or line next ≡ snapshot (line_or line newer) (epoch_of k.batch) (base_of k.batch)) where
           front' : List (List ℕ)
           front' = g.front ++ k.batch ∷ []
 
@@ -233,7 +233,7 @@ module _ (old : Grown) (line : List (ℕ × ℕ)) (run : List ℕ) (most at : �
             segment_is = grown_more;
             line_is =
                 entered
-                ∙ ap (λ (l : List (ℕ × ℕ)). begun l (epoch_of k.batch) (base_of k.batch)) g.line_is
+                ∙ ap (λ (l : List (ℕ × ℕ)). snapshot l (epoch_of k.batch) (base_of k.batch)) g.line_is
                 ∙ sym (lined_snoc line g.front k.batch);
           }
             where

@@ -36,12 +36,12 @@ use Rattle.local_log.proofs.Listings.{listed_more, listed_all, end_unlisted}
 
 -- an image opens as the log up to an end
 abbrev pub OpensUpTo : ℕ → ℕ → ℕ → List (List ℕ) → List (ℕ × ℕ) → Files → Type 0
-OpensUpTo incarnation local_start stable batches line c = (o : Opened) × Opens c o × IsUpTo incarnation local_start stable batches line o
+OpensUpTo incarnation local_start flushed_end batches line c = (o : Opened) × Opens c o × IsUpTo incarnation local_start flushed_end batches line o
 
 read_same : (f h : Files) (m : Manifest) (o : Opened) → ((n : FileName) → h n ≡ f n) → IsRead m f o → IsRead m h o
 read_same f h m o same r = record { incarnation = r.incarnation; local_start = r.local_start; batches = segments_like h f same m.line m.local_start m.segments o.batches r.batches; line = r.line }
 
-module _ (d : Content) (laws : Lawful d) (incarnation local_start : ℕ) (closed : List Grown) (active : Grown) (line : List (ℕ × ℕ)) (stable : ℕ) (has : HasLog d incarnation local_start closed active line stable) where
+module _ (d : Content) (laws : Lawful d) (incarnation local_start : ℕ) (closed : List Grown) (active : Grown) (line : List (ℕ × ℕ)) (flushed_end : ℕ) (has : HasLog d incarnation local_start closed active line flushed_end) where
   abbrev pub segments : List Grown
   segments = closed ++ active ∷ []
 
@@ -51,7 +51,7 @@ module _ (d : Content) (laws : Lawful d) (incarnation local_start : ℕ) (closed
   pub reading : manifest_in bytes ≡ Ok has.listed
   reading = manifest_again has.listed has.rules has.fits
 
-  pub held_up : (c : Files) → IsTrue d.tells × Holds c d.files bytes has.listed.segments (map extent_of closed) → OpensUpTo incarnation local_start stable (all_batches d.files segments) line c
+  pub held_up : (c : Files) → IsTrue d.is_observable × Holds c d.files bytes has.listed.segments (map extent_of closed) → OpensUpTo incarnation local_start flushed_end (all_batches d.files segments) line c
   held_up c h = (
     has.opened,
     held_opens c d.files bytes has.listed (map extent_of closed) has.opened reading h.1 (has.read h.0),
@@ -59,48 +59,48 @@ module _ (d : Content) (laws : Lawful d) (incarnation local_start : ℕ) (closed
   )
 
   -- what has the manifest and the fronts that it lists opens as the files do
-  pub listed_as : (c : Files) → IsTrue d.tells → c file.Manifest ≡ Some bytes → Each (Agrees c d.files) has.listed.segments → OpensAs d c
+  pub listed_as : (c : Files) → IsTrue d.is_observable → c file.Manifest ≡ Some bytes → Each (Agrees c d.files) has.listed.segments → OpensAs d c
   listed_as c t there fronts = (
     d.files,
     laws.reads t,
     λ o opens. opens_as c d.files bytes has.listed o there reading fronts (opened_by d.files bytes has.listed o (has.images d.files (laws.reads t)).manifest reading opens),
   )
 
-  pub held_as : (c : Files) → IsTrue d.tells × Holds c d.files bytes has.listed.segments (map extent_of closed) → OpensAs d c
+  pub held_as : (c : Files) → IsTrue d.is_observable × Holds c d.files bytes has.listed.segments (map extent_of closed) → OpensAs d c
   held_as c h = listed_as c h.0 h.1.manifest h.1.listed_fronts
 
-  pub image_opens : (c : Files) → Image d c → OpensUpTo incarnation local_start stable (all_batches d.files segments) line c
+  pub image_opens : (c : Files) → Image d c → OpensUpTo incarnation local_start flushed_end (all_batches d.files segments) line c
   image_opens c now = held_up c (laws.told c now, has.images c now)
 
   pub has_reopens : Reopens d
   has_reopens = stands_reopens d laws bytes has.listed (map extent_of closed) has.opened reading has.images has.read
 
-  pub start_since : LeavesOnly d d (OpensUpTo incarnation local_start stable (all_batches d.files segments) line)
+  pub start_since : LeavesOnly d d (OpensUpTo incarnation local_start flushed_end (all_batches d.files segments) line)
   start_since =
-      leaves_weaker d d (λ c. IsTrue d.tells × Holds c d.files bytes has.listed.segments (map extent_of closed)) _ held_up
+      leaves_weaker d d (λ c. IsTrue d.is_observable × Holds c d.files bytes has.listed.segments (map extent_of closed)) _ held_up
       (stands_since d d laws laws bytes has.listed.segments (map extent_of closed) has.images)
 
   module _ (d' : Content) (laws' : Lawful d') where
     -- a call that leaves the files and makes no image
-    module _ (tells : d'.tells ≡ d.tells) (fewer : (c : Files) → Image d' c → Image d c) (same : IsTrue d.tells → (n : FileName) → d'.files n ≡ d.files n) where
-      told : IsTrue d'.tells → IsTrue d.tells
-      told t = subst IsTrue tells t
+    module _ (is_observable : d'.is_observable ≡ d.is_observable) (fewer : (c : Files) → Image d' c → Image d c) (same : IsTrue d.is_observable → (n : FileName) → d'.files n ≡ d.files n) where
+      told : IsTrue d'.is_observable → IsTrue d.is_observable
+      told t = subst IsTrue is_observable t
 
-      pub batches_same : IsTrue d.tells → (gs : List Grown) → all_batches d'.files gs ≡ all_batches d.files gs
+      pub batches_same : IsTrue d.is_observable → (gs : List Grown) → all_batches d'.files gs ≡ all_batches d.files gs
       batches_same t gs = all_same d.files d'.files gs (λ g. ap bytes_in (same t (file.Log g.base)))
 
-      pub has_same : HasLog d' incarnation local_start closed active line stable
+      pub has_same : HasLog d' incarnation local_start closed active line flushed_end
       has_same = record {
         listed = has.listed;
         opened = has.opened;
         rules = has.rules;
         fits = has.fits;
-        images = same_stands d d' laws laws' bytes has.listed.segments (map extent_of closed) has.images tells fewer same;
+        images = same_stands d d' laws laws' bytes has.listed.segments (map extent_of closed) has.images is_observable fewer same;
         read = λ t. read_same d.files d'.files has.listed has.opened (same (told t)) (has.read (told t));
         incarnation_is = has.incarnation_is;
         start_is = has.start_is;
         end_is = λ t. has.end_is (told t);
-        batches_are = λ t. has.batches_are (told t) ∙ ap (up_to stable) (sym (batches_same (told t) segments));
+        batches_are = λ t. has.batches_are (told t) ∙ ap (up_to flushed_end) (sym (batches_same (told t) segments));
         line_is = has.line_is;
         stored = λ t. each_map (λ g s. stored_same d.files d'.files line g (ap bytes_in (same (told t) (file.Log g.base))) s) segments (has.stored (told t));
         exact = λ t. ap (λ (o : Option (List ℕ)). length (bytes_in o)) (same (told t) (file.Log active.base)) ∙ has.exact (told t);
@@ -109,29 +109,29 @@ module _ (d : Content) (laws : Lawful d) (incarnation local_start : ℕ) (closed
       }
 
     module _ (k : Keeps d d') where
-      pub has_kept : HasLog d' incarnation local_start closed active line stable
-      has_kept = has_same k.tells k.images (λ t n. k.files n)
+      pub has_kept : HasLog d' incarnation local_start closed active line flushed_end
+      has_kept = has_same k.is_observable k.images (λ t n. k.files n)
 
       pub kept_batches : (gs : List Grown) → all_batches d'.files gs ≡ all_batches d.files gs
       kept_batches gs = all_same d.files d'.files gs (λ g. ap bytes_in (k.files (file.Log g.base)))
 
-      pub kept_since : LeavesOnly d d' (OpensUpTo incarnation local_start stable (all_batches d.files segments) line)
+      pub kept_since : LeavesOnly d d' (OpensUpTo incarnation local_start flushed_end (all_batches d.files segments) line)
       kept_since =
-          leaves_weaker d d' (λ c. IsTrue d.tells × Holds c d.files bytes has.listed.segments (map extent_of closed)) _ held_up
+          leaves_weaker d d' (λ c. IsTrue d.is_observable × Holds c d.files bytes has.listed.segments (map extent_of closed)) _ held_up
           (keeps_since d d' laws laws' bytes has.listed.segments (map extent_of closed) has.images k)
 
       -- the open segment is synced and closed
-      module _ (interval : ℕ) (are : AreSegmentsOf local_start closed active) (some : 0 < size_of active) (low : stable ≤ end_of active) (synced : (c : Files) → Image d' c → Begins (d.files (file.Log active.base)) (c (file.Log active.base))) where
+      module _ (interval : ℕ) (are : AreSegmentsOf local_start closed active) (some : 0 < size_of active) (low : flushed_end ≤ end_of active) (synced : (c : Files) → Image d' c → Begins (d.files (file.Log active.base)) (c (file.Log active.base))) where
         abbrev pub next : Grown
         next = record { base = end_of active; interval = interval; batches = [] }
 
-        told_k : IsTrue d'.tells → IsTrue d.tells
-        told_k t = subst IsTrue k.tells t
+        told_k : IsTrue d'.is_observable → IsTrue d.is_observable
+        told_k t = subst IsTrue k.is_observable t
 
         pub rolled_batches : all_batches d'.files (segments ++ next ∷ []) ≡ all_batches d.files segments
         rolled_batches = all_append d'.files segments (next ∷ []) ∙ append-nil (all_batches d'.files segments) ∙ kept_batches segments
 
-        pub has_rolled : HasLog d' incarnation local_start segments next line stable
+        pub has_rolled : HasLog d' incarnation local_start segments next line flushed_end
         unfolding has_kept has_same
         has_rolled = record {
           listed = has.listed;
@@ -144,7 +144,7 @@ module _ (d : Content) (laws : Lawful d) (incarnation local_start : ℕ) (closed
           incarnation_is = has.incarnation_is;
           start_is = has.start_is;
           end_is = has_kept.end_is;
-          batches_are = λ t. has.batches_are (told_k t) ∙ ap (up_to stable) (sym rolled_batches);
+          batches_are = λ t. has.batches_are (told_k t) ∙ ap (up_to flushed_end) (sym rolled_batches);
           line_is = has.line_is;
           stored = λ t. each_join (IsStored d'.files line) segments (next ∷ []) (has_kept.stored t) (
             record {
@@ -155,7 +155,7 @@ module _ (d : Content) (laws : Lawful d) (incarnation local_start : ℕ) (closed
             tt,
           );
           exact = λ t. ap (λ (o : Option (List ℕ)). length (bytes_in o)) (has_kept.clear t (end_of active) (end_unlisted local_start closed active are some));
-          lists = listed_more stable has.listed.segments segments next low has.lists;
+          lists = listed_more flushed_end has.listed.segments segments next low has.lists;
           clear = λ t b other. has_kept.clear t b (each_left (λ (g : Grown). b ≢ g.base) segments (next ∷ []) other);
         }
 
@@ -174,10 +174,10 @@ module _ (d : Content) (laws : Lawful d) (incarnation local_start : ℕ) (closed
       rules : manifest_in (manifest_bytes all) ≡ Ok all
       rules = manifest_again all (rules_of incarnation local_start closed active other opened are is') fits
 
-      whole_end : IsTrue d.tells → end_from local_start whole ≡ end_of active
+      whole_end : IsTrue d.is_observable → end_from local_start whole ≡ end_of active
       whole_end t = all_end d.files line local_start segments are.chained (has.stored t) ∙ chain_snoc local_start closed active
 
-      stored_other : IsTrue d.tells → Each (IsStored d.files other) segments
+      stored_other : IsTrue d.is_observable → Each (IsStored d.files other) segments
       stored_other t =
           each_both (λ g s le. store_by g s le) segments (has.stored t)
           (subst (λ (n : ℕ). Each (λ g. end_of g ≤ n) segments) (chain_snoc local_start closed active) (chain_up local_start segments are.chained (each_join IsLaidOut closed (active ∷ []) are.laid (are.active_laid, tt))))
@@ -194,7 +194,7 @@ module _ (d : Content) (laws : Lawful d) (incarnation local_start : ℕ) (closed
             };
           }
 
-      read_whole : IsTrue d.tells → IsRead all d.files now_open
+      read_whole : IsTrue d.is_observable → IsRead all d.files now_open
       read_whole t = record {
         incarnation = refl;
         local_start = refl;
@@ -205,13 +205,13 @@ module _ (d : Content) (laws : Lawful d) (incarnation local_start : ℕ) (closed
       lists : (c : Files) → Each (Agrees c d.files) (map extent_of closed) → Agrees c d.files (extent_of active) → Each (Agrees c d.files) (map extent_of segments)
       lists c a b = subst (Each (Agrees c d.files)) (sym (map-append extent_of closed (active ∷ []))) (each_join (Agrees c d.files) (map extent_of closed) (extent_of active ∷ []) a (b, tt))
 
-      long : IsTrue d.tells → size_of active ≤ length (bytes_of d.files active)
+      long : IsTrue d.is_observable → size_of active ≤ length (bytes_of d.files active)
       long t = omega (arith, has.exact t)
 
-      told_p : IsTrue d'.tells → IsTrue d.tells
-      told_p t = subst IsTrue change.tells t
+      told_p : IsTrue d'.is_observable → IsTrue d.is_observable
+      told_p t = subst IsTrue change.is_observable t
 
-      after_up : (c : Files) → IsTrue d.tells × Holds c d.files (manifest_bytes all) (map extent_of segments) (map extent_of closed) → OpensUpTo incarnation local_start (end_of active) whole other c
+      after_up : (c : Files) → IsTrue d.is_observable × Holds c d.files (manifest_bytes all) (map extent_of segments) (map extent_of closed) → OpensUpTo incarnation local_start (end_of active) whole other c
       after_up c h =
           let up = up_to_all local_start whole (consecutive_segments d.files other local_start (map extent_of segments) whole (read_whole h.0).batches) in (
             now_open,
@@ -224,7 +224,7 @@ module _ (d : Content) (laws : Lawful d) (incarnation local_start : ℕ) (closed
             },
           )
 
-      pub published_since : LeavesOnly d d' (λ c. OpensUpTo incarnation local_start stable whole line c ⊎ OpensUpTo incarnation local_start (end_of active) whole other c)
+      pub published_since : LeavesOnly d d' (λ c. OpensUpTo incarnation local_start flushed_end whole line c ⊎ OpensUpTo incarnation local_start (end_of active) whole other c)
       published_since =
           leaves_weaker d d' _ _
           (λ c h. ⊎_elim (λ a. inl (held_up c (h.0, a))) (λ b. inr (after_up c (h.0, b))) h.1)
@@ -234,7 +234,7 @@ module _ (d : Content) (laws : Lawful d) (incarnation local_start : ℕ) (closed
       abbrev pub all_open : Opened
       all_open = record { incarnation = incarnation; local_start = local_start; batches = up_to (end_of active) whole; line = cut_end other (end_of active + 1) }
 
-      after_opens : (c : Files) → IsTrue d.tells × Holds c d.files (manifest_bytes all) (map extent_of segments) (map extent_of closed) → Opens c all_open
+      after_opens : (c : Files) → IsTrue d.is_observable × Holds c d.files (manifest_bytes all) (map extent_of segments) (map extent_of closed) → Opens c all_open
       after_opens c h =
           let up = up_to_all local_start whole (consecutive_segments d.files other local_start (map extent_of segments) whole (read_whole h.0).batches) in
           subst (λ (l : List (List ℕ)). Opens c (record { incarnation = incarnation; local_start = local_start; batches = l; line = cut_end other (end_of active + 1) })) (sym up ∙ ap (λ (n : ℕ). up_to n whole) (whole_end h.0))
@@ -246,22 +246,22 @@ module _ (d : Content) (laws : Lawful d) (incarnation local_start : ℕ) (closed
           (λ c h. ⊎_elim (λ a. inl (held_as c (h.0, a))) (λ b. inr (after_opens c (h.0, b))) h.1)
           (publish_since d d' laws laws' bytes has.listed.segments (map extent_of closed) has.images (extent_of active) long (manifest_bytes all) (map extent_of segments) lists fate change)
 
-      published_files : IsTrue d.tells → (b : ℕ) → d'.files (file.Log b) ≡ d.files (file.Log b)
+      published_files : IsTrue d.is_observable → (b : ℕ) → d'.files (file.Log b) ≡ d.files (file.Log b)
       published_files t b = change.files t (file.Log b) (log_no_manifest b)
 
-      pub published_batches : IsTrue d.tells → (gs : List Grown) → all_batches d'.files gs ≡ all_batches d.files gs
+      pub published_batches : IsTrue d.is_observable → (gs : List Grown) → all_batches d'.files gs ≡ all_batches d.files gs
       published_batches t gs = all_same d.files d'.files gs (λ g. ap bytes_in (published_files t g.base))
 
       abbrev pub open_after : Opened
       open_after = record { incarnation = incarnation; local_start = local_start; batches = all_batches d'.files segments; line = cut_end other (end_of active + 1) }
 
-      stored_after : IsTrue d.tells → Each (IsStored d'.files other) segments
+      stored_after : IsTrue d.is_observable → Each (IsStored d'.files other) segments
       stored_after t = each_map (λ g s. stored_same d.files d'.files other g (ap bytes_in (published_files t g.base)) s) segments (stored_other t)
 
-      end_after_it : IsTrue d.tells → end_from local_start (all_batches d'.files segments) ≡ end_of active
+      end_after_it : IsTrue d.is_observable → end_from local_start (all_batches d'.files segments) ≡ end_of active
       end_after_it t = ap (λ (l : List (List ℕ)). end_from local_start l) (published_batches t segments) ∙ whole_end t
 
-      read_after : IsTrue d.tells → IsRead all d'.files open_after
+      read_after : IsTrue d.is_observable → IsRead all d'.files open_after
       read_after t = record {
         incarnation = refl;
         local_start = refl;
@@ -269,7 +269,7 @@ module _ (d : Content) (laws : Lawful d) (incarnation local_start : ℕ) (closed
         line = ap (λ (n : ℕ). cut_end other (n + 1)) (sym (end_after_it t));
       }
 
-      batches_after : IsTrue d.tells → all_batches d'.files segments ≡ up_to (end_of active) (all_batches d'.files segments)
+      batches_after : IsTrue d.is_observable → all_batches d'.files segments ≡ up_to (end_of active) (all_batches d'.files segments)
       batches_after t =
           sym (up_to_all local_start (all_batches d'.files segments) (consecutive_segments d'.files other local_start (map extent_of segments) (all_batches d'.files segments) (read_after t).batches))
           ∙ ap (λ (n : ℕ). up_to n (all_batches d'.files segments)) (end_after_it t)
@@ -325,5 +325,5 @@ module _ (d : Content) (laws : Lawful d) (incarnation local_start : ℕ) (closed
           (held_opens c d'.files (manifest_bytes all) all (map extent_of closed) open_after rules (stands_after went c now) (read_after t))
 
       -- the call found no memory
-      pub published_dry : fate ≡ Dry → HasLog d' incarnation local_start closed active line stable
-      published_dry is = has_same change.tells (change.dry is) (change.dry_files is)
+      pub published_dry : fate ≡ Dry → HasLog d' incarnation local_start closed active line flushed_end
+      published_dry is = has_same change.is_observable (change.dry is) (change.dry_files is)

@@ -11,7 +11,7 @@ use Rattle.record_batch.proofs.Passing.{is_batch_of}
 use Rattle.segment_file.specs.Gathering.{Tells}
 use Rattle.segment_file.proofs.Finding.{drop_append, length_drop, headed_front}
 use Rattle.segment_file.proofs.Standing.{AreBytes, front_bytes}
-use Rattle.segment_file.proofs.Telling.{tells}
+use Rattle.segment_file.proofs.Telling.{is_observable}
 use Rattle.log_terms.specs.Log.{joined, IsConsecutive}
 use Rattle.log_steps.specs.Fronts.{Each}
 use Rattle.local_log.specs.Run.{IsRun, first_size}
@@ -65,7 +65,7 @@ last_front batch more long = rw (field_front w64 0 batch more (omega (arith, lon
 pub front_tells : (batch more : List ℕ) (head : Head) → AreBytes (batch ++ more) → IsOk (checked batch) → headed (batch ++ more) ≡ Ok head → Tells batch head
 front_tells batch more head clean ok e =
     let same : head_of batch ≡ head = cc (headed_batch batch more ok, e) in
-    subst (Tells batch) same (tells batch (front_bytes batch more clean) ok)
+    subst (Tells batch) same (is_observable batch (front_bytes batch more clean) ok)
 
 pub asks : (batch : List ℕ) (head : Head) → Tells batch head → AsksOf batch (head_asks head)
 asks batch head t = record { base = t.base; last = rw (t.base, t.delta) refl; size = t.size; epoch = t.epoch }

@@ -7,19 +7,19 @@ use Rattle.disk_model.specs.Content.{Content, Lawful, Keeps}
 -- none of them
 pub keeps_none : (d : Content) → Keeps d d
 keeps_none d = record {
-  tells = refl;
+  is_observable = refl;
   files = λ n. refl;
   images = λ f left. left;
   time = record { later = omega arith; nothing_else = λ t f le left. inl left; keeps = λ t f le left. left };
 }
 
 pub lasts_none : (c : Control call_code) → Lasts c c
-lasts_none c = record { plan = refl; armed = refl; ruled = refl; never_falls = omega arith; stays_calm = λ t. t; no_fault = λ t. refl; unmade = λ off kind. refl }
+lasts_none c = record { plan = refl; armed = refl; scripted = refl; never_falls = omega arith; stays_infallible = λ t. t; no_fault = λ t. refl; unmade = λ off kind. refl }
 
 -- one call after others
 pub keeps_then : (a b c : Content) → Lawful a → Keeps a b → Keeps b c → Keeps a c
 keeps_then a b c laws h k = record {
-  tells = k.tells ∙ h.tells;
+  is_observable = k.is_observable ∙ h.is_observable;
   files = λ n. k.files n ∙ h.files n;
   images = λ f left. h.images f (k.images f left);
   time = record {

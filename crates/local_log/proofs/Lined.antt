@@ -13,7 +13,7 @@ use Rattle.epoch_line.proofs.Holding.{started, epoch_at-started}
 use Rattle.segment_file.specs.Segment.{EpochsRise}
 use Rattle.log_steps.specs.Fronts.{Each}
 use Rattle.log_steps.proofs.Lists.{each_map}
-use Rattle.local_log.specs.Run.{begun, lined, is_last}
+use Rattle.local_log.specs.Run.{snapshot, lined, is_last}
 use Rattle.local_log.proofs.Lines.{cut_cut, cut_assign, within_assign, epoch_same}
 use Rattle.local_log.proofs.Gathered.{begun_last}
 
@@ -30,7 +30,7 @@ not_last (Some x) epoch e le = λ n is. (let same : x ≡ n = cc (is) in let ne 
     lt_of : (x n epoch : ℕ) → x ≡ n → x ≢ epoch → x ≤ epoch → n < epoch
     lt_of x n epoch same ne le = grind (arith, same, ne, le)
 
-pub is_begun : (line : List (ℕ × ℕ)) (epoch n : ℕ) → IsLine line → Each (λ (e : ℕ × ℕ). e.1 ≤ n) line → epoch < 2 ^ 31 → n ≤ 2 ^ 62 → unwrap_or (last_epoch line) 0 ≤ epoch → IsBegun line (begun line epoch n) epoch n
+pub is_begun : (line : List (ℕ × ℕ)) (epoch n : ℕ) → IsLine line → Each (λ (e : ℕ × ℕ). e.1 ≤ n) line → epoch < 2 ^ 31 → n ≤ 2 ^ 62 → unwrap_or (last_epoch line) 0 ≤ epoch → IsBegun line (snapshot line epoch n) epoch n
 is_begun line epoch n is within fits low up = go (is_last (last_epoch line) epoch) refl
   where
     go : (t : Bool) → is_last (last_epoch line) epoch ≡ t → IsBegun line (cond t line (assign line epoch n)) epoch n
@@ -60,23 +60,23 @@ pub is_lined : (line : List (ℕ × ℕ)) (n : ℕ) (bs : List (List ℕ)) → I
 is_lined line n [] is within c rise low = record { is = is; same = refl; within = within; epochs = tt }
 is_lined line n (b ∷ bs) is within c rise low =
     let up = end_above (last_of b + 1) bs c.1 in
-    let here = subst (λ (k : ℕ). IsBegun line (begun line (epoch_of b) k) (epoch_of b) k) (sym c.0)
+    let here = subst (λ (k : ℕ). IsBegun line (snapshot line (epoch_of b) k) (epoch_of b) k) (sym c.0)
     (is_begun line (epoch_of b) n is within rise.1 (omega (arith, up, c.0, low)) rise.0) in
     let last = begun_last line (epoch_of b) (base_of b) in
-    let rest = is_lined (begun line (epoch_of b) (base_of b)) (last_of b + 1) bs here.is
-    (each_map (λ e le. omega (arith, le)) (begun line (epoch_of b) (base_of b)) here.within) c.1
+    let rest = is_lined (snapshot line (epoch_of b) (base_of b)) (last_of b + 1) bs here.is
+    (each_map (λ e le. omega (arith, le)) (snapshot line (epoch_of b) (base_of b)) here.within) c.1
     (subst (λ (o : Option ℕ). EpochsRise (unwrap_or o 0) bs) (sym last) rise.2) low in
     record {
       is = rest.is;
       same =
-          sym (cut_cut (lined (begun line (epoch_of b) (base_of b)) bs) (last_of b + 1) n (omega (arith, c.0)))
+          sym (cut_cut (lined (snapshot line (epoch_of b) (base_of b)) bs) (last_of b + 1) n (omega (arith, c.0)))
           ∙ ap (λ (l : List (ℕ × ℕ)). cut_end l n) rest.same
-          ∙ cut_cut (begun line (epoch_of b) (base_of b)) (last_of b + 1) n (omega (arith, c.0))
-          ∙ subst (λ (k : ℕ). cut_end (begun line (epoch_of b) (base_of b)) k ≡ cut_end line k) c.0 here.same;
+          ∙ cut_cut (snapshot line (epoch_of b) (base_of b)) (last_of b + 1) n (omega (arith, c.0))
+          ∙ subst (λ (k : ℕ). cut_end (snapshot line (epoch_of b) (base_of b)) k ≡ cut_end line k) c.0 here.same;
       within = rest.within;
       epochs = (
-        epoch_same (begun line (epoch_of b) (base_of b)) (lined (begun line (epoch_of b) (base_of b)) bs) (base_of b) (last_of b + 1) here.is rest.is rest.same (omega arith)
-            ∙ epoch_end (begun line (epoch_of b) (base_of b)) (base_of b) here.is here.within ∙ last,
+        epoch_same (snapshot line (epoch_of b) (base_of b)) (lined (snapshot line (epoch_of b) (base_of b)) bs) (base_of b) (last_of b + 1) here.is rest.is rest.same (omega arith)
+            ∙ epoch_end (snapshot line (epoch_of b) (base_of b)) (base_of b) here.is here.within ∙ last,
         rest.epochs,
       );
     }

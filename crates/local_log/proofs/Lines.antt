@@ -1,4 +1,4 @@
--- Lines that say the same of what is stable.
+-- Lines that say the same of what is flushed.
 use Rattle.std.proofs.Common.{◌≡◌, ℕ, ◌+◌, ◌≤◌, ◌<◌, Bool, true, false, cond, List, [], ◌∷◌, ◌++◌, Option, Some, None, refl, sym, ◌∙◌, ap, subst, inl, inr, arith, lt-ltb, le-ltb, le-leb}
 use Rattle.std.specs.Prelude.{filter, nat_lt, nat_le, IsOk}
 use Rattle.std.proofs.lemmas.Bool.{cases_lt, lt-leb}

@@ -80,7 +80,7 @@ all_long f line [] h = tt
 all_long f line (g ∷ gs) h = (h.0.stands.long, all_long f line gs h.1)
 
 module _ (d : Content) (plan : Plan) (p : IsPlanOf d plan)
-    (names : List FileName) (named : IsTrue d.tells → Names d.files names) (fate : Fate) (went : fate ≡ Went) (d1 : Content)
+    (names : List FileName) (named : IsTrue d.is_observable → Names d.files names) (fate : Fate) (went : fate ≡ Went) (d1 : Content)
     (rewrites : Rewrites plan.present plan.manifest.segments names fate d d1) (d2 : Content) (k : Keeps d1 d2)
     (M : Bool → Type 0) (d3 : Content) (laws3 : Lawful d3) (change : Changes file.Manifest (replaced plan.next.items) (Swapped plan.next.items) M d2 d3)
     (sure : (c : Files) → Image d3 c → c file.Manifest ≡ Some plan.next.items)
@@ -96,27 +96,27 @@ module _ (d : Content) (plan : Plan) (p : IsPlanOf d plan)
   abbrev end : ℕ
   end = end_of parts.active
 
-  tells_is : d3.tells ≡ d.tells
-  tells_is = change.tells ∙ k.tells ∙ rewrites.tells
+  tells_is : d3.is_observable ≡ d.is_observable
+  tells_is = change.is_observable ∙ k.is_observable ∙ rewrites.is_observable
 
-  told : IsTrue d3.tells → IsTrue d.tells
+  told : IsTrue d3.is_observable → IsTrue d.is_observable
   told t = subst IsTrue tells_is t
 
-  told1 : IsTrue d3.tells → IsTrue d1.tells
-  told1 t = subst IsTrue (change.tells ∙ k.tells) t
+  told1 : IsTrue d3.is_observable → IsTrue d1.is_observable
+  told1 t = subst IsTrue (change.is_observable ∙ k.is_observable) t
 
   -- each listed file was read whole
-  whole : IsTrue d1.tells → Each (λ (e : Extent). e.len ≤ length (log_at d1.files e)) m.segments
+  whole : IsTrue d1.is_observable → Each (λ (e : Extent). e.len ≤ length (log_at d1.files e)) m.segments
   whole t = subst (Each (λ (e : Extent). e.len ≤ length (log_at d1.files e))) read.are (all_long d1.files m.line segments (read.stored t))
 
   -- the files after it
-  same_files : IsTrue d.tells → (b : ℕ) → d3.files (file.Log b) ≡ d1.files (file.Log b)
+  same_files : IsTrue d.is_observable → (b : ℕ) → d3.files (file.Log b) ≡ d1.files (file.Log b)
   same_files = next_files d d1 d2 d3 laws3 plan.present plan.next.items m.segments names fate went rewrites k M change whole
 
-  sizes : IsTrue d.tells → Each (λ e. length (log_at d3.files e) ≡ e.len) m.segments
+  sizes : IsTrue d.is_observable → Each (λ e. length (log_at d3.files e) ≡ e.len) m.segments
   sizes = next_sizes d d1 d2 d3 laws3 plan.present plan.next.items m.segments names fate went rewrites k M change whole
 
-  fronts_before : IsTrue d.tells → Each (Agrees d.files d3.files) m.segments
+  fronts_before : IsTrue d.is_observable → Each (Agrees d.files d3.files) m.segments
   fronts_before = next_was d d1 d2 d3 laws3 plan.present plan.next.items m.segments names fate went rewrites k M change whole
 
   stands : Stands d3 plan.next.items m.segments (map extent_of parts.closed.items)
@@ -133,23 +133,23 @@ module _ (d : Content) (plan : Plan) (p : IsPlanOf d plan)
   ends : Each (λ g. end_of g ≤ end) segments
   ends = each_map (λ g le. omega (arith, le, end_is)) segments (chain_up m.local_start segments read.chained read.laid)
 
-  stored_there : IsTrue d3.tells → Each (IsStored d3.files m.line) segments
+  stored_there : IsTrue d3.is_observable → Each (IsStored d3.files m.line) segments
   stored_there t = each_map (λ g s. stored_same d1.files d3.files m.line g (ap bytes_in (same_files (told t) g.base)) s) segments (read.stored (told1 t))
 
-  stored_now : IsTrue d3.tells → Each (IsStored d3.files parts.line) segments
+  stored_now : IsTrue d3.is_observable → Each (IsStored d3.files parts.line) segments
   stored_now t =
       subst (λ (l : List (ℕ × ℕ)). Each (IsStored d3.files l) segments) (sym line_is)
       (each_both (λ g le s. stored_cut d3.files m.line end g p.is.rules.line le s) segments ends (stored_there t))
 
-  batches_there : IsTrue d3.tells → Segments d3.files m.line m.local_start m.segments (all_batches d3.files segments)
+  batches_there : IsTrue d3.is_observable → Segments d3.files m.line m.local_start m.segments (all_batches d3.files segments)
   batches_there t =
       subst (λ (es : List Extent). Segments d3.files m.line m.local_start es (all_batches d3.files segments)) read.are
       (stored_segments d3.files m.line m.local_start segments read.chained (stored_there t))
 
-  end_there : IsTrue d3.tells → end_from parts.local_start (all_batches d3.files segments) ≡ end
+  end_there : IsTrue d3.is_observable → end_from parts.local_start (all_batches d3.files segments) ≡ end
   end_there t = ap (λ (n : ℕ). end_from n (all_batches d3.files segments)) start_is ∙ all_end d3.files m.line m.local_start segments read.chained (stored_there t) ∙ end_is
 
-  read_now : IsTrue d3.tells → IsRead m d3.files (whole_of d3.files parts)
+  read_now : IsTrue d3.is_observable → IsRead m d3.files (whole_of d3.files parts)
   read_now t = record {
     incarnation = incarnation_is;
     local_start = start_is;
@@ -157,7 +157,7 @@ module _ (d : Content) (plan : Plan) (p : IsPlanOf d plan)
     line = line_is ∙ ap (λ (n : ℕ). cut_end m.line (n + 1)) (sym (end_there t));
   }
 
-  up_to_end : IsTrue d3.tells → all_batches d3.files segments ≡ up_to end (all_batches d3.files segments)
+  up_to_end : IsTrue d3.is_observable → all_batches d3.files segments ≡ up_to end (all_batches d3.files segments)
   up_to_end t =
       let c = consecutive_segments d3.files m.line m.local_start m.segments (all_batches d3.files segments) (batches_there t) in
       sym (ap (λ (n : ℕ). up_to n (all_batches d3.files segments)) (sym (all_end d3.files m.line m.local_start segments read.chained (stored_there t) ∙ end_is))
@@ -174,7 +174,7 @@ module _ (d : Content) (plan : Plan) (p : IsPlanOf d plan)
   }
 
   -- no other segment's file
-  clear_now : IsTrue d3.tells → (b : ℕ) → Each (λ (g : Grown). b ≢ g.base) segments → d3.files (file.Log b) ≡ None
+  clear_now : IsTrue d3.is_observable → (b : ℕ) → Each (λ (g : Grown). b ≢ g.base) segments → d3.files (file.Log b) ≡ None
   clear_now t b other = same_files (told t) b ∙ go (d.files (file.Log b)) refl
     where
       not_listed : IsUnlisted m.segments b
@@ -208,7 +208,7 @@ module _ (d : Content) (plan : Plan) (p : IsPlanOf d plan)
 
   pub opened_log : IsOpened d d3 interval parts
   opened_log = record {
-    tells = tells_is;
+    is_observable = tells_is;
     segments = are_segments;
     intervals = read.intervals;
     opened = (let one = p.is.rules.opened in omega (arith, one, incarnation_is));
@@ -228,7 +228,7 @@ module _ (d : Content) (plan : Plan) (p : IsPlanOf d plan)
 -- of the disk before a call that changed no file
 pub opened_kept : (d m d' : Content) (interval : ℕ) (parts : Parts) → Keeps d m → IsOpened m d' interval parts → IsOpened d d' interval parts
 opened_kept d m d' interval parts k o = record {
-  tells = o.tells ∙ k.tells;
+  is_observable = o.is_observable ∙ k.is_observable;
   segments = o.segments;
   intervals = o.intervals;
   opened = o.opened;
@@ -236,7 +236,7 @@ opened_kept d m d' interval parts k o = record {
   line = o.line;
   line_within = o.line_within;
   has = o.has;
-  lists = λ t. subst (λ (x : Option (List ℕ)). ListsFrom x (map extent_of (parts.closed.items ++ parts.active ∷ []))) (k.files file.Manifest) (o.lists (subst IsTrue (sym k.tells) t));
-  was = λ t. (let w = o.was (subst IsTrue (sym k.tells) t) in (w.0, opens_like d.files m.files w.0 (λ n. sym (k.files n)) w.1, w.2));
+  lists = λ t. subst (λ (x : Option (List ℕ)). ListsFrom x (map extent_of (parts.closed.items ++ parts.active ∷ []))) (k.files file.Manifest) (o.lists (subst IsTrue (sym k.is_observable) t));
+  was = λ t. (let w = o.was (subst IsTrue (sym k.is_observable) t) in (w.0, opens_like d.files m.files w.0 (λ n. sym (k.files n)) w.1, w.2));
   durable = o.durable;
 }

@@ -85,8 +85,8 @@ module _ (line : List (ℕ × ℕ)) (interval base : ℕ) (front : List ℕ) (se
   module _ (head : Head) (n : StandsNext line base front (size_of segment) (end_of segment) head) where
     pub parsing_push : length front < 2 ^ 31 → MayPush segment head
     parsing_push few = record {
-      begins = n.tells.base ∙ n.begins;
-      near = omega (arith, n.tells.base, n.tells.delta, n.placed.near, parsing_base);
+      begins = n.is_observable.base ∙ n.begins;
+      near = omega (arith, n.is_observable.base, n.is_observable.delta, n.placed.near, parsing_base);
       small = omega (arith, n.inside, few);
     }
 
@@ -106,7 +106,7 @@ module _ (line : List (ℕ × ℕ)) (interval base : ℕ) (front : List ℕ) (se
       };
       segment_is =
           is
-          ∙ ap (with_batch segment) (placed_same (size_of segment) n.batch head n.tells)
+          ∙ ap (with_batch segment) (placed_same (size_of segment) n.batch head n.is_observable)
           ∙ ap (λ (s : Grown). with_batch s (placed (size_of segment) n.batch)) p.segment_is
           ∙ ap (λ (k : ℕ). record { base = base; interval = interval; batches = placed_from 0 p.batches ++ placed k n.batch ∷ [] }) (parsing_size ∙ (let z : length (joined p.batches) ≡ 0 + length (joined p.batches) = omega arith in z))
           ∙ ap (λ (l : List Placed). record { base = base; interval = interval; batches = l }) (sym (placed_push 0 p.batches n.batch));
@@ -117,7 +117,7 @@ module _ (line : List (ℕ × ℕ)) (interval base : ℕ) (front : List ℕ) (se
         let q = parsing_more new is in
         let long = long_batch n.batch n.placed.is in
         let size = ap size_of is ∙ size_append 0 segment.batches (placed_in (size_of segment) head ∷ []) in
-        omega (arith, size, n.tells.size, long)
+        omega (arith, size, n.is_observable.size, long)
 
 -- before the first
 pub parsing_none : (line : List (ℕ × ℕ)) (interval base : ℕ) (front : List ℕ) → IsParsing line interval base front (record { base = base; interval = interval; batches = [] })
@@ -170,7 +170,7 @@ module _ (line : List (ℕ × ℕ)) (base end : ℕ) where
       epoch = ap (epoch_at line) (sym t.base ∙ may.begins) ∙ may.epoch ∙ ap (λ (n : ℕ). Some n) t.epoch;
     };
     begins = sym t.base ∙ may.begins;
-    tells = t;
+    is_observable = t;
     inside = inside;
   }
 

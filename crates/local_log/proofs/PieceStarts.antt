@@ -70,7 +70,7 @@ stored_checked f line (g ∷ gs) each =
     (subst (Each (λ (batch : List ℕ). IsOk (checked batch))) (sym (stored_batches f line g each.0)) (each_map (λ batch placed. placed.is) each.0.batches each.0.stands.placed))
     (stored_checked f line gs each.1)
 
-module _ {D : Type 0} (content : D → Content) (s : Inside D) (sound : IsSound content s) (unbroken : s.broken ≡ false) (t : IsTrue (content s.disk).tells) where
+module _ {D : Type 0} (content : D → Content) (s : Inside D) (sound : IsSound content s) (unbroken : s.broken ≡ false) (t : IsTrue (content s.disk).is_observable) where
   abbrev pub closed : List Grown
   closed = s.closed.items
 

@@ -91,22 +91,22 @@ whole_held (Some bytes) p is = sym is
 -- what a disk reads opens as this
 record Seen (d : Content) : Type 0 where
   opened : Opened
-  opens : IsTrue d.tells → Opens d.files opened
+  opens : IsTrue d.is_observable → Opens d.files opened
 
 seen : (d : Content) → Lawful d → Reopens d → Seen d
-seen d laws reopens = go d.tells refl
+seen d laws reopens = go d.is_observable refl
   where
-    go : (b : Bool) → d.tells ≡ b → Seen d
+    go : (b : Bool) → d.is_observable ≡ b → Seen d
     go true is = let h = reopens.opens d.files (laws.reads is) in record { opened = h.0; opens = λ t. h.1 }
     go false is = record { opened = nothing; opens = λ t. absurd (cc (t, is)) }
 
 -- a plan, after a call that changes no file
 pub plan_kept : (d m : Content) (plan : Plan) → Keeps d m → IsPlanOf d plan → IsPlanOf m plan
-plan_kept d m plan k p = record { held = p.held; is = p.is; told = λ t. k.files file.Manifest ∙ p.told (subst IsTrue k.tells t) }
+plan_kept d m plan k p = record { held = p.held; is = p.is; told = λ t. k.files file.Manifest ∙ p.told (subst IsTrue k.is_observable t) }
 
-pub names_kept : (d m : Content) (names : List FileName) → Keeps d m → (IsTrue d.tells → Names d.files names) → IsTrue m.tells → Names m.files names
+pub names_kept : (d m : Content) (names : List FileName) → Keeps d m → (IsTrue d.is_observable → Names d.files names) → IsTrue m.is_observable → Names m.files names
 names_kept d m names k named t =
-    let n = named (subst IsTrue k.tells t) in
+    let n = named (subst IsTrue k.is_observable t) in
     record { are = λ f. subst (λ (o : Option (List ℕ)). IsSome o ↔ In f names) (sym (k.files f)) (n.are f); once = n.once }
 
 -- the same of the files that were meant
@@ -134,7 +134,7 @@ read_first f = record {
   line = refl;
 }
 
-module _ (d : Content) (plan : Plan) (p : IsPlanOf d plan) (told : IsTrue d.tells) where
+module _ (d : Content) (plan : Plan) (p : IsPlanOf d plan) (told : IsTrue d.is_observable) where
   -- what is read by the next manifest opened before, under the incarnation before
   pub plan_was : (o : Opened) → IsRead plan.manifest d.files o → (x : Opened) × Opens d.files x × (o ≡ raised x)
   plan_was o r = go p.held (p.told told) p.is.from
@@ -233,18 +233,18 @@ pub record Way (d : Content) (plan : Plan) : Type 0 where
   pub first : Opened
   pub now : Opened
   pub reading : manifest_in plan.present ≡ Ok (present_of plan number)
-  pub opens : IsTrue d.tells → Opens d.files first
-  pub reads : IsTrue d.tells → IsRead (present_of plan number) d.files now
-  pub reads_next : IsTrue d.tells → IsRead plan.manifest d.files (raised first)
+  pub opens : IsTrue d.is_observable → Opens d.files first
+  pub reads : IsTrue d.is_observable → IsRead (present_of plan number) d.files now
+  pub reads_next : IsTrue d.is_observable → IsRead plan.manifest d.files (raised first)
   pub first_is : (now ≡ first) ⊎ (now ≡ raised first)
-  pub agree : IsTrue d.tells → (c : Files) → Image d c → Each (Agrees c d.files) plan.manifest.segments
+  pub agree : IsTrue d.is_observable → (c : Files) → Image d c → Each (Agrees c d.files) plan.manifest.segments
 
 module _ (d : Content) (laws : Lawful d) (reopens : Reopens d) (plan : Plan) where
-  way_again : (bytes : List ℕ) → (IsTrue d.tells → d.files file.Manifest ≡ Some bytes) → plan.present ≡ bytes → (number : ℕ) → manifest_in bytes ≡ Ok (present_of plan number)
+  way_again : (bytes : List ℕ) → (IsTrue d.is_observable → d.files file.Manifest ≡ Some bytes) → plan.present ≡ bytes → (number : ℕ) → manifest_in bytes ≡ Ok (present_of plan number)
       → plan.manifest.incarnation ≡ number + 1 → Way d plan
   way_again bytes told present number reading next =
       let s = seen d laws reopens in
-      let reads : IsTrue d.tells → IsRead (present_of plan number) d.files s.opened = λ t. opened_by d.files bytes (present_of plan number) s.opened (told t) reading (s.opens t) in
+      let reads : IsTrue d.is_observable → IsRead (present_of plan number) d.files s.opened = λ t. opened_by d.files bytes (present_of plan number) s.opened (told t) reading (s.opens t) in
       record {
         number = number;
         first = s.opened;
@@ -257,7 +257,7 @@ module _ (d : Content) (laws : Lawful d) (reopens : Reopens d) (plan : Plan) whe
         agree = λ t c image. reopens.fronts c d.files (present_of plan number) image (laws.reads t) (record { bytes = bytes; there = told t; reading = reading });
       }
 
-  way_first : (IsTrue d.tells → d.files file.Manifest ≡ None) → plan.present ≡ plan.next.items → plan.manifest ≡ first_manifest → plan.next.items ≡ manifest_bytes plan.manifest
+  way_first : (IsTrue d.is_observable → d.files file.Manifest ≡ None) → plan.present ≡ plan.next.items → plan.manifest ≡ first_manifest → plan.next.items ≡ manifest_bytes plan.manifest
       → IsManifest plan.manifest → plan.manifest.incarnation < 2 ^ 32 → Way d plan
   way_first told present is next rules fits = record {
     number = 1;
@@ -274,7 +274,7 @@ module _ (d : Content) (laws : Lawful d) (reopens : Reopens d) (plan : Plan) whe
   pub way : IsPlanOf d plan → Way d plan
   way p = go p.held p.told p.is
     where
-      go : (held : Option (List ℕ)) → (IsTrue d.tells → d.files file.Manifest ≡ held) → IsPlan held plan → Way d plan
+      go : (held : Option (List ℕ)) → (IsTrue d.is_observable → d.files file.Manifest ≡ held) → IsPlan held plan → Way d plan
       go None told is = way_first told is.from.0 is.from.1 is.next_is is.rules is.fits
       go (Some bytes) told is = way_again bytes told is.from.0 is.from.1.0 is.from.1.1 is.from.1.2
 

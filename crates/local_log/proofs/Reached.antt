@@ -85,15 +85,15 @@ run_needs bound top end at [] m ms c lt le fit = go (nat_lt (last_of m) bound &&
     last : nat_lt (last_of m) bound ≡ true
     last = lt-ltb (last_of m) bound (omega (arith, le))
 
-    begun : nat_lt end bound ≡ true
-    begun = lt-ltb end bound lt
+    snapshot : nat_lt end bound ≡ true
+    snapshot = lt-ltb end bound lt
 
     go : (t : Bool) → (nat_lt (last_of m) bound && nat_le (at + length m) top) ≡ t → Needs top (at + 0) m (run_reach bound top end at (placed_from at (m ∷ ms)))
     go true e = let up = run_up bound top (last_of m + 1) (at + length m) ms in rw (zero_more, e) (inl up)
     go false e =
         let no : nat_le (at + length m) top ≡ false = one_false (nat_lt (last_of m) bound) (nat_le (at + length m) top) last e in
         let over : top < at + length m = grind (arith, nat_tests, no) in
-        rw (zero_more, e, begun) (inr (over, omega arith))
+        rw (zero_more, e, snapshot) (inr (over, omega arith))
 run_needs bound top end at (x ∷ xs) m ms c lt le fit =
     let size = length-append x (joined xs) in
     let all : at + length (joined (x ∷ xs)) ≤ top = fit (λ e. absurd (cc (e))) in

@@ -74,7 +74,7 @@ module _ (bytes : List ℕ) (gs : List Grown) (d m : Content) (M : Bool → Type
   -- the manifest may not have been replaced, so no file was removed
   pub renews_none : (fate : Fate) → (fate ≡ Went → ⊥) → (fate ≡ Dry → M true → ⊥) → Renews bytes (names_of gs) fate d m
   renews_none fate not dry = record {
-    tells = change.tells;
+    is_observable = change.is_observable;
     since = swap_since;
     dry = λ is. change.undone (dry is);
     dry_files = λ is t. undone_files file.Manifest (replaced bytes) M d.files m.files (dry is) (change.files t);
@@ -86,8 +86,8 @@ module _ (bytes : List ℕ) (gs : List Grown) (d m : Content) (M : Bool → Type
   }
 
   module _ (d' : Content) (laws' : Lawful d') (fate : Fate) (sure : (c : Files) → Image m c → c file.Manifest ≡ Some bytes) (step : RemovesAll (names_of gs) fate m d') where
-    told : IsTrue d.tells → IsTrue m.tells
-    told t = subst IsTrue (sym change.tells) t
+    told : IsTrue d.is_observable → IsTrue m.is_observable
+    told t = subst IsTrue (sym change.is_observable) t
 
     has_new : (x c : Files) → Image m x → Without (names_of gs) x c → c file.Manifest ≡ Some bytes
     has_new x c now without = ⊎_elim (λ same. same ∙ sure x now) (λ none. absurd (no_manifest gs none.0)) (without file.Manifest)
@@ -109,7 +109,7 @@ module _ (bytes : List ℕ) (gs : List Grown) (d m : Content) (M : Bool → Type
 
     pub renews : (other : Fate) → (other ≡ Dry → ⊥) → (other ≡ Went → fate ≡ Went) → Renews bytes (names_of gs) other d d'
     renews other wet went = record {
-      tells = step.tells ∙ change.tells;
+      is_observable = step.is_observable ∙ change.is_observable;
       since = leaves_then d m d' (Renewed bytes (names_of gs) d) swap_since (leaves_weaker m d' _ (Renewed bytes (names_of gs) d) after step.since);
       dry = λ is. absurd (wet is);
       dry_files = λ is. absurd (wet is);
@@ -120,8 +120,8 @@ module _ (bytes : List ℕ) (gs : List Grown) (d m : Content) (M : Bool → Type
       between = inr new_now;
     }
 
-module _ (d : Content) (laws : Lawful d) (incarnation local_start : ℕ) (closed : List Grown) (active : Grown) (line : List (ℕ × ℕ)) (stable : ℕ) (has : HasLog d incarnation local_start closed active line stable)
-    (next : Manifest) (o : Opened) (reads : manifest_in (manifest_bytes next) ≡ Ok next) (read : IsTrue d.tells → IsRead next d.files o)
+module _ (d : Content) (laws : Lawful d) (incarnation local_start : ℕ) (closed : List Grown) (active : Grown) (line : List (ℕ × ℕ)) (flushed_end : ℕ) (has : HasLog d incarnation local_start closed active line flushed_end)
+    (next : Manifest) (o : Opened) (reads : manifest_in (manifest_bytes next) ≡ Ok next) (read : IsTrue d.is_observable → IsRead next d.files o)
     (lists : (c : Files) → Each (Agrees c d.files) has.listed.segments → Each (Agrees c d.files) (map extent_of closed) → Each (Agrees c d.files) next.segments)
     (gs : List Grown) (safe : Each (λ (e : Extent). (e.len ≡ 0) ⊎ Each (λ (g : Grown). e.base ≢ g.base) gs) next.segments)
     (d' : Content) (laws' : Lawful d') (fate : Fate) (change : Renews (manifest_bytes next) (names_of gs) fate d d') where
@@ -135,7 +135,7 @@ module _ (d : Content) (laws : Lawful d) (incarnation local_start : ℕ) (closed
   bytes = manifest_bytes next
 
   old_reads : manifest_in old_bytes ≡ Ok has.listed
-  old_reads = reading d laws incarnation local_start closed active line stable has
+  old_reads = reading d laws incarnation local_start closed active line flushed_end has
 
   -- the old manifest and its fronts, or the new one and its fronts
   abbrev HasEither : Files → Type 0
@@ -153,7 +153,7 @@ module _ (d : Content) (laws : Lawful d) (incarnation local_start : ℕ) (closed
       s)
       es safe agree
 
-  renew_image : (c : Files) → Renewed bytes (names_of gs) d c → IsTrue d.tells × HasEither c
+  renew_image : (c : Files) → Renewed bytes (names_of gs) d c → IsTrue d.is_observable × HasEither c
   renew_image c h =
       let was = has.images h.image h.was in (
         laws.told h.image h.was,
@@ -166,7 +166,7 @@ module _ (d : Content) (laws : Lawful d) (incarnation local_start : ℕ) (closed
   now_renewed : (c : Files) → Image d' c → Renewed bytes (names_of gs) d c
   now_renewed c now = change.since.each c (laws'.earlier d.moment d'.moment c change.since.later now)
 
-  opens_either : (c : Files) → Renewed bytes (names_of gs) d c → OpensUpTo incarnation local_start stable (all_batches d.files segments) line c ⊎ Opens c o
+  opens_either : (c : Files) → Renewed bytes (names_of gs) d c → OpensUpTo incarnation local_start flushed_end (all_batches d.files segments) line c ⊎ Opens c o
   opens_either c h =
       let i = renew_image c h in
       ⊎_elim
@@ -178,7 +178,7 @@ module _ (d : Content) (laws : Lawful d) (incarnation local_start : ℕ) (closed
       (λ new. inr (opens_as c d.files bytes next o new.0 reads new.1 (read i.0)))
       i.1
 
-  pub renew_since : LeavesOnly d d' (λ c. OpensUpTo incarnation local_start stable (all_batches d.files segments) line c ⊎ Opens c o)
+  pub renew_since : LeavesOnly d d' (λ c. OpensUpTo incarnation local_start flushed_end (all_batches d.files segments) line c ⊎ Opens c o)
   renew_since = leaves_weaker d d' (Renewed bytes (names_of gs) d) _ opens_either change.since
 
   pub renew_as : LeavesOnly d d' (OpensAsOr d o)
@@ -187,7 +187,7 @@ module _ (d : Content) (laws : Lawful d) (incarnation local_start : ℕ) (closed
       (λ c h. (
       let i = renew_image c h in
       ⊎_elim
-      (λ old. inl (listed_as d laws incarnation local_start closed active line stable has c i.0 old.0 old.1))
+      (λ old. inl (listed_as d laws incarnation local_start closed active line flushed_end has c i.0 old.0 old.1))
       (λ new. inr (opens_as c d.files bytes next o new.0 reads new.1 (read i.0)))
       i.1
       ))
@@ -207,22 +207,22 @@ module _ (d : Content) (laws : Lawful d) (incarnation local_start : ℕ) (closed
         h.is
 
     -- and so have the files as they read
-    pub renew_read : IsTrue d.tells → Each (Agrees d'.files d.files) es
-    renew_read t = renew_kept d'.files (laws'.reads (subst IsTrue (sym change.tells) t))
+    pub renew_read : IsTrue d.is_observable → Each (Agrees d'.files d.files) es
+    renew_read t = renew_kept d'.files (laws'.reads (subst IsTrue (sym change.is_observable) t))
 
-  told_of : (c : Files) → Image d' c → IsTrue d.tells
+  told_of : (c : Files) → Image d' c → IsTrue d.is_observable
   told_of c now = let h = now_renewed c now in laws.told h.image h.was
 
   pub renew_fronts : (c : Files) → Image d' c → Each (Agrees c d.files) next.segments
   renew_fronts = renew_kept next.segments safe lists
 
-  pub renew_files : IsTrue d.tells → Each (Agrees d'.files d.files) next.segments
+  pub renew_files : IsTrue d.is_observable → Each (Agrees d'.files d.files) next.segments
   renew_files = renew_read next.segments safe lists
 
   -- where each image has the new manifest, what opens so opens as one of them
-  as_now : ((c : Files) → Image d' c → c file.Manifest ≡ Some bytes) → (c : Files) → IsTrue d.tells → Opens c o → OpensAs d' c
+  as_now : ((c : Files) → Image d' c → c file.Manifest ≡ Some bytes) → (c : Files) → IsTrue d.is_observable → Opens c o → OpensAs d' c
   as_now sure c t opens =
-      let now = laws'.reads (subst IsTrue (sym change.tells) t) in
+      let now = laws'.reads (subst IsTrue (sym change.is_observable) t) in
       let is = opens_as d'.files d.files bytes next o (sure d'.files now) reads (renew_fronts d'.files now) (read t) in
       (d'.files, now, λ p by. subst (Opens c) (opens_once d'.files o p is by) opens)
 
@@ -235,7 +235,7 @@ module _ (d : Content) (laws : Lawful d) (incarnation local_start : ℕ) (closed
           (λ c h. (
           let i = renew_image c h in
           ⊎_elim
-          (λ old. inl (listed_as d laws incarnation local_start closed active line stable has c i.0 old.0 old.1))
+          (λ old. inl (listed_as d laws incarnation local_start closed active line flushed_end has c i.0 old.0 old.1))
           (λ new. inr (as_now sure c i.0 (opens_as c d.files bytes next o new.0 reads new.1 (read i.0))))
           i.1
           ))
@@ -264,8 +264,8 @@ module _ (d : Content) (laws : Lawful d) (incarnation local_start : ℕ) (closed
           (λ c now. (let f = renew_fronts c now in (inl (sure c now), f, f)))
           (λ c now. (let r = read (told_of c now) in (r, r)))
 
-  pub renew_dry : fate ≡ Dry → HasLog d' incarnation local_start closed active line stable
-  renew_dry is = has_same d laws incarnation local_start closed active line stable has d' laws' change.tells (change.dry is) (change.dry_files is)
+  pub renew_dry : fate ≡ Dry → HasLog d' incarnation local_start closed active line flushed_end
+  renew_dry is = has_same d laws incarnation local_start closed active line flushed_end has d' laws' change.is_observable (change.dry is) (change.dry_files is)
 
   pub renew_opens : fate ≡ Went → (c : Files) → Image d' c → Opens c o
   renew_opens went c now = opens_as c d.files bytes next o (change.durable went c now) reads (renew_fronts c now) (read (told_of c now))

@@ -40,7 +40,7 @@ fresh_are start interval low = record {
   few = omega arith;
 }
 
-module _ (d : Content) (laws : Lawful d) (incarnation local_start : ℕ) (closed : List Grown) (active : Grown) (line : List (ℕ × ℕ)) (stable : ℕ) (has : HasLog d incarnation local_start closed active line stable)
+module _ (d : Content) (laws : Lawful d) (incarnation local_start : ℕ) (closed : List Grown) (active : Grown) (line : List (ℕ × ℕ)) (flushed_end : ℕ) (has : HasLog d incarnation local_start closed active line flushed_end)
     (one : 1 ≤ incarnation) (fits : incarnation < 2 ^ 32) (start interval : ℕ) (low : start ≤ 2 ^ 62) (other : List (ℕ × ℕ)) (is : IsLine other) (within : Each (λ (entry : ℕ × ℕ). entry.1 ≤ start) other)
     (d' : Content) (laws' : Lawful d') (fate : Fate) (change : Renews (manifest_bytes (manifest_of incarnation start [] (fresh start interval) other)) (names_of (closed ++ active ∷ [])) fate d d') where
   abbrev pub segments : List Grown
@@ -67,30 +67,30 @@ module _ (d : Content) (laws : Lawful d) (incarnation local_start : ℕ) (closed
   next_agrees : (c f : Files) → Each (Agrees c f) next.segments
   next_agrees c f = (agrees_none c f (record { base = start; len = 0 }) refl, tt)
 
-  pub restart_since : LeavesOnly d d' (λ c. OpensUpTo incarnation local_start stable (all_batches d.files segments) line c ⊎ Opens c now_open)
-  restart_since = renew_since d laws incarnation local_start closed active line stable has next now_open next_reads (λ t. read_empty d.files) (λ c a b. next_agrees c d.files) segments (inl refl, tt) d' laws' fate change
+  pub restart_since : LeavesOnly d d' (λ c. OpensUpTo incarnation local_start flushed_end (all_batches d.files segments) line c ⊎ Opens c now_open)
+  restart_since = renew_since d laws incarnation local_start closed active line flushed_end has next now_open next_reads (λ t. read_empty d.files) (λ c a b. next_agrees c d.files) segments (inl refl, tt) d' laws' fate change
 
   pub restart_as : LeavesOnly d d' (OpensAsOr d now_open)
-  restart_as = renew_as d laws incarnation local_start closed active line stable has next now_open next_reads (λ t. read_empty d.files) (λ c a b. next_agrees c d.files) segments (inl refl, tt) d' laws' fate change
+  restart_as = renew_as d laws incarnation local_start closed active line flushed_end has next now_open next_reads (λ t. read_empty d.files) (λ c a b. next_agrees c d.files) segments (inl refl, tt) d' laws' fate change
 
   pub restart_either : LeavesBeforeOrNow d d'
-  restart_either = renew_either d laws incarnation local_start closed active line stable has next now_open next_reads (λ t. read_empty d.files) (λ c a b. next_agrees c d.files) segments (inl refl, tt) d' laws' fate change
+  restart_either = renew_either d laws incarnation local_start closed active line flushed_end has next now_open next_reads (λ t. read_empty d.files) (λ c a b. next_agrees c d.files) segments (inl refl, tt) d' laws' fate change
 
   pub restart_reopens : Reopens d'
-  restart_reopens = renew_reopens d laws incarnation local_start closed active line stable has next now_open next_reads (λ t. read_empty d.files) (λ c a b. next_agrees c d.files) segments (inl refl, tt) d' laws' fate change
+  restart_reopens = renew_reopens d laws incarnation local_start closed active line flushed_end has next now_open next_reads (λ t. read_empty d.files) (λ c a b. next_agrees c d.files) segments (inl refl, tt) d' laws' fate change
 
-  pub restart_dry : fate ≡ Dry → HasLog d' incarnation local_start closed active line stable
-  restart_dry = renew_dry d laws incarnation local_start closed active line stable has next now_open next_reads (λ t. read_empty d.files) (λ c a b. next_agrees c d.files) segments (inl refl, tt) d' laws' fate change
+  pub restart_dry : fate ≡ Dry → HasLog d' incarnation local_start closed active line flushed_end
+  restart_dry = renew_dry d laws incarnation local_start closed active line flushed_end has next now_open next_reads (λ t. read_empty d.files) (λ c a b. next_agrees c d.files) segments (inl refl, tt) d' laws' fate change
 
   module _ (went : fate ≡ Went) where
     pub restart_opens : (c : Files) → Image d' c → Opens c now_open
-    restart_opens = renew_opens d laws incarnation local_start closed active line stable has next now_open next_reads (λ t. read_empty d.files) (λ c a b. next_agrees c d.files) segments (inl refl, tt) d' laws' fate change went
+    restart_opens = renew_opens d laws incarnation local_start closed active line flushed_end has next now_open next_reads (λ t. read_empty d.files) (λ c a b. next_agrees c d.files) segments (inl refl, tt) d' laws' fate change went
 
-    told : IsTrue d'.tells → IsTrue d.tells
-    told t = subst IsTrue change.tells t
+    told : IsTrue d'.is_observable → IsTrue d.is_observable
+    told t = subst IsTrue change.is_observable t
 
     -- no segment's file is there
-    none_left : IsTrue d.tells → (b : ℕ) → d'.files (file.Log b) ≡ None
+    none_left : IsTrue d.is_observable → (b : ℕ) → d'.files (file.Log b) ≡ None
     none_left t b =
         ⊎_elim
         (λ named. change.gone went t (file.Log b) named)

@@ -1,4 +1,4 @@
--- A run over a disk that tells is a part of the log.
+-- A run over an observable disk is a part of the log.
 use Rattle.std.proofs.lemmas.List.{take-append-drop}
 use Rattle.std.proofs.Common.{◌≡◌, ◌∙◌, ap, sym, refl, subst, ℕ, zero, suc, ◌+◌, ◌<◌, ◌≤◌, min, true, false, List, [], ◌∷◌, ◌++◌, length, take, drop, nat_lt, inl, inr, length-append, Option, Some, None, option_map, Result, Ok, Err, IfOk, IfErr, IsErrAnd, IsOk, IsTrue, arith}
 use Rattle.tier_base.specs.Told.{bytes_in}
@@ -62,7 +62,7 @@ piece_past local_start closed active line offset mark are under edge =
     let laid = holder_each IsLaidOut offset closed active (each_join IsLaidOut closed (active ∷ []) are.laid (are.active_laid, tt)) in
     piece_ends line (holder offset closed active) offset laid (holder_end offset mark closed active are.active_laid under edge)
 
-module _ {D : Type 0} (content : D → Content) (s : Inside D) (sound : IsSound content s) (unbroken : s.broken ≡ false) (t : IsTrue (content s.disk).tells) where
+module _ {D : Type 0} (content : D → Content) (s : Inside D) (sound : IsSound content s) (unbroken : s.broken ≡ false) (t : IsTrue (content s.disk).is_observable) where
   abbrev pub f : Files
   f = (content s.disk).files
 

@@ -30,7 +30,7 @@ whole_file None p is = ap bytes_in is
 whole_file (Some bytes) p is = ap bytes_in is
 
 pub read_of : (d : Content) (line : List (ℕ × ℕ)) (interval end : ℕ) (e : Extent) (bytes : List ℕ) (segment : Grown) → e.base ≤ 2 ^ 62 → e.len < 2 ^ 31 → e.base ≡ end
-    → (IsTrue d.tells → bytes ≡ log_at d.files e) → IsParsed line interval e bytes segment → IsRead d line interval end e segment
+    → (IsTrue d.is_observable → bytes ≡ log_at d.files e) → IsParsed line interval e bytes segment → IsRead d line interval end e segment
 read_of d line interval end e bytes segment low small begins told p = record {
   begins = begins;
   is = parsed_extent line interval e bytes segment p;
@@ -68,7 +68,7 @@ module _ (d m : Content) (k : Keeps d m) where
     laid = r.laid;
     interval_is = r.interval_is;
     low = r.low;
-    stored = λ t. stored_same m.files d.files line segment (sym (same_bytes segment.base)) (r.stored (subst IsTrue (sym k.tells) t));
+    stored = λ t. stored_same m.files d.files line segment (sym (same_bytes segment.base)) (r.stored (subst IsTrue (sym k.is_observable) t));
   }
 
 -- what a manifest lists is as low and as small as segments are
@@ -108,13 +108,13 @@ module _ (d : Content) (line : List (ℕ × ℕ)) (interval start : ℕ) (done :
   }
 
   -- where the files have all batches it stands there
-  pub next_stands : IsTrue d.tells → (rest : List Extent) (batches : List (List ℕ)) → Segments d.files line start (done ++ e ∷ rest) batches
+  pub next_stands : IsTrue d.is_observable → (rest : List Extent) (batches : List (List ℕ)) → Segments d.files line start (done ++ e ∷ rest) batches
       → (e.base ≡ chain_end start segments) × ((here : List (List ℕ)) × Segment d.files line e here)
   next_stands t rest batches s =
       segments_next d.files line start segments e rest batches r.chained (r.stored t) (subst (λ (x : List Extent). Segments d.files line start (x ++ e ∷ rest) batches) (sym r.are) s)
 
   -- where it isn't read, this is the first place of the manifest's segments that has no reading
-  pub read_fails_in : (m : Manifest) (f : Files) (rest : List Extent) (why : OpenRefusal) → m.line ≡ line → m.local_start ≡ start → m.segments ≡ done ++ e ∷ rest → IsTrue d.tells → bytes_in (f (file.Log e.base)) ≡ log_at d.files e
+  pub read_fails_in : (m : Manifest) (f : Files) (rest : List Extent) (why : OpenRefusal) → m.line ≡ line → m.local_start ≡ start → m.segments ≡ done ++ e ∷ rest → IsTrue d.is_observable → bytes_in (f (file.Log e.base)) ≡ log_at d.files e
       → SegmentFails line (chain_end start segments) e (log_at f e) why → ReadFailsIn d.files m why
   read_fails_in m f rest DiskFault lines starts parts t same fails = tt
   read_fails_in m f rest (Damaged name at) lines starts parts t same fails = record {
@@ -142,18 +142,18 @@ pub reads_to : (line : List (ℕ × ℕ)) (interval : ℕ) (e : Extent) (bytes :
 reads_to line interval e bytes segment p = record { batches = p.batches; fronts = p.fronts; long = p.long; end_is = parsed_end line interval e bytes segment p }
 
 -- a segment isn't read, behind those that were
-pub not_read : (m : Manifest) (done : List Extent) (e : Extent) (rest : List Extent) (end : ℕ) (before handed : List ℕ) (why : OpenRefusal) → IsManifest m → m.segments ≡ done ++ e ∷ rest
-    → LastRead m.line m.local_start done end before → (e.base ≢ end → handed ≡ before) → SegmentFails m.line end e handed why → ReadFails m handed why
-not_read m done e rest end before handed DiskFault rules parts last early fails = tt
-not_read m done e rest end before handed (Damaged name at) rules parts last early fails = ⊎_elim gap (λ misses. inl (record { before = done; extent = e; after = rest; parts = parts; named = fails.0; misses = misses.1 })) fails.1
+pub not_read : (m : Manifest) (done : List Extent) (e : Extent) (rest : List Extent) (end : ℕ) (before last_read : List ℕ) (why : OpenRefusal) → IsManifest m → m.segments ≡ done ++ e ∷ rest
+    → LastRead m.line m.local_start done end before → (e.base ≢ end → last_read ≡ before) → SegmentFails m.line end e last_read why → ReadFails m last_read why
+not_read m done e rest end before last_read DiskFault rules parts last early fails = tt
+not_read m done e rest end before last_read (Damaged name at) rules parts last early fails = ⊎_elim gap (λ misses. inl (record { before = done; extent = e; after = rest; parts = parts; named = fails.0; misses = misses.1 })) fails.1
   where
-    none : (e.base ≢ end) × (at ≡ 0) → (done ≡ []) × (end ≡ m.local_start) → ReadFails m handed (Damaged name at)
+    none : (e.base ≢ end) × (at ≡ 0) → (done ≡ []) × (end ≡ m.local_start) → ReadFails m last_read (Damaged name at)
     none x y =
         let all : m.segments ≡ e ∷ rest = parts ∙ ap (λ (l : List Extent). l ++ e ∷ rest) y.0 in
         let begins = subst (BeginsAt m.local_start) all rules.begins in
         absurd (x.0 (begins ∙ sym y.1))
 
-    some : (e.base ≢ end) × (at ≡ 0) → (front : List Extent) × (f : Extent) × (done ≡ front ++ f ∷ []) × ReadsTo m.line f before end → ReadFails m handed (Damaged name at)
+    some : (e.base ≢ end) × (at ≡ 0) → (front : List Extent) × (f : Extent) × (done ≡ front ++ f ∷ []) × ReadsTo m.line f before end → ReadFails m last_read (Damaged name at)
     some x y = inr (record {
       before = y.0;
       extent = y.1;
@@ -167,7 +167,7 @@ not_read m done e rest end before handed (Damaged name at) rules parts last earl
       place = x.1;
     })
 
-    gap : (e.base ≢ end) × (at ≡ 0) → ReadFails m handed (Damaged name at)
+    gap : (e.base ≢ end) × (at ≡ 0) → ReadFails m last_read (Damaged name at)
     gap x = ⊎_elim (none x) (some x) last
-not_read m done e rest end before handed LastIncarnation rules parts last early fails = absurd fails
-not_read m done e rest end before handed NoMemory rules parts last early fails = tt
+not_read m done e rest end before last_read LastIncarnation rules parts last early fails = absurd fails
+not_read m done e rest end before last_read NoMemory rules parts last early fails = tt

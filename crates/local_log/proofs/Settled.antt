@@ -50,16 +50,16 @@ agrees_shorter c f base n m le h =
       same = sym (take-take n m (log_at c at) le) ∙ ap (λ (l : List ℕ). take n l) h.same ∙ take-take n m (log_at f at) le;
     }
 
--- an image that has what is listed has each segment up to the stable end
-pub listed_agrees : (c f : Files) (stable n : ℕ) (es : List Extent) (gs : List Grown) → n ≤ stable → Each IsLaidOut gs → AreListed stable es gs → Each (Agrees c f) es → Each (λ g. Agrees c f (extent_of (front_to n g))) gs
-listed_agrees c f stable n [] [] le laid l a = tt
-listed_agrees c f stable n [] (g ∷ gs) le laid l a =
+-- an image that has what is listed has each segment up to the flushed end
+pub listed_agrees : (c f : Files) (flushed_end n : ℕ) (es : List Extent) (gs : List Grown) → n ≤ flushed_end → Each IsLaidOut gs → AreListed flushed_end es gs → Each (Agrees c f) es → Each (λ g. Agrees c f (extent_of (front_to n g))) gs
+listed_agrees c f flushed_end n [] [] le laid l a = tt
+listed_agrees c f flushed_end n [] (g ∷ gs) le laid l a =
     let none = ending_none g.base 0 n g.batches laid.0.laid (omega (arith, le, l.0)) in
-    (agrees_none c f (extent_of (front_to n g)) (ap (λ bs. size_of (record g { batches = bs })) none), listed_agrees c f stable n [] gs le laid.1 l.1 a)
-listed_agrees c f stable n (e ∷ es) [] le laid l a = absurd l
-listed_agrees c f stable n (e ∷ es) (g ∷ gs) le laid l a = (
-  agrees_shorter c f g.base (size_of (front_to n g)) (size_of (front_to stable g)) (front_less n stable g laid.0.laid le) (subst (Agrees c f) l.1 a.0),
-  listed_agrees c f stable n es gs le laid.1 l.2 a.1,
+    (agrees_none c f (extent_of (front_to n g)) (ap (λ bs. size_of (record g { batches = bs })) none), listed_agrees c f flushed_end n [] gs le laid.1 l.1 a)
+listed_agrees c f flushed_end n (e ∷ es) [] le laid l a = absurd l
+listed_agrees c f flushed_end n (e ∷ es) (g ∷ gs) le laid l a = (
+  agrees_shorter c f g.base (size_of (front_to n g)) (size_of (front_to flushed_end g)) (front_less n flushed_end g laid.0.laid le) (subst (Agrees c f) l.1 a.0),
+  listed_agrees c f flushed_end n es gs le laid.1 l.2 a.1,
 )
 
 -- the cut log is listed up to its end
@@ -72,7 +72,7 @@ listed_cut n (g ∷ front) last later laid low bases base high = (
   listed_cut n front last later laid.1 low.1 bases.1 base high,
 )
 
-module _ (d : Content) (laws : Lawful d) (incarnation local_start : ℕ) (closed : List Grown) (active : Grown) (line : List (ℕ × ℕ)) (stable : ℕ) (has : HasLog d incarnation local_start closed active line stable)
+module _ (d : Content) (laws : Lawful d) (incarnation local_start : ℕ) (closed : List Grown) (active : Grown) (line : List (ℕ × ℕ)) (flushed_end : ℕ) (has : HasLog d incarnation local_start closed active line flushed_end)
     (are : AreSegmentsOf local_start closed active) (is : IsLine line) (n : ℕ) (from : local_start ≤ n) (exact : cut_point n closed active ≡ n) (within : n ≤ end_of active) (one : 1 ≤ incarnation) (fits : incarnation < 2 ^ 32) where
   abbrev pub segments : List Grown
   segments = closed ++ active ∷ []
@@ -93,28 +93,28 @@ module _ (d : Content) (laws : Lawful d) (incarnation local_start : ℕ) (closed
   old_bytes = manifest_bytes has.listed
 
   abbrev pub next : Manifest
-  next = manifest d incarnation local_start closed active line stable has are is n from exact within
+  next = manifest d incarnation local_start closed active line flushed_end has are is n from exact within
 
   abbrev pub bytes : List ℕ
   bytes = manifest_bytes next
 
   abbrev pub now_open : Opened
-  now_open = opened d incarnation local_start closed active line stable has are is n from exact within
+  now_open = opened d incarnation local_start closed active line flushed_end has are is n from exact within
 
   all_parts : closed ++ active ∷ [] ≡ front ++ last ∷ later
   all_parts = parts local_start n closed active are from
 
   old_reading : manifest_in old_bytes ≡ Ok has.listed
-  old_reading = reading d laws incarnation local_start closed active line stable has
+  old_reading = reading d laws incarnation local_start closed active line flushed_end has
 
   next_reading : manifest_in bytes ≡ Ok next
-  next_reading = short_reading d incarnation local_start closed active line stable has are is n from exact within one fits
+  next_reading = short_reading d incarnation local_start closed active line flushed_end has are is n from exact within one fits
 
-  reads : IsTrue d.tells → IsRead next d.files now_open
-  reads = short_read d incarnation local_start closed active line stable has are is n from exact within
+  reads : IsTrue d.is_observable → IsRead next d.files now_open
+  reads = short_read d incarnation local_start closed active line flushed_end has are is n from exact within
 
-  last_long : IsTrue d.tells → last_front.len ≤ length (log_at d.files last_front)
-  last_long t = (each_right (IsStored d.files (cut_end line n)) front (front_to n last ∷ []) (short_stored d incarnation local_start closed active line stable has are is n from exact within t)).0.stands.long
+  last_long : IsTrue d.is_observable → last_front.len ≤ length (log_at d.files last_front)
+  last_long t = (each_right (IsStored d.files (cut_end line n)) front (front_to n last ∷ []) (short_stored d incarnation local_start closed active line flushed_end has are is n from exact within t)).0.stands.long
 
   -- what it lists are closed segments, and the front of the one that is synced
   next_lists : (c : Files) → Each (Agrees c d.files) (map extent_of closed) → Agrees c d.files last_front → Each (Agrees c d.files) next.segments
@@ -126,18 +126,18 @@ module _ (d : Content) (laws : Lawful d) (incarnation local_start : ℕ) (closed
       (each_left (Agrees c d.files) (map extent_of front) (map extent_of f.0) (subst (Each (Agrees c d.files)) closed_is whole)) (there, tt))
 
   module _ (d' : Content) (laws' : Lawful d') (fate : Fate) (change : Publishes (file.Log last.base) bytes fate d d') where
-    told : IsTrue d'.tells → IsTrue d.tells
-    told t = subst IsTrue change.tells t
+    told : IsTrue d'.is_observable → IsTrue d.is_observable
+    told t = subst IsTrue change.is_observable t
 
-    held_either : (c : Files) → IsTrue d.tells × (Holds c d.files old_bytes has.listed.segments (map extent_of closed) ⊎ Holds c d.files bytes next.segments (map extent_of closed))
-        → OpensUpTo incarnation local_start stable (all_batches d.files segments) line c ⊎ Opens c now_open
+    held_either : (c : Files) → IsTrue d.is_observable × (Holds c d.files old_bytes has.listed.segments (map extent_of closed) ⊎ Holds c d.files bytes next.segments (map extent_of closed))
+        → OpensUpTo incarnation local_start flushed_end (all_batches d.files segments) line c ⊎ Opens c now_open
     held_either c h =
         ⊎_elim
-        (λ old. inl (held_up d laws incarnation local_start closed active line stable has c (h.0, old)))
+        (λ old. inl (held_up d laws incarnation local_start closed active line flushed_end has c (h.0, old)))
         (λ new. inr (held_opens c d.files bytes next (map extent_of closed) now_open next_reading new (reads h.0)))
         h.1
 
-    pub settle_since : LeavesOnly d d' (λ c. OpensUpTo incarnation local_start stable (all_batches d.files segments) line c ⊎ Opens c now_open)
+    pub settle_since : LeavesOnly d d' (λ c. OpensUpTo incarnation local_start flushed_end (all_batches d.files segments) line c ⊎ Opens c now_open)
     settle_since =
         leaves_weaker d d' _ _ held_either
         (publish_since d d' laws laws' old_bytes has.listed.segments (map extent_of closed) has.images last_front last_long bytes next.segments next_lists fate change)
@@ -146,7 +146,7 @@ module _ (d : Content) (laws : Lawful d) (incarnation local_start : ℕ) (closed
     settle_as =
         leaves_weaker d d' _ (OpensAsOr d now_open)
         (λ c h. ⊎_elim
-        (λ old. inl (held_as d laws incarnation local_start closed active line stable has c (h.0, old)))
+        (λ old. inl (held_as d laws incarnation local_start closed active line flushed_end has c (h.0, old)))
         (λ new. inr (held_opens c d.files bytes next (map extent_of closed) now_open next_reading new (reads h.0)))
         h.1)
         (publish_since d d' laws laws' old_bytes has.listed.segments (map extent_of closed) has.images last_front last_long bytes next.segments next_lists fate change)
@@ -168,16 +168,16 @@ module _ (d : Content) (laws : Lawful d) (incarnation local_start : ℕ) (closed
             (λ c now. (let t = told (laws'.told c now) in (has.read t, reads t)))
 
     -- the call found no memory
-    pub settle_dry : fate ≡ Dry → HasLog d' incarnation local_start closed active line stable
-    settle_dry dry = has_same d laws incarnation local_start closed active line stable has d' laws' change.tells (change.dry dry) (change.dry_files dry)
+    pub settle_dry : fate ≡ Dry → HasLog d' incarnation local_start closed active line flushed_end
+    settle_dry dry = has_same d laws incarnation local_start closed active line flushed_end has d' laws' change.is_observable (change.dry dry) (change.dry_files dry)
 
-    log_files : IsTrue d.tells → (b : ℕ) → d'.files (file.Log b) ≡ d.files (file.Log b)
+    log_files : IsTrue d.is_observable → (b : ℕ) → d'.files (file.Log b) ≡ d.files (file.Log b)
     log_files t b = change.files t (file.Log b) (log_no_manifest b)
 
-    pub settle_batches : IsTrue d.tells → (gs : List Grown) → all_batches d'.files gs ≡ all_batches d.files gs
+    pub settle_batches : IsTrue d.is_observable → (gs : List Grown) → all_batches d'.files gs ≡ all_batches d.files gs
     settle_batches t gs = all_same d.files d'.files gs (λ g. ap bytes_in (log_files t g.base))
 
-    read_after : IsTrue d.tells → IsRead next d'.files now_open
+    read_after : IsTrue d.is_observable → IsRead next d'.files now_open
     read_after t =
         let r = reads t in
         read_moved d'.files d.files next now_open
@@ -194,13 +194,13 @@ module _ (d : Content) (laws : Lawful d) (incarnation local_start : ℕ) (closed
       settled_has = record {
         listed = next;
         opened = now_open;
-        rules = rules_of incarnation local_start front (front_to n last) (cut_end line n) one (short_are d incarnation local_start closed active line stable has are is n from exact within) (short_line d incarnation local_start closed active line stable has are is n from exact within);
+        rules = rules_of incarnation local_start front (front_to n last) (cut_end line n) one (short_are d incarnation local_start closed active line flushed_end has are is n from exact within) (short_line d incarnation local_start closed active line flushed_end has are is n from exact within);
         fits = fits;
         images = stands;
         read = λ t. read_after (told t);
         incarnation_is = refl;
         start_is = refl;
-        end_is = λ t. up_to_end d incarnation local_start closed active line stable has are is n from exact within (told t);
+        end_is = λ t. up_to_end d incarnation local_start closed active line flushed_end has are is n from exact within (told t);
         batches_are = λ t. ap (up_to n) (sym (settle_batches (told t) segments));
         line_is = cut_cut line n n (omega arith);
         lists = subst (AreListed n next.segments) (sym all_parts)

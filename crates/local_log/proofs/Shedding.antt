@@ -1,4 +1,4 @@
--- The files behind an end of a log at or past the stable one are removed, and the last one is cut to it. No image opens
+-- The files behind an end of a log at or past the flushed one are removed, and the last one is cut to it. No image opens
 -- otherwise than before.
 use Rattle.std.proofs.Common.{◌≡◌, ◌≢◌, ◌⊎◌, ℕ, ◌+◌, ◌^◌, ◌≤◌, ◌<◌, List, [], ◌∷◌, ◌++◌, length, take, map, Option, Some, None, refl, sym, ◌∙◌, ap, subst, inl, inr, ⊎_elim, arith, IsTrue}
 use Rattle.std.proofs.lemmas.List.{map-append, take-take, take_all, length-take-le}
@@ -36,21 +36,21 @@ use Rattle.local_log.proofs.Settled.{agrees_none}
 abbrev pub IsSafe : ℕ → ℕ → Extent → Type 0
 IsSafe base len e = (e.len ≡ 0) ⊎ ((e.base < base) ⊎ ((e.base ≡ base) × (e.len ≤ len)))
 
-none_listed : (stable n base len : ℕ) (es : List Extent) (later : List Grown) → stable ≤ n → Each (λ g. n < g.base) later → AreListed stable es later → Each (IsSafe base len) es
-none_listed stable n base len [] later up high l = tt
-none_listed stable n base len (e ∷ es) [] up high l = absurd l
-none_listed stable n base len (e ∷ es) (g ∷ later) up high l = absurd (omega (arith, up, high.0, l.0))
+none_listed : (flushed_end n base len : ℕ) (es : List Extent) (later : List Grown) → flushed_end ≤ n → Each (λ g. n < g.base) later → AreListed flushed_end es later → Each (IsSafe base len) es
+none_listed flushed_end n base len [] later up high l = tt
+none_listed flushed_end n base len (e ∷ es) [] up high l = absurd l
+none_listed flushed_end n base len (e ∷ es) (g ∷ later) up high l = absurd (omega (arith, up, high.0, l.0))
 
-listed_safe : (stable n : ℕ) (es : List Extent) (front : List Grown) (last : Grown) (later : List Grown) → AreLaid last.base 0 last.batches → stable ≤ n → Each (λ g. g.base < last.base) front → Each (λ g. n < g.base) later
-    → AreListed stable es (front ++ last ∷ later) → Each (IsSafe last.base (size_of (front_to n last))) es
-listed_safe stable n [] front last later laid up below high l = tt
-listed_safe stable n (e ∷ es) [] last later laid up below high l = (
-  inr (inr (ap (λ (x : Extent). x.base) l.1, (let len = ap (λ (x : Extent). x.len) l.1 in let less = front_less stable n last laid up in omega (arith, len, less)))),
-  none_listed stable n last.base (size_of (front_to n last)) es later up high l.2,
+listed_safe : (flushed_end n : ℕ) (es : List Extent) (front : List Grown) (last : Grown) (later : List Grown) → AreLaid last.base 0 last.batches → flushed_end ≤ n → Each (λ g. g.base < last.base) front → Each (λ g. n < g.base) later
+    → AreListed flushed_end es (front ++ last ∷ later) → Each (IsSafe last.base (size_of (front_to n last))) es
+listed_safe flushed_end n [] front last later laid up below high l = tt
+listed_safe flushed_end n (e ∷ es) [] last later laid up below high l = (
+  inr (inr (ap (λ (x : Extent). x.base) l.1, (let len = ap (λ (x : Extent). x.len) l.1 in let less = front_less flushed_end n last laid up in omega (arith, len, less)))),
+  none_listed flushed_end n last.base (size_of (front_to n last)) es later up high l.2,
 )
-listed_safe stable n (e ∷ es) (g ∷ front) last later laid up below high l = (
+listed_safe flushed_end n (e ∷ es) (g ∷ front) last later laid up below high l = (
   inr (inl (let base = ap (λ (x : Extent). x.base) l.1 in omega (arith, base, below.0))),
-  listed_safe stable n es front last later laid up below.1 high l.2,
+  listed_safe flushed_end n es front last later laid up below.1 high l.2,
 )
 
 -- the files of segments that begin past an offset
@@ -122,23 +122,23 @@ moved_batches f h line (g ∷ gs) s a =
     ap (λ (l : List (List ℕ)). l ++ all_batches h gs) (stored_batches h line g (moved_stored f h line g s.0 a.0) ∙ sym (stored_batches f line g s.0))
     ∙ ap (λ (l : List (List ℕ)). batches_of f g ++ l) (moved_batches f h line gs s.1 a.1)
 
--- the stable part is listed of what is left
-listed_short : (stable n : ℕ) (es : List Extent) (front : List Grown) (last : Grown) (later : List Grown) → stable ≤ n → Each (λ g. n < g.base) later → AreListed stable es (front ++ last ∷ later) → AreListed stable es (front ++ front_to n last ∷ [])
-listed_short stable n [] front last later up high l =
-    each_join (λ (g : Grown). stable ≤ g.base) front (front_to n last ∷ [])
-    (each_left (λ (g : Grown). stable ≤ g.base) front (last ∷ later) l)
-    ((each_right (λ (g : Grown). stable ≤ g.base) front (last ∷ later) l).0, tt)
-listed_short stable n (e ∷ es) [] last later up high l =
-    (l.0, l.1 ∙ ap (λ bs. extent_of (record last { batches = bs })) (sym (ending_ending stable n last.batches up)), rest es later high l.2)
+-- the flushed part is listed of what is left
+listed_short : (flushed_end n : ℕ) (es : List Extent) (front : List Grown) (last : Grown) (later : List Grown) → flushed_end ≤ n → Each (λ g. n < g.base) later → AreListed flushed_end es (front ++ last ∷ later) → AreListed flushed_end es (front ++ front_to n last ∷ [])
+listed_short flushed_end n [] front last later up high l =
+    each_join (λ (g : Grown). flushed_end ≤ g.base) front (front_to n last ∷ [])
+    (each_left (λ (g : Grown). flushed_end ≤ g.base) front (last ∷ later) l)
+    ((each_right (λ (g : Grown). flushed_end ≤ g.base) front (last ∷ later) l).0, tt)
+listed_short flushed_end n (e ∷ es) [] last later up high l =
+    (l.0, l.1 ∙ ap (λ bs. extent_of (record last { batches = bs })) (sym (ending_ending flushed_end n last.batches up)), rest es later high l.2)
   where
-    rest : (es : List Extent) (later : List Grown) → Each (λ g. n < g.base) later → AreListed stable es later → AreListed stable es []
+    rest : (es : List Extent) (later : List Grown) → Each (λ g. n < g.base) later → AreListed flushed_end es later → AreListed flushed_end es []
     rest [] later high l = tt
     rest (e ∷ es) [] high l = l
     rest (e ∷ es) (g ∷ later) high l = absurd (omega (arith, up, high.0, l.0))
-listed_short stable n (e ∷ es) (g ∷ front) last later up high l = (l.0, l.1, listed_short stable n es front last later up high l.2)
+listed_short flushed_end n (e ∷ es) (g ∷ front) last later up high l = (l.0, l.1, listed_short flushed_end n es front last later up high l.2)
 
-module _ (d : Content) (laws : Lawful d) (incarnation local_start : ℕ) (closed : List Grown) (active : Grown) (line : List (ℕ × ℕ)) (stable : ℕ) (has : HasLog d incarnation local_start closed active line stable)
-    (are : AreSegmentsOf local_start closed active) (is : IsLine line) (n : ℕ) (from : local_start ≤ n) (exact : cut_point n closed active ≡ n) (within : n ≤ end_of active) (up : stable ≤ n)
+module _ (d : Content) (laws : Lawful d) (incarnation local_start : ℕ) (closed : List Grown) (active : Grown) (line : List (ℕ × ℕ)) (flushed_end : ℕ) (has : HasLog d incarnation local_start closed active line flushed_end)
+    (are : AreSegmentsOf local_start closed active) (is : IsLine line) (n : ℕ) (from : local_start ≤ n) (exact : cut_point n closed active ≡ n) (within : n ≤ end_of active) (up : flushed_end ≤ n)
     (d' : Content) (laws' : Lawful d') (fate : Fate) (change : Trims (names_of (behind n closed active)) (open_by n closed active).base (size_of (front_to n (open_by n closed active))) fate d d') where
   abbrev pub segments : List Grown
   segments = closed ++ active ∷ []
@@ -172,8 +172,8 @@ module _ (d : Content) (laws : Lawful d) (incarnation local_start : ℕ) (closed
 
   listed_are_safe : Each (IsSafe last.base (size_of (front_to n last))) has.listed.segments
   listed_are_safe =
-      listed_safe stable n has.listed.segments front last later (last_laid local_start n closed active are from).laid up below high
-      (subst (AreListed stable has.listed.segments) all_parts has.lists)
+      listed_safe flushed_end n has.listed.segments front last later (last_laid local_start n closed active are from).laid up below high
+      (subst (AreListed flushed_end has.listed.segments) all_parts has.lists)
 
   front_is_safe : Each (IsSafe last.base (size_of (front_to n last))) (map extent_of front)
   front_is_safe = each_mapped (IsSafe last.base (size_of (front_to n last))) extent_of front (each_map (λ g lt. inr (inl lt)) front below)
@@ -186,7 +186,7 @@ module _ (d : Content) (laws : Lawful d) (incarnation local_start : ℕ) (closed
 
   -- an image has the manifest, and the fronts that it lists
   shed_image : (c : Files) → (x : Files) × Image d x × Trimmed (names_of later) last.base (size_of (front_to n last)) x c
-      → IsTrue d.tells × (c file.Manifest ≡ Some bytes) × Each (Agrees c d.files) has.listed.segments × Each (Agrees c d.files) (map extent_of front)
+      → IsTrue d.is_observable × (c file.Manifest ≡ Some bytes) × Each (Agrees c d.files) has.listed.segments × Each (Agrees c d.files) (map extent_of front)
   shed_image c h =
       let was = has.images h.0 h.1 in
       let kept = λ (e : Extent) (s : IsSafe last.base (size_of (front_to n last)) e) (a : Agrees h.0 d.files e). agrees_then h.0 c d.files e (trimmed_kept last.base (size_of (front_to n last)) n later low high h.0 c h.2 e s) a in (
@@ -196,7 +196,7 @@ module _ (d : Content) (laws : Lawful d) (incarnation local_start : ℕ) (closed
         each_both kept (map extent_of front) front_is_safe (closed_agree h.0 was.closed_fronts),
       )
 
-  now_image : (c : Files) → Image d' c → IsTrue d.tells × (c file.Manifest ≡ Some bytes) × Each (Agrees c d.files) has.listed.segments × Each (Agrees c d.files) (map extent_of front)
+  now_image : (c : Files) → Image d' c → IsTrue d.is_observable × (c file.Manifest ≡ Some bytes) × Each (Agrees c d.files) has.listed.segments × Each (Agrees c d.files) (map extent_of front)
   now_image c now = shed_image c (change.since.each c (laws'.earlier d.moment d'.moment c change.since.later now))
 
   pub shed_since : LeavesOnly d d' (OpensAs d)
@@ -208,8 +208,8 @@ module _ (d : Content) (laws : Lawful d) (incarnation local_start : ℕ) (closed
         λ o opens. (
             let i = shed_image c h in
             let was = has.images h.0 h.1 in
-            let r = opened_by h.0 bytes has.listed o was.manifest (reading d laws incarnation local_start closed active line stable has) opens in
-            opens_as c h.0 bytes has.listed o i.1 (reading d laws incarnation local_start closed active line stable has)
+            let r = opened_by h.0 bytes has.listed o was.manifest (reading d laws incarnation local_start closed active line flushed_end has) opens in
+            opens_as c h.0 bytes has.listed o i.1 (reading d laws incarnation local_start closed active line flushed_end has)
             (each_both (both_agree c h.0 d.files) has.listed.segments i.2 was.listed_fronts) r
             ),
       ))
@@ -217,30 +217,30 @@ module _ (d : Content) (laws : Lawful d) (incarnation local_start : ℕ) (closed
 
   pub shed_reopens : Reopens d'
   shed_reopens =
-      reopens_two d' d.files bytes bytes has.listed has.listed has.opened has.opened (reading d laws incarnation local_start closed active line stable has) (reading d laws incarnation local_start closed active line stable has)
+      reopens_two d' d.files bytes bytes has.listed has.listed has.opened has.opened (reading d laws incarnation local_start closed active line flushed_end has) (reading d laws incarnation local_start closed active line flushed_end has)
       (λ c now. (let i = now_image c now in (inl i.1, i.2, i.2)))
       (λ c now. (let r = has.read (now_image c now).0 in (r, r)))
 
   module _ (went : fate ≡ Went) where
-    told : IsTrue d'.tells → IsTrue d.tells
-    told t = subst IsTrue change.tells t
+    told : IsTrue d'.is_observable → IsTrue d.is_observable
+    told t = subst IsTrue change.is_observable t
 
-    told' : IsTrue d.tells → IsTrue d'.tells
-    told' t = subst IsTrue (sym change.tells) t
+    told' : IsTrue d.is_observable → IsTrue d'.is_observable
+    told' t = subst IsTrue (sym change.is_observable) t
 
-    last_bytes : IsTrue d.tells → bytes_of d'.files last ≡ take (size_of (front_to n last)) (bytes_of d.files last)
+    last_bytes : IsTrue d.is_observable → bytes_of d'.files last ≡ take (size_of (front_to n last)) (bytes_of d.files last)
     last_bytes t = ap bytes_in (change.cut went t) ∙ cut_bytes (size_of (front_to n last)) (d.files (file.Log last.base))
 
-    last_long : IsTrue d.tells → size_of (front_to n last) ≤ length (bytes_of d.files last)
-    last_long t = (each_right (IsStored d.files (cut_end line n)) front (front_to n last ∷ []) (short_stored d incarnation local_start closed active line stable has are is n from exact within t)).0.stands.long
+    last_long : IsTrue d.is_observable → size_of (front_to n last) ≤ length (bytes_of d.files last)
+    last_long t = (each_right (IsStored d.files (cut_end line n)) front (front_to n last ∷ []) (short_stored d incarnation local_start closed active line flushed_end has are is n from exact within t)).0.stands.long
 
-    last_size : IsTrue d.tells → length (bytes_of d'.files last) ≡ size_of (front_to n last)
+    last_size : IsTrue d.is_observable → length (bytes_of d'.files last) ≡ size_of (front_to n last)
     last_size t = ap length (last_bytes t) ∙ length-take-le (size_of (front_to n last)) (bytes_of d.files last) (last_long t)
 
-    files_agree : IsTrue d.tells → Each (Agrees d'.files d.files) has.listed.segments × Each (Agrees d'.files d.files) (map extent_of front)
+    files_agree : IsTrue d.is_observable → Each (Agrees d'.files d.files) has.listed.segments × Each (Agrees d'.files d.files) (map extent_of front)
     files_agree t = let i = now_image d'.files (laws'.reads (told' t)) in (i.2, i.3)
 
-    short_agrees : IsTrue d.tells → Each (Agrees d'.files d.files) (map extent_of short)
+    short_agrees : IsTrue d.is_observable → Each (Agrees d'.files d.files) (map extent_of short)
     short_agrees t =
         let size = size_of (front_to n last) in
         subst (Each (Agrees d'.files d.files)) (sym (map-append extent_of front (front_to n last ∷ [])))
@@ -252,15 +252,15 @@ module _ (d : Content) (laws : Lawful d) (incarnation local_start : ℕ) (closed
           tt,
         ))
 
-    stored_then : IsTrue d.tells → Each (IsStored d.files (cut_end line n)) short
-    stored_then t = short_stored d incarnation local_start closed active line stable has are is n from exact within t
+    stored_then : IsTrue d.is_observable → Each (IsStored d.files (cut_end line n)) short
+    stored_then t = short_stored d incarnation local_start closed active line flushed_end has are is n from exact within t
 
-    pub shed_batches : IsTrue d.tells → all_batches d'.files short ≡ up_to n (all_batches d.files segments)
+    pub shed_batches : IsTrue d.is_observable → all_batches d'.files short ≡ up_to n (all_batches d.files segments)
     shed_batches t =
         moved_batches d.files d'.files (cut_end line n) short (stored_then t) (short_agrees t)
-        ∙ short_batches d incarnation local_start closed active line stable has are is n from exact within t
+        ∙ short_batches d incarnation local_start closed active line flushed_end has are is n from exact within t
 
-    shed_clear : IsTrue d.tells → (b : ℕ) → Each (λ (g : Grown). b ≢ g.base) short → d'.files (file.Log b) ≡ None
+    shed_clear : IsTrue d.is_observable → (b : ℕ) → Each (λ (g : Grown). b ≢ g.base) short → d'.files (file.Log b) ≡ None
     shed_clear t b unlisted =
         let fronts = each_left (λ (g : Grown). b ≢ g.base) front (front_to n last ∷ []) unlisted in
         let ne = (each_right (λ (g : Grown). b ≢ g.base) front (front_to n last ∷ []) unlisted).0 in
@@ -272,7 +272,7 @@ module _ (d : Content) (laws : Lawful d) (incarnation local_start : ℕ) (closed
         ))
         (in_or_out b later)
 
-    pub shed_has : HasLog d' incarnation local_start front (front_to n last) (cut_end line n) stable
+    pub shed_has : HasLog d' incarnation local_start front (front_to n last) (cut_end line n) flushed_end
     shed_has = record {
       listed = has.listed;
       opened = has.opened;
@@ -291,9 +291,9 @@ module _ (d : Content) (laws : Lawful d) (incarnation local_start : ℕ) (closed
       incarnation_is = has.incarnation_is;
       start_is = has.start_is;
       end_is = λ t. has.end_is (told t);
-      batches_are = λ t. has.batches_are (told t) ∙ sym (up_to_up_to stable n (all_batches d.files segments) up) ∙ ap (up_to stable) (sym (shed_batches (told t)));
-      line_is = has.line_is ∙ sym (cut_cut line n stable up);
-      lists = listed_short stable n has.listed.segments front last later up high (subst (AreListed stable has.listed.segments) all_parts has.lists);
+      batches_are = λ t. has.batches_are (told t) ∙ sym (up_to_up_to flushed_end n (all_batches d.files segments) up) ∙ ap (up_to flushed_end) (sym (shed_batches (told t)));
+      line_is = has.line_is ∙ sym (cut_cut line n flushed_end up);
+      lists = listed_short flushed_end n has.listed.segments front last later up high (subst (AreListed flushed_end has.listed.segments) all_parts has.lists);
       stored = λ t. moved_all d.files d'.files (cut_end line n) short (stored_then (told t)) (short_agrees (told t));
       exact = λ t. last_size (told t);
       clear = λ t b unlisted. shed_clear (told t) b unlisted;

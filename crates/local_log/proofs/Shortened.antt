@@ -100,7 +100,7 @@ module _ (f : Files) (line other : List (ℕ × ℕ)) (n : ℕ) (g : Grown) (is 
       let p = up_to_prefix n s.batches in
       stored_batches f line g s ∙ sym p.1 ∙ ap (λ (l : List (List ℕ)). l ++ p.0) (sym (stored_batches f other (front_to n g) stored_front))
 
-module _ (d : Content) (incarnation local_start : ℕ) (closed : List Grown) (active : Grown) (line : List (ℕ × ℕ)) (stable : ℕ) (has : HasLog d incarnation local_start closed active line stable)
+module _ (d : Content) (incarnation local_start : ℕ) (closed : List Grown) (active : Grown) (line : List (ℕ × ℕ)) (flushed_end : ℕ) (has : HasLog d incarnation local_start closed active line flushed_end)
     (are : AreSegmentsOf local_start closed active) (is : IsLine line) (n : ℕ) (from : local_start ≤ n) (exact : cut_point n closed active ≡ n) (within : n ≤ end_of active) where
   abbrev pub segments : List Grown
   segments = closed ++ active ∷ []
@@ -132,30 +132,30 @@ module _ (d : Content) (incarnation local_start : ℕ) (closed : List Grown) (ac
   pub short_are : AreSegmentsOf local_start front (front_to n last)
   short_are = cut_are local_start n closed active are from (omega (arith, exact, within, are.low))
 
-  parts_stored : IsTrue d.tells → Each (IsStored d.files line) (front ++ last ∷ later)
+  parts_stored : IsTrue d.is_observable → Each (IsStored d.files line) (front ++ last ∷ later)
   parts_stored t = subst (Each (IsStored d.files line)) (parts local_start n closed active are from) (has.stored t)
 
-  last_stored : IsTrue d.tells → IsStored d.files line last
+  last_stored : IsTrue d.is_observable → IsStored d.files line last
   last_stored t = (each_right (IsStored d.files line) front (last ∷ later) (parts_stored t)).0
 
   last_ends : end_of (front_to n last) ≤ n
   last_ends = omega (arith, exact)
 
-  pub short_stored : IsTrue d.tells → Each (IsStored d.files line') short
+  pub short_stored : IsTrue d.is_observable → Each (IsStored d.files line') short
   short_stored t =
       each_join (IsStored d.files line') front (front_to n last ∷ [])
       (each_both (λ g s le. stored_below d.files line line' n g is short_line same_line s le) front (each_left (IsStored d.files line) front (last ∷ later) (parts_stored t)) (closed_low n closed))
       (stored_front d.files line line' n last is short_line same_line (last_stored t) (last_laid local_start n closed active are from).laid last_ends, tt)
 
-  whole_consecutive : IsTrue d.tells → IsConsecutive local_start whole
+  whole_consecutive : IsTrue d.is_observable → IsConsecutive local_start whole
   whole_consecutive t = consecutive_segments d.files line local_start (map extent_of segments) whole (stored_segments d.files line local_start segments are.chained (has.stored t))
 
-  pub short_end : IsTrue d.tells → end_from local_start (all_batches d.files short) ≡ n
+  pub short_end : IsTrue d.is_observable → end_from local_start (all_batches d.files short) ≡ n
   short_end t =
       all_end d.files line' local_start short (cut_chained local_start n closed active are from) (short_stored t)
       ∙ chain_snoc local_start front (front_to n last) ∙ exact
 
-  whole_parts : (t : IsTrue d.tells) → all_batches d.files short ++ ((up_to_prefix n (last_stored t).batches).0 ++ all_batches d.files later) ≡ whole
+  whole_parts : (t : IsTrue d.is_observable) → all_batches d.files short ++ ((up_to_prefix n (last_stored t).batches).0 ++ all_batches d.files later) ≡ whole
   whole_parts t =
       let fs = all_batches d.files front in
       let ks = batches_of d.files (front_to n last) in
@@ -169,7 +169,7 @@ module _ (d : Content) (incarnation local_start : ℕ) (closed : List Grown) (ac
       let s : all_batches d.files short ≡ fs ++ ks = all_append d.files front (front_to n last ∷ []) ∙ ap (λ (l : List (List ℕ)). fs ++ l) (append-nil ks) in
       ap (λ (l : List (List ℕ)). l ++ (rs ++ ls)) s ∙ append_assoc fs ks (rs ++ ls) ∙ ap (λ (l : List (List ℕ)). fs ++ l) (sym (append_assoc ks rs ls)) ∙ sym w
 
-  pub short_batches : IsTrue d.tells → all_batches d.files short ≡ up_to n whole
+  pub short_batches : IsTrue d.is_observable → all_batches d.files short ≡ up_to n whole
   short_batches t =
       sym (up_to_is local_start n (all_batches d.files short) whole (whole_consecutive t) ((up_to_prefix n (last_stored t).batches).0 ++ all_batches d.files later, whole_parts t) (short_end t))
 
@@ -183,10 +183,10 @@ module _ (d : Content) (incarnation local_start : ℕ) (closed : List Grown) (ac
   pub short_reading : 1 ≤ incarnation → incarnation < 2 ^ 32 → manifest_in (manifest_bytes manifest) ≡ Ok manifest
   short_reading one fits = manifest_again manifest (rules_of incarnation local_start front (front_to n last) line' one short_are short_line) fits
 
-  pub up_to_end : IsTrue d.tells → end_from local_start (up_to n whole) ≡ n
+  pub up_to_end : IsTrue d.is_observable → end_from local_start (up_to n whole) ≡ n
   up_to_end t = ap (λ (l : List (List ℕ)). end_from local_start l) (sym (short_batches t)) ∙ short_end t
 
-  pub short_read : IsTrue d.tells → IsRead manifest d.files opened
+  pub short_read : IsTrue d.is_observable → IsRead manifest d.files opened
   short_read t = record {
     incarnation = refl;
     local_start = refl;

@@ -40,15 +40,15 @@ pub either_published : (d m new : Content) → Lawful m → Keeps d m → Leaves
 either_published d m new laws-m k h = either_kept d m new laws-m k (either_opens m new h)
 
 -- a call after which each image opens so, and then others that change nothing that opens
-pub either_settled : (d m new : Content) (o : Opened) → Lawful m → Lawful new → new.tells ≡ m.tells → LeavesBeforeOrNow d m → ((c : Files) → Image m c → Opens c o) → LeavesOnly m new (OpensAs m) → LeavesBeforeOrNow d new
-either_settled d m new o laws-m laws tells h sure k =
+pub either_settled : (d m new : Content) (o : Opened) → Lawful m → Lawful new → new.is_observable ≡ m.is_observable → LeavesBeforeOrNow d m → ((c : Files) → Image m c → Opens c o) → LeavesOnly m new (OpensAs m) → LeavesBeforeOrNow d new
+either_settled d m new o laws-m laws is_observable h sure k =
     leaves_then d m new (OpensBeforeOrNow d new)
     (leaves_weaker d m (OpensBeforeOrNow d m) (OpensBeforeOrNow d new) (λ c i. ⊎_elim (λ was. inl was) (λ like. inr (as_new c like)) i) h)
     (leaves_weaker m new (OpensAs m) (OpensBeforeOrNow d new) (λ c like. inr (as_new c like)) k)
   where
     as_new : (c : Files) → OpensAs m c → OpensAs new c
     as_new c like =
-        let now : Image new new.files = laws.reads (subst IsTrue (sym tells) (laws-m.told like.0 like.1)) in
+        let now : Image new new.files = laws.reads (subst IsTrue (sym is_observable) (laws-m.told like.0 like.1)) in
         let like-new = k.each new.files (laws.earlier m.moment new.moment new.files k.later now) in
         let is : Opens new.files o = like-new.2 o (sure like-new.0 like-new.1) in
         (new.files, now, λ p by. subst (Opens c) (opens_once new.files o p is by) (like.2 o (sure like.0 like.1)))

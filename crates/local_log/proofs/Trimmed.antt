@@ -41,7 +41,7 @@ without_then xs ys a b c h k n =
 -- nothing to remove
 pub removes_none : (d : Content) → RemovesAll [] Went d d
 removes_none d = record {
-  tells = refl;
+  is_observable = refl;
   since = started d (λ c. (x : Files) × Image d x × Without [] x c) (λ c now. (c, now, without_none [] c));
   files = λ t. without_none [] d.files;
   gone = λ went t n named. absurd named;
@@ -49,8 +49,8 @@ removes_none d = record {
 
 -- some files and then others
 module _ (xs ys : List FileName) (fate : Fate) (d m d' : Content) (laws : Lawful m) (so_far : RemovesAll xs Went d m) (step : RemovesAll ys fate m d') where
-  told : IsTrue d.tells → IsTrue m.tells
-  told t = subst IsTrue (sym so_far.tells) t
+  told : IsTrue d.is_observable → IsTrue m.is_observable
+  told t = subst IsTrue (sym so_far.is_observable) t
 
   abbrev P : Files → Type 0
   P c = (x : Files) × Image d x × Without (ys ++ xs) x c
@@ -62,7 +62,7 @@ module _ (xs ys : List FileName) (fate : Fate) (d m d' : Content) (laws : Lawful
 
   pub removes_then : RemovesAll (ys ++ xs) fate d d'
   removes_then = record {
-    tells = step.tells ∙ so_far.tells;
+    is_observable = step.is_observable ∙ so_far.is_observable;
     since = leaves_then d m d' P
         (leaves_weaker d m _ P (λ c h. (h.0, h.1, without_then xs ys h.0 c c h.2 (without_none ys c))) so_far.since)
         (leaves_weaker m d' _ P (λ c h. was_before h.0 c h.1 h.2) step.since);
@@ -96,7 +96,7 @@ module _ (name : FileName) (fate : Fate) (d d' : Content) (M : Bool → Type 0) 
     | inr ne ↦ inl (only.others n ne)
   ]
 
-  gone_at : fate ≡ Went → IsTrue d.tells → (n : FileName) → In n (name ∷ []) → d'.files n ≡ None
+  gone_at : fate ≡ Went → IsTrue d.is_observable → (n : FileName) → In n (name ∷ []) → d'.files n ≡ None
   gone_at went t n (inl is) =
       let read = change.files t in
       subst (λ (k : FileName). d'.files k ≡ None) (sym is) (read.2.there ∙ ap (λ (b : Bool). cond b None (d.files name)) (done went read.0 read.1))
@@ -104,7 +104,7 @@ module _ (name : FileName) (fate : Fate) (d d' : Content) (M : Bool → Type 0) 
 
   pub one_removed : RemovesAll (name ∷ []) fate d d'
   one_removed = record {
-    tells = change.tells;
+    is_observable = change.is_observable;
     since = goes_on d d d' _ (started d (λ c. (x : Files) × Image d x × Without (name ∷ []) x c) (λ c now. (c, now, without_none (name ∷ []) c))) change.time image_of;
     files = λ t. (let read = change.files t in read_of read.0 read.2);
     gone = gone_at;
@@ -120,7 +120,7 @@ module _ (names : List FileName) (base len : ℕ) (apart : In (Log base) names �
 
   pub trims_none : (fate other : Fate) (d m : Content) → (other ≡ Went → ⊥) → RemovesAll names fate d m → Trims names base len other d m
   trims_none fate other d m not h = record {
-    tells = h.tells;
+    is_observable = h.is_observable;
     since = leaves_weaker d m _ _ (λ c k. (k.0, k.1, trimmed_by k.0 c k.2)) h.since;
     others = λ t n ne. h.files t n;
     gone = λ went. absurd (not went);
@@ -128,8 +128,8 @@ module _ (names : List FileName) (base len : ℕ) (apart : In (Log base) names �
   }
 
   module _ (fate : Fate) (d m d' : Content) (laws : Lawful m) (so_far : RemovesAll names Went d m) (M : Bool → Type 0) (change : Changes (Log base) (cut_to len) (CutBack len) M m d') (done : fate ≡ Went → (b : Bool) → M b → IsTrue b) where
-    told_m : IsTrue d.tells → IsTrue m.tells
-    told_m t = subst IsTrue (sym so_far.tells) t
+    told_m : IsTrue d.is_observable → IsTrue m.is_observable
+    told_m t = subst IsTrue (sym so_far.is_observable) t
 
     cut_image : (c : Files) → Image d' c → (x : Files) × Image d x × Trimmed names base len x c
     cut_image c now =
@@ -146,7 +146,7 @@ module _ (names : List FileName) (base len : ℕ) (apart : In (Log base) names �
 
     pub trims : Trims names base len fate d d'
     trims = record {
-      tells = change.tells ∙ so_far.tells;
+      is_observable = change.is_observable ∙ so_far.is_observable;
       since = goes_on d m d' _ (leaves_weaker d m _ _ (λ c k. (k.0, k.1, trimmed_by k.0 c k.2)) so_far.since) change.time cut_image;
       others = λ t n ne. (
           let read = change.files (told_m t) in
@@ -166,7 +166,7 @@ module _ (names : List FileName) (base len : ℕ) (apart : In (Log base) names �
 -- removals that failed, told of more files
 pub removes_wider : (front names : List FileName) (fate other : Fate) (d d' : Content) → (other ≡ Went → ⊥) → RemovesAll names fate d d' → RemovesAll (front ++ names) other d d'
 removes_wider front names fate other d d' not h = record {
-  tells = h.tells;
+  is_observable = h.is_observable;
   since = leaves_weaker d d' _ _ (λ c k. (k.0, k.1, without_wider k.0 c k.2)) h.since;
   files = λ t. without_wider d.files d'.files (h.files t);
   gone = λ went. absurd (not went);

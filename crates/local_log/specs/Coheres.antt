@@ -1,4 +1,4 @@
--- What the batches, the ends and the line of an open log have to do with one another, over a disk that tells.
+-- What the batches, the ends and the line of an open log have to do with one another, over an observable disk.
 use Rattle.std.specs.Prelude.{◌≡◌, ℕ, ◌+◌, ◌≤◌, ◌<◌, List, [], ◌∷◌, ◌++◌, IsOk}
 use Rattle.log_terms.specs.Log.{IsConsecutive, end_from, up_to}
 use Rattle.record_batch.specs.Check.{checked}
@@ -20,7 +20,7 @@ Hold first (segment ∷ segments) batches = (own : List (List ℕ)) × (rest : L
 pub record Coheres {D : Type 0} (log : Log D) : Type 0 where
   pub consecutive : IsConsecutive log.local_start log.batches
   pub ends : end_from log.local_start log.batches ≡ log.end
-  pub stable_within : log.stable ≤ log.end
+  pub flushed_end_within : log.flushed_end ≤ log.end
   -- no entry of the line starts past the end
   pub line_within : cut_end log.line (log.end + 1) ≡ log.line
   -- a cut to an offset ends with the last batch that ends at or below it

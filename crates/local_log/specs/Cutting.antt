@@ -15,7 +15,7 @@ use Rattle.segment_file.specs.Growing.{Grown}
 use Rattle.log_steps.specs.Opens.{Opened, Opens}
 use Rattle.local_log.specs.Stored.{end_of}
 use Rattle.local_log.specs.Listing.{front_to}
-use Rattle.local_log.specs.Log.{Log, OpensStable}
+use Rattle.local_log.specs.Log.{Log, OpensFlushed}
 
 -- the segments that end at or below an offset: they stay closed
 abbrev pub closed_by : ℕ → List Grown → List Grown
@@ -54,19 +54,19 @@ module _ {D : Type 0} where
 
   -- stable up to one of its ends
   abbrev pub settled : Log D → ℕ → Log D
-  settled log end = record log { stable = end }
+  settled log end = record log { flushed_end = end }
 
-  -- without what ends past one of its ends, and all of it is stable
+  -- without what ends past one of its ends, and all of it is flushed
   abbrev pub cut : Log D → ℕ → Log D
-  cut log end = record (shortened log end) { stable = end }
+  cut log end = record (shortened log end) { flushed_end = end }
 
-  -- empty at an offset, and all of it is stable, with this line
+  -- empty at an offset, and all of it is flushed, with this line
   abbrev pub restarted : Log D → ℕ → List (ℕ × ℕ) → Log D
   restarted log start line = record log {
     local_start = start;
     batches = [];
     end = start;
-    stable = start;
+    flushed_end = start;
     line = line;
     closed = [];
     active = record { base = start; interval = log.settings.index_interval; batches = [] };
@@ -87,9 +87,9 @@ module _ {D : Type 0} where
     line = log.line;
   }
 
-  -- the stable log of before, or all of the one after
+  -- the flushed log of before, or all of the one after
   abbrev pub OpensEither : Log D → Log D → Files → Type 0
-  OpensEither old new c = OpensStable old c ⊎ Opens c (all_of new)
+  OpensEither old new c = OpensFlushed old c ⊎ Opens c (all_of new)
 
   -- the batches that end at or below an offset are left, and the log ends with them
   pub record IsLeftUpTo (old : Log D) (end : ℕ) (new : Log D) : Type 0 where
@@ -114,14 +114,14 @@ module _ {D : Type 0} where
     line = cut_end log.line (log.end + 1);
   }
 
-  -- the stable log of before, or the log cut to one of its ends
+  -- the flushed log of before, or the log cut to one of its ends
   abbrev pub Cutting : Log D → ℕ → Files → Type 0
-  Cutting log end c = OpensStable log c ⊎ Opens c (opened_to log end)
+  Cutting log end c = OpensFlushed log c ⊎ Opens c (opened_to log end)
 
   -- a fault of the disk broke the log, and its files may be those of before or not
   pub record Breaks (content : D → Content) (before new : Log D) : Type 0 where
     pub fields : new ≡ record before { disk = new.disk; batches = new.batches; broken = true }
-    pub tells : (content new.disk).tells ≡ (content before.disk).tells
+    pub is_observable : (content new.disk).is_observable ≡ (content before.disk).is_observable
 
 -- it opens as an image of before does
 abbrev pub OpensAs : Content → Files → Type 0
@@ -145,10 +145,10 @@ Without names d c = (n : FileName) → (c n ≡ d n) ⊎ (In n names × (c n ≡
 
 -- files are removed
 pub record RemovesAll (names : List FileName) (fate : Fate) (old new : Content) : Type 0 where
-  pub tells : new.tells ≡ old.tells
+  pub is_observable : new.is_observable ≡ old.is_observable
   pub since : LeavesOnly old new (λ c. (d : Files) × Image old d × Without names d c)
-  pub files : IsTrue old.tells → Without names old.files new.files
-  pub gone : fate ≡ Went → IsTrue old.tells → (n : FileName) → In n names → new.files n ≡ None
+  pub files : IsTrue old.is_observable → Without names old.files new.files
+  pub gone : fate ≡ Went → IsTrue old.is_observable → (n : FileName) → In n names → new.files n ≡ None
 
 -- files of these names may be gone, and a segment's file is cut or whole
 pub record Trimmed (names : List FileName) (base len : ℕ) (d c : Files) : Type 0 where
@@ -157,9 +157,9 @@ pub record Trimmed (names : List FileName) (base len : ℕ) (d c : Files) : Type
 
 -- files are removed, and then a segment's file is cut
 pub record Trims (names : List FileName) (base len : ℕ) (fate : Fate) (old new : Content) : Type 0 where
-  pub tells : new.tells ≡ old.tells
+  pub is_observable : new.is_observable ≡ old.is_observable
   pub since : LeavesOnly old new (λ c. (d : Files) × Image old d × Trimmed names base len d c)
-  pub others : IsTrue old.tells → (n : FileName) → n ≢ file.Log base
+  pub others : IsTrue old.is_observable → (n : FileName) → n ≢ file.Log base
       → (new.files n ≡ old.files n) ⊎ (In n names × (new.files n ≡ None))
-  pub gone : fate ≡ Went → IsTrue old.tells → (n : FileName) → In n names → new.files n ≡ None
-  pub cut : fate ≡ Went → IsTrue old.tells → new.files (file.Log base) ≡ cut_to len (old.files (file.Log base))
+  pub gone : fate ≡ Went → IsTrue old.is_observable → (n : FileName) → In n names → new.files n ≡ None
+  pub cut : fate ≡ Went → IsTrue old.is_observable → new.files (file.Log base) ≡ cut_to len (old.files (file.Log base))

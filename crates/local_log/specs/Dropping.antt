@@ -5,7 +5,7 @@ use Rattle.log_terms.specs.Log.{from_offset}
 use Rattle.segment_file.specs.Growing.{Grown}
 use Rattle.log_steps.specs.Opens.{Opens}
 use Rattle.local_log.specs.Stored.{end_of}
-use Rattle.local_log.specs.Log.{Log, OpensStable, stable_log}
+use Rattle.local_log.specs.Log.{Log, OpensFlushed, flushed_log}
 
 -- the first of some segments, and those behind it
 abbrev pub first_of : List Grown → List Grown
@@ -21,10 +21,10 @@ abbrev pub start_behind : ℕ → List Grown → ℕ
 start_behind start [] = start
 start_behind start (first ∷ rest) = end_of first
 
--- there is a first one, and it ends at or below the stable end
-abbrev pub IsFirstStable : ℕ → List Grown → Type 0
-IsFirstStable stable [] = ⊥
-IsFirstStable stable (first ∷ rest) = end_of first ≤ stable
+-- there is a first one, and it ends at or below the flushed end
+abbrev pub IsFirstFlushed : ℕ → List Grown → Type 0
+IsFirstFlushed flushed_end [] = ⊥
+IsFirstFlushed flushed_end (first ∷ rest) = end_of first ≤ flushed_end
 
 -- the base and the last offset of the first one
 abbrev pub SpansFirst : List Grown → ℕ × ℕ → Type 0
@@ -40,6 +40,6 @@ module _ {D : Type 0} where
     closed = rest_of log.closed;
   }
 
-  -- the stable log of before, or the one without the first segment
+  -- the flushed log of before, or the one without the first segment
   abbrev pub OpensDropped : Log D → Files → Type 0
-  OpensDropped log c = OpensStable log c ⊎ Opens c (stable_log (dropped log))
+  OpensDropped log c = OpensFlushed log c ⊎ Opens c (flushed_log (dropped log))

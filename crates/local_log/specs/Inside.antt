@@ -14,31 +14,32 @@ use Rattle.log_steps.specs.Reopens.{Reopens}
 use Rattle.log_steps.specs.Stands.{Stands}
 use Rattle.local_log.specs.declared.log.LocalLog.TheInside.{Inside}
 use Rattle.local_log.specs.Stored.{bytes_of, all_batches, size_of, end_of, extent_of, IsStored}
-use Rattle.local_log.specs.Log.{Log, AreSettings, IsStable}
+use Rattle.local_log.specs.Log.{Log, AreSettings, IsFlushed}
 use Rattle.local_log.specs.Listing.{AreSegmentsOf, AreListed}
 
--- the disk has the log: its images the stable log, and its files all of it
+-- the disk has the log: its images the flushed log, and its files all of it
 pub record HasLog (d : Content) (incarnation local_start : ℕ) (closed : List Grown) (active : Grown)
-    (line : List (ℕ × ℕ)) (stable : ℕ) : Type 0 where
+    (line : List (ℕ × ℕ)) (flushed_end : ℕ) : Type 0 where
   -- what each image's manifest says, and what it is read as
   pub listed : Manifest
   pub opened : Opened
   pub rules : IsManifest listed
   pub fits : listed.incarnation < 2 ^ 32
   pub images : Stands d (manifest_bytes listed) listed.segments (map extent_of closed)
-  pub read : IsTrue d.tells → IsRead listed d.files opened
+  pub read : IsTrue d.is_observable → IsRead listed d.files opened
   pub incarnation_is : opened.incarnation ≡ incarnation
   pub start_is : opened.local_start ≡ local_start
-  pub end_is : IsTrue d.tells → end_from opened.local_start opened.batches ≡ stable
-  pub batches_are : IsTrue d.tells → opened.batches ≡ up_to stable (all_batches d.files (closed ++ active ∷ []))
-  pub line_is : cut_end opened.line stable ≡ cut_end line stable
-  -- the manifest lists the present segments up to the stable end
-  pub lists : AreListed stable listed.segments (closed ++ active ∷ [])
+  pub end_is : IsTrue d.is_observable → end_from opened.local_start opened.batches ≡ flushed_end
+  pub batches_are : IsTrue d.is_observable
+      → opened.batches ≡ up_to flushed_end (all_batches d.files (closed ++ active ∷ []))
+  pub line_is : cut_end opened.line flushed_end ≡ cut_end line flushed_end
+  -- the manifest lists the present segments up to the flushed end
+  pub lists : AreListed flushed_end listed.segments (closed ++ active ∷ [])
   -- what reads
-  pub stored : IsTrue d.tells → Each (IsStored d.files line) (closed ++ active ∷ [])
-  pub exact : IsTrue d.tells → length (bytes_of d.files active) ≡ size_of active
+  pub stored : IsTrue d.is_observable → Each (IsStored d.files line) (closed ++ active ∷ [])
+  pub exact : IsTrue d.is_observable → length (bytes_of d.files active) ≡ size_of active
   -- no other segment's file
-  pub clear : IsTrue d.tells → (b : ℕ) → Each (λ (g : Grown). b ≢ g.base) (closed ++ active ∷ [])
+  pub clear : IsTrue d.is_observable → (b : ℕ) → Each (λ (g : Grown). b ≢ g.base) (closed ++ active ∷ [])
       → d.files (file.Log b) ≡ None
 
 module _ {D : Type 0} (content : D → Content) where
@@ -50,7 +51,7 @@ module _ {D : Type 0} (content : D → Content) where
     local_start = log.local_start;
     batches = all_batches (content log.disk).files (log.closed.items ++ log.active ∷ []);
     end = end_of log.active;
-    stable = log.stable;
+    flushed_end = log.flushed_end;
     line = log.line;
     closed = log.closed.items;
     active = log.active;
@@ -64,8 +65,8 @@ module _ {D : Type 0} (content : D → Content) where
     pub fits : log.incarnation < 2 ^ 32
     pub line : IsLine log.line
     pub line_within : Each (λ (entry : ℕ × ℕ). entry.1 ≤ end_of log.active) log.line
-    pub stable_within : log.stable ≤ end_of log.active
+    pub flushed_end_within : log.flushed_end ≤ end_of log.active
     pub has : log.broken ≡ false
-        → HasLog (content log.disk) log.incarnation log.local_start log.closed.items log.active log.line log.stable
+        → HasLog (content log.disk) log.incarnation log.local_start log.closed.items log.active log.line log.flushed_end
     -- a broken log can be opened again too
     pub reopens : Reopens (content log.disk)

@@ -14,11 +14,11 @@ pub record Log (D : Type 0) : Type 0 where
   -- how often the log was opened
   pub incarnation : ℕ
   pub local_start : ℕ
-  -- where the disk tells, the batches from the local start on
+  -- where the disk is observable, the batches from the local start on
   pub batches : List (List ℕ)
-  -- the log end offset, and the offset up to which the log is stable
+  -- the log end offset, and the offset up to which the log is flushed
   pub end : ℕ
-  pub stable : ℕ
+  pub flushed_end : ℕ
   pub line : List (ℕ × ℕ)
   -- the closed segments, and the open one
   pub closed : List Grown
@@ -45,30 +45,30 @@ pub record IsUpTo (incarnation local_start end : ℕ) (all : List (List ℕ)) (l
   pub line_is : cut_end o.line end ≡ cut_end line end
 
 module _ {D : Type 0} where
-  -- the log up to its stable end, with the line's entries that start at or below it
-  abbrev pub stable_log : Log D → Opened
-  stable_log log = record {
+  -- the log up to its flushed end, with the line's entries that start at or below it
+  abbrev pub flushed_log : Log D → Opened
+  flushed_log log = record {
     incarnation = log.incarnation;
     local_start = log.local_start;
-    batches = up_to log.stable log.batches;
-    line = cut_end log.line (log.stable + 1);
+    batches = up_to log.flushed_end log.batches;
+    line = cut_end log.line (log.flushed_end + 1);
   }
 
-  -- the stable log; an entry of the line that starts at its end may be another
-  abbrev pub IsStable : Log D → Opened → Type 0
-  IsStable log o = IsUpTo log.incarnation log.local_start log.stable log.batches log.line o
+  -- the flushed log; an entry of the line that starts at its end may be another
+  abbrev pub IsFlushed : Log D → Opened → Type 0
+  IsFlushed log o = IsUpTo log.incarnation log.local_start log.flushed_end log.batches log.line o
 
-  -- the image opens as the stable log
-  abbrev pub OpensStable : Log D → Files → Type 0
-  OpensStable log c = (o : Opened) × Opens c o × IsStable log o
+  -- the image opens as the flushed log
+  abbrev pub OpensFlushed : Log D → Files → Type 0
+  OpensFlushed log c = (o : Opened) × Opens c o × IsFlushed log o
 
-  -- all of the log is stable, with this line
+  -- all of the log is flushed, with this line
   abbrev pub committed : Log D → List (ℕ × ℕ) → Log D
-  committed log line = record log { stable = log.end; line = line }
+  committed log line = record log { flushed_end = log.end; line = line }
 
-  -- the stable log of before, or all of it with this line
+  -- the flushed log of before, or all of it with this line
   abbrev pub Committing : Log D → List (ℕ × ℕ) → Files → Type 0
-  Committing log line c = OpensStable log c ⊎ OpensStable (committed log line) c
+  Committing log line c = OpensFlushed log c ⊎ OpensFlushed (committed log line) c
 
   -- a log that was just made
   pub record IsFirst (settings : Settings) (log : Log D) : Type 0 where
@@ -76,7 +76,7 @@ module _ {D : Type 0} where
     pub incarnation : log.incarnation ≡ 1
     pub local_start : log.local_start ≡ 0
     pub end : log.end ≡ 0
-    pub stable : log.stable ≡ 0
+    pub flushed_end : log.flushed_end ≡ 0
     pub line : log.line ≡ []
     pub closed : log.closed ≡ []
     pub active : log.active ≡ record { base = 0; interval = settings.index_interval; batches = [] }
@@ -85,8 +85,8 @@ module _ {D : Type 0} where
 -- a call makes this of a log, on the disk as the call left it
 pub record Becomes {D : Type 0} (content : D → Content) (then new : Log D) : Type 0 where
   pub fields : new ≡ record then { disk = new.disk; batches = new.batches }
-  pub tells : (content new.disk).tells ≡ (content then.disk).tells
-  pub batches : IsTrue (content then.disk).tells → new.batches ≡ then.batches
+  pub is_observable : (content new.disk).is_observable ≡ (content then.disk).is_observable
+  pub batches : IsTrue (content then.disk).is_observable → new.batches ≡ then.batches
 
 -- an image of before, or the log that was to be made
 abbrev pub Creating : Content → Files → Type 0

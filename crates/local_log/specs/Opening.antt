@@ -33,30 +33,30 @@ HoldsLast f = (m : Manifest) × Says f m × (m.incarnation ≡ 4294967295)
 
 -- why a segment isn't read: it doesn't begin where those before it end, or its file has no batch at a place
 abbrev pub SegmentFails : List (ℕ × ℕ) → ℕ → Extent → List ℕ → OpenRefusal → Type 0
-SegmentFails line end e handed DiskFault = Unit {0}
-SegmentFails line end e handed (Damaged name at) =
-    (name ≡ file.Log e.base) × (((e.base ≢ end) × (at ≡ 0)) ⊎ ((e.base ≡ end) × HasNoBatchAt line e handed at))
-SegmentFails line end e handed LastIncarnation = ⊥
-SegmentFails line end e handed NoMemory = Unit {0}
+SegmentFails line end e last_read DiskFault = Unit {0}
+SegmentFails line end e last_read (Damaged name at) =
+    (name ≡ file.Log e.base) × (((e.base ≢ end) × (at ≡ 0)) ⊎ ((e.base ≡ end) × HasNoBatchAt line e last_read at))
+SegmentFails line end e last_read LastIncarnation = ⊥
+SegmentFails line end e last_read NoMemory = Unit {0}
 
 -- what was handed is a segment's file, and its batches end there
-pub record ReadsTo (line : List (ℕ × ℕ)) (e : Extent) (handed : List ℕ) (end : ℕ) : Type 0 where
+pub record ReadsTo (line : List (ℕ × ℕ)) (e : Extent) (last_read : List ℕ) (end : ℕ) : Type 0 where
   pub batches : List (List ℕ)
-  pub fronts : Fronts line e.base (take e.len handed) batches []
-  pub long : e.len ≤ length handed
+  pub fronts : Fronts line e.base (take e.len last_read) batches []
+  pub long : e.len ≤ length last_read
   pub end_is : end ≡ end_from e.base batches
 
 -- the file of a segment of the manifest was handed, and has no batch at a place
-pub record HasUnread (m : Manifest) (handed : List ℕ) (name : FileName) (at : ℕ) : Type 0 where
+pub record HasUnread (m : Manifest) (last_read : List ℕ) (name : FileName) (at : ℕ) : Type 0 where
   pub before : List Extent
   pub extent : Extent
   pub after : List Extent
   pub parts : m.segments ≡ before ++ extent ∷ after
   pub named : name ≡ file.Log extent.base
-  pub misses : HasNoBatchAt m.line extent handed at
+  pub misses : HasNoBatchAt m.line extent last_read at
 
 -- the file of a segment of the manifest was handed, and the next one doesn't begin where its batches end
-pub record HasGap (m : Manifest) (handed : List ℕ) (name : FileName) (at : ℕ) : Type 0 where
+pub record HasGap (m : Manifest) (last_read : List ℕ) (name : FileName) (at : ℕ) : Type 0 where
   pub before : List Extent
   pub extent : Extent
   pub next : Extent
@@ -64,20 +64,20 @@ pub record HasGap (m : Manifest) (handed : List ℕ) (name : FileName) (at : ℕ
   pub parts : m.segments ≡ before ++ extent ∷ next ∷ after
   pub named : name ≡ file.Log next.base
   pub end : ℕ
-  pub reads : ReadsTo m.line extent handed end
+  pub reads : ReadsTo m.line extent last_read end
   pub apart : next.base ≢ end
   pub place : at ≡ 0
 
 -- a segment of a manifest has no reading at a place of its file
 abbrev pub MissesSegment : Manifest → List ℕ → FileName → ℕ → Type 0
-MissesSegment m handed name at = HasUnread m handed name at ⊎ HasGap m handed name at
+MissesSegment m last_read name at = HasUnread m last_read name at ⊎ HasGap m last_read name at
 
 -- why the segments of a manifest aren't read
 abbrev pub ReadFails : Manifest → List ℕ → OpenRefusal → Type 0
-ReadFails m handed DiskFault = Unit {0}
-ReadFails m handed (Damaged name at) = MissesSegment m handed name at
-ReadFails m handed LastIncarnation = ⊥
-ReadFails m handed NoMemory = Unit {0}
+ReadFails m last_read DiskFault = Unit {0}
+ReadFails m last_read (Damaged name at) = MissesSegment m last_read name at
+ReadFails m last_read LastIncarnation = ⊥
+ReadFails m last_read NoMemory = Unit {0}
 
 -- the first place of a manifest's segments that has no reading in these files: those before its segment have one
 pub record MissesIn (f : Files) (m : Manifest) (name : FileName) (at : ℕ) : Type 0 where
@@ -125,12 +125,12 @@ Lists f segments = ListsFrom (f file.Manifest) (map extent_of segments)
 
 -- why a log wasn't opened, by what was handed last: the manifest has no reading at a place, or a segment that it lists
 abbrev pub OpenFails : List ℕ → OpenRefusal → Type 0
-OpenFails handed DiskFault = Unit {0}
-OpenFails handed (Damaged name at) =
-    ((name ≡ file.Manifest) × (manifest_in handed ≡ Err (Bad at)))
-    ⊎ ((m : Manifest) × IsManifest m × MissesSegment m handed name at)
-OpenFails handed LastIncarnation = IsLastOf handed
-OpenFails handed NoMemory = Unit {0}
+OpenFails last_read DiskFault = Unit {0}
+OpenFails last_read (Damaged name at) =
+    ((name ≡ file.Manifest) × (manifest_in last_read ≡ Err (Bad at)))
+    ⊎ ((m : Manifest) × IsManifest m × MissesSegment m last_read name at)
+OpenFails last_read LastIncarnation = IsLastOf last_read
+OpenFails last_read NoMemory = Unit {0}
 
 module _ {D : Type 0} where
   -- a log that was just opened
@@ -138,7 +138,7 @@ module _ {D : Type 0} where
     pub settings_are : log.settings ≡ settings
     pub intervals : Each (λ (segment : Grown). segment.interval ≡ settings.index_interval)
         (log.closed ++ log.active ∷ [])
-    pub stable : log.stable ≡ log.end
+    pub flushed_end : log.flushed_end ≡ log.end
     pub broken : log.broken ≡ false
 
   -- the log of what was read, under the next incarnation

@@ -67,7 +67,7 @@ pub record StandsNext (line : List (ℕ × ℕ)) (base : ℕ) (bytes : List ℕ)
   pub parts : drop at bytes ≡ batch ++ drop (at + size_in head) bytes
   pub placed : IsPlaced line base batch
   pub begins : base_of batch ≡ end
-  pub tells : Tells batch head
+  pub is_observable : Tells batch head
   pub inside : at + size_in head ≤ length bytes
 
 -- no batch stands there that goes on

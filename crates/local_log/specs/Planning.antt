@@ -49,7 +49,7 @@ pub record IsPlan (held : Option (List ℕ)) (plan : Plan) : Type 0 where
 pub record IsPlanOf (d : Content) (plan : Plan) : Type 0 where
   pub held : Option (List ℕ)
   pub is : IsPlan held plan
-  pub told : IsTrue d.tells → d.files file.Manifest ≡ held
+  pub told : IsTrue d.is_observable → d.files file.Manifest ≡ held
 
 -- why no plan is made of the manifest's bytes
 abbrev pub PlanFails : List ℕ → OpenRefusal → Type 0
@@ -65,10 +65,10 @@ FileFails (Some bytes) why = PlanFails bytes why
 
 -- why nothing was planned, by what was handed last
 abbrev pub StudyFails : List ℕ → OpenRefusal → Type 0
-StudyFails handed DiskFault = Unit {0}
-StudyFails handed (Damaged name at) = (name ≡ file.Manifest) × (manifest_in handed ≡ Err (Bad at))
-StudyFails handed LastIncarnation = IsLastOf handed
-StudyFails handed NoMemory = Unit {0}
+StudyFails last_read DiskFault = Unit {0}
+StudyFails last_read (Damaged name at) = (name ≡ file.Manifest) × (manifest_in last_read ≡ Err (Bad at))
+StudyFails last_read LastIncarnation = IsLastOf last_read
+StudyFails last_read NoMemory = Unit {0}
 
 -- segments were read from their files, one after another
 pub record AreRead (d : Content) (line : List (ℕ × ℕ)) (interval start : ℕ) (extents : List Extent)
@@ -78,13 +78,13 @@ pub record AreRead (d : Content) (line : List (ℕ × ℕ)) (interval start : �
   pub laid : Each IsLaidOut segments
   pub intervals : Each (λ (segment : Grown). segment.interval ≡ interval) segments
   pub low : chain_end start segments ≤ 2 ^ 62
-  pub stored : IsTrue d.tells → Each (IsStored d.files line) segments
+  pub stored : IsTrue d.is_observable → Each (IsStored d.files line) segments
 
 -- nothing was read yet, or the last segment's file was handed and its batches end there
 abbrev pub LastRead : List (ℕ × ℕ) → ℕ → List Extent → ℕ → List ℕ → Type 0
-LastRead line start extents end handed =
+LastRead line start extents end last_read =
     ((extents ≡ []) × (end ≡ start))
-    ⊎ ((before : List Extent) × (e : Extent) × (extents ≡ before ++ e ∷ []) × ReadsTo line e handed end)
+    ⊎ ((before : List Extent) × (e : Extent) × (extents ≡ before ++ e ∷ []) × ReadsTo line e last_read end)
 
 -- a segment was read from its file, behind segments that end there
 pub record IsRead (d : Content) (line : List (ℕ × ℕ)) (interval end : ℕ) (e : Extent) (segment : Grown) : Type 0 where
@@ -93,7 +93,7 @@ pub record IsRead (d : Content) (line : List (ℕ × ℕ)) (interval end : ℕ) 
   pub laid : IsLaidOut segment
   pub interval_is : segment.interval ≡ interval
   pub low : end_of segment ≤ 2 ^ 62
-  pub stored : IsTrue d.tells → IsStored d.files line segment
+  pub stored : IsTrue d.is_observable → IsStored d.files line segment
 
 -- the log of these parts, whole
 abbrev pub whole_of : Files → Parts → Opened
@@ -106,7 +106,7 @@ whole_of f parts = record {
 
 -- a log was opened: its parts, what the disk has of it, and what the disk read before
 pub record IsOpened (d d' : Content) (interval : ℕ) (parts : Parts) : Type 0 where
-  pub tells : d'.tells ≡ d.tells
+  pub is_observable : d'.is_observable ≡ d.is_observable
   pub segments : AreSegmentsOf parts.local_start parts.closed.items parts.active
   pub intervals : Each (λ (segment : Grown). segment.interval ≡ interval) (parts.closed.items ++ parts.active ∷ [])
   pub opened : 1 ≤ parts.incarnation
@@ -115,6 +115,6 @@ pub record IsOpened (d d' : Content) (interval : ℕ) (parts : Parts) : Type 0 w
   pub line_within : Each (λ (entry : ℕ × ℕ). entry.1 ≤ end_of parts.active) parts.line
   pub has : HasLog d' parts.incarnation parts.local_start parts.closed.items parts.active parts.line
       (end_of parts.active)
-  pub lists : IsTrue d.tells → Lists d.files (parts.closed.items ++ parts.active ∷ [])
-  pub was : IsTrue d.tells → (o : Opened) × Opens d.files o × (whole_of d'.files parts ≡ raised o)
+  pub lists : IsTrue d.is_observable → Lists d.files (parts.closed.items ++ parts.active ∷ [])
+  pub was : IsTrue d.is_observable → (o : Opened) × Opens d.files o × (whole_of d'.files parts ≡ raised o)
   pub durable : (c : Files) → Image d' c → Opens c (whole_of d'.files parts)

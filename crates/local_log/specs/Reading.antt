@@ -151,18 +151,18 @@ module _ {D : Type 0} where
 
   -- what is answered for the first closed segment that ends past an offset
   abbrev pub IsClosedFrom : Log D → ℕ → List ℕ → Option Whole → Type 0
-  IsClosedFrom log offset handed None = first_past offset log.closed ≡ None
-  IsClosedFrom log offset handed (Some whole) =
+  IsClosedFrom log offset last_read None = first_past offset log.closed ≡ None
+  IsClosedFrom log offset last_read (Some whole) =
       (segment : Grown) × (first_past offset log.closed ≡ Some segment)
-      × IsFront log.line segment.base (size_of segment) handed whole
+      × IsFront log.line segment.base (size_of segment) last_read whole
 
   -- why it isn't read
   abbrev pub ClosedFails : Log D → ℕ → List ℕ → ReadRefusal → Type 0
-  ClosedFails log offset handed (Damaged name at) =
+  ClosedFails log offset last_read (Damaged name at) =
       (segment : Grown) × (first_past offset log.closed ≡ Some segment) × (name ≡ file.Log segment.base)
-      × HasNoSegment log.line segment.base (size_of segment) handed at
-  ClosedFails log offset handed DiskFault = Unit {0}
-  ClosedFails log offset handed NoMemory = Unit {0}
+      × HasNoSegment log.line segment.base (size_of segment) last_read at
+  ClosedFails log offset last_read DiskFault = Unit {0}
+  ClosedFails log offset last_read NoMemory = Unit {0}
 
   -- the segment's batches stand in the log, from its base to its last offset
   pub record IsPartOf (log : Log D) (whole : Whole) : Type 0 where
@@ -181,17 +181,18 @@ module _ {D : Type 0} where
     pub place : at ≡ position_of (segment_at log mark) mark
 
   -- a batch ends at the mark, and what was read from where the batch begins that holds the offset has no run
-  pub record MissesRun (log : Log D) (offset limit mark : ℕ) (handed : List ℕ) (name : FileName) (at : ℕ) : Type 0 where
+  pub record MissesRun (log : Log D) (offset limit mark : ℕ) (last_read : List ℕ) (name : FileName)
+      (at : ℕ) : Type 0 where
     pub edge : is_edge (segment_at log mark) mark ≡ true
     pub name_is : name ≡ file.Log (segment_at log offset).base
     pub position : ℕ
     pub position_is : position ≡ position_of (segment_at log offset) offset
     pub search : BeginsSearch (segment_at log offset).base (segment_at log offset).batches offset position
-    pub bad : HasNoRun log.line handed offset limit mark (piece_of log offset) position at
+    pub bad : HasNoRun log.line last_read offset limit mark (piece_of log offset) position at
 
   -- why there is no run
   abbrev pub RunFails : Log D → ℕ → ℕ → ℕ → List ℕ → ReadRefusal → Type 0
-  RunFails log offset limit mark handed (Damaged name at) =
-      MissesMark log mark name at ⊎ MissesRun log offset limit mark handed name at
-  RunFails log offset limit mark handed DiskFault = is_edge (segment_at log mark) mark ≡ true
-  RunFails log offset limit mark handed NoMemory = is_edge (segment_at log mark) mark ≡ true
+  RunFails log offset limit mark last_read (Damaged name at) =
+      MissesMark log mark name at ⊎ MissesRun log offset limit mark last_read name at
+  RunFails log offset limit mark last_read DiskFault = is_edge (segment_at log mark) mark ≡ true
+  RunFails log offset limit mark last_read NoMemory = is_edge (segment_at log mark) mark ≡ true

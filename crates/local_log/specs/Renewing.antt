@@ -21,14 +21,14 @@ pub record Renewed (bytes : List ℕ) (names : List FileName) (old : Content) (c
 
 -- the manifest is replaced, and then files are removed
 pub record Renews (bytes : List ℕ) (names : List FileName) (fate : Fate) (old new : Content) : Type 0 where
-  pub tells : new.tells ≡ old.tells
+  pub is_observable : new.is_observable ≡ old.is_observable
   pub since : LeavesOnly old new (Renewed bytes names old)
   pub dry : fate ≡ Dry → (c : Files) → Image new c → Image old c
-  pub dry_files : fate ≡ Dry → IsTrue old.tells → (n : FileName) → new.files n ≡ old.files n
+  pub dry_files : fate ≡ Dry → IsTrue old.is_observable → (n : FileName) → new.files n ≡ old.files n
   pub durable : fate ≡ Went → (c : Files) → Image new c → c file.Manifest ≡ Some bytes
-  pub files : fate ≡ Went → IsTrue old.tells → (n : FileName) → n ≢ file.Manifest
+  pub files : fate ≡ Went → IsTrue old.is_observable → (n : FileName) → n ≢ file.Manifest
       → (new.files n ≡ old.files n) ⊎ (In n names × (new.files n ≡ None))
-  pub gone : fate ≡ Went → IsTrue old.tells → (n : FileName) → In n names → new.files n ≡ None
+  pub gone : fate ≡ Went → IsTrue old.is_observable → (n : FileName) → In n names → new.files n ≡ None
   -- no file was removed, or each image has the new manifest
   pub phase : ((c : Files) → Image new c → Rewritten bytes old c)
       ⊎ ((c : Files) → Image new c → c file.Manifest ≡ Some bytes)

@@ -43,13 +43,13 @@ is_last None epoch = false
 is_last (Some last) epoch = last == epoch
 
 -- the line where an epoch starts, unless it has begun
-abbrev pub begun : List (ℕ × ℕ) → ℕ → ℕ → List (ℕ × ℕ)
-begun line epoch start = if is_last (last_epoch line) epoch then line else assign line epoch start
+abbrev pub snapshot : List (ℕ × ℕ) → ℕ → ℕ → List (ℕ × ℕ)
+snapshot line epoch start = if is_last (last_epoch line) epoch then line else assign line epoch start
 
 -- the line with these batches more
 abbrev pub lined : List (ℕ × ℕ) → List (List ℕ) → List (ℕ × ℕ)
 lined line [] = line
-lined line (batch ∷ batches) = lined (begun line (epoch_of batch) (base_of batch)) batches
+lined line (batch ∷ batches) = lined (snapshot line (epoch_of batch) (base_of batch)) batches
 
 -- the size of the batch that bytes begin with
 abbrev pub first_size : List ℕ → ℕ

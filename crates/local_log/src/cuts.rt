@@ -31,12 +31,12 @@ impl<D: Disk> LocalLog<D> {
         requires unbroken { self.old.broken ≡ false }
         requires within { end ≤ self.old.end }
         ensures ok { OnOk result (Becomes D.content (cut_at self.old end) self.new) }
-        ensures told { IsTrue (D.content self.old.disk).tells → self.old.local_start ≤ end
+        ensures told { IsTrue (D.content self.old.disk).is_observable → self.old.local_start ≤ end
             → OnOk result (IsLeftUpTo self.old end self.new) }
         ensures durable { OnOk result ((c : Files) → Image (D.content self.new.disk) c
             → Opens c (all_of (cut_at self.old end))) }
 
-        // A crash at any moment of the call leaves the stable log of before, or the cut one.
+        // A crash at any moment of the call leaves the flushed log of before, or the cut one.
         ensures any_moment { LeavesOnly (D.content self.old.disk) (D.content self.new.disk)
             (OpensEither self.old (cut_at self.old end)) }
         // Each of these images opens as an image of before does, or as the cut log.
@@ -50,7 +50,7 @@ impl<D: Disk> LocalLog<D> {
         ensures no_image { IsErrOf result fault.NoMemory → (c : Files) → Image (D.content self.new.disk) c
             → Image (D.content self.old.disk) c }
         ensures broken { IsErrOf result fault.Failed → self.new.broken ≡ true }
-        ensures tells { (D.content self.new.disk).tells ≡ (D.content self.old.disk).tells }
+        ensures is_observable { (D.content self.new.disk).is_observable ≡ (D.content self.old.disk).is_observable }
         ensures control { Lasts (D.control self.old.disk) (D.control self.new.disk) }
         ensures cause { IsErrOf result fault.Failed
             → Rose (D.control self.old.disk).faults (D.control self.new.disk).faults }
@@ -85,7 +85,7 @@ impl<D: Disk> LocalLog<D> {
         ensures no_image { IsErrOf result fault.NoMemory → (c : Files) → Image (D.content self.new.disk) c
             → Image (D.content self.old.disk) c }
         ensures broken { IsErrOf result fault.Failed → self.new.broken ≡ true }
-        ensures tells { (D.content self.new.disk).tells ≡ (D.content self.old.disk).tells }
+        ensures is_observable { (D.content self.new.disk).is_observable ≡ (D.content self.old.disk).is_observable }
         ensures control { Lasts (D.control self.old.disk) (D.control self.new.disk) }
         ensures cause { IsErrOf result fault.Failed
             → Rose (D.control self.old.disk).faults (D.control self.new.disk).faults }
@@ -107,7 +107,7 @@ impl<D: Disk> LocalLog<D> {
         requires within { end ≤ self.old.end }
         ensures ok { OnOk result (Becomes D.content
             (cut self.old (cut_point end self.old.closed self.old.active)) self.new) }
-        ensures told { IsTrue (D.content self.old.disk).tells → OnOk result (IsLeftUpTo self.old end self.new) }
+        ensures told { IsTrue (D.content self.old.disk).is_observable → OnOk result (IsLeftUpTo self.old end self.new) }
         ensures durable { OnOk result ((c : Files) → Image (D.content self.new.disk) c
             → Opens c (all_of (cut self.old (cut_point end self.old.closed self.old.active)))) }
         ensures any_moment { LeavesOnly (D.content self.old.disk) (D.content self.new.disk)
@@ -123,7 +123,7 @@ impl<D: Disk> LocalLog<D> {
         ensures no_image { IsErrOf result fault.NoMemory → (c : Files) → Image (D.content self.new.disk) c
             → Image (D.content self.old.disk) c }
         ensures broken { IsErrOf result fault.Failed → self.new.broken ≡ true }
-        ensures tells { (D.content self.new.disk).tells ≡ (D.content self.old.disk).tells }
+        ensures is_observable { (D.content self.new.disk).is_observable ≡ (D.content self.old.disk).is_observable }
         ensures control { Lasts (D.control self.old.disk) (D.control self.new.disk) }
         ensures cause { IsErrOf result fault.Failed
             → Rose (D.control self.old.disk).faults (D.control self.new.disk).faults }
@@ -175,7 +175,7 @@ impl<D: Disk> LocalLog<D> {
             → Image (D.content self.old.disk) c }
         ensures broken { IsErrOf result fault.Failed → Breaks D.content self.old self.new }
         ensures room { OnOk result (D.spare self.new.disk + 1 ≡ D.spare self.old.disk) }
-        ensures tells { (D.content self.new.disk).tells ≡ (D.content self.old.disk).tells }
+        ensures is_observable { (D.content self.new.disk).is_observable ≡ (D.content self.old.disk).is_observable }
         ensures control { Lasts (D.control self.old.disk) (D.control self.new.disk) }
         ensures cause { IsErrOf result fault.Failed
             → Rose (D.control self.old.disk).faults (D.control self.new.disk).faults }
@@ -187,18 +187,18 @@ impl<D: Disk> LocalLog<D> {
         let last = open_front(&self.closed, &self.active, end);
         match publish(&mut self.disk, FileName::Log(last.base), bytes) {
             Ok(()) => {
-                self.stable = end;
+                self.flushed_end = end;
                 Ok(())
             }
             Err(trouble) => Err(refused(&mut self.broken, trouble)),
         }
     }
 
-    /// Drops what ends past an end at or past the stable one, on the disk and in memory. Each image opens as before.
+    /// Drops what ends past an end at or past the flushed one, on the disk and in memory. Each image opens as before.
     fn shed(&mut self, end: u64) -> Result<(), Failed>
         requires unbroken { self.old.broken ≡ false }
         requires from { self.old.local_start ≤ end }
-        requires above { self.old.stable ≤ end }
+        requires above { self.old.flushed_end ≤ end }
         requires within { end ≤ self.old.end }
         requires exact { cut_point end self.old.closed self.old.active ≡ end }
         requires room { length self.old.closed + 1 ≤ D.spare self.old.disk }
@@ -206,7 +206,7 @@ impl<D: Disk> LocalLog<D> {
         ensures any_moment { LeavesOnly (D.content self.old.disk) (D.content self.new.disk)
             (OpensAs (D.content self.old.disk)) }
         ensures broken { OnErr result (Breaks D.content self.old self.new) }
-        ensures tells { (D.content self.new.disk).tells ≡ (D.content self.old.disk).tells }
+        ensures is_observable { (D.content self.new.disk).is_observable ≡ (D.content self.old.disk).is_observable }
         ensures control { Lasts (D.control self.old.disk) (D.control self.new.disk) }
         ensures cause { OnErr result (Rose (D.control self.old.disk).faults (D.control self.new.disk).faults) }
         ensures quiet { OnOk result ((D.control self.new.disk).faults ≡ (D.control self.old.disk).faults) }
@@ -249,7 +249,7 @@ impl<D: Disk> LocalLog<D> {
         ensures no_image { IsErrOf result fault.NoMemory → (c : Files) → Image (D.content self.new.disk) c
             → Image (D.content self.old.disk) c }
         ensures broken { IsErrOf result fault.Failed → self.new.broken ≡ true }
-        ensures tells { (D.content self.new.disk).tells ≡ (D.content self.old.disk).tells }
+        ensures is_observable { (D.content self.new.disk).is_observable ≡ (D.content self.old.disk).is_observable }
         ensures control { Lasts (D.control self.old.disk) (D.control self.new.disk) }
         ensures cause { IsErrOf result fault.Failed
             → Rose (D.control self.old.disk).faults (D.control self.new.disk).faults }
@@ -282,7 +282,7 @@ impl<D: Disk> LocalLog<D> {
         ensures no_image { IsErrOf result fault.NoMemory → (c : Files) → Image (D.content self.new.disk) c
             → Image (D.content self.old.disk) c }
         ensures broken { IsErrOf result fault.Failed → self.new.broken ≡ true }
-        ensures tells { (D.content self.new.disk).tells ≡ (D.content self.old.disk).tells }
+        ensures is_observable { (D.content self.new.disk).is_observable ≡ (D.content self.old.disk).is_observable }
         ensures control { Lasts (D.control self.old.disk) (D.control self.new.disk) }
         ensures cause { IsErrOf result fault.Failed
             → Rose (D.control self.old.disk).faults (D.control self.new.disk).faults }

@@ -12,9 +12,9 @@ ghost use Rattle.epoch_line.specs.Line.{cut_end};
 ghost use Rattle.log_manifest.specs.Spelling.{manifest_bytes};
 ghost use Rattle.log_steps.specs.Opens.{Opens};
 ghost use Rattle.local_log.specs.Listing.{front_to, manifest_of};
-ghost use Rattle.local_log.specs.Log.{Becomes, stable_log};
+ghost use Rattle.local_log.specs.Log.{Becomes, flushed_log};
 ghost use Rattle.local_log.specs.Cutting.{closed_by, open_by, OpensAsOr, LeavesBeforeOrNow};
-ghost use Rattle.local_log.specs.Dropping.{rest_of, start_behind, IsFirstStable, SpansFirst, dropped, OpensDropped};
+ghost use Rattle.local_log.specs.Dropping.{rest_of, start_behind, IsFirstFlushed, SpansFirst, dropped, OpensDropped};
 
 use crate::log::{LocalLog, refused};
 use crate::restarting::renew;
@@ -28,17 +28,17 @@ impl<D: Disk> LocalLog<D> {
     /// the same.
     pub fn drop_first(&mut self) -> Result<(u64, u64), Trouble>
         requires unbroken { self.old.broken ≡ false }
-        requires first { IsFirstStable self.old.stable self.old.closed }
+        requires first { IsFirstFlushed self.old.flushed_end self.old.closed }
         ensures answer { IfOk result (λ answer. SpansFirst self.old.closed answer) }
         ensures ok { OnOk result (Becomes D.content (dropped self.old) self.new) }
         ensures durable { OnOk result ((c : Files) → Image (D.content self.new.disk) c
-            → Opens c (stable_log (dropped self.old))) }
+            → Opens c (flushed_log (dropped self.old))) }
 
-        // A crash at any moment of the call leaves the stable log of before, or the one without the segment.
+        // A crash at any moment of the call leaves the flushed log of before, or the one without the segment.
         ensures any_moment { LeavesOnly (D.content self.old.disk) (D.content self.new.disk) (OpensDropped self.old) }
         // Each of these images opens as an image of before does, or as the log without the segment.
         ensures opens { LeavesOnly (D.content self.old.disk) (D.content self.new.disk)
-            (OpensAsOr (D.content self.old.disk) (stable_log (dropped self.old))) }
+            (OpensAsOr (D.content self.old.disk) (flushed_log (dropped self.old))) }
         // So it opens as before the call, or as after it, whatever the answer is.
         ensures either { LeavesBeforeOrNow (D.content self.old.disk) (D.content self.new.disk) }
 
@@ -47,7 +47,7 @@ impl<D: Disk> LocalLog<D> {
         ensures no_image { IsErrOf result fault.NoMemory → (c : Files) → Image (D.content self.new.disk) c
             → Image (D.content self.old.disk) c }
         ensures broken { IsErrOf result fault.Failed → self.new.broken ≡ true }
-        ensures tells { (D.content self.new.disk).tells ≡ (D.content self.old.disk).tells }
+        ensures is_observable { (D.content self.new.disk).is_observable ≡ (D.content self.old.disk).is_observable }
         ensures control { Lasts (D.control self.old.disk) (D.control self.new.disk) }
         ensures cause { IsErrOf result fault.Failed
             → Rose (D.control self.old.disk).faults (D.control self.new.disk).faults }
@@ -62,18 +62,18 @@ impl<D: Disk> LocalLog<D> {
         self.drop_listed(&bytes)
     }
 
-    /// The bytes of the manifest that lists the stable log without its first segment.
+    /// The bytes of the manifest that lists the flushed log without its first segment.
     fn listing_behind(&self) -> Result<Vec<u8>, AllocError>
         requires unbroken { self.now.broken ≡ false }
-        requires first { IsFirstStable self.now.stable self.now.closed }
+        requires first { IsFirstFlushed self.now.flushed_end self.now.closed }
         ensures { IfOk result (λ bytes. bytes.items
             ≡ manifest_bytes (manifest_of self.now.incarnation (start_behind self.now.local_start self.now.closed)
-            (closed_by self.now.stable (rest_of self.now.closed))
-            (front_to self.now.stable (open_by self.now.stable (rest_of self.now.closed) self.now.active))
-            (cut_end self.now.line (self.now.stable + 1)))) }
+            (closed_by self.now.flushed_end (rest_of self.now.closed))
+            (front_to self.now.flushed_end (open_by self.now.flushed_end (rest_of self.now.closed) self.now.active))
+            (cut_end self.now.line (self.now.flushed_end + 1)))) }
     {
         let mut line = self.line.copy(self.alloc)?;
-        line.cut_end(self.stable + 1);
+        line.cut_end(self.flushed_end + 1);
         let start = self.closed[0].end();
         let (_, rest) = self.closed.split_at(1);
         listing_to(
@@ -82,7 +82,7 @@ impl<D: Disk> LocalLog<D> {
             start,
             rest,
             &self.active,
-            self.stable,
+            self.flushed_end,
             &line,
         )
     }
@@ -90,21 +90,21 @@ impl<D: Disk> LocalLog<D> {
     /// Makes the manifest without the first segment the present one, and removes that segment's file.
     fn drop_listed(&mut self, bytes: &[u8]) -> Result<(u64, u64), Trouble>
         requires unbroken { self.old.broken ≡ false }
-        requires first { IsFirstStable self.old.stable self.old.closed }
+        requires first { IsFirstFlushed self.old.flushed_end self.old.closed }
         requires room { 1 ≤ D.spare self.old.disk }
         requires bytes { bytes.now
             ≡ manifest_bytes (manifest_of self.old.incarnation (start_behind self.old.local_start self.old.closed)
-            (closed_by self.old.stable (rest_of self.old.closed))
-            (front_to self.old.stable (open_by self.old.stable (rest_of self.old.closed) self.old.active))
-            (cut_end self.old.line (self.old.stable + 1))) }
+            (closed_by self.old.flushed_end (rest_of self.old.closed))
+            (front_to self.old.flushed_end (open_by self.old.flushed_end (rest_of self.old.closed) self.old.active))
+            (cut_end self.old.line (self.old.flushed_end + 1))) }
         ensures answer { IfOk result (λ answer. SpansFirst self.old.closed answer) }
         ensures ok { OnOk result (Becomes D.content (dropped self.old) self.new) }
         ensures durable { OnOk result ((c : Files) → Image (D.content self.new.disk) c
-            → Opens c (stable_log (dropped self.old))) }
+            → Opens c (flushed_log (dropped self.old))) }
         ensures any_moment { LeavesOnly (D.content self.old.disk) (D.content self.new.disk) (OpensDropped self.old) }
         // Each of these images opens as an image of before does, or as the log without the segment.
         ensures opens { LeavesOnly (D.content self.old.disk) (D.content self.new.disk)
-            (OpensAsOr (D.content self.old.disk) (stable_log (dropped self.old))) }
+            (OpensAsOr (D.content self.old.disk) (flushed_log (dropped self.old))) }
         // So it opens as before the call, or as after it, whatever the answer is.
         ensures either { LeavesBeforeOrNow (D.content self.old.disk) (D.content self.new.disk) }
         ensures others { OnErr result (IsErrOf result fault.NoMemory ⊎ IsErrOf result fault.Failed) }
@@ -112,7 +112,7 @@ impl<D: Disk> LocalLog<D> {
         ensures no_image { IsErrOf result fault.NoMemory → (c : Files) → Image (D.content self.new.disk) c
             → Image (D.content self.old.disk) c }
         ensures broken { IsErrOf result fault.Failed → self.new.broken ≡ true }
-        ensures tells { (D.content self.new.disk).tells ≡ (D.content self.old.disk).tells }
+        ensures is_observable { (D.content self.new.disk).is_observable ≡ (D.content self.old.disk).is_observable }
         ensures control { Lasts (D.control self.old.disk) (D.control self.new.disk) }
         ensures cause { IsErrOf result fault.Failed
             → Rose (D.control self.old.disk).faults (D.control self.new.disk).faults }

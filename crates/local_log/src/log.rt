@@ -28,7 +28,7 @@ ghost use Rattle.local_log.specs.Cutting.{OpensAs, OpensAsOr, LeavesBeforeOrNow}
 ghost use Rattle.local_log.specs.Refusing.{IsSoundCause, IsOfManifest};
 ghost use Rattle.local_log.specs.Opening.{IsOpenLog, IsOf, Lists, HoldsLast, OpenFails, OpenFailsIn};
 ghost use Rattle.local_log.specs.Cutting.{whole_log};
-ghost use Rattle.local_log.specs.Log.{IsFirst, committed, Committing, AreSettings, Becomes, OpensStable, stable_log, Creating, first_log};
+ghost use Rattle.local_log.specs.Log.{IsFirst, committed, Committing, AreSettings, Becomes, OpensFlushed, flushed_log, Creating, first_log};
 
 use crate::listing::listing;
 use crate::opening::open_log;
@@ -57,7 +57,7 @@ pub struct LocalLog<D: Disk> {
     pub(crate) closed: Vec<Growing>,
     pub(crate) active: Growing,
     pub(crate) line: Line,
-    pub(crate) stable: u64,
+    pub(crate) flushed_end: u64,
     pub(crate) broken: bool,
 }
 
@@ -81,10 +81,11 @@ impl<D: Disk> LocalLog<D> {
         settings: Settings,
     ) -> Result<LocalLog<D>, (D, CreateRefusal)>
         requires settings { AreSettings settings }
-        requires empty { IsTrue (D.content disk).tells → (n : FileName) → (D.content disk).files n ≡ None }
+        requires empty { IsTrue (D.content disk).is_observable → (n : FileName) → (D.content disk).files n ≡ None }
         ensures log { IfOk result (λ log. IsFirst settings log) }
-        ensures batches { IfOk result (λ log. IsTrue (D.content disk).tells → log.batches ≡ []) }
-        ensures tells { IfOk result (λ log. (D.content log.disk).tells ≡ (D.content disk).tells) }
+        ensures batches { IfOk result (λ log. IsTrue (D.content disk).is_observable → log.batches ≡ []) }
+        ensures is_observable { IfOk result
+            (λ log. (D.content log.disk).is_observable ≡ (D.content disk).is_observable) }
         ensures durable { IfOk result (λ log. (c : Files) → Image (D.content log.disk) c → Opens c first_log) }
 
         // A crash at any moment of the call leaves what it might have left before, or the new log.
@@ -121,7 +122,7 @@ impl<D: Disk> LocalLog<D> {
                 closed: Vec::new(alloc),
                 active,
                 line,
-                stable: 0,
+                flushed_end: 0,
                 broken: false,
             }),
             Err(Trouble::NoMemory) => Err((disk, CreateRefusal::NoMemory)),
@@ -139,11 +140,12 @@ impl<D: Disk> LocalLog<D> {
     ) -> Result<LocalLog<D>, (D, OpenRefusal)>
         requires settings { AreSettings settings }
         ensures log { IfOk result (λ log. IsOpenLog settings log) }
-        ensures tells { IfOk result (λ log. (D.content log.disk).tells ≡ (D.content disk).tells) }
-        ensures tells_err { IfErr result (λ e. (D.content e.0).tells ≡ (D.content disk).tells) }
-        ensures opened { IfOk result (λ log. IsTrue (D.content disk).tells
+        ensures is_observable { IfOk result
+            (λ log. (D.content log.disk).is_observable ≡ (D.content disk).is_observable) }
+        ensures tells_err { IfErr result (λ e. (D.content e.0).is_observable ≡ (D.content disk).is_observable) }
+        ensures opened { IfOk result (λ log. IsTrue (D.content disk).is_observable
             → (o : Opened) × Opens (D.content disk).files o × IsOf o log) }
-        ensures segments { IfOk result (λ log. IsTrue (D.content disk).tells
+        ensures segments { IfOk result (λ log. IsTrue (D.content disk).is_observable
             → Lists (D.content disk).files (log.closed ++ log.active ∷ [])) }
         ensures durable { IfOk result (λ log. (c : Files) → Image (D.content log.disk) c → Opens c (whole_log log)) }
 
@@ -157,11 +159,12 @@ impl<D: Disk> LocalLog<D> {
 
         // Each cause, by what the disk handed last. A fault of the manifest is told before the first change, and none
         // of what the disk handed where what it reads opens.
-        ensures err { IfErr result (λ e. OpenFails (D.control e.0).handed e.1) }
-        ensures place { IfErr result (λ e. IsTrue (D.content disk).tells → OpenFailsIn (D.content disk).files e.1) }
-        ensures sound { IfErr result (λ e. IsTrue (D.content disk).tells
+        ensures err { IfErr result (λ e. OpenFails (D.control e.0).last_read e.1) }
+        ensures place { IfErr result (λ e. IsTrue (D.content disk).is_observable
+            → OpenFailsIn (D.content disk).files e.1) }
+        ensures sound { IfErr result (λ e. IsTrue (D.content disk).is_observable
             → (o : Opened) → Opens (D.content disk).files o → IsSoundCause e.1) }
-        ensures last { IfErr result (λ e. e.1 ≡ opening.LastIncarnation → IsTrue (D.content disk).tells
+        ensures last { IfErr result (λ e. e.1 ≡ opening.LastIncarnation → IsTrue (D.content disk).is_observable
             → HoldsLast (D.content disk).files) }
         ensures unchanged { IfErr result (λ e. IsOfManifest e.1 → Keeps (D.content disk) (D.content e.0)) }
         ensures control { IfOk result (λ log. Lasts (D.control disk) (D.control log.disk)) }
@@ -177,7 +180,7 @@ impl<D: Disk> LocalLog<D> {
         let mut disk = disk;
         match open_log(alloc, &mut disk, settings.index_interval) {
             Ok(parts) => {
-                let stable = parts.active.end();
+                let flushed_end = parts.active.end();
                 Ok(LocalLog {
                     alloc,
                     disk,
@@ -187,7 +190,7 @@ impl<D: Disk> LocalLog<D> {
                     closed: parts.closed,
                     active: parts.active,
                     line: parts.line,
-                    stable,
+                    flushed_end,
                     broken: false,
                 })
             }
@@ -199,7 +202,7 @@ impl<D: Disk> LocalLog<D> {
     /// calling it cites what the type guarantees of each of its values. A law over definitions could not say it,
     /// since it doesn't hold of every `Log`.
     pub fn stands(&self)
-        ensures { self.now.broken ≡ false → (c : Files) → Image (D.content self.now.disk) c → OpensStable self.now c }
+        ensures { self.now.broken ≡ false → (c : Files) → Image (D.content self.now.disk) c → OpensFlushed self.now c }
     {
         // What is read of a log has what its type keeps told.
         let _ = &self.active;
@@ -208,7 +211,7 @@ impl<D: Disk> LocalLog<D> {
     /// For proofs: the batches are valid and consecutive up to the end, and truncations and reads end where a batch
     /// does. Does nothing at run time, as `stands`.
     pub fn coheres(&self)
-        ensures { self.now.broken ≡ false → IsTrue (D.content self.now.disk).tells → Coheres self.now }
+        ensures { self.now.broken ≡ false → IsTrue (D.content self.now.disk).is_observable → Coheres self.now }
     {
         let _ = &self.active;
     }
@@ -238,9 +241,9 @@ impl<D: Disk> LocalLog<D> {
         ensures ok { IfOk result (λ answer. IsAppended D.content self.old self.new run.now answer) }
         ensures some { IfOk result (λ answer. answer.0 ≤ answer.1) }
 
-        // A crash at any moment of the call leaves the stable log of before.
+        // A crash at any moment of the call leaves the flushed log of before.
         ensures any_moment { LeavesOnly (D.content self.old.disk) (D.content self.new.disk)
-            (OpensStable self.old) }
+            (OpensFlushed self.old) }
         // Each of these images opens as an image of before does.
         ensures opens { LeavesOnly (D.content self.old.disk) (D.content self.new.disk)
             (OpensAs (D.content self.old.disk)) }
@@ -290,9 +293,9 @@ impl<D: Disk> LocalLog<D> {
         ensures some { IfOk result (λ answer. answer.0 ≤ answer.1) }
         ensures others { OnErr result (IsErrOf result fault.NoMemory ⊎ IsErrOf result fault.Failed) }
 
-        // A crash at any moment of the call leaves the stable log of before.
+        // A crash at any moment of the call leaves the flushed log of before.
         ensures any_moment { LeavesOnly (D.content self.old.disk) (D.content self.new.disk)
-            (OpensStable self.old) }
+            (OpensFlushed self.old) }
         // Each of these images opens as an image of before does.
         ensures opens { LeavesOnly (D.content self.old.disk) (D.content self.new.disk)
             (OpensAs (D.content self.old.disk)) }
@@ -333,9 +336,9 @@ impl<D: Disk> LocalLog<D> {
         ensures some { IfOk result (λ answer. answer.0 ≤ answer.1) }
         ensures others { OnErr result (IsErrOf result fault.NoMemory ⊎ IsErrOf result fault.Failed) }
 
-        // A crash at any moment of the call leaves the stable log of before.
+        // A crash at any moment of the call leaves the flushed log of before.
         ensures any_moment { LeavesOnly (D.content self.old.disk) (D.content self.new.disk)
-            (OpensStable self.old) }
+            (OpensFlushed self.old) }
         // Each of these images opens as an image of before does.
         ensures opens { LeavesOnly (D.content self.old.disk) (D.content self.new.disk)
             (OpensAs (D.content self.old.disk)) }
@@ -382,9 +385,9 @@ impl<D: Disk> LocalLog<D> {
         ensures base { IfOk result (λ base. base ≡ self.old.end) }
         ensures ok { OnOk result (Becomes D.content (rolled self.old) self.new) }
 
-        // A crash at any moment of the call leaves the stable log of before.
+        // A crash at any moment of the call leaves the flushed log of before.
         ensures any_moment { LeavesOnly (D.content self.old.disk) (D.content self.new.disk)
-            (OpensStable self.old) }
+            (OpensFlushed self.old) }
         // Each of these images opens as an image of before does.
         ensures opens { LeavesOnly (D.content self.old.disk) (D.content self.new.disk)
             (OpensAs (D.content self.old.disk)) }
@@ -438,14 +441,14 @@ impl<D: Disk> LocalLog<D> {
         ensures ok { OnOk result (Becomes D.content (committed self.old self.old.line) self.new) }
         ensures others { OnErr result (IsErrOf result fault.NoMemory ⊎ IsErrOf result fault.Failed) }
         ensures durable { OnOk result ((c : Files) → Image (D.content self.new.disk) c
-            → Opens c (stable_log self.new)) }
+            → Opens c (flushed_log self.new)) }
 
-        // A crash at any moment of the call leaves the stable log of before, or all of the log.
+        // A crash at any moment of the call leaves the flushed log of before, or all of the log.
         ensures any_moment { LeavesOnly (D.content self.old.disk) (D.content self.new.disk)
             (Committing self.old self.old.line) }
         // Each of these images opens as an image of before does, or as all of the log.
         ensures opens { LeavesOnly (D.content self.old.disk) (D.content self.new.disk)
-            (OpensAsOr (D.content self.old.disk) (stable_log (committed self.old self.old.line))) }
+            (OpensAsOr (D.content self.old.disk) (flushed_log (committed self.old self.old.line))) }
         // So it opens as before the call, or as after it, whatever the answer is.
         ensures either { LeavesBeforeOrNow (D.content self.old.disk) (D.content self.new.disk) }
 
@@ -475,15 +478,15 @@ impl<D: Disk> LocalLog<D> {
             (committed self.old (assign self.old.line epoch self.old.end)) self.new) }
         ensures others { OnErr result (IsErrOf result fault.NoMemory ⊎ IsErrOf result fault.Failed) }
         ensures durable { OnOk result ((c : Files) → Image (D.content self.new.disk) c
-            → Opens c (stable_log self.new)) }
+            → Opens c (flushed_log self.new)) }
 
-        // A crash at any moment of the call leaves the stable log of before, or all of the log with the epoch.
+        // A crash at any moment of the call leaves the flushed log of before, or all of the log with the epoch.
         ensures any_moment { LeavesOnly (D.content self.old.disk) (D.content self.new.disk)
             (Committing self.old (assign self.old.line epoch self.old.end)) }
         // Each of these images opens as an image of before does, or as all of the log with the epoch.
         ensures opens { LeavesOnly (D.content self.old.disk) (D.content self.new.disk)
             (OpensAsOr (D.content self.old.disk)
-            (stable_log (committed self.old (assign self.old.line epoch self.old.end)))) }
+            (flushed_log (committed self.old (assign self.old.line epoch self.old.end)))) }
         // So it opens as before the call, or as after it, whatever the answer is.
         ensures either { LeavesBeforeOrNow (D.content self.old.disk) (D.content self.new.disk) }
 
@@ -514,14 +517,14 @@ impl<D: Disk> LocalLog<D> {
         ensures ok { OnOk result (Becomes D.content (committed self.old line) self.new) }
         ensures others { OnErr result (IsErrOf result fault.NoMemory ⊎ IsErrOf result fault.Failed) }
         ensures durable { OnOk result ((c : Files) → Image (D.content self.new.disk) c
-            → Opens c (stable_log self.new)) }
+            → Opens c (flushed_log self.new)) }
 
-        // A crash at any moment of the call leaves the stable log of before, or all of the log with this line.
+        // A crash at any moment of the call leaves the flushed log of before, or all of the log with this line.
         ensures any_moment { LeavesOnly (D.content self.old.disk) (D.content self.new.disk)
             (Committing self.old line) }
         // Each of these images opens as an image of before does, or as all of the log with this line.
         ensures opens { LeavesOnly (D.content self.old.disk) (D.content self.new.disk)
-            (OpensAsOr (D.content self.old.disk) (stable_log (committed self.old line))) }
+            (OpensAsOr (D.content self.old.disk) (flushed_log (committed self.old line))) }
         // So it opens as before the call, or as after it, whatever the answer is.
         ensures either { LeavesBeforeOrNow (D.content self.old.disk) (D.content self.new.disk) }
 
@@ -549,8 +552,8 @@ impl<D: Disk> LocalLog<D> {
         match publish(&mut self.disk, FileName::Log(self.active.base()), &bytes) {
             Ok(()) => {
                 self.line = line;
-                self.stable = self.active.end();
-                Ok(self.stable)
+                self.flushed_end = self.active.end();
+                Ok(self.flushed_end)
             }
             Err(trouble) => Err(refused(&mut self.broken, trouble)),
         }
@@ -573,9 +576,9 @@ impl<D: Disk> LocalLog<D> {
 
     /// The flushed end: what is below this offset survives a crash.
     pub fn stable(&self) -> u64
-        ensures { result ≡ self.now.stable }
+        ensures { result ≡ self.now.flushed_end }
     {
-        self.stable
+        self.flushed_end
     }
 
     /// The log's incarnation: 1 when it is created, and raised by each opening, also by one that fails late.
@@ -626,7 +629,7 @@ impl<D: Disk> LocalLog<D> {
         ensures log { self.new ≡ record self.old { disk = self.new.disk } }
         ensures content { Keeps (D.content self.old.disk) (D.content self.new.disk) }
         ensures any_moment { self.old.broken ≡ false → LeavesOnly (D.content self.old.disk) (D.content self.new.disk)
-            (OpensStable self.old) }
+            (OpensFlushed self.old) }
         ensures control { Arms (D.control self.old.disk) (D.control self.new.disk) }
     {
         self.disk.arm()

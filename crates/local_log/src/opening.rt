@@ -58,17 +58,18 @@ pub(crate) fn open_log<D: Disk>(
     interval: u32,
 ) -> Result<Parts, OpenRefusal>
     ensures opened { IfOk result (λ parts. IsOpened (D.content disk.old) (D.content disk.new) interval parts) }
-    ensures tells { (D.content disk.new).tells ≡ (D.content disk.old).tells }
+    ensures is_observable { (D.content disk.new).is_observable ≡ (D.content disk.old).is_observable }
     ensures leaves { Reopens (D.content disk.old)
         → LeavesOnly (D.content disk.old) (D.content disk.new) (Opening (D.content disk.old)) }
     ensures again { Reopens (D.content disk.old) → Reopens (D.content disk.new) }
     ensures reopens { OnOk result (Reopens (D.content disk.new)) }
     ensures unchanged { IfErr result (λ e. IsOfManifest e → Keeps (D.content disk.old) (D.content disk.new)) }
-    ensures err { IfErr result (λ e. OpenFails (D.control disk.new).handed e) }
-    ensures place { IfErr result (λ e. IsTrue (D.content disk.old).tells → OpenFailsIn (D.content disk.old).files e) }
-    ensures sound { IfErr result (λ e. IsTrue (D.content disk.old).tells
+    ensures err { IfErr result (λ e. OpenFails (D.control disk.new).last_read e) }
+    ensures place { IfErr result (λ e. IsTrue (D.content disk.old).is_observable
+        → OpenFailsIn (D.content disk.old).files e) }
+    ensures sound { IfErr result (λ e. IsTrue (D.content disk.old).is_observable
         → (o : Opened) → Opens (D.content disk.old).files o → IsSoundCause e) }
-    ensures last { IsErrOf result LastIncarnation → IsTrue (D.content disk.old).tells
+    ensures last { IsErrOf result LastIncarnation → IsTrue (D.content disk.old).is_observable
         → HoldsLast (D.content disk.old).files }
     ensures control { Lasts (D.control disk.old) (D.control disk.new) }
     ensures cause { IsErrOf result DiskFault → Rose (D.control disk.old).faults (D.control disk.new).faults }
@@ -90,13 +91,15 @@ pub(crate) fn open_log<D: Disk>(
 fn study<D: Disk>(alloc: Global, disk: &mut D) -> Result<(Plan, Row<FileName>), OpenRefusal>
     ensures content { Keeps (D.content disk.old) (D.content disk.new) }
     ensures plan { IfOk result (λ x. IsPlanOf (D.content disk.old) x.0) }
-    ensures names { IfOk result (λ x. IsTrue (D.content disk.old).tells → Names (D.content disk.old).files x.1) }
+    ensures names { IfOk result (λ x. IsTrue (D.content disk.old).is_observable
+        → Names (D.content disk.old).files x.1) }
     ensures room { IfOk result (λ x. 2 * length x.0.manifest.segments + length x.1 ≤ D.spare disk.new) }
-    ensures err { IfErr result (λ e. StudyFails (D.control disk.new).handed e) }
-    ensures place { IfErr result (λ e. IsTrue (D.content disk.old).tells → OpenFailsIn (D.content disk.old).files e) }
-    ensures sound { IfErr result (λ e. IsTrue (D.content disk.old).tells
+    ensures err { IfErr result (λ e. StudyFails (D.control disk.new).last_read e) }
+    ensures place { IfErr result (λ e. IsTrue (D.content disk.old).is_observable
+        → OpenFailsIn (D.content disk.old).files e) }
+    ensures sound { IfErr result (λ e. IsTrue (D.content disk.old).is_observable
         → (o : Opened) → Opens (D.content disk.old).files o → IsSoundCause e) }
-    ensures last { IsErrOf result LastIncarnation → IsTrue (D.content disk.old).tells
+    ensures last { IsErrOf result LastIncarnation → IsTrue (D.content disk.old).is_observable
         → HoldsLast (D.content disk.old).files }
     ensures control { Lasts (D.control disk.old) (D.control disk.new) }
     ensures cause { IsErrOf result DiskFault → Rose (D.control disk.old).faults (D.control disk.new).faults }
@@ -113,11 +116,12 @@ fn study<D: Disk>(alloc: Global, disk: &mut D) -> Result<(Plan, Row<FileName>), 
 fn plan_on<D: Disk>(alloc: Global, disk: &mut D) -> Result<Plan, OpenRefusal>
     ensures content { Keeps (D.content disk.old) (D.content disk.new) }
     ensures plan { IfOk result (λ plan. IsPlanOf (D.content disk.old) plan) }
-    ensures err { IfErr result (λ e. StudyFails (D.control disk.new).handed e) }
-    ensures place { IfErr result (λ e. IsTrue (D.content disk.old).tells → OpenFailsIn (D.content disk.old).files e) }
-    ensures sound { IfErr result (λ e. IsTrue (D.content disk.old).tells
+    ensures err { IfErr result (λ e. StudyFails (D.control disk.new).last_read e) }
+    ensures place { IfErr result (λ e. IsTrue (D.content disk.old).is_observable
+        → OpenFailsIn (D.content disk.old).files e) }
+    ensures sound { IfErr result (λ e. IsTrue (D.content disk.old).is_observable
         → (o : Opened) → Opens (D.content disk.old).files o → IsSoundCause e) }
-    ensures last { IsErrOf result LastIncarnation → IsTrue (D.content disk.old).tells
+    ensures last { IsErrOf result LastIncarnation → IsTrue (D.content disk.old).is_observable
         → HoldsLast (D.content disk.old).files }
     ensures control { Lasts (D.control disk.old) (D.control disk.new) }
     ensures cause { IsErrOf result DiskFault → Rose (D.control disk.old).faults (D.control disk.new).faults }
@@ -221,10 +225,10 @@ fn read_segments<D: Disk>(
     ensures read { IfOk result
         (λ segments. AreRead (D.content disk.old) manifest.now.line interval manifest.now.local_start
         manifest.now.segments segments.items) }
-    ensures err { IfErr result (λ e. ReadFails manifest.now (D.control disk.new).handed e) }
-    ensures place { IfErr result (λ e. IsTrue (D.content disk.old).tells
+    ensures err { IfErr result (λ e. ReadFails manifest.now (D.control disk.new).last_read e) }
+    ensures place { IfErr result (λ e. IsTrue (D.content disk.old).is_observable
         → ReadFailsIn (D.content disk.old).files manifest.now e) }
-    ensures sound { IfErr result (λ e. IsTrue (D.content disk.old).tells → (batches : List (List ℕ))
+    ensures sound { IfErr result (λ e. IsTrue (D.content disk.old).is_observable → (batches : List (List ℕ))
         → Segments (D.content disk.old).files manifest.now.line manifest.now.local_start manifest.now.segments batches
         → IsSoundCause e) }
     ensures control { Lasts (D.control disk.old) (D.control disk.new) }
@@ -257,12 +261,13 @@ fn read_segment<D: Disk>(
     requires small { extent.len < 2 ^ 31 }
     ensures content { Keeps (D.content disk.old) (D.content disk.new) }
     ensures read { IfOk result (λ segment. IsRead (D.content disk.old) line.now interval end extent segment) }
-    ensures handed { IfOk result (λ segment. ReadsTo line.now extent (D.control disk.new).handed (end_of segment)) }
-    ensures early { extent.base ≢ end → (D.control disk.new).handed ≡ (D.control disk.old).handed }
-    ensures err { IfErr result (λ e. SegmentFails line.now end extent (D.control disk.new).handed e) }
-    ensures place { IfErr result (λ e. IsTrue (D.content disk.old).tells
+    ensures last_read { IfOk result
+        (λ segment. ReadsTo line.now extent (D.control disk.new).last_read (end_of segment)) }
+    ensures early { extent.base ≢ end → (D.control disk.new).last_read ≡ (D.control disk.old).last_read }
+    ensures err { IfErr result (λ e. SegmentFails line.now end extent (D.control disk.new).last_read e) }
+    ensures place { IfErr result (λ e. IsTrue (D.content disk.old).is_observable
         → SegmentFails line.now end extent (log_at (D.content disk.old).files extent) e) }
-    ensures sound { IfErr result (λ e. IsTrue (D.content disk.old).tells → extent.base ≡ end
+    ensures sound { IfErr result (λ e. IsTrue (D.content disk.old).is_observable → extent.base ≡ end
         → (batches : List (List ℕ)) → Segment (D.content disk.old).files line.now extent batches → IsSoundCause e) }
     ensures control { Lasts (D.control disk.old) (D.control disk.new) }
     ensures cause { IsErrOf result DiskFault → Rose (D.control disk.old).faults (D.control disk.new).faults }

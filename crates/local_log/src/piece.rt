@@ -15,7 +15,7 @@ use segment_file::Growing;
 /// A piece: the base of its segment, the position from which its file is read, how many bytes are, and the offset at
 /// which it ends.
 #[derive(Clone, Copy)]
-pub(crate) struct Piece {
+pub(crate) struct SegmentPart {
     pub base: u64,
     pub from: u32,
     pub most: u32,
@@ -100,7 +100,7 @@ pub(crate) fn piece_at(
     offset: u64,
     limit: u64,
     mark: u64,
-) -> Piece
+) -> SegmentPart
     requires line { IsLine line.now }
     requires laid { IsLaidOut segment.now }
     ensures base { result.base ≡ segment.now.base }
@@ -114,7 +114,7 @@ pub(crate) fn piece_at(
     let (_, from) = segment.place_of(offset);
     let top = (from as u64).saturating_add(limit);
     let to = segment.reach(offset, mark.min(end), top);
-    Piece {
+    SegmentPart {
         base: segment.base(),
         from,
         most: to - from,

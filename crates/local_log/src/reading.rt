@@ -15,12 +15,12 @@ ghost use Rattle.tier_base.specs.Told.{bytes_in};
 ghost use Rattle.disk_model.specs.declared.call.DiskCall.TheVariants.{Read};
 ghost use Rattle.disk_model.specs.Content.{LeavesOnly, Keeps, part_of};
 ghost use Rattle.local_log.specs.declared.refusal.ReadRefusal.TheVariants.{DiskFault};
-ghost use Rattle.local_log.specs.Log.{Becomes, OpensStable};
+ghost use Rattle.local_log.specs.Log.{Becomes, OpensFlushed};
 ghost use Rattle.local_log.specs.Reading.{first_past, segment_at, piece_of, is_edge, ReadOnce, IsCut, IsRunOf, IsEdge, RunFails, CutFails, IsOfDevice, IsClosedFrom, ClosedFails, IsPartOf, IsFront, FrontFails};
 
 use crate::epochs::first_stray;
 use crate::log::LocalLog;
-use crate::piece::{Piece, first_past, is_edge, piece_at, segment_at};
+use crate::piece::{SegmentPart, first_past, is_edge, piece_at, segment_at};
 use crate::refusal::ReadRefusal;
 use bytes::Bytes;
 use disk_model::{Disk, FileName};
@@ -48,22 +48,22 @@ impl<D: Disk> LocalLog<D> {
         requires below { offset < mark }
         ensures log { Becomes D.content self.old self.new }
         ensures keeps { Keeps (D.content self.old.disk) (D.content self.new.disk) }
-        ensures run { IfOk result (λ run. IsTrue (D.content self.old.disk).tells
+        ensures run { IfOk result (λ run. IsTrue (D.content self.old.disk).is_observable
             → IsRunOf self.old offset limit mark run) }
         ensures base { IfOk result (λ run. run.base ≡ (segment_at self.old offset).base) }
-        ensures bytes { IfOk result (λ run. IsCut self.old.line (D.control self.new.disk).handed offset limit mark
+        ensures bytes { IfOk result (λ run. IsCut self.old.line (D.control self.new.disk).last_read offset limit mark
             (piece_of self.old offset) run) }
 
-        // A crash at any moment of the call leaves the stable log.
+        // A crash at any moment of the call leaves the flushed log.
         ensures any_moment { LeavesOnly (D.content self.old.disk) (D.content self.new.disk)
-            (OpensStable self.old) }
+            (OpensFlushed self.old) }
 
         ensures edge { IsOk result → is_edge (segment_at self.old mark) mark ≡ true }
 
         // Each cause. A mark that is no batch's end is told first, and nothing is read then.
-        ensures err { IfErr result (λ e. RunFails self.old offset limit mark (D.control self.new.disk).handed e) }
+        ensures err { IfErr result (λ e. RunFails self.old offset limit mark (D.control self.new.disk).last_read e) }
         ensures missed { is_edge (segment_at self.old mark) mark ≡ false → self.new ≡ self.old }
-        ensures whole { IfErr result (λ e. IsTrue (D.content self.old.disk).tells → IsEdge self.old mark
+        ensures whole { IfErr result (λ e. IsTrue (D.content self.old.disk).is_observable → IsEdge self.old mark
             → IsOfDevice e) }
         ensures ran { is_edge (segment_at self.old mark) mark ≡ true
             → ReadOnce result (D.control self.old.disk) (D.control self.new.disk) }
@@ -101,16 +101,16 @@ impl<D: Disk> LocalLog<D> {
         ensures log { Becomes D.content self.old self.new }
         ensures keeps { Keeps (D.content self.old.disk) (D.content self.new.disk) }
         ensures segment { IfOk result
-            (λ segment. IsClosedFrom self.old offset (D.control self.new.disk).handed segment) }
-        ensures part { IfOk result (λ segment. IsTrue (D.content self.old.disk).tells
+            (λ segment. IsClosedFrom self.old offset (D.control self.new.disk).last_read segment) }
+        ensures part { IfOk result (λ segment. IsTrue (D.content self.old.disk).is_observable
             → IfSome segment (λ segment. IsPartOf self.old segment)) }
 
-        // A crash at any moment of the call leaves the stable log.
+        // A crash at any moment of the call leaves the flushed log.
         ensures any_moment { LeavesOnly (D.content self.old.disk) (D.content self.new.disk)
-            (OpensStable self.old) }
+            (OpensFlushed self.old) }
 
-        ensures err { IfErr result (λ e. ClosedFails self.old offset (D.control self.new.disk).handed e) }
-        ensures whole { IfErr result (λ e. IsTrue (D.content self.old.disk).tells → IsOfDevice e) }
+        ensures err { IfErr result (λ e. ClosedFails self.old offset (D.control self.new.disk).last_read e) }
+        ensures whole { IfErr result (λ e. IsTrue (D.content self.old.disk).is_observable → IsOfDevice e) }
         ensures none { first_past offset self.old.closed ≡ None → self.new ≡ self.old }
         ensures ran { first_past offset self.old.closed ≢ None
             → ReadOnce result (D.control self.old.disk) (D.control self.new.disk) }
@@ -140,7 +140,8 @@ impl<D: Disk> LocalLog<D> {
     /// Whether a batch of the log ends at this offset, or the first one begins there.
     pub fn is_edge(&self, offset: u64) -> bool
         ensures segment { result ≡ is_edge (segment_at self.now offset) offset }
-        ensures told { self.now.broken ≡ false → IsTrue (D.content self.now.disk).tells → self.now.local_start ≤ offset
+        ensures told { self.now.broken ≡ false → IsTrue (D.content self.now.disk).is_observable
+            → self.now.local_start ≤ offset
             → IsTrue result ↔ IsEdge self.now offset }
     {
         let segment = segment_at(
@@ -157,11 +158,11 @@ impl<D: Disk> LocalLog<D> {
         requires { self.old.broken ≡ false }
         ensures log { Becomes D.content self.old self.new }
         ensures keeps { Keeps (D.content self.old.disk) (D.content self.new.disk) }
-        ensures file { IsTrue (D.content self.old.disk).tells → IfOk result (λ held. held
+        ensures file { IsTrue (D.content self.old.disk).is_observable → IfOk result (λ held. held
             ≡ option_map (part_of from most) ((D.content self.old.disk).files (file.Log base))) }
-        ensures bytes { IfOk result (λ held. (D.control self.new.disk).handed ≡ bytes_in held) }
+        ensures bytes { IfOk result (λ held. (D.control self.new.disk).last_read ≡ bytes_in held) }
         ensures any_moment { LeavesOnly (D.content self.old.disk) (D.content self.new.disk)
-            (OpensStable self.old) }
+            (OpensFlushed self.old) }
         ensures ran { Ran Read (fate_of result) (D.control self.old.disk) (D.control self.new.disk) }
         ensures control { Lasts (D.control self.old.disk) (D.control self.new.disk) }
         ensures cause { IsErrOf result fault.Failed
@@ -217,7 +218,7 @@ fn closed_in(
 
 /// The run in what was read of a piece. The bytes of an absent file have none at 0.
 fn run_in(
-    piece: Piece,
+    piece: SegmentPart,
     line: &Line,
     file: Option<Bytes>,
     offset: u64,

@@ -53,7 +53,7 @@ impl<D: Disk> LocalLog<D> {
         ensures durable { OnOk result ((c : Files) → Image (D.content self.new.disk) c
             → Opens c (all_of (restarted self.old start line))) }
 
-        // A crash at any moment of the call leaves the stable log of before, or the empty one.
+        // A crash at any moment of the call leaves the flushed log of before, or the empty one.
         ensures any_moment { LeavesOnly (D.content self.old.disk) (D.content self.new.disk)
             (OpensEither self.old (restarted self.old start line)) }
         // Each of these images opens as an image of before does, or as the empty log.
@@ -67,7 +67,7 @@ impl<D: Disk> LocalLog<D> {
         ensures no_image { IsErrOf result fault.NoMemory → (c : Files) → Image (D.content self.new.disk) c
             → Image (D.content self.old.disk) c }
         ensures broken { IsErrOf result fault.Failed → self.new.broken ≡ true }
-        ensures tells { (D.content self.new.disk).tells ≡ (D.content self.old.disk).tells }
+        ensures is_observable { (D.content self.new.disk).is_observable ≡ (D.content self.old.disk).is_observable }
         ensures control { Lasts (D.control self.old.disk) (D.control self.new.disk) }
         ensures cause { IsErrOf result fault.Failed
             → Rose (D.control self.old.disk).faults (D.control self.new.disk).faults }
@@ -108,7 +108,7 @@ impl<D: Disk> LocalLog<D> {
         ensures no_image { IsErrOf result fault.NoMemory → (c : Files) → Image (D.content self.new.disk) c
             → Image (D.content self.old.disk) c }
         ensures broken { IsErrOf result fault.Failed → self.new.broken ≡ true }
-        ensures tells { (D.content self.new.disk).tells ≡ (D.content self.old.disk).tells }
+        ensures is_observable { (D.content self.new.disk).is_observable ≡ (D.content self.old.disk).is_observable }
         ensures control { Lasts (D.control self.old.disk) (D.control self.new.disk) }
         ensures cause { IsErrOf result fault.Failed
             → Rose (D.control self.old.disk).faults (D.control self.new.disk).faults }
@@ -121,7 +121,7 @@ impl<D: Disk> LocalLog<D> {
             Ok(()) => {
                 let start = active.base();
                 self.local_start = start;
-                self.stable = start;
+                self.flushed_end = start;
                 self.closed.clear();
                 self.active = active;
                 self.line = line;

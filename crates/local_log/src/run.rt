@@ -9,7 +9,7 @@ ghost use Rattle.epoch_line.specs.Line.{last_epoch, assign};
 ghost use Rattle.log_terms.specs.Batch.{last_of};
 ghost use Rattle.local_log.specs.Stored.{size_of, end_of};
 ghost use Rattle.local_log.specs.Listing.{IsLaidOut};
-ghost use Rattle.local_log.specs.Run.{IsRun, rolls_before, begun, first_size};
+ghost use Rattle.local_log.specs.Run.{IsRun, rolls_before, snapshot, first_size};
 ghost use Rattle.local_log.specs.Taking.{head_asks, line_or, IsTakenIn, HasFront};
 
 use epoch_line::Line;
@@ -88,7 +88,7 @@ fn with_epoch(
     requires start_fits { start ≤ 2 ^ 62 }
     requires above { ForSome (last_epoch (line_or line.now newer)) (λ last. last ≤ epoch) }
     ensures { IfOk result (λ next. line_or line.now next
-        ≡ begun (line_or line.now newer) epoch start) }
+        ≡ snapshot (line_or line.now newer) epoch start) }
 {
     let last = match &newer {
         Some(newer) => newer.last_epoch(),

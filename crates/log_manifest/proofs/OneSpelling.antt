@@ -183,13 +183,13 @@ chain-segments start last s (next ∷ segments) high chain =
     (above, some, short, chain-segments start (Some s) next segments high' chain.1)
 
 -- the first segment begins where the log does
-record Begun (start : ℕ) (segments : List Extent) : Type 0 where
+record PartlyRead (start : ℕ) (segments : List Extent) : Type 0 where
   begins : BeginsAt start segments
   rules : AreSegments segments
 
-begun : (start : ℕ) (segments : List Extent) → start ≤ 2 ^ 62 → 0 < length segments → Chain (SegmentPassed start) None segments → Begun start segments
-begun start [] low some chain = absurd (omega (arith, some))
-begun start (s ∷ segments) low some chain =
+snapshot : (start : ℕ) (segments : List Extent) → start ≤ 2 ^ 62 → 0 < length segments → Chain (SegmentPassed start) None segments → PartlyRead start segments
+snapshot start [] low some chain = absurd (omega (arith, some))
+snapshot start (s ∷ segments) low some chain =
     let same : s.base ≡ start = eqb-true s.base start chain.0.0 in record {
       begins = same;
       rules = chain-segments start None s segments (rw same low) chain;
@@ -241,7 +241,7 @@ manifest-read bytes manifest e =
     let head = front-read bytes front.0 front.1 e1 in
     let log = items-read (segment_at start) (SegmentPassed start) segment_bytes (segment-read start) front.0.count 20 None front.1 segments.0 segments.1 e2 in
     let epochs = items-read entry_at EntryPassed entry_bytes entry-read count.0 (24 + 12 * front.0.count) None count.1 line.0 line.1 e4 in
-    let is = begun start segments.0 head.low (rw (log.long) head.some) log.chain in
+    let is = snapshot start segments.0 head.low (rw (log.long) head.some) log.chain in
     rw (← end.0)
     (record {
       rules = record {

@@ -90,7 +90,7 @@ fn append<D: Disk>(
     Ok(())
 }
 
-/// Makes all of the log stable.
+/// Makes all of the log flushed.
 fn flush<D: Disk>(rt: &impl Clock, log: &mut LocalLog<D>, times: &mut Times) -> Result<()> {
     if log.is_broken() {
         bail!("the log is broken");
@@ -175,7 +175,7 @@ fn reopen<D: Disk>(
 
 /// Makes a log over a disk with no files, fills it, reads it, and opens it again.
 pub fn measure<D: Disk>(rt: &impl Clock, alloc: Global, disk: D, task: &Task) -> Result<Report>
-    requires { IsTrue (D.content disk).tells → (n : FileName) → (D.content disk).files n ≡ None }
+    requires { IsTrue (D.content disk).is_observable → (n : FileName) → (D.content disk).files n ≡ None }
 {
     let mut times = Times::new();
     let mut log = match LocalLog::create(alloc, disk, settings(task.segment)) {

@@ -11,10 +11,10 @@ pub lasts_then : (a b c : Control call_code) → Lasts a b → Lasts b c → Las
 lasts_then a b c h k = record {
   plan = k.plan ∙ h.plan;
   armed = k.armed ∙ h.armed;
-  ruled = k.ruled ∙ h.ruled;
+  scripted = k.scripted ∙ h.scripted;
   never_falls = le_trans h.never_falls k.never_falls;
-  stays_calm = λ t. k.stays_calm (h.stays_calm t);
-  no_fault = λ t. k.no_fault (h.stays_calm t) ∙ h.no_fault t;
+  stays_infallible = λ t. k.stays_infallible (h.stays_infallible t);
+  no_fault = λ t. k.no_fault (h.stays_infallible t) ∙ h.no_fault t;
   unmade = λ off kind. k.unmade (h.armed ∙ off) kind ∙ h.unmade off kind;
 }
 
@@ -30,9 +30,9 @@ pub rests_last : (a b : Control call_code) → Rests a b → Lasts a b
 rests_last a b r = record {
   plan = r.plan;
   armed = r.armed;
-  ruled = r.ruled;
+  scripted = r.scripted;
   never_falls = omega (arith, r.faults);
-  stays_calm = λ t. subst IsTrue (sym r.calm) t;
+  stays_infallible = λ t. subst IsTrue (sym r.infallible) t;
   no_fault = λ t. r.faults;
   unmade = λ off kind. r.made kind;
 }

@@ -53,22 +53,22 @@ front_long n l k is long = let size = ap length is in grind (arith, length-take,
 -- `now` is written first and lists `m.segments`; `next` lists the same. What reads opens as `o`, by `now` as `p`, by `next` as `q`
 module _ (d : Content) (laws : Lawful d) (reopens : Reopens d) (now next : List ℕ) (m n : Manifest) (p q o : Opened)
     (reading : manifest_in now ≡ Ok m) (reading' : manifest_in next ≡ Ok n) (same_segments : n.segments ≡ m.segments)
-    (opens : IsTrue d.tells → Opens d.files o)
-    (reads : IsTrue d.tells → IsRead m d.files p) (reads' : IsTrue d.tells → IsRead n d.files q)
+    (opens : IsTrue d.is_observable → Opens d.files o)
+    (reads : IsTrue d.is_observable → IsRead m d.files p) (reads' : IsTrue d.is_observable → IsRead n d.files q)
     (first_is : (p ≡ o) ⊎ (p ≡ raised o)) (second_is : q ≡ raised o)
-    (agree : IsTrue d.tells → (c : Files) → Image d c → Each (Agrees c d.files) m.segments) where
+    (agree : IsTrue d.is_observable → (c : Files) → Image d c → Each (Agrees c d.files) m.segments) where
   abbrev pub es : List Extent
   es = m.segments
 
   pub agree_under : (c : Files) → Underway now es d c → Each (Agrees c d.files) es
   agree_under c u = each_both (λ e. agrees_then u.image c d.files e) es u.fronts (agree (laws.told u.image u.was) u.image u.was)
 
-  as_read : IsTrue d.tells → (c : Files) → c file.Manifest ≡ Some now → Each (Agrees c d.files) es → Opening d c
+  as_read : IsTrue d.is_observable → (c : Files) → c file.Manifest ≡ Some now → Each (Agrees c d.files) es → Opening d c
   as_read t c is a =
       let h = opens_as c d.files now m p is reading a (reads t) in
       inr (o, opens t, ⊎_elim (λ e. inl (subst (Opens c) e h)) (λ e. inr (subst (Opens c) e h)) first_is)
 
-  as_raised : IsTrue d.tells → (c : Files) → c file.Manifest ≡ Some next → Each (Agrees c d.files) es → Opening d c
+  as_raised : IsTrue d.is_observable → (c : Files) → c file.Manifest ≡ Some next → Each (Agrees c d.files) es → Opening d c
   as_raised t c is a =
       let h = opens_as c d.files next n q is reading' (subst (Each (Agrees c d.files)) (sym same_segments) a) (reads' t) in
       inr (o, opens t, inr (subst (Opens c) second_is h))
@@ -134,8 +134,8 @@ module _ (d : Content) (laws : Lawful d) (reopens : Reopens d) (now next : List 
       read_leaves = goes_on d d1 d2 (Opening d) rewrite_leaves k.time (λ c left. rewriting c (inr (under2 c left)))
 
       module _ (M : Bool → Type 0) (d3 : Content) (laws3 : Lawful d3) (change : Changes file.Manifest (replaced next) (Swapped next) M d2 d3) where
-        told_before : IsTrue d3.tells → IsTrue d.tells
-        told_before t = subst IsTrue (change.tells ∙ k.tells ∙ rewrites.tells) t
+        told_before : IsTrue d3.is_observable → IsTrue d.is_observable
+        told_before t = subst IsTrue (change.is_observable ∙ k.is_observable ∙ rewrites.is_observable) t
 
         two : (c : Files) → Image d3 c → ((c file.Manifest ≡ Some now) ⊎ (c file.Manifest ≡ Some next)) × Each (Agrees c d.files) es
         two c left =
@@ -160,32 +160,32 @@ module _ (d : Content) (laws : Lawful d) (reopens : Reopens d) (now next : List 
 module _ (d d1 d2 d3 : Content) (laws3 : Lawful d3) (now next : List ℕ) (es : List Extent) (names : List FileName)
     (fate : Fate) (went : fate ≡ Went) (rewrites : Rewrites now es names fate d d1) (k : Keeps d1 d2)
     (M : Bool → Type 0) (change : Changes file.Manifest (replaced next) (Swapped next) M d2 d3)
-    (whole : IsTrue d1.tells → Each (λ e. e.len ≤ length (log_at d1.files e)) es) where
-  told1 : IsTrue d.tells → IsTrue d1.tells
-  told1 t = subst IsTrue (sym rewrites.tells) t
+    (whole : IsTrue d1.is_observable → Each (λ e. e.len ≤ length (log_at d1.files e)) es) where
+  told1 : IsTrue d.is_observable → IsTrue d1.is_observable
+  told1 t = subst IsTrue (sym rewrites.is_observable) t
 
-  told_first : IsTrue d3.tells → IsTrue d.tells
-  told_first t = subst IsTrue (change.tells ∙ k.tells ∙ rewrites.tells) t
+  told_first : IsTrue d3.is_observable → IsTrue d.is_observable
+  told_first t = subst IsTrue (change.is_observable ∙ k.is_observable ∙ rewrites.is_observable) t
 
   -- the log's files after it
-  pub next_files : IsTrue d.tells → (b : ℕ) → d3.files (Log b) ≡ d1.files (Log b)
+  pub next_files : IsTrue d.is_observable → (b : ℕ) → d3.files (Log b) ≡ d1.files (Log b)
   next_files t b =
-      let t2 = subst IsTrue (sym (k.tells ∙ rewrites.tells)) t in
+      let t2 = subst IsTrue (sym (k.is_observable ∙ rewrites.is_observable)) t in
       (change.files t2).2.others (Log b) (log_no_manifest b) ∙ k.files (Log b)
 
   -- a listed file is the front of what it was
-  next_logs : IsTrue d.tells → Each (λ e. log_at d3.files e ≡ front d.files e) es
+  next_logs : IsTrue d.is_observable → Each (λ e. log_at d3.files e ≡ front d.files e) es
   next_logs t = each_map (λ e is. ap bytes_in (next_files t e.base) ∙ is) es (rewrites.files went t)
 
-  next_whole : IsTrue d.tells → Each (λ e. e.len ≤ length (log_at d3.files e)) es
+  next_whole : IsTrue d.is_observable → Each (λ e. e.len ≤ length (log_at d3.files e)) es
   next_whole t = each_map (λ e long. subst (λ (o : Option (List ℕ)). e.len ≤ length (bytes_in o)) (sym (next_files t e.base)) long) es (whole (told1 t))
 
   -- each file has its listed length
-  pub next_sizes : IsTrue d.tells → Each (λ e. length (log_at d3.files e) ≡ e.len) es
+  pub next_sizes : IsTrue d.is_observable → Each (λ e. length (log_at d3.files e) ≡ e.len) es
   next_sizes t = each_both (λ e is long. front_size e.len (log_at d.files e) (log_at d3.files e) is long) es (next_logs t) (next_whole t)
 
   -- what was read before has the fronts that read now
-  pub next_was : IsTrue d.tells → Each (Agrees d.files d3.files) es
+  pub next_was : IsTrue d.is_observable → Each (Agrees d.files d3.files) es
   next_was t =
       each_both
       (λ e is long. record {

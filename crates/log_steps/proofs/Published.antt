@@ -34,7 +34,7 @@ at_sync name bytes d d1 k =
 -- the sync failed
 pub published_none : (name : FileName) (bytes : List ℕ) (d d1 : Content) → Keeps d d1 → Publishes name bytes Fault d d1
 published_none name bytes d d1 k = record {
-  tells = k.tells;
+  is_observable = k.is_observable;
   files = λ t n ne. k.files n;
   since = at_sync name bytes d d1 k;
   dry = λ dry c now. k.images c now;
@@ -64,11 +64,11 @@ module _ (name : FileName) (ne : name ≢ Manifest) (bytes : List ℕ) (d d1 d2 
 
   pub published : Publishes name bytes fate d d2
   published = record {
-    tells = change.tells ∙ k.tells;
-    files = λ t n other. (change.files (subst IsTrue (sym k.tells) t)).2.others n other ∙ k.files n;
+    is_observable = change.is_observable ∙ k.is_observable;
+    files = λ t n other. (change.files (subst IsTrue (sym k.is_observable) t)).2.others n other ∙ k.files n;
     since = goes_on d d1 d2 (Between name bytes d) (at_sync name bytes d d1 k) change.time between_new;
     dry = λ is c now. k.images c (change.undone (dry_not is) c now);
-    dry_files = λ is t n. undone_files Manifest (replaced bytes) (MayBeDone call fate control) d1.files d2.files (dry_not is) (change.files (subst IsTrue (sym k.tells) t)) n ∙ k.files n;
+    dry_files = λ is t n. undone_files Manifest (replaced bytes) (MayBeDone call fate control) d1.files d2.files (dry_not is) (change.files (subst IsTrue (sym k.is_observable) t)) n ∙ k.files n;
     durable = sure;
     whole = λ went c now. begins_new c now;
     settled = inr begins_new;

@@ -122,7 +122,7 @@ reopens_two d f a b m n o p reading reading' images reads = record {
 }
 
 -- a log's disk can be opened again
-pub stands_reopens : (d : Content) (laws : Lawful d) (bytes : List ℕ) (m : Manifest) (closed : List Extent) (o : Opened) → manifest_in bytes ≡ Ok m → Stands d bytes m.segments closed → (IsTrue d.tells → IsRead m d.files o) → Reopens d
+pub stands_reopens : (d : Content) (laws : Lawful d) (bytes : List ℕ) (m : Manifest) (closed : List Extent) (o : Opened) → manifest_in bytes ≡ Ok m → Stands d bytes m.segments closed → (IsTrue d.is_observable → IsRead m d.files o) → Reopens d
 stands_reopens d laws bytes m closed o reading stands read =
     reopens_two d d.files bytes bytes m m o o reading reading
     (λ c left. (let h = stands c left in (inl h.manifest, h.listed_fronts, h.listed_fronts)))

@@ -61,7 +61,7 @@ module _ (es : List Extent) (d : Content) where
         there = λ t o. none_there t;
       }
         where
-          none_there : IsTrue d.tells → d'.files name ≡ None
+          none_there : IsTrue d.is_observable → d'.files name ≡ None
           none_there t = (let read = change.files t in read.2.there ∙ ap (λ (b : Bool). cond b None (d.files name)) (done read.0 read.1))
 
 -- a file that is named now or was
@@ -82,7 +82,7 @@ module _ (es : List Extent) (d m d' : Content) (laws : Lawful m) (so_far : Leave
 
 pub none_removed : (es : List Extent) (d : Content) → Removes es [] d d
 none_removed es d = record {
-  tells = refl;
+  is_observable = refl;
   since = stays es d;
   manifest = λ t. refl;
   listed = λ t. each_all (λ e. refl) es;
@@ -91,23 +91,23 @@ none_removed es d = record {
 }
 
 -- one removal more
-module _ (es : List Extent) (done : List FileName) (name : FileName) (d m d' : Content) (laws : Lawful m) (so_far : Removes es done d m) (step : RemovesOne es name m d') (tells : d'.tells ≡ m.tells) where
-  told : IsTrue d.tells → IsTrue m.tells
-  told t = subst IsTrue (sym so_far.tells) t
+module _ (es : List Extent) (done : List FileName) (name : FileName) (d m d' : Content) (laws : Lawful m) (so_far : Removes es done d m) (step : RemovesOne es name m d') (is_observable : d'.is_observable ≡ m.is_observable) where
+  told : IsTrue d.is_observable → IsTrue m.is_observable
+  told t = subst IsTrue (sym so_far.is_observable) t
 
-  absent_now : IsTrue d.tells → (n : FileName) → m.files n ≡ None → d'.files n ≡ None
+  absent_now : IsTrue d.is_observable → (n : FileName) → m.files n ≡ None → d'.files n ≡ None
   absent_now t n was = ⊎_elim (λ is. is ∙ was) (λ gone. gone.2) (step.others (told t) n)
 
-  same_now : IsTrue d.tells → (n : FileName) → (IsOther es name → n ≢ name) → d'.files n ≡ m.files n
+  same_now : IsTrue d.is_observable → (n : FileName) → (IsOther es name → n ≢ name) → d'.files n ≡ m.files n
   same_now t n ne = ⊎_elim (λ is. is) (λ gone. absurd (ne gone.1 gone.0)) (step.others (told t) n)
 
-  gone_now : IsTrue d.tells → (b : ℕ) → IsUnlisted es b → In (Log b) done ⊎ (Log b ≡ name) → d'.files (Log b) ≡ None
+  gone_now : IsTrue d.is_observable → (b : ℕ) → IsUnlisted es b → In (Log b) done ⊎ (Log b ≡ name) → d'.files (Log b) ≡ None
   gone_now t b other (inl was) = absent_now t (Log b) (so_far.gone t b other was)
   gone_now t b other (inr is) = subst (λ (n : FileName). d'.files n ≡ None) (sym is) (step.there (told t) (subst (IsOther es) is other))
 
   pub removed_more : Removes es (done ++ name ∷ []) d d'
   removed_more = record {
-    tells = tells ∙ so_far.tells;
+    is_observable = is_observable ∙ so_far.is_observable;
     since = then_leaves es d m d' laws so_far.since step.since;
     manifest = λ t. same_now t Manifest (not_manifest es name) ∙ so_far.manifest t;
     listed = λ t. each_both (λ e ne h. ap bytes_in (same_now t (Log e.base) ne) ∙ h) es (each_from (IsOther es name) (λ e. Log e.base ≢ name) es (other_name es name)) (so_far.listed t);

@@ -112,27 +112,27 @@ module _ (es done : List Extent) (e : Extent) (rest : List Extent) (is : es ≡ 
   pub step_leaves : LeavesOnly d d' (AfterCuts es d)
   step_leaves = leaves_then d m d' (AfterCuts es d) so_far.since (leaves_weaker m d' (AfterCut e m) (AfterCuts es d) after_step step.since)
 
-  other_log : IsTrue d.tells → (x : Extent) → (x.base < e.base) ⊎ (e.base < x.base) → log_at d'.files x ≡ log_at m.files x
-  other_log t x apart = ap bytes_in (step.others (subst IsTrue (sym so_far.tells) t) (Log x.base) (log_apart x.base e.base apart))
+  other_log : IsTrue d.is_observable → (x : Extent) → (x.base < e.base) ⊎ (e.base < x.base) → log_at d'.files x ≡ log_at m.files x
+  other_log t x apart = ap bytes_in (step.others (subst IsTrue (sym so_far.is_observable) t) (Log x.base) (log_apart x.base e.base apart))
 
   -- what was synced before is so still
   synced_before : Lawful d' → (c : Files) → Image d' c → Each (Kept d'.files c) done
   synced_before laws' c now =
       let x = step.since.each c (laws'.earlier m.moment d'.moment c step.since.later now) in
-      let t = subst IsTrue so_far.tells (laws.told x.0 x.1) in
+      let t = subst IsTrue so_far.is_observable (laws.told x.0 x.1) in
       each_both
       (λ y lt kept. kept_read m.files d'.files c y (other_log t y (inl lt)) (then_kept m.files x.0 c y kept (kept_same x.0 c y (x.2.others (Log y.base) (log_apart y.base e.base (inl lt))))))
       done (rising_left done e rest rises) (so_far.synced x.0 x.1)
 
   pub step_done : Lawful d' → fate ≡ Went → RestoresAll es (done ++ e ∷ []) rest d d'
   step_done laws' went = record {
-    tells = step.tells ∙ so_far.tells;
+    is_observable = step.is_observable ∙ so_far.is_observable;
     since = step_leaves;
-    kept = λ t n other. step.others (subst IsTrue (sym so_far.tells) t) n (other e.base) ∙ so_far.kept t n other;
-    absent = λ t b other. step.others (subst IsTrue (sym so_far.tells) t) (Log b) (log_differs b e.base (middle (λ x. b ≢ x.base) done e rest (subst (IsUnlisted_at b) is other))) ∙ so_far.absent t b other;
+    kept = λ t n other. step.others (subst IsTrue (sym so_far.is_observable) t) n (other e.base) ∙ so_far.kept t n other;
+    absent = λ t b other. step.others (subst IsTrue (sym so_far.is_observable) t) (Log b) (log_differs b e.base (middle (λ x. b ≢ x.base) done e rest (subst (IsUnlisted_at b) is other))) ∙ so_far.absent t b other;
     cut = λ t. each_join (λ x. log_at d'.files x ≡ front d.files x) done (e ∷ [])
         (each_both (λ x lt h. other_log t x (inl lt) ∙ h) done (rising_left done e rest rises) (so_far.cut t))
-        (step.cut went (subst IsTrue (sym so_far.tells) t) ∙ ap (λ (l : List ℕ). take e.len l) (so_far.same t).0, tt);
+        (step.cut went (subst IsTrue (sym so_far.is_observable) t) ∙ ap (λ (l : List ℕ). take e.len l) (so_far.same t).0, tt);
     same = λ t. each_both (λ x lt h. other_log t x (inr lt) ∙ h) rest (rising_right done e rest rises) (so_far.same t).1;
     synced = λ c now. each_join (Kept d'.files c) done (e ∷ []) (synced_before laws' c now) (step.synced went c now, tt);
   }
@@ -148,7 +148,7 @@ none_kept c (e ∷ es) = (λ long. record { long = long; same = refl }, none_kep
 
 pub none_done : (es : List Extent) (d : Content) → RestoresAll es [] es d d
 none_done es d = record {
-  tells = refl;
+  is_observable = refl;
   since = started d (AfterCuts es d) (λ c now. (c, now, record { manifest = refl; fronts = none_kept c es }));
   kept = λ t n other. refl;
   absent = λ t b other. refl;

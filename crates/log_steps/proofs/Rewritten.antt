@@ -37,7 +37,7 @@ module _ (now : List ℕ) (es : List Extent) (names : List FileName) (d d1 : Con
   -- it wasn't written
   pub rewritten_none : (fate : Fate) → (fate ≡ Went → ⊥) → Rewrites now es names fate d d1
   rewritten_none fate not = record {
-    tells = change.tells;
+    is_observable = change.is_observable;
     since = first_leaves;
     under = λ went. absurd (not went);
     manifest = λ went. absurd (not went);
@@ -65,7 +65,7 @@ module _ (now : List ℕ) (es : List Extent) (names : List FileName) (d d1 : Con
           fronts = each_both (λ x f g. then_kept u.image h.0 c x f g) es u.fronts h.2.fronts;
         }
 
-    module _ (d2 : Content) (cut_leaves : LeavesOnly d1 d2 (AfterCuts es d1)) (tells2 : d2.tells ≡ d1.tells) (laws2 : Lawful d2) where
+    module _ (d2 : Content) (cut_leaves : LeavesOnly d1 d2 (AfterCuts es d1)) (tells2 : d2.is_observable ≡ d1.is_observable) (laws2 : Lawful d2) where
       second_leaves : LeavesOnly d d2 (Rewriting now es d)
       second_leaves =
           leaves_then d d1 d2 (Rewriting now es d) first_leaves (leaves_weaker d1 d2 (AfterCuts es d1) (Rewriting now es d) (λ c h. inr (cuts c h)) cut_leaves)
@@ -76,7 +76,7 @@ module _ (now : List ℕ) (es : List Extent) (names : List FileName) (d d1 : Con
       -- a later call failed
       pub rewritten_fault : (fate : Fate) → (fate ≡ Went → ⊥) → Rewrites now es names fate d d2
       rewritten_fault fate not = record {
-        tells = tells2 ∙ change.tells;
+        is_observable = tells2 ∙ change.is_observable;
         since = second_leaves;
         under = λ went. absurd (not went);
         manifest = λ went. absurd (not went);
@@ -88,28 +88,28 @@ module _ (now : List ℕ) (es : List Extent) (names : List FileName) (d d1 : Con
       }
 
       module _ (d0 : Content) (restored : RestoresAll es es [] d1 d0) (removed : Removes es names d0 d2) (done : (b : Bool) → M b → IsTrue b) where
-        told1 : IsTrue d.tells → IsTrue d1.tells
-        told1 t = subst IsTrue (sym change.tells) t
+        told1 : IsTrue d.is_observable → IsTrue d1.is_observable
+        told1 t = subst IsTrue (sym change.is_observable) t
 
-        told0 : IsTrue d.tells → IsTrue d0.tells
-        told0 t = subst IsTrue (sym restored.tells) (told1 t)
+        told0 : IsTrue d.is_observable → IsTrue d0.is_observable
+        told0 t = subst IsTrue (sym restored.is_observable) (told1 t)
 
-        written : IsTrue d.tells → d1.files Manifest ≡ Some now
+        written : IsTrue d.is_observable → d1.files Manifest ≡ Some now
         written t = let read = change.files t in read.2.there ∙ ap (λ (b : Bool). cond b (Some now) (d.files Manifest)) (done read.0 read.1)
 
-        unchanged : IsTrue d.tells → (b : ℕ) → d1.files (Log b) ≡ d.files (Log b)
+        unchanged : IsTrue d.is_observable → (b : ℕ) → d1.files (Log b) ≡ d.files (Log b)
         unchanged t b = (change.files t).2.others (Log b) (log_no_manifest b)
 
         -- a removal of others leaves the fronts in each image
         synced_still : (c : Files) → Image d2 c → Each (Kept d2.files c) es
         synced_still c left =
             let x = removed.since.each c (laws2.earlier d0.moment d2.moment c removed.since.later left) in
-            let t = subst IsTrue removed.tells (laws2.told c left) in
+            let t = subst IsTrue removed.is_observable (laws2.told c left) in
             each_both (λ e same kept. kept_read d0.files d2.files c e same kept) es (removed.listed t) (each_both (λ e f g. then_kept d0.files x.0 c e f g) es (restored.synced x.0 x.1) x.2.fronts)
 
         pub rewritten : (fate : Fate) → Rewrites now es names fate d d2
         rewritten fate = record {
-          tells = tells2 ∙ change.tells;
+          is_observable = tells2 ∙ change.is_observable;
           since = second_leaves;
           under = λ went. second;
           manifest = λ went t. removed.manifest (told0 t) ∙ restored.kept (told1 t) Manifest manifest_other ∙ written t;

@@ -82,53 +82,53 @@ begins_agrees c f e long begins = let x = begins_front (f (Log e.base)) (c (Log 
 
 module _ (d d' : Content) (laws : Lawful d) (laws' : Lawful d') (bytes : List ℕ) (listed closed : List Extent) (stands : Stands d bytes listed closed) where
   -- before a call
-  pub stands_since : LeavesOnly d d (λ c. IsTrue d.tells × Holds c d.files bytes listed closed)
-  stands_since = started d (λ c. IsTrue d.tells × Holds c d.files bytes listed closed) (λ c now. (laws.told c now, stands c now))
+  pub stands_since : LeavesOnly d d (λ c. IsTrue d.is_observable × Holds c d.files bytes listed closed)
+  stands_since = started d (λ c. IsTrue d.is_observable × Holds c d.files bytes listed closed) (λ c now. (laws.told c now, stands c now))
 
   -- an image as before
-  pub like_fronts : (c : Files) → IsLike d c → IsTrue d.tells × Holds c d.files bytes listed closed
+  pub like_fronts : (c : Files) → IsLike d c → IsTrue d.is_observable × Holds c d.files bytes listed closed
   like_fronts c x = (laws.told x.image x.was, holds_then x.image c d.files bytes listed closed (x.same Manifest) (same_kept x.image c (λ n ne. x.same n)) (stands x.image x.was))
 
   -- a call that leaves the files and makes no image
-  module _ (tells : d'.tells ≡ d.tells) (fewer : (c : Files) → Image d' c → Image d c) (same : IsTrue d.tells → (n : FileName) → d'.files n ≡ d.files n) where
+  module _ (is_observable : d'.is_observable ≡ d.is_observable) (fewer : (c : Files) → Image d' c → Image d c) (same : IsTrue d.is_observable → (n : FileName) → d'.files n ≡ d.files n) where
     pub same_stands : Stands d' bytes listed closed
     same_stands c now =
-        let t = subst IsTrue tells (laws'.told c now) in
+        let t = subst IsTrue is_observable (laws'.told c now) in
         holds_read c d.files d'.files bytes listed closed (same_kept d.files d'.files (λ n ne. same t n)) (stands d.files (laws.reads t)) (stands c (fewer c now))
 
   -- an append, done or not
   module _ (n : FileName) (ne : Manifest ≢ n) (more : List ℕ) (M : Bool → Type 0) (change : Changes n (appended more) Grown M d d') where
-    pub files_grown : IsTrue d.tells → OnlyAt n Grown d.files d'.files
+    pub files_grown : IsTrue d.is_observable → OnlyAt n Grown d.files d'.files
     files_grown t = let read = change.files t in grown_read n more read.0 d.files d'.files read.2
 
-    image_held : (c : Files) → Image d' c → IsTrue d.tells × Holds c d.files bytes listed closed
+    image_held : (c : Files) → Image d' c → IsTrue d.is_observable × Holds c d.files bytes listed closed
     image_held c now =
         let x = change.images c now in
         (laws.told x.0 x.1, holds_then x.0 c d.files bytes listed closed (x.2.others Manifest ne) (grown_kept n x.0 c x.2) (stands x.0 x.1))
 
     pub append_stands : Stands d' bytes listed closed
     append_stands c now =
-        let t = subst IsTrue change.tells (laws'.told c now) in
+        let t = subst IsTrue change.is_observable (laws'.told c now) in
         holds_read c d.files d'.files bytes listed closed (grown_kept n d.files d'.files (files_grown t)) (stands d.files (laws.reads t)) (image_held c now).1
 
-    pub append_since : LeavesOnly d d' (λ c. IsTrue d.tells × Holds c d.files bytes listed closed)
-    append_since = goes_on d d d' (λ c. IsTrue d.tells × Holds c d.files bytes listed closed) stands_since change.time image_held
+    pub append_since : LeavesOnly d d' (λ c. IsTrue d.is_observable × Holds c d.files bytes listed closed)
+    append_since = goes_on d d d' (λ c. IsTrue d.is_observable × Holds c d.files bytes listed closed) stands_since change.time image_held
 
   -- a sync, or a read
   module _ (k : Keeps d d') where
     pub keeps_stands : Stands d' bytes listed closed
-    keeps_stands = same_stands k.tells k.images (λ t n. k.files n)
+    keeps_stands = same_stands k.is_observable k.images (λ t n. k.files n)
 
-    pub keeps_since : LeavesOnly d d' (λ c. IsTrue d.tells × Holds c d.files bytes listed closed)
+    pub keeps_since : LeavesOnly d d' (λ c. IsTrue d.is_observable × Holds c d.files bytes listed closed)
     keeps_since =
-        goes_on d d d' (λ c. IsTrue d.tells × Holds c d.files bytes listed closed) stands_since k.time
+        goes_on d d d' (λ c. IsTrue d.is_observable × Holds c d.files bytes listed closed) stands_since k.time
         (λ c now. (let was = k.images c now in (laws.told c was, stands c was)))
 
     -- a sync of a segment that closes
-    module _ (e : Extent) (long : IsTrue d.tells → e.len ≤ length (log_at d.files e)) (synced : (c : Files) → Image d' c → Begins (d.files (Log e.base)) (c (Log e.base))) where
+    module _ (e : Extent) (long : IsTrue d.is_observable → e.len ≤ length (log_at d.files e)) (synced : (c : Files) → Image d' c → Begins (d.files (Log e.base)) (c (Log e.base))) where
       pub sync_stands : Stands d' bytes listed (closed ++ e ∷ [])
       sync_stands c now =
-          let t = subst IsTrue k.tells (laws'.told c now) in
+          let t = subst IsTrue k.is_observable (laws'.told c now) in
           let h = keeps_stands c now in
           let a = begins_agrees c d.files e (long t) (synced c now) in
           record {
@@ -138,11 +138,11 @@ module _ (d d' : Content) (laws : Lawful d) (laws' : Lawful d') (bytes : List �
           }
 
   -- a new manifest
-  module _ (last : Extent) (long : IsTrue d.tells → last.len ≤ length (log_at d.files last)) (next : List ℕ) (then : List Extent)
+  module _ (last : Extent) (long : IsTrue d.is_observable → last.len ≤ length (log_at d.files last)) (next : List ℕ) (then : List Extent)
       (lists : (c : Files) → Each (Agrees c d.files) closed → Agrees c d.files last → Each (Agrees c d.files) then)
       (fate : Fate) (change : Publishes (Log last.base) next fate d d') where
-    told_before : IsTrue d'.tells → IsTrue d.tells
-    told_before t = subst IsTrue change.tells t
+    told_before : IsTrue d'.is_observable → IsTrue d.is_observable
+    told_before t = subst IsTrue change.is_observable t
 
     pub of_image : (c : Files) → (b : Between (Log last.base) next d c) → Each (Agrees c d.files) listed × Each (Agrees c d.files) closed
     of_image c b =
@@ -151,10 +151,10 @@ module _ (d d' : Content) (laws : Lawful d) (laws' : Lawful d') (bytes : List �
           each_map (λ e. agrees_then b.image c d.files e (same_kept b.image c b.others e)) closed h.closed_fronts,
         )
 
-    pub last_agrees : IsTrue d.tells → (c : Files) → Begins (d.files (Log last.base)) (c (Log last.base)) → Agrees c d.files last
+    pub last_agrees : IsTrue d.is_observable → (c : Files) → Begins (d.files (Log last.base)) (c (Log last.base)) → Agrees c d.files last
     last_agrees t c begins = begins_agrees c d.files last (long t) begins
 
-    between : (c : Files) → Between (Log last.base) next d c → IsTrue d.tells × (Holds c d.files bytes listed closed ⊎ Holds c d.files next then closed)
+    between : (c : Files) → Between (Log last.base) next d c → IsTrue d.is_observable × (Holds c d.files bytes listed closed ⊎ Holds c d.files next then closed)
     between c b =
         let h = stands b.image b.was in
         let fronts = of_image c b in (
@@ -165,9 +165,9 @@ module _ (d d' : Content) (laws : Lawful d) (laws' : Lawful d') (bytes : List �
               b.manifest,
         )
 
-    pub publish_since : LeavesOnly d d' (λ c. IsTrue d.tells × (Holds c d.files bytes listed closed ⊎ Holds c d.files next then closed))
+    pub publish_since : LeavesOnly d d' (λ c. IsTrue d.is_observable × (Holds c d.files bytes listed closed ⊎ Holds c d.files next then closed))
     publish_since =
-        leaves_weaker d d' (Between (Log last.base) next d) (λ c. IsTrue d.tells × (Holds c d.files bytes listed closed ⊎ Holds c d.files next then closed)) between change.since
+        leaves_weaker d d' (Between (Log last.base) next d) (λ c. IsTrue d.is_observable × (Holds c d.files bytes listed closed ⊎ Holds c d.files next then closed)) between change.since
 
     now_between : (c : Files) → Image d' c → Between (Log last.base) next d c
     now_between c now = change.since.each c (laws'.earlier d.moment d'.moment c change.since.later now)
@@ -182,7 +182,7 @@ module _ (d d' : Content) (laws : Lawful d) (laws' : Lawful d') (bytes : List �
         (⊎_elim (λ is. inl (is ∙ (stands b.image b.was).manifest)) (λ x. inr x.0) b.manifest, fronts.0, lists c fronts.1 (last_agrees t c begins))
 
     pub publish_dry : fate ≡ Dry → Stands d' bytes listed closed
-    publish_dry is = same_stands change.tells (change.dry is) (change.dry_files is)
+    publish_dry is = same_stands change.is_observable (change.dry is) (change.dry_files is)
 
     pub publish_stands : fate ≡ Went → Stands d' next then closed
     publish_stands went c now =

@@ -25,7 +25,7 @@ module _ (e : Extent) (d d1 : Content) (M : Bool → Type 0) (change : Changes (
   -- the cut failed
   pub restored_none : (fate : Fate) → (fate ≡ Went → ⊥) → Restores e fate d d1
   restored_none fate not = record {
-    tells = change.tells;
+    is_observable = change.is_observable;
     since = at_cut;
     others = λ t n ne. (change.files t).2.others n ne;
     cut = λ went. absurd (not went);
@@ -37,7 +37,7 @@ module _ (e : Extent) (d d1 : Content) (M : Bool → Type 0) (change : Changes (
     same_log : log_at d2.files e ≡ log_at d1.files e
     same_log = ap bytes_in (k.files (Log e.base))
 
-    cut_log : IsTrue d.tells → log_at d1.files e ≡ take e.len (log_at d.files e)
+    cut_log : IsTrue d.is_observable → log_at d1.files e ≡ take e.len (log_at d.files e)
     cut_log t =
         let o = d.files (Log e.base) in
         let read = change.files t in
@@ -45,7 +45,7 @@ module _ (e : Extent) (d d1 : Content) (M : Bool → Type 0) (change : Changes (
 
     pub restored : Restores e fate d d2
     restored = record {
-      tells = k.tells ∙ change.tells;
+      is_observable = k.is_observable ∙ change.is_observable;
       since = goes_on d d1 d2 (AfterCut e d) at_cut k.time (λ c now. change.images c (k.images c now));
       others = λ t n ne. k.files n ∙ (change.files t).2.others n ne;
       cut = λ went t. same_log ∙ cut_log t;

@@ -21,11 +21,11 @@ pub record Between (name : FileName) (bytes : List ℕ) (old : Content) (c : Fil
 
 -- a sync of this file and then this manifest
 pub record Publishes (name : FileName) (bytes : List ℕ) (fate : Fate) (old new : Content) : Type 0 where
-  pub tells : new.tells ≡ old.tells
-  pub files : IsTrue old.tells → (n : FileName) → n ≢ file.Manifest → new.files n ≡ old.files n
+  pub is_observable : new.is_observable ≡ old.is_observable
+  pub files : IsTrue old.is_observable → (n : FileName) → n ≢ file.Manifest → new.files n ≡ old.files n
   pub since : LeavesOnly old new (Between name bytes old)
   pub dry : fate ≡ Dry → (c : Files) → Image new c → Image old c
-  pub dry_files : fate ≡ Dry → IsTrue old.tells → (n : FileName) → new.files n ≡ old.files n
+  pub dry_files : fate ≡ Dry → IsTrue old.is_observable → (n : FileName) → new.files n ≡ old.files n
   pub durable : fate ≡ Went → (c : Files) → Image new c → c file.Manifest ≡ Some bytes
   pub whole : fate ≡ Went → (c : Files) → Image new c → Begins (old.files name) (c name)
   -- no image is new, or the synced file is whole in each

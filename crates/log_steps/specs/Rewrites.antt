@@ -16,10 +16,10 @@ AfterCut e old c = (d : Files) × Image old d × OnlyAt (file.Log e.base) (CutBa
 
 -- a segment's file is cut to its length, and synced
 pub record Restores (e : Extent) (fate : Fate) (old new : Content) : Type 0 where
-  pub tells : new.tells ≡ old.tells
+  pub is_observable : new.is_observable ≡ old.is_observable
   pub since : LeavesOnly old new (AfterCut e old)
-  pub others : IsTrue old.tells → (n : FileName) → n ≢ file.Log e.base → new.files n ≡ old.files n
-  pub cut : fate ≡ Went → IsTrue old.tells → log_at new.files e ≡ front old.files e
+  pub others : IsTrue old.is_observable → (n : FileName) → n ≢ file.Log e.base → new.files n ≡ old.files n
+  pub cut : fate ≡ Went → IsTrue old.is_observable → log_at new.files e ≡ front old.files e
   -- each image has its front as it reads
   pub synced : fate ≡ Went → (c : Files) → Image new c → Kept new.files c e
 
@@ -34,12 +34,13 @@ AfterCuts es old c = (d : Files) × Image old d × KeepsFronts es d c
 
 -- the files of all segments: those of `done` are cut
 pub record RestoresAll (es done rest : List Extent) (old new : Content) : Type 0 where
-  pub tells : new.tells ≡ old.tells
+  pub is_observable : new.is_observable ≡ old.is_observable
   pub since : LeavesOnly old new (AfterCuts es old)
-  pub kept : IsTrue old.tells → (n : FileName) → ((b : ℕ) → n ≢ file.Log b) → new.files n ≡ old.files n
-  pub absent : IsTrue old.tells → (b : ℕ) → Each (λ e. b ≢ e.base) es → new.files (file.Log b) ≡ old.files (file.Log b)
-  pub cut : IsTrue old.tells → Each (λ e. log_at new.files e ≡ front old.files e) done
-  pub same : IsTrue old.tells → Each (λ e. log_at new.files e ≡ log_at old.files e) rest
+  pub kept : IsTrue old.is_observable → (n : FileName) → ((b : ℕ) → n ≢ file.Log b) → new.files n ≡ old.files n
+  pub absent : IsTrue old.is_observable → (b : ℕ) → Each (λ e. b ≢ e.base) es
+      → new.files (file.Log b) ≡ old.files (file.Log b)
+  pub cut : IsTrue old.is_observable → Each (λ e. log_at new.files e ≡ front old.files e) done
+  pub same : IsTrue old.is_observable → Each (λ e. log_at new.files e ≡ log_at old.files e) rest
   -- each image has their fronts as they read
   pub synced : (c : Files) → Image new c → Each (Kept new.files c) done
 
@@ -55,18 +56,18 @@ IsOther es n = ⊥
 -- a log file is removed, where it isn't listed
 pub record RemovesOne (es : List Extent) (name : FileName) (old new : Content) : Type 0 where
   pub since : LeavesOnly old new (AfterCuts es old)
-  pub others : IsTrue old.tells → (n : FileName) → (new.files n ≡ old.files n)
+  pub others : IsTrue old.is_observable → (n : FileName) → (new.files n ≡ old.files n)
       ⊎ ((n ≡ name) × IsOther es name × (new.files n ≡ None))
-  pub there : IsTrue old.tells → IsOther es name → new.files name ≡ None
+  pub there : IsTrue old.is_observable → IsOther es name → new.files name ≡ None
 
 -- log files of these names are removed that aren't listed: those of `done` are gone
 pub record Removes (es : List Extent) (done : List FileName) (old new : Content) : Type 0 where
-  pub tells : new.tells ≡ old.tells
+  pub is_observable : new.is_observable ≡ old.is_observable
   pub since : LeavesOnly old new (AfterCuts es old)
-  pub manifest : IsTrue old.tells → new.files file.Manifest ≡ old.files file.Manifest
-  pub listed : IsTrue old.tells → Each (λ e. log_at new.files e ≡ log_at old.files e) es
-  pub absent : IsTrue old.tells → (b : ℕ) → old.files (file.Log b) ≡ None → new.files (file.Log b) ≡ None
-  pub gone : IsTrue old.tells → (b : ℕ) → IsUnlisted es b → In (file.Log b) done → new.files (file.Log b) ≡ None
+  pub manifest : IsTrue old.is_observable → new.files file.Manifest ≡ old.files file.Manifest
+  pub listed : IsTrue old.is_observable → Each (λ e. log_at new.files e ≡ log_at old.files e) es
+  pub absent : IsTrue old.is_observable → (b : ℕ) → old.files (file.Log b) ≡ None → new.files (file.Log b) ≡ None
+  pub gone : IsTrue old.is_observable → (b : ℕ) → IsUnlisted es b → In (file.Log b) done → new.files (file.Log b) ≡ None
 
 -- the manifest that was read, and each front that was there
 pub record Underway (now : List ℕ) (es : List Extent) (old : Content) (c : Files) : Type 0 where
@@ -88,14 +89,14 @@ pub record Rewritten (now : List ℕ) (old : Content) (c : Files) : Type 0 where
 
 -- the manifest is written again, the listed files are cut, and others of these names are removed
 pub record Rewrites (now : List ℕ) (es : List Extent) (names : List FileName) (fate : Fate) (old new : Content) : Type 0 where
-  pub tells : new.tells ≡ old.tells
+  pub is_observable : new.is_observable ≡ old.is_observable
   pub since : LeavesOnly old new (Rewriting now es old)
   pub under : fate ≡ Went → (c : Files) → Image new c → Underway now es old c
-  pub manifest : fate ≡ Went → IsTrue old.tells → new.files file.Manifest ≡ Some now
-  pub files : fate ≡ Went → IsTrue old.tells → Each (λ e. log_at new.files e ≡ front old.files e) es
-  pub absent : fate ≡ Went → IsTrue old.tells → (b : ℕ) → IsUnlisted es b → old.files (file.Log b) ≡ None
+  pub manifest : fate ≡ Went → IsTrue old.is_observable → new.files file.Manifest ≡ Some now
+  pub files : fate ≡ Went → IsTrue old.is_observable → Each (λ e. log_at new.files e ≡ front old.files e) es
+  pub absent : fate ≡ Went → IsTrue old.is_observable → (b : ℕ) → IsUnlisted es b → old.files (file.Log b) ≡ None
       → new.files (file.Log b) ≡ None
-  pub gone : fate ≡ Went → IsTrue old.tells → (b : ℕ) → IsUnlisted es b → In (file.Log b) names → new.files (file.Log b) ≡ None
+  pub gone : fate ≡ Went → IsTrue old.is_observable → (b : ℕ) → IsUnlisted es b → In (file.Log b) names → new.files (file.Log b) ≡ None
   -- each image has the fronts as they read
   pub synced : fate ≡ Went → (c : Files) → Image new c → Each (Kept new.files c) es
   -- no file was cut, or each image has the manifest

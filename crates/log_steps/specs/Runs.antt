@@ -4,7 +4,7 @@ use Rattle.tier_base.specs.Counts.{counted, Rose}
 use Rattle.tier_base.specs.Device.{Control, Fate, Fault, Lasts}
 use Rattle.disk_model.specs.Call.{call_code}
 
--- plan and calm last, and the count of faults rises by the one fault that ended the run
+-- the plan lasts, and an infallible device stays so, and the count of faults rises by the one fault that ended the run
 pub record Runs (fate : Fate) (old new : Control call_code) : Type 0 where
   pub lasts : Lasts old new
   pub quiet : fate ≢ Fault → new.faults ≡ old.faults

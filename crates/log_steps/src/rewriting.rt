@@ -51,7 +51,7 @@ fn restore_all<D: Disk>(disk: &mut D, extents: &[Extent]) -> Result<(), Failed>
     requires room { 2 * length extents.now ≤ D.spare disk.old }
     ensures since { LeavesOnly (D.content disk.old) (D.content disk.new)
         (AfterCuts extents.now (D.content disk.old)) }
-    ensures tells { (D.content disk.new).tells ≡ (D.content disk.old).tells }
+    ensures is_observable { (D.content disk.new).is_observable ≡ (D.content disk.old).is_observable }
     ensures ok { OnOk result
         (RestoresAll extents.now extents.now [] (D.content disk.old) (D.content disk.new)) }
     ensures room { OnOk result (D.spare disk.new + 2 * length extents.now ≡ D.spare disk.old) }
@@ -90,7 +90,7 @@ fn remove_other<D: Disk>(disk: &mut D, extents: &[Extent], name: FileName) -> Re
     requires { 1 ≤ D.spare disk.old }
     ensures since { LeavesOnly (D.content disk.old) (D.content disk.new)
         (AfterCuts extents.now (D.content disk.old)) }
-    ensures tells { (D.content disk.new).tells ≡ (D.content disk.old).tells }
+    ensures is_observable { (D.content disk.new).is_observable ≡ (D.content disk.old).is_observable }
     ensures ok { OnOk result (RemovesOne extents.now name (D.content disk.old) (D.content disk.new)) }
     ensures room { D.spare disk.old ≤ D.spare disk.new + 1 }
     ensures control { Runs (failing result) (D.control disk.old) (D.control disk.new) }
@@ -111,7 +111,7 @@ fn remove_others<D: Disk>(
     requires room { length names.now ≤ D.spare disk.old }
     ensures since { LeavesOnly (D.content disk.old) (D.content disk.new)
         (AfterCuts extents.now (D.content disk.old)) }
-    ensures tells { (D.content disk.new).tells ≡ (D.content disk.old).tells }
+    ensures is_observable { (D.content disk.new).is_observable ≡ (D.content disk.old).is_observable }
     ensures ok { OnOk result
         (Removes extents.now names.now (D.content disk.old) (D.content disk.new)) }
     ensures control { Runs (failing result) (D.control disk.old) (D.control disk.new) }

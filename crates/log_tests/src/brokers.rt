@@ -27,7 +27,7 @@ enum Turn {
     Read(u64, u64, u64, Stop),
     /// A cut to an offset, and the end then.
     Cut(u64, u64),
-    /// There is no closed segment, or the first one isn't stable.
+    /// There is no closed segment, or the first one isn't flushed.
     Hold,
     /// The first closed segment goes: its base and its last offset.
     Drop(u64, u64),
@@ -39,7 +39,7 @@ enum Turn {
     Tell(Told),
 }
 
-/// What a broker's log tells: the end, the stable end, the local start, how often it was opened, and how many
+/// What a broker's log tells: the end, the flushed end, the local start, how often it was opened, and how many
 /// segments are closed.
 type Told = (Option<u64>, Option<u64>, Option<u64>, Option<u32>, usize);
 

@@ -20,7 +20,7 @@ const END: u64 = 4_611_686_018_427_387_904;
 enum Turn {
     /// The two batches of the segment worked by hand are appended and flushed.
     Fills,
-    /// The batches at 0, 1 to 3, 4, and 5 to 7 are appended, the first two in a closed segment. The stable end is 5.
+    /// The batches at 0, 1 to 3, 4, and 5 to 7 are appended, the first two in a closed segment. The flushed end is 5.
     FillsFour,
     /// So many batches are appended.
     AddsEach(u64),
@@ -44,7 +44,7 @@ enum Turn {
     NoneClosed(u64),
     Arms,
     Crashes,
-    /// The local start, the stable end and the end.
+    /// The local start, the flushed end and the end.
     Spans(u64, u64, u64),
     /// How many segments are closed, and the bytes of the open one.
     Sizes(usize, u64),
@@ -136,7 +136,7 @@ fn reads(log: &mut Trial, turn: Turn) -> bool {
         Turn::ReadsNot(mark, why) => log.read((0, 1000, mark), b"") == Some(Err(why)),
         Turn::Closed(offset, base, last) => log.closed_from(offset) == Ok(Some((base, last))),
         Turn::NoneClosed(offset) => log.closed_from(offset) == Ok(None),
-        Turn::Spans(start, stable, end) => log.span() == (start, stable, end),
+        Turn::Spans(start, flushed_end, end) => log.span() == (start, flushed_end, end),
         Turn::Sizes(closed, open) => log.sizes() == (closed, open),
         Turn::Edge(offset, is_edge) => log.is_edge(offset) == is_edge,
         Turn::EndUpTo(offset, end) => log.end_up_to(offset) == end,

@@ -3,7 +3,7 @@
 
 ghost use Rattle.std.specs.Prelude.{◌≡◌, ◌≤◌, None, IsTrue};
 ghost use Rattle.tier_base.specs.declared.plain.FileName.{FileName};
-ghost use Rattle.local_log.specs.Dropping.{IsFirstStable};
+ghost use Rattle.local_log.specs.Dropping.{IsFirstFlushed};
 ghost use Rattle.local_log.specs.Log.{AreSettings};
 
 use bytes::Bytes;
@@ -213,7 +213,7 @@ impl Trial {
         self.log.arm();
     }
 
-    /// The local start, the stable end and the end.
+    /// The local start, the flushed end and the end.
     pub(crate) fn span(&self) -> (u64, u64, u64) {
         (self.log.local_start(), self.log.stable(), self.log.end())
     }
@@ -231,12 +231,12 @@ fn create(alloc: Global, disk: MemoryDisk, segment_bytes: u32) -> Result<Trial, 
     }
 }
 
-/// Whether there is a first segment, and it ends at or below the stable end.
-fn is_first_stable(closed: &[Growing], stable: u64) -> bool
-    ensures { IsTrue result → IsFirstStable stable closed.now }
+/// Whether there is a first segment, and it ends at or below the flushed end.
+fn is_first_stable(closed: &[Growing], flushed_end: u64) -> bool
+    ensures { IsTrue result → IsFirstFlushed flushed_end closed.now }
 {
     match closed {
-        [first, ..] => first.end() <= stable,
+        [first, ..] => first.end() <= flushed_end,
         [] => false,
     }
 }

@@ -9,7 +9,7 @@ use Rattle.disk_model.specs.Memory.{IsEmptyDisk}
 -- one call after another that change nothing
 pub keeps_then : (a b c : Content) → Lawful a → Keeps a b → Keeps b c → Keeps a c
 keeps_then a b c laws h k = record {
-  tells = k.tells ∙ h.tells;
+  is_observable = k.is_observable ∙ h.is_observable;
   files = λ n. k.files n ∙ h.files n;
   images = λ f left. h.images f (k.images f left);
   time = record {
@@ -26,7 +26,7 @@ keeps_then a b c laws h k = record {
 -- an empty disk stays empty
 pub empty_kept : (a b : Content) → IsEmptyDisk a → Keeps a b → IsEmptyDisk b
 empty_kept a b e k = record {
-  tells = subst IsTrue (sym k.tells) e.tells;
+  is_observable = subst IsTrue (sym k.is_observable) e.is_observable;
   files = λ n. k.files n ∙ e.files n;
   images = λ f left n. e.images f (k.images f left) n;
 }

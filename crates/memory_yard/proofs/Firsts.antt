@@ -11,7 +11,7 @@ use Rattle.std.specs.Ordering.{nat_cmp, is_le}
 use Rattle.std.specs.declared.cmp.Ordering.{Ordering}
 use Rattle.tier_base.specs.declared.names.PartitionId.{PartitionId}
 use Rattle.tier_base.specs.Told.{In}
-use Rattle.device_yard.specs.Held.{IsUpTo, IsFirst}
+use Rattle.device_yard.specs.YardContent.{IsUpTo, IsFirst}
 use Rattle.memory_yard.specs.First.{name_of, IsNameIn, IsFirstWith}
 
 -- the order as a test

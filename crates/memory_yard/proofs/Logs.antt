@@ -12,10 +12,10 @@ use Rattle.disk_model.specs.declared.memory_disk.MemoryDisk.{MemoryDisk}
 use Rattle.disk_model.specs.Content as disk
 use Rattle.disk_model.specs.Memory.{IsEmptyDisk}
 use Rattle.meta_log.specs.Content as log
-use Rattle.meta_file.specs.Crash.{Reopens}
-use Rattle.meta_file.specs.Log.{NoteLog}
-use Rattle.meta_file.specs.Told.{notes_of, notes_told, told_of}
-use Rattle.device_yard.specs.Held.{Both, IsEmptyLog}
+use Rattle.meta_log_file.specs.Crash.{Reopens}
+use Rattle.meta_log_file.specs.Log.{NoteLog}
+use Rattle.meta_log_file.specs.Told.{notes_of, notes_told, told_of}
+use Rattle.device_yard.specs.YardContent.{Both, IsEmptyLog}
 use Rattle.memory_yard.specs.declared.slot.Slot.{Slot}
 use Rattle.memory_yard.specs.Keeping.{log_keeps_itself}
 use Rattle.memory_yard.specs.Log.{told}
@@ -31,9 +31,9 @@ never_rose a b none once same = omega (arith, none, once, same)
 pub told_keeps : (d e : disk.Content) → disk.Keeps d e → log.Keeps (told_of d) (told_of e)
 told_keeps d e k =
     let files : e.files ≡ d.files = λ i n. k.files n i in
-    let notes : notes_told e ≡ notes_told d = ap (λ t. cond t (notes_of e.files) []) k.tells ∙ ap (λ (f : disk.Files). cond d.tells (notes_of f) []) files in
+    let notes : notes_told e ≡ notes_told d = ap (λ t. cond t (notes_of e.files) []) k.is_observable ∙ ap (λ (f : disk.Files). cond d.is_observable (notes_of f) []) files in
     record {
-      tells = k.tells;
+      is_observable = k.is_observable;
       notes = notes;
       left = λ l at. ⊎_elim (λ is. inl (is ∙ notes)) (λ one. inr (one.0, k.images one.0 one.1, one.2)) at;
     }
@@ -42,14 +42,14 @@ pub reopens_kept : (d e : disk.Content) → disk.Keeps d e → Reopens d → Reo
 reopens_kept d e k reopens c image = reopens c (k.images c image)
 
 pub log_then : (a b c : log.Content) → log.Keeps a b → log.Keeps b c → log.Keeps a c
-log_then a b c f g = record { tells = g.tells ∙ f.tells; notes = g.notes ∙ f.notes; left = λ l at. f.left l (g.left l at) }
+log_then a b c f g = record { is_observable = g.is_observable ∙ f.is_observable; notes = g.notes ∙ f.notes; left = λ l at. f.left l (g.left l at) }
 
 -- a log over an empty disk is empty
 pub hands_empty : (d e : disk.Content) (c : log.Content) → IsEmptyDisk d → (notes_told d ≡ []) × log.LeavesTold (told_of d) → disk.Keeps d e → log.Keeps (told_of e) c → IsEmptyLog c
 hands_empty d e c empty none kept opened =
     let all = log_then (told_of d) (told_of e) c (told_keeps d e kept) opened in
     record {
-      tells = subst IsTrue (sym all.tells) empty.tells;
+      is_observable = subst IsTrue (sym all.is_observable) empty.is_observable;
       notes = all.notes ∙ none.0;
       left = λ l at. none.1 l (all.left l at) ∙ sym all.notes;
     }

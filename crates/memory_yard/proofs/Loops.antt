@@ -4,7 +4,7 @@ use Rattle.std.proofs.Common.{◌∙◌, sym, ap, subst, inl, inr, ⊎_elim, ari
 use Rattle.std.proofs.lemmas.Bool.Decides.{eqb_tells}
 use Rattle.std.proofs.Math.Seq.{take-append_seam}
 use Rattle.tier_base.specs.declared.names.PartitionId.{PartitionId}
-use Rattle.device_yard.specs.Held.{Both}
+use Rattle.device_yard.specs.YardContent.{Both}
 use Rattle.memory_yard.specs.declared.slot.Slot.{Slot}
 use Rattle.memory_yard.specs.Found.{Adds}
 use Rattle.memory_yard.specs.Shelf.{SlotKeeps, AreStill, IsPartitionOf, IsPartitionBelow}

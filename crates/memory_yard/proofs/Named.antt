@@ -11,19 +11,19 @@ use Rattle.tier_base.specs.declared.object_key.ObjectKey.{ObjectKey}
 use Rattle.tier_base.specs.Told.{In}
 use Rattle.disk_model.specs.declared.memory_disk.MemoryDisk.{MemoryDisk}
 use Rattle.object_store.specs.declared.memory_store.MemoryStore.{MemoryStore}
-use Rattle.meta_file.specs.Log.{NoteLog}
+use Rattle.meta_log_file.specs.Log.{NoteLog}
 use Rattle.disk_model.specs.Content as disks
 use Rattle.object_store.specs.Content as stores
 use Rattle.meta_log.specs.Content as logs
 use Rattle.disk_model.specs.contracts.memory_disk.MemoryDiskDisk.TheImpl as disk
 use Rattle.object_store.specs.contracts.memory_store.MemoryStoreStore.TheImpl as store
 use Rattle.memory_yard.specs.Log.{told}
-use Rattle.device_yard.specs.Held.{Held, Has, Both, IsFirst}
+use Rattle.device_yard.specs.YardContent.{YardContent, Has, Both, IsFirst}
 use Rattle.memory_yard.specs.declared.place.DiskPlace.{DiskPlace}
 use Rattle.memory_yard.specs.declared.slot.Slot.{Slot}
 use Rattle.memory_yard.specs.First.{IsNameIn, IsFirstWith, AreWithout}
 use Rattle.memory_yard.specs.Found.{Adds}
-use Rattle.memory_yard.specs.Names.{SameHeld, IsFirstOf, AreUsedOf, HaveTiers, HaveRegistries, AreBare}
+use Rattle.memory_yard.specs.Names.{SameYardContent, IsFirstOf, AreUsedOf, HaveTiers, HaveRegistries, AreBare}
 use Rattle.memory_yard.specs.Place.{same_disk, same_partition}
 use Rattle.memory_yard.specs.Shelf.{at, IsPartitionOn}
 use Rattle.memory_yard.specs.Yard.{held_by}
@@ -137,10 +137,10 @@ abbrev logs_keep : NoteLog MemoryDisk → NoteLog MemoryDisk → Type 0
 logs_keep m n = logs.Keeps (told m) (told n)
 
 -- what two calls leave that change nothing, the one on some shelves, the other on the rest
-pub same_joined : (a b c : Held MemoryDisk MemoryStore (NoteLog MemoryDisk)) → SameHeld a b → SameHeld b c → ((p : PartitionId) → b.registries p ≡ a.registries p)
-    → ((p : PartitionId) (k : BrokerId) → c.disks p k ≡ b.disks p k) → ((p : PartitionId) → c.stores p ≡ b.stores p) → ((p : PartitionId) → c.logs p ≡ b.logs p) → SameHeld a c
+pub same_joined : (a b c : YardContent MemoryDisk MemoryStore (NoteLog MemoryDisk)) → SameYardContent a b → SameYardContent b c → ((p : PartitionId) → b.registries p ≡ a.registries p)
+    → ((p : PartitionId) (k : BrokerId) → c.disks p k ≡ b.disks p k) → ((p : PartitionId) → c.stores p ≡ b.stores p) → ((p : PartitionId) → c.logs p ≡ b.logs p) → SameYardContent a c
 same_joined a b c f g kept disks_are stores_are logs_are = record {
-  tells = g.tells ∙ f.tells;
+  is_observable = g.is_observable ∙ f.is_observable;
   strays = g.strays ∙ f.strays;
   disks = λ p k. subst (λ o. Both disks_keep (a.disks p k) o) (sym (disks_are p k)) (f.disks p k);
   stores = λ p. subst (λ o. Both stores_keep (a.stores p) o) (sym (stores_are p)) (f.stores p);
@@ -149,7 +149,7 @@ same_joined a b c f g kept disks_are stores_are logs_are = record {
 }
 
 -- those with an object or a note that have no registry
-pub bare_are : (a b : Held MemoryDisk MemoryStore (NoteLog MemoryDisk)) (tiers kept bare : List PartitionId) → ((p : PartitionId) → b.registries p ≡ a.registries p)
+pub bare_are : (a b : YardContent MemoryDisk MemoryStore (NoteLog MemoryDisk)) (tiers kept bare : List PartitionId) → ((p : PartitionId) → b.registries p ≡ a.registries p)
     → HaveTiers a tiers → HaveRegistries b kept → AreWithout tiers kept bare → AreBare a bare
 bare_are a b tiers kept bare same has keeps without p = (
   λ is. (without p).1 ((has p).0 is.0, λ there. is.1 (subst (λ o. Has (λ x. IsSome (((disk.ghosts).content x).files Registry)) o) (same p) ((keeps p).1 there))),
@@ -160,7 +160,7 @@ bare_are a b tiers kept bare same has keeps without p = (
 )
 
 -- the first of the strays' names and those of partitions
-pub first_of_all : (held : Held MemoryDisk MemoryStore (NoteLog MemoryDisk)) (seen : List (List ℕ)) (bare : List PartitionId) (a d : Option (List ℕ))
+pub first_of_all : (held : YardContent MemoryDisk MemoryStore (NoteLog MemoryDisk)) (seen : List (List ℕ)) (bare : List PartitionId) (a d : Option (List ℕ))
     → seen ≡ held.strays → IsFirst (λ t. In t seen) a → AreBare held bare → IsFirstWith (IsNameIn bare) a d → IsFirstOf held d
 first_of_all held seen bare a d sees h are k =
     first_same _ _ d
@@ -168,7 +168,7 @@ first_of_all held seen bare a d sees h are k =
     (λ t. ⊎_elim (λ stray. inl (subst (λ xs. In t xs) (sym sees) stray)) (λ x. inr (x.0, (are x.0).0 x.1, x.2)))
     (first_then _ _ a d h k)
 
-pub bare_row : (a b : Held MemoryDisk MemoryStore (NoteLog MemoryDisk)) (tiers kept t k : List PartitionId) (result : Result (List PartitionId) AllocError) → ((p : PartitionId) → b.registries p ≡ a.registries p)
+pub bare_row : (a b : YardContent MemoryDisk MemoryStore (NoteLog MemoryDisk)) (tiers kept t k : List PartitionId) (result : Result (List PartitionId) AllocError) → ((p : PartitionId) → b.registries p ≡ a.registries p)
     → HaveTiers a tiers → HaveRegistries b kept → t ≡ tiers → k ≡ kept → IfOk result (AreWithout t k) → IfOk result (AreBare a)
 bare_row a b tiers kept t k (Err e) same has keeps ts ks is = is
 bare_row a b tiers kept t k (Ok row) same has keeps ts ks is =

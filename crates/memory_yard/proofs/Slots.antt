@@ -5,7 +5,7 @@ use Rattle.std.proofs.lemmas.Bool.{false≢true}
 use Rattle.std.specs.declared.result.Result.{Result}
 use Rattle.std.proofs.lemmas.Option.{slice_get_within, slice_get_read}
 use Rattle.tier_base.specs.declared.names.PartitionId.{PartitionId}
-use Rattle.device_yard.specs.Held.{Has, Both}
+use Rattle.device_yard.specs.YardContent.{Has, Both}
 use Rattle.memory_yard.specs.declared.slot.Slot.{Slot}
 use Rattle.memory_yard.specs.Found.{Adds}
 use Rattle.memory_yard.specs.Shelf.{at, AreDistinct, IsAbsentBelow, IsSlotOf, Leaves, SlotKeeps, AreStill, IsPartitionOf, IsPartitionBelow, IsPartitionOn}

@@ -2,7 +2,7 @@
 use Rattle.std.specs.Prelude.{◌≡◌, ◌⊎◌, ◌↔◌, List, [], ◌∷◌, ℕ, ◌++◌, codes, decimal, Option, Some}
 use Rattle.tier_base.specs.declared.names.PartitionId.{PartitionId}
 use Rattle.tier_base.specs.Told.{In}
-use Rattle.device_yard.specs.Held.{IsFirst}
+use Rattle.device_yard.specs.YardContent.{IsFirst}
 
 -- the name of a partition
 abbrev pub name_of : PartitionId → List ℕ

@@ -3,9 +3,9 @@ use Rattle.std.specs.Prelude.{[], false}
 use Rattle.disk_model.specs.declared.memory_disk.MemoryDisk.{MemoryDisk}
 use Rattle.disk_model.specs.contracts.memory_disk.MemoryDiskDisk.TheImpl as disk
 use Rattle.meta_log.specs.Content.{Content}
-use Rattle.meta_file.specs.declared.marks.Tail.TheVariants.{Loose}
-use Rattle.meta_file.specs.Log.{NoteLog}
-use Rattle.meta_file.specs.Told.{told_of}
+use Rattle.meta_log_file.specs.declared.marks.Tail.TheVariants.{Loose}
+use Rattle.meta_log_file.specs.Log.{NoteLog}
+use Rattle.meta_log_file.specs.Told.{told_of}
 use Rattle.memory_yard.specs.declared.log_place.Kept.{Kept}
 use Rattle.memory_yard.specs.declared.log_place.Kept.TheVariants as kept
 

@@ -1,7 +1,7 @@
 -- Devices on a shelf by their places.
 use Rattle.std.specs.Prelude.{◌≡◌, ◌≢◌, ℕ, ◌<◌, length, Bool, true, false, if◌then◌else◌, List, [], ◌∷◌, slice_get, Option, Some, None, IsSomeAnd}
 use Rattle.tier_base.specs.declared.names.PartitionId.{PartitionId}
-use Rattle.device_yard.specs.Held.{Has, Both}
+use Rattle.device_yard.specs.YardContent.{Has, Both}
 use Rattle.memory_yard.specs.declared.slot.Slot.{Slot}
 
 -- the slots, and for how many further devices there is room

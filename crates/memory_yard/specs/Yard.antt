@@ -4,8 +4,8 @@ use Rattle.tier_base.specs.declared.names.PartitionId.{PartitionId}
 use Rattle.tier_base.specs.declared.names.BrokerId.{BrokerId}
 use Rattle.disk_model.specs.declared.memory_disk.MemoryDisk.{MemoryDisk}
 use Rattle.object_store.specs.declared.memory_store.MemoryStore.{MemoryStore}
-use Rattle.meta_file.specs.Log.{NoteLog}
-use Rattle.device_yard.specs.Held.{Held, Both}
+use Rattle.meta_log_file.specs.Log.{NoteLog}
+use Rattle.device_yard.specs.YardContent.{YardContent, Both}
 use Rattle.memory_yard.specs.declared.place.DiskPlace.{DiskPlace}
 use Rattle.memory_yard.specs.declared.slot.Slot.{Slot}
 use Rattle.memory_yard.specs.Shelf.{at}
@@ -13,9 +13,9 @@ use Rattle.memory_yard.specs.Place.{same_partition, same_disk}
 use Rattle.memory_yard.specs.Crash.{DropsUnsynced}
 
 -- the strays, and what stands on the shelves
-abbrev pub held_by : List (List ℕ) → List (Slot DiskPlace MemoryDisk) → List (Slot PartitionId MemoryStore) → List (Slot PartitionId (NoteLog MemoryDisk)) → List (Slot PartitionId MemoryDisk) → Held MemoryDisk MemoryStore (NoteLog MemoryDisk)
+abbrev pub held_by : List (List ℕ) → List (Slot DiskPlace MemoryDisk) → List (Slot PartitionId MemoryStore) → List (Slot PartitionId (NoteLog MemoryDisk)) → List (Slot PartitionId MemoryDisk) → YardContent MemoryDisk MemoryStore (NoteLog MemoryDisk)
 held_by strays disks stores logs registries = record {
-  tells = true;
+  is_observable = true;
   strays = strays;
   disks = λ p b. at same_disk (record { partition = p; broker = b }) disks;
   stores = λ p. at same_partition p stores;
@@ -24,8 +24,8 @@ held_by strays disks stores logs registries = record {
 }
 
 -- nothing but strays
-pub record IsEmptyYard {D S M : Type 0} (names : List (List ℕ)) (held : Held D S M) : Type 0 where
-  pub tells : IsTrue held.tells
+pub record IsEmptyYard {D S M : Type 0} (names : List (List ℕ)) (held : YardContent D S M) : Type 0 where
+  pub is_observable : IsTrue held.is_observable
   pub strays : held.strays ≡ names
   pub disks : (p : PartitionId) (b : BrokerId) → held.disks p b ≡ None
   pub stores : (p : PartitionId) → held.stores p ≡ None
@@ -33,8 +33,8 @@ pub record IsEmptyYard {D S M : Type 0} (names : List (List ℕ)) (held : Held D
   pub registries : (p : PartitionId) → held.registries p ≡ None
 
 -- a crash of each disk that came back: of brokers, of registries, and of metadata logs; the rest is as it was
-pub record CrashesHeld (old new : Held MemoryDisk MemoryStore (NoteLog MemoryDisk)) : Type 0 where
-  pub tells : new.tells ≡ old.tells
+pub record CrashesYard (old new : YardContent MemoryDisk MemoryStore (NoteLog MemoryDisk)) : Type 0 where
+  pub is_observable : new.is_observable ≡ old.is_observable
   pub strays : new.strays ≡ old.strays
   pub disks : (p : PartitionId) (b : BrokerId) → Both DropsUnsynced (old.disks p b) (new.disks p b)
   pub registries : (p : PartitionId) → Both DropsUnsynced (old.registries p) (new.registries p)

@@ -2,7 +2,7 @@
 
 ghost use Rattle.std.specs.Prelude.{◌≡◌, ◌↔◌, IfOk, OnOk, IsTrue, IsSomeAnd, string_bytes};
 ghost use Rattle.tier_base.specs.Told.{In};
-ghost use Rattle.device_yard.specs.Held.{IsUpTo, IsFirst};
+ghost use Rattle.device_yard.specs.YardContent.{IsUpTo, IsFirst};
 ghost use Rattle.memory_yard.specs.First.{name_of, IsNameIn, IsFirstWith, AreWithout, PushesUnless};
 
 use std::alloc::{AllocError, Global};

@@ -6,7 +6,7 @@ ghost use Rattle.tier_base.specs.declared.fault.Trouble.TheVariants.{Failed};
 ghost use Rattle.disk_model.specs.Content.{Keeps};
 ghost use Rattle.disk_model.specs.MemoryFiles.{fuse_of};
 ghost use Rattle.meta_log.specs.Content as log;
-ghost use Rattle.device_yard.specs.Held.{Both, HandsDisk, HandsStore, HandsLog};
+ghost use Rattle.device_yard.specs.YardContent.{Both, HandsDisk, HandsStore, HandsLog};
 ghost use Rattle.memory_yard.specs.Log.{told};
 ghost use Rattle.memory_yard.specs.Place.{same_partition};
 ghost use Rattle.memory_yard.specs.Shelf.{at, Leaves};
@@ -15,8 +15,8 @@ use crate::device::RegistryDisk;
 use crate::log_place::{LogPlace, open};
 use crate::shelf::Shelf;
 use disk_model::{Disk, MemoryDisk};
-use meta_file::{DiskLog, an_empty_disk_has_no_notes};
 use meta_log::MetaLog;
+use meta_log_file::{DiskLog, an_empty_disk_has_no_notes};
 use object_store::{MemoryStore, Store};
 use std::alloc::Global;
 use tier_base::{PartitionId, Trouble};
@@ -24,11 +24,11 @@ use tier_base::{PartitionId, Trouble};
 /// Sets a fuse to a disk that was just handed out, where there is one.
 fn fused(disk: MemoryDisk, fuse: Option<u64>) -> MemoryDisk
     requires fresh { IsFresh (⟦<MemoryDisk as Disk>⟧.control disk) }
-    requires calm { IsTrue (⟦<MemoryDisk as Disk>⟧.control disk).calm }
+    requires infallible { IsTrue (⟦<MemoryDisk as Disk>⟧.control disk).infallible }
     requires unfused { fuse_of disk ≡ None }
     ensures fresh { IsFresh (⟦<MemoryDisk as Disk>⟧.control result) }
     ensures content { Keeps (⟦<MemoryDisk as Disk>⟧.content disk) (⟦<MemoryDisk as Disk>⟧.content result) }
-    ensures calm { (⟦<MemoryDisk as Disk>⟧.control result).calm ≡ not (is_some fuse) }
+    ensures infallible { (⟦<MemoryDisk as Disk>⟧.control result).infallible ≡ not (is_some fuse) }
     ensures fuse { fuse_of result ≡ fuse }
 {
     let mut disk = disk;
@@ -42,7 +42,7 @@ fn fused(disk: MemoryDisk, fuse: Option<u64>) -> MemoryDisk
 pub fn hand_disk(alloc: Global, held: Option<MemoryDisk>, fuse: Option<u64>) -> MemoryDisk
     ensures fresh { IsFresh (⟦<MemoryDisk as Disk>⟧.control result) }
     ensures content { HandsDisk ⟦<MemoryDisk as Disk>⟧.content held (⟦<MemoryDisk as Disk>⟧.content result) }
-    ensures calm { (⟦<MemoryDisk as Disk>⟧.control result).calm ≡ not (is_some fuse) }
+    ensures infallible { (⟦<MemoryDisk as Disk>⟧.control result).infallible ≡ not (is_some fuse) }
     ensures fuse { fuse_of result ≡ fuse }
 {
     match held {

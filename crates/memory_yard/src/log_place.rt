@@ -6,16 +6,16 @@ ghost use Rattle.std.specs.Option.{option_copied};
 ghost use Rattle.tier_base.specs.Device.{IsFresh, Went, Fault, fate_of};
 ghost use Rattle.tier_base.specs.declared.fault.Trouble.TheVariants.{NoMemory};
 ghost use Rattle.meta_log.specs.Content as log;
-ghost use Rattle.meta_file.specs.Crash.{Reopens};
-ghost use Rattle.meta_file.specs.Told.{told_of};
+ghost use Rattle.meta_log_file.specs.Crash.{Reopens};
+ghost use Rattle.meta_log_file.specs.Told.{told_of};
 ghost use Rattle.memory_yard.specs.Crash.{DropsUnsynced};
 ghost use Rattle.memory_yard.specs.Keeping.{log_keeps_itself};
 ghost use Rattle.memory_yard.specs.Log.{told};
 
 use crate::device::Device;
 use disk_model::{Disk, MemoryDisk};
-use meta_file::{DiskLog, NotesRefusal, an_empty_disk_has_no_notes};
 use meta_log::MetaLog;
+use meta_log_file::{DiskLog, NotesRefusal, an_empty_disk_has_no_notes};
 use segment_meta::Note;
 use std::alloc::{AllocError, Global};
 use std::marker::Model;
@@ -37,8 +37,8 @@ pub struct LogPlace {
 
 impl Model for LogPlace {
     ghost use Rattle.disk_model.specs.declared.memory_disk.MemoryDisk.{MemoryDisk};
-    ghost use Rattle.meta_file.specs.Crash.{Reopens};
-    ghost use Rattle.meta_file.specs.Log.{NoteLog};
+    ghost use Rattle.meta_log_file.specs.Crash.{Reopens};
+    ghost use Rattle.meta_log_file.specs.Log.{NoteLog};
     ghost use Rattle.memory_yard.specs.Log.{log_of};
 
     ghost Value = { NoteLog MemoryDisk };
@@ -114,13 +114,13 @@ pub fn open(alloc: Global, disk: MemoryDisk) -> Result<DiskLog<MemoryDisk>, (Mem
     requires new { IsFresh (⟦<MemoryDisk as Disk>⟧.control disk) }
     ensures fresh { IfOk result (λ l. IsFresh (⟦<DiskLog<MemoryDisk> as MetaLog>⟧.control l)) }
     ensures keeps { IfOk result (λ l. log.Keeps (told_of (⟦<MemoryDisk as Disk>⟧.content disk)) (told l)) }
-    ensures stays_calm { IfOk result (λ l. IsTrue (⟦<MemoryDisk as Disk>⟧.control disk).calm
-        → IsTrue (⟦<MemoryDisk as Disk>⟧.control l.disk).calm) }
+    ensures stays_infallible { IfOk result (λ l. IsTrue (⟦<MemoryDisk as Disk>⟧.control disk).infallible
+        → IsTrue (⟦<MemoryDisk as Disk>⟧.control l.disk).infallible) }
     ensures faults { IfOk result (λ l. (⟦<MemoryDisk as Disk>⟧.control l.disk).faults ≡ 0) }
     ensures keeps_err { IfErr result (λ e. log.Keeps (told_of (⟦<MemoryDisk as Disk>⟧.content disk))
         (told_of (⟦<MemoryDisk as Disk>⟧.content e.0))) }
     ensures again { IfErr result (λ e. Reopens (⟦<MemoryDisk as Disk>⟧.content e.0)) }
-    ensures calm { IfErr result (λ e. IsTrue (⟦<MemoryDisk as Disk>⟧.control disk).calm → e.1 ≡ NoMemory) }
+    ensures infallible { IfErr result (λ e. IsTrue (⟦<MemoryDisk as Disk>⟧.control disk).infallible → e.1 ≡ NoMemory) }
 {
     match DiskLog::open(alloc, disk) {
         Ok(log) => Ok(log),
@@ -134,7 +134,7 @@ pub fn open(alloc: Global, disk: MemoryDisk) -> Result<DiskLog<MemoryDisk>, (Mem
 fn has_notes(alloc: Global, disk: MemoryDisk) -> (LogPlace, Result<bool, AllocError>)
     requires reopens { Reopens (⟦<MemoryDisk as Disk>⟧.content disk) }
     requires new { IsFresh (⟦<MemoryDisk as Disk>⟧.control disk) }
-    requires calm { IsTrue (⟦<MemoryDisk as Disk>⟧.control disk).calm }
+    requires infallible { IsTrue (⟦<MemoryDisk as Disk>⟧.control disk).infallible }
     ensures keeps { log.Keeps (told_of (⟦<MemoryDisk as Disk>⟧.content disk)) (told result.0) }
     ensures has { IfOk result.1 (λ answer. IsTrue answer
         ↔ ((told_of (⟦<MemoryDisk as Disk>⟧.content disk)).notes ≢ [])) }

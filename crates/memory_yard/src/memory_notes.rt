@@ -6,8 +6,8 @@ ghost use Rattle.meta_log.specs.Call.{call_code};
 ghost use Rattle.memory_yard.specs.Log.{told};
 
 use disk_model::MemoryDisk;
-use meta_file::DiskLog;
 use meta_log::MetaLog;
+use meta_log_file::DiskLog;
 use segment_meta::Note;
 use std::marker::Model;
 use tier_base::{Row, Trouble};
@@ -20,7 +20,7 @@ pub struct MemoryNotes {
 
 impl Model for MemoryNotes {
     ghost use Rattle.disk_model.specs.declared.memory_disk.MemoryDisk.{MemoryDisk};
-    ghost use Rattle.meta_file.specs.Log.{NoteLog};
+    ghost use Rattle.meta_log_file.specs.Log.{NoteLog};
 
     ghost Value = { NoteLog MemoryDisk };
 

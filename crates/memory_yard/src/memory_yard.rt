@@ -6,12 +6,12 @@ ghost use Rattle.tier_base.specs.Device.{Fault, fate_of, IsFresh};
 ghost use Rattle.tier_base.specs.Told.{In};
 ghost use Rattle.device_yard.specs.Control as control;
 ghost use Rattle.device_yard.specs.Plan.{Plan, Counts, next_of};
-ghost use Rattle.device_yard.specs.Held.{IsFirst, IsName, AreUsed, Rise, Same, DiskIs, RegistryIs, IsOut, HandsDisk, HandsStore, HandsLog};
+ghost use Rattle.device_yard.specs.YardContent.{IsFirst, IsName, AreUsed, Rise, Same, DiskIs, RegistryIs, IsOut, HandsDisk, HandsStore, HandsLog};
 ghost use Rattle.disk_model.specs.MemoryFiles.{fuse_of};
 ghost use Rattle.memory_yard.specs.Calls.{plan_of};
 ghost use Rattle.memory_yard.specs.First.{IsFirstWith};
-ghost use Rattle.memory_yard.specs.Yard.{held_by, IsEmptyYard, CrashesHeld, HasRoom};
-ghost use Rattle.memory_yard.specs.Names.{SameHeld, IsFirstOf, AreUsedOf, HaveTiers, HaveRegistries, AreBare};
+ghost use Rattle.memory_yard.specs.Yard.{held_by, IsEmptyYard, CrashesYard, HasRoom};
+ghost use Rattle.memory_yard.specs.Names.{SameYardContent, IsFirstOf, AreUsedOf, HaveTiers, HaveRegistries, AreBare};
 
 use crate::call_plan::CallPlan;
 use crate::device::RegistryDisk;
@@ -23,7 +23,7 @@ use crate::place::DiskPlace;
 use crate::shelf::Shelf;
 use device_yard::{Came, PartitionSet, ReadRegistry, Yard, YardCounts};
 use disk_model::{Disk, MemoryDisk};
-use meta_file::DiskLog;
+use meta_log_file::DiskLog;
 use object_store::MemoryStore;
 use std::alloc::{AllocError, Global};
 use tier_base::{Blob, BrokerId, PartitionId, Row, Trouble};
@@ -101,7 +101,7 @@ impl MemoryYard {
 
     /// Crashes each disk that came back, those of metadata logs too, and ends the fuses. Stores lose nothing.
     pub fn crash(&mut self)
-        ensures held { CrashesHeld (⟦<MemoryYard as Yard>⟧.held self.old) (⟦<MemoryYard as Yard>⟧.held self.new) }
+        ensures held { CrashesYard (⟦<MemoryYard as Yard>⟧.held self.old) (⟦<MemoryYard as Yard>⟧.held self.new) }
         ensures control { ⟦<MemoryYard as Yard>⟧.control self.new ≡ ⟦<MemoryYard as Yard>⟧.control self.old }
         ensures plan { ⟦<MemoryYard as Yard>⟧.plan self.new ≡ Some (record (plan_of self.old.plan) { alone = true }) }
         ensures fuse { self.new.plan.fuse ≡ None }
@@ -180,8 +180,8 @@ impl MemoryYard {
         ensures registries { self.new.registries.slots ≡ self.old.registries.slots }
         ensures strays { self.new.strays ≡ self.old.strays }
     {
-        let begun = self.begin();
-        self.counts.hand(begun)
+        let snapshot = self.begin();
+        self.counts.hand(snapshot)
     }
 
     /// Counts a call, and makes room for one more device to come back.
@@ -206,7 +206,7 @@ impl MemoryYard {
         ensures fails { (fate_of result ≡ Fault) ↔ Contains self.old.plan.failing (next_of (plan_of self.old.plan)) }
         ensures plan { self.new.plan ≡ record self.old.plan { calls = next_of (plan_of self.old.plan) } }
         ensures counts { self.new.counts ≡ self.old.counts }
-        ensures held { SameHeld (⟦<MemoryYard as Yard>⟧.held self.old) (⟦<MemoryYard as Yard>⟧.held self.new) }
+        ensures held { SameYardContent (⟦<MemoryYard as Yard>⟧.held self.old) (⟦<MemoryYard as Yard>⟧.held self.new) }
         ensures first { IfOk result (IsFirstOf (⟦<MemoryYard as Yard>⟧.held self.old)) }
     {
         self.plan.count()?;
@@ -219,7 +219,7 @@ impl MemoryYard {
         ensures fails { (fate_of result ≡ Fault) ↔ Contains self.old.plan.failing (next_of (plan_of self.old.plan)) }
         ensures plan { self.new.plan ≡ record self.old.plan { calls = next_of (plan_of self.old.plan) } }
         ensures counts { self.new.counts ≡ self.old.counts }
-        ensures held { SameHeld (⟦<MemoryYard as Yard>⟧.held self.old) (⟦<MemoryYard as Yard>⟧.held self.new) }
+        ensures held { SameYardContent (⟦<MemoryYard as Yard>⟧.held self.old) (⟦<MemoryYard as Yard>⟧.held self.new) }
         ensures rise { IfOk result Rise }
         ensures used { IfOk result (AreUsedOf (⟦<MemoryYard as Yard>⟧.held self.old)) }
     {
@@ -232,7 +232,7 @@ impl MemoryYard {
     fn least(&mut self) -> Result<Option<Blob>, AllocError>
         ensures plan { self.new.plan ≡ self.old.plan }
         ensures counts { self.new.counts ≡ self.old.counts }
-        ensures held { SameHeld (⟦<MemoryYard as Yard>⟧.held self.old) (⟦<MemoryYard as Yard>⟧.held self.new) }
+        ensures held { SameYardContent (⟦<MemoryYard as Yard>⟧.held self.old) (⟦<MemoryYard as Yard>⟧.held self.new) }
         ensures first { IfOk result (IsFirstOf (⟦<MemoryYard as Yard>⟧.held self.old)) }
     {
         let mut first = least_of(self.alloc, self.strays.as_slice())?;
@@ -245,7 +245,7 @@ impl MemoryYard {
     fn bare(&mut self) -> Result<Row<PartitionId>, AllocError>
         ensures plan { self.new.plan ≡ self.old.plan }
         ensures counts { self.new.counts ≡ self.old.counts }
-        ensures held { SameHeld (⟦<MemoryYard as Yard>⟧.held self.old) (⟦<MemoryYard as Yard>⟧.held self.new) }
+        ensures held { SameYardContent (⟦<MemoryYard as Yard>⟧.held self.old) (⟦<MemoryYard as Yard>⟧.held self.new) }
         ensures bare { IfOk result (AreBare (⟦<MemoryYard as Yard>⟧.held self.old)) }
     {
         let tiers = self.tiers()?;
@@ -257,7 +257,7 @@ impl MemoryYard {
     fn tiers(&mut self) -> Result<Row<PartitionId>, AllocError>
         ensures plan { self.new.plan ≡ self.old.plan }
         ensures counts { self.new.counts ≡ self.old.counts }
-        ensures held { SameHeld (⟦<MemoryYard as Yard>⟧.held self.old) (⟦<MemoryYard as Yard>⟧.held self.new) }
+        ensures held { SameYardContent (⟦<MemoryYard as Yard>⟧.held self.old) (⟦<MemoryYard as Yard>⟧.held self.new) }
         ensures registries { self.new.registries.slots ≡ self.old.registries.slots }
         ensures tiers { IfOk result (HaveTiers (⟦<MemoryYard as Yard>⟧.held self.old)) }
     {
@@ -271,7 +271,7 @@ impl MemoryYard {
     fn kept(&mut self) -> Result<Row<PartitionId>, AllocError>
         ensures plan { self.new.plan ≡ self.old.plan }
         ensures counts { self.new.counts ≡ self.old.counts }
-        ensures held { SameHeld (⟦<MemoryYard as Yard>⟧.held self.old) (⟦<MemoryYard as Yard>⟧.held self.new) }
+        ensures held { SameYardContent (⟦<MemoryYard as Yard>⟧.held self.old) (⟦<MemoryYard as Yard>⟧.held self.new) }
         ensures disks { self.new.disks.slots ≡ self.old.disks.slots }
         ensures stores { self.new.stores.slots ≡ self.old.stores.slots }
         ensures logs { self.new.logs.slots ≡ self.old.logs.slots }
@@ -287,7 +287,7 @@ impl MemoryYard {
     fn used(&mut self) -> Result<Row<PartitionId>, AllocError>
         ensures plan { self.new.plan ≡ self.old.plan }
         ensures counts { self.new.counts ≡ self.old.counts }
-        ensures held { SameHeld (⟦<MemoryYard as Yard>⟧.held self.old) (⟦<MemoryYard as Yard>⟧.held self.new) }
+        ensures held { SameYardContent (⟦<MemoryYard as Yard>⟧.held self.old) (⟦<MemoryYard as Yard>⟧.held self.new) }
         ensures rise { IfOk result Rise }
         ensures used { IfOk result (AreUsedOf (⟦<MemoryYard as Yard>⟧.held self.old)) }
     {
@@ -327,17 +327,18 @@ impl Yard for MemoryYard {
             (⟦<MemoryYard as Yard>⟧.control self.old) (⟦<MemoryYard as Yard>⟧.control self.new) }
         ensures plan { Counts (fate_of result)
             (⟦<MemoryYard as Yard>⟧.plan self.old) (⟦<MemoryYard as Yard>⟧.plan self.new) }
-        ensures tells { (⟦<MemoryYard as Yard>⟧.held self.new).tells ≡ (⟦<MemoryYard as Yard>⟧.held self.old).tells }
+        ensures is_observable { (⟦<MemoryYard as Yard>⟧.held self.new).is_observable
+            ≡ (⟦<MemoryYard as Yard>⟧.held self.old).is_observable }
         ensures fresh { IfOk result (λ disk. IsFresh (⟦<MemoryDisk as Disk>⟧.control disk)) }
-        ensures told { IfOk result (λ disk. (⟦<MemoryDisk as Disk>⟧.content disk).tells
-            ≡ (⟦<MemoryYard as Yard>⟧.held self.old).tells) }
-        ensures content { IsTrue (⟦<MemoryYard as Yard>⟧.held self.old).tells → IfOk result (λ disk.
+        ensures told { IfOk result (λ disk. (⟦<MemoryDisk as Disk>⟧.content disk).is_observable
+            ≡ (⟦<MemoryYard as Yard>⟧.held self.old).is_observable) }
+        ensures content { IsTrue (⟦<MemoryYard as Yard>⟧.held self.old).is_observable → IfOk result (λ disk.
             HandsDisk ⟦<MemoryDisk as Disk>⟧.content ((⟦<MemoryYard as Yard>⟧.held self.old).disks partition broker)
             (⟦<MemoryDisk as Disk>⟧.content disk)) }
-        ensures out { IsTrue (⟦<MemoryYard as Yard>⟧.held self.old).tells → OnOk result
+        ensures out { IsTrue (⟦<MemoryYard as Yard>⟧.held self.old).is_observable → OnOk result
             (DiskIs partition broker None (⟦<MemoryYard as Yard>⟧.held self.old) (⟦<MemoryYard as Yard>⟧.held self.new)) }
-        ensures err { IsTrue (⟦<MemoryYard as Yard>⟧.held self.old).tells → OnErr result
-            (SameHeld (⟦<MemoryYard as Yard>⟧.held self.old) (⟦<MemoryYard as Yard>⟧.held self.new)) }
+        ensures err { IsTrue (⟦<MemoryYard as Yard>⟧.held self.old).is_observable → OnErr result
+            (SameYardContent (⟦<MemoryYard as Yard>⟧.held self.old) (⟦<MemoryYard as Yard>⟧.held self.new)) }
 
         // It lets as many calls pass as the yard's fuse says, and then fails every call.
         ensures fuse { IfOk result (λ disk. fuse_of disk ≡ self.old.plan.fuse) }
@@ -371,17 +372,18 @@ impl Yard for MemoryYard {
             (⟦<MemoryYard as Yard>⟧.control self.old) (⟦<MemoryYard as Yard>⟧.control self.new) }
         ensures plan { Counts (fate_of result)
             (⟦<MemoryYard as Yard>⟧.plan self.old) (⟦<MemoryYard as Yard>⟧.plan self.new) }
-        ensures tells { (⟦<MemoryYard as Yard>⟧.held self.new).tells ≡ (⟦<MemoryYard as Yard>⟧.held self.old).tells }
+        ensures is_observable { (⟦<MemoryYard as Yard>⟧.held self.new).is_observable
+            ≡ (⟦<MemoryYard as Yard>⟧.held self.old).is_observable }
         ensures fresh { IfOk result (λ disk. IsFresh (⟦<MemoryDisk as Disk>⟧.control disk)) }
-        ensures told { IfOk result (λ disk. (⟦<MemoryDisk as Disk>⟧.content disk).tells
-            ≡ (⟦<MemoryYard as Yard>⟧.held self.old).tells) }
-        ensures content { IsTrue (⟦<MemoryYard as Yard>⟧.held self.old).tells → IfOk result (λ disk.
+        ensures told { IfOk result (λ disk. (⟦<MemoryDisk as Disk>⟧.content disk).is_observable
+            ≡ (⟦<MemoryYard as Yard>⟧.held self.old).is_observable) }
+        ensures content { IsTrue (⟦<MemoryYard as Yard>⟧.held self.old).is_observable → IfOk result (λ disk.
             HandsDisk ⟦<MemoryDisk as Disk>⟧.content ((⟦<MemoryYard as Yard>⟧.held self.old).registries partition)
             (⟦<MemoryDisk as Disk>⟧.content disk)) }
-        ensures out { IsTrue (⟦<MemoryYard as Yard>⟧.held self.old).tells → OnOk result
+        ensures out { IsTrue (⟦<MemoryYard as Yard>⟧.held self.old).is_observable → OnOk result
             (RegistryIs partition IsOut (⟦<MemoryYard as Yard>⟧.held self.old) (⟦<MemoryYard as Yard>⟧.held self.new)) }
-        ensures err { IsTrue (⟦<MemoryYard as Yard>⟧.held self.old).tells → OnErr result
-            (SameHeld (⟦<MemoryYard as Yard>⟧.held self.old) (⟦<MemoryYard as Yard>⟧.held self.new)) }
+        ensures err { IsTrue (⟦<MemoryYard as Yard>⟧.held self.old).is_observable → OnErr result
+            (SameYardContent (⟦<MemoryYard as Yard>⟧.held self.old) (⟦<MemoryYard as Yard>⟧.held self.new)) }
 
         // So does that of a registry.
         ensures fuse { IfOk result (λ disk. fuse_of disk ≡ self.old.plan.fuse) }
@@ -426,9 +428,14 @@ impl Yard for MemoryYard {
             armed: disk.is_armed(),
         };
         let mut disk = disk;
-        let handed = disk.take_handed();
+        let last_read = disk.take_last_read();
         self.registries.put(partition, RegistryDisk { disk });
-        self.counts
-            .take_registry(came, ReadRegistry { partition, handed });
+        self.counts.take_registry(
+            came,
+            ReadRegistry {
+                partition,
+                last_read,
+            },
+        );
     }
 }

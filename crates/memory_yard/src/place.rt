@@ -9,7 +9,7 @@ ghost use Rattle.memory_yard.specs.Places.{partitions_decide, disks_decide};
 use tier_base::{BrokerId, PartitionId};
 
 /// A device's place.
-pub trait Place: Copy {
+pub trait DevicePlace: Copy {
     /// Whether two places are one.
     ghost same: { Self → Self → Bool };
 
@@ -35,7 +35,7 @@ pub struct DiskPlace {
     pub broker: BrokerId,
 }
 
-impl Place for DiskPlace {
+impl DevicePlace for DiskPlace {
     ghost same = { same_disk };
 
     ghost partition_of = { λ place. place.partition };
@@ -51,7 +51,7 @@ impl Place for DiskPlace {
     ghost decides = { disks_decide };
 }
 
-impl Place for PartitionId {
+impl DevicePlace for PartitionId {
     ghost same = { same_partition };
 
     ghost partition_of = { λ place. place };

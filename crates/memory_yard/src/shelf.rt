@@ -4,12 +4,12 @@
 
 ghost use Rattle.std.specs.Prelude.{◌≡◌, ◌+◌, ◌≤◌, [], Option, Some, None, OnOk, length};
 ghost use Rattle.std.specs.Option.{option_copied};
-ghost use Rattle.device_yard.specs.Held.{Both};
+ghost use Rattle.device_yard.specs.YardContent.{Both};
 ghost use Rattle.memory_yard.specs.Found.{Adds};
 ghost use Rattle.memory_yard.specs.Shelf.{at, Leaves, AreStill, IsSlotOf, IsPartitionBelow, IsPartitionOn};
 
 use crate::device::Device;
-use crate::place::Place;
+use crate::place::DevicePlace;
 use crate::slot::Slot;
 use device_yard::PartitionSet;
 use std::alloc::{AllocError, Global};
@@ -18,11 +18,11 @@ use std::mem;
 
 /// Devices by their places.
 #[derive(Drop)]
-pub struct Shelf<K: Place, T: Device> {
+pub struct Shelf<K: DevicePlace, T: Device> {
     slots: Vec<Slot<K, T>>,
 }
 
-impl<K: Place, T: Device> Model for Shelf<K, T> {
+impl<K: DevicePlace, T: Device> Model for Shelf<K, T> {
     ghost use Rattle.std.specs.Prelude.{◌-◌, vec_len, vec_capacity};
     ghost use Rattle.memory_yard.specs.Shelf.{Shelved, AreDistinct};
 
@@ -33,7 +33,7 @@ impl<K: Place, T: Device> Model for Shelf<K, T> {
     ghost invariant = { λ s. AreDistinct K.same s.slots.items };
 }
 
-impl<K: Place, T: Device> Shelf<K, T> {
+impl<K: DevicePlace, T: Device> Shelf<K, T> {
     /// Has no device and no room yet, and takes no memory.
     pub fn new(alloc: Global) -> Shelf<K, T>
         ensures { result.slots ≡ [] }
@@ -110,7 +110,7 @@ impl<K: Place, T: Device> Shelf<K, T> {
 }
 
 /// Crashes each device of slots.
-fn crash_all<K: Place, T: Device>(slots: &mut [Slot<K, T>], alloc: Global)
+fn crash_all<K: DevicePlace, T: Device>(slots: &mut [Slot<K, T>], alloc: Global)
     ensures { AreStill T.crashes slots.old slots.new }
 {
     for slot in slots.iter_mut() {
@@ -119,7 +119,7 @@ fn crash_all<K: Place, T: Device>(slots: &mut [Slot<K, T>], alloc: Global)
 }
 
 /// Adds the partitions of slots that have something to those that were found.
-fn find_all<K: Place, T: Device>(
+fn find_all<K: DevicePlace, T: Device>(
     slots: &mut [Slot<K, T>],
     alloc: Global,
     found: &mut PartitionSet,
@@ -135,7 +135,7 @@ fn find_all<K: Place, T: Device>(
 }
 
 /// Where a place has its slot.
-fn position<K: Place, T: Device>(slots: &[Slot<K, T>], place: K) -> Option<usize>
+fn position<K: DevicePlace, T: Device>(slots: &[Slot<K, T>], place: K) -> Option<usize>
     ensures { IsSlotOf K.same place slots.now result }
 {
     for (i, slot) in slots.iter().enumerate() {

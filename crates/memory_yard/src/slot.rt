@@ -1,12 +1,12 @@
 //! A slot of a shelf: a place, and the device that came back to it.
 
 ghost use Rattle.std.specs.Prelude.{◌≡◌, ◌↔◌, IfOk, OnOk, IsTrue};
-ghost use Rattle.device_yard.specs.Held.{Has, Both};
+ghost use Rattle.device_yard.specs.YardContent.{Has, Both};
 ghost use Rattle.memory_yard.specs.Found.{Adds};
 ghost use Rattle.memory_yard.specs.Shelf.{SlotKeeps, IsPartitionOf};
 
 use crate::device::Device;
-use crate::place::Place;
+use crate::place::DevicePlace;
 use device_yard::PartitionSet;
 use std::alloc::{AllocError, Global};
 
@@ -17,7 +17,7 @@ pub struct Slot<K: Copy, T: Drop> {
     pub device: Option<T>,
 }
 
-impl<K: Place, T: Device> Slot<K, T> {
+impl<K: DevicePlace, T: Device> Slot<K, T> {
     /// Answers whether its device is here and something stands on it.
     fn is_used(&mut self, alloc: Global) -> Result<bool, AllocError>
         ensures keeps { SlotKeeps T.keeps self.old self.new }

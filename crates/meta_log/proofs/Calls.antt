@@ -7,12 +7,12 @@ use Rattle.meta_log.specs.Content.{Left, Grows, appended_if}
 use Rattle.meta_log.specs.Memory.{content_of}
 
 -- a call that hands nothing
-pub quiet : {K : Type 0} {code : K → ℕ} (call : K) (fate : Fate) (f g : Faults K) (handed : List ℕ) → ((before after : List ℕ) → Ran call fate (control_of code f before) (control_of code g after)) → RanQuietly call fate (control_of code f handed) (control_of code g handed)
-quiet call fate f g handed ran = record { ran = ran handed handed; handed = refl }
+pub quiet : {K : Type 0} {code : K → ℕ} (call : K) (fate : Fate) (f g : Faults K) (last_read : List ℕ) → ((before after : List ℕ) → Ran call fate (control_of code f before) (control_of code g after)) → RanQuietly call fate (control_of code f last_read) (control_of code g last_read)
+quiet call fate f g last_read ran = record { ran = ran last_read last_read; last_read = refl }
 
 -- a call that puts a note at the end
 pub grows : (old new : List Note) (done d : Bool) (note : Note) (M : Bool → Type 0) → new ≡ appended_if done note old → done ≡ d → M d → Grows note M (content_of old) (content_of new)
-grows old new done d note M is same m = record { tells = refl; notes = λ told. (done, may, is); left = λ told l left. leaves done is may l left }
+grows old new done d note M is same m = record { is_observable = refl; notes = λ told. (done, may, is); left = λ told l left. leaves done is may l left }
   where
     may : M done
     may = subst M (sym same) m

@@ -12,9 +12,9 @@ use Rattle.std.specs.Prelude.{◌≡◌, ◌⊎◌, Bool, true, false, List, [],
 use Rattle.segment_meta.specs.declared.note.Note.{Note}
 use Rattle.segment_meta.specs.Rules.{IsNote}
 
--- Of a log that doesn't tell, `notes` and `besides` mean nothing.
+-- Of a log that isn't observable, `notes` and `besides` mean nothing.
 pub record Content : Type 1 where
-  pub tells : Bool
+  pub is_observable : Bool
   -- the oldest first
   pub notes : List Note
   -- what else a power cut now may leave
@@ -39,13 +39,14 @@ appended_if done note notes = if done then notes ++ note ∷ [] else notes
 -- A call that puts a note at the end, where it was done. A power cut then may leave what it might have left before,
 -- or the notes that were told with the note behind them.
 pub record Grows (note : Note) (may_be_done : Bool → Type 0) (old new : Content) : Type 0 where
-  pub tells : new.tells ≡ old.tells
-  pub notes : IsTrue old.tells → (done : Bool) × may_be_done done × (new.notes ≡ appended_if done note old.notes)
-  pub left : IsTrue old.tells → (l : List Note) → Left new l
+  pub is_observable : new.is_observable ≡ old.is_observable
+  pub notes : IsTrue old.is_observable
+      → (done : Bool) × may_be_done done × (new.notes ≡ appended_if done note old.notes)
+  pub left : IsTrue old.is_observable → (l : List Note) → Left new l
       → (may_be_done false × Left old l) ⊎ (may_be_done true × (l ≡ old.notes ++ note ∷ []))
 
 -- a call that changes nothing, after which a power cut leaves nothing more
 pub record Keeps (old new : Content) : Type 0 where
-  pub tells : new.tells ≡ old.tells
+  pub is_observable : new.is_observable ≡ old.is_observable
   pub notes : new.notes ≡ old.notes
   pub left : (l : List Note) → Left new l → Left old l

@@ -5,4 +5,4 @@ use Rattle.meta_log.specs.Content.{Content}
 
 -- these notes, and a power cut leaves them
 abbrev pub content_of : List Note → Content
-content_of notes = record { tells = true; notes = notes; besides = λ l. ⊥ }
+content_of notes = record { is_observable = true; notes = notes; besides = λ l. ⊥ }

@@ -9,12 +9,12 @@
 
 mod call;
 mod copying;
+mod event_origin;
 mod log;
 mod memory_log;
 mod notes;
-mod teller;
 
 pub use call::{MetaCall, Planned};
+pub use event_origin::EventOrigin;
 pub use log::MetaLog;
 pub use memory_log::MemoryLog;
-pub use teller::Teller;

@@ -28,7 +28,7 @@ pub trait MetaLog: Drop {
         ensures control { RanQuietly Append (fate_of result) (control self.old) (control self.new) }
         ensures content { Grows note.now (MayBeDone Append (fate_of result) (control self.old))
             (content self.old) (content self.new) }
-        ensures place { IsTrue (content self.old).tells
+        ensures place { IsTrue (content self.old).is_observable
             → IfOk result (λ at. at ≡ length (content self.old).notes) };
 
     /// Returns the events from a position on, none if the log ends there or before. After that a power cut leaves
@@ -36,8 +36,8 @@ pub trait MetaLog: Drop {
     fn read(&mut self, at: u64) -> Result<Row<Note>, Trouble>
         ensures control { RanQuietly Read (fate_of result) (control self.old) (control self.new) }
         ensures content { Keeps (content self.old) (content self.new) }
-        ensures left { IsTrue (content self.old).tells → OnOk result (LeavesTold (content self.new)) }
-        ensures notes { IsTrue (content self.old).tells
+        ensures left { IsTrue (content self.old).is_observable → OnOk result (LeavesTold (content self.new)) }
+        ensures notes { IsTrue (content self.old).is_observable
             → IfOk result (λ notes. notes ≡ drop at (content self.old).notes) }
         ensures rules { IfOk result AreNotes };
 

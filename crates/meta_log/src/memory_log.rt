@@ -28,12 +28,12 @@ pub struct MemoryLog {
 impl MemoryLog {
     /// Makes a log with no notes, whose planned calls fail once it is armed, without memory.
     pub fn new(alloc: Global, plan: Vec<Planned>) -> MemoryLog
-        ensures tells { IsTrue (⟦<MemoryLog as MetaLog>⟧.content result).tells }
+        ensures is_observable { IsTrue (⟦<MemoryLog as MetaLog>⟧.content result).is_observable }
         ensures notes { (⟦<MemoryLog as MetaLog>⟧.content result).notes ≡ [] }
         ensures fresh { IsFresh (⟦<MemoryLog as MetaLog>⟧.control result) }
         ensures plan { (⟦<MemoryLog as MetaLog>⟧.control result).plan ≡ plan.items }
-        ensures calm { IsTrue (⟦<MemoryLog as MetaLog>⟧.control result).calm }
-        ensures ruled { IsTrue (⟦<MemoryLog as MetaLog>⟧.control result).ruled }
+        ensures infallible { IsTrue (⟦<MemoryLog as MetaLog>⟧.control result).infallible }
+        ensures scripted { IsTrue (⟦<MemoryLog as MetaLog>⟧.control result).scripted }
     {
         MemoryLog {
             notes: Notes::new(alloc),
@@ -47,8 +47,8 @@ impl MemoryLog {
             (⟦<MemoryLog as MetaLog>⟧.content self.new) }
         ensures fresh { IsFresh (⟦<MemoryLog as MetaLog>⟧.control self.new) }
         ensures plan { (⟦<MemoryLog as MetaLog>⟧.control self.new).plan ≡ plan.items }
-        ensures calm { IsTrue (⟦<MemoryLog as MetaLog>⟧.control self.new).calm }
-        ensures ruled { IsTrue (⟦<MemoryLog as MetaLog>⟧.control self.new).ruled }
+        ensures infallible { IsTrue (⟦<MemoryLog as MetaLog>⟧.control self.new).infallible }
+        ensures scripted { IsTrue (⟦<MemoryLog as MetaLog>⟧.control self.new).scripted }
     {
         self.faults = FaultPlan::new(plan);
     }

@@ -12,17 +12,17 @@ use Rattle.std.proofs.lemmas.Map.Lookups.{exact_unsigned, exact_bytes, exact_pai
 use Rattle.tier_base.specs.declared.plain.Part.{Part}
 use Rattle.tier_base.specs.declared.plain.Part.TheVariants as part
 use Rattle.tier_base.specs.declared.object_key.ObjectKey.{ObjectKey}
-use Rattle.object_store.specs.declared.slot.Rank.{Rank}
-use Rattle.object_store.specs.declared.slot.Rank.TheVariants.{First, Second, Third, Fourth, Fifth}
+use Rattle.object_store.specs.declared.slot.PartOrder.{PartOrder}
+use Rattle.object_store.specs.declared.slot.PartOrder.TheVariants.{First, Second, Third, Fourth, Fifth}
 use Rattle.object_store.specs.declared.slot.Slot.{Slot}
 use Rattle.object_store.specs.contracts.slot.RankOrd.TheImpl as rank_ord
 use Rattle.object_store.specs.contracts.slot.SlotOrd.TheImpl.Laws as slot_laws
 use Rattle.object_store.specs.Shelf.{slot_cmp, rank_of, part_at, slot_of, key_at}
 
-abbrev rank_cmp : Rank → Rank → Ordering
+abbrev rank_cmp : PartOrder → PartOrder → Ordering
 rank_cmp = (rank_ord.ghosts).cmp
 
-rank_exact : (a b : Rank) → rank_cmp a b ≡ Equal → a ≡ b
+rank_exact : (a b : PartOrder) → rank_cmp a b ≡ Equal → a ≡ b
 rank_exact First First h = refl
 rank_exact Second Second h = refl
 rank_exact Third Third h = refl
@@ -31,13 +31,13 @@ rank_exact Fifth Fifth h = refl
 rank_exact a b h = cc
 
 -- the fields of a slot
-abbrev fields : Slot → ℕ × (List ℕ × Rank)
+abbrev fields : Slot → ℕ × (List ℕ × PartOrder)
 fields s = (s.partition.0, (s.id.0, s.rank))
 
 pub slot_exact : (a b : Slot) → slot_cmp a b ≡ Equal → a ≡ b
 slot_exact a b h =
-    let same : fields a ≡ fields b = exact_pairs nat_cmp (λ (x y : List ℕ × Rank). ordering_then (slice_cmp nat_cmp x.0 y.0) (rank_cmp x.1 y.1)) exact_unsigned (exact_pairs (slice_cmp nat_cmp) rank_cmp exact_bytes rank_exact) (fields a) (fields b) h in
-    ap (λ (f : ℕ × (List ℕ × Rank)). record { partition = record { 0 = f.0 }; id = record { 0 = f.1.0 }; rank = f.1.1 }) same
+    let same : fields a ≡ fields b = exact_pairs nat_cmp (λ (x y : List ℕ × PartOrder). ordering_then (slice_cmp nat_cmp x.0 y.0) (rank_cmp x.1 y.1)) exact_unsigned (exact_pairs (slice_cmp nat_cmp) rank_cmp exact_bytes rank_exact) (fields a) (fields b) h in
+    ap (λ (f : ℕ × (List ℕ × PartOrder)). record { partition = record { 0 = f.0 }; id = record { 0 = f.1.0 }; rank = f.1.1 }) same
 
 -- a slot is equal to itself
 pub slot_itself : (s : Slot) → slot_cmp s s ≡ Equal
@@ -50,7 +50,7 @@ part_back part.TimeIndex = refl
 part_back part.Epochs = refl
 part_back part.Pack = refl
 
-rank_back : (r : Rank) → rank_of (part_at r) ≡ r
+rank_back : (r : PartOrder) → rank_of (part_at r) ≡ r
 rank_back First = refl
 rank_back Second = refl
 rank_back Third = refl
@@ -61,7 +61,7 @@ pub key_back : (k : ObjectKey) → key_at (slot_of k) ≡ k
 key_back k = ap (λ (p : Part). record { partition = k.partition; id = k.id; part = p }) (part_back k.part)
 
 pub slot_back : (s : Slot) → slot_of (key_at s) ≡ s
-slot_back s = ap (λ (r : Rank). record { partition = s.partition; id = s.id; rank = r }) (rank_back s.rank)
+slot_back s = ap (λ (r : PartOrder). record { partition = s.partition; id = s.id; rank = r }) (rank_back s.rank)
 
 -- a slot that a key is found at is the key's
 pub found_at : (k : ObjectKey) (s : Slot) → is_at (slot_cmp (slot_of k)) s ≡ true → k ≡ key_at s

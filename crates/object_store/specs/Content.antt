@@ -17,9 +17,9 @@ use Rattle.tier_base.specs.Told.{OnlyAt}
 abbrev pub Objects : Type 0
 Objects = ObjectKey → Option (List ℕ)
 
--- Of a store that doesn't tell, `objects` means nothing.
+-- Of a store that isn't observable, `objects` means nothing.
 pub record Content : Type 0 where
-  pub tells : Bool
+  pub is_observable : Bool
   pub objects : Objects
 
 -- what is made of an object where it is done, and the same where it isn't
@@ -32,10 +32,10 @@ MadeAt key made old new = OnlyAt key (λ before after. after ≡ made before) ol
 
 -- a call that changes one object, where it was done
 pub record Changes (key : ObjectKey) (made : Option (List ℕ) → Option (List ℕ)) (may_be_done : Bool → Type 0) (old new : Content) : Type 0 where
-  pub tells : new.tells ≡ old.tells
-  pub objects : IsTrue old.tells → (done : Bool) × may_be_done done × MadeAt key (made_if done made) old.objects new.objects
+  pub is_observable : new.is_observable ≡ old.is_observable
+  pub objects : IsTrue old.is_observable → (done : Bool) × may_be_done done × MadeAt key (made_if done made) old.objects new.objects
 
 -- a call that changes no object
 pub record Keeps (old new : Content) : Type 0 where
-  pub tells : new.tells ≡ old.tells
+  pub is_observable : new.is_observable ≡ old.is_observable
   pub objects : (k : ObjectKey) → new.objects k ≡ old.objects k

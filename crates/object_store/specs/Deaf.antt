@@ -4,4 +4,4 @@ use Rattle.object_store.specs.Content.{Content}
 
 -- nothing is told
 abbrev pub nothing_told : Content
-nothing_told = record { tells = false; objects = λ k. None }
+nothing_told = record { is_observable = false; objects = λ k. None }

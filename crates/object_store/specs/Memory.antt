@@ -5,5 +5,5 @@ use Rattle.object_store.specs.Content.{Content}
 
 -- a store with no objects
 pub record IsEmptyStore (c : Content) : Type 0 where
-  pub tells : IsTrue c.tells
+  pub is_observable : IsTrue c.is_observable
   pub objects : (k : ObjectKey) → c.objects k ≡ None

@@ -5,8 +5,8 @@ use Rattle.std.specs.declared.cmp.Ordering.{Ordering}
 use Rattle.tier_base.specs.declared.plain.Part.{Part}
 use Rattle.tier_base.specs.declared.plain.Part.TheVariants as part
 use Rattle.tier_base.specs.declared.object_key.ObjectKey.{ObjectKey}
-use Rattle.object_store.specs.declared.slot.Rank.{Rank}
-use Rattle.object_store.specs.declared.slot.Rank.TheVariants.{First, Second, Third, Fourth, Fifth}
+use Rattle.object_store.specs.declared.slot.PartOrder.{PartOrder}
+use Rattle.object_store.specs.declared.slot.PartOrder.TheVariants.{First, Second, Third, Fourth, Fifth}
 use Rattle.object_store.specs.declared.slot.Slot.{Slot}
 use Rattle.object_store.specs.declared.shelf.Shelf.{Shelf}
 use Rattle.object_store.specs.contracts.slot.SlotOrd.TheImpl as slot_ord
@@ -17,7 +17,7 @@ abbrev pub slot_cmp : Slot → Slot → Ordering
 slot_cmp = (slot_ord.ghosts).cmp
 
 -- a part's place among the parts
-abbrev pub rank_of : Part → Rank
+abbrev pub rank_of : Part → PartOrder
 rank_of part.Log = First
 rank_of part.Index = Second
 rank_of part.TimeIndex = Third
@@ -25,7 +25,7 @@ rank_of part.Epochs = Fourth
 rank_of part.Pack = Fifth
 
 -- the part at a place
-abbrev pub part_at : Rank → Part
+abbrev pub part_at : PartOrder → Part
 part_at First = part.Log
 part_at Second = part.Index
 part_at Third = part.TimeIndex
@@ -50,4 +50,4 @@ keys_on shelf = map key_at (keys shelf.objects)
 
 -- a store in memory tells what is on its shelf
 abbrev pub content_of : Shelf → Content
-content_of shelf = record { tells = true; objects = objects_on shelf }
+content_of shelf = record { is_observable = true; objects = objects_on shelf }

@@ -22,7 +22,7 @@ pub struct DeafStore {
     alloc: Global,
     objects: Vec<(ObjectKey, Bytes)>,
     faults: FaultPlan<StoreCall>,
-    handed: Bytes,
+    last_read: Bytes,
 }
 
 impl DeafStore {
@@ -30,13 +30,13 @@ impl DeafStore {
     pub fn new(alloc: Global, objects: Vec<(ObjectKey, Bytes)>) -> DeafStore
         ensures fresh { IsFresh (⟦<DeafStore as Store>⟧.control result) }
         ensures plan { (⟦<DeafStore as Store>⟧.control result).plan ≡ [] }
-        ensures calm { IsTrue (⟦<DeafStore as Store>⟧.control result).calm }
+        ensures infallible { IsTrue (⟦<DeafStore as Store>⟧.control result).infallible }
     {
         DeafStore {
             alloc,
             objects,
             faults: FaultPlan::new(Vec::new(alloc)),
-            handed: Bytes::new(),
+            last_read: Bytes::new(),
         }
     }
 }
@@ -44,7 +44,7 @@ impl DeafStore {
 impl Store for DeafStore {
     ghost content = { λ d. nothing_told };
 
-    ghost control = { λ d. control_of call_code d.faults d.handed };
+    ghost control = { λ d. control_of call_code d.faults d.last_read };
 
     fn put(&mut self, key: &ObjectKey, bytes: &Bytes) -> Result<(), Trouble> {
         let ending = self.faults.ending(StoreCall::Put);
@@ -54,12 +54,12 @@ impl Store for DeafStore {
 
     fn get(&mut self, key: &ObjectKey, at: u64) -> Result<Option<Bytes>, Trouble> {
         let object = share_from(&self.objects, key, at as usize)?;
-        end_get(&mut self.faults, &mut self.handed, object)
+        end_get(&mut self.faults, &mut self.last_read, object)
     }
 
     fn get_part(&mut self, key: &ObjectKey, at: u64, most: u64) -> Result<Option<Bytes>, Trouble> {
         let object = share_part(&self.objects, key, at as usize, most as usize)?;
-        end_get(&mut self.faults, &mut self.handed, object)
+        end_get(&mut self.faults, &mut self.last_read, object)
     }
 
     fn delete(&mut self, key: &ObjectKey) -> Result<(), Failed> {
@@ -78,7 +78,7 @@ impl Store for DeafStore {
         self.faults.arm();
     }
 
-    ghost planned = { λ d. fails_as_planned call_code d.faults d.handed };
+    ghost planned = { λ d. fails_as_planned call_code d.faults d.last_read };
 }
 
 /// Finds an object by its key.

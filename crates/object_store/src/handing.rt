@@ -3,7 +3,7 @@
 ghost use Rattle.std.specs.Prelude.{◌≡◌, take, drop, if◌then◌else◌, IfOk};
 ghost use Rattle.tier_base.specs.Device.{Ran, fate_of};
 ghost use Rattle.tier_base.specs.Faults.{control_of};
-ghost use Rattle.tier_base.specs.Told.{bytes_in, handed_after};
+ghost use Rattle.tier_base.specs.Told.{bytes_in, last_read_after};
 ghost use Rattle.object_store.specs.declared.call.StoreCall.TheVariants.{Get};
 ghost use Rattle.object_store.specs.Call.{call_code};
 
@@ -16,18 +16,18 @@ use tier_base::{FaultPlan, Trouble, give};
 /// bytes.
 pub fn end_get(
     faults: &mut FaultPlan<StoreCall>,
-    handed: &mut Bytes,
+    last_read: &mut Bytes,
     object: Option<Bytes>,
 ) -> Result<Option<Bytes>, Trouble>
-    ensures control { Ran Get (fate_of result) (control_of call_code faults.old handed.old)
-        (control_of call_code faults.new handed.new) }
-    ensures handed { handed.new ≡ handed_after result handed.old }
+    ensures control { Ran Get (fate_of result) (control_of call_code faults.old last_read.old)
+        (control_of call_code faults.new last_read.new) }
+    ensures last_read { last_read.new ≡ last_read_after result last_read.old }
     ensures given { IfOk result (λ given. given ≡ object) }
 {
     let ending = faults.ending(StoreCall::Get);
     let shared = share(&object)?;
     let outcome = faults.note(StoreCall::Get, ending);
-    hand(handed, outcome.is_ok(), shared);
+    hand(last_read, outcome.is_ok(), shared);
     give(outcome, object)
 }
 
@@ -51,10 +51,10 @@ fn share(object: &Option<Bytes>) -> Result<Bytes, AllocError>
 }
 
 /// Hands bytes where they are given.
-fn hand(handed: &mut Bytes, given: bool, bytes: Bytes)
-    ensures { handed.new ≡ (if given then bytes else handed.old) }
+fn hand(last_read: &mut Bytes, given: bool, bytes: Bytes)
+    ensures { last_read.new ≡ (if given then bytes else last_read.old) }
 {
     if given {
-        *handed = bytes;
+        *last_read = bytes;
     }
 }

@@ -26,7 +26,7 @@ pub struct MemoryStore {
     alloc: Global,
     shelf: Shelf,
     faults: FaultPlan<StoreCall>,
-    handed: Bytes,
+    last_read: Bytes,
 }
 
 impl MemoryStore {
@@ -35,14 +35,14 @@ impl MemoryStore {
         ensures content { IsEmptyStore (⟦<MemoryStore as Store>⟧.content result) }
         ensures fresh { IsFresh (⟦<MemoryStore as Store>⟧.control result) }
         ensures plan { (⟦<MemoryStore as Store>⟧.control result).plan ≡ plan.items }
-        ensures calm { IsTrue (⟦<MemoryStore as Store>⟧.control result).calm }
-        ensures ruled { IsTrue (⟦<MemoryStore as Store>⟧.control result).ruled }
+        ensures infallible { IsTrue (⟦<MemoryStore as Store>⟧.control result).infallible }
+        ensures scripted { IsTrue (⟦<MemoryStore as Store>⟧.control result).scripted }
     {
         MemoryStore {
             alloc,
             shelf: Shelf::new(alloc),
             faults: FaultPlan::new(plan),
-            handed: Bytes::new(),
+            last_read: Bytes::new(),
         }
     }
 
@@ -52,11 +52,11 @@ impl MemoryStore {
             (⟦<MemoryStore as Store>⟧.content self.new) }
         ensures fresh { IsFresh (⟦<MemoryStore as Store>⟧.control self.new) }
         ensures plan { (⟦<MemoryStore as Store>⟧.control self.new).plan ≡ plan.items }
-        ensures calm { IsTrue (⟦<MemoryStore as Store>⟧.control self.new).calm }
-        ensures ruled { IsTrue (⟦<MemoryStore as Store>⟧.control self.new).ruled }
+        ensures infallible { IsTrue (⟦<MemoryStore as Store>⟧.control self.new).infallible }
+        ensures scripted { IsTrue (⟦<MemoryStore as Store>⟧.control self.new).scripted }
     {
         self.faults = FaultPlan::new(plan);
-        self.handed = Bytes::new();
+        self.last_read = Bytes::new();
     }
 
     /// Lends the planned calls.
@@ -84,7 +84,7 @@ impl MemoryStore {
 impl Store for MemoryStore {
     ghost content = { λ m. content_of m.shelf };
 
-    ghost control = { λ m. control_of call_code m.faults m.handed };
+    ghost control = { λ m. control_of call_code m.faults m.last_read };
 
     fn put(&mut self, key: &ObjectKey, bytes: &Bytes) -> Result<(), Trouble> {
         let ending = self.faults.ending(StoreCall::Put);
@@ -94,12 +94,12 @@ impl Store for MemoryStore {
 
     fn get(&mut self, key: &ObjectKey, at: u64) -> Result<Option<Bytes>, Trouble> {
         let object = self.shelf.get(key, at as usize)?;
-        end_get(&mut self.faults, &mut self.handed, object)
+        end_get(&mut self.faults, &mut self.last_read, object)
     }
 
     fn get_part(&mut self, key: &ObjectKey, at: u64, most: u64) -> Result<Option<Bytes>, Trouble> {
         let object = self.shelf.get_part(key, at as usize, most as usize)?;
-        end_get(&mut self.faults, &mut self.handed, object)
+        end_get(&mut self.faults, &mut self.last_read, object)
     }
 
     fn delete(&mut self, key: &ObjectKey) -> Result<(), Failed> {
@@ -118,5 +118,5 @@ impl Store for MemoryStore {
         self.faults.arm();
     }
 
-    ghost planned = { λ m. fails_as_planned call_code m.faults m.handed };
+    ghost planned = { λ m. fails_as_planned call_code m.faults m.last_read };
 }

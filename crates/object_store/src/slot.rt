@@ -7,7 +7,7 @@ use tier_base::{ObjectKey, Part, PartitionId, SegmentId};
 
 /// A part's place among the parts of a segment.
 #[derive(Clone, Copy, PartialEq, Eq, PartialOrd, Ord)]
-pub enum Rank {
+pub enum PartOrder {
     First,
     Second,
     Third,
@@ -20,30 +20,30 @@ pub enum Rank {
 pub struct Slot {
     pub partition: PartitionId,
     pub id: SegmentId,
-    pub rank: Rank,
+    pub rank: PartOrder,
 }
 
-fn rank_of(part: Part) -> Rank
+fn rank_of(part: Part) -> PartOrder
     ensures { result ≡ rank_of part }
 {
     match part {
-        Part::Log => Rank::First,
-        Part::Index => Rank::Second,
-        Part::TimeIndex => Rank::Third,
-        Part::Epochs => Rank::Fourth,
-        Part::Pack => Rank::Fifth,
+        Part::Log => PartOrder::First,
+        Part::Index => PartOrder::Second,
+        Part::TimeIndex => PartOrder::Third,
+        Part::Epochs => PartOrder::Fourth,
+        Part::Pack => PartOrder::Fifth,
     }
 }
 
-fn part_at(rank: Rank) -> Part
+fn part_at(rank: PartOrder) -> Part
     ensures { result ≡ part_at rank }
 {
     match rank {
-        Rank::First => Part::Log,
-        Rank::Second => Part::Index,
-        Rank::Third => Part::TimeIndex,
-        Rank::Fourth => Part::Epochs,
-        Rank::Fifth => Part::Pack,
+        PartOrder::First => Part::Log,
+        PartOrder::Second => Part::Index,
+        PartOrder::Third => Part::TimeIndex,
+        PartOrder::Fourth => Part::Epochs,
+        PartOrder::Fifth => Part::Pack,
     }
 }
 

@@ -7,7 +7,7 @@ ghost use Rattle.std.specs.Prelude.{◌≡◌, take, drop, IfOk, IsTrue, option_
 ghost use Rattle.tier_base.specs.Device.{Control, Ran, RanQuietly, MayBeDone, Arms, FailsAsPlanned, fate_of, failing};
 ghost use Rattle.object_store.specs.declared.call.StoreCall.TheVariants.{Put, Get, Delete, Keys};
 ghost use Rattle.object_store.specs.Call.{call_code};
-ghost use Rattle.tier_base.specs.Told.{Names, replaced, removed, handed_after};
+ghost use Rattle.tier_base.specs.Told.{Names, replaced, removed, last_read_after};
 ghost use Rattle.object_store.specs.Content.{Content, Changes, Keeps};
 
 use bytes::Bytes;
@@ -32,19 +32,19 @@ pub trait Store: Drop {
     /// Returns an object's bytes from a position on, none past its end, or `None` if the object is absent.
     fn get(&mut self, key: &ObjectKey, at: u64) -> Result<Option<Bytes>, Trouble>
         ensures control { Ran Get (fate_of result) (control self.old) (control self.new) }
-        ensures handed { (control self.new).handed
-            ≡ handed_after result (control self.old).handed }
+        ensures last_read { (control self.new).last_read
+            ≡ last_read_after result (control self.old).last_read }
         ensures content { Keeps (content self.old) (content self.new) }
-        ensures bytes { IsTrue (content self.old).tells → IfOk result (λ bytes. bytes
+        ensures bytes { IsTrue (content self.old).is_observable → IfOk result (λ bytes. bytes
             ≡ option_map (drop at) ((content self.old).objects key.now)) };
 
     /// Returns at most so many of the bytes that `get` returns, and fewer only if these end.
     fn get_part(&mut self, key: &ObjectKey, at: u64, most: u64) -> Result<Option<Bytes>, Trouble>
         ensures control { Ran Get (fate_of result) (control self.old) (control self.new) }
-        ensures handed { (control self.new).handed
-            ≡ handed_after result (control self.old).handed }
+        ensures last_read { (control self.new).last_read
+            ≡ last_read_after result (control self.old).last_read }
         ensures content { Keeps (content self.old) (content self.new) }
-        ensures bytes { IsTrue (content self.old).tells → IfOk result (λ bytes. bytes
+        ensures bytes { IsTrue (content self.old).is_observable → IfOk result (λ bytes. bytes
             ≡ option_map (λ object. take most (drop at object))
             ((content self.old).objects key.now)) };
 
@@ -59,7 +59,7 @@ pub trait Store: Drop {
     fn keys(&mut self) -> Result<Row<ObjectKey>, Trouble>
         ensures control { RanQuietly Keys (fate_of result) (control self.old) (control self.new) }
         ensures content { Keeps (content self.old) (content self.new) }
-        ensures keys { IsTrue (content self.old).tells
+        ensures keys { IsTrue (content self.old).is_observable
             → IfOk result (λ keys. Names (content self.old).objects keys) };
 
     /// From the first `arm` on planned calls fail. Further calls of `arm` change nothing.

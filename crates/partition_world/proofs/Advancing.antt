@@ -8,26 +8,26 @@ use Rattle.tier_base.specs.declared.names.PartitionId.{PartitionId}
 use Rattle.tier_base.specs.declared.plain.State.{State}
 use Rattle.tier_base.specs.declared.plain.State.TheVariants.{CopyStarted, CopyFinished, DeleteStarted, DeleteFinished}
 use Rattle.tier_base.specs.declared.object_key.ObjectKey.{ObjectKey}
-use Rattle.meta_log.specs.declared.teller.Teller.{Teller}
+use Rattle.meta_log.specs.declared.event_origin.EventOrigin.{EventOrigin}
 use Rattle.remote_view.specs.Fold.{Seen, state_of}
 use Rattle.copy_task.specs.Copying.{Copied, keys}
 use Rattle.copy_task.specs.Turns.{Tiers, PutRow, DeleteRow, CopyRow, put_at, delete_at, checked}
 use Rattle.copy_task.specs.declared.turn.CopyTurn.{CopyTurn}
 use Rattle.copy_task.specs.declared.turn.CopyTurn.TheVariants.{Goes as GoesOn, Ends}
-use Rattle.copy_task.specs.declared.turn.Next.{Next}
-use Rattle.copy_task.specs.declared.turn.Next.TheVariants.{Start, Put, Finish, Check, Delete}
-use Rattle.expiry_task.specs.declared.turn.Doomed.{Doomed}
+use Rattle.copy_task.specs.declared.turn.CopyStep.{CopyStep}
+use Rattle.copy_task.specs.declared.turn.CopyStep.TheVariants.{Start, Put, Finish, Check, Delete}
+use Rattle.expiry_task.specs.declared.turn.ExpiredSegment.{ExpiredSegment}
 use Rattle.expiry_task.specs.declared.turn.ExpiryTurn.{ExpiryTurn}
 use Rattle.expiry_task.specs.declared.turn.ExpiryTurn.TheVariants as expiry
-use Rattle.expiry_task.specs.declared.turn.Next.{Next as Deletion}
-use Rattle.rebuild_task.specs.declared.turn.Next.{Next as Rebuild}
-use Rattle.rebuild_task.specs.declared.turn.Next.TheVariants.{Epochs, Restart}
+use Rattle.expiry_task.specs.declared.turn.DeletionStep.{DeletionStep as Deletion}
+use Rattle.rebuild_task.specs.declared.turn.RebuildStep.{RebuildStep as Rebuild}
+use Rattle.rebuild_task.specs.declared.turn.RebuildStep.TheVariants.{Epochs, Restart}
 use Rattle.rebuild_task.specs.declared.turn.RebuildTurn.{RebuildTurn}
 use Rattle.rebuild_task.specs.declared.turn.RebuildTurn.TheVariants as rebuild
-use Rattle.tier_fetch.specs.declared.turn.Next.{Next as Search}
-use Rattle.tier_fetch.specs.declared.turn.Next.TheVariants.{Refresh}
+use Rattle.tier_fetch.specs.declared.turn.FetchStep.{FetchStep as Search}
+use Rattle.tier_fetch.specs.declared.turn.FetchStep.TheVariants.{Refresh}
 use Rattle.time_find.specs.declared.turn.Asked.{Asked}
-use Rattle.time_find.specs.declared.turn.Next.{Next as Dating}
+use Rattle.time_find.specs.declared.turn.SearchStep.{SearchStep as Dating}
 use Rattle.time_find.specs.declared.turn.TimeTurn.TheVariants as dating
 use Rattle.plain_log.specs.declared.command.ActorList.{ActorList}
 use Rattle.plain_log.specs.declared.command.Command.{Command}
@@ -35,21 +35,21 @@ use Rattle.plain_log.specs.declared.command.Command.TheVariants.{Copy, Trim, Exp
 use Rattle.plain_log.specs.declared.command.Which.TheVariants.{LatestTiered, At}
 use Rattle.plain_log.specs.declared.command.Config.{Config}
 use Rattle.plain_log.specs.declared.command.Order.{Order}
-use Rattle.partition_seen.specs.declared.begun.Begun.{Begun}
-use Rattle.partition_turns.specs.declared.held.Node.{Node}
-use Rattle.partition_turns.specs.declared.held.Held.{Held}
-use Rattle.partition_turns.specs.Held.{line_of, local_of}
-use Rattle.partition_world.specs.declared.tier.Side.{Side}
-use Rattle.partition_world.specs.declared.tier.Tier.{Tier}
-use Rattle.partition_world.specs.declared.seat.Outcome.{Outcome}
-use Rattle.partition_world.specs.declared.seat.Outcome.TheVariants.{Answers, Begins, Chose, Goes, Seeks as Sought, Dates as Dated, Dooms, Deletes, Rebuilds as Rebuilding}
-use Rattle.partition_world.specs.declared.seat.Seat.{Seat}
-use Rattle.partition_world.specs.declared.seat.Work.{Work}
-use Rattle.partition_world.specs.declared.seat.Work.TheVariants.{Idle, Noted, Copies, Seeks, Dates, Expires, Rebuilds}
-use Rattle.partition_world.specs.Seats.{chosen, moved, sought, dated, doomed, deleting, rebuilding, copy_outcome, expiry_outcome, rebuild_outcome, seat_after}
+use Rattle.laws_partition.specs.declared.start_snapshot.StartSnapshot.{StartSnapshot}
+use Rattle.partition_commands.specs.declared.partition_state.Node.{Node}
+use Rattle.partition_commands.specs.declared.partition_state.PartitionState.{PartitionState}
+use Rattle.partition_commands.specs.Partition.{line_of, local_of}
+use Rattle.partition_world.specs.declared.tier.BrokerTierState.{BrokerTierState}
+use Rattle.partition_world.specs.declared.tier.RemoteTier.{RemoteTier}
+use Rattle.partition_world.specs.declared.actor_state.Outcome.{Outcome}
+use Rattle.partition_world.specs.declared.actor_state.Outcome.TheVariants.{Answers, Begins, Chose, Goes, Seeks as Sought, Dates as Dated, Dooms, Deletes, Rebuilds as Rebuilding}
+use Rattle.partition_world.specs.declared.actor_state.ActorState.{ActorState}
+use Rattle.partition_world.specs.declared.actor_state.InProgress.{InProgress}
+use Rattle.partition_world.specs.declared.actor_state.InProgress.TheVariants.{Idle, Noted, Copies, Seeks, Dates, Expires, Rebuilds}
+use Rattle.partition_world.specs.ActorStates.{chosen, moved, sought, dated, expired_segment, deleting, rebuilding, copy_outcome, expiry_outcome, rebuild_outcome, actor_state_after}
 use Rattle.partition_world.specs.TurnsOfFetch.{FetchOnRow, fetch_tiers, wanted_of}
 use Rattle.partition_world.specs.TurnsOfDate.{SearchRow, DateOnRow, asked_of, is_own, resumed_at, resumed_with}
-use Rattle.partition_world.specs.Turns.{NotedRow, CopyingRow, SeekingRow, DatingRow, DeletingRow, RebuildingRow, Row, TurnRow}
+use Rattle.partition_world.specs.Turns.{ContinuedRow, CopyingRow, SeekingRow, DatingRow, DeletingRow, RebuildingRow, Row, TurnRow}
 use Rattle.partition_world.proofs.Begins.{MayComeTo, row_of, row_may}
 use Rattle.partition_world.proofs.ExpiryAdvances.{deleting_before, few_deleting, expiry_advances}
 use Rattle.partition_world.proofs.RebuildEnds.{MayTurn, rebuild_may_turn}
@@ -59,7 +59,7 @@ use Rattle.partition_world.proofs.FetchAdvances.{sought_before, few_sought, fetc
 use Rattle.partition_world.proofs.DateAdvances.{Rises, taken_to, few_taken_to, own_rises, time_rises, goes_further}
 
 -- how many turns a copy has taken at most that does this next
-abbrev pub taken_before : Next → ℕ
+abbrev pub taken_before : CopyStep → ℕ
 taken_before Start = 2
 taken_before (Put n) = 3 + min n 4
 taken_before Finish = 8
@@ -80,7 +80,7 @@ second_rebuilding Epochs = omega arith
 second_rebuilding (Restart line) = omega arith
 
 -- how many a command has taken at most; it has one more at least
-abbrev pub taken_of : Work → ℕ
+abbrev pub taken_of : InProgress → ℕ
 taken_of Idle = 0
 taken_of (Noted g) = 1
 taken_of (Copies g copy next) = taken_before next
@@ -90,35 +90,35 @@ taken_of (Expires g segment next) = deleting_before next
 taken_of (Rebuilds g next) = rebuilding_before next
 
 -- the turns that are left of a list, of which no order takes more than this
-abbrev pub turns_of : List Order → Seat → ℕ
-turns_of orders seat = (4 * 2 ^ 64 + 6) * (length orders - seat.number) - taken_of seat.work
+abbrev pub turns_of : List Order → ActorState → ℕ
+turns_of orders actor_state = (4 * 2 ^ 64 + 6) * (length orders - actor_state.number) - taken_of actor_state.work
 
 -- the turns that are left
-abbrev pub turns_left : List ActorList → List Seat → ℕ
+abbrev pub turns_left : List ActorList → List ActorState → ℕ
 turns_left [] desk = 0
 turns_left (l ∷ lists) [] = (4 * 2 ^ 64 + 6) * length l.orders + turns_left lists []
-turns_left (l ∷ lists) (seat ∷ desk) = turns_of l.orders seat + turns_left lists desk
+turns_left (l ∷ lists) (actor_state ∷ desk) = turns_of l.orders actor_state + turns_left lists desk
 
 -- the command has taken a turn more
-abbrev pub Advances : Work → Outcome → Type 0
+abbrev pub Advances : InProgress → Outcome → Type 0
 Advances work (Answers answer) = Unit {0}
 Advances work (Begins g) = taken_of work < taken_of (Noted g)
 Advances work (Chose copy) = taken_of work < taken_of (chosen work copy)
 Advances work (Goes next) = taken_of work < taken_of (moved work next)
 Advances work (Sought next) = taken_of work < taken_of (sought work next)
 Advances work (Dated cursor next) = taken_of work < taken_of (dated work cursor next)
-Advances work (Dooms segment) = taken_of work < taken_of (doomed work segment)
+Advances work (Dooms segment) = taken_of work < taken_of (expired_segment work segment)
 Advances work (Deletes next) = taken_of work < taken_of (deleting work next)
 Advances work (Rebuilding next) = taken_of work < taken_of (rebuilding work next)
 
-few_before : (next : Next) → taken_before next ≤ 13
+few_before : (next : CopyStep) → taken_before next ≤ 13
 few_before Start = omega arith
 few_before (Put n) = omega arith
 few_before Finish = omega arith
 few_before Check = omega arith
 few_before (Delete n) = omega arith
 
-few_taken : (work : Work) → taken_of work ≤ 4 * 2 ^ 64 + 5
+few_taken : (work : InProgress) → taken_of work ≤ 4 * 2 ^ 64 + 5
 few_taken Idle = omega arith
 few_taken (Noted g) = omega arith
 few_taken (Copies g copy next) = let few = few_before next in omega (arith, few)
@@ -128,19 +128,19 @@ few_taken (Expires g segment next) = let few = few_deleting next in omega (arith
 few_taken (Rebuilds g next) = let few = few_rebuilding next in omega (arith, few)
 
 -- a copy goes on with a later turn
-to : (before next after : Next) → GoesOn next ≡ GoesOn after → taken_before before < taken_before after → taken_before before < taken_before next
+to : (before next after : CopyStep) → GoesOn next ≡ GoesOn after → taken_before before < taken_before after → taken_before before < taken_before next
 to before next after is lt = let e : next ≡ after = cc in rw e lt
 
-put_advances : (copy : Copied) (n : ℕ) (key : Option ObjectKey) (next : Next) → slice_get (keys copy) (n + 1) ≡ key → GoesOn next ≡ GoesOn (put_at (n + 1) key) → taken_before (Put n) < taken_before next
+put_advances : (copy : Copied) (n : ℕ) (key : Option ObjectKey) (next : CopyStep) → slice_get (keys copy) (n + 1) ≡ key → GoesOn next ≡ GoesOn (put_at (n + 1) key) → taken_before (Put n) < taken_before next
 put_advances copy n None next at is = to (Put n) next Finish is (omega arith)
 put_advances copy n (Some key) next at is = let low = key_low copy.partition copy.id copy.packed (n + 1) key at in to (Put n) next (Put (n + 1)) is (omega (arith, low))
 
-delete_advances : (copy : Copied) (view : Seen) (n : ℕ) (key : Option ObjectKey) (next : Next) → slice_get (keys copy) (n + 1) ≡ key → GoesOn next ≡ delete_at copy view (n + 1) key
+delete_advances : (copy : Copied) (view : Seen) (n : ℕ) (key : Option ObjectKey) (next : CopyStep) → slice_get (keys copy) (n + 1) ≡ key → GoesOn next ≡ delete_at copy view (n + 1) key
     → taken_before (Delete n) < taken_before next
 delete_advances copy view n None next at is = absurd cc
 delete_advances copy view n (Some key) next at is = let low = key_low copy.partition copy.id copy.packed (n + 1) key at in to (Delete n) next (Delete (n + 1)) is (omega (arith, low))
 
-checked_advances : (copy : Copied) (notes : ℕ) (state : Option State) (next : Next) → GoesOn next ≡ checked copy notes state → taken_before Check < taken_before next
+checked_advances : (copy : Copied) (notes : ℕ) (state : Option State) (next : CopyStep) → GoesOn next ≡ checked copy notes state → taken_before Check < taken_before next
 checked_advances copy notes (Some CopyFinished) next is = absurd cc
 checked_advances copy notes (Some DeleteStarted) next is = to Check next (Delete 0) is (omega arith)
 checked_advances copy notes (Some DeleteFinished) next is = to Check next (Delete 0) is (omega arith)
@@ -148,24 +148,24 @@ checked_advances copy notes (Some CopyStarted) next is = absurd cc
 checked_advances copy notes None next is = absurd cc
 
 module _ {S M : Type 0} (store : StoreGhosts S) (meta : MetaGhosts M) where
-  put_row : (copy : Copied) (n : ℕ) (key : Option ObjectKey) (next : Next) (old new : S) → PutRow store.content store.control copy n key (Ok (GoesOn next)) old new → taken_before (Put n) < taken_before next
+  put_row : (copy : Copied) (n : ℕ) (key : Option ObjectKey) (next : CopyStep) (old new : S) → PutRow store.content store.control copy n key (Ok (GoesOn next)) old new → taken_before (Put n) < taken_before next
   put_row copy n None next old new w = let e : next ≡ Finish = cc (w.0) in rw e (omega arith)
   put_row copy n (Some key) next old new w = put_advances copy n (slice_get (keys copy) (n + 1)) next refl w.0
 
-  delete_row : (copy : Copied) (view : Seen) (n : ℕ) (key : Option ObjectKey) (next : Next) (old new : S) → DeleteRow store.content store.control copy view n key (GoesOn next) old new
+  delete_row : (copy : Copied) (view : Seen) (n : ℕ) (key : Option ObjectKey) (next : CopyStep) (old new : S) → DeleteRow store.content store.control copy view n key (GoesOn next) old new
       → taken_before (Delete n) < taken_before next
   delete_row copy view n None next old new w = let e = w.0 in absurd (cc (e))
   delete_row copy view n (Some key) next old new w = delete_advances copy view n (slice_get (keys copy) (n + 1)) next refl w.0
 
-  copy_advances : (copy : Copied) (teller : Teller) (before next : Next) (old new : Tiers S M)
-      → CopyRow store.content store.control meta.content meta.control copy teller before (Ok (GoesOn next)) old new → taken_before before < taken_before next
-  copy_advances copy teller Start next old new w = to Start next (Put 0) w.1.0 (omega arith)
-  copy_advances copy teller (Put n) next old new w = put_row copy n (slice_get (keys copy) n) next old.store new.store w.1
-  copy_advances copy teller Finish next old new w = to Finish next Check w.1.0 (omega arith)
-  copy_advances copy teller Check next old new w = checked_advances copy new.view.notes (state_of copy.id new.view.entries) next w.1.0
-  copy_advances copy teller (Delete n) next old new w = delete_row copy old.view n (slice_get (keys copy) n) next old.store new.store w.1
+  copy_advances : (copy : Copied) (origin : EventOrigin) (before next : CopyStep) (old new : Tiers S M)
+      → CopyRow store.content store.control meta.content meta.control copy origin before (Ok (GoesOn next)) old new → taken_before before < taken_before next
+  copy_advances copy origin Start next old new w = to Start next (Put 0) w.1.0 (omega arith)
+  copy_advances copy origin (Put n) next old new w = put_row copy n (slice_get (keys copy) n) next old.store new.store w.1
+  copy_advances copy origin Finish next old new w = to Finish next Check w.1.0 (omega arith)
+  copy_advances copy origin Check next old new w = checked_advances copy new.view.notes (state_of copy.id new.view.entries) next w.1.0
+  copy_advances copy origin (Delete n) next old new w = delete_row copy old.view n (slice_get (keys copy) n) next old.store new.store w.1
 
-copy_goes : (turn : CopyTurn) (next : Next) → Goes next ≡ copy_outcome turn → turn ≡ GoesOn next
+copy_goes : (turn : CopyTurn) (next : CopyStep) → Goes next ≡ copy_outcome turn → turn ≡ GoesOn next
 copy_goes (GoesOn n) next is = cc
 copy_goes (Ends answer) next is = absurd cc
 
@@ -183,66 +183,66 @@ read_advances (Restart line) may = omega arith
 read_advances Epochs may = absurd may
 
 module _ {D S M : Type 0} (disk : DiskGhosts D) (store : StoreGhosts S) (meta : MetaGhosts M) where
-  seek_advances : (p : PartitionId) (h : Held D) (t : Tier S M) (b : ℕ) (x : Node D) (side : Side) (g : Begun) (offset limit : ℕ) (before next : Search) (t' : Tier S M)
-      → FetchOnRow store meta p h t b x side g offset limit before (Sought next) t' → sought_before before < sought_before next
-  seek_advances p h t b x side g offset limit before next t' w =
-      fetch_advances store meta (wanted_of p x offset limit) (line_of x) before next (fetch_tiers side.view side.cache t) (fetch_tiers w.1.view w.1.cache t') w.1.row
+  seek_advances : (p : PartitionId) (h : PartitionState D) (t : RemoteTier S M) (b : ℕ) (x : Node D) (broker_tier : BrokerTierState) (g : StartSnapshot) (offset limit : ℕ) (before next : Search) (t' : RemoteTier S M)
+      → FetchOnRow store meta p h t b x broker_tier g offset limit before (Sought next) t' → sought_before before < sought_before next
+  seek_advances p h t b x broker_tier g offset limit before next t' w =
+      fetch_advances store meta (wanted_of p x offset limit) (line_of x) before next (fetch_tiers broker_tier.view broker_tier.cache t) (fetch_tiers w.1.view w.1.cache t') w.1.row
 
-  noted_sought : (p : PartitionId) (config : Config) (h : Held D) (t : Tier S M) (b : ℕ) (x : Node D) (side : Side) (g : Begun) (command : Command) (next : Search) (h' : Held D) (t' : Tier S M)
-      → NotedRow disk store meta p config h t b x side g command (Sought next) h' t' → sought_before Refresh < sought_before next
-  noted_sought p config h t b x side g Copy next h' t' (inl lost) = let e = lost.1 in absurd (cc (e))
-  noted_sought p config h t b x side g Copy next h' t' (inr (keeps, inl level)) = let e = level.1 in absurd (cc (e))
-  noted_sought p config h t b x side g Copy next h' t' (inr (keeps, inr reads)) = elim reads.row [ ]
-  noted_sought p config h t b x side g Trim next h' t' w = elim w.0 [ ]
-  noted_sought p config h t b x side g (Offset LatestTiered) next h' t' w = elim w.0 [ ]
-  noted_sought p config h t b x side g (Offset (At ts)) next h' t' w = elim w [ ]
-  noted_sought p config h t b x side g Expire next h' t' (inl lost, same) = let e = lost.1 in absurd (cc (e))
-  noted_sought p config h t b x side g Expire next h' t' (inr (keeps, by), same) = elim by [ ]
-  noted_sought p config h t b x side g Join next h' t' (inl (low, own)) = let e = own.0.1 in absurd (cc (e))
-  noted_sought p config h t b x side g Join next h' t' (inr (high, inl (answer, is, at, tier), same)) = absurd (cc (is))
-  noted_sought p config h t b x side g Join next h' t' (inr (high, inr (may, row), same)) = elim row [ ]
-  noted_sought p config h t b x side g (Fetch offset limit) next h' t' w = seek_advances p h t b x side g offset limit Refresh next t' w.0
-  noted_sought p config h t b x side g other next h' t' w = let e = w.0.1 in absurd (cc (e))
+  recorded_sought : (p : PartitionId) (config : Config) (h : PartitionState D) (t : RemoteTier S M) (b : ℕ) (x : Node D) (broker_tier : BrokerTierState) (g : StartSnapshot) (command : Command) (next : Search) (h' : PartitionState D) (t' : RemoteTier S M)
+      → ContinuedRow disk store meta p config h t b x broker_tier g command (Sought next) h' t' → sought_before Refresh < sought_before next
+  recorded_sought p config h t b x broker_tier g Copy next h' t' (inl lost) = let e = lost.1 in absurd (cc (e))
+  recorded_sought p config h t b x broker_tier g Copy next h' t' (inr (keeps, inl level)) = let e = level.1 in absurd (cc (e))
+  recorded_sought p config h t b x broker_tier g Copy next h' t' (inr (keeps, inr reads)) = elim reads.row [ ]
+  recorded_sought p config h t b x broker_tier g Trim next h' t' w = elim w.0 [ ]
+  recorded_sought p config h t b x broker_tier g (Offset LatestTiered) next h' t' w = elim w.0 [ ]
+  recorded_sought p config h t b x broker_tier g (Offset (At ts)) next h' t' w = elim w [ ]
+  recorded_sought p config h t b x broker_tier g Expire next h' t' (inl lost, same) = let e = lost.1 in absurd (cc (e))
+  recorded_sought p config h t b x broker_tier g Expire next h' t' (inr (keeps, by), same) = elim by [ ]
+  recorded_sought p config h t b x broker_tier g Join next h' t' (inl (low, own)) = let e = own.0.1 in absurd (cc (e))
+  recorded_sought p config h t b x broker_tier g Join next h' t' (inr (high, inl (answer, is, at, tier), same)) = absurd (cc (is))
+  recorded_sought p config h t b x broker_tier g Join next h' t' (inr (high, inr (may, row), same)) = elim row [ ]
+  recorded_sought p config h t b x broker_tier g (Fetch offset limit) next h' t' w = seek_advances p h t b x broker_tier g offset limit Refresh next t' w.0
+  recorded_sought p config h t b x broker_tier g other next h' t' w = let e = w.0.1 in absurd (cc (e))
 
-  seeking_sought : (p : PartitionId) (h : Held D) (t : Tier S M) (b : ℕ) (x : Node D) (side : Side) (g : Begun) (before : Search) (command : Command) (next : Search) (h' : Held D) (t' : Tier S M)
-      → SeekingRow store meta p h t b x side g before command (Sought next) h' t' → sought_before before < sought_before next
-  seeking_sought p h t b x side g before (Fetch offset limit) next h' t' w = seek_advances p h t b x side g offset limit before next t' w.0
-  seeking_sought p h t b x side g before other next h' t' w = elim w [ ]
+  seeking_sought : (p : PartitionId) (h : PartitionState D) (t : RemoteTier S M) (b : ℕ) (x : Node D) (broker_tier : BrokerTierState) (g : StartSnapshot) (before : Search) (command : Command) (next : Search) (h' : PartitionState D) (t' : RemoteTier S M)
+      → SeekingRow store meta p h t b x broker_tier g before command (Sought next) h' t' → sought_before before < sought_before next
+  seeking_sought p h t b x broker_tier g before (Fetch offset limit) next h' t' w = seek_advances p h t b x broker_tier g offset limit before next t' w.0
+  seeking_sought p h t b x broker_tier g before other next h' t' w = elim w [ ]
 
-  search_rises : (h : Held D) (t : Tier S M) (b : ℕ) (x : Node D) (side : Side) (asked : Asked) (cursor : ℕ) (before : Dating) (own : Bool)
-      (at : ℕ) (next : Dating) (h' : Held D) (t' : Tier S M)
-      → SearchRow disk store meta h t b x side asked cursor before own (dating.Goes at next) h' t' → Rises before next
-  search_rises h t b x side asked cursor before true at next h' t' w = own_rises disk x.log asked cursor before next at w.0.kept w.0.row
-  search_rises h t b x side asked cursor before false at next h' t' w =
-      let old = fetch_tiers side.view side.cache t in
+  search_rises : (h : PartitionState D) (t : RemoteTier S M) (b : ℕ) (x : Node D) (broker_tier : BrokerTierState) (asked : Asked) (cursor : ℕ) (before : Dating) (own : Bool)
+      (at : ℕ) (next : Dating) (h' : PartitionState D) (t' : RemoteTier S M)
+      → SearchRow disk store meta h t b x broker_tier asked cursor before own (dating.Goes at next) h' t' → Rises before next
+  search_rises h t b x broker_tier asked cursor before true at next h' t' w = own_rises disk x.log asked cursor before next at w.0.kept w.0.row
+  search_rises h t b x broker_tier asked cursor before false at next h' t' w =
+      let old = fetch_tiers broker_tier.view broker_tier.cache t in
       let new = fetch_tiers w.0.view w.0.cache t' in
       time_rises store meta asked (line_of x) cursor before next at old new w.0.row
 
-  date_advances : (p : PartitionId) (h : Held D) (t : Tier S M) (b : ℕ) (x : Node D) (side : Side) (g : Begun) (ts : ℤ) (cursor : ℕ)
-      (before : Dating) (at : ℕ) (next : Dating) (h' : Held D) (t' : Tier S M)
-      → DateOnRow disk store meta p h t b x side g ts cursor before (Dated at next) h' t' → taken_to cursor before < taken_to at next
-  date_advances p h t b x side g ts cursor before at next h' t' w =
+  date_advances : (p : PartitionId) (h : PartitionState D) (t : RemoteTier S M) (b : ℕ) (x : Node D) (broker_tier : BrokerTierState) (g : StartSnapshot) (ts : ℤ) (cursor : ℕ)
+      (before : Dating) (at : ℕ) (next : Dating) (h' : PartitionState D) (t' : RemoteTier S M)
+      → DateOnRow disk store meta p h t b x broker_tier g ts cursor before (Dated at next) h' t' → taken_to cursor before < taken_to at next
+  date_advances p h t b x broker_tier g ts cursor before at next h' t' w =
       let on = resumed_at h.registry.start cursor in
       let with = resumed_with h.registry.start cursor before in
       goes_further h.registry.start cursor at before next w.0.fits w.1
-      (search_rises h t b x side (asked_of p h x ts) on with (is_own (local_of x) on with) at next h' t' w.0.row)
+      (search_rises h t b x broker_tier (asked_of p h x ts) on with (is_own (local_of x) on with) at next h' t' w.0.row)
 
-  dating_dated : (p : PartitionId) (h : Held D) (t : Tier S M) (b : ℕ) (x : Node D) (side : Side) (g : Begun) (cursor : ℕ) (before : Dating)
-      (command : Command) (at : ℕ) (next : Dating) (h' : Held D) (t' : Tier S M)
-      → DatingRow disk store meta p h t b x side g cursor before command (Dated at next) h' t' → taken_to cursor before < taken_to at next
-  dating_dated p h t b x side g cursor before (Offset (At ts)) at next h' t' w =
-      date_advances p h t b x side g ts cursor before at next h' t' w
-  dating_dated p h t b x side g cursor before other at next h' t' w = elim w [ ]
+  dating_dated : (p : PartitionId) (h : PartitionState D) (t : RemoteTier S M) (b : ℕ) (x : Node D) (broker_tier : BrokerTierState) (g : StartSnapshot) (cursor : ℕ) (before : Dating)
+      (command : Command) (at : ℕ) (next : Dating) (h' : PartitionState D) (t' : RemoteTier S M)
+      → DatingRow disk store meta p h t b x broker_tier g cursor before command (Dated at next) h' t' → taken_to cursor before < taken_to at next
+  dating_dated p h t b x broker_tier g cursor before (Offset (At ts)) at next h' t' w =
+      date_advances p h t b x broker_tier g ts cursor before at next h' t' w
+  dating_dated p h t b x broker_tier g cursor before other at next h' t' w = elim w [ ]
 
-  copying_goes : (h : Held D) (t : Tier S M) (b : ℕ) (x : Node D) (side : Side) (g : Begun) (copy : Copied) (before : Next) (command : Command) (next : Next) (h' : Held D) (t' : Tier S M)
-      → CopyingRow store meta h t b x side g copy before command (Goes next) h' t' → taken_before before < taken_before next
-  copying_goes h t b x side g copy before Copy next h' t' (inl lost, same) = let e = lost.1 in absurd (cc (e))
-  copying_goes h t b x side g copy before Copy next h' t' (inr (keeps, (turn, is, goes)), same) =
+  copying_goes : (h : PartitionState D) (t : RemoteTier S M) (b : ℕ) (x : Node D) (broker_tier : BrokerTierState) (g : StartSnapshot) (copy : Copied) (before : CopyStep) (command : Command) (next : CopyStep) (h' : PartitionState D) (t' : RemoteTier S M)
+      → CopyingRow store meta h t b x broker_tier g copy before command (Goes next) h' t' → taken_before before < taken_before next
+  copying_goes h t b x broker_tier g copy before Copy next h' t' (inl lost, same) = let e = lost.1 in absurd (cc (e))
+  copying_goes h t b x broker_tier g copy before Copy next h' t' (inr (keeps, (turn, is, goes)), same) =
       let one = copy_goes turn next is in
       copy_advances store meta copy _ before next _ _ (rw one at goes.row)
-  copying_goes h t b x side g copy before command next h' t' w = elim w [ ]
+  copying_goes h t b x broker_tier g copy before command next h' t' w = elim w [ ]
 
-  deleting_deletes : (h : Held D) (t : Tier S M) (b : ℕ) (x : Node D) (g : Begun) (segment : Doomed) (before : Deletion) (command : Command) (next : Deletion) (h' : Held D) (t' : Tier S M)
+  deleting_deletes : (h : PartitionState D) (t : RemoteTier S M) (b : ℕ) (x : Node D) (g : StartSnapshot) (segment : ExpiredSegment) (before : Deletion) (command : Command) (next : Deletion) (h' : PartitionState D) (t' : RemoteTier S M)
       → DeletingRow store meta h t b x g segment before command (Deletes next) h' t' → deleting_before before < deleting_before next
   deleting_deletes h t b x g segment before Expire next h' t' (inl lost, same) = let e = lost.1 in absurd (cc (e))
   deleting_deletes h t b x g segment before Expire next h' t' (inr (keeps, (turn, is, goes)), same) =
@@ -250,57 +250,57 @@ module _ {D S M : Type 0} (disk : DiskGhosts D) (store : StoreGhosts S) (meta : 
       expiry_advances store meta segment _ before next _ _ (rw one at goes.row)
   deleting_deletes h t b x g segment before command next h' t' w = elim w [ ]
 
-  rebuilding_goes : (p : PartitionId) (h : Held D) (t : Tier S M) (b : ℕ) (x : Node D) (side : Side) (g : Begun) (before : Rebuild) (command : Command) (next : Rebuild) (h' : Held D) (t' : Tier S M)
-      → RebuildingRow disk store p h t b x side g before command (Rebuilding next) h' t' → rebuilding_before before < rebuilding_before next
-  rebuilding_goes p h t b x side g Epochs Join next h' t' (inl (answer, is, at, tier), same) = absurd (cc (is))
-  rebuilding_goes p h t b x side g Epochs Join next h' t' (inr (may, (turn, is, goes)), same) =
+  rebuilding_goes : (p : PartitionId) (h : PartitionState D) (t : RemoteTier S M) (b : ℕ) (x : Node D) (broker_tier : BrokerTierState) (g : StartSnapshot) (before : Rebuild) (command : Command) (next : Rebuild) (h' : PartitionState D) (t' : RemoteTier S M)
+      → RebuildingRow disk store p h t b x broker_tier g before command (Rebuilding next) h' t' → rebuilding_before before < rebuilding_before next
+  rebuilding_goes p h t b x broker_tier g Epochs Join next h' t' (inl (answer, is, at, tier), same) = absurd (cc (is))
+  rebuilding_goes p h t b x broker_tier g Epochs Join next h' t' (inr (may, (turn, is, goes)), same) =
       let one = rebuild_goes turn next is in
-      read_advances next (subst MayTurn one (rebuild_may_turn store (rebuilt_to p g) g.line side.view turn t.store t'.store goes.row))
-  rebuilding_goes p h t b x side g (Restart line) Join next h' t' w = let e = w.0.1 in absurd (cc (e))
-  rebuilding_goes p h t b x side g before command next h' t' w = elim w [ ]
+      read_advances next (subst MayTurn one (rebuild_may_turn store (rebuilt_to p g) g.line broker_tier.view turn t.store t'.store goes.row))
+  rebuilding_goes p h t b x broker_tier g (Restart line) Join next h' t' w = let e = w.0.1 in absurd (cc (e))
+  rebuilding_goes p h t b x broker_tier g before command next h' t' w = elim w [ ]
 
-  advances : (p : PartitionId) (config : Config) (h : Held D) (t : Tier S M) (b : ℕ) (x : Node D) (side : Side) (work : Work) (command : Command) (outcome : Outcome) (h' : Held D) (t' : Tier S M)
-      → MayComeTo work outcome → Row disk store meta p config h t b x side work command outcome h' t' → Advances work outcome
-  advances p config h t b x side work command (Answers answer) h' t' may w = tt
-  advances p config h t b x side Idle command (Begins g) h' t' may w = omega arith
-  advances p config h t b x side (Noted g) command (Chose copy) h' t' may w = omega arith
-  advances p config h t b x side (Noted g) command (Sought next) h' t' may w = noted_sought p config h t b x side g command next h' t' w
-  advances p config h t b x side (Noted g) command (Dated at next) h' t' may w = omega arith
-  advances p config h t b x side (Noted g) command (Dooms segment) h' t' may w = omega arith
-  advances p config h t b x side (Copies g c before) command (Goes next) h' t' may w = copying_goes h t b x side g c before command next h' t' w
-  advances p config h t b x side (Seeks g before) command (Sought next) h' t' may w = seeking_sought p h t b x side g before command next h' t' w
-  advances p config h t b x side (Dates g cursor before) command (Dated at next) h' t' may w =
-      dating_dated p h t b x side g cursor before command at next h' t' w
-  advances p config h t b x side (Expires g segment before) command (Deletes next) h' t' may w = deleting_deletes h t b x g segment before command next h' t' w
-  advances p config h t b x side (Noted g) command (Rebuilding next) h' t' may w = second_rebuilding next
-  advances p config h t b x side (Rebuilds g before) command (Rebuilding next) h' t' may w = rebuilding_goes p h t b x side g before command next h' t' w
-  advances p config h t b x side work command outcome h' t' may w = elim may [ ]
+  advances : (p : PartitionId) (config : Config) (h : PartitionState D) (t : RemoteTier S M) (b : ℕ) (x : Node D) (broker_tier : BrokerTierState) (work : InProgress) (command : Command) (outcome : Outcome) (h' : PartitionState D) (t' : RemoteTier S M)
+      → MayComeTo work outcome → Row disk store meta p config h t b x broker_tier work command outcome h' t' → Advances work outcome
+  advances p config h t b x broker_tier work command (Answers answer) h' t' may w = tt
+  advances p config h t b x broker_tier Idle command (Begins g) h' t' may w = omega arith
+  advances p config h t b x broker_tier (Noted g) command (Chose copy) h' t' may w = omega arith
+  advances p config h t b x broker_tier (Noted g) command (Sought next) h' t' may w = recorded_sought p config h t b x broker_tier g command next h' t' w
+  advances p config h t b x broker_tier (Noted g) command (Dated at next) h' t' may w = omega arith
+  advances p config h t b x broker_tier (Noted g) command (Dooms segment) h' t' may w = omega arith
+  advances p config h t b x broker_tier (Copies g c before) command (Goes next) h' t' may w = copying_goes h t b x broker_tier g c before command next h' t' w
+  advances p config h t b x broker_tier (Seeks g before) command (Sought next) h' t' may w = seeking_sought p h t b x broker_tier g before command next h' t' w
+  advances p config h t b x broker_tier (Dates g cursor before) command (Dated at next) h' t' may w =
+      dating_dated p h t b x broker_tier g cursor before command at next h' t' w
+  advances p config h t b x broker_tier (Expires g segment before) command (Deletes next) h' t' may w = deleting_deletes h t b x g segment before command next h' t' w
+  advances p config h t b x broker_tier (Noted g) command (Rebuilding next) h' t' may w = second_rebuilding next
+  advances p config h t b x broker_tier (Rebuilds g before) command (Rebuilding next) h' t' may w = rebuilding_goes p h t b x broker_tier g before command next h' t' w
+  advances p config h t b x broker_tier work command outcome h' t' may w = elim may [ ]
 
-  pub advances_at : (p : PartitionId) (config : Config) (h : Held D) (t : Tier S M) (b : ℕ) (work : Work) (command : Command) (outcome : Outcome) (h' : Held D) (t' : Tier S M)
+  pub advances_at : (p : PartitionId) (config : Config) (h : PartitionState D) (t : RemoteTier S M) (b : ℕ) (work : InProgress) (command : Command) (outcome : Outcome) (h' : PartitionState D) (t' : RemoteTier S M)
       → TurnRow disk store meta p config h t b work command outcome h' t' → Advances work outcome
   advances_at p config h t b work command outcome h' t' w =
       let r = row_of disk store meta p config h t b work command outcome h' t' w in
-      advances p config h t b r.x r.side work command outcome h' t' (row_may disk store meta p config h t b r.x r.side work command outcome h' t' r.row) r.row
+      advances p config h t b r.x r.broker_tier work command outcome h' t' (row_may disk store meta p config h t b r.x r.broker_tier work command outcome h' t' r.row) r.row
 
--- a seat after a turn leaves a turn less
-of_less : (orders : List Order) (seat : Seat) (outcome : Outcome) → seat.number < length orders → Advances seat.work outcome → turns_of orders (seat_after seat outcome) + 1 ≤ turns_of orders seat
-of_less orders seat (Answers answer) lt on = let few = few_taken seat.work in omega (arith, lt, few)
-of_less orders seat (Begins g) lt on = omega (arith, lt, on)
-of_less orders seat (Chose copy) lt on = let few = few_taken (chosen seat.work copy) in omega (arith, lt, few, on)
-of_less orders seat (Goes next) lt on = let few = few_taken (moved seat.work next) in omega (arith, lt, few, on)
-of_less orders seat (Sought next) lt on = let few = few_taken (sought seat.work next) in omega (arith, lt, few, on)
-of_less orders seat (Dated cursor next) lt on = let few = few_taken (dated seat.work cursor next) in omega (arith, lt, few, on)
-of_less orders seat (Dooms segment) lt on = let few = few_taken (doomed seat.work segment) in omega (arith, lt, few, on)
-of_less orders seat (Deletes next) lt on = let few = few_taken (deleting seat.work next) in omega (arith, lt, few, on)
-of_less orders seat (Rebuilding next) lt on = let few = few_taken (rebuilding seat.work next) in omega (arith, lt, few, on)
+-- an actor's state after a turn leaves a turn less
+of_less : (orders : List Order) (actor_state : ActorState) (outcome : Outcome) → actor_state.number < length orders → Advances actor_state.work outcome → turns_of orders (actor_state_after actor_state outcome) + 1 ≤ turns_of orders actor_state
+of_less orders actor_state (Answers answer) lt on = let few = few_taken actor_state.work in omega (arith, lt, few)
+of_less orders actor_state (Begins g) lt on = omega (arith, lt, on)
+of_less orders actor_state (Chose copy) lt on = let few = few_taken (chosen actor_state.work copy) in omega (arith, lt, few, on)
+of_less orders actor_state (Goes next) lt on = let few = few_taken (moved actor_state.work next) in omega (arith, lt, few, on)
+of_less orders actor_state (Sought next) lt on = let few = few_taken (sought actor_state.work next) in omega (arith, lt, few, on)
+of_less orders actor_state (Dated cursor next) lt on = let few = few_taken (dated actor_state.work cursor next) in omega (arith, lt, few, on)
+of_less orders actor_state (Dooms segment) lt on = let few = few_taken (expired_segment actor_state.work segment) in omega (arith, lt, few, on)
+of_less orders actor_state (Deletes next) lt on = let few = few_taken (deleting actor_state.work next) in omega (arith, lt, few, on)
+of_less orders actor_state (Rebuilding next) lt on = let few = few_taken (rebuilding actor_state.work next) in omega (arith, lt, few, on)
 
-pub turns_less : (lists : List ActorList) (desk : List Seat) (i : ℕ) (l : ActorList) (seat : Seat) (outcome : Outcome) → slice_get lists i ≡ Some l → slice_get desk i ≡ Some seat
-    → seat.number < length l.orders → Advances seat.work outcome → turns_left lists (slice_set desk i (seat_after seat outcome)) + 1 ≤ turns_left lists desk
-turns_less [] desk i l seat outcome at to lt on = absurd cc
-turns_less (k ∷ lists) [] i l seat outcome at to lt on = absurd cc
-turns_less (k ∷ lists) (s ∷ desk) zero l seat outcome at to lt on =
+pub turns_less : (lists : List ActorList) (desk : List ActorState) (i : ℕ) (l : ActorList) (actor_state : ActorState) (outcome : Outcome) → slice_get lists i ≡ Some l → slice_get desk i ≡ Some actor_state
+    → actor_state.number < length l.orders → Advances actor_state.work outcome → turns_left lists (slice_set desk i (actor_state_after actor_state outcome)) + 1 ≤ turns_left lists desk
+turns_less [] desk i l actor_state outcome at to lt on = absurd cc
+turns_less (k ∷ lists) [] i l actor_state outcome at to lt on = absurd cc
+turns_less (k ∷ lists) (s ∷ desk) zero l actor_state outcome at to lt on =
     let one : l ≡ k = cc in
-    let two : s ≡ seat = cc in
-    let less = of_less k.orders seat outcome (omega (arith, lt, ap (λ (t : ActorList). length t.orders) one)) on in
-    omega (arith, less, ap (λ (t : Seat). turns_of k.orders t) two)
-turns_less (k ∷ lists) (s ∷ desk) (suc i) l seat outcome at to lt on = let h = turns_less lists desk i l seat outcome at to lt on in omega (arith, h)
+    let two : s ≡ actor_state = cc in
+    let less = of_less k.orders actor_state outcome (omega (arith, lt, ap (λ (t : ActorList). length t.orders) one)) on in
+    omega (arith, less, ap (λ (t : ActorState). turns_of k.orders t) two)
+turns_less (k ∷ lists) (s ∷ desk) (suc i) l actor_state outcome at to lt on = let h = turns_less lists desk i l actor_state outcome at to lt on in omega (arith, h)

@@ -1,4 +1,4 @@
--- What a turn may come to, by what its seat keeps. So a command begins once, at a turn of which its seat keeps nothing yet.
+-- What a turn may come to, by what its actor's state has. So a command begins once, at a turn of which its actor's state has nothing yet.
 use Rattle.std.proofs.Common.{◌≡◌, inl, inr, refl, ℕ, Some, slice_get}
 use Rattle.disk_model.specs.declared.disk.Disk.{Ghosts as DiskGhosts}
 use Rattle.object_store.specs.declared.store.Store.{Ghosts as StoreGhosts}
@@ -7,39 +7,39 @@ use Rattle.tier_base.specs.declared.names.PartitionId.{PartitionId}
 use Rattle.copy_task.specs.Copying.{Copied}
 use Rattle.copy_task.specs.declared.turn.CopyTurn.{CopyTurn}
 use Rattle.copy_task.specs.declared.turn.CopyTurn.TheVariants.{Goes as GoesOn, Ends}
-use Rattle.copy_task.specs.declared.turn.Next.{Next}
-use Rattle.expiry_task.specs.declared.turn.Doomed.{Doomed}
+use Rattle.copy_task.specs.declared.turn.CopyStep.{CopyStep}
+use Rattle.expiry_task.specs.declared.turn.ExpiredSegment.{ExpiredSegment}
 use Rattle.expiry_task.specs.declared.turn.ExpiryTurn.{ExpiryTurn}
 use Rattle.expiry_task.specs.declared.turn.ExpiryTurn.TheVariants as expiry
-use Rattle.expiry_task.specs.declared.turn.Next.{Next as Deletion}
-use Rattle.rebuild_task.specs.declared.turn.Next.{Next as Rebuild}
-use Rattle.rebuild_task.specs.declared.turn.Next.TheVariants.{Epochs, Restart}
+use Rattle.expiry_task.specs.declared.turn.DeletionStep.{DeletionStep as Deletion}
+use Rattle.rebuild_task.specs.declared.turn.RebuildStep.{RebuildStep as Rebuild}
+use Rattle.rebuild_task.specs.declared.turn.RebuildStep.TheVariants.{Epochs, Restart}
 use Rattle.rebuild_task.specs.declared.turn.RebuildTurn.{RebuildTurn}
 use Rattle.rebuild_task.specs.declared.turn.RebuildTurn.TheVariants as rebuild
-use Rattle.tier_fetch.specs.declared.turn.Next.{Next as Search}
-use Rattle.time_find.specs.declared.turn.Next.{Next as Dating}
+use Rattle.tier_fetch.specs.declared.turn.FetchStep.{FetchStep as Search}
+use Rattle.time_find.specs.declared.turn.SearchStep.{SearchStep as Dating}
 use Rattle.plain_log.specs.declared.command.Command.{Command}
 use Rattle.plain_log.specs.declared.command.Command.TheVariants.{Copy, Trim, Expire, Fetch, Join, Offset}
 use Rattle.plain_log.specs.declared.command.Which.TheVariants.{LatestTiered, At}
 use Rattle.plain_log.specs.declared.command.Config.{Config}
-use Rattle.partition_seen.specs.declared.begun.Begun.{Begun}
-use Rattle.partition_seen.specs.declared.begun.Turned.{Turned}
-use Rattle.partition_seen.specs.declared.begun.Turned.TheVariants as turned
-use Rattle.partition_seen.proofs.BoolTests.{some_of}
-use Rattle.partition_turns.specs.declared.held.Node.{Node}
-use Rattle.partition_turns.specs.declared.held.Held.{Held}
-use Rattle.partition_world.specs.declared.tier.Side.{Side}
-use Rattle.partition_world.specs.declared.tier.Tier.{Tier}
-use Rattle.partition_world.specs.declared.seat.Outcome.{Outcome}
-use Rattle.partition_world.specs.declared.seat.Outcome.TheVariants.{Answers, Begins, Chose, Goes, Seeks as Sought, Dates as Dated, Dooms, Deletes, Rebuilds as Rebuilding}
-use Rattle.partition_world.specs.declared.seat.Work.{Work}
-use Rattle.partition_world.specs.declared.seat.Work.TheVariants.{Idle, Noted, Copies, Seeks, Dates, Expires, Rebuilds}
-use Rattle.partition_world.specs.Tier.{AtSide}
-use Rattle.partition_world.specs.Seats.{outcome_of, copy_outcome, expiry_outcome, rebuild_outcome}
-use Rattle.partition_world.specs.Turns.{BeginRow, NotedRow, CopyingRow, SeekingRow, DatingRow, DeletingRow, RebuildingRow, Row, TurnRow}
+use Rattle.laws_partition.specs.declared.start_snapshot.StartSnapshot.{StartSnapshot}
+use Rattle.laws_partition.specs.declared.start_snapshot.Turned.{Turned}
+use Rattle.laws_partition.specs.declared.start_snapshot.Turned.TheVariants as turned
+use Rattle.laws_partition.proofs.BoolTests.{some_of}
+use Rattle.partition_commands.specs.declared.partition_state.Node.{Node}
+use Rattle.partition_commands.specs.declared.partition_state.PartitionState.{PartitionState}
+use Rattle.partition_world.specs.declared.tier.BrokerTierState.{BrokerTierState}
+use Rattle.partition_world.specs.declared.tier.RemoteTier.{RemoteTier}
+use Rattle.partition_world.specs.declared.actor_state.Outcome.{Outcome}
+use Rattle.partition_world.specs.declared.actor_state.Outcome.TheVariants.{Answers, Begins, Chose, Goes, Seeks as Sought, Dates as Dated, Dooms, Deletes, Rebuilds as Rebuilding}
+use Rattle.partition_world.specs.declared.actor_state.InProgress.{InProgress}
+use Rattle.partition_world.specs.declared.actor_state.InProgress.TheVariants.{Idle, Noted, Copies, Seeks, Dates, Expires, Rebuilds}
+use Rattle.partition_world.specs.Tier.{AtBrokerTier}
+use Rattle.partition_world.specs.ActorStates.{outcome_of, copy_outcome, expiry_outcome, rebuild_outcome}
+use Rattle.partition_world.specs.Turns.{BeginRow, ContinuedRow, CopyingRow, SeekingRow, DatingRow, DeletingRow, RebuildingRow, Row, TurnRow}
 
--- what a turn may come to where its seat keeps this
-abbrev pub MayComeTo : Work → Outcome → Type 0
+-- what a turn may come to where its actor's state has this
+abbrev pub MayComeTo : InProgress → Outcome → Type 0
 MayComeTo work (Answers answer) = Unit {0}
 MayComeTo Idle (Begins g) = Unit {0}
 MayComeTo (Noted g) (Chose copy) = Unit {0}
@@ -58,120 +58,120 @@ own_may : (turn : Turned) (outcome : Outcome) → outcome ≡ outcome_of turn �
 own_may (turned.Answers answer) outcome is = rw is tt
 own_may (turned.Begins g) outcome is = rw is tt
 
-copy_may : (g : Begun) (copy : Copied) (next : Next) (turn : CopyTurn) (outcome : Outcome) → outcome ≡ copy_outcome turn → MayComeTo (Copies g copy next) outcome
+copy_may : (g : StartSnapshot) (copy : Copied) (next : CopyStep) (turn : CopyTurn) (outcome : Outcome) → outcome ≡ copy_outcome turn → MayComeTo (Copies g copy next) outcome
 copy_may g copy next (GoesOn further) outcome is = rw is tt
 copy_may g copy next (Ends answer) outcome is = rw is tt
 
-expiry_may : (g : Begun) (segment : Doomed) (next : Deletion) (turn : ExpiryTurn) (outcome : Outcome) → outcome ≡ expiry_outcome turn → MayComeTo (Expires g segment next) outcome
+expiry_may : (g : StartSnapshot) (segment : ExpiredSegment) (next : Deletion) (turn : ExpiryTurn) (outcome : Outcome) → outcome ≡ expiry_outcome turn → MayComeTo (Expires g segment next) outcome
 expiry_may g segment next (expiry.Goes further) outcome is = rw is tt
 expiry_may g segment next (expiry.Ends answer) outcome is = rw is tt
 
-rebuild_may : (g : Begun) (next : Rebuild) (turn : RebuildTurn) (outcome : Outcome) → outcome ≡ rebuild_outcome turn → MayComeTo (Rebuilds g next) outcome
+rebuild_may : (g : StartSnapshot) (next : Rebuild) (turn : RebuildTurn) (outcome : Outcome) → outcome ≡ rebuild_outcome turn → MayComeTo (Rebuilds g next) outcome
 rebuild_may g next (rebuild.Goes further) outcome is = rw is tt
 rebuild_may g next (rebuild.Ends answer) outcome is = rw is tt
 
 module _ {D S M : Type 0} (disk : DiskGhosts D) (store : StoreGhosts S) (meta : MetaGhosts M) where
   -- there are a broker and a side of a turn
-  pub record IsRow (p : PartitionId) (config : Config) (h : Held D) (t : Tier S M) (b : ℕ) (work : Work) (command : Command) (outcome : Outcome) (h' : Held D) (t' : Tier S M) : Type 0 where
+  pub record IsRow (p : PartitionId) (config : Config) (h : PartitionState D) (t : RemoteTier S M) (b : ℕ) (work : InProgress) (command : Command) (outcome : Outcome) (h' : PartitionState D) (t' : RemoteTier S M) : Type 0 where
     pub x : Node D
     pub at : slice_get h.nodes b ≡ Some x
-    pub side : Side
-    pub side_at : slice_get t.sides b ≡ Some side
-    pub row : Row disk store meta p config h t b x side work command outcome h' t'
+    pub broker_tier : BrokerTierState
+    pub broker_tier_at : slice_get t.broker_tiers b ≡ Some broker_tier
+    pub row : Row disk store meta p config h t b x broker_tier work command outcome h' t'
 
-  pub row_of : (p : PartitionId) (config : Config) (h : Held D) (t : Tier S M) (b : ℕ) (work : Work) (command : Command) (outcome : Outcome) (h' : Held D) (t' : Tier S M)
+  pub row_of : (p : PartitionId) (config : Config) (h : PartitionState D) (t : RemoteTier S M) (b : ℕ) (work : InProgress) (command : Command) (outcome : Outcome) (h' : PartitionState D) (t' : RemoteTier S M)
       → TurnRow disk store meta p config h t b work command outcome h' t' → IsRow p config h t b work command outcome h' t'
   row_of p config h t b work command outcome h' t' w =
-      let x = some_of (λ x. AtSide t b (λ side. Row disk store meta p config h t b x side work command outcome h' t')) (slice_get h.nodes b) w in
-      let side = some_of (λ side. Row disk store meta p config h t b x.0 side work command outcome h' t') (slice_get t.sides b) x.2 in
-      record { x = x.0; at = x.1; side = side.0; side_at = side.1; row = side.2 }
+      let x = some_of (λ x. AtBrokerTier t b (λ broker_tier. Row disk store meta p config h t b x broker_tier work command outcome h' t')) (slice_get h.nodes b) w in
+      let broker_tier = some_of (λ broker_tier. Row disk store meta p config h t b x.0 broker_tier work command outcome h' t') (slice_get t.broker_tiers b) x.2 in
+      record { x = x.0; at = x.1; broker_tier = broker_tier.0; broker_tier_at = broker_tier.1; row = broker_tier.2 }
 
-  begin_may : (h : Held D) (t : Tier S M) (b : ℕ) (x : Node D) (side : Side) (command : Command) (outcome : Outcome) (h' : Held D) (t' : Tier S M)
-      → BeginRow disk store meta h t b x side command outcome h' t' → MayComeTo Idle outcome
-  begin_may h t b x side command (Answers answer) h' t' w = tt
-  begin_may h t b x side command (Begins g) h' t' w = tt
-  begin_may h t b x side Copy outcome h' t' w = elim w.0 [ ]
-  begin_may h t b x side Trim outcome h' t' w = elim w.0 [ ]
-  begin_may h t b x side Expire outcome h' t' w = elim w.0 [ ]
-  begin_may h t b x side (Offset LatestTiered) outcome h' t' w = elim w.0 [ ]
-  begin_may h t b x side (Offset (At ts)) outcome h' t' w = elim w.0 [ ]
-  begin_may h t b x side other outcome h' t' w = own_may w.0.0 outcome w.0.1
+  begin_may : (h : PartitionState D) (t : RemoteTier S M) (b : ℕ) (x : Node D) (broker_tier : BrokerTierState) (command : Command) (outcome : Outcome) (h' : PartitionState D) (t' : RemoteTier S M)
+      → BeginRow disk store meta h t b x broker_tier command outcome h' t' → MayComeTo Idle outcome
+  begin_may h t b x broker_tier command (Answers answer) h' t' w = tt
+  begin_may h t b x broker_tier command (Begins g) h' t' w = tt
+  begin_may h t b x broker_tier Copy outcome h' t' w = elim w.0 [ ]
+  begin_may h t b x broker_tier Trim outcome h' t' w = elim w.0 [ ]
+  begin_may h t b x broker_tier Expire outcome h' t' w = elim w.0 [ ]
+  begin_may h t b x broker_tier (Offset LatestTiered) outcome h' t' w = elim w.0 [ ]
+  begin_may h t b x broker_tier (Offset (At ts)) outcome h' t' w = elim w.0 [ ]
+  begin_may h t b x broker_tier other outcome h' t' w = own_may w.0.0 outcome w.0.1
 
-  noted_may : (p : PartitionId) (config : Config) (h : Held D) (t : Tier S M) (b : ℕ) (x : Node D) (side : Side) (g : Begun) (command : Command) (outcome : Outcome) (h' : Held D) (t' : Tier S M)
-      → NotedRow disk store meta p config h t b x side g command outcome h' t' → MayComeTo (Noted g) outcome
-  noted_may p config h t b x side g command (Answers answer) h' t' w = tt
-  noted_may p config h t b x side g command (Chose copy) h' t' w = tt
-  noted_may p config h t b x side g command (Sought next) h' t' w = tt
-  noted_may p config h t b x side g command (Dated at next) h' t' w = tt
-  noted_may p config h t b x side g command (Dooms segment) h' t' w = tt
-  noted_may p config h t b x side g command (Rebuilding next) h' t' w = tt
-  noted_may p config h t b x side g Copy outcome h' t' (inl lost) = let e = lost.1 in absurd (cc (e))
-  noted_may p config h t b x side g Copy outcome h' t' (inr (keeps, inl level)) = let e = level.1 in absurd (cc (e))
-  noted_may p config h t b x side g Copy outcome h' t' (inr (keeps, inr reads)) = elim reads.row [ ]
-  noted_may p config h t b x side g Trim outcome h' t' w = elim w.0 [ ]
-  noted_may p config h t b x side g Expire outcome h' t' (inl lost, same) = let e = lost.1 in absurd (cc (e))
-  noted_may p config h t b x side g Expire outcome h' t' (inr (keeps, by), same) = elim by [ ]
-  noted_may p config h t b x side g Join outcome h' t' (inl (low, own)) = let e = own.0.1 in absurd (cc (e))
-  noted_may p config h t b x side g Join outcome h' t' (inr (high, inl (answer, is, at, tier), same)) = absurd (cc (is))
-  noted_may p config h t b x side g Join outcome h' t' (inr (high, inr (may, row), same)) = elim row [ ]
-  noted_may p config h t b x side g (Fetch offset limit) outcome h' t' w = elim w.0 [ ]
-  noted_may p config h t b x side g (Offset LatestTiered) outcome h' t' w = elim w.0 [ ]
-  noted_may p config h t b x side g (Offset (At ts)) outcome h' t' w = elim w [ ]
-  noted_may p config h t b x side g other outcome h' t' w = let e = w.0.1 in absurd (cc (e))
+  recorded_may : (p : PartitionId) (config : Config) (h : PartitionState D) (t : RemoteTier S M) (b : ℕ) (x : Node D) (broker_tier : BrokerTierState) (g : StartSnapshot) (command : Command) (outcome : Outcome) (h' : PartitionState D) (t' : RemoteTier S M)
+      → ContinuedRow disk store meta p config h t b x broker_tier g command outcome h' t' → MayComeTo (Noted g) outcome
+  recorded_may p config h t b x broker_tier g command (Answers answer) h' t' w = tt
+  recorded_may p config h t b x broker_tier g command (Chose copy) h' t' w = tt
+  recorded_may p config h t b x broker_tier g command (Sought next) h' t' w = tt
+  recorded_may p config h t b x broker_tier g command (Dated at next) h' t' w = tt
+  recorded_may p config h t b x broker_tier g command (Dooms segment) h' t' w = tt
+  recorded_may p config h t b x broker_tier g command (Rebuilding next) h' t' w = tt
+  recorded_may p config h t b x broker_tier g Copy outcome h' t' (inl lost) = let e = lost.1 in absurd (cc (e))
+  recorded_may p config h t b x broker_tier g Copy outcome h' t' (inr (keeps, inl level)) = let e = level.1 in absurd (cc (e))
+  recorded_may p config h t b x broker_tier g Copy outcome h' t' (inr (keeps, inr reads)) = elim reads.row [ ]
+  recorded_may p config h t b x broker_tier g Trim outcome h' t' w = elim w.0 [ ]
+  recorded_may p config h t b x broker_tier g Expire outcome h' t' (inl lost, same) = let e = lost.1 in absurd (cc (e))
+  recorded_may p config h t b x broker_tier g Expire outcome h' t' (inr (keeps, by), same) = elim by [ ]
+  recorded_may p config h t b x broker_tier g Join outcome h' t' (inl (low, own)) = let e = own.0.1 in absurd (cc (e))
+  recorded_may p config h t b x broker_tier g Join outcome h' t' (inr (high, inl (answer, is, at, tier), same)) = absurd (cc (is))
+  recorded_may p config h t b x broker_tier g Join outcome h' t' (inr (high, inr (may, row), same)) = elim row [ ]
+  recorded_may p config h t b x broker_tier g (Fetch offset limit) outcome h' t' w = elim w.0 [ ]
+  recorded_may p config h t b x broker_tier g (Offset LatestTiered) outcome h' t' w = elim w.0 [ ]
+  recorded_may p config h t b x broker_tier g (Offset (At ts)) outcome h' t' w = elim w [ ]
+  recorded_may p config h t b x broker_tier g other outcome h' t' w = let e = w.0.1 in absurd (cc (e))
 
-  copying_may : (h : Held D) (t : Tier S M) (b : ℕ) (x : Node D) (side : Side) (g : Begun) (copy : Copied) (next : Next) (command : Command) (outcome : Outcome) (h' : Held D) (t' : Tier S M)
-      → CopyingRow store meta h t b x side g copy next command outcome h' t' → MayComeTo (Copies g copy next) outcome
-  copying_may h t b x side g copy next Copy outcome h' t' (inl lost, same) = rw lost.1 tt
-  copying_may h t b x side g copy next Copy outcome h' t' (inr (keeps, (turn, is, goes)), same) = copy_may g copy next turn outcome is
-  copying_may h t b x side g copy next other outcome h' t' w = elim w [ ]
+  copying_may : (h : PartitionState D) (t : RemoteTier S M) (b : ℕ) (x : Node D) (broker_tier : BrokerTierState) (g : StartSnapshot) (copy : Copied) (next : CopyStep) (command : Command) (outcome : Outcome) (h' : PartitionState D) (t' : RemoteTier S M)
+      → CopyingRow store meta h t b x broker_tier g copy next command outcome h' t' → MayComeTo (Copies g copy next) outcome
+  copying_may h t b x broker_tier g copy next Copy outcome h' t' (inl lost, same) = rw lost.1 tt
+  copying_may h t b x broker_tier g copy next Copy outcome h' t' (inr (keeps, (turn, is, goes)), same) = copy_may g copy next turn outcome is
+  copying_may h t b x broker_tier g copy next other outcome h' t' w = elim w [ ]
 
-  seeking_may : (p : PartitionId) (h : Held D) (t : Tier S M) (b : ℕ) (x : Node D) (side : Side) (g : Begun) (next : Search) (command : Command) (outcome : Outcome) (h' : Held D) (t' : Tier S M)
-      → SeekingRow store meta p h t b x side g next command outcome h' t' → MayComeTo (Seeks g next) outcome
-  seeking_may p h t b x side g next command (Answers answer) h' t' w = tt
-  seeking_may p h t b x side g next command (Sought later) h' t' w = tt
-  seeking_may p h t b x side g next (Fetch offset limit) outcome h' t' w = elim w.0 [ ]
-  seeking_may p h t b x side g next other outcome h' t' w = elim w [ ]
+  seeking_may : (p : PartitionId) (h : PartitionState D) (t : RemoteTier S M) (b : ℕ) (x : Node D) (broker_tier : BrokerTierState) (g : StartSnapshot) (next : Search) (command : Command) (outcome : Outcome) (h' : PartitionState D) (t' : RemoteTier S M)
+      → SeekingRow store meta p h t b x broker_tier g next command outcome h' t' → MayComeTo (Seeks g next) outcome
+  seeking_may p h t b x broker_tier g next command (Answers answer) h' t' w = tt
+  seeking_may p h t b x broker_tier g next command (Sought later) h' t' w = tt
+  seeking_may p h t b x broker_tier g next (Fetch offset limit) outcome h' t' w = elim w.0 [ ]
+  seeking_may p h t b x broker_tier g next other outcome h' t' w = elim w [ ]
 
-  dating_may : (p : PartitionId) (h : Held D) (t : Tier S M) (b : ℕ) (x : Node D) (side : Side) (g : Begun) (cursor : ℕ) (next : Dating)
-      (command : Command) (outcome : Outcome) (h' : Held D) (t' : Tier S M)
-      → DatingRow disk store meta p h t b x side g cursor next command outcome h' t' → MayComeTo (Dates g cursor next) outcome
-  dating_may p h t b x side g cursor next command (Answers answer) h' t' w = tt
-  dating_may p h t b x side g cursor next command (Dated at later) h' t' w = tt
-  dating_may p h t b x side g cursor next (Offset (At ts)) outcome h' t' w = elim w [ ]
-  dating_may p h t b x side g cursor next other outcome h' t' w = elim w [ ]
+  dating_may : (p : PartitionId) (h : PartitionState D) (t : RemoteTier S M) (b : ℕ) (x : Node D) (broker_tier : BrokerTierState) (g : StartSnapshot) (cursor : ℕ) (next : Dating)
+      (command : Command) (outcome : Outcome) (h' : PartitionState D) (t' : RemoteTier S M)
+      → DatingRow disk store meta p h t b x broker_tier g cursor next command outcome h' t' → MayComeTo (Dates g cursor next) outcome
+  dating_may p h t b x broker_tier g cursor next command (Answers answer) h' t' w = tt
+  dating_may p h t b x broker_tier g cursor next command (Dated at later) h' t' w = tt
+  dating_may p h t b x broker_tier g cursor next (Offset (At ts)) outcome h' t' w = elim w [ ]
+  dating_may p h t b x broker_tier g cursor next other outcome h' t' w = elim w [ ]
 
-  deleting_may : (h : Held D) (t : Tier S M) (b : ℕ) (x : Node D) (g : Begun) (segment : Doomed) (next : Deletion) (command : Command) (outcome : Outcome) (h' : Held D) (t' : Tier S M)
+  deleting_may : (h : PartitionState D) (t : RemoteTier S M) (b : ℕ) (x : Node D) (g : StartSnapshot) (segment : ExpiredSegment) (next : Deletion) (command : Command) (outcome : Outcome) (h' : PartitionState D) (t' : RemoteTier S M)
       → DeletingRow store meta h t b x g segment next command outcome h' t' → MayComeTo (Expires g segment next) outcome
   deleting_may h t b x g segment next Expire outcome h' t' (inl lost, same) = rw lost.1 tt
   deleting_may h t b x g segment next Expire outcome h' t' (inr (keeps, (turn, is, goes)), same) = expiry_may g segment next turn outcome is
   deleting_may h t b x g segment next other outcome h' t' w = elim w [ ]
 
-  rebuilding_may : (p : PartitionId) (h : Held D) (t : Tier S M) (b : ℕ) (x : Node D) (side : Side) (g : Begun) (next : Rebuild) (command : Command) (outcome : Outcome) (h' : Held D) (t' : Tier S M)
-      → RebuildingRow disk store p h t b x side g next command outcome h' t' → MayComeTo (Rebuilds g next) outcome
-  rebuilding_may p h t b x side g next command (Answers answer) h' t' w = tt
-  rebuilding_may p h t b x side g next command (Rebuilding later) h' t' w = tt
-  rebuilding_may p h t b x side g Epochs Join outcome h' t' (inl (answer, is, at, tier), same) = absurd (cc (is))
-  rebuilding_may p h t b x side g Epochs Join outcome h' t' (inr (may, (turn, is, goes)), same) = rebuild_may g Epochs turn outcome is
-  rebuilding_may p h t b x side g (Restart line) Join outcome h' t' w = let e = w.0.1 in absurd (cc (e))
-  rebuilding_may p h t b x side g next command outcome h' t' w = elim w [ ]
+  rebuilding_may : (p : PartitionId) (h : PartitionState D) (t : RemoteTier S M) (b : ℕ) (x : Node D) (broker_tier : BrokerTierState) (g : StartSnapshot) (next : Rebuild) (command : Command) (outcome : Outcome) (h' : PartitionState D) (t' : RemoteTier S M)
+      → RebuildingRow disk store p h t b x broker_tier g next command outcome h' t' → MayComeTo (Rebuilds g next) outcome
+  rebuilding_may p h t b x broker_tier g next command (Answers answer) h' t' w = tt
+  rebuilding_may p h t b x broker_tier g next command (Rebuilding later) h' t' w = tt
+  rebuilding_may p h t b x broker_tier g Epochs Join outcome h' t' (inl (answer, is, at, tier), same) = absurd (cc (is))
+  rebuilding_may p h t b x broker_tier g Epochs Join outcome h' t' (inr (may, (turn, is, goes)), same) = rebuild_may g Epochs turn outcome is
+  rebuilding_may p h t b x broker_tier g (Restart line) Join outcome h' t' w = let e = w.0.1 in absurd (cc (e))
+  rebuilding_may p h t b x broker_tier g next command outcome h' t' w = elim w [ ]
 
-  pub row_may : (p : PartitionId) (config : Config) (h : Held D) (t : Tier S M) (b : ℕ) (x : Node D) (side : Side) (work : Work) (command : Command) (outcome : Outcome) (h' : Held D) (t' : Tier S M)
-      → Row disk store meta p config h t b x side work command outcome h' t' → MayComeTo work outcome
-  row_may p config h t b x side Idle command outcome h' t' w = begin_may h t b x side command outcome h' t' w
-  row_may p config h t b x side (Noted g) command outcome h' t' w = noted_may p config h t b x side g command outcome h' t' w
-  row_may p config h t b x side (Copies g copy next) command outcome h' t' w = copying_may h t b x side g copy next command outcome h' t' w
-  row_may p config h t b x side (Seeks g next) command outcome h' t' w = seeking_may p h t b x side g next command outcome h' t' w
-  row_may p config h t b x side (Dates g cursor next) command outcome h' t' w =
-      dating_may p h t b x side g cursor next command outcome h' t' w
-  row_may p config h t b x side (Expires g segment next) command outcome h' t' w = deleting_may h t b x g segment next command outcome h' t' w
-  row_may p config h t b x side (Rebuilds g next) command outcome h' t' w = rebuilding_may p h t b x side g next command outcome h' t' w
+  pub row_may : (p : PartitionId) (config : Config) (h : PartitionState D) (t : RemoteTier S M) (b : ℕ) (x : Node D) (broker_tier : BrokerTierState) (work : InProgress) (command : Command) (outcome : Outcome) (h' : PartitionState D) (t' : RemoteTier S M)
+      → Row disk store meta p config h t b x broker_tier work command outcome h' t' → MayComeTo work outcome
+  row_may p config h t b x broker_tier Idle command outcome h' t' w = begin_may h t b x broker_tier command outcome h' t' w
+  row_may p config h t b x broker_tier (Noted g) command outcome h' t' w = recorded_may p config h t b x broker_tier g command outcome h' t' w
+  row_may p config h t b x broker_tier (Copies g copy next) command outcome h' t' w = copying_may h t b x broker_tier g copy next command outcome h' t' w
+  row_may p config h t b x broker_tier (Seeks g next) command outcome h' t' w = seeking_may p h t b x broker_tier g next command outcome h' t' w
+  row_may p config h t b x broker_tier (Dates g cursor next) command outcome h' t' w =
+      dating_may p h t b x broker_tier g cursor next command outcome h' t' w
+  row_may p config h t b x broker_tier (Expires g segment next) command outcome h' t' w = deleting_may h t b x g segment next command outcome h' t' w
+  row_may p config h t b x broker_tier (Rebuilds g next) command outcome h' t' w = rebuilding_may p h t b x broker_tier g next command outcome h' t' w
 
-  began : (work : Work) (f : Begun) → MayComeTo work (Begins f) → work ≡ Idle
+  began : (work : InProgress) (f : StartSnapshot) → MayComeTo work (Begins f) → work ≡ Idle
   began Idle f may = refl
   began work f may = elim may [ ]
 
   -- nothing was kept of a command that begins
-  pub begins_idle : (p : PartitionId) (config : Config) (h : Held D) (t : Tier S M) (b : ℕ) (work : Work) (command : Command) (f : Begun) (h' : Held D) (t' : Tier S M)
+  pub begins_idle : (p : PartitionId) (config : Config) (h : PartitionState D) (t : RemoteTier S M) (b : ℕ) (work : InProgress) (command : Command) (f : StartSnapshot) (h' : PartitionState D) (t' : RemoteTier S M)
       → TurnRow disk store meta p config h t b work command (Begins f) h' t' → work ≡ Idle
   begins_idle p config h t b work command f h' t' w =
-      let r = row_of p config h t b work command (Begins f) h' t' w in began work f (row_may p config h t b r.x r.side work command (Begins f) h' t' r.row)
+      let r = row_of p config h t b work command (Begins f) h' t' w in began work f (row_may p config h t b r.x r.broker_tier work command (Begins f) h' t' r.row)

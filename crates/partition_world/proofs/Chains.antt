@@ -2,9 +2,9 @@
 use Rattle.std.proofs.Common.{◌≡◌, ◌≢◌, inl, inr, ◌∙◌, sym, ap, subst, refl, ℕ, zero, suc, ◌+◌, ◌-◌, ◌<◌, ◌≤◌, List, [], ◌∷◌, ◌++◌, length, take, get_or, arith}
 use Rattle.std.proofs.lemmas.List.{take_more, take_all}
 use Rattle.plain_log.specs.declared.command.Pace.{Pace}
-use Rattle.partition_world.specs.declared.seat.Outcome.TheVariants.{Answers}
-use Rattle.partition_seen.specs.declared.seat.Stepped.{Stepped}
-use Rattle.partition_seen.specs.declared.seat.Stepped.TheVariants.{Ran, Done, Nothing, NoMemory}
+use Rattle.partition_world.specs.declared.actor_state.Outcome.TheVariants.{Answers}
+use Rattle.laws_partition.specs.declared.actor_progress.Stepped.{Stepped}
+use Rattle.laws_partition.specs.declared.actor_progress.Stepped.TheVariants.{Ran, Done, Nothing, NoMemory}
 use Rattle.disk_model.specs.declared.disk.Disk.{Ghosts as DiskGhosts}
 use Rattle.object_store.specs.declared.store.Store.{Ghosts as StoreGhosts}
 use Rattle.meta_log.specs.declared.log.MetaLog.{Ghosts as MetaGhosts}
@@ -22,7 +22,7 @@ module _ {D S M : Type 0} (disk : DiskGhosts D) (store : StoreGhosts S) (meta : 
 
   -- who is at the end has answered
   pub end_answered : (w : Whole D S M) (a number : ℕ) → IsAtEnd w a → HasAnswered w a number
-  end_answered w a number e = λ place l seat s. inr (e place l seat s)
+  end_answered w a number e = λ place l actor_state s. inr (e place l actor_state s)
 
   -- who hasn't answered has a turn
   pub step_turns : (w : Whole D S M) (a number : ℕ) (stepped : Stepped) (w' : Whole D S M) → Steps disk store meta w a stepped w' → (HasAnswered w a number → ⊥) → stepped ≢ Nothing

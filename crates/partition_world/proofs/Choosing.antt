@@ -17,7 +17,7 @@ use Rattle.log_terms.specs.Log.{end_of}
 use Rattle.record_batch.specs.Check.{checked}
 use Rattle.epoch_line.specs.Line.{cut_end}
 use Rattle.copy_task.specs.Copying.{Copied}
-use Rattle.copy_task.specs.declared.turn.Next.TheVariants.{Start}
+use Rattle.copy_task.specs.declared.turn.CopyStep.TheVariants.{Start}
 use Rattle.plain_log.specs.declared.command.ActorList.{ActorList}
 use Rattle.plain_log.specs.declared.command.Command.{Command}
 use Rattle.plain_log.specs.declared.command.Command.TheVariants.{Copy}
@@ -27,37 +27,37 @@ use Rattle.plain_log.specs.Safe.{is_leaders}
 use Rattle.broker_log.specs.Seen.{Kept, Up, Down, Away, Shows, incarnation_in}
 use Rattle.broker_log.specs.Seen as log
 use Rattle.broker_log.specs.Turns.{IsSegmentOf}
-use Rattle.partition_seen.specs.declared.begun.Begun.{Begun}
-use Rattle.partition_seen.specs.Held.{broker_of}
-use Rattle.partition_seen.specs.Seen as seen
-use Rattle.partition_seen.proofs.BoolTests.{eq_same}
-use Rattle.partition_seen.proofs.Lines.{cut_line}
-use Rattle.partition_seen.proofs.SeatLaw.{going}
-use Rattle.partition_seen.proofs.Standing.{broker_at, map_get}
-use Rattle.partition_tier.specs.Sites.{site_of, sites_of, next_of}
-use Rattle.partition_turns.specs.declared.held.Node.{Node}
-use Rattle.partition_turns.specs.Held.{node_of}
-use Rattle.partition_turns.proofs.Fronts.{come_apart}
-use Rattle.partition_turns.proofs.Shown.{line_shown}
+use Rattle.laws_partition.specs.declared.start_snapshot.StartSnapshot.{StartSnapshot}
+use Rattle.laws_partition.specs.Partition.{broker_of}
+use Rattle.laws_partition.specs.Seen as seen
+use Rattle.laws_partition.proofs.BoolTests.{eq_same}
+use Rattle.laws_partition.proofs.Lines.{cut_line}
+use Rattle.laws_partition.proofs.ProgressLaw.{going}
+use Rattle.laws_partition.proofs.Standing.{broker_at, map_get}
+use Rattle.laws_tier_turns.specs.BrokerTiers.{tier_view_of, tier_views_of, next_of}
+use Rattle.partition_commands.specs.declared.partition_state.Node.{Node}
+use Rattle.partition_commands.specs.Partition.{node_of}
+use Rattle.partition_commands.proofs.Fronts.{come_apart}
+use Rattle.partition_commands.proofs.Shown.{line_shown}
 use Rattle.tier_safe.specs.Changes.{Chooses, effect}
 use Rattle.tier_safe.specs.Lineage.{IsSource}
 use Rattle.tier_safe.specs.May.{MayChoose, IsChanged}
-use Rattle.tier_safe.specs.Scene.{Scene, Site, Work as WorkSeen, Free, Copies as CopiesSeen}
+use Rattle.tier_safe.specs.Scene.{Scene, BrokerTierView, TierTask as InProgressIsSeen, Free, Copies as CopiesSeen}
 use Rattle.tier_safe.specs.Views.{IsIdOf}
 use Rattle.tier_safe.proofs.Sources.{segments_are_sources}
-use Rattle.partition_world.specs.declared.seat.Outcome.TheVariants.{Chose}
-use Rattle.partition_world.specs.declared.seat.Seat.{Seat}
-use Rattle.partition_world.specs.declared.seat.Work.{Work}
-use Rattle.partition_world.specs.declared.seat.Work.TheVariants.{Noted}
-use Rattle.partition_world.specs.declared.tier.Side.{Side}
-use Rattle.partition_world.specs.declared.tier.Tier.{Tier}
-use Rattle.partition_world.specs.Tier.{counted, put_side}
-use Rattle.partition_world.specs.Seats.{noted_in, chosen, seat_seen, seat_after}
-use Rattle.partition_world.specs.Central.{side_seen, sides_seen, begun_of, work_of, desk_of, ShowsTier, IsCentral}
+use Rattle.partition_world.specs.declared.actor_state.Outcome.TheVariants.{Chose}
+use Rattle.partition_world.specs.declared.actor_state.ActorState.{ActorState}
+use Rattle.partition_world.specs.declared.actor_state.InProgress.{InProgress}
+use Rattle.partition_world.specs.declared.actor_state.InProgress.TheVariants.{Noted}
+use Rattle.partition_world.specs.declared.tier.BrokerTierState.{BrokerTierState}
+use Rattle.partition_world.specs.declared.tier.RemoteTier.{RemoteTier}
+use Rattle.partition_world.specs.Tier.{counted, put_broker_tier}
+use Rattle.partition_world.specs.ActorStates.{recorded_in, chosen, actor_state_seen, actor_state_after}
+use Rattle.partition_world.specs.Central.{broker_tier_seen, broker_tiers_seen, begun_of, work_of, desk_of, ShowsTier, IsCentral}
 use Rattle.partition_world.specs.TurnsOfCopy.{KeepsLead, IsNextCopy, ReadsSegment}
 use Rattle.partition_world.specs.Whole.{Whole}
-use Rattle.partition_world.proofs.SceneParts.{site_set, seat_set}
-use Rattle.partition_world.proofs.Scenes.{Place, site, site_is, seated}
+use Rattle.partition_world.proofs.SceneParts.{tier_view_set, actor_state_set}
+use Rattle.partition_world.proofs.Scenes.{Place, tier_view, tier_view_is, seated}
 
 -- ids
 
@@ -100,33 +100,33 @@ opened_so content Away s P h p = elim p [ ]
 next_number : (i n : ℕ) → (if i == i then n else 0) ≡ n
 next_number i n = rw (eq_same i i refl) refl
 
-next_site : (y : seen.Node) (side : Side) → record (site_of y (side_seen side)) { next = next_of (side_seen side) y.incarnation + 1 } ≡ site_of y (side_seen (counted side y.incarnation))
-next_site y side = ap (λ (n : ℕ). record (site_of y (side_seen side)) { next = n }) (sym (next_number y.incarnation (next_of (side_seen side) y.incarnation + 1)))
+next_tier_view : (y : seen.Node) (broker_tier : BrokerTierState) → record (tier_view_of y (broker_tier_seen broker_tier)) { next = next_of (broker_tier_seen broker_tier) y.incarnation + 1 } ≡ tier_view_of y (broker_tier_seen (counted broker_tier y.incarnation))
+next_tier_view y broker_tier = ap (λ (n : ℕ). record (tier_view_of y (broker_tier_seen broker_tier)) { next = n }) (sym (next_number y.incarnation (next_of (broker_tier_seen broker_tier) y.incarnation + 1)))
 
--- a seat that has noted something, and chooses a copy
-noted_free : (order : Order) (work : Work) (g : Begun) → work ≡ Noted g → order.command ≡ Copy → work_of (Some order) work ≡ Free
-noted_free order work g noted is = ap (λ (k : Work). work_of (Some order) k) noted ∙ ap (λ (k : Command). begun_of order.broker.0 g k) is
+-- an actor's state that has noted something, and chooses a copy
+recorded_free : (order : Order) (work : InProgress) (g : StartSnapshot) → work ≡ Noted g → order.command ≡ Copy → work_of (Some order) work ≡ Free
+recorded_free order work g recorded is = ap (λ (k : InProgress). work_of (Some order) k) recorded ∙ ap (λ (k : Command). begun_of order.broker.0 g k) is
 
-chosen_copies : (o : Option Order) (order : Order) (work : Work) (g : Begun) (copy : Copied) → o ≡ Some order → work ≡ Noted g → work_of o (chosen work copy) ≡ CopiesSeen copy Start
-chosen_copies o order work g copy next noted =
-    ap (λ (k : Option Order). work_of k (chosen work copy)) next ∙ ap (λ (k : Work). work_of (Some order) (chosen k copy)) noted
+chosen_copies : (o : Option Order) (order : Order) (work : InProgress) (g : StartSnapshot) (copy : Copied) → o ≡ Some order → work ≡ Noted g → work_of o (chosen work copy) ≡ CopiesSeen copy Start
+chosen_copies o order work g copy next recorded =
+    ap (λ (k : Option Order). work_of k (chosen work copy)) next ∙ ap (λ (k : InProgress). work_of (Some order) (chosen k copy)) recorded
 
 module _ {D S M : Type 0} (disk : DiskGhosts D) (store : StoreGhosts S) (meta : MetaGhosts M) where
-  module _ (opening : State) (w : Whole D S M) (c : IsCentral disk store meta opening w) (place : ℕ) (l : ActorList) (seat : Seat) (order : Order) (z : Place disk store meta opening w c place l seat order) where
+  module _ (opening : State) (w : Whole D S M) (c : IsCentral disk store meta opening w) (place : ℕ) (l : ActorList) (actor_state : ActorState) (order : Order) (z : Place disk store meta opening w c place l actor_state order) where
     -- the scene once the copy is chosen
     abbrev pub chosen_scene : Copied → Scene
-    chosen_scene copy = effect (Chooses place order.broker.0 (site disk store meta opening w c place l seat order z) copy) c.scene
+    chosen_scene copy = effect (Chooses place order.broker.0 (tier_view disk store meta opening w c place l actor_state order z) copy) c.scene
 
     -- what is copied is a closed segment of the leader's path
-    chosen_source : (g : Begun) (copy : Copied) → seat.work ≡ Noted g → order.command ≡ Copy → KeepsLead z.x g → IsSegmentOf z.s copy.segment
-        → IsNextCopy w.partition order.broker.0 z.x z.side copy.segment copy → IsSource c.central.plain.paths copy
-    chosen_source g copy noted is lead part k =
+    chosen_source : (g : StartSnapshot) (copy : Copied) → actor_state.work ≡ Noted g → order.command ≡ Copy → KeepsLead z.x g → IsSegmentOf z.s copy.segment
+        → IsNextCopy w.partition order.broker.0 z.x z.broker_tier copy.segment copy → IsSource c.central.plain.paths copy
+    chosen_source g copy recorded is lead part k =
         let y = node_of z.x z.s in
         let P = λ (batch : List ℕ). IsOk (checked batch) in
         let stands = c.central.stands in
         let at = broker_at c.partition c.central.plain order.broker.0 y stands.held z.sees.there in
-        let seats = stands.desk place l (seat_seen seat) z.list (map_get seat_seen w.desk place seat z.seat_is) in
-        let on = going c.central.plain y order l (seat_seen seat) g c.central.safe seats z.next (ap noted_in noted) at in
+        let actor_states = stands.desk place l (actor_state_seen actor_state) z.list (map_get actor_state_seen w.desk place actor_state z.actor_state_is) in
+        let on = going c.central.plain y order l (actor_state_seen actor_state) g c.central.safe actor_states z.next (ap recorded_in recorded) at in
         let leads = on.leads (ap is_leaders is) in
         let same : part.batches ≡ k.is.batches = come_apart part.batches k.is.batches part.are (All-from_recursion P k.is.batches k.is.is.checked) (sym part.bytes_are ∙ k.is.bytes_are) in
         let front = part.before ++ k.is.batches in
@@ -139,48 +139,48 @@ module _ {D S M : Type 0} (disk : DiskGhosts D) (store : StoreGhosts S) (meta : 
         segments_are_sources c.central.plain order.broker.0 (broker_of y) leads.0 copy k.is part.before part.after c.central.safe at (sym lead.role ∙ leads.1) parts part.begins cut
 
     -- choosing it is a change of the tier
-    pub chosen_changed : (g : Begun) (copy : Copied) (offset : ℕ) (x' : Node D) → seat.work ≡ Noted g → order.command ≡ Copy → KeepsLead z.x g → ReadsSegment disk z.x offset copy.segment x'
-        → IsNextCopy w.partition order.broker.0 z.x z.side copy.segment copy → IsChanged c.scene c.central.plain (chosen_scene copy)
-    chosen_changed g copy offset x' noted is lead reads k =
+    pub chosen_changed : (g : StartSnapshot) (copy : Copied) (offset : ℕ) (x' : Node D) → actor_state.work ≡ Noted g → order.command ≡ Copy → KeepsLead z.x g → ReadsSegment disk z.x offset copy.segment x'
+        → IsNextCopy w.partition order.broker.0 z.x z.broker_tier copy.segment copy → IsChanged c.scene c.central.plain (chosen_scene copy)
+    chosen_changed g copy offset x' recorded is lead reads k =
         let b = order.broker.0 in
-        let at = site disk store meta opening w c place l seat order z in
+        let at = tier_view disk store meta opening w c place l actor_state order z in
         let id : IsIdOf copy.id w.partition.0 b at.incarnation at.next =
-        opened_so disk.content z.x.log z.s (λ (i : ℕ). IsIdOf copy.id w.partition.0 b i (next_of (side_seen z.side) i)) z.sees.shows k.id in
+        opened_so disk.content z.x.log z.s (λ (i : ℕ). IsIdOf copy.id w.partition.0 b i (next_of (broker_tier_seen z.broker_tier) i)) z.sees.shows k.id in
         let may : MayChoose place b at copy c.scene c.central.plain = record {
-          seat = seated disk store meta opening w c place l seat order z ∙ ap (λ (t : WorkSeen). Some t) (noted_free order seat.work g noted is);
-          site_is = site_is disk store meta opening w c place l seat order z;
+          actor_state = seated disk store meta opening w c place l actor_state order z ∙ ap (λ (t : InProgressIsSeen). Some t) (recorded_free order actor_state.work g recorded is);
+          tier_view_is = tier_view_is disk store meta opening w c place l actor_state order z;
           up = lead.up;
           partition = k.partition_is ∙ sym c.shows_tier.partition;
           id = subst (λ (p : PartitionId). IsIdOf copy.id p.0 b at.incarnation at.next) (sym k.partition_is) id;
           fits = id_fits copy.id w.partition.0 b at.incarnation at.next id;
-          source = chosen_source g copy noted is lead (reads.part z.s z.sees.shows) k;
+          source = chosen_source g copy recorded is lead (reads.part z.s z.sees.shows) k;
         } in
         record { changes = Chooses place b at copy ∷ []; may = (c.central.plain, (refl, may), refl); is = refl }
 
     -- how the tier is seen then
-    pub chosen_shown : (w' : Whole D S M) (g : Begun) (copy : Copied) → w'.partition ≡ w.partition → w'.lists ≡ w.lists → w'.desk ≡ slice_set w.desk place (seat_after seat (Chose copy))
-        → IsSomeAnd (incarnation_in z.x.log) (λ i. w'.tier ≡ put_side w.tier order.broker.0 (counted z.side i)) → seat.work ≡ Noted g → ShowsTier store meta w' c.partition (chosen_scene copy)
-    chosen_shown w' g copy part lists desk counts noted =
+    pub chosen_shown : (w' : Whole D S M) (g : StartSnapshot) (copy : Copied) → w'.partition ≡ w.partition → w'.lists ≡ w.lists → w'.desk ≡ slice_set w.desk place (actor_state_after actor_state (Chose copy))
+        → IsSomeAnd (incarnation_in z.x.log) (λ i. w'.tier ≡ put_broker_tier w.tier order.broker.0 (counted z.broker_tier i)) → actor_state.work ≡ Noted g → ShowsTier store meta w' c.partition (chosen_scene copy)
+    chosen_shown w' g copy part lists desk counts recorded =
         let b = order.broker.0 in
         let y = node_of z.x z.s in
-        let at = site disk store meta opening w c place l seat order z in
-        let after = seat_after seat (Chose copy) in
-        let tier : w'.tier ≡ put_side w.tier b (counted z.side z.s.incarnation) =
-        opened_so disk.content z.x.log z.s (λ (i : ℕ). w'.tier ≡ put_side w.tier b (counted z.side i)) z.sees.shows counts in
-        let objects : w.tier.store ≡ w'.tier.store = ap (λ (t : Tier S M). t.store) (sym tier) in
-        let notes : w.tier.meta ≡ w'.tier.meta = ap (λ (t : Tier S M). t.meta) (sym tier) in
+        let at = tier_view disk store meta opening w c place l actor_state order z in
+        let after = actor_state_after actor_state (Chose copy) in
+        let tier : w'.tier ≡ put_broker_tier w.tier b (counted z.broker_tier z.s.incarnation) =
+        opened_so disk.content z.x.log z.s (λ (i : ℕ). w'.tier ≡ put_broker_tier w.tier b (counted z.broker_tier i)) z.sees.shows counts in
+        let objects : w.tier.store ≡ w'.tier.store = ap (λ (t : RemoteTier S M). t.store) (sym tier) in
+        let notes : w.tier.meta ≡ w'.tier.meta = ap (λ (t : RemoteTier S M). t.meta) (sym tier) in
         record {
           partition = c.shows_tier.partition ∙ sym part;
-          store_tells = subst (λ (t : S). IsTrue (store.content t).tells) objects c.shows_tier.store_tells;
+          store_tells = subst (λ (t : S). IsTrue (store.content t).is_observable) objects c.shows_tier.store_tells;
           objects = c.shows_tier.objects ∙ ap (λ (t : S). (store.content t).objects) objects;
-          meta_tells = subst (λ (t : M). IsTrue (meta.content t).tells) notes c.shows_tier.meta_tells;
+          meta_tells = subst (λ (t : M). IsTrue (meta.content t).is_observable) notes c.shows_tier.meta_tells;
           notes = c.shows_tier.notes ∙ ap (λ (t : M). (meta.content t).notes) notes;
-          sites = ap (λ (k : List Site). slice_set k b (record at { next = at.next + 1 })) c.shows_tier.sites
-              ∙ (ap (λ (k : Site). slice_set (sites_of c.partition.nodes (sides_seen w.tier.sides)) b k) (next_site y z.side)
-              ∙ (sym (site_set c.partition.nodes w.tier.sides b y (counted z.side z.s.incarnation) z.sees.there)
-              ∙ ap (λ (t : Tier S M). sites_of c.partition.nodes (sides_seen t.sides)) (sym tier)));
-          desk = ap (λ (k : List WorkSeen). slice_set k place (CopiesSeen copy Start)) c.shows_tier.desk
-              ∙ (ap (λ (k : WorkSeen). slice_set (desk_of w.lists w.desk) place k) (sym (chosen_copies _ order seat.work g copy z.next noted))
-              ∙ (sym (seat_set w.lists w.desk place l after z.list)
-              ∙ (ap (λ (k : List ActorList). desk_of k (slice_set w.desk place after)) (sym lists) ∙ ap (λ (k : List Seat). desk_of w'.lists k) (sym desk))));
+          tier_views = ap (λ (k : List BrokerTierView). slice_set k b (record at { next = at.next + 1 })) c.shows_tier.tier_views
+              ∙ (ap (λ (k : BrokerTierView). slice_set (tier_views_of c.partition.nodes (broker_tiers_seen w.tier.broker_tiers)) b k) (next_tier_view y z.broker_tier)
+              ∙ (sym (tier_view_set c.partition.nodes w.tier.broker_tiers b y (counted z.broker_tier z.s.incarnation) z.sees.there)
+              ∙ ap (λ (t : RemoteTier S M). tier_views_of c.partition.nodes (broker_tiers_seen t.broker_tiers)) (sym tier)));
+          desk = ap (λ (k : List InProgressIsSeen). slice_set k place (CopiesSeen copy Start)) c.shows_tier.desk
+              ∙ (ap (λ (k : InProgressIsSeen). slice_set (desk_of w.lists w.desk) place k) (sym (chosen_copies _ order actor_state.work g copy z.next recorded))
+              ∙ (sym (actor_state_set w.lists w.desk place l after z.list)
+              ∙ (ap (λ (k : List ActorList). desk_of k (slice_set w.desk place after)) (sym lists) ∙ ap (λ (k : List ActorState). desk_of w'.lists k) (sym desk))));
         }

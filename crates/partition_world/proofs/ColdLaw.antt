@@ -20,30 +20,30 @@ use Rattle.plain_log.specs.Orders.{AreListsFor, AreRising}
 use Rattle.plain_log.specs.Runs.{replay}
 use Rattle.plain_log.specs.State.{actor_at}
 use Rattle.broker_log.specs.Seen.{Seen}
-use Rattle.partition_seen.specs.declared.seat.Seat.{Seat as SeatSeen}
-use Rattle.partition_seen.specs.Central.{SeatStands, noted_at}
-use Rattle.partition_seen.specs.Fresh.{fresh_seat as seen_fresh}
-use Rattle.partition_seen.proofs.FreshSound.{length_replicate}
-use Rattle.partition_tier.specs.Sites.{sites_of, Side as SideSeen, fresh_side as fresh_seen}
-use Rattle.partition_turns.specs.Cold.{ShowDisks, node_back, held_back}
-use Rattle.partition_turns.proofs.ColdDisks.{cold_shown}
-use Rattle.tier_safe.specs.Scene.{Scene, Work as WorkSeen, Free, Copies, Expires, Rebuilds, Seeks}
+use Rattle.laws_partition.specs.declared.actor_progress.ActorProgress.{ActorProgress as ActorIsSeen}
+use Rattle.laws_partition.specs.Central.{ProgressMatches, recorded_at}
+use Rattle.laws_partition.specs.Fresh.{fresh_actor_state as seen_fresh}
+use Rattle.laws_partition.proofs.FreshSound.{length_replicate}
+use Rattle.laws_tier_turns.specs.BrokerTiers.{tier_views_of, BrokerTierModel as BrokerTierIsSeen, fresh_broker_tier as fresh_seen}
+use Rattle.partition_commands.specs.Cold.{ShowDisks, node_back, held_back}
+use Rattle.partition_commands.proofs.ColdDisks.{cold_shown}
+use Rattle.tier_safe.specs.Scene.{Scene, TierTask as InProgressIsSeen, Free, Copies, Expires, Rebuilds, Seeks}
 use Rattle.tier_safe.specs.Safe.{TierSafe}
 use Rattle.tier_safe.specs.Views.{IsUsed}
-use Rattle.partition_world.specs.declared.seat.Seat.{Seat}
-use Rattle.partition_world.specs.declared.tier.Side.{Side}
-use Rattle.partition_world.specs.Central.{IsCentral, sides_seen, desk_of, notes_left}
+use Rattle.partition_world.specs.declared.actor_state.ActorState.{ActorState}
+use Rattle.partition_world.specs.declared.tier.BrokerTierState.{BrokerTierState}
+use Rattle.partition_world.specs.Central.{IsCentral, broker_tiers_seen, desk_of, notes_left}
 use Rattle.partition_world.specs.Cold.{scene_back, IsReopened, StandCold, AreCold}
-use Rattle.partition_world.specs.Fresh.{fresh_seat}
+use Rattle.partition_world.specs.Fresh.{fresh_actor_state}
 use Rattle.plain_log.specs.declared.command.Pace.{Pace}
 use Rattle.partition_world.specs.Laws.{IsRunFrom}
 use Rattle.partition_world.specs.Reaches.{Reaches}
 use Rattle.partition_world.proofs.LeftLaw.{left_is_central}
 use Rattle.partition_world.proofs.ReachesLaw.{reaches_later}
 use Rattle.partition_world.specs.Left.{IsCentralLeft, resolved, whole_with}
-use Rattle.partition_world.specs.Seats.{desk_seen}
+use Rattle.partition_world.specs.ActorStates.{desk_seen}
 use Rattle.partition_world.specs.Whole.{Whole}
-use Rattle.partition_world.proofs.FreshLaw.{far_fewer, sides_fresh, all_free, fresh_noted, fresh_dated}
+use Rattle.partition_world.proofs.FreshLaw.{far_fewer, broker_tiers_fresh, all_free, fresh_recorded, fresh_dated}
 use Rattle.partition_world.proofs.WorldFresh.{all_fresh}
 
 -- what stands in a list of one thing alone is that
@@ -53,14 +53,14 @@ replicated (suc n) x zero y e = cc
 replicated (suc n) x (suc i) y e = replicated n x i y e
 
 -- nothing is on the desk
-abbrev IsFree : List WorkSeen → Type 0
-IsFree desk = (a : ℕ) (work : WorkSeen) → slice_get desk a ≡ Some work → work ≡ Free
+abbrev IsFree : List InProgressIsSeen → Type 0
+IsFree desk = (a : ℕ) (work : InProgressIsSeen) → slice_get desk a ≡ Some work → work ≡ Free
 
 is_free : (n : ℕ) → IsFree (replicate n Free)
 is_free n a work at = sym (replicated n Free a work at)
 
 -- a desk that is free may have as many places as it will
-free_tier : (c : Scene) (p : State) (desk : List WorkSeen) → IsFree desk → TierSafe c p → TierSafe (record c { desk = desk }) p
+free_tier : (c : Scene) (p : State) (desk : List InProgressIsSeen) → IsFree desk → TierSafe c p → TierSafe (record c { desk = desk }) p
 free_tier c p desk free t = record {
   notes = record { right = t.notes.right; ids = λ a copy next at. absurd (let none = free a (Copies copy next) at in cc) };
   views = t.views;
@@ -68,20 +68,20 @@ free_tier c p desk free t = record {
     told = t.partition.told;
     stored = t.partition.stored;
     copied = λ a copy next at. absurd (let none = free a (Copies copy next) at in cc);
-    deleted = λ a doomed next at. absurd (let none = free a (Expires doomed next) at in cc);
+    deleted = λ a expired_segment next at. absurd (let none = free a (Expires expired_segment next) at in cc);
   };
-  ids = λ id partition b i attempt site used is at. t.ids id partition b i attempt site (still id used) is at;
+  ids = λ id partition b i attempt tier_view used is at. t.ids id partition b i attempt tier_view (still id used) is at;
   finished = t.finished;
   named = t.named;
   copies = record {
     each = λ a copy next at. absurd (let none = free a (Copies copy next) at in cc);
     apart = λ a b copy other next then at to same. absurd (let none = free a (Copies copy next) at in cc);
   };
-  sites = t.sites;
-  deletions = record { ended = t.deletions.ended; each = λ a doomed next at. absurd (let none = free a (Expires doomed next) at in cc) };
+  tier_views = t.tier_views;
+  deletions = record { ended = t.deletions.ended; each = λ a expired_segment next at. absurd (let none = free a (Expires expired_segment next) at in cc) };
   covered = t.covered;
   rebuilds = λ a rebuild at. absurd (let none = free a (Rebuilds rebuild) at in cc);
-  fetches = λ a sought site x at there to. absurd (let none = free a (Seeks sought) at in cc);
+  fetches = λ a sought tier_view x at there to. absurd (let none = free a (Seeks sought) at in cc);
   caches = t.caches;
 }
   where
@@ -89,14 +89,14 @@ free_tier c p desk free t = record {
     still id (inl named) = inl named
     still id (inr used) = absurd (let none = free used.0 (Copies used.1 used.2) used.3 in cc)
 
--- nothing is noted of a seat at the front
-none_noted : (orders : List Order) → noted_at orders seen_fresh ≡ None
-none_noted [] = refl
-none_noted (order ∷ orders) = refl
+-- nothing is recorded of an actor's state at the front
+none_recorded : (orders : List Order) → recorded_at orders seen_fresh ≡ None
+none_recorded [] = refl
+none_recorded (order ∷ orders) = refl
 
-seat_stands : (p : State) (l : ActorList) (seat : SeatSeen) → p.actors ≡ [] → seen_fresh ≡ seat → SeatStands p l seat
-seat_stands p l seat none is =
-    subst (SeatStands p l) is (record { actor = ap (λ (actors : List Actor). actor_at actors l.actor.0) none ∙ rw (none_noted l.orders) refl; begun = λ g begun. absurd cc })
+actor_state_stands : (p : State) (l : ActorList) (actor_state : ActorIsSeen) → p.actors ≡ [] → seen_fresh ≡ actor_state → ProgressMatches p l actor_state
+actor_state_stands p l actor_state none is =
+    subst (ProgressMatches p l) is (record { actor = ap (λ (actors : List Actor). actor_at actors l.actor.0) none ∙ rw (none_recorded l.orders) refl; snapshot = λ g snapshot. absurd cc })
 
 -- as many logs are seen as there are disks
 logs_count : {D : Type 0} (content : D → Content) (disks : List D) (logs : List Seen) → ShowDisks content disks logs → length disks ≡ length logs
@@ -108,22 +108,22 @@ logs_count content (d ∷ disks) (k ∷ logs) s = ap suc (logs_count content dis
 module _ {D S M : Type 0} (disk : DiskGhosts D) (store : StoreGhosts S) (meta : MetaGhosts M) where
   module _ (partition : PartitionId) (config : Config) (lists : List ActorList) (registry : Registry) (disks : List D) (s : S) (m : M) (w : Whole D S M) (p : State) (fit : AreListsFor config lists)
       (f : IsReopened disk store meta partition config lists registry disks s m w) (l : List Note) (k : StandCold disk store meta partition registry disks s m p l)
-      (low : length l + notes_left lists (replicate (length lists) fresh_seat) < 2 ^ 64) where
-    sides_are : sites_of (map node_back k.logs) (replicate (length k.logs) fresh_seen) ≡ sites_of (map node_back k.logs) (sides_seen w.tier.sides)
-    sides_are =
+      (low : length l + notes_left lists (replicate (length lists) fresh_actor_state) < 2 ^ 64) where
+    broker_tiers_are : tier_views_of (map node_back k.logs) (replicate (length k.logs) fresh_seen) ≡ tier_views_of (map node_back k.logs) (broker_tiers_seen w.tier.broker_tiers)
+    broker_tiers_are =
         let count : config.brokers ≡ length k.logs = sym f.count ∙ logs_count disk.content disks k.logs k.shows in
-        sym (ap (λ (l : List SideSeen). sites_of (map node_back k.logs) l) (ap (λ (l : List Side). sides_seen l) f.sides ∙ sides_fresh config.brokers ∙ ap (λ (n : ℕ). replicate n fresh_seen) count))
+        sym (ap (λ (l : List BrokerTierIsSeen). tier_views_of (map node_back k.logs) l) (ap (λ (l : List BrokerTierState). broker_tiers_seen l) f.broker_tiers ∙ broker_tiers_fresh config.brokers ∙ ap (λ (n : ℕ). replicate n fresh_seen) count))
 
     desk_is : replicate (length lists) Free ≡ desk_of w.lists w.desk
-    desk_is = all_free lists ∙ (ap (λ (d : List Seat). desk_of lists d) (sym f.desk) ∙ ap (λ (k : List ActorList). desk_of k w.desk) (sym f.lists_are))
+    desk_is = all_free lists ∙ (ap (λ (d : List ActorState). desk_of lists d) (sym f.desk) ∙ ap (λ (k : List ActorList). desk_of k w.desk) (sym f.lists_are))
 
     desk_fresh : desk_seen w.desk ≡ replicate (length lists) seen_fresh
-    desk_fresh = ap (λ (d : List Seat). desk_seen d) f.desk ∙ all_fresh (length lists)
+    desk_fresh = ap (λ (d : List ActorState). desk_seen d) f.desk ∙ all_fresh (length lists)
 
     left_over : length l + notes_left w.lists w.desk < 2 ^ 64
     left_over =
-        let one = ap (λ (d : List Seat). notes_left w.lists d) f.desk in
-        let two = ap (λ (k : List ActorList). notes_left k (replicate (length lists) fresh_seat)) f.lists_are in
+        let one = ap (λ (d : List ActorState). notes_left w.lists d) f.desk in
+        let two = ap (λ (k : List ActorList). notes_left k (replicate (length lists) fresh_actor_state)) f.lists_are in
         omega (arith, low, one, two)
 
     pub central_anew : IsCentral disk store (resolved meta) p (whole_with w l)
@@ -137,24 +137,24 @@ module _ {D S M : Type 0} (disk : DiskGhosts D) (store : StoreGhosts S) (meta : 
         stands = record {
           held = record { registry = k.registry_is; brokers = k.brokers };
           lines = k.lines;
-          desk = λ place list seat at there.
-              seat_stands p list seat k.actors (replicated (length lists) seen_fresh place seat (ap (λ (d : List SeatSeen). slice_get d place) (sym desk_fresh) ∙ there));
+          desk = λ place list actor_state at there.
+              actor_state_stands p list actor_state k.actors (replicated (length lists) seen_fresh place actor_state (ap (λ (d : List ActorIsSeen). slice_get d place) (sym desk_fresh) ∙ there));
           rising = subst AreRising (sym f.lists_are) fit.rising;
-          seats = ap (λ (d : List SeatSeen). length d) desk_fresh ∙ (length_replicate (length lists) seen_fresh ∙ ap (λ (k : List ActorList). length k) (sym f.lists_are));
+          actor_states = ap (λ (d : List ActorIsSeen). length d) desk_fresh ∙ (length_replicate (length lists) seen_fresh ∙ ap (λ (k : List ActorList). length k) (sym f.lists_are));
         };
       };
       scene = record (scene_back partition (store.content s).objects l k.logs) { desk = replicate (length lists) Free };
       shows_tier = record {
         partition = sym f.partition_is;
-        store_tells = f.tier.objects.tells ∙ k.store_tells;
+        store_tells = f.tier.objects.is_observable ∙ k.store_tells;
         objects = sym (fun_ext f.tier.objects.objects);
-        meta_tells = f.tier.notes.tells ∙ k.meta_tells;
+        meta_tells = f.tier.notes.is_observable ∙ k.meta_tells;
         notes = refl;
-        sites = sides_are;
+        tier_views = broker_tiers_are;
         desk = desk_is;
       };
       tier = free_tier (scene_back partition (store.content s).objects l k.logs) p (replicate (length lists) Free) (is_free (length lists)) k.tier;
-      noted = fresh_noted disk store meta (length lists) w.desk f.desk;
+      recorded = fresh_recorded disk store meta (length lists) w.desk f.desk;
       dated = fresh_dated disk store meta p w.lists (length lists) w.desk f.desk;
       few = left_over;
     }

@@ -6,10 +6,10 @@ use Rattle.object_store.specs.declared.store.Store.{Ghosts as StoreGhosts}
 use Rattle.meta_log.specs.declared.call.MetaCall.{MetaCall}
 use Rattle.meta_log.specs.declared.log.MetaLog.{Ghosts as MetaGhosts}
 use Rattle.plain_log.specs.declared.answer.Answer.TheVariants.{StoreFault, MetaFault}
-use Rattle.partition_turns.specs.Faults.{is_of_disk, is_of_store, is_of_meta, after_fault}
+use Rattle.partition_commands.specs.Faults.{is_of_disk, is_of_store, is_of_meta, after_fault}
 use Rattle.partition_world.specs.Answered.{is_answered}
-use Rattle.partition_world.specs.declared.seat.Outcome.{Outcome}
-use Rattle.partition_world.specs.declared.seat.Outcome.TheVariants.{Answers}
+use Rattle.partition_world.specs.declared.actor_state.Outcome.{Outcome}
+use Rattle.partition_world.specs.declared.actor_state.Outcome.TheVariants.{Answers}
 
 -- no fault is told
 abbrev pub Clear : Outcome → Type 0

@@ -5,17 +5,17 @@ use Rattle.tier_base.specs.declared.plain.State.{State}
 use Rattle.tier_base.specs.declared.plain.State.TheVariants.{CopyStarted, CopyFinished, DeleteStarted, DeleteFinished}
 use Rattle.object_store.specs.declared.store.Store.{Ghosts as StoreGhosts}
 use Rattle.meta_log.specs.declared.log.MetaLog.{Ghosts as MetaGhosts}
-use Rattle.meta_log.specs.declared.teller.Teller.{Teller}
+use Rattle.meta_log.specs.declared.event_origin.EventOrigin.{EventOrigin}
 use Rattle.remote_view.specs.Fold.{Seen as View, state_of}
 use Rattle.copy_task.specs.Copying.{Copied, keys}
 use Rattle.copy_task.specs.Turns.{Tiers, StartRow, FinishRow, CheckRow, PutRow, DeleteRow, CopyRow, checked, delete_at, overtaken, put_at}
 use Rattle.copy_task.specs.declared.turn.CopyTurn.{CopyTurn}
 use Rattle.copy_task.specs.declared.turn.CopyTurn.TheVariants.{Goes as GoesOn, Ends}
-use Rattle.copy_task.specs.declared.turn.Next.{Next}
-use Rattle.copy_task.specs.declared.turn.Next.TheVariants.{Start, Put, Finish, Check, Delete}
+use Rattle.copy_task.specs.declared.turn.CopyStep.{CopyStep}
+use Rattle.copy_task.specs.declared.turn.CopyStep.TheVariants.{Start, Put, Finish, Check, Delete}
 use Rattle.plain_log.specs.declared.answer.Answer.TheVariants.{MetaFault, StoreFault}
-use Rattle.partition_world.specs.Seats.{copy_outcome}
-use Rattle.partition_world.specs.declared.seat.Outcome.TheVariants.{Answers}
+use Rattle.partition_world.specs.ActorStates.{copy_outcome}
+use Rattle.partition_world.specs.declared.actor_state.Outcome.TheVariants.{Answers}
 use Rattle.partition_world.proofs.CountingCalls.{Clear, Counted, still, store_went, meta_went, store_failed, meta_failed}
 
 checked_clear : (copy : Copied) (notes : ℕ) (state : Option State) → Clear (copy_outcome (checked copy notes state))
@@ -38,16 +38,16 @@ module _ {S M : Type 0} (store : StoreGhosts S) (meta : MetaGhosts M) where
   counts_as : (turn after : CopyTurn) (s s' : S) (m m' : M) → turn ≡ after → Counted store meta (copy_outcome after) s s' m m' → Counted store meta (copy_outcome turn) s s' m m'
   counts_as turn after s s' m m' is k = subst (λ (t : CopyTurn). Counted store meta (copy_outcome t) s s' m m') (sym is) k
 
-  start_counts : (copy : Copied) (teller : Teller) (turn : CopyTurn) (s s' : S) (m m' : M) → s' ≡ s → StartRow meta.content meta.control copy teller (Ok turn) m m'
+  start_counts : (copy : Copied) (origin : EventOrigin) (turn : CopyTurn) (s s' : S) (m m' : M) → s' ≡ s → StartRow meta.content meta.control copy origin (Ok turn) m m'
       → Counted store meta (copy_outcome turn) s s' m m'
-  start_counts copy teller (Ends MetaFault) s s' m m' one w = meta_failed store meta s s' m m' _ w.control.ran one
-  start_counts copy teller turn s s' m m' one w =
+  start_counts copy origin (Ends MetaFault) s s' m m' one w = meta_failed store meta s s' m m' _ w.control.ran one
+  start_counts copy origin turn s s' m m' one w =
       counts_as turn (GoesOn (Put 0)) s s' m m' w.0 (meta_went store meta (copy_outcome (GoesOn (Put 0))) s s' m m' _ (refl, refl, refl) w.1.control.ran one)
 
-  finish_counts : (copy : Copied) (teller : Teller) (turn : CopyTurn) (s s' : S) (m m' : M) → s' ≡ s → FinishRow meta.content meta.control copy teller (Ok turn) m m'
+  finish_counts : (copy : Copied) (origin : EventOrigin) (turn : CopyTurn) (s s' : S) (m m' : M) → s' ≡ s → FinishRow meta.content meta.control copy origin (Ok turn) m m'
       → Counted store meta (copy_outcome turn) s s' m m'
-  finish_counts copy teller (Ends MetaFault) s s' m m' one w = meta_failed store meta s s' m m' _ w.control.ran one
-  finish_counts copy teller turn s s' m m' one w =
+  finish_counts copy origin (Ends MetaFault) s s' m m' one w = meta_failed store meta s s' m m' _ w.control.ran one
+  finish_counts copy origin turn s s' m m' one w =
       counts_as turn (GoesOn Check) s s' m m' w.0 (meta_went store meta (copy_outcome (GoesOn Check)) s s' m m' _ (refl, refl, refl) w.1.control.ran one)
 
   check_counts : (copy : Copied) (turn : CopyTurn) (before after : View) (s s' : S) (m m' : M) → s' ≡ s → CheckRow meta.content meta.control copy (Ok turn) before after m m'
@@ -78,16 +78,16 @@ module _ {S M : Type 0} (store : StoreGhosts S) (meta : MetaGhosts M) where
       counts_as turn (delete_at copy view (n + 1) next) s s' m m' w.0
       (store_went store meta (copy_outcome (delete_at copy view (n + 1) next)) s s' m m' _ (deleted_clear copy view (n + 1) next) w.1.control.ran two)
 
-  pub copy_counts : (copy : Copied) (teller : Teller) (next : Next) (turn : CopyTurn) (old new : Tiers S M)
-      → CopyRow store.content store.control meta.content meta.control copy teller next (Ok turn) old new
+  pub copy_counts : (copy : Copied) (origin : EventOrigin) (next : CopyStep) (turn : CopyTurn) (old new : Tiers S M)
+      → CopyRow store.content store.control meta.content meta.control copy origin next (Ok turn) old new
       → Counted store meta (copy_outcome turn) old.store new.store old.meta new.meta
-  copy_counts copy teller Start turn old new w =
-      start_counts copy teller turn old.store new.store old.meta new.meta (ap (λ (t : Tiers S M). t.store) w.0) w.1
-  copy_counts copy teller (Put n) turn old new w =
+  copy_counts copy origin Start turn old new w =
+      start_counts copy origin turn old.store new.store old.meta new.meta (ap (λ (t : Tiers S M). t.store) w.0) w.1
+  copy_counts copy origin (Put n) turn old new w =
       put_counts copy n (slice_get (keys copy) n) turn old.store new.store old.meta new.meta (ap (λ (t : Tiers S M). t.meta) w.0) w.1
-  copy_counts copy teller Finish turn old new w =
-      finish_counts copy teller turn old.store new.store old.meta new.meta (ap (λ (t : Tiers S M). t.store) w.0) w.1
-  copy_counts copy teller Check turn old new w =
+  copy_counts copy origin Finish turn old new w =
+      finish_counts copy origin turn old.store new.store old.meta new.meta (ap (λ (t : Tiers S M). t.store) w.0) w.1
+  copy_counts copy origin Check turn old new w =
       check_counts copy turn old.view new.view old.store new.store old.meta new.meta w.0 w.1
-  copy_counts copy teller (Delete n) turn old new w =
+  copy_counts copy origin (Delete n) turn old new w =
       delete_counts copy old.view n (slice_get (keys copy) n) turn old.store new.store old.meta new.meta (ap (λ (t : Tiers S M). t.meta) w.0) w.1

@@ -15,12 +15,12 @@ use Rattle.remote_view.specs.Fold.{Seen as View, entry_of}
 use Rattle.remote_find.specs.declared.piece.Piece.{Piece}
 use Rattle.tier_fetch.specs.declared.turn.FetchTurn.{FetchTurn}
 use Rattle.tier_fetch.specs.declared.turn.FetchTurn.TheVariants as fetch
-use Rattle.tier_fetch.specs.declared.turn.Next.TheVariants as fetching
+use Rattle.tier_fetch.specs.declared.turn.FetchStep.TheVariants as fetching
 use Rattle.tier_fetch.specs.declared.turn.Span.{Span}
 use Rattle.tier_fetch.specs.Turns.{Tiers, FetchRow, spot_in}
 use Rattle.time_find.specs.declared.turn.Asked.{Asked}
-use Rattle.time_find.specs.declared.turn.Next.{Next}
-use Rattle.time_find.specs.declared.turn.Next.TheVariants.{Seek, Times as ReadsTimes, Index, Log}
+use Rattle.time_find.specs.declared.turn.SearchStep.{SearchStep}
+use Rattle.time_find.specs.declared.turn.SearchStep.TheVariants.{Seek, Times as ReadsTimes, Index, Log}
 use Rattle.time_find.specs.declared.turn.TimeTurn.{TimeTurn}
 use Rattle.time_find.specs.declared.turn.TimeTurn.TheVariants.{Goes, Ends}
 use Rattle.time_find.specs.Passing.{Seeks}
@@ -28,8 +28,8 @@ use Rattle.time_find.specs.Turns.{IsSearched, TimesBytes, Times, Indexes, Search
 use Rattle.plain_log.specs.declared.answer.Answer.{Answer}
 use Rattle.plain_log.specs.declared.answer.Answer.TheVariants.{MetaFault, StoreFault, Damaged, Run, Offset}
 use Rattle.plain_log.specs.declared.answer.Place.TheVariants.{Meta}
-use Rattle.partition_world.specs.Seats.{date_outcome, fetch_outcome}
-use Rattle.partition_world.specs.declared.seat.Outcome.TheVariants.{Answers}
+use Rattle.partition_world.specs.ActorStates.{date_outcome, fetch_outcome}
+use Rattle.partition_world.specs.declared.actor_state.Outcome.TheVariants.{Answers}
 use Rattle.partition_world.proofs.CountingCalls.{Clear, Counted, clear, still, store_went, meta_went, store_failed, meta_failed}
 use Rattle.partition_world.proofs.CountingSearches.{fetch_counts}
 
@@ -99,7 +99,7 @@ module _ {S M : Type 0} (store : StoreGhosts S) (meta : MetaGhosts M) where
   Counts old new turn = Counted store meta (date_outcome turn) old.store new.store old.meta new.meta
 
   -- no call was made
-  goes_counts : (old new : Tiers S M) (turn : TimeTurn) (at : ℕ) (next : Next) → ◌≡◌ {A = Result TimeTurn AllocError} (Ok turn) (Ok (Goes at next)) → new ≡ old → Counts old new turn
+  goes_counts : (old new : Tiers S M) (turn : TimeTurn) (at : ℕ) (next : SearchStep) → ◌≡◌ {A = Result TimeTurn AllocError} (Ok turn) (Ok (Goes at next)) → new ≡ old → Counts old new turn
   goes_counts old new turn at next is same =
       still store meta (date_outcome turn) old.store new.store old.meta new.meta (date_clear turn (Goes at next) is (refl, refl, refl))
       (ap (λ (t : Tiers S M). t.store) same) (ap (λ (t : Tiers S M). t.meta) same)
@@ -119,7 +119,7 @@ module _ {S M : Type 0} (store : StoreGhosts S) (meta : MetaGhosts M) where
   log_counts asked line from piece span (Err e) turn old new row w = absurd (let no : false ≡ true = w in cc)
 
   -- among the remote segments
-  pub time_counts : (asked : Asked) (line : List (ℕ × ℕ)) (cursor : ℕ) (next : Next) (turn : TimeTurn) (old new : Tiers S M)
+  pub time_counts : (asked : Asked) (line : List (ℕ × ℕ)) (cursor : ℕ) (next : SearchStep) (turn : TimeTurn) (old new : Tiers S M)
       → TimeRow store.content store.control meta.content meta.control asked line cursor next (Ok turn) old new → Counted store meta (date_outcome turn) old.store new.store old.meta new.meta
   time_counts asked line cursor Seek turn old new w =
       seek_counts asked line cursor turn old.view new.view old.store new.store old.meta new.meta (ap (λ (t : Tiers S M). t.store) w.0) w.1

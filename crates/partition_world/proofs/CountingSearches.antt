@@ -19,18 +19,18 @@ use Rattle.remote_find.specs.Pieces.{piece_at}
 use Rattle.tier_fetch.specs.Turns.{Tiers, FetchRow, RefreshRow, IndexRow, LoadRow, LogRow, LoadsBytes, Loads, CutsBytes, Cuts, spot_in, chosen as found_piece}
 use Rattle.tier_fetch.specs.declared.turn.FetchTurn.{FetchTurn}
 use Rattle.tier_fetch.specs.declared.turn.FetchTurn.TheVariants as fetch
-use Rattle.tier_fetch.specs.declared.turn.Next.{Next as Search}
-use Rattle.tier_fetch.specs.declared.turn.Next.TheVariants.{Refresh, Index, Log}
+use Rattle.tier_fetch.specs.declared.turn.FetchStep.{FetchStep as Search}
+use Rattle.tier_fetch.specs.declared.turn.FetchStep.TheVariants.{Refresh, Index, Log}
 use Rattle.tier_fetch.specs.declared.turn.Span.{Span}
-use Rattle.tier_fetch.specs.declared.turn.Wanted.{Wanted}
+use Rattle.tier_fetch.specs.declared.turn.FetchRequest.{FetchRequest}
 use Rattle.rebuild_task.specs.declared.turn.RebuildTurn.{RebuildTurn}
 use Rattle.rebuild_task.specs.declared.turn.RebuildTurn.TheVariants.{Goes, Ends}
-use Rattle.rebuild_task.specs.declared.turn.Wanted.{Wanted as Rebuilt}
+use Rattle.rebuild_task.specs.declared.turn.RebuildRequest.{RebuildRequest as Rebuilt}
 use Rattle.rebuild_task.specs.Turns.{TakesBytes, Takes, EpochsRow, RebuildRow}
 use Rattle.plain_log.specs.declared.answer.Answer.{Answer}
 use Rattle.plain_log.specs.declared.answer.Answer.TheVariants.{MetaFault, StoreFault, Damaged, Run}
-use Rattle.partition_world.specs.Seats.{fetch_outcome, rebuild_outcome}
-use Rattle.partition_world.specs.declared.seat.Outcome.TheVariants.{Answers}
+use Rattle.partition_world.specs.ActorStates.{fetch_outcome, rebuild_outcome}
+use Rattle.partition_world.specs.declared.actor_state.Outcome.TheVariants.{Answers}
 use Rattle.partition_world.proofs.CountingCalls.{Clear, Counted, still, store_went, meta_went, store_failed, meta_failed}
 
 found_clear : (notes : ℕ) (piece : Option Piece) → Clear (fetch_outcome (found_piece notes piece))
@@ -57,7 +57,7 @@ module _ {S M : Type 0} (store : StoreGhosts S) (meta : MetaGhosts M) where
       → Counted store meta (rebuild_outcome turn) s s' m m'
   rebuild_as turn after s s' m m' is k = let same : turn ≡ after = cc (is) in subst (λ (t : RebuildTurn). Counted store meta (rebuild_outcome t) s s' m m') (sym same) k
 
-  refresh_counts : (wanted : Wanted) (line : List (ℕ × ℕ)) (turn : FetchTurn) (before after : View) (s s' : S) (m m' : M) → s' ≡ s
+  refresh_counts : (wanted : FetchRequest) (line : List (ℕ × ℕ)) (turn : FetchTurn) (before after : View) (s s' : S) (m m' : M) → s' ≡ s
       → RefreshRow meta.content meta.control wanted line (Ok turn) before after m m' → Counted store meta (fetch_outcome turn) s s' m m'
   refresh_counts wanted line (fetch.Ends MetaFault) before after s s' m m' one w = meta_failed store meta s s' m m' _ w.control.ran one
   refresh_counts wanted line turn before after s s' m m' one w =
@@ -65,7 +65,7 @@ module _ {S M : Type 0} (store : StoreGhosts S) (meta : MetaGhosts M) where
       subst (λ (t : FetchTurn). Counted store meta (fetch_outcome t) s s' m m') (sym w.0)
       (meta_went store meta (fetch_outcome (found_piece after.notes piece)) s s' m m' _ (found_clear after.notes piece) w.1.control.ran one)
 
-  loads_counts : (wanted : Wanted) (piece : Piece) (base : ℕ) (spot : Spot) (answer : Result (Option (List ℕ)) Trouble) (turn : FetchTurn) (before after : Cache) (s s' : S) (m m' : M)
+  loads_counts : (wanted : FetchRequest) (piece : Piece) (base : ℕ) (spot : Spot) (answer : Result (Option (List ℕ)) Trouble) (turn : FetchTurn) (before after : Cache) (s s' : S) (m m' : M)
       → m' ≡ m → Ran Get (fate_of answer) (store.control s) (store.control s') → Loads wanted piece base spot answer (Ok turn) before after
       → Counted store meta (fetch_outcome turn) s s' m m'
   loads_counts wanted piece base spot (Err Failed) turn before after s s' m m' two r w =
@@ -81,21 +81,21 @@ module _ {S M : Type 0} (store : StoreGhosts S) (meta : MetaGhosts M) where
       by None (fetch.Goes next) w = (refl, refl, refl)
       by None (fetch.Ends answer) w = damage_clear answer _ w.0 (refl, refl, refl)
 
-  load_counts : (wanted : Wanted) (piece : Piece) (view : View) (place : Option (ℕ × Spot)) (turn : FetchTurn) (cache cache' : Cache) (s s' : S) (m m' : M) → m' ≡ m
+  load_counts : (wanted : FetchRequest) (piece : Piece) (view : View) (place : Option (ℕ × Spot)) (turn : FetchTurn) (cache cache' : Cache) (s s' : S) (m m' : M) → m' ≡ m
       → LoadRow store.content store.control wanted piece view place (Ok turn) cache cache' s s' → Counted store meta (fetch_outcome turn) s s' m m'
   load_counts wanted piece view None turn cache cache' s s' m m' two w =
       still store meta (fetch_outcome turn) s s' m m' (fetch_clear turn _ w.0 (refl, refl, refl)) w.2 two
   load_counts wanted piece view (Some place) turn cache cache' s s' m m' two w =
       loads_counts wanted piece place.0 place.1 w.answer turn cache cache' s s' m m' two w.gets.control w.loads
 
-  index_counts : (wanted : Wanted) (piece : Piece) (view : View) (turn : FetchTurn) (index : Option OffsetTable) (cache cache' : Cache) (s s' : S) (m m' : M) → m' ≡ m
+  index_counts : (wanted : FetchRequest) (piece : Piece) (view : View) (turn : FetchTurn) (index : Option OffsetTable) (cache cache' : Cache) (s s' : S) (m m' : M) → m' ≡ m
       → IndexRow store.content store.control wanted piece view (Ok turn) index cache cache' s s' → Counted store meta (fetch_outcome turn) s s' m m'
   index_counts wanted piece view turn (Some index) cache cache' s s' m m' two w =
       still store meta (fetch_outcome turn) s s' m m' (fetch_clear turn _ w.0 (refl, refl, refl)) w.2 two
   index_counts wanted piece view turn None cache cache' s s' m m' two w =
       load_counts wanted piece view (spot_in wanted.partition piece.id part.Index (entry_of piece.id view.entries)) turn cache cache' s s' m m' two w
 
-  cuts_counts : (wanted : Wanted) (piece : Piece) (spot : Spot) (span : Span) (answer : Result (Option (List ℕ)) Trouble) (turn : FetchTurn) (s s' : S) (m m' : M) → m' ≡ m
+  cuts_counts : (wanted : FetchRequest) (piece : Piece) (spot : Spot) (span : Span) (answer : Result (Option (List ℕ)) Trouble) (turn : FetchTurn) (s s' : S) (m m' : M) → m' ≡ m
       → Ran Get (fate_of answer) (store.control s) (store.control s') → Cuts wanted piece spot span answer (Ok turn) → Counted store meta (fetch_outcome turn) s s' m m'
   cuts_counts wanted piece spot span (Err Failed) turn s s' m m' two r w =
       fetch_as turn (fetch.Ends StoreFault) s s' m m' w (store_failed store meta s s' m m' Get r two)
@@ -111,7 +111,7 @@ module _ {S M : Type 0} (store : StoreGhosts S) (meta : MetaGhosts M) where
       by None (fetch.Ends (Damaged place at)) w = (refl, refl, refl)
       by None turn w = elim w [ ]
 
-  log_counts : (wanted : Wanted) (piece : Piece) (span : Span) (view : View) (place : Option (ℕ × Spot)) (turn : FetchTurn) (s s' : S) (m m' : M) → m' ≡ m
+  log_counts : (wanted : FetchRequest) (piece : Piece) (span : Span) (view : View) (place : Option (ℕ × Spot)) (turn : FetchTurn) (s s' : S) (m m' : M) → m' ≡ m
       → LogRow store.content store.control wanted piece span view place (Ok turn) s s' → Counted store meta (fetch_outcome turn) s s' m m'
   log_counts wanted piece span view None turn s s' m m' two w =
       still store meta (fetch_outcome turn) s s' m m' (fetch_clear turn _ w.0 (refl, refl, refl)) w.1 two
@@ -143,7 +143,7 @@ module _ {S M : Type 0} (store : StoreGhosts S) (meta : MetaGhosts M) where
       → RebuildRow store.content store.control wanted line view (Ok turn) s s' → Counted store meta (rebuild_outcome turn) s s' m m'
   rebuild_counts wanted line view turn s s' m m' two w = epochs_counts wanted.offset view _ turn s s' m m' two w
 
-  pub fetch_counts : (wanted : Wanted) (line : List (ℕ × ℕ)) (next : Search) (turn : FetchTurn) (old new : Tiers S M)
+  pub fetch_counts : (wanted : FetchRequest) (line : List (ℕ × ℕ)) (next : Search) (turn : FetchTurn) (old new : Tiers S M)
       → FetchRow store.content store.control meta.content meta.control wanted line next (Ok turn) old new
       → Counted store meta (fetch_outcome turn) old.store new.store old.meta new.meta
   fetch_counts wanted line Refresh turn old new w =

@@ -14,7 +14,7 @@ use Rattle.object_store.specs.declared.call.StoreCall.TheVariants.{Get}
 use Rattle.object_store.specs.declared.placing.Spot.{Spot}
 use Rattle.meta_log.specs.declared.log.MetaLog.{Ghosts as MetaGhosts}
 use Rattle.meta_log.specs.declared.call.MetaCall.TheVariants.{Read}
-use Rattle.meta_log.specs.declared.teller.Teller.{Teller}
+use Rattle.meta_log.specs.declared.event_origin.EventOrigin.{EventOrigin}
 use Rattle.meta_log.specs.Calls.{Appends}
 use Rattle.segment_meta.specs.declared.note.Note.{Note}
 use Rattle.sparse_index.specs.Offsets.{OffsetTable}
@@ -24,39 +24,39 @@ use Rattle.remote_find.specs.declared.piece.Piece.{Piece}
 use Rattle.view_refresh.specs.Refreshing.{Halted}
 use Rattle.copy_task.specs.Copying.{Copied, keys}
 use Rattle.copy_task.specs.Turns.{Tiers, PutRow, CopyRow}
-use Rattle.copy_task.specs.declared.turn.Next.{Next}
-use Rattle.copy_task.specs.declared.turn.Next.TheVariants.{Start, Put, Finish, Check, Delete}
+use Rattle.copy_task.specs.declared.turn.CopyStep.{CopyStep}
+use Rattle.copy_task.specs.declared.turn.CopyStep.TheVariants.{Start, Put, Finish, Check, Delete}
 use Rattle.tier_fetch.specs.Turns.{Tiers as Fetched, FetchRow, IndexRow, LoadRow, LogRow, Loads, Cuts, spot_in}
 use Rattle.tier_fetch.specs.declared.turn.FetchTurn.{FetchTurn}
 use Rattle.tier_fetch.specs.declared.turn.FetchTurn.TheVariants as fetch
-use Rattle.tier_fetch.specs.declared.turn.Next.{Next as Search}
-use Rattle.tier_fetch.specs.declared.turn.Next.TheVariants as fetching
+use Rattle.tier_fetch.specs.declared.turn.FetchStep.{FetchStep as Search}
+use Rattle.tier_fetch.specs.declared.turn.FetchStep.TheVariants as fetching
 use Rattle.tier_fetch.specs.declared.turn.Span.{Span}
-use Rattle.tier_fetch.specs.declared.turn.Wanted.{Wanted}
+use Rattle.tier_fetch.specs.declared.turn.FetchRequest.{FetchRequest}
 use Rattle.time_find.specs.declared.turn.Asked.{Asked}
-use Rattle.time_find.specs.declared.turn.Next.{Next as Dating}
-use Rattle.time_find.specs.declared.turn.Next.TheVariants as dating
+use Rattle.time_find.specs.declared.turn.SearchStep.{SearchStep as Dating}
+use Rattle.time_find.specs.declared.turn.SearchStep.TheVariants as dating
 use Rattle.time_find.specs.Turns.{Times, TimesRow, Indexes, Searches, TimeRow, wanted_at}
 use Rattle.time_find.specs.Turns as dates
-use Rattle.expiry_task.specs.declared.turn.Doomed.{Doomed}
-use Rattle.expiry_task.specs.declared.turn.Next.{Next as Deletion}
-use Rattle.expiry_task.specs.declared.turn.Next.TheVariants as deletion
+use Rattle.expiry_task.specs.declared.turn.ExpiredSegment.{ExpiredSegment}
+use Rattle.expiry_task.specs.declared.turn.DeletionStep.{DeletionStep as Deletion}
+use Rattle.expiry_task.specs.declared.turn.DeletionStep.TheVariants as deletion
 use Rattle.expiry_task.specs.Turns as expiring
-use Rattle.rebuild_task.specs.declared.turn.Wanted.{Wanted as Rebuilt}
+use Rattle.rebuild_task.specs.declared.turn.RebuildRequest.{RebuildRequest as Rebuilt}
 use Rattle.rebuild_task.specs.Turns.{Takes, EpochsRow, RebuildRow}
 use Rattle.plain_log.specs.declared.answer.Answer.TheVariants.{Run}
-use Rattle.partition_turns.specs.declared.held.Node.{Node}
-use Rattle.partition_turns.specs.declared.held.Held.{Held}
-use Rattle.partition_turns.specs.Disks.{HaveDisks, NoneFails}
-use Rattle.partition_turns.specs.Held.{line_of, put_node, Rests, StaysHeld}
-use Rattle.partition_turns.proofs.CountingDisks.{Quietly, quiet_same, quiet_put}
-use Rattle.partition_seen.proofs.BoolTests.{some_of}
-use Rattle.partition_world.specs.declared.tier.Side.{Side}
-use Rattle.partition_world.specs.declared.tier.Tier.{Tier}
+use Rattle.partition_commands.specs.declared.partition_state.Node.{Node}
+use Rattle.partition_commands.specs.declared.partition_state.PartitionState.{PartitionState}
+use Rattle.partition_commands.specs.Disks.{HaveDisks, NoneFails}
+use Rattle.partition_commands.specs.Partition.{line_of, put_node, Rests, KeepsPartition}
+use Rattle.partition_commands.proofs.CountingDisks.{Quietly, quiet_same, quiet_put}
+use Rattle.laws_partition.proofs.BoolTests.{some_of}
+use Rattle.partition_world.specs.declared.tier.BrokerTierState.{BrokerTierState}
+use Rattle.partition_world.specs.declared.tier.RemoteTier.{RemoteTier}
 use Rattle.partition_world.specs.Answered.{MeetsNoFault}
-use Rattle.partition_world.specs.Tier.{AtSide}
+use Rattle.partition_world.specs.Tier.{AtBrokerTier}
 use Rattle.partition_world.specs.Turn.{StaysWhole}
-use Rattle.partition_world.specs.TurnsOfCopy.{tiers_of, teller_of}
+use Rattle.partition_world.specs.TurnsOfCopy.{tiers_of, origin_of}
 use Rattle.partition_world.specs.TurnsOfFetch.{fetch_tiers, wanted_of}
 use Rattle.partition_world.specs.TurnsOfExpiry.{expiry_tiers}
 use Rattle.partition_world.specs.TurnsOfRebuild.{wanted_of as rebuilt_to}
@@ -84,31 +84,31 @@ module _ {S M : Type 0} (store : StoreGhosts S) (meta : MetaGhosts M) where
   reads_dry (Err NoMemory) s s' bad r = (r.dry refl).faults
   reads_dry (Ok given) s s' bad r = r.went refl
 
-  loads_well : (wanted : Wanted) (piece : Piece) (base : ℕ) (spot : Spot) (answer : Result (Option (List ℕ)) Trouble) (e : AllocError) (cache cache' : Cache)
+  loads_well : (wanted : FetchRequest) (piece : Piece) (base : ℕ) (spot : Spot) (answer : Result (Option (List ℕ)) Trouble) (e : AllocError) (cache cache' : Cache)
       → Loads wanted piece base spot answer (Err e) cache cache' → answer ≡ Err Failed → ⊥
   loads_well wanted piece base spot (Err Failed) e cache cache' w bad = let is = w.0 in cc (is)
   loads_well wanted piece base spot (Err NoMemory) e cache cache' w bad = cc (bad)
   loads_well wanted piece base spot (Ok given) e cache cache' w bad = cc (bad)
 
-  load_dry : (wanted : Wanted) (piece : Piece) (view : View) (place : Option (ℕ × Spot)) (e : AllocError) (cache cache' : Cache) (s s' : S)
+  load_dry : (wanted : FetchRequest) (piece : Piece) (view : View) (place : Option (ℕ × Spot)) (e : AllocError) (cache cache' : Cache) (s s' : S)
       → LoadRow store.content store.control wanted piece view place (Err e) cache cache' s s' → StoreStill store meta s s'
   load_dry wanted piece view None e cache cache' s s' w = let is = w.0 in absurd (cc (is))
   load_dry wanted piece view (Some place) e cache cache' s s' w =
       reads_dry w.answer s s' (loads_well wanted piece place.0 place.1 w.answer e cache cache' w.loads) w.gets.control
 
-  index_dry : (wanted : Wanted) (piece : Piece) (view : View) (e : AllocError) (index : Option OffsetTable) (cache cache' : Cache) (s s' : S)
+  index_dry : (wanted : FetchRequest) (piece : Piece) (view : View) (e : AllocError) (index : Option OffsetTable) (cache cache' : Cache) (s s' : S)
       → IndexRow store.content store.control wanted piece view (Err e) index cache cache' s s' → StoreStill store meta s s'
   index_dry wanted piece view e (Some index) cache cache' s s' w = let is = w.0 in absurd (cc (is))
   index_dry wanted piece view e None cache cache' s s' w =
       load_dry wanted piece view (spot_in wanted.partition piece.id part.Index (entry_of piece.id view.entries)) e cache cache' s s' w
 
-  cuts_well : (wanted : Wanted) (piece : Piece) (spot : Spot) (span : Span) (answer : Result (Option (List ℕ)) Trouble) (e : AllocError)
+  cuts_well : (wanted : FetchRequest) (piece : Piece) (spot : Spot) (span : Span) (answer : Result (Option (List ℕ)) Trouble) (e : AllocError)
       → Cuts wanted piece spot span answer (Err e) → answer ≡ Err Failed → ⊥
   cuts_well wanted piece spot span (Err Failed) e w bad = cc (w)
   cuts_well wanted piece spot span (Err NoMemory) e w bad = cc (bad)
   cuts_well wanted piece spot span (Ok given) e w bad = cc (bad)
 
-  log_dry : (wanted : Wanted) (piece : Piece) (span : Span) (view : View) (place : Option (ℕ × Spot)) (e : AllocError) (s s' : S)
+  log_dry : (wanted : FetchRequest) (piece : Piece) (span : Span) (view : View) (place : Option (ℕ × Spot)) (e : AllocError) (s s' : S)
       → LogRow store.content store.control wanted piece span view place (Err e) s s' → StoreStill store meta s s'
   log_dry wanted piece span view None e s s' w = let is = w.0 in absurd (cc (is))
   log_dry wanted piece span view (Some place) e s s' w =
@@ -154,25 +154,25 @@ module _ {S M : Type 0} (store : StoreGhosts S) (meta : MetaGhosts M) where
 
   -- what a turn of a task counts that wanted memory
 
-  copy_store : (copy : Copied) (teller : Teller) (next : Next) (e : AllocError) (old new : Tiers S M)
-      → CopyRow store.content store.control meta.content meta.control copy teller next (Err e) old new → StoreStill store meta old.store new.store
-  copy_store copy teller Start e old new w = store_still store meta old.store new.store (ap (λ (t : Tiers S M). t.store) w.0)
-  copy_store copy teller (Put n) e old new w = puts_dry copy n (slice_get (keys copy) n) e old.store new.store w.1
-  copy_store copy teller Finish e old new w = store_still store meta old.store new.store (ap (λ (t : Tiers S M). t.store) w.0)
-  copy_store copy teller Check e old new w = store_still store meta old.store new.store w.0
-  copy_store copy teller (Delete n) e old new w = absurd w
+  copy_store : (copy : Copied) (origin : EventOrigin) (next : CopyStep) (e : AllocError) (old new : Tiers S M)
+      → CopyRow store.content store.control meta.content meta.control copy origin next (Err e) old new → StoreStill store meta old.store new.store
+  copy_store copy origin Start e old new w = store_still store meta old.store new.store (ap (λ (t : Tiers S M). t.store) w.0)
+  copy_store copy origin (Put n) e old new w = puts_dry copy n (slice_get (keys copy) n) e old.store new.store w.1
+  copy_store copy origin Finish e old new w = store_still store meta old.store new.store (ap (λ (t : Tiers S M). t.store) w.0)
+  copy_store copy origin Check e old new w = store_still store meta old.store new.store w.0
+  copy_store copy origin (Delete n) e old new w = absurd w
 
-  copy_meta : (copy : Copied) (teller : Teller) (next : Next) (e : AllocError) (old new : Tiers S M)
-      → CopyRow store.content store.control meta.content meta.control copy teller next (Err e) old new → MetaStill store meta old.meta new.meta
-  copy_meta copy teller Start e old new (same, inl is) = meta_still store meta old.meta new.meta is
-  copy_meta copy teller Start e old new (same, inr a) = appends_dry _ old.meta new.meta a
-  copy_meta copy teller (Put n) e old new w = meta_still store meta old.meta new.meta (ap (λ (t : Tiers S M). t.meta) w.0)
-  copy_meta copy teller Finish e old new (same, inl is) = meta_still store meta old.meta new.meta is
-  copy_meta copy teller Finish e old new (same, inr a) = appends_dry _ old.meta new.meta a
-  copy_meta copy teller Check e old new w = halted_dry old.view new.view old.meta new.meta w.1
-  copy_meta copy teller (Delete n) e old new w = absurd w
+  copy_meta : (copy : Copied) (origin : EventOrigin) (next : CopyStep) (e : AllocError) (old new : Tiers S M)
+      → CopyRow store.content store.control meta.content meta.control copy origin next (Err e) old new → MetaStill store meta old.meta new.meta
+  copy_meta copy origin Start e old new (same, inl is) = meta_still store meta old.meta new.meta is
+  copy_meta copy origin Start e old new (same, inr a) = appends_dry _ old.meta new.meta a
+  copy_meta copy origin (Put n) e old new w = meta_still store meta old.meta new.meta (ap (λ (t : Tiers S M). t.meta) w.0)
+  copy_meta copy origin Finish e old new (same, inl is) = meta_still store meta old.meta new.meta is
+  copy_meta copy origin Finish e old new (same, inr a) = appends_dry _ old.meta new.meta a
+  copy_meta copy origin Check e old new w = halted_dry old.view new.view old.meta new.meta w.1
+  copy_meta copy origin (Delete n) e old new w = absurd w
 
-  fetch_store : (wanted : Wanted) (line : List (ℕ × ℕ)) (next : Search) (e : AllocError) (old new : Fetched S M)
+  fetch_store : (wanted : FetchRequest) (line : List (ℕ × ℕ)) (next : Search) (e : AllocError) (old new : Fetched S M)
       → FetchRow store.content store.control meta.content meta.control wanted line next (Err e) old new → StoreStill store meta old.store new.store
   fetch_store wanted line fetching.Refresh e old new w = store_still store meta old.store new.store (ap (λ (t : Fetched S M). t.store) w.0)
   fetch_store wanted line (fetching.Index piece) e old new w =
@@ -180,7 +180,7 @@ module _ {S M : Type 0} (store : StoreGhosts S) (meta : MetaGhosts M) where
   fetch_store wanted line (fetching.Log piece span) e old new w =
       log_dry wanted piece span old.view (spot_in wanted.partition piece.id part.Log (entry_of piece.id old.view.entries)) e old.store new.store w.1
 
-  fetch_meta : (wanted : Wanted) (line : List (ℕ × ℕ)) (next : Search) (e : AllocError) (old new : Fetched S M)
+  fetch_meta : (wanted : FetchRequest) (line : List (ℕ × ℕ)) (next : Search) (e : AllocError) (old new : Fetched S M)
       → FetchRow store.content store.control meta.content meta.control wanted line next (Err e) old new → MetaStill store meta old.meta new.meta
   fetch_meta wanted line fetching.Refresh e old new w = halted_dry old.view new.view old.meta new.meta w.1
   fetch_meta wanted line (fetching.Index piece) e old new w = meta_still store meta old.meta new.meta (ap (λ (t : Fetched S M). t.meta) w.0)
@@ -229,70 +229,70 @@ module _ {S M : Type 0} (store : StoreGhosts S) (meta : MetaGhosts M) where
   time_meta asked line cursor (dating.Log piece from span) e old new (inl w) = let is = w.1 in absurd (cc (is))
   time_meta asked line cursor (dating.Log piece from span) e old new (inr w) = log_meta asked line piece from span w.1.0 e old new w.1.1 w.1.2
 
-  expiry_store : (segment : Doomed) (teller : Teller) (next : Deletion) (e : AllocError) (old new : expiring.Tiers S M)
-      → expiring.ExpiryRow store.content store.control meta.content meta.control segment teller next (Err e) old new → StoreStill store meta old.store new.store
-  expiry_store segment teller deletion.Start e old new w = store_still store meta old.store new.store (ap (λ (t : expiring.Tiers S M). t.store) w.0)
-  expiry_store segment teller (deletion.Delete n) e old new w = absurd w
-  expiry_store segment teller deletion.Finish e old new w = store_still store meta old.store new.store (ap (λ (t : expiring.Tiers S M). t.store) w.0)
+  expiry_store : (segment : ExpiredSegment) (origin : EventOrigin) (next : Deletion) (e : AllocError) (old new : expiring.Tiers S M)
+      → expiring.ExpiryRow store.content store.control meta.content meta.control segment origin next (Err e) old new → StoreStill store meta old.store new.store
+  expiry_store segment origin deletion.Start e old new w = store_still store meta old.store new.store (ap (λ (t : expiring.Tiers S M). t.store) w.0)
+  expiry_store segment origin (deletion.Delete n) e old new w = absurd w
+  expiry_store segment origin deletion.Finish e old new w = store_still store meta old.store new.store (ap (λ (t : expiring.Tiers S M). t.store) w.0)
 
-  expiry_meta : (segment : Doomed) (teller : Teller) (next : Deletion) (e : AllocError) (old new : expiring.Tiers S M)
-      → expiring.ExpiryRow store.content store.control meta.content meta.control segment teller next (Err e) old new → MetaStill store meta old.meta new.meta
-  expiry_meta segment teller deletion.Start e old new w = appends_dry _ old.meta new.meta w.1
-  expiry_meta segment teller (deletion.Delete n) e old new w = absurd w
-  expiry_meta segment teller deletion.Finish e old new w = appends_dry _ old.meta new.meta w.1
+  expiry_meta : (segment : ExpiredSegment) (origin : EventOrigin) (next : Deletion) (e : AllocError) (old new : expiring.Tiers S M)
+      → expiring.ExpiryRow store.content store.control meta.content meta.control segment origin next (Err e) old new → MetaStill store meta old.meta new.meta
+  expiry_meta segment origin deletion.Start e old new w = appends_dry _ old.meta new.meta w.1
+  expiry_meta segment origin (deletion.Delete n) e old new w = absurd w
+  expiry_meta segment origin deletion.Finish e old new w = appends_dry _ old.meta new.meta w.1
 
 module _ {D S M : Type 0} (disk : DiskGhosts D) (store : StoreGhosts S) (meta : MetaGhosts M) where
   -- a call of the tier that wanted memory
 
-  halts_store : (h : Held D) (t : Tier S M) (b : ℕ) (x : Node D) (side : Side) (t' : Tier S M) → HaltsSome disk store meta h t b x side t' → StoreStill store meta t.store t'.store
-  halts_store h t b x side t' (inl halts) = store_still store meta t.store t'.store (ap (λ (k : Tier S M). k.store) halts.after)
-  halts_store h t b x side t' (inr (inl (copy, next, wants))) =
-      copy_store store meta copy (teller_of h b) next wants.error (tiers_of side.view t) (tiers_of wants.view t') wants.row
-  halts_store h t b x side t' (inr (inr (inl (p, offset, limit, next, wants)))) =
-      fetch_store store meta (wanted_of p x offset limit) (line_of x) next wants.error (fetch_tiers side.view side.cache t) (fetch_tiers wants.view wants.cache t') wants.row
-  halts_store h t b x side t' (inr (inr (inr (inl (segment, next, wants))))) =
-      expiry_store store meta segment (teller_of h b) next wants.error (expiry_tiers t) (expiry_tiers t') wants.row
-  halts_store h t b x side t' (inr (inr (inr (inr (inl (line, asked, cursor, next, wants)))))) =
-      time_store store meta asked line cursor next wants.error (fetch_tiers side.view side.cache t) (fetch_tiers wants.view wants.cache t') wants.row
-  halts_store h t b x side t' (inr (inr (inr (inr (inr (p, g, wants)))))) =
-      epochs_dry store meta (rebuilt_to p g).offset side.view _ wants.error t.store t'.store wants.row
+  halts_store : (h : PartitionState D) (t : RemoteTier S M) (b : ℕ) (x : Node D) (broker_tier : BrokerTierState) (t' : RemoteTier S M) → HaltsSome disk store meta h t b x broker_tier t' → StoreStill store meta t.store t'.store
+  halts_store h t b x broker_tier t' (inl halts) = store_still store meta t.store t'.store (ap (λ (k : RemoteTier S M). k.store) halts.after)
+  halts_store h t b x broker_tier t' (inr (inl (copy, next, wants))) =
+      copy_store store meta copy (origin_of h b) next wants.error (tiers_of broker_tier.view t) (tiers_of wants.view t') wants.row
+  halts_store h t b x broker_tier t' (inr (inr (inl (p, offset, limit, next, wants)))) =
+      fetch_store store meta (wanted_of p x offset limit) (line_of x) next wants.error (fetch_tiers broker_tier.view broker_tier.cache t) (fetch_tiers wants.view wants.cache t') wants.row
+  halts_store h t b x broker_tier t' (inr (inr (inr (inl (segment, next, wants))))) =
+      expiry_store store meta segment (origin_of h b) next wants.error (expiry_tiers t) (expiry_tiers t') wants.row
+  halts_store h t b x broker_tier t' (inr (inr (inr (inr (inl (line, asked, cursor, next, wants)))))) =
+      time_store store meta asked line cursor next wants.error (fetch_tiers broker_tier.view broker_tier.cache t) (fetch_tiers wants.view wants.cache t') wants.row
+  halts_store h t b x broker_tier t' (inr (inr (inr (inr (inr (p, g, wants)))))) =
+      epochs_dry store meta (rebuilt_to p g).offset broker_tier.view _ wants.error t.store t'.store wants.row
 
-  halts_meta : (h : Held D) (t : Tier S M) (b : ℕ) (x : Node D) (side : Side) (t' : Tier S M) → HaltsSome disk store meta h t b x side t' → MetaStill store meta t.meta t'.meta
-  halts_meta h t b x side t' (inl halts) = halted_dry store meta side.view halts.view t.meta t'.meta halts.reads
-  halts_meta h t b x side t' (inr (inl (copy, next, wants))) =
-      copy_meta store meta copy (teller_of h b) next wants.error (tiers_of side.view t) (tiers_of wants.view t') wants.row
-  halts_meta h t b x side t' (inr (inr (inl (p, offset, limit, next, wants)))) =
-      fetch_meta store meta (wanted_of p x offset limit) (line_of x) next wants.error (fetch_tiers side.view side.cache t) (fetch_tiers wants.view wants.cache t') wants.row
-  halts_meta h t b x side t' (inr (inr (inr (inl (segment, next, wants))))) =
-      expiry_meta store meta segment (teller_of h b) next wants.error (expiry_tiers t) (expiry_tiers t') wants.row
-  halts_meta h t b x side t' (inr (inr (inr (inr (inl (line, asked, cursor, next, wants)))))) =
-      time_meta store meta asked line cursor next wants.error (fetch_tiers side.view side.cache t) (fetch_tiers wants.view wants.cache t') wants.row
-  halts_meta h t b x side t' (inr (inr (inr (inr (inr (p, g, wants)))))) =
-      meta_still store meta t.meta t'.meta (ap (λ (k : Tier S M). k.meta) wants.after)
+  halts_meta : (h : PartitionState D) (t : RemoteTier S M) (b : ℕ) (x : Node D) (broker_tier : BrokerTierState) (t' : RemoteTier S M) → HaltsSome disk store meta h t b x broker_tier t' → MetaStill store meta t.meta t'.meta
+  halts_meta h t b x broker_tier t' (inl halts) = halted_dry store meta broker_tier.view halts.view t.meta t'.meta halts.reads
+  halts_meta h t b x broker_tier t' (inr (inl (copy, next, wants))) =
+      copy_meta store meta copy (origin_of h b) next wants.error (tiers_of broker_tier.view t) (tiers_of wants.view t') wants.row
+  halts_meta h t b x broker_tier t' (inr (inr (inl (p, offset, limit, next, wants)))) =
+      fetch_meta store meta (wanted_of p x offset limit) (line_of x) next wants.error (fetch_tiers broker_tier.view broker_tier.cache t) (fetch_tiers wants.view wants.cache t') wants.row
+  halts_meta h t b x broker_tier t' (inr (inr (inr (inl (segment, next, wants))))) =
+      expiry_meta store meta segment (origin_of h b) next wants.error (expiry_tiers t) (expiry_tiers t') wants.row
+  halts_meta h t b x broker_tier t' (inr (inr (inr (inr (inl (line, asked, cursor, next, wants)))))) =
+      time_meta store meta asked line cursor next wants.error (fetch_tiers broker_tier.view broker_tier.cache t) (fetch_tiers wants.view wants.cache t') wants.row
+  halts_meta h t b x broker_tier t' (inr (inr (inr (inr (inr (p, g, wants)))))) =
+      meta_still store meta t.meta t'.meta (ap (λ (k : RemoteTier S M). k.meta) wants.after)
 
   -- the disks
-  held_quiet : (h h' : Held D) → StaysHeld disk.content disk.control h h' → Quietly disk.control h h'
+  held_quiet : (h h' : PartitionState D) → KeepsPartition disk.content disk.control h h' → Quietly disk.control h h'
   held_quiet h h' (inl same) = quiet_same disk.control h h' same
   held_quiet h h' (inr (b, at)) =
       let x = some_of (λ x. Rests disk.content disk.control h b x h') (slice_get h.nodes b) at in
       quiet_put disk.control h b x.0 (record x.0 { log = x.2.0 }) h' x.1 x.2.2.1 x.2.3
 
   -- what a turn leaves that found no memory
-  stays_quiet : (h : Held D) (t : Tier S M) (b : ℕ) (h' : Held D) (t' : Tier S M) → StaysSome disk store meta h t b h' t'
+  stays_quiet : (h : PartitionState D) (t : RemoteTier S M) (b : ℕ) (h' : PartitionState D) (t' : RemoteTier S M) → StaysSome disk store meta h t b h' t'
       → Quietly disk.control h h' × StoreStill store meta t.store t'.store × MetaStill store meta t.meta t'.meta
   stays_quiet h t b h' t' (inl (rests, same)) = (
     held_quiet h h' rests,
-    store_still store meta t.store t'.store (ap (λ (k : Tier S M). k.store) same),
-    meta_still store meta t.meta t'.meta (ap (λ (k : Tier S M). k.meta) same),
+    store_still store meta t.store t'.store (ap (λ (k : RemoteTier S M). k.store) same),
+    meta_still store meta t.meta t'.meta (ap (λ (k : RemoteTier S M). k.meta) same),
   )
   stays_quiet h t b h' t' (inr (same, at)) =
-      let x = some_of (λ x. AtSide t b (λ side. HaltsSome disk store meta h t b x side t')) (slice_get h.nodes b) at in
-      let side = some_of (λ side. HaltsSome disk store meta h t b x.0 side t') (slice_get t.sides b) x.2 in
-      (quiet_same disk.control h h' same, halts_store h t b x.0 side.0 t' side.2, halts_meta h t b x.0 side.0 t' side.2)
+      let x = some_of (λ x. AtBrokerTier t b (λ broker_tier. HaltsSome disk store meta h t b x broker_tier t')) (slice_get h.nodes b) at in
+      let broker_tier = some_of (λ broker_tier. HaltsSome disk store meta h t b x.0 broker_tier t') (slice_get t.broker_tiers b) x.2 in
+      (quiet_same disk.control h h' same, halts_store h t b x.0 broker_tier.0 t' broker_tier.2, halts_meta h t b x.0 broker_tier.0 t' broker_tier.2)
 
   -- a world's
   pub halts_quietly : (w : Whole D S M) (a : ℕ) (w' : Whole D S M) → StaysWhole disk store meta w a w' → HaveDisks w.held.nodes → MeetsNoFault disk store meta w w'
   halts_quietly w a w' s have =
-      let some = stays_some disk store meta w.partition w.held w.tier s.order.broker.0 s.seat.work s.order.command w'.held w'.tier s.tier in
+      let some = stays_some disk store meta w.partition w.held w.tier s.order.broker.0 s.actor_state.work s.order.command w'.held w'.tier s.tier in
       let k = stays_quiet w.held w.tier s.order.broker.0 w'.held w'.tier some in
       record { disks = k.0 have; store_counts = k.1; meta_counts = k.2 }

@@ -18,39 +18,39 @@ use Rattle.remote_find.specs.declared.piece.Piece.{Piece}
 use Rattle.tier_fetch.specs.Turns.{Tiers as Fetched, spot_in}
 use Rattle.tier_fetch.specs.declared.turn.FetchTurn.{FetchTurn}
 use Rattle.tier_fetch.specs.declared.turn.FetchTurn.TheVariants as fetch
-use Rattle.tier_fetch.specs.declared.turn.Next.TheVariants as fetching
+use Rattle.tier_fetch.specs.declared.turn.FetchStep.TheVariants as fetching
 use Rattle.plain_log.specs.declared.answer.Answer.TheVariants.{Run}
 use Rattle.time_find.specs.Passing.{Seeks, top_of}
 use Rattle.time_find.specs.Turns.{GoesOn, IsSearched, TimesBytes, Times, Indexes, Searches, TimesRow, TimeRow, OwnRow}
 use Rattle.time_find.specs.declared.turn.Asked.{Asked}
-use Rattle.time_find.specs.declared.turn.Next.{Next}
-use Rattle.time_find.specs.declared.turn.Next.TheVariants as search
+use Rattle.time_find.specs.declared.turn.SearchStep.{SearchStep}
+use Rattle.time_find.specs.declared.turn.SearchStep.TheVariants as search
 use Rattle.time_find.specs.declared.turn.TimeTurn.{TimeTurn}
 use Rattle.time_find.specs.declared.turn.TimeTurn.TheVariants.{Goes}
 
 -- how many turns a search has taken at most for the piece that it has
-abbrev pub dated_before : Next → ℕ
+abbrev pub dated_before : SearchStep → ℕ
 dated_before search.Seek = 0
 dated_before (search.Times piece) = 1
 dated_before (search.Index piece from) = 2
 dated_before (search.Log piece from span) = 3
 
-pub few_dated : (next : Next) → dated_before next ≤ 3
+pub few_dated : (next : SearchStep) → dated_before next ≤ 3
 few_dated search.Seek = omega arith
 few_dated (search.Times piece) = omega arith
 few_dated (search.Index piece from) = omega arith
 few_dated (search.Log piece from span) = omega arith
 
 -- it has let its piece go, or does a later turn of it
-abbrev pub Rises : Next → Next → Type 0
+abbrev pub Rises : SearchStep → SearchStep → Type 0
 Rises before search.Seek = Unit {0}
 Rises before next = dated_before before < dated_before next
 
-rises_to : (before next after : Next) (at to : ℕ) → ◌≡◌ {A = Result TimeTurn AllocError} (Ok (Goes at next)) (Ok (Goes to after))
+rises_to : (before next after : SearchStep) (at to : ℕ) → ◌≡◌ {A = Result TimeTurn AllocError} (Ok (Goes at next)) (Ok (Goes to after))
     → Rises before after → Rises before next
 rises_to before next after at to is up = let same : after ≡ next = cc (is) in subst (Rises before) same up
 
-seeks_rises : (asked : Asked) (line : List (ℕ × ℕ)) (view : View) (cursor at : ℕ) (next : Next)
+seeks_rises : (asked : Asked) (line : List (ℕ × ℕ)) (view : View) (cursor at : ℕ) (next : SearchStep)
     → Seeks asked line view cursor (Goes at next) → Rises search.Seek next
 seeks_rises asked line view cursor at search.Seek w = tt
 seeks_rises asked line view cursor at (search.Times piece) w = omega arith
@@ -58,21 +58,21 @@ seeks_rises asked line view cursor at (search.Index piece from) w = elim w [ ]
 seeks_rises asked line view cursor at (search.Log piece from span) w = elim w [ ]
 
 -- behind a run that was searched there is no piece
-searched_rises : (before next : Next) (asked : Asked) (offset : ℕ) (run : List ℕ) (at : ℕ)
+searched_rises : (before next : SearchStep) (asked : Asked) (offset : ℕ) (run : List ℕ) (at : ℕ)
     → IsSearched asked offset run (Goes at next) → Rises before next
 searched_rises before search.Seek asked offset run at w = tt
 searched_rises before (search.Times piece) asked offset run at w = elim w [ ]
 searched_rises before (search.Index piece from) asked offset run at w = elim w [ ]
 searched_rises before (search.Log piece from span) asked offset run at w = elim w [ ]
 
-shown_rises : (more : Bool) (piece : Piece) (from cursor top at : ℕ) (next : Next)
+shown_rises : (more : Bool) (piece : Piece) (from cursor top at : ℕ) (next : SearchStep)
     → Goes at next ≡ (if more then Goes cursor (search.Index piece from) else Goes top search.Seek) → Rises (search.Times piece) next
 shown_rises true piece from cursor top at next is =
     let same : search.Index piece from ≡ next = cc (is) in subst (Rises (search.Times piece)) same (omega arith)
 shown_rises false piece from cursor top at next is = let same : search.Seek ≡ next = cc (is) in subst (Rises (search.Times piece)) same tt
 
 times_rises : (asked : Asked) (cursor : ℕ) (piece : Piece) (base : ℕ) (spot : Spot) (answer : Result (Option (List ℕ)) Trouble)
-    (at : ℕ) (next : Next) → Times asked cursor piece base spot answer (Ok (Goes at next)) → Rises (search.Times piece) next
+    (at : ℕ) (next : SearchStep) → Times asked cursor piece base spot answer (Ok (Goes at next)) → Rises (search.Times piece) next
 times_rises asked cursor piece base spot (Err Failed) at next w = absurd (cc (w))
 times_rises asked cursor piece base spot (Err NoMemory) at next w = absurd (let no : false ≡ true = w in cc)
 times_rises asked cursor piece base spot (Ok None) at next w = absurd (cc (w))
@@ -82,7 +82,7 @@ times_rises asked cursor piece base spot (Ok (Some bytes)) at next w = by (short
     by (Some end) w = absurd (cc (w))
     by None w = shown_rises (nat_lt _ (top_of asked piece)) piece _ cursor (top_of asked piece) at next w.turn_is
 
-indexes_rises : (cursor : ℕ) (piece : Piece) (from : ℕ) (found : Result FetchTurn AllocError) (at : ℕ) (next : Next)
+indexes_rises : (cursor : ℕ) (piece : Piece) (from : ℕ) (found : Result FetchTurn AllocError) (at : ℕ) (next : SearchStep)
     → Indexes cursor piece from found (Ok (Goes at next)) → Rises (search.Index piece from) next
 indexes_rises cursor piece from (Ok (fetch.Goes (fetching.Log same span))) at next w =
     rises_to (search.Index piece from) next (search.Log piece from span) at cursor w.1 (omega arith)
@@ -90,7 +90,7 @@ indexes_rises cursor piece from (Ok (fetch.Goes other)) at next w = elim w [ ]
 indexes_rises cursor piece from (Ok (fetch.Ends answer)) at next w = absurd (cc (w))
 indexes_rises cursor piece from (Err e) at next w = absurd (let no : false ≡ true = w in cc)
 
-searches_rises : (before next : Next) (asked : Asked) (from : ℕ) (found : Result FetchTurn AllocError) (at : ℕ)
+searches_rises : (before next : SearchStep) (asked : Asked) (from : ℕ) (found : Result FetchTurn AllocError) (at : ℕ)
     → Searches asked from found (Ok (Goes at next)) → Rises before next
 searches_rises before next asked from (Ok (fetch.Ends (Run tier size stop bytes))) at w = searched_rises before next asked from bytes at w
 searches_rises before next asked from (Ok (fetch.Ends answer)) at w = absurd (cc (w))
@@ -99,14 +99,14 @@ searches_rises before next asked from (Err e) at w = absurd (let no : false ≡ 
 
 module _ {D : Type 0} (disk : DiskGhosts D) where
   -- a turn in the local log
-  pub own_rises : (old : Kept D) (asked : Asked) (cursor : ℕ) (before next : Next) (at : ℕ) (new : Kept D)
+  pub own_rises : (old : Kept D) (asked : Asked) (cursor : ℕ) (before next : SearchStep) (at : ℕ) (new : Kept D)
       → OwnRow disk.content disk.control old asked cursor (Goes at next) new → Rises before next
   own_rises old asked cursor before next at new (inl (past, is, same)) =
       let one : search.Seek ≡ next = cc (is) in subst (Rises before) one tt
   own_rises old asked cursor before next at new (inr (below, row)) = searched_rises before next asked _ row.out.bytes at row.searched
 
 module _ {S M : Type 0} (store : StoreGhosts S) (meta : MetaGhosts M) where
-  times_row_rises : (asked : Asked) (cursor : ℕ) (piece : Piece) (view : View) (place : Option (ℕ × Spot)) (at : ℕ) (next : Next)
+  times_row_rises : (asked : Asked) (cursor : ℕ) (piece : Piece) (view : View) (place : Option (ℕ × Spot)) (at : ℕ) (next : SearchStep)
       (old new : S) → TimesRow store.content store.control asked cursor piece view place (Ok (Goes at next)) old new
       → Rises (search.Times piece) next
   times_row_rises asked cursor piece view None at next old new w = let e = w.0 in absurd (cc (e))
@@ -114,7 +114,7 @@ module _ {S M : Type 0} (store : StoreGhosts S) (meta : MetaGhosts M) where
       times_rises asked cursor piece place.0 place.1 w.answer at next w.times
 
   -- a turn among the remote segments
-  pub time_rises : (asked : Asked) (line : List (ℕ × ℕ)) (cursor : ℕ) (before next : Next) (at : ℕ) (old new : Fetched S M)
+  pub time_rises : (asked : Asked) (line : List (ℕ × ℕ)) (cursor : ℕ) (before next : SearchStep) (at : ℕ) (old new : Fetched S M)
       → TimeRow store.content store.control meta.content meta.control asked line cursor before (Ok (Goes at next)) old new
       → Rises before next
   time_rises asked line cursor search.Seek next at old new w = seeks_rises asked line new.view cursor at next w.1.0
@@ -130,14 +130,14 @@ module _ {S M : Type 0} (store : StoreGhosts S) (meta : MetaGhosts M) where
       searches_rises (search.Log piece from span) next asked from w.1.0 at w.1.2
 
 -- how many turns a search has taken at most that has come to a cursor with this: four for each offset that it has passed
-abbrev pub taken_to : ℕ → Next → ℕ
+abbrev pub taken_to : ℕ → SearchStep → ℕ
 taken_to cursor next = 2 + 4 * min cursor (2 ^ 64) + dated_before next
 
-pub few_taken_to : (cursor : ℕ) (next : Next) → taken_to cursor next ≤ 4 * 2 ^ 64 + 5
+pub few_taken_to : (cursor : ℕ) (next : SearchStep) → taken_to cursor next ≤ 4 * 2 ^ 64 + 5
 few_taken_to cursor next = let few = few_dated next in omega (arith, few)
 
 -- one that is resumed and goes on has taken more
-further : (start cursor at : ℕ) (before : Next) (turn : ℕ) → max start cursor < 2 ^ 64 → max start cursor ≤ at
+further : (start cursor at : ℕ) (before : SearchStep) (turn : ℕ) → max start cursor < 2 ^ 64 → max start cursor ≤ at
     → dated_before (if nat_lt cursor start then search.Seek else before) < turn → taken_to cursor before < 2 + 4 * min at (2 ^ 64) + turn
 further start cursor at before turn fits from up = go (nat_lt cursor start) refl up
   where
@@ -149,7 +149,7 @@ further start cursor at before turn fits from up = go (nat_lt cursor start) refl
         omega (arith, fits, from, low, few)
     go false t more = omega (arith, fits, from, more)
 
-pub goes_further : (start cursor at : ℕ) (before next : Next) → max start cursor < 2 ^ 64 → GoesOn (max start cursor) (Goes at next)
+pub goes_further : (start cursor at : ℕ) (before next : SearchStep) → max start cursor < 2 ^ 64 → GoesOn (max start cursor) (Goes at next)
     → Rises (if nat_lt cursor start then search.Seek else before) next → taken_to cursor before < taken_to at next
 goes_further start cursor at before search.Seek fits goes up = let few = few_dated before in omega (arith, fits, goes, few)
 goes_further start cursor at before (search.Times piece) fits goes up = further start cursor at before 1 fits goes.0 up

@@ -9,8 +9,8 @@ use Rattle.meta_log.specs.declared.log.MetaLog.{Ghosts as MetaGhosts}
 use Rattle.log_terms.specs.Log.{IsConsecutive, up_to, from_offset}
 use Rattle.registry.specs.declared.registry.Registry.{Registry}
 use Rattle.time_find.specs.declared.turn.Asked.{Asked}
-use Rattle.time_find.specs.declared.turn.Next.{Next}
-use Rattle.time_find.specs.declared.turn.Next.TheVariants.{Seek}
+use Rattle.time_find.specs.declared.turn.SearchStep.{SearchStep}
+use Rattle.time_find.specs.declared.turn.SearchStep.TheVariants.{Seek}
 use Rattle.time_find.specs.declared.turn.TimeTurn.{TimeTurn}
 use Rattle.time_find.specs.declared.turn.TimeTurn.TheVariants.{Goes, Ends}
 use Rattle.time_find.specs.Turns.{IsSet, IsBelow, GoesOn, TimeRow}
@@ -28,43 +28,43 @@ use Rattle.plain_log.specs.State.{leading}
 use Rattle.plain_log.specs.RowsOfReads.{first_at, offset_at}
 use Rattle.plain_log.specs.Safe.{is_leaders}
 use Rattle.broker_log.specs.Seen as log
-use Rattle.partition_seen.specs.declared.begun.Begun.{Begun}
-use Rattle.partition_seen.specs.declared.begun.Turned.{Turned}
-use Rattle.partition_seen.specs.declared.begun.Turned.TheVariants as turned
-use Rattle.partition_seen.specs.Held.{broker_of}
-use Rattle.partition_seen.specs.Rows as seen_rows
-use Rattle.partition_seen.specs.RowsOfOffsets as seen_offsets
-use Rattle.partition_seen.specs.Seen as seen
-use Rattle.partition_seen.specs.Sound.{NodeSound}
-use Rattle.partition_seen.proofs.SeatLaw.{going}
-use Rattle.partition_seen.proofs.Standing.{broker_at, map_get}
-use Rattle.partition_tier.specs.Sites.{greatest}
-use Rattle.partition_tier.specs.Turns.{may_raise}
-use Rattle.partition_turns.specs.declared.held.Node.{Node}
-use Rattle.partition_turns.specs.Held.{local_of, line_of, node_of, put_node, ShowsHeld}
-use Rattle.partition_turns.proofs.Shown.{end_shown, line_shown, local_shown, held_looks, held_stays}
-use Rattle.tier_dates.specs.Passed.{HasPassed, IsDatedTo, read_from}
-use Rattle.tier_dates.specs.Searching.{search_of, search_work, IsAtSearch}
-use Rattle.tier_dates.proofs.Dates.{start_has_passed, passed_has_none}
-use Rattle.tier_dates.proofs.Early.{passed_less}
-use Rattle.tier_dates.proofs.Turning.{search_turns}
-use Rattle.tier_dates.proofs.GoingOn.{searches_go_on, searches_are_right}
+use Rattle.laws_partition.specs.declared.start_snapshot.StartSnapshot.{StartSnapshot}
+use Rattle.laws_partition.specs.declared.start_snapshot.Turned.{Turned}
+use Rattle.laws_partition.specs.declared.start_snapshot.Turned.TheVariants as turned
+use Rattle.laws_partition.specs.Partition.{broker_of}
+use Rattle.laws_partition.specs.Rows as seen_rows
+use Rattle.laws_partition.specs.RowsOfOffsets as seen_offsets
+use Rattle.laws_partition.specs.Seen as seen
+use Rattle.laws_partition.specs.Sound.{NodeSound}
+use Rattle.laws_partition.proofs.ProgressLaw.{going}
+use Rattle.laws_partition.proofs.Standing.{broker_at, map_get}
+use Rattle.laws_tier_turns.specs.BrokerTiers.{greatest}
+use Rattle.laws_tier_turns.specs.Turns.{may_raise}
+use Rattle.partition_commands.specs.declared.partition_state.Node.{Node}
+use Rattle.partition_commands.specs.Partition.{local_of, line_of, node_of, put_node, ShowsPartition}
+use Rattle.partition_commands.proofs.Shown.{end_shown, line_shown, local_shown, held_looks, held_stays}
+use Rattle.laws_time_find.specs.Passed.{HasPassed, IsDatedTo, read_from}
+use Rattle.laws_time_find.specs.Searching.{search_of, search_work, IsAtSearch}
+use Rattle.laws_time_find.proofs.Dates.{start_has_passed, passed_has_none}
+use Rattle.laws_time_find.proofs.Early.{passed_less}
+use Rattle.laws_time_find.proofs.Turning.{search_turns}
+use Rattle.laws_time_find.proofs.GoingOn.{searches_go_on, searches_are_right}
 use Rattle.tier_safe.specs.Changes.{Change, Moves, Leaves, effect}
 use Rattle.tier_safe.specs.May.{May, IsChanged}
 use Rattle.tier_safe.specs.Reads.{TellsEpochs}
 use Rattle.tier_safe.specs.Safe.{BothSafe}
-use Rattle.tier_safe.specs.Scene.{Scene, Site, Work as WorkSeen, Free}
+use Rattle.tier_safe.specs.Scene.{Scene, BrokerTierView, TierTask as InProgressIsSeen, Free}
 use Rattle.tier_safe.specs.Turns.{Shows}
 use Rattle.tier_safe.proofs.Kept.{all_kept}
 use Rattle.tier_safe.proofs.Turning.{set_set, set_get, scene_same, as_scene}
-use Rattle.tier_serves.specs.Seeking.{after_fetch}
-use Rattle.partition_world.specs.declared.seat.Outcome.{Outcome}
-use Rattle.partition_world.specs.declared.seat.Outcome.TheVariants.{Answers, Dates}
-use Rattle.partition_world.specs.declared.seat.Work.{Work}
-use Rattle.partition_world.specs.declared.seat.Work.TheVariants as works
-use Rattle.partition_world.specs.declared.seat.Work.TheVariants.{Idle}
-use Rattle.partition_world.specs.declared.tier.Tier.{Tier}
-use Rattle.partition_world.specs.Seats.{noted_in, dated, seat_after, seat_seen, desk_seen, told_of}
+use Rattle.laws_tier_fetch.specs.Seeking.{after_fetch}
+use Rattle.partition_world.specs.declared.actor_state.Outcome.{Outcome}
+use Rattle.partition_world.specs.declared.actor_state.Outcome.TheVariants.{Answers, Dates}
+use Rattle.partition_world.specs.declared.actor_state.InProgress.{InProgress}
+use Rattle.partition_world.specs.declared.actor_state.InProgress.TheVariants as works
+use Rattle.partition_world.specs.declared.actor_state.InProgress.TheVariants.{Idle}
+use Rattle.partition_world.specs.declared.tier.RemoteTier.{RemoteTier}
+use Rattle.partition_world.specs.ActorStates.{recorded_in, dated, actor_state_after, actor_state_seen, desk_seen, told_of}
 use Rattle.partition_world.specs.Central.{HasGone, IsDated, IsCentral, ShowsTier, dates_of, work_of}
 use Rattle.partition_world.specs.Turn.{IsTurn}
 use Rattle.partition_world.specs.TurnsOfCopy.{KeepsLead}
@@ -78,10 +78,10 @@ use Rattle.partition_world.proofs.DateEnds.{MayEnd, date_ends, date_tells}
 use Rattle.partition_world.proofs.Entered.{both_of}
 use Rattle.partition_world.proofs.FetchCentral.{stopped_seen}
 use Rattle.partition_world.proofs.LineTells.{line_tells}
-use Rattle.partition_world.proofs.Noting.{GoesAsNoted}
+use Rattle.partition_world.proofs.Recording.{GoesAsRecorded}
 use Rattle.partition_world.proofs.Passing.{OwnComes, own_comes, own_rests}
-use Rattle.partition_world.proofs.Scenes.{Place, site, shows_at, scene_with, shows_with, work_after, answered_free, left_changed, same_sides, few_now}
-use Rattle.partition_world.proofs.Sides.{set_same}
+use Rattle.partition_world.proofs.Scenes.{Place, tier_view, shows_at, scene_with, shows_with, work_after, answered_free, left_changed, same_broker_tiers, few_now}
+use Rattle.partition_world.proofs.BrokerTierStates.{set_same}
 use Rattle.partition_world.proofs.TurnCentral.{after, shown, entered, stands, held_same, leads_first, silent_dated, untold, unseen}
 
 -- where a search is resumed
@@ -93,7 +93,7 @@ pub at_cursor : (start cursor : ℕ) → nat_lt cursor start ≡ false → max s
 at_cursor start cursor is = let low : start ≤ cursor = grind (arith, nat_tests, is) in omega (arith, low)
 
 -- all before it is too early
-pub resumed_dated : (ts : ℤ) (start : ℕ) (batches : List (List ℕ)) (cursor : ℕ) (next : Next) → IsDatedTo ts start batches cursor next
+pub resumed_dated : (ts : ℤ) (start : ℕ) (batches : List (List ℕ)) (cursor : ℕ) (next : SearchStep) → IsDatedTo ts start batches cursor next
     → IsDatedTo ts start batches (resumed_at start cursor) (resumed_with start cursor next)
 resumed_dated ts start batches cursor next k = by (nat_lt cursor start) refl
   where
@@ -108,7 +108,7 @@ resumed_dated ts start batches cursor next k = by (nat_lt cursor start) refl
           read = subst (λ (n : ℕ). HasPassed ts start batches (read_from n next)) same k.read;
         })
 
-pub resumed_set : (start cursor : ℕ) (next : Next) → IsSet cursor next → IsSet (resumed_at start cursor) (resumed_with start cursor next)
+pub resumed_set : (start cursor : ℕ) (next : SearchStep) → IsSet cursor next → IsSet (resumed_at start cursor) (resumed_with start cursor next)
 resumed_set start cursor next k = by (nat_lt cursor start) refl
   where
     by : (t : Bool) → nat_lt cursor start ≡ t → IsSet (resumed_at start cursor) (resumed_with start cursor next)
@@ -116,12 +116,12 @@ resumed_set start cursor next k = by (nat_lt cursor start) refl
     by false is = rw is (subst (λ (n : ℕ). IsSet n next) (sym (at_cursor start cursor is)) k)
 
 -- what isn't a turn in the local log is one below it
-pub below_local : (asked : Asked) (cursor : ℕ) (next : Next) → is_own asked.local cursor next ≡ false → IsBelow asked cursor next
+pub below_local : (asked : Asked) (cursor : ℕ) (next : SearchStep) → is_own asked.local cursor next ≡ false → IsBelow asked cursor next
 below_local asked cursor Seek is = grind (arith, nat_tests, is)
 below_local asked cursor other is = tt
 
 -- a search that goes on is set where it goes
-goes_set : (cursor at : ℕ) (later : Next) → GoesOn cursor (Goes at later) → IsSet at later
+goes_set : (cursor at : ℕ) (later : SearchStep) → GoesOn cursor (Goes at later) → IsSet at later
 goes_set cursor at Seek k = tt
 goes_set cursor at other k = k.1
 
@@ -138,12 +138,12 @@ none_gone ts start batches c =
 module _ {D S M : Type 0} (disk : DiskGhosts D) (store : StoreGhosts S) (meta : MetaGhosts M) where
   -- a turn of a search, in its place
   module _ (opening : State) (w : Whole D S M) (a : ℕ) (outcome : Outcome) (w' : Whole D S M) (t : IsTurn disk store meta w a outcome w') (c : IsCentral disk store meta opening w)
-      (z : Place disk store meta opening w c t.place t.list t.seat t.order) (ts : ℤ) (asks : t.order.command ≡ Offset (At ts)) where
+      (z : Place disk store meta opening w c t.place t.list t.actor_state t.order) (ts : ℤ) (asks : t.order.command ≡ Offset (At ts)) where
     abbrev y : seen.Node
     y = node_of z.x z.s
 
-    abbrev here : Site
-    here = site disk store meta opening w c t.place t.list t.seat t.order z
+    abbrev here : BrokerTierView
+    here = tier_view disk store meta opening w c t.place t.list t.actor_state t.order z
 
     abbrev plain : State
     plain = c.central.plain
@@ -151,7 +151,7 @@ module _ {D S M : Type 0} (disk : DiskGhosts D) (store : StoreGhosts S) (meta : 
     abbrev start : ℕ
     start = w.held.registry.start
 
-    same_held : w'.held ≡ w.held → ShowsHeld disk.content w'.held c.partition
+    same_held : w'.held ≡ w.held → ShowsPartition disk.content w'.held c.partition
     same_held = held_same disk store meta opening w a outcome w' t c z (Offset (At ts)) asks
 
     start_seen : c.partition.registry.start ≡ start
@@ -167,13 +167,13 @@ module _ {D S M : Type 0} (disk : DiskGhosts D) (store : StoreGhosts S) (meta : 
     sound = (c.central.stands.lines.each t.order.broker.0 y z.sees.there).sound
 
     -- the first turn refreshes the broker's view
-    pub date_first : t.seat.work ≡ Idle → (o : Outcome) → outcome ≡ o → OffsetFirstRow meta w.held w.tier t.order.broker.0 z.x z.side o w'.tier → w'.held ≡ w.held → IsCentral disk store meta opening w'
+    pub date_first : t.actor_state.work ≡ Idle → (o : Outcome) → outcome ≡ o → OffsetFirstRow meta w.held w.tier t.order.broker.0 z.x z.broker_tier o w'.tier → w'.held ≡ w.held → IsCentral disk store meta opening w'
     date_first idle o is row same =
         leads_first disk store meta opening w a outcome w' t c z (Offset (At ts)) asks idle (λ turn. refl) (λ g. refl) (λ turn r. r) o is row same
 
-    -- a later turn, of a seat that keeps this
-    module _ (work : Work) (keeps : t.seat.work ≡ work) (g : Begun) (noted : noted_in work ≡ Some g) (cursor : ℕ) (next : Next)
-        (seeks : work_of (Some t.order) work ≡ dates_of t.order.broker.0 g cursor next t.order.command) (moved : (to : ℕ) (later : Next) → dated work to later ≡ works.Dates g to later)
+    -- a later turn, of an actor's state that keeps this
+    module _ (work : InProgress) (keeps : t.actor_state.work ≡ work) (g : StartSnapshot) (recorded : recorded_in work ≡ Some g) (cursor : ℕ) (next : SearchStep)
+        (seeks : work_of (Some t.order) work ≡ dates_of t.order.broker.0 g cursor next t.order.command) (moved : (to : ℕ) (later : SearchStep) → dated work to later ≡ works.Dates g to later)
         (gone : HasGone plain t.order.broker.0 g (Offset (At ts)) cursor next) (set : IsSet cursor next) where
       abbrev epoch : ℕ
       epoch = unwrap_or (leading g.role) 0
@@ -181,7 +181,7 @@ module _ {D S M : Type 0} (disk : DiskGhosts D) (store : StoreGhosts S) (meta : 
       abbrev at : ℕ
       at = resumed_at start cursor
 
-      abbrev on : Next
+      abbrev on : SearchStep
       on = resumed_with start cursor next
 
       abbrev asked : Asked
@@ -191,21 +191,21 @@ module _ {D S M : Type 0} (disk : DiskGhosts D) (store : StoreGhosts S) (meta : 
       abbrev SeenOn : Answer → Type 0
       SeenOn answer = seen_offsets.OffsetAtRow c.partition y ts g answer c.partition
 
-      lift : (answer : Answer) → SeenOn answer → seen_rows.Row c.partition t.order.broker.0 y (noted_in work) (Offset (At ts)) (turned.Answers answer) c.partition
-      lift answer row = subst (λ (o : Option Begun). seen_rows.Row c.partition t.order.broker.0 y o (Offset (At ts)) (turned.Answers answer) c.partition) (sym noted) row
+      lift : (answer : Answer) → SeenOn answer → seen_rows.Row c.partition t.order.broker.0 y (recorded_in work) (Offset (At ts)) (turned.Answers answer) c.partition
+      lift answer row = subst (λ (o : Option StartSnapshot). seen_rows.Row c.partition t.order.broker.0 y o (Offset (At ts)) (turned.Answers answer) c.partition) (sym recorded) row
 
-      low : (turn : Turned) → may_raise (noted_in work) (Offset (At ts)) turn ≡ false
-      low turn = ap (λ (o : Option Begun). may_raise o (Offset (At ts)) turn) noted
+      low : (turn : Turned) → may_raise (recorded_in work) (Offset (At ts)) turn ≡ false
+      low turn = ap (λ (o : Option StartSnapshot). may_raise o (Offset (At ts)) turn) recorded
 
       -- an answer that leaves the tier as it was
-      answers : (answer : Answer) → outcome ≡ Answers answer → SeenOn answer → w'.tier ≡ w.tier → ShowsHeld disk.content w'.held c.partition → IsCentral disk store meta opening w'
+      answers : (answer : Answer) → outcome ≡ Answers answer → SeenOn answer → w'.tier ≡ w.tier → ShowsPartition disk.content w'.held c.partition → IsCentral disk store meta opening w'
       answers answer is row tier held =
           stands disk store meta opening w a outcome w' t c z (Offset (At ts)) asks work keeps answer is (low (turned.Answers answer)) tier held (lift answer row)
 
       role_led : g.role ≡ Leads epoch
       role_led =
-          let seats = c.central.stands.desk t.place t.list (seat_seen t.seat) z.list (map_get seat_seen w.desk t.place t.seat z.seat_is) in
-          let going_on = going plain y t.order t.list (seat_seen t.seat) g c.central.safe seats z.next (ap noted_in keeps ∙ noted) broker in
+          let actor_states = c.central.stands.desk t.place t.list (actor_state_seen t.actor_state) z.list (map_get actor_state_seen w.desk t.place t.actor_state z.actor_state_is) in
+          let going_on = going plain y t.order t.list (actor_state_seen t.actor_state) g c.central.safe actor_states z.next (ap recorded_in keeps ∙ recorded) broker in
           let leads = going_on.leads (ap is_leaders asks) in
           leads.1 ∙ ap Leads (sym (ap (λ (r : Role). unwrap_or (leading r) 0) leads.1))
 
@@ -220,49 +220,49 @@ module _ {D S M : Type 0} (disk : DiskGhosts D) (store : StoreGhosts S) (meta : 
           go n m = omega arith
 
       -- the offset of the timestamp, as it is seen
-      found : (o : Option ℕ) → first_at ts start (from_offset start (up_to z.x.known z.s.batches)) ≡ o → seen_offsets.dated_offset c.partition y ts ≡ o
-      found o is = subst (λ (n : ℕ). first_at ts n (from_offset n (up_to z.x.known z.s.batches)) ≡ o) (sym start_seen) is
+      found : (o : Option ℕ) → first_at ts start (from_offset start (up_to z.x.known_high_watermark z.s.batches)) ≡ o → seen_offsets.dated_offset c.partition y ts ≡ o
+      found o is = subst (λ (n : ℕ). first_at ts n (from_offset n (up_to z.x.known_high_watermark z.s.batches)) ≡ o) (sym start_seen) is
 
-      -- what the seat keeps then
+      -- what the actor's state has then
 
-      goes_noted : (to : ℕ) (later : Next) → outcome ≡ Dates to later → GoesAsNoted t.seat.work outcome
-      goes_noted to later is = subst (GoesAsNoted t.seat.work) (sym is) tt
+      goes_recorded : (to : ℕ) (later : SearchStep) → outcome ≡ Dates to later → GoesAsRecorded t.actor_state.work outcome
+      goes_recorded to later is = subst (GoesAsRecorded t.actor_state.work) (sym is) tt
 
-      goes_dated : (to : ℕ) (later : Next) → outcome ≡ Dates to later → IsSet to later → IsDatedTo ts plain.registry.start z.s.batches to later
-          → GoesAsDated plain (slice_get t.list.orders t.seat.number) t.seat.work outcome
-      goes_dated to later is fits far = subst (GoesAsDated plain (slice_get t.list.orders t.seat.number) t.seat.work) (sym is) (λ f k.
-          (let one : g ≡ f = cc (sym (ap noted_in keeps ∙ noted) ∙ k) in
-          subst (λ (h : Begun). IsDated plain (slice_get t.list.orders t.seat.number) (works.Dates h to later)) one
+      goes_dated : (to : ℕ) (later : SearchStep) → outcome ≡ Dates to later → IsSet to later → IsDatedTo ts plain.registry.start z.s.batches to later
+          → GoesAsDated plain (slice_get t.list.orders t.actor_state.number) t.actor_state.work outcome
+      goes_dated to later is fits far = subst (GoesAsDated plain (slice_get t.list.orders t.actor_state.number) t.actor_state.work) (sym is) (λ f k.
+          (let one : g ≡ f = cc (sym (ap recorded_in keeps ∙ recorded) ∙ k) in
+          subst (λ (h : StartSnapshot). IsDated plain (slice_get t.list.orders t.actor_state.number) (works.Dates h to later)) one
           (subst (λ (o : Option Order). IsDated plain o (works.Dates g to later)) (sym z.next) (
             fits,
             subst (λ (command : Command). HasGone plain t.order.broker.0 g command to later) (sym asks) (λ x there stops role.
                 (let same : broker_of y ≡ x = cc (broker, there) in subst (λ (v : Broker). IsDatedTo ts plain.registry.start v.log to later) same far)),
           ))))
 
-      goes_unseen : (to : ℕ) (later : Next) → outcome ≡ Dates to later → desk_seen w'.desk ≡ desk_seen w.desk
+      goes_unseen : (to : ℕ) (later : SearchStep) → outcome ≡ Dates to later → desk_seen w'.desk ≡ desk_seen w.desk
       goes_unseen to later is =
           unseen disk store meta opening w a outcome w' t c z (Offset (At ts)) asks
-          (ap (λ (o : Outcome). seat_seen (seat_after t.seat o)) is
-          ∙ ap (λ (o : Option Begun). record { number = t.seat.number; begun = o })
-          (ap (λ (k : Work). noted_in (dated k to later)) keeps ∙ (ap noted_in (moved to later) ∙ (sym noted ∙ sym (ap noted_in keeps)))))
+          (ap (λ (o : Outcome). actor_state_seen (actor_state_after t.actor_state o)) is
+          ∙ ap (λ (o : Option StartSnapshot). record { number = t.actor_state.number; snapshot = o })
+          (ap (λ (k : InProgress). recorded_in (dated k to later)) keeps ∙ (ap recorded_in (moved to later) ∙ (sym recorded ∙ sym (ap recorded_in keeps)))))
 
-      goes_untold : (to : ℕ) (later : Next) → outcome ≡ Dates to later → w'.journal.items ≡ w.journal.items
-      goes_untold to later is = untold disk store meta opening w a outcome w' t c z (Offset (At ts)) asks (ap (told_of t.list.actor t.seat.number t.order.command) is)
+      goes_untold : (to : ℕ) (later : SearchStep) → outcome ≡ Dates to later → w'.journal.items ≡ w.journal.items
+      goes_untold to later is = untold disk store meta opening w a outcome w' t c z (Offset (At ts)) asks (ap (told_of t.list.actor t.actor_state.number t.order.command) is)
 
-      goes_shown : (to : ℕ) (later : Next) → outcome ≡ Dates to later
-          → work_after disk store meta opening w c t.place t.list t.seat t.order z outcome ≡ search_of t.order.broker.0 g.stops epoch to later
+      goes_shown : (to : ℕ) (later : SearchStep) → outcome ≡ Dates to later
+          → work_after disk store meta opening w c t.place t.list t.actor_state t.order z outcome ≡ search_of t.order.broker.0 g.stops epoch to later
       goes_shown to later is =
-          ap (λ (o : Outcome). work_after disk store meta opening w c t.place t.list t.seat t.order z o) is
-          ∙ (ap (λ (k : Work). work_of (slice_get t.list.orders t.seat.number) (dated k to later)) keeps
-          ∙ (ap (work_of (slice_get t.list.orders t.seat.number)) (moved to later)
+          ap (λ (o : Outcome). work_after disk store meta opening w c t.place t.list t.actor_state t.order z o) is
+          ∙ (ap (λ (k : InProgress). work_of (slice_get t.list.orders t.actor_state.number) (dated k to later)) keeps
+          ∙ (ap (work_of (slice_get t.list.orders t.actor_state.number)) (moved to later)
           ∙ (ap (λ (o : Option Order). work_of o (works.Dates g to later)) z.next ∙ ap (dates_of t.order.broker.0 g to later) asks)))
 
       -- a turn in the local log
 
-      own_held : (turn : TimeTurn) → SearchesOwn disk w.held t.order.broker.0 z.x asked at turn w'.held → ShowsHeld disk.content w'.held c.partition
+      own_held : (turn : TimeTurn) → SearchesOwn disk w.held t.order.broker.0 z.x asked at turn w'.held → ShowsPartition disk.content w'.held c.partition
       own_held turn r = by (own_rests disk.content disk.control z.x.log r.kept asked at turn r.row)
         where
-          by : (r.kept ≡ z.x.log) ⊎ log.Stays disk.content z.x.log r.kept → ShowsHeld disk.content w'.held c.partition
+          by : (r.kept ≡ z.x.log) ⊎ log.Stays disk.content z.x.log r.kept → ShowsPartition disk.content w'.held c.partition
           by (inl same) =
               held_stays disk.content disk.control w.held c.partition w'.held c.shows
               (inl (r.after ∙ (ap (λ (k : log.Kept D). put_node w.held t.order.broker.0 (record z.x { log = k })) same
@@ -272,7 +272,7 @@ module _ {D S M : Type 0} (disk : DiskGhosts D) (store : StoreGhosts S) (meta : 
 
       comes : (turn : TimeTurn) → KeepsLead z.x g → SearchesOwn disk w.held t.order.broker.0 z.x asked at turn w'.held → OwnComes asked z.s.batches turn
       comes turn k r =
-          own_comes disk.content disk.control asked z.x.log r.kept z.s k.up z.sees.shows sound.log.consecutive sound.log.line_is sound.known at turn start_low (gone_at k).cursor r.row
+          own_comes disk.content disk.control asked z.x.log r.kept z.s k.up z.sees.shows sound.log.consecutive sound.log.line_is sound.known_high_watermark at turn start_low (gone_at k).cursor r.row
 
       own_ends : (answer : Answer) → outcome ≡ Answers answer → KeepsLead z.x g → SearchesOwn disk w.held t.order.broker.0 z.x asked at (Ends answer) w'.held → w'.tier ≡ w.tier
           → IsCentral disk store meta opening w'
@@ -281,30 +281,30 @@ module _ {D S M : Type 0} (disk : DiskGhosts D) (store : StoreGhosts S) (meta : 
         | inr (n, offset, right) ↦ answers answer is (subst SeenOn (sym offset) (found (Some n) right, (keeps_seen z.x z.s g k, refl))) tier (own_held (Ends answer) r)
       ]
 
-      own_goes : (to : ℕ) (later : Next) → outcome ≡ Dates to later → KeepsLead z.x g → SearchesOwn disk w.held t.order.broker.0 z.x asked at (Goes to later) w'.held → w'.tier ≡ w.tier
+      own_goes : (to : ℕ) (later : SearchStep) → outcome ≡ Dates to later → KeepsLead z.x g → SearchesOwn disk w.held t.order.broker.0 z.x asked at (Goes to later) w'.held → w'.tier ≡ w.tier
           → IsCentral disk store meta opening w'
       own_goes to later is k r tier =
           let to_there = (comes (Goes to later) k r).goes to later refl in
           let passed = subst (λ (n : ℕ). HasPassed ts n z.s.batches to) (sym start_plain) to_there.1 in
           let seek = to_there.0 in
-          silent_dated disk store meta opening w a outcome w' t c z (Offset (At ts)) asks (goes_noted to later is)
+          silent_dated disk store meta opening w a outcome w' t c z (Offset (At ts)) asks (goes_recorded to later is)
           (goes_dated to later is (subst (IsSet to) (sym seek) tt) (subst (IsDatedTo ts plain.registry.start z.s.batches to) (sym seek) (record { cursor = passed; read = passed })))
           (goes_unseen to later is) (goes_untold to later is) (own_held (Goes to later) r)
-          (after disk store meta opening w a outcome w' t c z (Offset (At ts)) asks Free c.scene.objects c.scene.notes z.side.view)
-          (left_changed disk store meta opening w c t.place t.list t.seat t.order z)
-          (shown disk store meta opening w a outcome w' t c z (Offset (At ts)) asks Free c.scene.objects c.scene.notes z.side.view
-          (ap (λ (u : Tier S M). u.sides) tier ∙ same_sides disk store meta opening w c t.place t.list t.seat t.order z)
-          (ap (λ (u : Tier S M). (store.content u.store).tells) tier, ap (λ (u : Tier S M). (meta.content u.meta).tells) tier)
-          (c.shows_tier.objects ∙ sym (ap (λ (u : Tier S M). (store.content u.store).objects) tier)) (c.shows_tier.notes ∙ sym (ap (λ (u : Tier S M). (meta.content u.meta).notes) tier))
+          (after disk store meta opening w a outcome w' t c z (Offset (At ts)) asks Free c.scene.objects c.scene.notes z.broker_tier.view)
+          (left_changed disk store meta opening w c t.place t.list t.actor_state t.order z)
+          (shown disk store meta opening w a outcome w' t c z (Offset (At ts)) asks Free c.scene.objects c.scene.notes z.broker_tier.view
+          (ap (λ (u : RemoteTier S M). u.broker_tiers) tier ∙ same_broker_tiers disk store meta opening w c t.place t.list t.actor_state t.order z)
+          (ap (λ (u : RemoteTier S M). (store.content u.store).is_observable) tier, ap (λ (u : RemoteTier S M). (meta.content u.meta).is_observable) tier)
+          (c.shows_tier.objects ∙ sym (ap (λ (u : RemoteTier S M). (store.content u.store).objects) tier)) (c.shows_tier.notes ∙ sym (ap (λ (u : RemoteTier S M). (meta.content u.meta).notes) tier))
           (goes_shown to later is ∙ ap (search_of t.order.broker.0 g.stops epoch to) seek))
 
       -- a turn among the remote segments
 
       -- a scene of the tier at it
       at_search : (d : Scene) → BothSafe d plain → length d.notes < 2 ^ 64 → d.partition ≡ w.partition
-          → Shows d t.place t.order.broker.0 here (search_of t.order.broker.0 g.stops epoch at on) (store.content w.tier.store) (meta.content w.tier.meta) z.side.view
-          → KeepsLead z.x g → at < z.x.known
-          → IsAtSearch d plain t.place t.order.broker.0 here (broker_of y) g.stops epoch asked (line_of z.x) at on (store.content w.tier.store) (meta.content w.tier.meta) z.side.view z.side.cache
+          → Shows d t.place t.order.broker.0 here (search_of t.order.broker.0 g.stops epoch at on) (store.content w.tier.store) (meta.content w.tier.meta) z.broker_tier.view
+          → KeepsLead z.x g → at < z.x.known_high_watermark
+          → IsAtSearch d plain t.place t.order.broker.0 here (broker_of y) g.stops epoch asked (line_of z.x) at on (store.content w.tier.store) (meta.content w.tier.meta) z.broker_tier.view z.broker_tier.cache
       at_search d safe few part shows k below = record {
         safe = safe;
         few = few;
@@ -318,29 +318,29 @@ module _ {D S M : Type 0} (disk : DiskGhosts D) (store : StoreGhosts S) (meta : 
         local_is = local_shown disk.content z.x z.s k.up z.sees.shows ∙ ap (greatest z.s.local) (sym (sound.tight k.up));
         end_is = end_shown disk.content z.x z.s k.up z.sees.shows;
         mark_is = refl;
-        mark_ends = sound.known;
+        mark_ends = sound.known_high_watermark;
         past = (let far = start_low in omega (arith, far, start_plain));
         below = below;
-        tells = subst (λ (l : List (ℕ × ℕ)). TellsEpochs l z.s.batches) (sym (line_shown disk.content z.x z.s k.up z.sees.shows)) (line_tells y sound);
+        is_observable = subst (λ (l : List (ℕ × ℕ)). TellsEpochs l z.s.batches) (sym (line_shown disk.content z.x z.s k.up z.sees.shows)) (line_tells y sound);
         dated = subst (λ (n : ℕ). IsDatedTo ts n z.s.batches at on) (sym start_plain) (gone_at k);
       }
 
       -- what its turn comes to in such a scene
-      record Comes (turn : TimeTurn) (r : SearchesRemote store meta w.tier t.order.broker.0 z.side (line_of z.x) asked at on turn w'.tier) : Type 0 where
+      record Comes (turn : TimeTurn) (r : SearchesRemote store meta w.tier t.order.broker.0 z.broker_tier (line_of z.x) asked at on turn w'.tier) : Type 0 where
         pub changed : IsChanged c.scene plain (after_fetch c.scene t.place t.order.broker.0 here (search_work t.order.broker.0 g.stops epoch turn) (store.content w'.tier.store).objects
             (meta.content w'.tier.meta).notes r.view r.cache)
-        pub goes : (to : ℕ) (later : Next) → turn ≡ Goes to later → IsDatedTo ts plain.registry.start z.s.batches to later
+        pub goes : (to : ℕ) (later : SearchStep) → turn ≡ Goes to later → IsDatedTo ts plain.registry.start z.s.batches to later
         pub right : (n : ℕ) → turn ≡ Ends (OffsetAnswer n) → offset_at plain (broker_of y) ts ≡ Some n
 
-      comes_in : (d : Scene) (turn : TimeTurn) (r : SearchesRemote store meta w.tier t.order.broker.0 z.side (line_of z.x) asked at on turn w'.tier) → is_own (local_of z.x) at on ≡ false
-          → IsAtSearch d plain t.place t.order.broker.0 here (broker_of y) g.stops epoch asked (line_of z.x) at on (store.content w.tier.store) (meta.content w.tier.meta) z.side.view z.side.cache
+      comes_in : (d : Scene) (turn : TimeTurn) (r : SearchesRemote store meta w.tier t.order.broker.0 z.broker_tier (line_of z.x) asked at on turn w'.tier) → is_own (local_of z.x) at on ≡ false
+          → IsAtSearch d plain t.place t.order.broker.0 here (broker_of y) g.stops epoch asked (line_of z.x) at on (store.content w.tier.store) (meta.content w.tier.meta) z.broker_tier.view z.broker_tier.cache
           → (IsChanged d plain (after_fetch d t.place t.order.broker.0 here (search_work t.order.broker.0 g.stops epoch turn) (store.content w'.tier.store).objects
           (meta.content w'.tier.meta).notes r.view r.cache)
           → IsChanged c.scene plain (after_fetch c.scene t.place t.order.broker.0 here (search_work t.order.broker.0 g.stops epoch turn) (store.content w'.tier.store).objects
           (meta.content w'.tier.meta).notes r.view r.cache))
           → Comes turn r
       comes_in d turn r own h on_scene =
-          let old = fetch_tiers z.side.view z.side.cache w.tier in
+          let old = fetch_tiers z.broker_tier.view z.broker_tier.cache w.tier in
           let new = fetch_tiers r.view r.cache w'.tier in
           let is_below = below_local asked at on own in
           let is_set = resumed_set start cursor next set in
@@ -355,11 +355,11 @@ module _ {D S M : Type 0} (disk : DiskGhosts D) (store : StoreGhosts S) (meta : 
                 (subst (λ (u : TimeTurn). TimeRow store.content store.control meta.content meta.control asked (line_of z.x) at on (Ok u) old new) is r.row) is_below is_set h;
           }
 
-      seat_now : t.seat.work ≡ work → work_of (Some t.order) t.seat.work ≡ search_of t.order.broker.0 g.stops epoch cursor next
-      seat_now is = ap (work_of (Some t.order)) is ∙ (seeks ∙ ap (dates_of t.order.broker.0 g cursor next) asks)
+      actor_state_now : t.actor_state.work ≡ work → work_of (Some t.order) t.actor_state.work ≡ search_of t.order.broker.0 g.stops epoch cursor next
+      actor_state_now is = ap (work_of (Some t.order)) is ∙ (seeks ∙ ap (dates_of t.order.broker.0 g cursor next) asks)
 
-      remote : (turn : TimeTurn) (r : SearchesRemote store meta w.tier t.order.broker.0 z.side (line_of z.x) asked at on turn w'.tier) → is_own (local_of z.x) at on ≡ false → KeepsLead z.x g
-          → at < z.x.known → Comes turn r
+      remote : (turn : TimeTurn) (r : SearchesRemote store meta w.tier t.order.broker.0 z.broker_tier (line_of z.x) asked at on turn w'.tier) → is_own (local_of z.x) at on ≡ false → KeepsLead z.x g
+          → at < z.x.known_high_watermark → Comes turn r
       remote turn r own k below = by (nat_lt cursor start) refl
         where
           both : BothSafe c.scene plain
@@ -372,89 +372,89 @@ module _ {D S M : Type 0} (disk : DiskGhosts D) (store : StoreGhosts S) (meta : 
           by false is =
               let same_at = at_cursor start cursor is in
               let same_on : on ≡ next = rw is refl in
-              let shows = subst (λ (u : WorkSeen). Shows c.scene t.place t.order.broker.0 here u (store.content w.tier.store) (meta.content w.tier.meta) z.side.view)
-              (seat_now keeps ∙ (ap (λ (n : ℕ). search_of t.order.broker.0 g.stops epoch n next) (sym same_at) ∙ ap (search_of t.order.broker.0 g.stops epoch at) (sym same_on)))
-              (shows_at disk store meta opening w c t.place t.list t.seat t.order z) in
+              let shows = subst (λ (u : InProgressIsSeen). Shows c.scene t.place t.order.broker.0 here u (store.content w.tier.store) (meta.content w.tier.meta) z.broker_tier.view)
+              (actor_state_now keeps ∙ (ap (λ (n : ℕ). search_of t.order.broker.0 g.stops epoch n next) (sym same_at) ∙ ap (search_of t.order.broker.0 g.stops epoch at) (sym same_on)))
+              (shows_at disk store meta opening w c t.place t.list t.actor_state t.order z) in
               comes_in c.scene turn r own (at_search c.scene both (few_now disk store meta opening w c) c.shows_tier.partition shows k below) (λ e. e)
           by true is =
               let same_on : on ≡ Seek = rw is refl in
-              let at_seat = shows_at disk store meta opening w c t.place t.list t.seat t.order z in
+              let at_actor_state = shows_at disk store meta opening w c t.place t.list t.actor_state t.order z in
               let safe : BothSafe left plain = all_kept (Moves t.place Leaves ∷ []) c.scene plain plain (plain, (refl, tt), refl) both in
-              let shows : Shows left t.place t.order.broker.0 here (search_of t.order.broker.0 g.stops epoch at on) (store.content w.tier.store) (meta.content w.tier.meta) z.side.view = record {
-                objects_are = at_seat.objects_are;
-                notes_are = at_seat.notes_are;
-                store_tells = at_seat.store_tells;
-                meta_tells = at_seat.meta_tells;
-                site_is = at_seat.site_is;
-                view_is = at_seat.view_is;
-                seat = set_get c.scene.desk t.place _ Free at_seat.seat ∙ ap (λ (n : Next). Some (search_of t.order.broker.0 g.stops epoch at n)) (sym same_on);
+              let shows : Shows left t.place t.order.broker.0 here (search_of t.order.broker.0 g.stops epoch at on) (store.content w.tier.store) (meta.content w.tier.meta) z.broker_tier.view = record {
+                objects_are = at_actor_state.objects_are;
+                notes_are = at_actor_state.notes_are;
+                store_tells = at_actor_state.store_tells;
+                meta_tells = at_actor_state.meta_tells;
+                tier_view_is = at_actor_state.tier_view_is;
+                view_is = at_actor_state.view_is;
+                actor_state = set_get c.scene.desk t.place _ Free at_actor_state.actor_state ∙ ap (λ (n : SearchStep). Some (search_of t.order.broker.0 g.stops epoch at n)) (sym same_on);
               } in
               comes_in left turn r own (at_search left safe (few_now disk store meta opening w c) c.shows_tier.partition shows k below)
               (λ e. first_change c.scene _ plain (Moves t.place Leaves) (refl, tt)
               (as_scene left _ _ plain (scene_same _ _ refl refl refl refl (set_set c.scene.desk t.place Free (search_work t.order.broker.0 g.stops epoch turn))) e))
 
-      shows_then : (turn : TimeTurn) (r : SearchesRemote store meta w.tier t.order.broker.0 z.side (line_of z.x) asked at on turn w'.tier) (shows : WorkSeen)
-          → work_after disk store meta opening w c t.place t.list t.seat t.order z outcome ≡ shows
-          → ShowsTier store meta w' c.partition (scene_with disk store meta opening w c t.place t.list t.seat t.order z shows (store.content w'.tier.store).objects (meta.content w'.tier.meta).notes
-          (record z.side { view = r.view; cache = r.cache }))
+      shows_then : (turn : TimeTurn) (r : SearchesRemote store meta w.tier t.order.broker.0 z.broker_tier (line_of z.x) asked at on turn w'.tier) (shows : InProgressIsSeen)
+          → work_after disk store meta opening w c t.place t.list t.actor_state t.order z outcome ≡ shows
+          → ShowsTier store meta w' c.partition (scene_with disk store meta opening w c t.place t.list t.actor_state t.order z shows (store.content w'.tier.store).objects (meta.content w'.tier.meta).notes
+          (record z.broker_tier { view = r.view; cache = r.cache }))
       shows_then turn r shows is =
-          shows_with disk store meta opening w c t.place t.list t.seat t.order z w' outcome shows (store.content w'.tier.store).objects (meta.content w'.tier.meta).notes
-          (record z.side { view = r.view; cache = r.cache }) t.partition t.lists t.desk (ap (λ (u : Tier S M). u.sides) r.after)
-          (date_tells store meta asked (line_of z.x) at on turn (fetch_tiers z.side.view z.side.cache w.tier) (fetch_tiers r.view r.cache w'.tier) r.row) refl refl is
+          shows_with disk store meta opening w c t.place t.list t.actor_state t.order z w' outcome shows (store.content w'.tier.store).objects (meta.content w'.tier.meta).notes
+          (record z.broker_tier { view = r.view; cache = r.cache }) t.partition t.lists t.desk (ap (λ (u : RemoteTier S M). u.broker_tiers) r.after)
+          (date_tells store meta asked (line_of z.x) at on turn (fetch_tiers z.broker_tier.view z.broker_tier.cache w.tier) (fetch_tiers r.view r.cache w'.tier) r.row) refl refl is
 
       ends_row : (answer : Answer) → MayEnd answer → KeepsLead z.x g → ((n : ℕ) → answer ≡ OffsetAnswer n → offset_at plain (broker_of y) ts ≡ Some n) → SeenOn answer
       ends_row MetaFault may k right = (keeps_seen z.x z.s g k, refl)
       ends_row StoreFault may k right = (keeps_seen z.x z.s g k, refl)
       ends_row (Damaged place to) may k right = (keeps_seen z.x z.s g k, refl)
       ends_row (OffsetAnswer n) may k right =
-          (found (Some n) (subst (λ (m : ℕ). first_at ts m (from_offset m (up_to z.x.known z.s.batches)) ≡ Some n) start_plain (right n refl)), (keeps_seen z.x z.s g k, refl))
+          (found (Some n) (subst (λ (m : ℕ). first_at ts m (from_offset m (up_to z.x.known_high_watermark z.s.batches)) ≡ Some n) start_plain (right n refl)), (keeps_seen z.x z.s g k, refl))
       ends_row other may k right = elim may [ ]
 
-      remote_ends : (answer : Answer) → outcome ≡ Answers answer → KeepsLead z.x g → at < z.x.known → is_own (local_of z.x) at on ≡ false
-          → (r : SearchesRemote store meta w.tier t.order.broker.0 z.side (line_of z.x) asked at on (Ends answer) w'.tier) → w'.held ≡ w.held → IsCentral disk store meta opening w'
+      remote_ends : (answer : Answer) → outcome ≡ Answers answer → KeepsLead z.x g → at < z.x.known_high_watermark → is_own (local_of z.x) at on ≡ false
+          → (r : SearchesRemote store meta w.tier t.order.broker.0 z.broker_tier (line_of z.x) asked at on (Ends answer) w'.tier) → w'.held ≡ w.held → IsCentral disk store meta opening w'
       remote_ends answer is k below own r held =
           let come = remote (Ends answer) r own k below in
-          let may = date_ends store meta asked (line_of z.x) at on answer (fetch_tiers z.side.view z.side.cache w.tier) (fetch_tiers r.view r.cache w'.tier) r.row in
+          let may = date_ends store meta asked (line_of z.x) at on answer (fetch_tiers z.broker_tier.view z.broker_tier.cache w.tier) (fetch_tiers r.view r.cache w'.tier) r.row in
           entered disk store meta opening w a outcome w' t c z (Offset (At ts)) asks work keeps (turned.Answers answer) _ is (low (turned.Answers answer)) (same_held held)
           (lift answer (ends_row answer may k (λ n e. come.right n (ap (λ (o : Answer). Ends o) e)))) come.changed
-          (shows_then (Ends answer) r Free (answered_free disk store meta opening w c t.place t.list t.seat t.order z outcome answer is))
+          (shows_then (Ends answer) r Free (answered_free disk store meta opening w c t.place t.list t.actor_state t.order z outcome answer is))
 
-      remote_goes : (to : ℕ) (later : Next) → outcome ≡ Dates to later → KeepsLead z.x g → at < z.x.known → is_own (local_of z.x) at on ≡ false
-          → (r : SearchesRemote store meta w.tier t.order.broker.0 z.side (line_of z.x) asked at on (Goes to later) w'.tier) → w'.held ≡ w.held → GoesOn at (Goes to later)
+      remote_goes : (to : ℕ) (later : SearchStep) → outcome ≡ Dates to later → KeepsLead z.x g → at < z.x.known_high_watermark → is_own (local_of z.x) at on ≡ false
+          → (r : SearchesRemote store meta w.tier t.order.broker.0 z.broker_tier (line_of z.x) asked at on (Goes to later) w'.tier) → w'.held ≡ w.held → GoesOn at (Goes to later)
           → IsCentral disk store meta opening w'
       remote_goes to later is k below own r held goes =
           let come = remote (Goes to later) r own k below in
-          silent_dated disk store meta opening w a outcome w' t c z (Offset (At ts)) asks (goes_noted to later is)
+          silent_dated disk store meta opening w a outcome w' t c z (Offset (At ts)) asks (goes_recorded to later is)
           (goes_dated to later is (goes_set at to later goes) (come.goes to later refl)) (goes_unseen to later is) (goes_untold to later is) (same_held held) _ come.changed
           (shows_then (Goes to later) r (search_of t.order.broker.0 g.stops epoch to later) (goes_shown to later is))
 
       -- a turn in either
 
-      ends : (answer : Answer) → outcome ≡ Answers answer → Searches disk store meta w.partition w.held w.tier t.order.broker.0 z.x z.side g ts cursor next (Ends answer) w'.held w'.tier
+      ends : (answer : Answer) → outcome ≡ Answers answer → Searches disk store meta w.partition w.held w.tier t.order.broker.0 z.x z.broker_tier g ts cursor next (Ends answer) w'.held w'.tier
           → IsCentral disk store meta opening w'
       ends answer is s = by (is_own (local_of z.x) at on) refl s.row
         where
           by : (own : Bool) → is_own (local_of z.x) at on ≡ own
-              → SearchRow disk store meta w.held w.tier t.order.broker.0 z.x z.side asked at on own (Ends answer) w'.held w'.tier → IsCentral disk store meta opening w'
+              → SearchRow disk store meta w.held w.tier t.order.broker.0 z.x z.broker_tier asked at on own (Ends answer) w'.held w'.tier → IsCentral disk store meta opening w'
           by true own row = own_ends answer is s.keeps row.0 row.1
           by false own row = remote_ends answer is s.keeps s.below own row.0 row.1
 
-      goes : (to : ℕ) (later : Next) → outcome ≡ Dates to later
-          → Searches disk store meta w.partition w.held w.tier t.order.broker.0 z.x z.side g ts cursor next (Goes to later) w'.held w'.tier → GoesOn at (Goes to later)
+      goes : (to : ℕ) (later : SearchStep) → outcome ≡ Dates to later
+          → Searches disk store meta w.partition w.held w.tier t.order.broker.0 z.x z.broker_tier g ts cursor next (Goes to later) w'.held w'.tier → GoesOn at (Goes to later)
           → IsCentral disk store meta opening w'
       goes to later is s on_far = by (is_own (local_of z.x) at on) refl s.row
         where
           by : (own : Bool) → is_own (local_of z.x) at on ≡ own
-              → SearchRow disk store meta w.held w.tier t.order.broker.0 z.x z.side asked at on own (Goes to later) w'.held w'.tier → IsCentral disk store meta opening w'
+              → SearchRow disk store meta w.held w.tier t.order.broker.0 z.x z.broker_tier asked at on own (Goes to later) w'.held w'.tier → IsCentral disk store meta opening w'
           by true own row = own_goes to later is s.keeps row.0 row.1
           by false own row = remote_goes to later is s.keeps s.below own row.0 row.1 on_far
 
-      pub date_on : (o : Outcome) → outcome ≡ o → DateOnRow disk store meta w.partition w.held w.tier t.order.broker.0 z.x z.side g ts cursor next o w'.held w'.tier
+      pub date_on : (o : Outcome) → outcome ≡ o → DateOnRow disk store meta w.partition w.held w.tier t.order.broker.0 z.x z.broker_tier g ts cursor next o w'.held w'.tier
           → IsCentral disk store meta opening w'
       date_on (Answers Stopped) is row = answers Stopped is (stopped_seen z.x z.s g row.0, refl) row.2 (same_held row.1)
       date_on (Answers NotLeader) is row = answers NotLeader is (row.0, row.1, row.2, refl) row.4 (same_held row.3)
       date_on (Answers NoOffset) is row =
-          answers NoOffset is (found None (passed_has_none ts start z.x.known at z.s.batches (gone_at row.0).cursor row.1), (keeps_seen z.x z.s g row.0, refl)) row.3 (same_held row.2)
+          answers NoOffset is (found None (passed_has_none ts start z.x.known_high_watermark at z.s.batches (gone_at row.0).cursor row.1), (keeps_seen z.x z.s g row.0, refl)) row.3 (same_held row.2)
       date_on (Answers answer) is row = ends answer is row
       date_on (Dates to later) is row = goes to later is row.0 row.1
       date_on other is row = elim row [ ]

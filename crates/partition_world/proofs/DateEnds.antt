@@ -21,14 +21,14 @@ use Rattle.plain_log.specs.declared.answer.Place.TheVariants.{Key, Meta, File}
 use Rattle.plain_log.specs.declared.answer.Answer.TheVariants.{MetaFault, StoreFault, DiskFault, Damaged, Run, Offset}
 use Rattle.tier_fetch.specs.declared.turn.FetchTurn.{FetchTurn}
 use Rattle.tier_fetch.specs.declared.turn.FetchTurn.TheVariants as fetch
-use Rattle.tier_fetch.specs.declared.turn.Next.TheVariants as fetching
+use Rattle.tier_fetch.specs.declared.turn.FetchStep.TheVariants as fetching
 use Rattle.tier_fetch.specs.declared.turn.Span.{Span}
-use Rattle.tier_fetch.specs.declared.turn.Wanted.{Wanted}
+use Rattle.tier_fetch.specs.declared.turn.FetchRequest.{FetchRequest}
 use Rattle.tier_fetch.specs.Turns.{spot_in, LoadsBytes, Loads, LoadRow, FetchRow, Tiers}
 use Rattle.tier_fetch.specs.Turns as rows
 use Rattle.time_find.specs.declared.turn.Asked.{Asked}
-use Rattle.time_find.specs.declared.turn.Next.{Next}
-use Rattle.time_find.specs.declared.turn.Next.TheVariants.{Seek, Times as ReadsTimes, Index, Log}
+use Rattle.time_find.specs.declared.turn.SearchStep.{SearchStep}
+use Rattle.time_find.specs.declared.turn.SearchStep.TheVariants.{Seek, Times as ReadsTimes, Index, Log}
 use Rattle.time_find.specs.declared.turn.TimeTurn.{TimeTurn}
 use Rattle.time_find.specs.declared.turn.TimeTurn.TheVariants.{Ends}
 use Rattle.time_find.specs.Passing.{Seeks, passed_over}
@@ -86,7 +86,7 @@ times_ends asked cursor piece base spot (Ok (Some bytes)) answer w = by (short_o
     by (Some end) w = let e : answer ≡ Damaged (Key spot.key) end = cc (w) in subst MayEnd (sym e) tt
     by None w = subst MayEnd (sym w.0) tt
 
-loads_ends : (wanted : Wanted) (piece : Piece) (base : ℕ) (spot : Spot) (given : Result (Option (List ℕ)) Trouble) (answer : Answer)
+loads_ends : (wanted : FetchRequest) (piece : Piece) (base : ℕ) (spot : Spot) (given : Result (Option (List ℕ)) Trouble) (answer : Answer)
     (old new : Cache) → Loads wanted piece base spot given (Ok (fetch.Ends answer)) old new → MayEnd answer
 loads_ends wanted piece base spot (Err Failed) answer old new w = let e : answer ≡ StoreFault = cc (w.0) in subst MayEnd (sym e) tt
 loads_ends wanted piece base spot (Err NoMemory) answer old new w = let no = w.0 in absurd (cc (no))
@@ -118,7 +118,7 @@ module _ {S M : Type 0} (store : StoreGhosts S) (meta : MetaGhosts M) (asked : A
   timed_ends cursor piece view None answer old new w = let e : answer ≡ Damaged Meta view.notes = cc (w.0) in subst MayEnd (sym e) tt
   timed_ends cursor piece view (Some place) answer old new w = times_ends asked cursor piece place.0 place.1 w.answer answer w.times
 
-  load_ends : (wanted : Wanted) (piece : Piece) (view : View) (place : Option (ℕ × Spot)) (answer : Answer) (cache cache' : Cache)
+  load_ends : (wanted : FetchRequest) (piece : Piece) (view : View) (place : Option (ℕ × Spot)) (answer : Answer) (cache cache' : Cache)
       (old new : S)
       → LoadRow store.content store.control wanted piece view place (Ok (fetch.Ends answer)) cache cache' old new → MayEnd answer
   load_ends wanted piece view None answer cache cache' old new w =
@@ -126,7 +126,7 @@ module _ {S M : Type 0} (store : StoreGhosts S) (meta : MetaGhosts M) (asked : A
   load_ends wanted piece view (Some place) answer cache cache' old new w =
       loads_ends wanted piece place.0 place.1 w.answer answer cache cache' w.loads
 
-  cached_ends : (wanted : Wanted) (piece : Piece) (view : View) (answer : Answer) (held : Option OffsetTable) (cache cache' : Cache)
+  cached_ends : (wanted : FetchRequest) (piece : Piece) (view : View) (answer : Answer) (held : Option OffsetTable) (cache cache' : Cache)
       (old new : S)
       → rows.IndexRow store.content store.control wanted piece view (Ok (fetch.Ends answer)) held cache cache' old new → MayEnd answer
   cached_ends wanted piece view answer (Some index) cache cache' old new w = let e = w.0 in absurd (cc (e))
@@ -165,7 +165,7 @@ module _ {S M : Type 0} (store : StoreGhosts S) (meta : MetaGhosts M) (asked : A
   log_ends from piece span answer old new (inr (high, (came, row, k))) = logs_ends from piece span answer came old new row k
 
   -- what a turn among the remote segments is answered
-  pub date_ends : (cursor : ℕ) (next : Next) (answer : Answer) (old new : Tiers S M)
+  pub date_ends : (cursor : ℕ) (next : SearchStep) (answer : Answer) (old new : Tiers S M)
       → TimeRow store.content store.control meta.content meta.control asked line cursor next (Ok (Ends answer)) old new → MayEnd answer
   date_ends cursor Seek answer old new w = seek_ends cursor answer old.view new.view old.meta new.meta w.1
   date_ends cursor (ReadsTimes piece) answer old new w =
@@ -176,7 +176,7 @@ module _ {S M : Type 0} (store : StoreGhosts S) (meta : MetaGhosts M) (asked : A
 
   same_store : (old new : S) → new ≡ old → StoreStays store meta old new
   same_store old new is = record {
-    tells = ap (λ (s : S). (store.content s).tells) is;
+    is_observable = ap (λ (s : S). (store.content s).is_observable) is;
     objects = ap (λ (s : S). (store.content s).objects) is;
   }
 
@@ -184,18 +184,18 @@ module _ {S M : Type 0} (store : StoreGhosts S) (meta : MetaGhosts M) (asked : A
       → TimesRow store.content store.control asked cursor piece view place result old new → StoreStays store meta old new
   times_stays cursor piece view None result old new w = same_store old new w.1
   times_stays cursor piece view (Some place) result old new w = record {
-    tells = w.gets.content.tells;
+    is_observable = w.gets.content.is_observable;
     objects = fun_ext (λ k. w.gets.content.objects k);
   }
 
   seek_tells : (cursor : ℕ) (turn : TimeTurn) (before after : View) (old new : M)
       → SeekRow meta.content meta.control asked line cursor (Ok turn) before after old new
-      → (meta.content new).tells ≡ (meta.content old).tells
-  seek_tells cursor (Ends MetaFault) before after old new w = w.content.tells
-  seek_tells cursor turn before after old new w = w.1.content.tells
+      → (meta.content new).is_observable ≡ (meta.content old).is_observable
+  seek_tells cursor (Ends MetaFault) before after old new w = w.content.is_observable
+  seek_tells cursor turn before after old new w = w.1.content.is_observable
 
   same_tells : (old new : Tiers S M) → new ≡ old → TellsOn store meta old.store old.meta new.store new.meta
-  same_tells old new is = (ap (λ (t : Tiers S M). (store.content t.store).tells) is, ap (λ (t : Tiers S M). (meta.content t.meta).tells) is)
+  same_tells old new is = (ap (λ (t : Tiers S M). (store.content t.store).is_observable) is, ap (λ (t : Tiers S M). (meta.content t.meta).is_observable) is)
 
   indexes_tell : (cursor from : ℕ) (piece : Piece) (turn : TimeTurn) (came : Result FetchTurn AllocError) (old new : Tiers S M)
       → FetchRow store.content store.control meta.content meta.control (wanted_at asked from) line (fetching.Index piece) came old new
@@ -224,15 +224,15 @@ module _ {S M : Type 0} (store : StoreGhosts S) (meta : MetaGhosts M) (asked : A
   log_tells from piece span turn old new (inr (high, (came, row, k))) = logs_tell from piece span turn came old new row k
 
   -- the devices tell as they did
-  pub date_tells : (cursor : ℕ) (next : Next) (turn : TimeTurn) (old new : Tiers S M)
+  pub date_tells : (cursor : ℕ) (next : SearchStep) (turn : TimeTurn) (old new : Tiers S M)
       → TimeRow store.content store.control meta.content meta.control asked line cursor next (Ok turn) old new
       → TellsOn store meta old.store old.meta new.store new.meta
   date_tells cursor Seek turn old new w =
-      (ap (λ (t : Tiers S M). (store.content t.store).tells) w.0, seek_tells cursor turn old.view new.view old.meta new.meta w.1)
+      (ap (λ (t : Tiers S M). (store.content t.store).is_observable) w.0, seek_tells cursor turn old.view new.view old.meta new.meta w.1)
   date_tells cursor (ReadsTimes piece) turn old new w =
       let stays = times_stays cursor piece old.view (spot_in asked.partition piece.id part.TimeIndex (entry_of piece.id old.view.entries))
       (Ok turn) old.store new.store w.1 in
-      (stays.tells, ap (λ (t : Tiers S M). (meta.content t.meta).tells) w.0)
+      (stays.is_observable, ap (λ (t : Tiers S M). (meta.content t.meta).is_observable) w.0)
   date_tells cursor (Index piece from) turn old new w = index_tells cursor from piece turn old new w
   date_tells cursor (Log piece from span) turn old new w = log_tells from piece span turn old new w
 
@@ -266,7 +266,7 @@ module _ {S M : Type 0} (store : StoreGhosts S) (meta : MetaGhosts M) (asked : A
   log_dry from piece span e old new (inr (high, (came, row, k))) = logs_dry from piece span e came old new row k
 
   -- what one leaves that wanted memory
-  pub date_dry : (cursor : ℕ) (next : Next) (e : AllocError) (old new : Tiers S M)
+  pub date_dry : (cursor : ℕ) (next : SearchStep) (e : AllocError) (old new : Tiers S M)
       → TimeRow store.content store.control meta.content meta.control asked line cursor next (Err e) old new → Dries store meta old new
   date_dry cursor Seek e old new w = record {
     store_stays = same_store old.store new.store (ap (λ (t : Tiers S M). t.store) w.0);

@@ -8,21 +8,21 @@ use Rattle.object_store.specs.declared.store.Store.{Ghosts as StoreGhosts}
 use Rattle.meta_log.specs.declared.log.MetaLog.{Ghosts as MetaGhosts}
 use Rattle.broker_log.specs.Seen.{Kept, line_in, Stays, Quiet}
 use Rattle.time_find.specs.declared.turn.Asked.{Asked}
-use Rattle.time_find.specs.declared.turn.Next.{Next}
-use Rattle.time_find.specs.declared.turn.Next.TheVariants.{Seek}
+use Rattle.time_find.specs.declared.turn.SearchStep.{SearchStep}
+use Rattle.time_find.specs.declared.turn.SearchStep.TheVariants.{Seek}
 use Rattle.time_find.specs.declared.turn.TimeTurn.{TimeTurn}
 use Rattle.time_find.specs.Turns.{IsSet}
-use Rattle.partition_turns.specs.declared.held.Node.{Node}
-use Rattle.partition_turns.specs.declared.held.Held.{Held}
-use Rattle.partition_turns.specs.Held.{AtNode, Rests, StaysHeld, line_of, put_node}
-use Rattle.partition_world.specs.declared.tier.Tier.{Tier}
-use Rattle.partition_world.specs.Tier.{AtSide}
+use Rattle.partition_commands.specs.declared.partition_state.Node.{Node}
+use Rattle.partition_commands.specs.declared.partition_state.PartitionState.{PartitionState}
+use Rattle.partition_commands.specs.Partition.{AtNode, Rests, KeepsPartition, line_of, put_node}
+use Rattle.partition_world.specs.declared.tier.RemoteTier.{RemoteTier}
+use Rattle.partition_world.specs.Tier.{AtBrokerTier}
 use Rattle.partition_world.specs.TurnsOfDate.{resumed_at, resumed_with, SearchesOwn, SearchesRemote, WantsForDate, SearchRow}
 use Rattle.partition_world.specs.Turns.{StaysOr}
 use Rattle.partition_world.proofs.Dispatch.{some_more, there}
 
 -- where a search is resumed, its piece still ends past the cursor
-pub set_at : (start cursor : ℕ) (next : Next) → IsSet cursor next → IsSet (resumed_at start cursor) (resumed_with start cursor next)
+pub set_at : (start cursor : ℕ) (next : SearchStep) → IsSet cursor next → IsSet (resumed_at start cursor) (resumed_with start cursor next)
 set_at start cursor next set = by (nat_lt cursor start) refl
   where
     by : (passed : Bool) → nat_lt cursor start ≡ passed → IsSet (max start cursor) (if passed then Seek else next)
@@ -33,9 +33,9 @@ set_at start cursor next set = by (nat_lt cursor start) refl
         subst (λ (n : ℕ). IsSet n next) (sym same) set
 
 -- a broker's log that was read is as it was, where no call failed
-pub log_stays : {D : Type 0} (disk : DiskGhosts D) (h : Held D) (b : ℕ) (x : Node D) (kept : Kept D) → slice_get h.nodes b ≡ Some x
+pub log_stays : {D : Type 0} (disk : DiskGhosts D) (h : PartitionState D) (b : ℕ) (x : Node D) (kept : Kept D) → slice_get h.nodes b ≡ Some x
     → Stays disk.content x.log kept → Quiet disk.control x.log kept
-    → StaysHeld disk.content disk.control h (put_node h b (record x { log = kept }))
+    → KeepsPartition disk.content disk.control h (put_node h b (record x { log = kept }))
 log_stays {D} disk h b x kept at stays quiet =
     let after = put_node h b (record x { log = kept }) in
     inr (
@@ -44,42 +44,42 @@ log_stays {D} disk h b x kept at stays quiet =
           (kept, stays, quiet, refl),
     )
 
-module _ {D S M : Type 0} (disk : DiskGhosts D) (store : StoreGhosts S) (meta : MetaGhosts M) (h : Held D) (t : Tier S M) (b : ℕ)
-    (asked : Asked) (cursor : ℕ) (next : Next) where
+module _ {D S M : Type 0} (disk : DiskGhosts D) (store : StoreGhosts S) (meta : MetaGhosts M) (h : PartitionState D) (t : RemoteTier S M) (b : ℕ)
+    (asked : Asked) (cursor : ℕ) (next : SearchStep) where
   -- the row of a turn in the local log
-  pub own_row : (own : Bool) (turn : TimeTurn) (h' : Held D) → own ≡ true → b < length t.sides
+  pub own_row : (own : Bool) (turn : TimeTurn) (h' : PartitionState D) → own ≡ true → b < length t.broker_tiers
       → AtNode h b (λ x. SearchesOwn disk h b x asked cursor turn h')
-      → AtNode h b (λ x. AtSide t b (λ side. SearchRow disk store meta h t b x side asked cursor next own turn h' t))
+      → AtNode h b (λ x. AtBrokerTier t b (λ broker_tier. SearchRow disk store meta h t b x broker_tier asked cursor next own turn h' t))
   own_row own turn h' is lt row =
-      subst (λ (o : Bool). AtNode h b (λ x. AtSide t b (λ side. SearchRow disk store meta h t b x side asked cursor next o turn h' t)))
+      subst (λ (o : Bool). AtNode h b (λ x. AtBrokerTier t b (λ broker_tier. SearchRow disk store meta h t b x broker_tier asked cursor next o turn h' t)))
       (sym is) (some_more (λ x. SearchesOwn disk h b x asked cursor turn h')
-      (λ x. AtSide t b (λ side. SearchRow disk store meta h t b x side asked cursor next true turn h' t)) (slice_get h.nodes b)
-      (λ x w. there (λ side. SearchRow disk store meta h t b x side asked cursor next true turn h' t) t.sides b lt (λ side. (w, refl))) row)
+      (λ x. AtBrokerTier t b (λ broker_tier. SearchRow disk store meta h t b x broker_tier asked cursor next true turn h' t)) (slice_get h.nodes b)
+      (λ x w. there (λ broker_tier. SearchRow disk store meta h t b x broker_tier asked cursor next true turn h' t) t.broker_tiers b lt (λ broker_tier. (w, refl))) row)
 
   -- and of one among the remote segments, with the line of the broker's log
-  pub remote_row : (x : Node D) (line : List (ℕ × ℕ)) (own : Bool) (turn : TimeTurn) (t' : Tier S M) → own ≡ false
+  pub remote_row : (x : Node D) (line : List (ℕ × ℕ)) (own : Bool) (turn : TimeTurn) (t' : RemoteTier S M) → own ≡ false
       → slice_get h.nodes b ≡ Some x → Some line ≡ line_in x.log
-      → AtSide t b (λ side. SearchesRemote store meta t b side line asked cursor next turn t')
-      → AtNode h b (λ y. AtSide t b (λ side. SearchRow disk store meta h t b y side asked cursor next own turn h t'))
+      → AtBrokerTier t b (λ broker_tier. SearchesRemote store meta t b broker_tier line asked cursor next turn t')
+      → AtNode h b (λ y. AtBrokerTier t b (λ broker_tier. SearchRow disk store meta h t b y broker_tier asked cursor next own turn h t'))
   remote_row x line own turn t' is at same row =
-      let told : AtSide t b (λ side. SearchesRemote store meta t b side (unwrap_or (line_in x.log) []) asked cursor next turn t') =
-      subst (λ (o : Option (List (ℕ × ℕ))). AtSide t b (λ side.
-      SearchesRemote store meta t b side (unwrap_or o []) asked cursor next turn t')) same row in
-      subst (λ (o : Bool). AtNode h b (λ y. AtSide t b (λ side. SearchRow disk store meta h t b y side asked cursor next o turn h t')))
-      (sym is) (subst (λ (o : Option (Node D)). IsSomeAnd o (λ y. AtSide t b (λ side.
-      SearchRow disk store meta h t b y side asked cursor next false turn h t'))) (sym at)
-      (some_more (λ side. SearchesRemote store meta t b side (unwrap_or (line_in x.log) []) asked cursor next turn t')
-      (λ side. SearchRow disk store meta h t b x side asked cursor next false turn h t') (slice_get t.sides b) (λ side w. (w, refl)) told))
+      let told : AtBrokerTier t b (λ broker_tier. SearchesRemote store meta t b broker_tier (unwrap_or (line_in x.log) []) asked cursor next turn t') =
+      subst (λ (o : Option (List (ℕ × ℕ))). AtBrokerTier t b (λ broker_tier.
+      SearchesRemote store meta t b broker_tier (unwrap_or o []) asked cursor next turn t')) same row in
+      subst (λ (o : Bool). AtNode h b (λ y. AtBrokerTier t b (λ broker_tier. SearchRow disk store meta h t b y broker_tier asked cursor next o turn h t')))
+      (sym is) (subst (λ (o : Option (Node D)). IsSomeAnd o (λ y. AtBrokerTier t b (λ broker_tier.
+      SearchRow disk store meta h t b y broker_tier asked cursor next false turn h t'))) (sym at)
+      (some_more (λ broker_tier. SearchesRemote store meta t b broker_tier (unwrap_or (line_in x.log) []) asked cursor next turn t')
+      (λ broker_tier. SearchRow disk store meta h t b x broker_tier asked cursor next false turn h t') (slice_get t.broker_tiers b) (λ broker_tier w. (w, refl)) told))
 
   -- there was no memory among the remote segments
-  pub remote_stays : (x : Node D) (line : List (ℕ × ℕ)) (t' : Tier S M) → slice_get h.nodes b ≡ Some x → Some line ≡ line_in x.log
-      → AtSide t b (λ side. WantsForDate store meta t b side line asked cursor next t')
-      → StaysOr disk h t b (λ y side. WantsForDate store meta t b side (line_of y) asked cursor next t') h t'
+  pub remote_stays : (x : Node D) (line : List (ℕ × ℕ)) (t' : RemoteTier S M) → slice_get h.nodes b ≡ Some x → Some line ≡ line_in x.log
+      → AtBrokerTier t b (λ broker_tier. WantsForDate store meta t b broker_tier line asked cursor next t')
+      → StaysOr disk h t b (λ y broker_tier. WantsForDate store meta t b broker_tier (line_of y) asked cursor next t') h t'
   remote_stays x line t' at same wants =
       inr (
         refl,
-        subst (λ (o : Option (Node D)). IsSomeAnd o (λ y. AtSide t b (λ side.
-            WantsForDate store meta t b side (line_of y) asked cursor next t'))) (sym at)
-            (subst (λ (o : Option (List (ℕ × ℕ))). AtSide t b (λ side.
-            WantsForDate store meta t b side (unwrap_or o []) asked cursor next t')) same wants),
+        subst (λ (o : Option (Node D)). IsSomeAnd o (λ y. AtBrokerTier t b (λ broker_tier.
+            WantsForDate store meta t b broker_tier (line_of y) asked cursor next t'))) (sym at)
+            (subst (λ (o : Option (List (ℕ × ℕ))). AtBrokerTier t b (λ broker_tier.
+            WantsForDate store meta t b broker_tier (unwrap_or o []) asked cursor next t')) same wants),
       )

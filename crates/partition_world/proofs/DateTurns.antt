@@ -6,22 +6,22 @@ use Rattle.disk_model.specs.declared.disk.Disk.{Ghosts as DiskGhosts}
 use Rattle.object_store.specs.declared.store.Store.{Ghosts as StoreGhosts}
 use Rattle.meta_log.specs.declared.log.MetaLog.{Ghosts as MetaGhosts}
 use Rattle.time_find.specs.declared.turn.Asked.{Asked}
-use Rattle.time_find.specs.declared.turn.Next.{Next}
+use Rattle.time_find.specs.declared.turn.SearchStep.{SearchStep}
 use Rattle.time_find.specs.declared.turn.TimeTurn.{TimeTurn}
 use Rattle.time_find.specs.declared.turn.TimeTurn.TheVariants.{Goes, Ends}
 use Rattle.time_find.specs.Turns.{GoesOn}
 use Rattle.plain_log.specs.declared.answer.Answer.{Answer}
 use Rattle.plain_log.specs.declared.answer.Place.TheVariants.{File}
 use Rattle.plain_log.specs.declared.answer.Answer.TheVariants.{MetaFault, StoreFault, DiskFault, Damaged, Offset}
-use Rattle.partition_seen.specs.declared.begun.Begun.{Begun}
-use Rattle.partition_turns.specs.declared.held.Node.{Node}
-use Rattle.partition_turns.specs.declared.held.Held.{Held}
-use Rattle.partition_turns.specs.Held.{AtNode, line_of, local_of}
-use Rattle.partition_world.specs.declared.tier.Side.{Side}
-use Rattle.partition_world.specs.declared.tier.Tier.{Tier}
-use Rattle.partition_world.specs.declared.seat.Outcome.TheVariants.{Answers}
-use Rattle.partition_world.specs.Tier.{AtSide}
-use Rattle.partition_world.specs.Seats.{date_outcome}
+use Rattle.laws_partition.specs.declared.start_snapshot.StartSnapshot.{StartSnapshot}
+use Rattle.partition_commands.specs.declared.partition_state.Node.{Node}
+use Rattle.partition_commands.specs.declared.partition_state.PartitionState.{PartitionState}
+use Rattle.partition_commands.specs.Partition.{AtNode, line_of, local_of}
+use Rattle.partition_world.specs.declared.tier.BrokerTierState.{BrokerTierState}
+use Rattle.partition_world.specs.declared.tier.RemoteTier.{RemoteTier}
+use Rattle.partition_world.specs.declared.actor_state.Outcome.TheVariants.{Answers}
+use Rattle.partition_world.specs.Tier.{AtBrokerTier}
+use Rattle.partition_world.specs.ActorStates.{date_outcome}
 use Rattle.partition_world.specs.TurnsOfCopy.{KeepsLead}
 use Rattle.partition_world.specs.TurnsOfDate.{resumed_at, resumed_with, is_own, asked_of, WantsForDate, SearchRow, Searches, DateOnRow}
 use Rattle.partition_world.specs.Turns.{DateHalts, StaysOr}
@@ -30,103 +30,103 @@ use Rattle.partition_world.proofs.Dispatch.{some_more}
 
 module _ {D S M : Type 0} (disk : DiskGhosts D) (store : StoreGhosts S) (meta : MetaGhosts M) where
   -- what a turn is answered, in the local log or not
-  answers_of : (h : Held D) (t : Tier S M) (b : ℕ) (x : Node D) (side : Side) (asked : Asked) (cursor : ℕ) (next : Next) (own : Bool)
-      (answer : Answer) (h' : Held D) (t' : Tier S M) → SearchRow disk store meta h t b x side asked cursor next own (Ends answer) h' t'
+  answers_of : (h : PartitionState D) (t : RemoteTier S M) (b : ℕ) (x : Node D) (broker_tier : BrokerTierState) (asked : Asked) (cursor : ℕ) (next : SearchStep) (own : Bool)
+      (answer : Answer) (h' : PartitionState D) (t' : RemoteTier S M) → SearchRow disk store meta h t b x broker_tier asked cursor next own (Ends answer) h' t'
       → MayEnd answer ⊎ MayEndOwn answer
-  answers_of h t b x side asked cursor next true answer h' t' w = inr (own_ends disk x.log asked cursor answer w.0.kept w.0.row)
-  answers_of h t b x side asked cursor next false answer h' t' w =
+  answers_of h t b x broker_tier asked cursor next true answer h' t' w = inr (own_ends disk x.log asked cursor answer w.0.kept w.0.row)
+  answers_of h t b x broker_tier asked cursor next false answer h' t' w =
       inl (date_ends store meta asked (line_of x) cursor next answer _ _ w.0.row)
 
-module _ {D S M : Type 0} (disk : DiskGhosts D) (store : StoreGhosts S) (meta : MetaGhosts M) (p : PartitionId) (h : Held D)
-    (t : Tier S M) (b : ℕ) (x : Node D) (side : Side) (g : Begun) (ts : ℤ) (cursor : ℕ) (next : Next) (h' : Held D) (t' : Tier S M) where
-  ends_row : (answer : Answer) → MayEnd answer → Searches disk store meta p h t b x side g ts cursor next (Ends answer) h' t'
-      → DateOnRow disk store meta p h t b x side g ts cursor next (Answers answer) h' t'
+module _ {D S M : Type 0} (disk : DiskGhosts D) (store : StoreGhosts S) (meta : MetaGhosts M) (p : PartitionId) (h : PartitionState D)
+    (t : RemoteTier S M) (b : ℕ) (x : Node D) (broker_tier : BrokerTierState) (g : StartSnapshot) (ts : ℤ) (cursor : ℕ) (next : SearchStep) (h' : PartitionState D) (t' : RemoteTier S M) where
+  ends_row : (answer : Answer) → MayEnd answer → Searches disk store meta p h t b x broker_tier g ts cursor next (Ends answer) h' t'
+      → DateOnRow disk store meta p h t b x broker_tier g ts cursor next (Answers answer) h' t'
   ends_row MetaFault may w = w
   ends_row StoreFault may w = w
   ends_row (Damaged place at) may w = w
   ends_row (Offset n) may w = w
   ends_row other may w = absurd may
 
-  own_row : (answer : Answer) → MayEndOwn answer → Searches disk store meta p h t b x side g ts cursor next (Ends answer) h' t'
-      → DateOnRow disk store meta p h t b x side g ts cursor next (Answers answer) h' t'
+  own_row : (answer : Answer) → MayEndOwn answer → Searches disk store meta p h t b x broker_tier g ts cursor next (Ends answer) h' t'
+      → DateOnRow disk store meta p h t b x broker_tier g ts cursor next (Answers answer) h' t'
   own_row DiskFault may w = w
   own_row (Damaged (File name) at) may w = w
   own_row (Offset n) may w = w
   own_row other may w = absurd may
 
   either_row : (answer : Answer) → MayEnd answer ⊎ MayEndOwn answer
-      → Searches disk store meta p h t b x side g ts cursor next (Ends answer) h' t'
-      → DateOnRow disk store meta p h t b x side g ts cursor next (Answers answer) h' t'
+      → Searches disk store meta p h t b x broker_tier g ts cursor next (Ends answer) h' t'
+      → DateOnRow disk store meta p h t b x broker_tier g ts cursor next (Answers answer) h' t'
   either_row answer (inl may) w = ends_row answer may w
   either_row answer (inr may) w = own_row answer may w
 
-  goes_row : (turn : TimeTurn) → Searches disk store meta p h t b x side g ts cursor next turn h' t'
+  goes_row : (turn : TimeTurn) → Searches disk store meta p h t b x broker_tier g ts cursor next turn h' t'
       → GoesOn (resumed_at h.registry.start cursor) turn
-      → DateOnRow disk store meta p h t b x side g ts cursor next (date_outcome turn) h' t'
+      → DateOnRow disk store meta p h t b x broker_tier g ts cursor next (date_outcome turn) h' t'
   goes_row (Goes at later) w goes = (w, goes)
   goes_row (Ends answer) w goes =
       let start = h.registry.start in
       let own = is_own (local_of x) (resumed_at start cursor) (resumed_with start cursor next) in
-      either_row answer (answers_of disk store meta h t b x side (asked_of p h x ts) (resumed_at start cursor)
+      either_row answer (answers_of disk store meta h t b x broker_tier (asked_of p h x ts) (resumed_at start cursor)
       (resumed_with start cursor next) own answer h' t' w.row) w
 
-module _ {D S M : Type 0} (disk : DiskGhosts D) (store : StoreGhosts S) (meta : MetaGhosts M) (p : PartitionId) (h : Held D)
-    (t : Tier S M) (b : ℕ) (x : Node D) (g : Begun) (ts : ℤ) (cursor : ℕ) (next : Next) (h' : Held D) (t' : Tier S M) where
+module _ {D S M : Type 0} (disk : DiskGhosts D) (store : StoreGhosts S) (meta : MetaGhosts M) (p : PartitionId) (h : PartitionState D)
+    (t : RemoteTier S M) (b : ℕ) (x : Node D) (g : StartSnapshot) (ts : ℤ) (cursor : ℕ) (next : SearchStep) (h' : PartitionState D) (t' : RemoteTier S M) where
   -- the row of a turn that searches, of the broker that is read
-  abbrev pub RowAt : Asked → ℕ → Next → TimeTurn → Type 0
-  RowAt asked at with_next turn = AtNode h b (λ y. AtSide t b (λ side.
-      SearchRow disk store meta h t b y side asked at with_next (is_own asked.local at with_next) turn h' t'))
+  abbrev pub RowAt : Asked → ℕ → SearchStep → TimeTurn → Type 0
+  RowAt asked at with_next turn = AtNode h b (λ y. AtBrokerTier t b (λ broker_tier.
+      SearchRow disk store meta h t b y broker_tier asked at with_next (is_own asked.local at with_next) turn h' t'))
 
-  searched : (turn : TimeTurn) → KeepsLead x g → resumed_at h.registry.start cursor < x.known → resumed_at h.registry.start cursor < 2 ^ 64
+  searched : (turn : TimeTurn) → KeepsLead x g → resumed_at h.registry.start cursor < x.known_high_watermark → resumed_at h.registry.start cursor < 2 ^ 64
       → GoesOn (resumed_at h.registry.start cursor) turn
-      → AtSide t b (λ side. SearchRow disk store meta h t b x side (asked_of p h x ts) (resumed_at h.registry.start cursor)
+      → AtBrokerTier t b (λ broker_tier. SearchRow disk store meta h t b x broker_tier (asked_of p h x ts) (resumed_at h.registry.start cursor)
       (resumed_with h.registry.start cursor next)
       (is_own (local_of x) (resumed_at h.registry.start cursor) (resumed_with h.registry.start cursor next)) turn h' t')
-      → AtSide t b (λ side. DateOnRow disk store meta p h t b x side g ts cursor next (date_outcome turn) h' t')
+      → AtBrokerTier t b (λ broker_tier. DateOnRow disk store meta p h t b x broker_tier g ts cursor next (date_outcome turn) h' t')
   searched turn keeps below fits goes row =
-      some_more _ (λ side. DateOnRow disk store meta p h t b x side g ts cursor next (date_outcome turn) h' t') (slice_get t.sides b)
-      (λ side w.
-      goes_row disk store meta p h t b x side g ts cursor next h' t' turn (record { keeps = keeps; below = below; fits = fits; row = w }) goes) row
+      some_more _ (λ broker_tier. DateOnRow disk store meta p h t b x broker_tier g ts cursor next (date_outcome turn) h' t') (slice_get t.broker_tiers b)
+      (λ broker_tier w.
+      goes_row disk store meta p h t b x broker_tier g ts cursor next h' t' turn (record { keeps = keeps; below = below; fits = fits; row = w }) goes) row
 
   -- of one that searches
-  pub date_row : (asked : Asked) (at : ℕ) (with_next : Next) (turn : TimeTurn) → slice_get h.nodes b ≡ Some x → KeepsLead x g
+  pub date_row : (asked : Asked) (at : ℕ) (with_next : SearchStep) (turn : TimeTurn) → slice_get h.nodes b ≡ Some x → KeepsLead x g
       → at ≡ resumed_at h.registry.start cursor → with_next ≡ resumed_with h.registry.start cursor next → asked ≡ asked_of p h x ts
-      → at < x.known → at < 2 ^ 64 → GoesOn at turn → RowAt asked at with_next turn
-      → AtNode h b (λ y. AtSide t b (λ side. DateOnRow disk store meta p h t b y side g ts cursor next (date_outcome turn) h' t'))
+      → at < x.known_high_watermark → at < 2 ^ 64 → GoesOn at turn → RowAt asked at with_next turn
+      → AtNode h b (λ y. AtBrokerTier t b (λ broker_tier. DateOnRow disk store meta p h t b y broker_tier g ts cursor next (date_outcome turn) h' t'))
   date_row asked at with_next turn is keeps at_is with_is asked_is below fits goes row =
-      subst (λ (o : Option (Node D)). IsSomeAnd o (λ y. AtSide t b (λ side.
-      DateOnRow disk store meta p h t b y side g ts cursor next (date_outcome turn) h' t'))) (sym is)
-      (searched turn keeps (subst (λ (n : ℕ). n < x.known) at_is below) (subst (λ (n : ℕ). n < 2 ^ 64) at_is fits) (subst (λ (n : ℕ). GoesOn n turn) at_is goes)
-      (subst (λ (o : Option (Node D)). IsSomeAnd o (λ y. AtSide t b (λ side. SearchRow disk store meta h t b y side (asked_of p h x ts)
+      subst (λ (o : Option (Node D)). IsSomeAnd o (λ y. AtBrokerTier t b (λ broker_tier.
+      DateOnRow disk store meta p h t b y broker_tier g ts cursor next (date_outcome turn) h' t'))) (sym is)
+      (searched turn keeps (subst (λ (n : ℕ). n < x.known_high_watermark) at_is below) (subst (λ (n : ℕ). n < 2 ^ 64) at_is fits) (subst (λ (n : ℕ). GoesOn n turn) at_is goes)
+      (subst (λ (o : Option (Node D)). IsSomeAnd o (λ y. AtBrokerTier t b (λ broker_tier. SearchRow disk store meta h t b y broker_tier (asked_of p h x ts)
       (resumed_at h.registry.start cursor) (resumed_with h.registry.start cursor next)
       (is_own (local_of x) (resumed_at h.registry.start cursor) (resumed_with h.registry.start cursor next)) turn h' t'))) is
-      (subst (λ (n : Next). RowAt (asked_of p h x ts) (resumed_at h.registry.start cursor) n turn) with_is
+      (subst (λ (n : SearchStep). RowAt (asked_of p h x ts) (resumed_at h.registry.start cursor) n turn) with_is
       (subst (λ (n : ℕ). RowAt (asked_of p h x ts) n with_next turn) at_is
       (subst (λ (a : Asked). RowAt a at with_next turn) asked_is row)))))
 
-module _ {D S M : Type 0} (disk : DiskGhosts D) (store : StoreGhosts S) (meta : MetaGhosts M) (p : PartitionId) (h : Held D)
-    (t : Tier S M) (b : ℕ) (x : Node D) (ts : ℤ) (cursor : ℕ) (next : Next) (h' : Held D) (t' : Tier S M) where
+module _ {D S M : Type 0} (disk : DiskGhosts D) (store : StoreGhosts S) (meta : MetaGhosts M) (p : PartitionId) (h : PartitionState D)
+    (t : RemoteTier S M) (b : ℕ) (x : Node D) (ts : ℤ) (cursor : ℕ) (next : SearchStep) (h' : PartitionState D) (t' : RemoteTier S M) where
   -- what is left of one that found no memory
-  abbrev pub LeftAt : Asked → ℕ → Next → Type 0
-  LeftAt asked at with_next = StaysOr disk h t b (λ y side. WantsForDate store meta t b side (line_of y) asked at with_next t') h' t'
+  abbrev pub LeftAt : Asked → ℕ → SearchStep → Type 0
+  LeftAt asked at with_next = StaysOr disk h t b (λ y broker_tier. WantsForDate store meta t b broker_tier (line_of y) asked at with_next t') h' t'
 
   left_of : LeftAt (asked_of p h x ts) (resumed_at h.registry.start cursor) (resumed_with h.registry.start cursor next)
-      → slice_get h.nodes b ≡ Some x → StaysOr disk h t b (λ y side. DateHalts store meta p h t b y side ts cursor next t') h' t'
+      → slice_get h.nodes b ≡ Some x → StaysOr disk h t b (λ y broker_tier. DateHalts store meta p h t b y broker_tier ts cursor next t') h' t'
   left_of (inl w) is = inl w
   left_of (inr (same, wants)) is =
-      let at : AtSide t b (λ side. DateHalts store meta p h t b x side ts cursor next t') =
-      subst (λ (o : Option (Node D)). IsSomeAnd o (λ y. AtSide t b (λ side. WantsForDate store meta t b side (line_of y)
+      let at : AtBrokerTier t b (λ broker_tier. DateHalts store meta p h t b x broker_tier ts cursor next t') =
+      subst (λ (o : Option (Node D)). IsSomeAnd o (λ y. AtBrokerTier t b (λ broker_tier. WantsForDate store meta t b broker_tier (line_of y)
       (asked_of p h x ts) (resumed_at h.registry.start cursor) (resumed_with h.registry.start cursor next) t'))) is wants in
       inr (
         same,
-        subst (λ (o : Option (Node D)). IsSomeAnd o (λ y. AtSide t b (λ side.
-            DateHalts store meta p h t b y side ts cursor next t'))) (sym is) at,
+        subst (λ (o : Option (Node D)). IsSomeAnd o (λ y. AtBrokerTier t b (λ broker_tier.
+            DateHalts store meta p h t b y broker_tier ts cursor next t'))) (sym is) at,
       )
 
-  pub date_left : (asked : Asked) (at : ℕ) (with_next : Next) → slice_get h.nodes b ≡ Some x
+  pub date_left : (asked : Asked) (at : ℕ) (with_next : SearchStep) → slice_get h.nodes b ≡ Some x
       → at ≡ resumed_at h.registry.start cursor → with_next ≡ resumed_with h.registry.start cursor next → asked ≡ asked_of p h x ts
-      → LeftAt asked at with_next → StaysOr disk h t b (λ y side. DateHalts store meta p h t b y side ts cursor next t') h' t'
+      → LeftAt asked at with_next → StaysOr disk h t b (λ y broker_tier. DateHalts store meta p h t b y broker_tier ts cursor next t') h' t'
   date_left asked at with_next is at_is with_is asked_is left =
-      left_of (subst (λ (n : Next). LeftAt (asked_of p h x ts) (resumed_at h.registry.start cursor) n) with_is
+      left_of (subst (λ (n : SearchStep). LeftAt (asked_of p h x ts) (resumed_at h.registry.start cursor) n) with_is
       (subst (λ (n : ℕ). LeftAt (asked_of p h x ts) n with_next) at_is
       (subst (λ (a : Asked). LeftAt a at with_next) asked_is left))) is

@@ -20,21 +20,21 @@ use Rattle.segment_file.specs.Growing.{Grown}
 use Rattle.local_log.specs.Reading.{first_past, ReadOnce}
 use Rattle.local_log.specs.declared.refusal.ReadRefusal.{ReadRefusal}
 use Rattle.broker_log.specs.Seen.{Kept, Up, Down, Away, is_up, closed_in, settings_in, OnDisk, WhileUp}
-use Rattle.partition_turns.specs.declared.held.Node.{Node}
-use Rattle.partition_turns.specs.declared.held.Held.{Held}
-use Rattle.partition_turns.specs.Held.{AtNode, Rests, StaysHeld, put_node}
-use Rattle.partition_turns.specs.Turns.{IsOfTier}
-use Rattle.partition_turns.specs.TurnsOfFollowers.{FollowOnRow}
-use Rattle.partition_seen.specs.declared.begun.Begun.{Begun}
-use Rattle.time_find.specs.declared.turn.Next.TheVariants.{Seek}
-use Rattle.partition_world.specs.declared.tier.Side.{Side}
-use Rattle.partition_world.specs.declared.tier.Tier.{Tier}
-use Rattle.partition_world.specs.declared.seat.Outcome.{Outcome}
-use Rattle.partition_world.specs.declared.seat.Outcome.TheVariants.{Answers}
-use Rattle.partition_world.specs.Tier.{AtSide}
+use Rattle.partition_commands.specs.declared.partition_state.Node.{Node}
+use Rattle.partition_commands.specs.declared.partition_state.PartitionState.{PartitionState}
+use Rattle.partition_commands.specs.Partition.{AtNode, Rests, KeepsPartition, put_node}
+use Rattle.partition_commands.specs.Turns.{IsOfTier}
+use Rattle.partition_commands.specs.TurnsOfFollowers.{FollowOnRow}
+use Rattle.laws_partition.specs.declared.start_snapshot.StartSnapshot.{StartSnapshot}
+use Rattle.time_find.specs.declared.turn.SearchStep.TheVariants.{Seek}
+use Rattle.partition_world.specs.declared.tier.BrokerTierState.{BrokerTierState}
+use Rattle.partition_world.specs.declared.tier.RemoteTier.{RemoteTier}
+use Rattle.partition_world.specs.declared.actor_state.Outcome.{Outcome}
+use Rattle.partition_world.specs.declared.actor_state.Outcome.TheVariants.{Answers}
+use Rattle.partition_world.specs.Tier.{AtBrokerTier}
 use Rattle.partition_world.specs.TurnsOfCopy.{ReadsQuietly}
 use Rattle.partition_world.specs.TurnsOfDate.{DateOnRow}
-use Rattle.partition_world.specs.Turns.{OwnRow, BeginRow, NotedRow}
+use Rattle.partition_world.specs.Turns.{OwnRow, BeginRow, ContinuedRow}
 
 -- a fact of what is there implies another
 pub some_more : {A : Type 0} (P Q : A → Type 0) (o : Option A) → ((x : A) → P x → Q x) → IsSomeAnd o P → IsSomeAnd o Q
@@ -75,43 +75,43 @@ has_read disk (Down settings d) new offset r e some up is ran = absurd (let no :
 has_read disk Away new offset r e some up is ran = absurd (let no : false ≡ true = up in cc)
 
 module _ {D S M : Type 0} (disk : DiskGhosts D) (store : StoreGhosts S) (meta : MetaGhosts M) where
-  begin_row : (h : Held D) (t : Tier S M) (b : ℕ) (x : Node D) (side : Side) (command : Command) (outcome : Outcome) (h' : Held D) (t' : Tier S M)
-      → (IsOfTier command → ⊥) → OwnRow disk h t b x command outcome h' t' → BeginRow disk store meta h t b x side command outcome h' t'
-  begin_row h t b x side Copy outcome h' t' own w = absurd (own tt)
-  begin_row h t b x side Trim outcome h' t' own w = absurd (own tt)
-  begin_row h t b x side Expire outcome h' t' own w = absurd (own tt)
-  begin_row h t b x side (Offset LatestTiered) outcome h' t' own w = absurd (own tt)
-  begin_row h t b x side (Offset (At ts)) outcome h' t' own w = absurd (own tt)
-  begin_row h t b x side other outcome h' t' own w = w
+  begin_row : (h : PartitionState D) (t : RemoteTier S M) (b : ℕ) (x : Node D) (broker_tier : BrokerTierState) (command : Command) (outcome : Outcome) (h' : PartitionState D) (t' : RemoteTier S M)
+      → (IsOfTier command → ⊥) → OwnRow disk h t b x command outcome h' t' → BeginRow disk store meta h t b x broker_tier command outcome h' t'
+  begin_row h t b x broker_tier Copy outcome h' t' own w = absurd (own tt)
+  begin_row h t b x broker_tier Trim outcome h' t' own w = absurd (own tt)
+  begin_row h t b x broker_tier Expire outcome h' t' own w = absurd (own tt)
+  begin_row h t b x broker_tier (Offset LatestTiered) outcome h' t' own w = absurd (own tt)
+  begin_row h t b x broker_tier (Offset (At ts)) outcome h' t' own w = absurd (own tt)
+  begin_row h t b x broker_tier other outcome h' t' own w = w
 
   -- the first turn of a command that the remote tier has no part in
-  pub begin_at : (h : Held D) (t : Tier S M) (b : ℕ) (command : Command) (outcome : Outcome) (h' : Held D) (t' : Tier S M) → b < length t.sides → (IsOfTier command → ⊥)
-      → AtNode h b (λ x. OwnRow disk h t b x command outcome h' t') → AtNode h b (λ x. AtSide t b (λ side. BeginRow disk store meta h t b x side command outcome h' t'))
+  pub begin_at : (h : PartitionState D) (t : RemoteTier S M) (b : ℕ) (command : Command) (outcome : Outcome) (h' : PartitionState D) (t' : RemoteTier S M) → b < length t.broker_tiers → (IsOfTier command → ⊥)
+      → AtNode h b (λ x. OwnRow disk h t b x command outcome h' t') → AtNode h b (λ x. AtBrokerTier t b (λ broker_tier. BeginRow disk store meta h t b x broker_tier command outcome h' t'))
   begin_at h t b command outcome h' t' lt own r =
-      some_more (λ x. OwnRow disk h t b x command outcome h' t') (λ x. AtSide t b (λ side. BeginRow disk store meta h t b x side command outcome h' t')) (slice_get h.nodes b)
-      (λ x row. there (λ side. BeginRow disk store meta h t b x side command outcome h' t') t.sides b lt (λ side. begin_row h t b x side command outcome h' t' own row)) r
+      some_more (λ x. OwnRow disk h t b x command outcome h' t') (λ x. AtBrokerTier t b (λ broker_tier. BeginRow disk store meta h t b x broker_tier command outcome h' t')) (slice_get h.nodes b)
+      (λ x row. there (λ broker_tier. BeginRow disk store meta h t b x broker_tier command outcome h' t') t.broker_tiers b lt (λ broker_tier. begin_row h t b x broker_tier command outcome h' t' own row)) r
 
   -- the second turn of a follow
-  pub follow_at : (p : PartitionId) (config : Config) (h : Held D) (t : Tier S M) (b : ℕ) (g : Begun) (command : Command) (limit : ℕ) (answer : Answer) (h' : Held D)
-      → command ≡ Follow limit → b < length t.sides → AtNode h b (λ x. FollowOnRow disk.content disk.control h b x g answer h')
-      → AtNode h b (λ x. AtSide t b (λ side. NotedRow disk store meta p config h t b x side g command (Answers answer) h' t))
+  pub follow_at : (p : PartitionId) (config : Config) (h : PartitionState D) (t : RemoteTier S M) (b : ℕ) (g : StartSnapshot) (command : Command) (limit : ℕ) (answer : Answer) (h' : PartitionState D)
+      → command ≡ Follow limit → b < length t.broker_tiers → AtNode h b (λ x. FollowOnRow disk.content disk.control h b x g answer h')
+      → AtNode h b (λ x. AtBrokerTier t b (λ broker_tier. ContinuedRow disk store meta p config h t b x broker_tier g command (Answers answer) h' t))
   follow_at p config h t b g command limit answer h' is lt r =
       some_more (λ x. FollowOnRow disk.content disk.control h b x g answer h')
-      (λ x. AtSide t b (λ side. NotedRow disk store meta p config h t b x side g command (Answers answer) h' t)) (slice_get h.nodes b)
-      (λ x row. there (λ side. NotedRow disk store meta p config h t b x side g command (Answers answer) h' t) t.sides b lt (λ side. rw is ((answer, refl, row), refl))) r
+      (λ x. AtBrokerTier t b (λ broker_tier. ContinuedRow disk store meta p config h t b x broker_tier g command (Answers answer) h' t)) (slice_get h.nodes b)
+      (λ x row. there (λ broker_tier. ContinuedRow disk store meta p config h t b x broker_tier g command (Answers answer) h' t) t.broker_tiers b lt (λ broker_tier. rw is ((answer, refl, row), refl))) r
 
   -- and of a search by timestamp
-  pub date_at : (p : PartitionId) (config : Config) (h : Held D) (t : Tier S M) (b : ℕ) (g : Begun) (command : Command) (which : Which) (ts : ℤ) (r : Result Outcome AllocError) (h' : Held D) (t' : Tier S M)
+  pub date_at : (p : PartitionId) (config : Config) (h : PartitionState D) (t : RemoteTier S M) (b : ℕ) (g : StartSnapshot) (command : Command) (which : Which) (ts : ℤ) (r : Result Outcome AllocError) (h' : PartitionState D) (t' : RemoteTier S M)
       → command ≡ Offset which → which ≡ At ts
-      → IfOk r (λ outcome. AtNode h b (λ x. AtSide t b (λ side. DateOnRow disk store meta p h t b x side g ts 0 Seek outcome h' t')))
-      → IfOk r (λ outcome. AtNode h b (λ x. AtSide t b (λ side. NotedRow disk store meta p config h t b x side g command outcome h' t')))
+      → IfOk r (λ outcome. AtNode h b (λ x. AtBrokerTier t b (λ broker_tier. DateOnRow disk store meta p h t b x broker_tier g ts 0 Seek outcome h' t')))
+      → IfOk r (λ outcome. AtNode h b (λ x. AtBrokerTier t b (λ broker_tier. ContinuedRow disk store meta p config h t b x broker_tier g command outcome h' t')))
   date_at p config h t b g command which ts r h' t' is at row = rw (is, at) row
 
-  read_rests : (h : Held D) (b : ℕ) (x y : Node D) (h' : Held D) → ReadsQuietly disk x y → h' ≡ put_node h b y → Rests disk.content disk.control h b x h'
+  read_rests : (h : PartitionState D) (b : ℕ) (x y : Node D) (h' : PartitionState D) → ReadsQuietly disk x y → h' ≡ put_node h b y → Rests disk.content disk.control h b x h'
   read_rests h b x y h' r is = (r.reads.kept, r.reads.stays, (r.reads.lasts, r.quiet), is ∙ ap (λ (k : Node D). put_node h b k) r.reads.after)
 
   -- where a broker's log alone was read, nothing that is seen has changed, and no call failed
-  pub read_stays : (h : Held D) (t : Tier S M) (b : ℕ) (h' : Held D) (t' : Tier S M) → AtNode h b (λ x. (y : Node D) × ReadsQuietly disk x y × (h' ≡ put_node h b y)) → t' ≡ t
-      → StaysHeld disk.content disk.control h h' × (t' ≡ t)
+  pub read_stays : (h : PartitionState D) (t : RemoteTier S M) (b : ℕ) (h' : PartitionState D) (t' : RemoteTier S M) → AtNode h b (λ x. (y : Node D) × ReadsQuietly disk x y × (h' ≡ put_node h b y)) → t' ≡ t
+      → KeepsPartition disk.content disk.control h h' × (t' ≡ t)
   read_stays h t b h' t' r same =
       (inr (b, some_more (λ x. (y : Node D) × ReadsQuietly disk x y × (h' ≡ put_node h b y)) (λ x. Rests disk.content disk.control h b x h') (slice_get h.nodes b) (λ x k. read_rests h b x k.0 h' k.1 k.2) r), same)

@@ -15,54 +15,54 @@ use Rattle.registry.specs.Calls.{when, is_stale, after_raise}
 use Rattle.remote_view.specs.Fold.{Seen as View, entry_of, fold}
 use Rattle.remote_view.specs.Lookup.{is_due, due}
 use Rattle.remote_view.proofs.Best.{Among, entry_found}
-use Rattle.expiry_task.specs.declared.turn.Doomed.{Doomed}
+use Rattle.expiry_task.specs.declared.turn.ExpiredSegment.{ExpiredSegment}
 use Rattle.expiry_task.specs.declared.turn.ExpiryTurn.{ExpiryTurn}
 use Rattle.expiry_task.specs.declared.turn.ExpiryTurn.TheVariants.{Goes as GoesOn, Ends}
-use Rattle.expiry_task.specs.declared.turn.Next.{Next}
-use Rattle.expiry_task.specs.declared.turn.Next.TheVariants.{Start}
+use Rattle.expiry_task.specs.declared.turn.DeletionStep.{DeletionStep}
+use Rattle.expiry_task.specs.declared.turn.DeletionStep.TheVariants.{Start}
 use Rattle.plain_log.specs.declared.answer.Answer.TheVariants.{LostLead, Kept, StaleEpoch, Raised}
 use Rattle.plain_log.specs.declared.command.Command.{Command}
 use Rattle.plain_log.specs.declared.command.Command.TheVariants.{Expire}
 use Rattle.plain_log.specs.declared.command.Order.{Order}
 use Rattle.plain_log.specs.declared.state.Role.TheVariants.{Leads}
 use Rattle.plain_log.specs.declared.state.State.{State}
-use Rattle.partition_seen.specs.declared.begun.Begun.{Begun}
-use Rattle.partition_seen.specs.declared.begun.Turned.TheVariants as turned
+use Rattle.laws_partition.specs.declared.start_snapshot.StartSnapshot.{StartSnapshot}
+use Rattle.laws_partition.specs.declared.start_snapshot.Turned.TheVariants as turned
 use Rattle.plain_log.specs.State.{epoch_in}
-use Rattle.partition_seen.specs.RowsOfTiers as seen_tiers
-use Rattle.partition_seen.specs.Seen as seen
-use Rattle.partition_seen.proofs.BoolTests.{some_of}
-use Rattle.partition_turns.specs.Held.{node_of, ShowsHeld}
-use Rattle.partition_turns.specs.Shown.{Refines}
-use Rattle.partition_turns.proofs.Shown.{leaves, some_at}
+use Rattle.laws_partition.specs.RowsOfTiers as seen_tiers
+use Rattle.laws_partition.specs.Seen as seen
+use Rattle.laws_partition.proofs.BoolTests.{some_of}
+use Rattle.partition_commands.specs.Partition.{node_of, ShowsPartition}
+use Rattle.partition_commands.specs.Shown.{Refines}
+use Rattle.partition_commands.proofs.Shown.{leaves, some_at}
 use Rattle.tier_safe.specs.Changes.{Moves, Dooms}
 use Rattle.tier_safe.specs.May.{IsChanged}
 use Rattle.tier_safe.specs.Moves.{MayDoom}
-use Rattle.tier_safe.specs.Scene.{Scene, Site, Work as WorkSeen, Free, Expires as ExpiresSeen}
+use Rattle.tier_safe.specs.Scene.{Scene, BrokerTierView, TierTask as InProgressIsSeen, Free, Expires as ExpiresSeen}
 use Rattle.tier_safe.specs.Turns.{Shows, expiry_work}
 use Rattle.tier_safe.proofs.Entries.{prefix_goes}
 use Rattle.tier_safe.proofs.Turning.{expiry_turns}
-use Rattle.partition_world.specs.declared.seat.Outcome.{Outcome}
-use Rattle.partition_world.specs.declared.seat.Outcome.TheVariants as outcomes
-use Rattle.partition_world.specs.declared.seat.Outcome.TheVariants.{Answers, Deletes}
-use Rattle.partition_world.specs.declared.seat.Work.{Work}
-use Rattle.partition_world.specs.declared.seat.Work.TheVariants.{Idle, Noted, Expires}
-use Rattle.partition_world.specs.declared.tier.Tier.{Tier}
-use Rattle.partition_world.specs.Seats.{doomed, deleting, expiry_outcome, seat_after, seat_seen, told_of}
+use Rattle.partition_world.specs.declared.actor_state.Outcome.{Outcome}
+use Rattle.partition_world.specs.declared.actor_state.Outcome.TheVariants as outcomes
+use Rattle.partition_world.specs.declared.actor_state.Outcome.TheVariants.{Answers, Deletes}
+use Rattle.partition_world.specs.declared.actor_state.InProgress.{InProgress}
+use Rattle.partition_world.specs.declared.actor_state.InProgress.TheVariants.{Idle, Noted, Expires}
+use Rattle.partition_world.specs.declared.tier.RemoteTier.{RemoteTier}
+use Rattle.partition_world.specs.ActorStates.{expired_segment, deleting, expiry_outcome, actor_state_after, actor_state_seen, told_of}
 use Rattle.partition_world.specs.Central.{IsCentral, begun_of, work_of}
 use Rattle.partition_world.specs.Turn.{IsTurn}
-use Rattle.partition_world.specs.TurnsOfCopy.{KeepsLead, teller_of}
+use Rattle.partition_world.specs.TurnsOfCopy.{KeepsLead, origin_of}
 use Rattle.partition_world.specs.TurnsOfExpiry.{ExpireFirstRow, RaiseRow, TakesUp, GoesOnDeletion, DeleteOnRow, expiry_tiers}
 use Rattle.partition_world.specs.Whole.{Whole}
 use Rattle.partition_world.proofs.CopyEnds.{keeps_seen, keeps_back}
 use Rattle.partition_world.proofs.ExpiryEnds.{expiry_ends, expiry_tells, end_row}
 use Rattle.partition_world.proofs.LineTells.{right_view}
-use Rattle.partition_world.proofs.Scenes.{Place, site_is, seated, shows_at, work_after, same_sides, answered_free}
-use Rattle.partition_world.proofs.Noting.{GoesAsNoted}
+use Rattle.partition_world.proofs.Scenes.{Place, tier_view_is, seated, shows_at, work_after, same_broker_tiers, answered_free}
+use Rattle.partition_world.proofs.Recording.{GoesAsRecorded}
 use Rattle.partition_world.proofs.Dating.{IsNoDate}
-use Rattle.partition_world.proofs.Sides.{set_same}
+use Rattle.partition_world.proofs.BrokerTierStates.{set_same}
 use Rattle.partition_world.proofs.TurnCentral.{here, after, shown, entered, stands, held_same, leads_first, silent, untold, unseen}
-use Rattle.partition_world.proofs.WorldSound.{doomed_seen, deleting_seen}
+use Rattle.partition_world.proofs.WorldSound.{expired_segment_seen, deleting_seen}
 
 -- the first entry that is due is one of the entries, and is due
 due_found : (start : ℕ) (es : List Entry) (e : Entry) → due start es ≡ Some e → Among e es × (is_due start e ≡ true)
@@ -95,17 +95,17 @@ granted_raise r e wanted start P w = by (not (is_stale r e) && nat_lt r.start wa
 module _ {D S M : Type 0} (disk : DiskGhosts D) (store : StoreGhosts S) (meta : MetaGhosts M) where
   -- a turn of an expiry, in its place
   module _ (opening : State) (w : Whole D S M) (a : ℕ) (outcome : Outcome) (w' : Whole D S M) (t : IsTurn disk store meta w a outcome w') (c : IsCentral disk store meta opening w)
-      (z : Place disk store meta opening w c t.place t.list t.seat t.order) (expires : t.order.command ≡ Expire) where
+      (z : Place disk store meta opening w c t.place t.list t.actor_state t.order) (expires : t.order.command ≡ Expire) where
     abbrev y : seen.Node
     y = node_of z.x z.s
 
-    abbrev its : Site
+    abbrev its : BrokerTierView
     its = here disk store meta opening w a outcome w' t c z Expire expires
 
-    abbrev next_scene : WorkSeen → Objects → List Note → View → Scene
+    abbrev next_scene : InProgressIsSeen → Objects → List Note → View → Scene
     next_scene = after disk store meta opening w a outcome w' t c z Expire expires
 
-    same_held : w'.held ≡ w.held → ShowsHeld disk.content w'.held c.partition
+    same_held : w'.held ≡ w.held → ShowsPartition disk.content w'.held c.partition
     same_held = held_same disk store meta opening w a outcome w' t c z Expire expires
 
     start_plain : c.central.plain.registry.start ≡ w.held.registry.start
@@ -114,35 +114,35 @@ module _ {D S M : Type 0} (disk : DiskGhosts D) (store : StoreGhosts S) (meta : 
     epoch_seen : c.partition.registry ≡ w.held.registry
     epoch_seen = z.sees.held.registry
 
-    pub expire_first : t.seat.work ≡ Idle → (o : Outcome) → outcome ≡ o → ExpireFirstRow meta w.held w.tier t.order.broker.0 z.x z.side o w'.tier → w'.held ≡ w.held → IsCentral disk store meta opening w'
+    pub expire_first : t.actor_state.work ≡ Idle → (o : Outcome) → outcome ≡ o → ExpireFirstRow meta w.held w.tier t.order.broker.0 z.x z.broker_tier o w'.tier → w'.held ≡ w.held → IsCentral disk store meta opening w'
     expire_first idle o is row same = leads_first disk store meta opening w a outcome w' t c z Expire expires idle (λ turn. refl) (λ g. refl) (λ turn r. r) o is row same
 
     -- the second turn
 
-    pub expire_lost : (g : Begun) → t.seat.work ≡ Noted g → outcome ≡ Answers LostLead → (KeepsLead z.x g → ⊥) → w'.tier ≡ w.tier → w'.held ≡ w.held → IsCentral disk store meta opening w'
-    expire_lost g noted is lost tier held =
-        stands disk store meta opening w a outcome w' t c z Expire expires (Noted g) noted LostLead is refl tier (same_held held) ((λ k. lost (keeps_back z.x z.s g k)), refl)
+    pub expire_lost : (g : StartSnapshot) → t.actor_state.work ≡ Noted g → outcome ≡ Answers LostLead → (KeepsLead z.x g → ⊥) → w'.tier ≡ w.tier → w'.held ≡ w.held → IsCentral disk store meta opening w'
+    expire_lost g recorded is lost tier held =
+        stands disk store meta opening w a outcome w' t c z Expire expires (Noted g) recorded LostLead is refl tier (same_held held) ((λ k. lost (keeps_back z.x z.s g k)), refl)
 
-    pub expire_kept : (g : Begun) → t.seat.work ≡ Noted g → outcome ≡ Answers Kept → KeepsLead z.x g → w'.tier ≡ w.tier → w'.held ≡ w.held → IsCentral disk store meta opening w'
-    expire_kept g noted is keeps tier held =
-        stands disk store meta opening w a outcome w' t c z Expire expires (Noted g) noted Kept is refl tier (same_held held) (keeps_seen z.x z.s g keeps, refl)
+    pub expire_kept : (g : StartSnapshot) → t.actor_state.work ≡ Noted g → outcome ≡ Answers Kept → KeepsLead z.x g → w'.tier ≡ w.tier → w'.held ≡ w.held → IsCentral disk store meta opening w'
+    expire_kept g recorded is keeps tier held =
+        stands disk store meta opening w a outcome w' t c z Expire expires (Noted g) recorded Kept is refl tier (same_held held) (keeps_seen z.x z.s g keeps, refl)
 
     -- another leads by now
-    pub expire_stale : (g : Begun) → t.seat.work ≡ Noted g → (n : ℕ) → outcome ≡ Answers (StaleEpoch n) → KeepsLead z.x g → w'.tier ≡ w.tier → (start : ℕ)
+    pub expire_stale : (g : StartSnapshot) → t.actor_state.work ≡ Noted g → (n : ℕ) → outcome ≡ Answers (StaleEpoch n) → KeepsLead z.x g → w'.tier ≡ w.tier → (start : ℕ)
         → RaiseRow w.held z.x.role start (StaleEpoch n) w'.held → IsCentral disk store meta opening w'
-    expire_stale g noted n is keeps tier start row =
+    expire_stale g recorded n is keeps tier start row =
         let k = stale_raise w.held.registry row.0 start n (λ (r : Registry). w'.held ≡ record w.held { registry = r }) row.2 in
         let epoch = ap (λ (r : Registry). r.epoch) epoch_seen in
         let old = k.0 in
         let role : g.role ≡ Leads row.0 = keeps.role ∙ row.1 in
-        stands disk store meta opening w a outcome w' t c z Expire expires (Noted g) noted (StaleEpoch n) is refl tier (same_held k.2) (
+        stands disk store meta opening w a outcome w' t c z Expire expires (Noted g) recorded (StaleEpoch n) is refl tier (same_held k.2) (
           some_at (λ (e : ℕ). e < c.partition.registry.epoch) (epoch_in g.role) row.0 (ap epoch_in role) (subst (λ (e : ℕ). row.0 < e) (sym epoch) old),
           k.1 ∙ sym epoch,
           (keeps_seen z.x z.s g keeps, refl),
         )
 
     -- the log start rises
-    pub raise_seen : (g : Begun) (start wanted : ℕ) → KeepsLead z.x g → RaiseRow w.held z.x.role wanted (Raised start) w'.held
+    pub raise_seen : (g : StartSnapshot) (start wanted : ℕ) → KeepsLead z.x g → RaiseRow w.held z.x.role wanted (Raised start) w'.held
         → Refines disk.content w'.held (λ h'. seen_tiers.ExpireOnRow c.partition y g (Raised start) h')
     raise_seen g start wanted keeps row =
         let P = λ (r : Registry). w'.held ≡ record w.held { registry = r } in
@@ -161,86 +161,86 @@ module _ {D S M : Type 0} (disk : DiskGhosts D) (store : StoreGhosts S) (meta : 
         )
 
     -- a due segment is taken up
-    doom_may : (g : Begun) (segment : Doomed) → t.seat.work ≡ Noted g → TakesUp w.partition w.held z.side segment w'.held → MayDoom t.place t.order.broker.0 segment c.scene c.central.plain
-    doom_may g segment noted k =
-        let view = c.tier.views t.order.broker.0 its (site_is disk store meta opening w c t.place t.list t.seat t.order z) in
-        let right = right_view c.scene.notes c.scene.desk z.side.view c.tier.notes view in
-        let found = due_found w.held.registry.start z.side.view.entries k.entry k.first in
-        let there : entry_of k.entry.id z.side.view.entries ≡ Some k.entry = entry_found z.side.view.entries k.entry right.distinct found.0 in
+    doom_may : (g : StartSnapshot) (segment : ExpiredSegment) → t.actor_state.work ≡ Noted g → TakesUp w.partition w.held z.broker_tier segment w'.held → MayDoom t.place t.order.broker.0 segment c.scene c.central.plain
+    doom_may g segment recorded k =
+        let view = c.tier.views t.order.broker.0 its (tier_view_is disk store meta opening w c t.place t.list t.actor_state t.order z) in
+        let right = right_view c.scene.notes c.scene.desk z.broker_tier.view c.tier.notes view in
+        let found = due_found w.held.registry.start z.broker_tier.view.entries k.entry k.first in
+        let there : entry_of k.entry.id z.broker_tier.view.entries ≡ Some k.entry = entry_found z.broker_tier.view.entries k.entry right.distinct found.0 in
         let before : entry_of k.entry.id (fold view.before) ≡ Some k.entry = subst (λ (v : View). entry_of k.entry.id v.entries ≡ Some k.entry) view.is there in
         let now = prefix_goes view.before c.scene.notes k.entry.id k.entry view.begins before in
         let part = c.tier.partition.told k.entry.id now.0 now.1 in
         record {
-          seat = seated disk store meta opening w c t.place t.list t.seat t.order z
-              ∙ ap (λ (u : Work). Some (work_of (Some t.order) u)) noted ∙ ap (λ (u : Command). Some (begun_of t.order.broker.0 g u)) expires;
-          site = its;
-          site_is = site_is disk store meta opening w c t.place t.list t.seat t.order z;
+          actor_state = seated disk store meta opening w c t.place t.list t.actor_state t.order z
+              ∙ ap (λ (u : InProgress). Some (work_of (Some t.order) u)) recorded ∙ ap (λ (u : Command). Some (begun_of t.order.broker.0 g u)) expires;
+          tier_view = its;
+          tier_view_is = tier_view_is disk store meta opening w c t.place t.list t.actor_state t.order z;
           entry = k.entry;
-          there = ap (λ id. entry_of id z.side.view.entries) k.id_is ∙ there;
+          there = ap (λ id. entry_of id z.broker_tier.view.entries) k.id_is ∙ there;
           due = ap (λ (n : ℕ). is_due n k.entry) start_plain ∙ found.1;
           partition = k.partition_is ∙ (sym c.shows_tier.partition ∙ (sym part ∙ now.2.partition));
         }
 
-    doom_changed : (g : Begun) (segment : Doomed) → t.seat.work ≡ Noted g → TakesUp w.partition w.held z.side segment w'.held
-        → IsChanged c.scene c.central.plain (next_scene (ExpiresSeen segment Start) c.scene.objects c.scene.notes z.side.view)
-    doom_changed g segment noted k = record {
+    doom_changed : (g : StartSnapshot) (segment : ExpiredSegment) → t.actor_state.work ≡ Noted g → TakesUp w.partition w.held z.broker_tier segment w'.held
+        → IsChanged c.scene c.central.plain (next_scene (ExpiresSeen segment Start) c.scene.objects c.scene.notes z.broker_tier.view)
+    doom_changed g segment recorded k = record {
       changes = Moves t.place (Dooms t.order.broker.0 segment) ∷ [];
-      may = (c.central.plain, (refl, doom_may g segment noted k), refl);
-      is = ap (λ (u : List Site). record c.scene { sites = u; desk = slice_set c.scene.desk t.place (ExpiresSeen segment Start) })
-          (sym (set_same c.scene.sites t.order.broker.0 its (site_is disk store meta opening w c t.place t.list t.seat t.order z)));
+      may = (c.central.plain, (refl, doom_may g segment recorded k), refl);
+      is = ap (λ (u : List BrokerTierView). record c.scene { tier_views = u; desk = slice_set c.scene.desk t.place (ExpiresSeen segment Start) })
+          (sym (set_same c.scene.tier_views t.order.broker.0 its (tier_view_is disk store meta opening w c t.place t.list t.actor_state t.order z)));
     }
 
-    pub dooms : (g : Begun) (segment : Doomed) → t.seat.work ≡ Noted g → outcome ≡ outcomes.Dooms segment → TakesUp w.partition w.held z.side segment w'.held → w'.tier ≡ w.tier
+    pub dooms : (g : StartSnapshot) (segment : ExpiredSegment) → t.actor_state.work ≡ Noted g → outcome ≡ outcomes.Dooms segment → TakesUp w.partition w.held z.broker_tier segment w'.held → w'.tier ≡ w.tier
         → IsCentral disk store meta opening w'
-    dooms g segment noted is k same =
-        silent disk store meta opening w a outcome w' t c z Expire expires (subst (GoesAsNoted t.seat.work) (sym is) tt) (subst IsNoDate (sym is) tt)
+    dooms g segment recorded is k same =
+        silent disk store meta opening w a outcome w' t c z Expire expires (subst (GoesAsRecorded t.actor_state.work) (sym is) tt) (subst IsNoDate (sym is) tt)
         (unseen disk store meta opening w a outcome w' t c z Expire expires
-        (ap (λ (o : Outcome). seat_seen (seat_after t.seat o)) is ∙ ap (λ (o : Option Begun). record { number = t.seat.number; begun = o }) (doomed_seen t.seat.work segment)))
-        (untold disk store meta opening w a outcome w' t c z Expire expires (ap (told_of t.list.actor t.seat.number t.order.command) is)) (same_held k.stays) _ (doom_changed g segment noted k)
-        (shown disk store meta opening w a outcome w' t c z Expire expires (ExpiresSeen segment Start) c.scene.objects c.scene.notes z.side.view
-        (ap (λ (u : Tier S M). u.sides) same ∙ same_sides disk store meta opening w c t.place t.list t.seat t.order z)
-        (ap (λ (u : Tier S M). (store.content u.store).tells) same, ap (λ (u : Tier S M). (meta.content u.meta).tells) same)
-        (c.shows_tier.objects ∙ sym (ap (λ (u : Tier S M). (store.content u.store).objects) same)) (c.shows_tier.notes ∙ sym (ap (λ (u : Tier S M). (meta.content u.meta).notes) same))
-        (ap (λ (o : Outcome). work_after disk store meta opening w c t.place t.list t.seat t.order z o) is
-        ∙ (ap (λ (u : Work). work_of (slice_get t.list.orders t.seat.number) (doomed u segment)) noted ∙ ap (λ (o : Option Order). work_of o (Expires g segment Start)) z.next)))
+        (ap (λ (o : Outcome). actor_state_seen (actor_state_after t.actor_state o)) is ∙ ap (λ (o : Option StartSnapshot). record { number = t.actor_state.number; snapshot = o }) (expired_segment_seen t.actor_state.work segment)))
+        (untold disk store meta opening w a outcome w' t c z Expire expires (ap (told_of t.list.actor t.actor_state.number t.order.command) is)) (same_held k.stays) _ (doom_changed g segment recorded k)
+        (shown disk store meta opening w a outcome w' t c z Expire expires (ExpiresSeen segment Start) c.scene.objects c.scene.notes z.broker_tier.view
+        (ap (λ (u : RemoteTier S M). u.broker_tiers) same ∙ same_broker_tiers disk store meta opening w c t.place t.list t.actor_state t.order z)
+        (ap (λ (u : RemoteTier S M). (store.content u.store).is_observable) same, ap (λ (u : RemoteTier S M). (meta.content u.meta).is_observable) same)
+        (c.shows_tier.objects ∙ sym (ap (λ (u : RemoteTier S M). (store.content u.store).objects) same)) (c.shows_tier.notes ∙ sym (ap (λ (u : RemoteTier S M). (meta.content u.meta).notes) same))
+        (ap (λ (o : Outcome). work_after disk store meta opening w c t.place t.list t.actor_state t.order z o) is
+        ∙ (ap (λ (u : InProgress). work_of (slice_get t.list.orders t.actor_state.number) (expired_segment u segment)) recorded ∙ ap (λ (o : Option Order). work_of o (Expires g segment Start)) z.next)))
 
     -- a later turn
-    deletes_on : (g : Begun) (segment : Doomed) (next : Next) → t.seat.work ≡ Expires g segment next → KeepsLead z.x g → (turn : ExpiryTurn) → outcome ≡ expiry_outcome turn
+    deletes_on : (g : StartSnapshot) (segment : ExpiredSegment) (next : DeletionStep) → t.actor_state.work ≡ Expires g segment next → KeepsLead z.x g → (turn : ExpiryTurn) → outcome ≡ expiry_outcome turn
         → GoesOnDeletion store meta w.held w.tier t.order.broker.0 segment next turn w'.tier → w'.held ≡ w.held → IsCentral disk store meta opening w'
     deletes_on g segment next works keeps turn is goes same = by turn is goes changed
       where
-        at : Shows c.scene t.place t.order.broker.0 its (ExpiresSeen segment next) (store.content w.tier.store) (meta.content w.tier.meta) z.side.view
-        at = subst (λ (k : WorkSeen). Shows c.scene t.place t.order.broker.0 its k (store.content w.tier.store) (meta.content w.tier.meta) z.side.view) (ap (work_of (Some t.order)) works)
-            (shows_at disk store meta opening w c t.place t.list t.seat t.order z)
+        at : Shows c.scene t.place t.order.broker.0 its (ExpiresSeen segment next) (store.content w.tier.store) (meta.content w.tier.meta) z.broker_tier.view
+        at = subst (λ (k : InProgressIsSeen). Shows c.scene t.place t.order.broker.0 its k (store.content w.tier.store) (meta.content w.tier.meta) z.broker_tier.view) (ap (work_of (Some t.order)) works)
+            (shows_at disk store meta opening w c t.place t.list t.actor_state t.order z)
 
-        sides : w'.tier.sides ≡ slice_set w.tier.sides t.order.broker.0 (record z.side { view = z.side.view })
-        sides = ap (λ (u : Tier S M). u.sides) goes.after ∙ same_sides disk store meta opening w c t.place t.list t.seat t.order z
+        broker_tiers : w'.tier.broker_tiers ≡ slice_set w.tier.broker_tiers t.order.broker.0 (record z.broker_tier { view = z.broker_tier.view })
+        broker_tiers = ap (λ (u : RemoteTier S M). u.broker_tiers) goes.after ∙ same_broker_tiers disk store meta opening w c t.place t.list t.actor_state t.order z
 
-        changed : IsChanged c.scene c.central.plain (next_scene (expiry_work segment turn) (store.content w'.tier.store).objects (meta.content w'.tier.meta).notes z.side.view)
-        changed = expiry_turns store.content store.control meta.content meta.control segment (teller_of w.held t.order.broker.0) next (Ok turn) (expiry_tiers w.tier) (expiry_tiers w'.tier)
+        changed : IsChanged c.scene c.central.plain (next_scene (expiry_work segment turn) (store.content w'.tier.store).objects (meta.content w'.tier.meta).notes z.broker_tier.view)
+        changed = expiry_turns store.content store.control meta.content meta.control segment (origin_of w.held t.order.broker.0) next (Ok turn) (expiry_tiers w.tier) (expiry_tiers w'.tier)
             c.scene c.central.plain t.place t.order.broker.0 its goes.row at c.tier
 
         by : (turn : ExpiryTurn) → outcome ≡ expiry_outcome turn → (goes : GoesOnDeletion store meta w.held w.tier t.order.broker.0 segment next turn w'.tier)
-            → IsChanged c.scene c.central.plain (next_scene (expiry_work segment turn) (store.content w'.tier.store).objects (meta.content w'.tier.meta).notes z.side.view) → IsCentral disk store meta opening w'
+            → IsChanged c.scene c.central.plain (next_scene (expiry_work segment turn) (store.content w'.tier.store).objects (meta.content w'.tier.meta).notes z.broker_tier.view) → IsCentral disk store meta opening w'
         by (Ends answer) is goes k =
-            entered disk store meta opening w a outcome w' t c z Expire expires (Expires g segment next) works (turned.Answers answer) (next_scene Free (store.content w'.tier.store).objects (meta.content w'.tier.meta).notes z.side.view) is refl (same_held same)
-            (end_row c.partition y g answer (expiry_ends store meta segment (teller_of w.held t.order.broker.0) next answer (expiry_tiers w.tier) (expiry_tiers w'.tier) goes.row) (keeps_seen z.x z.s g keeps))
+            entered disk store meta opening w a outcome w' t c z Expire expires (Expires g segment next) works (turned.Answers answer) (next_scene Free (store.content w'.tier.store).objects (meta.content w'.tier.meta).notes z.broker_tier.view) is refl (same_held same)
+            (end_row c.partition y g answer (expiry_ends store meta segment (origin_of w.held t.order.broker.0) next answer (expiry_tiers w.tier) (expiry_tiers w'.tier) goes.row) (keeps_seen z.x z.s g keeps))
             k
-            (shown disk store meta opening w a outcome w' t c z Expire expires Free (store.content w'.tier.store).objects (meta.content w'.tier.meta).notes z.side.view sides
-            (expiry_tells store meta segment (teller_of w.held t.order.broker.0) next (Ends answer) (expiry_tiers w.tier) (expiry_tiers w'.tier) goes.row) refl refl
-            (answered_free disk store meta opening w c t.place t.list t.seat t.order z outcome answer is))
+            (shown disk store meta opening w a outcome w' t c z Expire expires Free (store.content w'.tier.store).objects (meta.content w'.tier.meta).notes z.broker_tier.view broker_tiers
+            (expiry_tells store meta segment (origin_of w.held t.order.broker.0) next (Ends answer) (expiry_tiers w.tier) (expiry_tiers w'.tier) goes.row) refl refl
+            (answered_free disk store meta opening w c t.place t.list t.actor_state t.order z outcome answer is))
         by (GoesOn further) is goes k =
-            silent disk store meta opening w a outcome w' t c z Expire expires (subst (GoesAsNoted t.seat.work) (sym is) tt) (subst IsNoDate (sym is) tt)
+            silent disk store meta opening w a outcome w' t c z Expire expires (subst (GoesAsRecorded t.actor_state.work) (sym is) tt) (subst IsNoDate (sym is) tt)
             (unseen disk store meta opening w a outcome w' t c z Expire expires
-            (ap (λ (o : Outcome). seat_seen (seat_after t.seat o)) is ∙ ap (λ (o : Option Begun). record { number = t.seat.number; begun = o }) (deleting_seen t.seat.work further)))
-            (untold disk store meta opening w a outcome w' t c z Expire expires (ap (told_of t.list.actor t.seat.number t.order.command) is)) (same_held same)
-            (next_scene (ExpiresSeen segment further) (store.content w'.tier.store).objects (meta.content w'.tier.meta).notes z.side.view) k
-            (shown disk store meta opening w a outcome w' t c z Expire expires (ExpiresSeen segment further) (store.content w'.tier.store).objects (meta.content w'.tier.meta).notes z.side.view sides
-            (expiry_tells store meta segment (teller_of w.held t.order.broker.0) next (GoesOn further) (expiry_tiers w.tier) (expiry_tiers w'.tier) goes.row) refl refl
-            (ap (λ (o : Outcome). work_after disk store meta opening w c t.place t.list t.seat t.order z o) is
-            ∙ (ap (λ (u : Work). work_of (slice_get t.list.orders t.seat.number) (deleting u further)) works ∙ ap (λ (o : Option Order). work_of o (Expires g segment further)) z.next)))
+            (ap (λ (o : Outcome). actor_state_seen (actor_state_after t.actor_state o)) is ∙ ap (λ (o : Option StartSnapshot). record { number = t.actor_state.number; snapshot = o }) (deleting_seen t.actor_state.work further)))
+            (untold disk store meta opening w a outcome w' t c z Expire expires (ap (told_of t.list.actor t.actor_state.number t.order.command) is)) (same_held same)
+            (next_scene (ExpiresSeen segment further) (store.content w'.tier.store).objects (meta.content w'.tier.meta).notes z.broker_tier.view) k
+            (shown disk store meta opening w a outcome w' t c z Expire expires (ExpiresSeen segment further) (store.content w'.tier.store).objects (meta.content w'.tier.meta).notes z.broker_tier.view broker_tiers
+            (expiry_tells store meta segment (origin_of w.held t.order.broker.0) next (GoesOn further) (expiry_tiers w.tier) (expiry_tiers w'.tier) goes.row) refl refl
+            (ap (λ (o : Outcome). work_after disk store meta opening w c t.place t.list t.actor_state t.order z o) is
+            ∙ (ap (λ (u : InProgress). work_of (slice_get t.list.orders t.actor_state.number) (deleting u further)) works ∙ ap (λ (o : Option Order). work_of o (Expires g segment further)) z.next)))
 
-    pub deletes : (g : Begun) (segment : Doomed) (next : Next) → t.seat.work ≡ Expires g segment next → DeleteOnRow store meta w.held w.tier t.order.broker.0 z.x g segment next outcome w'.tier
+    pub deletes : (g : StartSnapshot) (segment : ExpiredSegment) (next : DeletionStep) → t.actor_state.work ≡ Expires g segment next → DeleteOnRow store meta w.held w.tier t.order.broker.0 z.x g segment next outcome w'.tier
         → w'.held ≡ w.held → IsCentral disk store meta opening w'
     deletes g segment next works (inl lost) same =
         stands disk store meta opening w a outcome w' t c z Expire expires (Expires g segment next) works LostLead lost.1 refl lost.2 (same_held same) ((λ k. lost.0 (keeps_back z.x z.s g k)), refl)

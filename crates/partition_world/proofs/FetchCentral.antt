@@ -9,8 +9,8 @@ use Rattle.log_terms.specs.Log.{end_of}
 use Rattle.registry.specs.declared.registry.Registry.{Registry}
 use Rattle.tier_fetch.specs.declared.turn.FetchTurn.{FetchTurn}
 use Rattle.tier_fetch.specs.declared.turn.FetchTurn.TheVariants.{Goes as GoesOn, Ends}
-use Rattle.tier_fetch.specs.declared.turn.Next.{Next}
-use Rattle.tier_fetch.specs.declared.turn.Next.TheVariants.{Refresh}
+use Rattle.tier_fetch.specs.declared.turn.FetchStep.{FetchStep}
+use Rattle.tier_fetch.specs.declared.turn.FetchStep.TheVariants.{Refresh}
 use Rattle.plain_log.specs.declared.answer.Answer.{Answer}
 use Rattle.plain_log.specs.declared.answer.Answer.TheVariants.{MetaFault, StoreFault, Damaged, Run, Stopped, NotLeader, OutOfRange, Empty}
 use Rattle.plain_log.specs.declared.command.Command.TheVariants.{Fetch}
@@ -21,41 +21,41 @@ use Rattle.plain_log.specs.declared.state.State.{State}
 use Rattle.plain_log.specs.State.{leading, leads}
 use Rattle.plain_log.specs.Safe.{is_leaders}
 use Rattle.broker_log.specs.Seen as log
-use Rattle.partition_seen.specs.declared.begun.Begun.{Begun}
-use Rattle.partition_seen.specs.declared.begun.Turned.{Turned}
-use Rattle.partition_seen.specs.declared.begun.Turned.TheVariants as turned
-use Rattle.partition_seen.specs.Held.{broker_of}
-use Rattle.partition_seen.specs.Rows as seen_rows
-use Rattle.partition_seen.specs.RowsOfLog as seen_log
-use Rattle.partition_seen.specs.RowsOfTiers as seen_tiers
-use Rattle.partition_seen.specs.Seen as seen
-use Rattle.partition_seen.proofs.SeatLaw.{going}
-use Rattle.partition_seen.proofs.Standing.{broker_at, map_get}
-use Rattle.partition_tier.specs.Sites.{greatest}
-use Rattle.partition_tier.specs.Turns.{may_raise}
-use Rattle.partition_turns.specs.declared.held.Node.{Node}
-use Rattle.partition_turns.specs.Held.{is_up, local_of, line_of, node_of, ShowsHeld}
-use Rattle.partition_turns.specs.Held as disk_held
-use Rattle.partition_turns.specs.TurnsOfFetch.{FetchTurn as FirstTurn}
-use Rattle.partition_turns.specs.TurnsOfLog.{IsInLog}
-use Rattle.partition_turns.proofs.OwnRefined.{notes_shown}
-use Rattle.partition_turns.proofs.Shown.{end_shown, line_shown, local_shown}
+use Rattle.laws_partition.specs.declared.start_snapshot.StartSnapshot.{StartSnapshot}
+use Rattle.laws_partition.specs.declared.start_snapshot.Turned.{Turned}
+use Rattle.laws_partition.specs.declared.start_snapshot.Turned.TheVariants as turned
+use Rattle.laws_partition.specs.Partition.{broker_of}
+use Rattle.laws_partition.specs.Rows as seen_rows
+use Rattle.laws_partition.specs.RowsOfLog as seen_log
+use Rattle.laws_partition.specs.RowsOfTiers as seen_tiers
+use Rattle.laws_partition.specs.Seen as seen
+use Rattle.laws_partition.proofs.ProgressLaw.{going}
+use Rattle.laws_partition.proofs.Standing.{broker_at, map_get}
+use Rattle.laws_tier_turns.specs.BrokerTiers.{greatest}
+use Rattle.laws_tier_turns.specs.Turns.{may_raise}
+use Rattle.partition_commands.specs.declared.partition_state.Node.{Node}
+use Rattle.partition_commands.specs.Partition.{is_up, local_of, line_of, node_of, ShowsPartition}
+use Rattle.partition_commands.specs.Partition as disk_held
+use Rattle.partition_commands.specs.TurnsOfFetch.{FetchTurn as FirstTurn}
+use Rattle.partition_commands.specs.TurnsOfLog.{IsInLog}
+use Rattle.partition_commands.proofs.OwnRefined.{notes_shown}
+use Rattle.partition_commands.proofs.Shown.{end_shown, line_shown, local_shown}
 use Rattle.tier_safe.specs.Fetches.{StillLeads}
 use Rattle.tier_safe.specs.May.{IsChanged}
 use Rattle.tier_safe.specs.Reads.{TellsEpochs}
-use Rattle.tier_safe.specs.Scene.{Scene, Site, Work as WorkSeen, Free, Seeks as SeeksSeen}
+use Rattle.tier_safe.specs.Scene.{Scene, BrokerTierView, TierTask as InProgressIsSeen, Free, Seeks as SeeksSeen}
 use Rattle.tier_safe.specs.Turns.{Shows}
-use Rattle.tier_serves.specs.Seeking.{sought_of, fetch_work, IsAtTurn, after_fetch}
-use Rattle.tier_serves.proofs.Asking.{ask_changes}
-use Rattle.tier_serves.proofs.Turning.{fetch_turns}
-use Rattle.tier_serves.proofs.Running.{runs_are_logs}
-use Rattle.partition_world.specs.declared.seat.Outcome.{Outcome}
-use Rattle.partition_world.specs.declared.seat.Outcome.TheVariants.{Answers, Begins, Seeks}
-use Rattle.partition_world.specs.declared.seat.Work.{Work}
-use Rattle.partition_world.specs.declared.seat.Work.TheVariants as works
-use Rattle.partition_world.specs.declared.seat.Work.TheVariants.{Idle, Noted}
-use Rattle.partition_world.specs.declared.tier.Tier.{Tier}
-use Rattle.partition_world.specs.Seats.{noted_in, sought, seat_after, seat_seen, told_of}
+use Rattle.laws_tier_fetch.specs.Seeking.{sought_of, fetch_work, IsAtTurn, after_fetch}
+use Rattle.laws_tier_fetch.proofs.Asking.{ask_changes}
+use Rattle.laws_tier_fetch.proofs.Turning.{fetch_turns}
+use Rattle.laws_tier_fetch.proofs.Running.{runs_are_logs}
+use Rattle.partition_world.specs.declared.actor_state.Outcome.{Outcome}
+use Rattle.partition_world.specs.declared.actor_state.Outcome.TheVariants.{Answers, Begins, Seeks}
+use Rattle.partition_world.specs.declared.actor_state.InProgress.{InProgress}
+use Rattle.partition_world.specs.declared.actor_state.InProgress.TheVariants as works
+use Rattle.partition_world.specs.declared.actor_state.InProgress.TheVariants.{Idle, Noted}
+use Rattle.partition_world.specs.declared.tier.RemoteTier.{RemoteTier}
+use Rattle.partition_world.specs.ActorStates.{recorded_in, sought, actor_state_after, actor_state_seen, told_of}
 use Rattle.partition_world.specs.Central.{IsCentral, ShowsTier, seeks_of, work_of}
 use Rattle.partition_world.specs.Turn.{IsTurn}
 use Rattle.partition_world.specs.TurnsOfFetch.{HasStopped, Serves, wanted_of, fetch_tiers, GoesOnFetch, FetchOnRow}
@@ -64,10 +64,10 @@ use Rattle.partition_world.proofs.CopyEnds.{keeps_seen}
 use Rattle.partition_world.proofs.Entered.{both_of}
 use Rattle.partition_world.proofs.FetchEnds.{MayEnd, fetch_ends, fetch_tells}
 use Rattle.partition_world.proofs.LineTells.{line_tells}
-use Rattle.partition_world.proofs.Scenes.{Place, site, site_is, seated, shows_at, scene_with, shows_with, work_after, answered_free, few_now}
-use Rattle.partition_world.proofs.Noting.{GoesAsNoted}
+use Rattle.partition_world.proofs.Scenes.{Place, tier_view, tier_view_is, seated, shows_at, scene_with, shows_with, work_after, answered_free, few_now}
+use Rattle.partition_world.proofs.Recording.{GoesAsRecorded}
 use Rattle.partition_world.proofs.Dating.{IsNoDate}
-use Rattle.partition_world.proofs.Sides.{set_same}
+use Rattle.partition_world.proofs.BrokerTierStates.{set_same}
 use Rattle.partition_world.proofs.TurnCentral.{after, shown, entered, stands, held_same, begun_shows, silent, untold, unseen}
 
 -- the epoch that a leader leads
@@ -82,24 +82,24 @@ above_local start (Some back) = omega arith
 
 module _ {D : Type 0} where
   -- what a turn finds of a broker holds as it is seen
-  pub stopped_seen : (x : Node D) (s : log.Seen) (g : Begun) → HasStopped x g → (g.stops ≡ x.stops) × (is_up x ≡ true) → ⊥
+  pub stopped_seen : (x : Node D) (s : log.Seen) (g : StartSnapshot) → HasStopped x g → (g.stops ≡ x.stops) × (is_up x ≡ true) → ⊥
   stopped_seen x s g (inl differs) k = differs k.0
   stopped_seen x s g (inr down) k = let up = k.1 in absurd (cc (down, up))
 
 module _ {D S M : Type 0} (disk : DiskGhosts D) (store : StoreGhosts S) (meta : MetaGhosts M) where
   -- a turn of a fetch, in its place
   module _ (opening : State) (w : Whole D S M) (a : ℕ) (outcome : Outcome) (w' : Whole D S M) (t : IsTurn disk store meta w a outcome w') (c : IsCentral disk store meta opening w)
-      (z : Place disk store meta opening w c t.place t.list t.seat t.order) (offset limit : ℕ) (fetches : t.order.command ≡ Fetch offset limit) where
+      (z : Place disk store meta opening w c t.place t.list t.actor_state t.order) (offset limit : ℕ) (fetches : t.order.command ≡ Fetch offset limit) where
     abbrev y : seen.Node
     y = node_of z.x z.s
 
-    abbrev here : Site
-    here = site disk store meta opening w c t.place t.list t.seat t.order z
+    abbrev here : BrokerTierView
+    here = tier_view disk store meta opening w c t.place t.list t.actor_state t.order z
 
     abbrev plain : State
     plain = c.central.plain
 
-    same_held : w'.held ≡ w.held → ShowsHeld disk.content w'.held c.partition
+    same_held : w'.held ≡ w.held → ShowsPartition disk.content w'.held c.partition
     same_held = held_same disk store meta opening w a outcome w' t c z (Fetch offset limit) fetches
 
     start_seen : c.partition.registry.start ≡ w.held.registry.start
@@ -118,33 +118,33 @@ module _ {D S M : Type 0} (disk : DiskGhosts D) (store : StoreGhosts S) (meta : 
         let high = k.1 in
         (omega (arith, low, start_seen), omega (arith, high, end))
 
-    -- the first turn: what its seat shows then, and the scene with it
+    -- the first turn: what its state shows then, and the scene with it
 
-    abbrev asked_work : Begun → WorkSeen
+    abbrev asked_work : StartSnapshot → InProgressIsSeen
     asked_work g = SeeksSeen (sought_of t.order.broker.0 g.stops (unwrap_or (leading g.role) 0) offset Refresh)
 
-    abbrev asked_scene : Begun → Scene
-    asked_scene g = after disk store meta opening w a outcome w' t c z (Fetch offset limit) fetches (asked_work g) c.scene.objects c.scene.notes z.side.view
+    abbrev asked_scene : StartSnapshot → Scene
+    asked_scene g = after disk store meta opening w a outcome w' t c z (Fetch offset limit) fetches (asked_work g) c.scene.objects c.scene.notes z.broker_tier.view
 
     -- asking is a change of the tier
-    asked : t.seat.work ≡ Idle → (g : Begun) → seen_log.Notes c.partition y g → is_up z.x ≡ true → leads z.x.role ≡ true → offset < local_of z.x → IsChanged c.scene plain (asked_scene g)
+    asked : t.actor_state.work ≡ Idle → (g : StartSnapshot) → seen_log.Notes c.partition y g → is_up z.x ≡ true → leads z.x.role ≡ true → offset < local_of z.x → IsChanged c.scene plain (asked_scene g)
     asked idle g notes up is_leader below =
         let local : local_of z.x ≡ z.s.local = local_shown disk.content z.x z.s up z.sees.shows in
         let above = above_local z.s.local z.s.loose in
         let free : slice_get c.scene.desk t.place ≡ Some Free =
-        seated disk store meta opening w c t.place t.list t.seat t.order z ∙ ap (λ (k : Work). Some (work_of (Some t.order) k)) idle in
+        seated disk store meta opening w c t.place t.list t.actor_state t.order z ∙ ap (λ (k : InProgress). Some (work_of (Some t.order) k)) idle in
         let leads_on : StillLeads (sought_of t.order.broker.0 g.stops (unwrap_or (leading g.role) 0) offset Refresh) (broker_of y) =
         record { stops = sym notes.stops; role = sym notes.role ∙ led_epoch g.role (ap leads notes.role ∙ is_leader) } in
         let k = ask_changes c.scene plain t.place t.order.broker.0 here (broker_of y) g.stops (unwrap_or (leading g.role) 0) offset c.central.safe free
-        (site_is disk store meta opening w c t.place t.list t.seat t.order z) broker leads_on (omega (arith, local, below, above)) in
+        (tier_view_is disk store meta opening w c t.place t.list t.actor_state t.order z) broker leads_on (omega (arith, local, below, above)) in
         record {
           changes = k.changes;
           may = k.may;
-          is = k.is ∙ ap (λ (u : List Site). record c.scene { sites = u; desk = slice_set c.scene.desk t.place (asked_work g) })
-              (sym (set_same c.scene.sites t.order.broker.0 here (site_is disk store meta opening w c t.place t.list t.seat t.order z)));
+          is = k.is ∙ ap (λ (u : List BrokerTierView). record c.scene { tier_views = u; desk = slice_set c.scene.desk t.place (asked_work g) })
+              (sym (set_same c.scene.tier_views t.order.broker.0 here (tier_view_is disk store meta opening w c t.place t.list t.actor_state t.order z)));
         }
 
-    asks : t.seat.work ≡ Idle → (g : Begun) → outcome ≡ Begins g → FirstTurn disk.content disk.control w.held t.order.broker.0 z.x offset limit (turned.Begins g) w'.held → w'.tier ≡ w.tier
+    asks : t.actor_state.work ≡ Idle → (g : StartSnapshot) → outcome ≡ Begins g → FirstTurn disk.content disk.control w.held t.order.broker.0 z.x offset limit (turned.Begins g) w'.held → w'.tier ≡ w.tier
         → IsCentral disk store meta opening w'
     asks idle g is row same =
         let up = row.0 in
@@ -153,19 +153,19 @@ module _ {D S M : Type 0} (disk : DiskGhosts D) (store : StoreGhosts S) (meta : 
         let notes = notes_shown disk.content disk.control w.held c.partition t.order.broker.0 z.x z.s g z.sees up row.5 in
         entered disk store meta opening w a outcome w' t c z (Fetch offset limit) fetches Idle idle (turned.Begins g) (asked_scene g) is refl (same_held row.6)
         (up, row.1, in_log up row.2, row.3, omega (arith, local, below), notes, refl) (asked idle g notes up row.1 below)
-        (shown disk store meta opening w a outcome w' t c z (Fetch offset limit) fetches (asked_work g) c.scene.objects c.scene.notes z.side.view
-        (ap (λ (k : Tier S M). k.sides) same ∙ sym (set_same w.tier.sides t.order.broker.0 z.side z.side_at))
-        (ap (λ (k : Tier S M). (store.content k.store).tells) same, ap (λ (k : Tier S M). (meta.content k.meta).tells) same)
-        (c.shows_tier.objects ∙ sym (ap (λ (k : Tier S M). (store.content k.store).objects) same)) (c.shows_tier.notes ∙ sym (ap (λ (k : Tier S M). (meta.content k.meta).notes) same))
+        (shown disk store meta opening w a outcome w' t c z (Fetch offset limit) fetches (asked_work g) c.scene.objects c.scene.notes z.broker_tier.view
+        (ap (λ (k : RemoteTier S M). k.broker_tiers) same ∙ sym (set_same w.tier.broker_tiers t.order.broker.0 z.broker_tier z.broker_tier_at))
+        (ap (λ (k : RemoteTier S M). (store.content k.store).is_observable) same, ap (λ (k : RemoteTier S M). (meta.content k.meta).is_observable) same)
+        (c.shows_tier.objects ∙ sym (ap (λ (k : RemoteTier S M). (store.content k.store).objects) same)) (c.shows_tier.notes ∙ sym (ap (λ (k : RemoteTier S M). (meta.content k.meta).notes) same))
         (begun_shows disk store meta opening w a outcome w' t c z (Fetch offset limit) fetches g is))
 
-    pub fetch_asks : t.seat.work ≡ Idle → (g : Begun) → outcome ≡ Begins g → FirstTurn disk.content disk.control w.held t.order.broker.0 z.x offset limit (turned.Begins g) w'.held → w'.tier ≡ w.tier
+    pub fetch_asks : t.actor_state.work ≡ Idle → (g : StartSnapshot) → outcome ≡ Begins g → FirstTurn disk.content disk.control w.held t.order.broker.0 z.x offset limit (turned.Begins g) w'.held → w'.tier ≡ w.tier
         → IsCentral disk store meta opening w'
     fetch_asks idle g is row same = asks idle g is row same
 
-    -- a later turn, of a seat that keeps this
-    module _ (work : Work) (keeps : t.seat.work ≡ work) (g : Begun) (noted : noted_in work ≡ Some g) (next : Next)
-        (seeks : work_of (Some t.order) work ≡ seeks_of t.order.broker.0 g next t.order.command) (moved : (later : Next) → sought work later ≡ works.Seeks g later) where
+    -- a later turn, of an actor's state that keeps this
+    module _ (work : InProgress) (keeps : t.actor_state.work ≡ work) (g : StartSnapshot) (recorded : recorded_in work ≡ Some g) (next : FetchStep)
+        (seeks : work_of (Some t.order) work ≡ seeks_of t.order.broker.0 g next t.order.command) (moved : (later : FetchStep) → sought work later ≡ works.Seeks g later) where
       abbrev epoch : ℕ
       epoch = unwrap_or (leading g.role) 0
 
@@ -173,11 +173,11 @@ module _ {D S M : Type 0} (disk : DiskGhosts D) (store : StoreGhosts S) (meta : 
       abbrev SeenOn : Answer → Type 0
       SeenOn answer = seen_tiers.FetchOnRow c.partition y offset limit g answer c.partition
 
-      lift : (answer : Answer) → SeenOn answer → seen_rows.Row c.partition t.order.broker.0 y (noted_in work) (Fetch offset limit) (turned.Answers answer) c.partition
-      lift answer row = subst (λ (o : Option Begun). seen_rows.Row c.partition t.order.broker.0 y o (Fetch offset limit) (turned.Answers answer) c.partition) (sym noted) row
+      lift : (answer : Answer) → SeenOn answer → seen_rows.Row c.partition t.order.broker.0 y (recorded_in work) (Fetch offset limit) (turned.Answers answer) c.partition
+      lift answer row = subst (λ (o : Option StartSnapshot). seen_rows.Row c.partition t.order.broker.0 y o (Fetch offset limit) (turned.Answers answer) c.partition) (sym recorded) row
 
-      low : (turn : Turned) → may_raise (noted_in work) (Fetch offset limit) turn ≡ false
-      low turn = ap (λ (o : Option Begun). may_raise o (Fetch offset limit) turn) noted
+      low : (turn : Turned) → may_raise (recorded_in work) (Fetch offset limit) turn ≡ false
+      low turn = ap (λ (o : Option StartSnapshot). may_raise o (Fetch offset limit) turn) recorded
 
       -- an answer that leaves all as it was
       answers : (answer : Answer) → outcome ≡ Answers answer → SeenOn answer → w'.tier ≡ w.tier → w'.held ≡ w.held → IsCentral disk store meta opening w'
@@ -188,18 +188,18 @@ module _ {D S M : Type 0} (disk : DiskGhosts D) (store : StoreGhosts S) (meta : 
       serves_seen k = record { keeps = keeps_seen z.x z.s g k.keeps; within = in_log k.keeps.up k.within; below = k.below }
 
       -- the fetch as the tier shows it
-      shows_seek : work_of (Some t.order) t.seat.work ≡ SeeksSeen (sought_of t.order.broker.0 g.stops epoch offset next)
+      shows_seek : work_of (Some t.order) t.actor_state.work ≡ SeeksSeen (sought_of t.order.broker.0 g.stops epoch offset next)
       shows_seek = ap (work_of (Some t.order)) keeps ∙ (seeks ∙ ap (seeks_of t.order.broker.0 g next) fetches)
 
       role_led : g.role ≡ Leads epoch
       role_led =
-          let seats = c.central.stands.desk t.place t.list (seat_seen t.seat) z.list (map_get seat_seen w.desk t.place t.seat z.seat_is) in
-          let on = going plain y t.order t.list (seat_seen t.seat) g c.central.safe seats z.next (ap noted_in keeps ∙ noted) broker in
+          let actor_states = c.central.stands.desk t.place t.list (actor_state_seen t.actor_state) z.list (map_get actor_state_seen w.desk t.place t.actor_state z.actor_state_is) in
+          let on = going plain y t.order t.list (actor_state_seen t.actor_state) g c.central.safe actor_states z.next (ap recorded_in keeps ∙ recorded) broker in
           let leads = on.leads (ap is_leaders fetches) in
           leads.1 ∙ ap Leads (sym (ap (λ (r : Role). unwrap_or (leading r) 0) leads.1))
 
       turn_at : Serves w.held z.x g offset → IsAtTurn c.scene plain t.place t.order.broker.0 here (broker_of y) g.stops epoch (wanted_of w.partition z.x offset limit) (line_of z.x) next
-          (store.content w.tier.store) (meta.content w.tier.meta) z.side.view z.side.cache
+          (store.content w.tier.store) (meta.content w.tier.meta) z.broker_tier.view z.broker_tier.cache
       turn_at k =
           let up = k.keeps.up in
           let from = k.within.0 in
@@ -207,68 +207,68 @@ module _ {D S M : Type 0} (disk : DiskGhosts D) (store : StoreGhosts S) (meta : 
           record {
             safe = both_of disk store meta opening w c;
             few = few_now disk store meta opening w c;
-            shows = subst (λ (u : WorkSeen). Shows c.scene t.place t.order.broker.0 here u (store.content w.tier.store) (meta.content w.tier.meta) z.side.view) shows_seek
-                (shows_at disk store meta opening w c t.place t.list t.seat t.order z);
+            shows = subst (λ (u : InProgressIsSeen). Shows c.scene t.place t.order.broker.0 here u (store.content w.tier.store) (meta.content w.tier.meta) z.broker_tier.view) shows_seek
+                (shows_at disk store meta opening w c t.place t.list t.actor_state t.order z);
             cache_is = refl;
             partition = sym c.shows_tier.partition;
             broker_is = broker;
             leads = record { stops = sym k.keeps.stops; role = sym k.keeps.role ∙ role_led };
             past = omega (arith, from, start_plain);
             end_is = end_shown disk.content z.x z.s up z.sees.shows;
-            tells = subst (λ (l : List (ℕ × ℕ)). TellsEpochs l z.s.batches) (sym (line_shown disk.content z.x z.s up z.sees.shows)) (line_tells y sound);
+            is_observable = subst (λ (l : List (ℕ × ℕ)). TellsEpochs l z.s.batches) (sym (line_shown disk.content z.x z.s up z.sees.shows)) (line_tells y sound);
           }
 
       -- what such a turn answers, as it is seen
-      ends_row : (answer : Answer) (goes : GoesOnFetch store meta w.partition w.tier t.order.broker.0 z.x z.side offset limit next (Ends answer) w'.tier) → MayEnd answer → Serves w.held z.x g offset → SeenOn answer
+      ends_row : (answer : Answer) (goes : GoesOnFetch store meta w.partition w.tier t.order.broker.0 z.x z.broker_tier offset limit next (Ends answer) w'.tier) → MayEnd answer → Serves w.held z.x g offset → SeenOn answer
       ends_row MetaFault goes may k = (serves_seen k, refl)
       ends_row StoreFault goes may k = (serves_seen k, refl)
       ends_row (Damaged place at) goes may k = (serves_seen k, refl)
       ends_row (Run tier size stop bytes) goes may k =
-          let r = runs_are_logs store.content store.control meta.content meta.control (wanted_of w.partition z.x offset limit) (line_of z.x) next tier size stop bytes (fetch_tiers z.side.view z.side.cache w.tier)
+          let r = runs_are_logs store.content store.control meta.content meta.control (wanted_of w.partition z.x offset limit) (line_of z.x) next tier size stop bytes (fetch_tiers z.broker_tier.view z.broker_tier.cache w.tier)
           (fetch_tiers goes.view goes.cache w'.tier) c.scene plain t.place t.order.broker.0 here (broker_of y) g.stops epoch goes.row (turn_at k) in
           (serves_seen k, record { run = r.run.run; is = r.run.is; spelled = r.run.spelled; size_is = r.run.size_is }, refl)
       ends_row other goes may k = elim may [ ]
 
-      changed : (turn : FetchTurn) (goes : GoesOnFetch store meta w.partition w.tier t.order.broker.0 z.x z.side offset limit next turn w'.tier) → Serves w.held z.x g offset
+      changed : (turn : FetchTurn) (goes : GoesOnFetch store meta w.partition w.tier t.order.broker.0 z.x z.broker_tier offset limit next turn w'.tier) → Serves w.held z.x g offset
           → IsChanged c.scene plain (after_fetch c.scene t.place t.order.broker.0 here (fetch_work t.order.broker.0 g.stops epoch offset turn) (store.content w'.tier.store).objects (meta.content w'.tier.meta).notes
           goes.view goes.cache)
       changed turn goes k =
-          fetch_turns store.content store.control meta.content meta.control (wanted_of w.partition z.x offset limit) (line_of z.x) next (Ok turn) (fetch_tiers z.side.view z.side.cache w.tier)
+          fetch_turns store.content store.control meta.content meta.control (wanted_of w.partition z.x offset limit) (line_of z.x) next (Ok turn) (fetch_tiers z.broker_tier.view z.broker_tier.cache w.tier)
           (fetch_tiers goes.view goes.cache w'.tier) c.scene plain t.place t.order.broker.0 here (broker_of y) g.stops epoch goes.row (turn_at k)
 
-      shows_then : (turn : FetchTurn) (goes : GoesOnFetch store meta w.partition w.tier t.order.broker.0 z.x z.side offset limit next turn w'.tier) (shows : WorkSeen)
-          → work_after disk store meta opening w c t.place t.list t.seat t.order z outcome ≡ shows
-          → ShowsTier store meta w' c.partition (scene_with disk store meta opening w c t.place t.list t.seat t.order z shows (store.content w'.tier.store).objects (meta.content w'.tier.meta).notes
-          (record z.side { view = goes.view; cache = goes.cache }))
+      shows_then : (turn : FetchTurn) (goes : GoesOnFetch store meta w.partition w.tier t.order.broker.0 z.x z.broker_tier offset limit next turn w'.tier) (shows : InProgressIsSeen)
+          → work_after disk store meta opening w c t.place t.list t.actor_state t.order z outcome ≡ shows
+          → ShowsTier store meta w' c.partition (scene_with disk store meta opening w c t.place t.list t.actor_state t.order z shows (store.content w'.tier.store).objects (meta.content w'.tier.meta).notes
+          (record z.broker_tier { view = goes.view; cache = goes.cache }))
       shows_then turn goes shows is =
-          shows_with disk store meta opening w c t.place t.list t.seat t.order z w' outcome shows (store.content w'.tier.store).objects (meta.content w'.tier.meta).notes
-          (record z.side { view = goes.view; cache = goes.cache }) t.partition t.lists t.desk (ap (λ (u : Tier S M). u.sides) goes.after)
-          (fetch_tells store meta (wanted_of w.partition z.x offset limit) (line_of z.x) next turn (fetch_tiers z.side.view z.side.cache w.tier) (fetch_tiers goes.view goes.cache w'.tier) goes.row) refl refl is
+          shows_with disk store meta opening w c t.place t.list t.actor_state t.order z w' outcome shows (store.content w'.tier.store).objects (meta.content w'.tier.meta).notes
+          (record z.broker_tier { view = goes.view; cache = goes.cache }) t.partition t.lists t.desk (ap (λ (u : RemoteTier S M). u.broker_tiers) goes.after)
+          (fetch_tells store meta (wanted_of w.partition z.x offset limit) (line_of z.x) next turn (fetch_tiers z.broker_tier.view z.broker_tier.cache w.tier) (fetch_tiers goes.view goes.cache w'.tier) goes.row) refl refl is
 
-      ends : (answer : Answer) → outcome ≡ Answers answer → Serves w.held z.x g offset → GoesOnFetch store meta w.partition w.tier t.order.broker.0 z.x z.side offset limit next (Ends answer) w'.tier
+      ends : (answer : Answer) → outcome ≡ Answers answer → Serves w.held z.x g offset → GoesOnFetch store meta w.partition w.tier t.order.broker.0 z.x z.broker_tier offset limit next (Ends answer) w'.tier
           → w'.held ≡ w.held → IsCentral disk store meta opening w'
       ends answer is k goes held =
-          let may = fetch_ends store meta (wanted_of w.partition z.x offset limit) (line_of z.x) next answer (fetch_tiers z.side.view z.side.cache w.tier) (fetch_tiers goes.view goes.cache w'.tier) goes.row in
+          let may = fetch_ends store meta (wanted_of w.partition z.x offset limit) (line_of z.x) next answer (fetch_tiers z.broker_tier.view z.broker_tier.cache w.tier) (fetch_tiers goes.view goes.cache w'.tier) goes.row in
           entered disk store meta opening w a outcome w' t c z (Fetch offset limit) fetches work keeps (turned.Answers answer) _ is (low (turned.Answers answer)) (same_held held)
           (lift answer (ends_row answer goes may k)) (changed (Ends answer) goes k)
-          (shows_then (Ends answer) goes Free (answered_free disk store meta opening w c t.place t.list t.seat t.order z outcome answer is))
+          (shows_then (Ends answer) goes Free (answered_free disk store meta opening w c t.place t.list t.actor_state t.order z outcome answer is))
 
-      goes_on : (later : Next) → outcome ≡ Seeks later → Serves w.held z.x g offset → GoesOnFetch store meta w.partition w.tier t.order.broker.0 z.x z.side offset limit next (GoesOn later) w'.tier
+      goes_on : (later : FetchStep) → outcome ≡ Seeks later → Serves w.held z.x g offset → GoesOnFetch store meta w.partition w.tier t.order.broker.0 z.x z.broker_tier offset limit next (GoesOn later) w'.tier
           → w'.held ≡ w.held → IsCentral disk store meta opening w'
       goes_on later is k goes held =
-          silent disk store meta opening w a outcome w' t c z (Fetch offset limit) fetches (subst (GoesAsNoted t.seat.work) (sym is) tt) (subst IsNoDate (sym is) tt)
+          silent disk store meta opening w a outcome w' t c z (Fetch offset limit) fetches (subst (GoesAsRecorded t.actor_state.work) (sym is) tt) (subst IsNoDate (sym is) tt)
           (unseen disk store meta opening w a outcome w' t c z (Fetch offset limit) fetches
-          (ap (λ (o : Outcome). seat_seen (seat_after t.seat o)) is
-          ∙ ap (λ (o : Option Begun). record { number = t.seat.number; begun = o })
-          (ap (λ (k : Work). noted_in (sought k later)) keeps ∙ (ap noted_in (moved later) ∙ (sym noted ∙ sym (ap noted_in keeps))))))
-          (untold disk store meta opening w a outcome w' t c z (Fetch offset limit) fetches (ap (told_of t.list.actor t.seat.number t.order.command) is)) (same_held held) _ (changed (GoesOn later) goes k)
+          (ap (λ (o : Outcome). actor_state_seen (actor_state_after t.actor_state o)) is
+          ∙ ap (λ (o : Option StartSnapshot). record { number = t.actor_state.number; snapshot = o })
+          (ap (λ (k : InProgress). recorded_in (sought k later)) keeps ∙ (ap recorded_in (moved later) ∙ (sym recorded ∙ sym (ap recorded_in keeps))))))
+          (untold disk store meta opening w a outcome w' t c z (Fetch offset limit) fetches (ap (told_of t.list.actor t.actor_state.number t.order.command) is)) (same_held held) _ (changed (GoesOn later) goes k)
           (shows_then (GoesOn later) goes (SeeksSeen (sought_of t.order.broker.0 g.stops epoch offset later))
-          (ap (λ (o : Outcome). work_after disk store meta opening w c t.place t.list t.seat t.order z o) is
-          ∙ (ap (λ (k : Work). work_of (slice_get t.list.orders t.seat.number) (sought k later)) keeps
-          ∙ (ap (work_of (slice_get t.list.orders t.seat.number)) (moved later)
+          (ap (λ (o : Outcome). work_after disk store meta opening w c t.place t.list t.actor_state t.order z o) is
+          ∙ (ap (λ (k : InProgress). work_of (slice_get t.list.orders t.actor_state.number) (sought k later)) keeps
+          ∙ (ap (work_of (slice_get t.list.orders t.actor_state.number)) (moved later)
           ∙ (ap (λ (o : Option Order). work_of o (works.Seeks g later)) z.next ∙ ap (seeks_of t.order.broker.0 g later) fetches)))))
 
-      pub fetch_on : (o : Outcome) → outcome ≡ o → FetchOnRow store meta w.partition w.held w.tier t.order.broker.0 z.x z.side g offset limit next o w'.tier → w'.held ≡ w.held
+      pub fetch_on : (o : Outcome) → outcome ≡ o → FetchOnRow store meta w.partition w.held w.tier t.order.broker.0 z.x z.broker_tier g offset limit next o w'.tier → w'.held ≡ w.held
           → IsCentral disk store meta opening w'
       fetch_on (Answers Stopped) is row held = answers Stopped is (stopped_seen z.x z.s g row.0, refl) row.1 held
       fetch_on (Answers NotLeader) is row held = answers NotLeader is (row.0, row.1, row.2, refl) row.3 held

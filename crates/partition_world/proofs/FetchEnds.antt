@@ -19,10 +19,10 @@ use Rattle.plain_log.specs.declared.answer.Place.TheVariants.{Key, Meta}
 use Rattle.plain_log.specs.declared.answer.Answer.TheVariants.{MetaFault, StoreFault, Damaged, Run}
 use Rattle.tier_fetch.specs.declared.turn.FetchTurn.{FetchTurn}
 use Rattle.tier_fetch.specs.declared.turn.FetchTurn.TheVariants.{Ends}
-use Rattle.tier_fetch.specs.declared.turn.Next.{Next}
-use Rattle.tier_fetch.specs.declared.turn.Next.TheVariants.{Refresh, Index, Log}
+use Rattle.tier_fetch.specs.declared.turn.FetchStep.{FetchStep}
+use Rattle.tier_fetch.specs.declared.turn.FetchStep.TheVariants.{Refresh, Index, Log}
 use Rattle.tier_fetch.specs.declared.turn.Span.{Span}
-use Rattle.tier_fetch.specs.declared.turn.Wanted.{Wanted}
+use Rattle.tier_fetch.specs.declared.turn.FetchRequest.{FetchRequest}
 use Rattle.tier_fetch.specs.Turns.{chosen, spot_in, LoadsBytes, Loads, CutsBytes, Cuts, RefreshRow, IndexRow, LoadRow, LogRow, FetchRow, Tiers}
 use Rattle.partition_world.proofs.CopyEnds.{TellsOn}
 
@@ -39,11 +39,11 @@ chosen_ends notes None answer is = let e : answer ≡ Damaged Meta notes = cc (i
 chosen_ends notes (Some piece) answer is = absurd (cc (is))
 
 module _ {S M : Type 0} (store : StoreGhosts S) (meta : MetaGhosts M) where
-  refresh_ends : (wanted : Wanted) (line : List (ℕ × ℕ)) (answer : Answer) (before after : View) (old new : M) → RefreshRow meta.content meta.control wanted line (Ok (Ends answer)) before after old new → MayEnd answer
+  refresh_ends : (wanted : FetchRequest) (line : List (ℕ × ℕ)) (answer : Answer) (before after : View) (old new : M) → RefreshRow meta.content meta.control wanted line (Ok (Ends answer)) before after old new → MayEnd answer
   refresh_ends wanted line MetaFault before after old new w = tt
   refresh_ends wanted line answer before after old new w = chosen_ends after.notes (piece_at after.entries line wanted.log_end wanted.offset) _ w.0
 
-  loads_ends : (wanted : Wanted) (piece : Piece) (base : ℕ) (spot : Spot) (given : _) (answer : Answer) (old new : Cache) → Loads wanted piece base spot given (Ok (Ends answer)) old new → MayEnd answer
+  loads_ends : (wanted : FetchRequest) (piece : Piece) (base : ℕ) (spot : Spot) (given : _) (answer : Answer) (old new : Cache) → Loads wanted piece base spot given (Ok (Ends answer)) old new → MayEnd answer
   loads_ends wanted piece base spot (Err Failed) answer old new w = let e : answer ≡ StoreFault = cc (w.0) in subst MayEnd (sym e) tt
   loads_ends wanted piece base spot (Err NoMemory) answer old new w = let no = w.0 in absurd (cc (no))
   loads_ends wanted piece base spot (Ok None) answer old new w = let e : answer ≡ Damaged (Key spot.key) 0 = cc (w.0) in subst MayEnd (sym e) tt
@@ -53,18 +53,18 @@ module _ {S M : Type 0} (store : StoreGhosts S) (meta : MetaGhosts M) where
       by (Some end) w = let e : answer ≡ Damaged (Key spot.key) end = cc (w.0) in subst MayEnd (sym e) tt
       by None w = subst MayEnd (sym w.0) tt
 
-  load_ends : (wanted : Wanted) (piece : Piece) (view : View) (place : Option (ℕ × Spot)) (answer : Answer) (cache cache' : Cache) (old new : S)
+  load_ends : (wanted : FetchRequest) (piece : Piece) (view : View) (place : Option (ℕ × Spot)) (answer : Answer) (cache cache' : Cache) (old new : S)
       → LoadRow store.content store.control wanted piece view place (Ok (Ends answer)) cache cache' old new → MayEnd answer
   load_ends wanted piece view None answer cache cache' old new w = let e : answer ≡ Damaged Meta view.notes = cc (w.0) in subst MayEnd (sym e) tt
   load_ends wanted piece view (Some place) answer cache cache' old new w = loads_ends wanted piece place.0 place.1 w.answer answer cache cache' w.loads
 
-  index_ends : (wanted : Wanted) (piece : Piece) (view : View) (answer : Answer) (held : Option OffsetTable) (cache cache' : Cache) (old new : S)
+  index_ends : (wanted : FetchRequest) (piece : Piece) (view : View) (answer : Answer) (held : Option OffsetTable) (cache cache' : Cache) (old new : S)
       → IndexRow store.content store.control wanted piece view (Ok (Ends answer)) held cache cache' old new → MayEnd answer
   index_ends wanted piece view answer (Some index) cache cache' old new w = let e = w.0 in absurd (cc (e))
   index_ends wanted piece view answer None cache cache' old new w =
       load_ends wanted piece view (spot_in wanted.partition piece.id part.Index (entry_of piece.id view.entries)) answer cache cache' old new w
 
-  cuts_ends : (wanted : Wanted) (piece : Piece) (spot : Spot) (span : Span) (given : _) (answer : Answer) → Cuts wanted piece spot span given (Ok (Ends answer)) → MayEnd answer
+  cuts_ends : (wanted : FetchRequest) (piece : Piece) (spot : Spot) (span : Span) (given : _) (answer : Answer) → Cuts wanted piece spot span given (Ok (Ends answer)) → MayEnd answer
   cuts_ends wanted piece spot span (Err Failed) answer w = let e : answer ≡ StoreFault = cc (w) in subst MayEnd (sym e) tt
   cuts_ends wanted piece spot span (Err NoMemory) answer w = absurd (cc (w))
   cuts_ends wanted piece spot span (Ok None) answer w = let e : answer ≡ Damaged (Key spot.key) 0 = cc (w) in subst MayEnd (sym e) tt
@@ -76,13 +76,13 @@ module _ {S M : Type 0} (store : StoreGhosts S) (meta : MetaGhosts M) where
       by None (Damaged place at) w = tt
       by None answer w = elim w [ ]
 
-  log_ends : (wanted : Wanted) (piece : Piece) (span : Span) (view : View) (place : Option (ℕ × Spot)) (answer : Answer) (old new : S)
+  log_ends : (wanted : FetchRequest) (piece : Piece) (span : Span) (view : View) (place : Option (ℕ × Spot)) (answer : Answer) (old new : S)
       → LogRow store.content store.control wanted piece span view place (Ok (Ends answer)) old new → MayEnd answer
   log_ends wanted piece span view None answer old new w = let e : answer ≡ Damaged Meta view.notes = cc (w.0) in subst MayEnd (sym e) tt
   log_ends wanted piece span view (Some place) answer old new w = cuts_ends wanted piece place.1 span w.answer answer w.cuts
 
   -- what a turn of a fetch is answered
-  pub fetch_ends : (wanted : Wanted) (line : List (ℕ × ℕ)) (next : Next) (answer : Answer) (old new : Tiers S M)
+  pub fetch_ends : (wanted : FetchRequest) (line : List (ℕ × ℕ)) (next : FetchStep) (answer : Answer) (old new : Tiers S M)
       → FetchRow store.content store.control meta.content meta.control wanted line next (Ok (Ends answer)) old new → MayEnd answer
   fetch_ends wanted line Refresh answer old new w = refresh_ends wanted line answer old.view new.view old.meta new.meta w.1
   fetch_ends wanted line (Index piece) answer old new w =
@@ -92,44 +92,44 @@ module _ {S M : Type 0} (store : StoreGhosts S) (meta : MetaGhosts M) where
 
   -- the store tells what it did, and holds what it did
   pub record StoreStays (old new : S) : Type 0 where
-    pub tells : (store.content new).tells ≡ (store.content old).tells
+    pub is_observable : (store.content new).is_observable ≡ (store.content old).is_observable
     pub objects : (store.content new).objects ≡ (store.content old).objects
 
   same_store : (old new : S) → new ≡ old → StoreStays old new
-  same_store old new is = record { tells = ap (λ (s : S). (store.content s).tells) is; objects = ap (λ (s : S). (store.content s).objects) is }
+  same_store old new is = record { is_observable = ap (λ (s : S). (store.content s).is_observable) is; objects = ap (λ (s : S). (store.content s).objects) is }
 
-  load_stays : (wanted : Wanted) (piece : Piece) (view : View) (place : Option (ℕ × Spot)) (result : _) (cache cache' : Cache) (old new : S)
+  load_stays : (wanted : FetchRequest) (piece : Piece) (view : View) (place : Option (ℕ × Spot)) (result : _) (cache cache' : Cache) (old new : S)
       → LoadRow store.content store.control wanted piece view place result cache cache' old new → StoreStays old new
   load_stays wanted piece view None result cache cache' old new w = same_store old new w.2
-  load_stays wanted piece view (Some place) result cache cache' old new w = record { tells = w.gets.content.tells; objects = fun_ext (λ k. w.gets.content.objects k) }
+  load_stays wanted piece view (Some place) result cache cache' old new w = record { is_observable = w.gets.content.is_observable; objects = fun_ext (λ k. w.gets.content.objects k) }
 
-  index_stays : (wanted : Wanted) (piece : Piece) (view : View) (result : _) (held : Option OffsetTable) (cache cache' : Cache) (old new : S)
+  index_stays : (wanted : FetchRequest) (piece : Piece) (view : View) (result : _) (held : Option OffsetTable) (cache cache' : Cache) (old new : S)
       → IndexRow store.content store.control wanted piece view result held cache cache' old new → StoreStays old new
   index_stays wanted piece view result (Some index) cache cache' old new w = same_store old new w.2
   index_stays wanted piece view result None cache cache' old new w =
       load_stays wanted piece view (spot_in wanted.partition piece.id part.Index (entry_of piece.id view.entries)) result cache cache' old new w
 
-  log_stays : (wanted : Wanted) (piece : Piece) (span : Span) (view : View) (place : Option (ℕ × Spot)) (result : _) (old new : S)
+  log_stays : (wanted : FetchRequest) (piece : Piece) (span : Span) (view : View) (place : Option (ℕ × Spot)) (result : _) (old new : S)
       → LogRow store.content store.control wanted piece span view place result old new → StoreStays old new
   log_stays wanted piece span view None result old new w = same_store old new w.1
-  log_stays wanted piece span view (Some place) result old new w = record { tells = w.gets.content.tells; objects = fun_ext (λ k. w.gets.content.objects k) }
+  log_stays wanted piece span view (Some place) result old new w = record { is_observable = w.gets.content.is_observable; objects = fun_ext (λ k. w.gets.content.objects k) }
 
-  refresh_tells : (wanted : Wanted) (line : List (ℕ × ℕ)) (turn : FetchTurn) (before after : View) (old new : M) → RefreshRow meta.content meta.control wanted line (Ok turn) before after old new
-      → (meta.content new).tells ≡ (meta.content old).tells
-  refresh_tells wanted line (Ends MetaFault) before after old new w = w.content.tells
-  refresh_tells wanted line turn before after old new w = w.1.content.tells
+  refresh_tells : (wanted : FetchRequest) (line : List (ℕ × ℕ)) (turn : FetchTurn) (before after : View) (old new : M) → RefreshRow meta.content meta.control wanted line (Ok turn) before after old new
+      → (meta.content new).is_observable ≡ (meta.content old).is_observable
+  refresh_tells wanted line (Ends MetaFault) before after old new w = w.content.is_observable
+  refresh_tells wanted line turn before after old new w = w.1.content.is_observable
 
   -- the devices tell as they did
-  pub fetch_tells : (wanted : Wanted) (line : List (ℕ × ℕ)) (next : Next) (turn : FetchTurn) (old new : Tiers S M)
+  pub fetch_tells : (wanted : FetchRequest) (line : List (ℕ × ℕ)) (next : FetchStep) (turn : FetchTurn) (old new : Tiers S M)
       → FetchRow store.content store.control meta.content meta.control wanted line next (Ok turn) old new → TellsOn store meta old.store old.meta new.store new.meta
   fetch_tells wanted line Refresh turn old new w =
-      (ap (λ (t : Tiers S M). (store.content t.store).tells) w.0, refresh_tells wanted line turn old.view new.view old.meta new.meta w.1)
+      (ap (λ (t : Tiers S M). (store.content t.store).is_observable) w.0, refresh_tells wanted line turn old.view new.view old.meta new.meta w.1)
   fetch_tells wanted line (Index piece) turn old new w =
-      ((index_stays wanted piece old.view (Ok turn) (found piece.id.0 old.cache.pairs) old.cache new.cache old.store new.store w.1).tells, ap (λ (t : Tiers S M). (meta.content t.meta).tells) w.0)
+      ((index_stays wanted piece old.view (Ok turn) (found piece.id.0 old.cache.pairs) old.cache new.cache old.store new.store w.1).is_observable, ap (λ (t : Tiers S M). (meta.content t.meta).is_observable) w.0)
   fetch_tells wanted line (Log piece span) turn old new w =
-      ((log_stays wanted piece span old.view (spot_in wanted.partition piece.id part.Log (entry_of piece.id old.view.entries)) (Ok turn) old.store new.store w.1).tells, ap (λ (t : Tiers S M). (meta.content t.meta).tells) w.0)
+      ((log_stays wanted piece span old.view (spot_in wanted.partition piece.id part.Log (entry_of piece.id old.view.entries)) (Ok turn) old.store new.store w.1).is_observable, ap (λ (t : Tiers S M). (meta.content t.meta).is_observable) w.0)
 
-  loads_dry : (wanted : Wanted) (piece : Piece) (base : ℕ) (spot : Spot) (given : _) (e : AllocError) (old new : Cache) → Loads wanted piece base spot given (Err e) old new → new ≡ old
+  loads_dry : (wanted : FetchRequest) (piece : Piece) (base : ℕ) (spot : Spot) (given : _) (e : AllocError) (old new : Cache) → Loads wanted piece base spot given (Err e) old new → new ≡ old
   loads_dry wanted piece base spot (Err Failed) e old new w = w.1
   loads_dry wanted piece base spot (Err NoMemory) e old new w = w.1
   loads_dry wanted piece base spot (Ok None) e old new w = w.1
@@ -139,12 +139,12 @@ module _ {S M : Type 0} (store : StoreGhosts S) (meta : MetaGhosts M) where
       by (Some end) w = w.1
       by None w = w
 
-  load_dry : (wanted : Wanted) (piece : Piece) (view : View) (place : Option (ℕ × Spot)) (e : AllocError) (cache cache' : Cache) (old new : S)
+  load_dry : (wanted : FetchRequest) (piece : Piece) (view : View) (place : Option (ℕ × Spot)) (e : AllocError) (cache cache' : Cache) (old new : S)
       → LoadRow store.content store.control wanted piece view place (Err e) cache cache' old new → cache' ≡ cache
   load_dry wanted piece view None e cache cache' old new w = w.1
   load_dry wanted piece view (Some place) e cache cache' old new w = loads_dry wanted piece place.0 place.1 w.answer e cache cache' w.loads
 
-  index_dry : (wanted : Wanted) (piece : Piece) (view : View) (e : AllocError) (held : Option OffsetTable) (cache cache' : Cache) (old new : S)
+  index_dry : (wanted : FetchRequest) (piece : Piece) (view : View) (e : AllocError) (held : Option OffsetTable) (cache cache' : Cache) (old new : S)
       → IndexRow store.content store.control wanted piece view (Err e) held cache cache' old new → cache' ≡ cache
   index_dry wanted piece view e (Some index) cache cache' old new w = let is = w.0 in absurd (cc (is))
   index_dry wanted piece view e None cache cache' old new w =
@@ -156,7 +156,7 @@ module _ {S M : Type 0} (store : StoreGhosts S) (meta : MetaGhosts M) where
     pub cache : new.cache ≡ old.cache
     pub why : Halted meta.content meta.control old.view new.view old.meta new.meta ⊎ ((new.view ≡ old.view) × (new.meta ≡ old.meta))
 
-  pub fetch_dry : (wanted : Wanted) (line : List (ℕ × ℕ)) (next : Next) (e : AllocError) (old new : Tiers S M)
+  pub fetch_dry : (wanted : FetchRequest) (line : List (ℕ × ℕ)) (next : FetchStep) (e : AllocError) (old new : Tiers S M)
       → FetchRow store.content store.control meta.content meta.control wanted line next (Err e) old new → Dries old new
   fetch_dry wanted line Refresh e old new w = record {
     store_stays = same_store old.store new.store (ap (λ (t : Tiers S M). t.store) w.0);

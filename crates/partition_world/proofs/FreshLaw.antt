@@ -19,26 +19,26 @@ use Rattle.plain_log.specs.Fresh.{fresh}
 use Rattle.plain_log.specs.Runs.{replay}
 use Rattle.plain_log.specs.Orders.{AreListsFor, AreRising, IsListFor, IsConfig}
 use Rattle.broker_log.specs.Seen.{Shows}
-use Rattle.partition_seen.specs.Whole as seen_whole
-use Rattle.partition_seen.specs.Central as seen_central
-use Rattle.partition_seen.specs.Fresh.{fresh_node, fresh_held}
-use Rattle.partition_seen.proofs.CompleteLaw.{fresh_central}
-use Rattle.partition_tier.specs.Sites.{sites_of, Side as SideSeen, fresh_side as fresh_seen}
-use Rattle.partition_tier.proofs.FreshLaw.{fresh_tier}
-use Rattle.partition_turns.specs.declared.held.Node.{Node}
-use Rattle.partition_turns.specs.Held.{is_up, line_of, node_of, ShowsNode, ShowNodes}
-use Rattle.partition_turns.specs.Fresh.{IsFreshNode, AreFreshFrom, AllSeen, empty_seen, fresh_role, fresh_line}
-use Rattle.tier_safe.specs.Scene.{Scene, Work as WorkSeen, Free}
-use Rattle.tier_safe.specs.Fresh.{fresh_site}
+use Rattle.laws_partition.specs.Whole as seen_whole
+use Rattle.laws_partition.specs.Central as seen_central
+use Rattle.laws_partition.specs.Fresh.{fresh_node, fresh_held}
+use Rattle.laws_partition.proofs.CompleteLaw.{fresh_central}
+use Rattle.laws_tier_turns.specs.BrokerTiers.{tier_views_of, BrokerTierModel as BrokerTierIsSeen, fresh_broker_tier as fresh_seen}
+use Rattle.laws_tier_turns.proofs.FreshLaw.{fresh_tier}
+use Rattle.partition_commands.specs.declared.partition_state.Node.{Node}
+use Rattle.partition_commands.specs.Partition.{is_up, line_of, node_of, ShowsNode, ShowNodes}
+use Rattle.partition_commands.specs.Fresh.{IsFreshNode, AreFreshFrom, AllSeen, empty_seen, fresh_role, fresh_line}
+use Rattle.tier_safe.specs.Scene.{Scene, TierTask as InProgressIsSeen, Free}
+use Rattle.tier_safe.specs.Fresh.{fresh_tier_view}
 use Rattle.tier_safe.specs.Safe.{TierSafe}
 use Rattle.tier_safe.proofs.FreshLaw.{fresh_both}
-use Rattle.partition_world.specs.declared.seat.Seat.{Seat}
-use Rattle.partition_world.specs.declared.seat.Work.TheVariants.{Idle}
-use Rattle.partition_world.specs.declared.tier.Side.{Side}
-use Rattle.partition_world.specs.Seats.{desk_seen}
+use Rattle.partition_world.specs.declared.actor_state.ActorState.{ActorState}
+use Rattle.partition_world.specs.declared.actor_state.InProgress.TheVariants.{Idle}
+use Rattle.partition_world.specs.declared.tier.BrokerTierState.{BrokerTierState}
+use Rattle.partition_world.specs.ActorStates.{desk_seen}
 use Rattle.partition_world.specs.Whole.{Whole, seen_as}
-use Rattle.partition_world.specs.Central.{IsNoted, AreNoted, IsDated, AreDated, IsCentral, ShowsTier, sides_seen, work_of, desk_of, notes_left}
-use Rattle.partition_world.specs.Fresh.{IsFresh, IsSeenEmpty, fresh_seat, fresh_side}
+use Rattle.partition_world.specs.Central.{IsRecorded, AreRecorded, IsDated, AreDated, IsCentral, ShowsTier, broker_tiers_seen, work_of, desk_of, notes_left}
+use Rattle.partition_world.specs.Fresh.{IsFresh, IsSeenEmpty, fresh_actor_state, fresh_broker_tier}
 use Rattle.partition_world.proofs.WorldFresh.{all_fresh}
 
 module _ {D : Type 0} (content : D → Content) (control : D → Control call_code) where
@@ -46,10 +46,10 @@ module _ {D : Type 0} (content : D → Content) (control : D → Control call_co
   node_shown leads x f seen = (
     empty_seen (line_of x),
     seen,
-    as_seen f.up f.stops f.role_is f.known (ap (λ (o : Option (List (ℕ × ℕ))). unwrap_or o []) f.line_is),
+    as_seen f.up f.stops f.role_is f.known_high_watermark (ap (λ (o : Option (List (ℕ × ℕ))). unwrap_or o []) f.line_is),
   )
     where
-      as_seen : is_up x ≡ true → x.stops ≡ 0 → x.role ≡ fresh_role leads → x.known ≡ 0 → line_of x ≡ fresh_line leads → fresh_node (fresh_role leads) (fresh_line leads) ≡ node_of x (empty_seen (line_of x))
+      as_seen : is_up x ≡ true → x.stops ≡ 0 → x.role ≡ fresh_role leads → x.known_high_watermark ≡ 0 → line_of x ≡ fresh_line leads → fresh_node (fresh_role leads) (fresh_line leads) ≡ node_of x (empty_seen (line_of x))
       as_seen up stops is known same = rw (up, stops, is, known, same) refl
 
   followers_shown : (disks : List D) (xs : List (Node D)) → AreFreshFrom control false disks xs → AllSeen content xs → ShowNodes content xs (replicate (length disks) (fresh_node (Joined 0) []))
@@ -68,25 +68,25 @@ module _ {D : Type 0} (content : D → Content) (control : D → Control call_co
       )
 
 -- the brokers' sides are those of a fresh tier
-pub sides_fresh : (n : ℕ) → sides_seen (replicate n fresh_side) ≡ replicate n fresh_seen
-sides_fresh zero = refl
-sides_fresh (suc n) = ap (λ (l : List SideSeen). fresh_seen ∷ l) (sides_fresh n)
+pub broker_tiers_fresh : (n : ℕ) → broker_tiers_seen (replicate n fresh_broker_tier) ≡ replicate n fresh_seen
+broker_tiers_fresh zero = refl
+broker_tiers_fresh (suc n) = ap (λ (l : List BrokerTierIsSeen). fresh_seen ∷ l) (broker_tiers_fresh n)
 
-sites_fresh : (n : ℕ) (sides : List Side) → sides ≡ replicate n fresh_side → replicate n fresh_site ≡ sites_of (fresh_held n).nodes (sides_seen sides)
-sites_fresh n sides is =
-    let all : sides_seen sides ≡ replicate n fresh_seen = ap (λ (l : List Side). sides_seen l) is ∙ sides_fresh n in
-    sym (ap (λ (l : List SideSeen). sites_of (fresh_held n).nodes l) all ∙ fresh_tier n)
+tier_views_fresh : (n : ℕ) (broker_tiers : List BrokerTierState) → broker_tiers ≡ replicate n fresh_broker_tier → replicate n fresh_tier_view ≡ tier_views_of (fresh_held n).nodes (broker_tiers_seen broker_tiers)
+tier_views_fresh n broker_tiers is =
+    let all : broker_tiers_seen broker_tiers ≡ replicate n fresh_seen = ap (λ (l : List BrokerTierState). broker_tiers_seen l) is ∙ broker_tiers_fresh n in
+    sym (ap (λ (l : List BrokerTierIsSeen). tier_views_of (fresh_held n).nodes l) all ∙ fresh_tier n)
 
 -- nothing is under way
 free : (o : Option Order) → work_of o Idle ≡ Free
 free None = refl
 free (Some order) = refl
 
-pub all_free : (lists : List ActorList) → replicate (length lists) Free ≡ desk_of lists (replicate (length lists) fresh_seat)
+pub all_free : (lists : List ActorList) → replicate (length lists) Free ≡ desk_of lists (replicate (length lists) fresh_actor_state)
 all_free [] = refl
 all_free (l ∷ lists) =
-    ap (λ (ws : List WorkSeen). Free ∷ ws) (all_free lists)
-    ∙ ap (λ (w : WorkSeen). w ∷ desk_of lists (replicate (length lists) fresh_seat)) (sym (free (slice_get l.orders 0)))
+    ap (λ (ws : List InProgressIsSeen). Free ∷ ws) (all_free lists)
+    ∙ ap (λ (w : InProgressIsSeen). w ∷ desk_of lists (replicate (length lists) fresh_actor_state)) (sym (free (slice_get l.orders 0)))
 
 -- no list is of an actor below this one
 abbrev IsFrom : ℕ → List ActorList → Type 0
@@ -95,7 +95,7 @@ IsFrom low (l ∷ lists) = low ≤ l.actor.0
 
 -- so many notes an actor appends at most
 few_notes : (config : Config) (low : ℕ) (lists : List ActorList) → IsFrom low lists → AreRising lists → All (IsListFor config) lists
-    → notes_left lists (replicate (length lists) fresh_seat) ≤ 8589934592 * (64 - low)
+    → notes_left lists (replicate (length lists) fresh_actor_state) ≤ 8589934592 * (64 - low)
 few_notes config low [] from rising each = omega arith
 few_notes config low (l ∷ []) from rising each = let one = each 0 l (omega arith) in omega (arith, from, one.actor, one.few)
 few_notes config low (l ∷ m ∷ lists) from rising each =
@@ -104,11 +104,11 @@ few_notes config low (l ∷ m ∷ lists) from rising each =
     omega (arith, from, one.actor, one.few, rest)
 
 -- far fewer than a view can count
-pub far_fewer : (config : Config) (lists : List ActorList) → AreListsFor config lists → notes_left lists (replicate (length lists) fresh_seat) < 2 ^ 63
+pub far_fewer : (config : Config) (lists : List ActorList) → AreListsFor config lists → notes_left lists (replicate (length lists) fresh_actor_state) < 2 ^ 63
 far_fewer config [] fit = omega arith
 far_fewer config (l ∷ lists) fit = let few = few_notes config 0 (l ∷ lists) (omega arith) fit.rising fit.each in omega (arith, few)
 
-low_left : (config : Config) (lists : List ActorList) → AreListsFor config lists → notes_left lists (replicate (length lists) fresh_seat) < 2 ^ 64
+low_left : (config : Config) (lists : List ActorList) → AreListsFor config lists → notes_left lists (replicate (length lists) fresh_actor_state) < 2 ^ 64
 low_left config [] fit = omega arith
 low_left config (l ∷ lists) fit = let few = few_notes config 0 (l ∷ lists) (omega arith) fit.rising fit.each in omega (arith, few)
 
@@ -119,7 +119,7 @@ module _ {D S M : Type 0} (disk : DiskGhosts D) (store : StoreGhosts S) (meta : 
     partition = w.partition;
     objects = (store.content w.tier.store).objects;
     notes = [];
-    sites = replicate config.brokers fresh_site;
+    tier_views = replicate config.brokers fresh_tier_view;
     desk = replicate (length lists) Free;
   }
 
@@ -131,17 +131,17 @@ module _ {D S M : Type 0} (disk : DiskGhosts D) (store : StoreGhosts S) (meta : 
     objects = refl;
     meta_tells = seen.meta_tells;
     notes = sym (seen.notes seen.meta_tells);
-    sites = sites_fresh config.brokers w.tier.sides f.sides;
+    tier_views = tier_views_fresh config.brokers w.tier.broker_tiers f.broker_tiers;
     desk = desk_is w.lists w.desk f.lists_are f.desk;
   }
     where
-      desk_is : (ls : List ActorList) (desk : List Seat) → ls ≡ lists → desk ≡ replicate (length lists) fresh_seat → replicate (length lists) Free ≡ desk_of ls desk
-      desk_is ls desk same is = all_free lists ∙ (ap (λ (d : List Seat). desk_of lists d) (sym is) ∙ ap (λ (k : List ActorList). desk_of k desk) (sym same))
+      desk_is : (ls : List ActorList) (desk : List ActorState) → ls ≡ lists → desk ≡ replicate (length lists) fresh_actor_state → replicate (length lists) Free ≡ desk_of ls desk
+      desk_is ls desk same is = all_free lists ∙ (ap (λ (d : List ActorState). desk_of lists d) (sym is) ∙ ap (λ (k : List ActorList). desk_of k desk) (sym same))
 
-  left : (config : Config) (lists ls : List ActorList) (desk : List Seat) → AreListsFor config lists → ls ≡ lists → desk ≡ replicate (length lists) fresh_seat → 0 + notes_left ls desk < 2 ^ 64
+  left : (config : Config) (lists ls : List ActorList) (desk : List ActorState) → AreListsFor config lists → ls ≡ lists → desk ≡ replicate (length lists) fresh_actor_state → 0 + notes_left ls desk < 2 ^ 64
   left config lists ls desk fit same is =
       let few = low_left config lists fit in
-      let one = ap (λ (d : List Seat). notes_left lists d) is in
+      let one = ap (λ (d : List ActorState). notes_left lists d) is in
       let two = ap (λ (k : List ActorList). notes_left k desk) same in
       omega (arith, few, one, two)
 
@@ -150,27 +150,27 @@ module _ {D S M : Type 0} (disk : DiskGhosts D) (store : StoreGhosts S) (meta : 
   plain_fresh opening v c none = let is : Some opening ≡ Some c.plain = sym (ap (λ (l : List JournalEntry). replay v.lists opening l) none) ∙ c.replays in cc (is)
 
   -- no seat keeps anything
-  idle_noted : (n place : ℕ) (seat : Seat) → slice_get (replicate n fresh_seat) place ≡ Some seat → IsNoted seat.work
-  idle_noted zero place seat at = absurd cc
-  idle_noted (suc n) zero seat at = let is : fresh_seat ≡ seat = cc (at) in subst (λ (k : Seat). IsNoted k.work) is tt
-  idle_noted (suc n) (suc place) seat at = idle_noted n place seat at
+  idle_recorded : (n place : ℕ) (actor_state : ActorState) → slice_get (replicate n fresh_actor_state) place ≡ Some actor_state → IsRecorded actor_state.work
+  idle_recorded zero place actor_state at = absurd cc
+  idle_recorded (suc n) zero actor_state at = let is : fresh_actor_state ≡ actor_state = cc (at) in subst (λ (k : ActorState). IsRecorded k.work) is tt
+  idle_recorded (suc n) (suc place) actor_state at = idle_recorded n place actor_state at
 
-  pub fresh_noted : (n : ℕ) (desk : List Seat) → desk ≡ replicate n fresh_seat → AreNoted desk
-  fresh_noted n desk is = λ place seat at. idle_noted n place seat (ap (λ (k : List Seat). slice_get k place) (sym is) ∙ at)
+  pub fresh_recorded : (n : ℕ) (desk : List ActorState) → desk ≡ replicate n fresh_actor_state → AreRecorded desk
+  fresh_recorded n desk is = λ place actor_state at. idle_recorded n place actor_state (ap (λ (k : List ActorState). slice_get k place) (sym is) ∙ at)
 
   idle_dated : (p : State) (order : Option Order) → IsDated p order Idle
   idle_dated p None = tt
   idle_dated p (Some order) = tt
 
-  seats_idle : (n place : ℕ) (seat : Seat) → slice_get (replicate n fresh_seat) place ≡ Some seat → fresh_seat ≡ seat
-  seats_idle zero place seat at = absurd cc
-  seats_idle (suc n) zero seat at = cc (at)
-  seats_idle (suc n) (suc place) seat at = seats_idle n place seat at
+  actor_states_idle : (n place : ℕ) (actor_state : ActorState) → slice_get (replicate n fresh_actor_state) place ≡ Some actor_state → fresh_actor_state ≡ actor_state
+  actor_states_idle zero place actor_state at = absurd cc
+  actor_states_idle (suc n) zero actor_state at = cc (at)
+  actor_states_idle (suc n) (suc place) actor_state at = actor_states_idle n place actor_state at
 
-  pub fresh_dated : (p : State) (lists : List ActorList) (n : ℕ) (desk : List Seat) → desk ≡ replicate n fresh_seat → AreDated p lists desk
-  fresh_dated p lists n desk is = λ place l seat there at.
-      let same = seats_idle n place seat (ap (λ (k : List Seat). slice_get k place) (sym is) ∙ at) in
-      subst (λ (k : Seat). IsDated p (slice_get l.orders k.number) k.work) same (idle_dated p (slice_get l.orders 0))
+  pub fresh_dated : (p : State) (lists : List ActorList) (n : ℕ) (desk : List ActorState) → desk ≡ replicate n fresh_actor_state → AreDated p lists desk
+  fresh_dated p lists n desk is = λ place l actor_state there at.
+      let same = actor_states_idle n place actor_state (ap (λ (k : List ActorState). slice_get k place) (sym is) ∙ at) in
+      subst (λ (k : ActorState). IsDated p (slice_get l.orders k.number) k.work) same (idle_dated p (slice_get l.orders 0))
 
   pub fresh_is_central : (partition : PartitionId) (config : Config) (lists : List ActorList) (disks : List D) (s : S) (m : M) (w : Whole D S M) → IsConfig config → AreListsFor config lists
       → IsFresh disk store meta partition config lists disks s m w → IsSeenEmpty disk store meta w → IsCentral disk store meta (fresh config) w
@@ -185,7 +185,7 @@ module _ {D S M : Type 0} (disk : DiskGhosts D) (store : StoreGhosts S) (meta : 
     scene = scene_of config lists w;
     shows_tier = tier_shown partition config lists disks s m w f seen;
     tier = subst (λ (p : State). TierSafe (scene_of config lists w) p) (plain_fresh (fresh config) (seen_as w (fresh_held config.brokers)) central f.journal) safe;
-    noted = fresh_noted (length lists) w.desk f.desk;
+    recorded = fresh_recorded (length lists) w.desk f.desk;
     dated = fresh_dated central.plain w.lists (length lists) w.desk f.desk;
     few = left config lists w.lists w.desk fit f.lists_are f.desk;
   }
@@ -196,9 +196,9 @@ module _ {D S M : Type 0} (disk : DiskGhosts D) (store : StoreGhosts S) (meta : 
         config_is = f.config_is;
         lists_are = f.lists_are;
         held = refl;
-        desk = ap (λ (d : List Seat). desk_seen d) f.desk ∙ all_fresh (length lists);
+        desk = ap (λ (d : List ActorState). desk_seen d) f.desk ∙ all_fresh (length lists);
         journal = f.journal;
       })
 
       safe : TierSafe (scene_of config lists w) (fresh config)
-      safe = (fresh_both config (length lists) (scene_of config lists w) fits.some (record { objects = seen.objects seen.store_tells; notes = refl; sites = refl; desk = refl })).tier
+      safe = (fresh_both config (length lists) (scene_of config lists w) fits.some (record { objects = seen.objects seen.store_tells; notes = refl; tier_views = refl; desk = refl })).tier

@@ -5,17 +5,17 @@ use Rattle.tier_base.specs.declared.plain.State.{State}
 use Rattle.tier_base.specs.declared.plain.State.TheVariants.{CopyStarted, CopyFinished, DeleteStarted, DeleteFinished}
 use Rattle.object_store.specs.declared.store.Store.{Ghosts as StoreGhosts}
 use Rattle.meta_log.specs.declared.log.MetaLog.{Ghosts as MetaGhosts}
-use Rattle.meta_log.specs.declared.teller.Teller.{Teller}
+use Rattle.meta_log.specs.declared.event_origin.EventOrigin.{EventOrigin}
 use Rattle.remote_view.specs.Fold.{Seen as View, state_of}
 use Rattle.copy_task.specs.Copying.{Copied, keys}
 use Rattle.copy_task.specs.Turns.{Tiers, StartRow, FinishRow, CheckRow, PutRow, DeleteRow, CopyRow, checked, delete_at, overtaken}
 use Rattle.copy_task.specs.declared.turn.CopyTurn.{CopyTurn}
 use Rattle.copy_task.specs.declared.turn.CopyTurn.TheVariants.{Goes as GoesOn, Ends}
-use Rattle.copy_task.specs.declared.turn.Next.{Next}
-use Rattle.copy_task.specs.declared.turn.Next.TheVariants.{Start, Put, Finish, Check, Delete}
+use Rattle.copy_task.specs.declared.turn.CopyStep.{CopyStep}
+use Rattle.copy_task.specs.declared.turn.CopyStep.TheVariants.{Start, Put, Finish, Check, Delete}
 use Rattle.plain_log.specs.declared.answer.Answer.TheVariants.{MetaFault, StoreFault}
-use Rattle.partition_world.specs.Seats.{copy_outcome}
-use Rattle.partition_turns.proofs.Told.{Told}
+use Rattle.partition_world.specs.ActorStates.{copy_outcome}
+use Rattle.partition_commands.proofs.Told.{Told}
 use Rattle.partition_world.proofs.TurnsTold.{TurnTold, StoreLasts, StoreRose, MetaLasts, MetaRose, store_same, meta_same, store_ran, meta_ran}
 
 module _ (A B : Type 0) where
@@ -35,16 +35,16 @@ module _ (A B : Type 0) where
   deleted_told C E copy view n (Some key) = tt
 
   module _ {S M : Type 0} (store : StoreGhosts S) (meta : MetaGhosts M) where
-    start_lasts : (C : Type 0) (copy : Copied) (teller : Teller) (turn : CopyTurn) (old new : M) → StartRow meta.content meta.control copy teller (Ok turn) old new
+    start_lasts : (C : Type 0) (copy : Copied) (origin : EventOrigin) (turn : CopyTurn) (old new : M) → StartRow meta.content meta.control copy origin (Ok turn) old new
         → MetaLasts meta old new × TurnTold A B C (MetaRose meta old new) (copy_outcome turn)
-    start_lasts C copy teller (Ends MetaFault) old new w = (meta_ran meta _ _ old new w.control.ran, w.control.ran.cause refl)
-    start_lasts C copy teller turn old new w =
+    start_lasts C copy origin (Ends MetaFault) old new w = (meta_ran meta _ _ old new w.control.ran, w.control.ran.cause refl)
+    start_lasts C copy origin turn old new w =
         (meta_ran meta _ _ old new w.1.control.ran, subst (λ (t : CopyTurn). TurnTold A B C (MetaRose meta old new) (copy_outcome t)) (sym w.0) tt)
 
-    finish_lasts : (C : Type 0) (copy : Copied) (teller : Teller) (turn : CopyTurn) (old new : M) → FinishRow meta.content meta.control copy teller (Ok turn) old new
+    finish_lasts : (C : Type 0) (copy : Copied) (origin : EventOrigin) (turn : CopyTurn) (old new : M) → FinishRow meta.content meta.control copy origin (Ok turn) old new
         → MetaLasts meta old new × TurnTold A B C (MetaRose meta old new) (copy_outcome turn)
-    finish_lasts C copy teller (Ends MetaFault) old new w = (meta_ran meta _ _ old new w.control.ran, w.control.ran.cause refl)
-    finish_lasts C copy teller turn old new w =
+    finish_lasts C copy origin (Ends MetaFault) old new w = (meta_ran meta _ _ old new w.control.ran, w.control.ran.cause refl)
+    finish_lasts C copy origin turn old new w =
         (meta_ran meta _ _ old new w.1.control.ran, subst (λ (t : CopyTurn). TurnTold A B C (MetaRose meta old new) (copy_outcome t)) (sym w.0) tt)
 
     check_lasts : (C : Type 0) (copy : Copied) (turn : CopyTurn) (before after : View) (old new : M) → CheckRow meta.content meta.control copy (Ok turn) before after old new
@@ -78,22 +78,22 @@ module _ (A B : Type 0) where
           (deleted_told (StoreRose store old new) E copy view (n + 1) (slice_get (keys copy) (n + 1))),
     )
 
-    pub copy_lasts : (copy : Copied) (teller : Teller) (next : Next) (turn : CopyTurn) (old new : Tiers S M)
-        → CopyRow store.content store.control meta.content meta.control copy teller next (Ok turn) old new
+    pub copy_lasts : (copy : Copied) (origin : EventOrigin) (next : CopyStep) (turn : CopyTurn) (old new : Tiers S M)
+        → CopyRow store.content store.control meta.content meta.control copy origin next (Ok turn) old new
         → StoreLasts store old.store new.store × MetaLasts meta old.meta new.meta
         × TurnTold A B (StoreRose store old.store new.store) (MetaRose meta old.meta new.meta) (copy_outcome turn)
-    copy_lasts copy teller Start turn old new w =
-        let k = start_lasts (StoreRose store old.store new.store) copy teller turn old.meta new.meta w.1 in
+    copy_lasts copy origin Start turn old new w =
+        let k = start_lasts (StoreRose store old.store new.store) copy origin turn old.meta new.meta w.1 in
         (store_same store old.store new.store (ap (λ (t : Tiers S M). t.store) w.0), k.0, k.1)
-    copy_lasts copy teller (Put n) turn old new w =
+    copy_lasts copy origin (Put n) turn old new w =
         let k = put_lasts (MetaRose meta old.meta new.meta) copy n (slice_get (keys copy) n) turn old.store new.store w.1 in
         (k.0, meta_same meta old.meta new.meta (ap (λ (t : Tiers S M). t.meta) w.0), k.1)
-    copy_lasts copy teller Finish turn old new w =
-        let k = finish_lasts (StoreRose store old.store new.store) copy teller turn old.meta new.meta w.1 in
+    copy_lasts copy origin Finish turn old new w =
+        let k = finish_lasts (StoreRose store old.store new.store) copy origin turn old.meta new.meta w.1 in
         (store_same store old.store new.store (ap (λ (t : Tiers S M). t.store) w.0), k.0, k.1)
-    copy_lasts copy teller Check turn old new w =
+    copy_lasts copy origin Check turn old new w =
         let k = check_lasts (StoreRose store old.store new.store) copy turn old.view new.view old.meta new.meta w.1 in
         (store_same store old.store new.store w.0, k.0, k.1)
-    copy_lasts copy teller (Delete n) turn old new w =
+    copy_lasts copy origin (Delete n) turn old new w =
         let k = delete_lasts (MetaRose meta old.meta new.meta) copy old.view n (slice_get (keys copy) n) turn old.store new.store w.1 in
         (k.0, meta_same meta old.meta new.meta (ap (λ (t : Tiers S M). t.meta) w.0), k.1)

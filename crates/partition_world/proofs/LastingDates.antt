@@ -15,12 +15,12 @@ use Rattle.remote_view.specs.Fold.{Seen as View, entry_of}
 use Rattle.remote_find.specs.declared.piece.Piece.{Piece}
 use Rattle.tier_fetch.specs.declared.turn.FetchTurn.{FetchTurn}
 use Rattle.tier_fetch.specs.declared.turn.FetchTurn.TheVariants as fetch
-use Rattle.tier_fetch.specs.declared.turn.Next.TheVariants as fetching
+use Rattle.tier_fetch.specs.declared.turn.FetchStep.TheVariants as fetching
 use Rattle.tier_fetch.specs.declared.turn.Span.{Span}
 use Rattle.tier_fetch.specs.Turns.{Tiers, FetchRow, spot_in}
 use Rattle.time_find.specs.declared.turn.Asked.{Asked}
-use Rattle.time_find.specs.declared.turn.Next.{Next}
-use Rattle.time_find.specs.declared.turn.Next.TheVariants.{Seek, Times as ReadsTimes, Index, Log}
+use Rattle.time_find.specs.declared.turn.SearchStep.{SearchStep}
+use Rattle.time_find.specs.declared.turn.SearchStep.TheVariants.{Seek, Times as ReadsTimes, Index, Log}
 use Rattle.time_find.specs.declared.turn.TimeTurn.{TimeTurn}
 use Rattle.time_find.specs.declared.turn.TimeTurn.TheVariants.{Goes, Ends}
 use Rattle.time_find.specs.Passing.{Seeks}
@@ -28,8 +28,8 @@ use Rattle.time_find.specs.Turns.{IsSearched, TimesBytes, Times, Indexes, Search
 use Rattle.plain_log.specs.declared.answer.Answer.{Answer}
 use Rattle.plain_log.specs.declared.answer.Answer.TheVariants.{MetaFault, Damaged, Run, Offset}
 use Rattle.plain_log.specs.declared.answer.Place.TheVariants.{Meta}
-use Rattle.partition_world.specs.Seats.{date_outcome, fetch_outcome}
-use Rattle.partition_turns.proofs.Told.{Told}
+use Rattle.partition_world.specs.ActorStates.{date_outcome, fetch_outcome}
+use Rattle.partition_commands.proofs.Told.{Told}
 use Rattle.partition_world.proofs.TurnsTold.{TurnTold, StoreLasts, StoreRose, MetaLasts, MetaRose, store_same, meta_same, store_ran, meta_ran}
 use Rattle.partition_world.proofs.LastingSearches.{fetch_lasts}
 
@@ -108,7 +108,7 @@ module _ (A B : Type 0) where
         × TurnTold A B (StoreRose store old.store new.store) (MetaRose meta old.meta new.meta) (date_outcome turn)
 
     -- no call was made
-    goes_lasted : (old new : Tiers S M) (turn : TimeTurn) (at : ℕ) (next : Next)
+    goes_lasted : (old new : Tiers S M) (turn : TimeTurn) (at : ℕ) (next : SearchStep)
         → ◌≡◌ {A = Result TimeTurn AllocError} (Ok turn) (Ok (Goes at next)) → new ≡ old → Lasted old new turn
     goes_lasted old new turn at next is same = (
       store_same store old.store new.store (ap (λ (t : Tiers S M). t.store) same),
@@ -135,7 +135,7 @@ module _ (A B : Type 0) where
     log_lasts asked line from piece span (Err e) turn old new row w = absurd (let no : false ≡ true = w in cc)
 
     -- among the remote segments
-    pub time_lasts : (asked : Asked) (line : List (ℕ × ℕ)) (cursor : ℕ) (next : Next) (turn : TimeTurn) (old new : Tiers S M)
+    pub time_lasts : (asked : Asked) (line : List (ℕ × ℕ)) (cursor : ℕ) (next : SearchStep) (turn : TimeTurn) (old new : Tiers S M)
         → TimeRow store.content store.control meta.content meta.control asked line cursor next (Ok turn) old new
         → StoreLasts store old.store new.store × MetaLasts meta old.meta new.meta
         × TurnTold A B (StoreRose store old.store new.store) (MetaRose meta old.meta new.meta) (date_outcome turn)

@@ -11,16 +11,16 @@ use Rattle.plain_log.specs.declared.command.ActorList.{ActorList}
 use Rattle.plain_log.specs.declared.command.Config.{Config}
 use Rattle.plain_log.specs.declared.command.Pace.{Pace}
 use Rattle.plain_log.specs.declared.command.Pace.TheVariants.{Until, Times}
-use Rattle.partition_turns.specs.declared.held.Node.{Node}
+use Rattle.partition_commands.specs.declared.partition_state.Node.{Node}
 use Rattle.tier_base.specs.declared.plain.Settings.{Settings}
 use Rattle.disk_model.specs.Content.{Content}
 use Rattle.registry.specs.declared.registry.Registry.{Registry}
 use Rattle.broker_log.specs.Seen.{OnDisk}
-use Rattle.partition_turns.specs.Cold.{AreColdOver}
-use Rattle.partition_turns.specs.Disks.{HaveDisks}
-use Rattle.partition_turns.specs.Fresh.{IsArmed, AreFreshFrom}
-use Rattle.partition_turns.proofs.LastingDisks.{disk_map, last_same, last_then, last_have}
-use Rattle.partition_world.specs.declared.seat.Outcome.{Outcome}
+use Rattle.partition_commands.specs.Cold.{AreColdOver}
+use Rattle.partition_commands.specs.Disks.{HaveDisks}
+use Rattle.partition_commands.specs.Fresh.{IsArmed, AreFreshFrom}
+use Rattle.partition_commands.proofs.LastingDisks.{disk_map, last_same, last_then, last_have}
+use Rattle.partition_world.specs.declared.actor_state.Outcome.{Outcome}
 use Rattle.partition_world.specs.Cold.{IsReopened}
 use Rattle.partition_world.specs.Fresh.{IsFresh, IsNew}
 use Rattle.partition_world.specs.Lasting.{HaveLasted}
@@ -66,8 +66,8 @@ module _ {D S M : Type 0} (disk : DiskGhosts D) (store : StoreGhosts S) (meta : 
 
   pub turn_lasted : (w : Whole D S M) (a : ℕ) (outcome : Outcome) (w' : Whole D S M) → IsTurn disk store meta w a outcome w' → HaveDisks w.held.nodes → HaveLasted disk store meta w w'
   turn_lasted w a outcome w' t have =
-      let r = row_of disk store meta w.partition w.config w.held w.tier t.order.broker.0 t.seat.work t.order.command outcome w'.held w'.tier t.row in
-      let k = turn_lasts disk store meta w.partition w.config w.held w.tier t.order.broker.0 r.x r.side t.seat.work t.order.command outcome w'.held w'.tier r.at r.row in
+      let r = row_of disk store meta w.partition w.config w.held w.tier t.order.broker.0 t.actor_state.work t.order.command outcome w'.held w'.tier t.row in
+      let k = turn_lasts disk store meta w.partition w.config w.held w.tier t.order.broker.0 r.x r.broker_tier t.actor_state.work t.order.command outcome w'.held w'.tier r.at r.row in
       record { disks = k.0.held have; store_lasts = k.0.stores; meta_lasts = k.0.metas }
 
   goes_lasted : (w : Whole D S M) (a : ℕ) (w' : Whole D S M) → Goes disk store meta w a w' → HaveDisks w.held.nodes → HaveLasted disk store meta w w'

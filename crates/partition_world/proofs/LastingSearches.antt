@@ -20,18 +20,18 @@ use Rattle.remote_find.specs.Pieces.{piece_at}
 use Rattle.tier_fetch.specs.Turns.{Tiers, FetchRow, RefreshRow, IndexRow, LoadRow, LogRow, LoadsBytes, Loads, CutsBytes, Cuts, spot_in, chosen as found_piece}
 use Rattle.tier_fetch.specs.declared.turn.FetchTurn.{FetchTurn}
 use Rattle.tier_fetch.specs.declared.turn.FetchTurn.TheVariants as fetch
-use Rattle.tier_fetch.specs.declared.turn.Next.{Next as Search}
-use Rattle.tier_fetch.specs.declared.turn.Next.TheVariants.{Refresh, Index, Log}
+use Rattle.tier_fetch.specs.declared.turn.FetchStep.{FetchStep as Search}
+use Rattle.tier_fetch.specs.declared.turn.FetchStep.TheVariants.{Refresh, Index, Log}
 use Rattle.tier_fetch.specs.declared.turn.Span.{Span}
-use Rattle.tier_fetch.specs.declared.turn.Wanted.{Wanted}
+use Rattle.tier_fetch.specs.declared.turn.FetchRequest.{FetchRequest}
 use Rattle.rebuild_task.specs.declared.turn.RebuildTurn.{RebuildTurn}
 use Rattle.rebuild_task.specs.declared.turn.RebuildTurn.TheVariants.{Goes, Ends}
-use Rattle.rebuild_task.specs.declared.turn.Wanted.{Wanted as Rebuilt}
+use Rattle.rebuild_task.specs.declared.turn.RebuildRequest.{RebuildRequest as Rebuilt}
 use Rattle.rebuild_task.specs.Turns.{TakesBytes, Takes, EpochsRow, RebuildRow}
 use Rattle.plain_log.specs.declared.answer.Answer.{Answer}
 use Rattle.plain_log.specs.declared.answer.Answer.TheVariants.{MetaFault, Damaged, Run}
-use Rattle.partition_world.specs.Seats.{fetch_outcome, rebuild_outcome}
-use Rattle.partition_turns.proofs.Told.{Told}
+use Rattle.partition_world.specs.ActorStates.{fetch_outcome, rebuild_outcome}
+use Rattle.partition_commands.proofs.Told.{Told}
 use Rattle.partition_world.proofs.TurnsTold.{TurnTold, StoreLasts, StoreRose, MetaLasts, MetaRose, store_same, meta_same, store_ran, meta_ran}
 
 module _ (A B : Type 0) where
@@ -46,7 +46,7 @@ module _ (A B : Type 0) where
   rebuilt_told C E turn after is told = let same : turn ≡ after = cc (is) in subst (λ (t : RebuildTurn). TurnTold A B C E (rebuild_outcome t)) (sym same) told
 
   module _ {M : Type 0} (meta : MetaGhosts M) where
-    refresh_lasts : (C : Type 0) (wanted : Wanted) (line : List (ℕ × ℕ)) (turn : FetchTurn) (before after : View) (old new : M) → RefreshRow meta.content meta.control wanted line (Ok turn) before after old new
+    refresh_lasts : (C : Type 0) (wanted : FetchRequest) (line : List (ℕ × ℕ)) (turn : FetchTurn) (before after : View) (old new : M) → RefreshRow meta.content meta.control wanted line (Ok turn) before after old new
         → MetaLasts meta old new × TurnTold A B C (MetaRose meta old new) (fetch_outcome turn)
     refresh_lasts C wanted line (fetch.Ends MetaFault) before after old new w = (meta_ran meta _ _ old new w.control.ran, w.control.ran.cause refl)
     refresh_lasts C wanted line turn before after old new w = (
@@ -56,7 +56,7 @@ module _ (A B : Type 0) where
     )
 
   module _ (E : Type 0) {S : Type 0} (store : StoreGhosts S) where
-    loads_told : (wanted : Wanted) (piece : Piece) (base : ℕ) (spot : Spot) (answer : Result (Option (List ℕ)) Trouble) (turn : FetchTurn) (before after : Cache) (old new : S)
+    loads_told : (wanted : FetchRequest) (piece : Piece) (base : ℕ) (spot : Spot) (answer : Result (Option (List ℕ)) Trouble) (turn : FetchTurn) (before after : Cache) (old new : S)
         → Ran Get (fate_of answer) (store.control old) (store.control new) → Loads wanted piece base spot answer (Ok turn) before after → TurnTold A B (StoreRose store old new) E (fetch_outcome turn)
     loads_told wanted piece base spot (Err Failed) turn before after old new r w = ends_told (StoreRose store old new) E turn _ w.0 (r.cause refl)
     loads_told wanted piece base spot (Err NoMemory) turn before after old new r w = absurd (let no : false ≡ true = w.0 in cc)
@@ -68,19 +68,19 @@ module _ (A B : Type 0) where
         by None (fetch.Goes next) w = tt
         by None (fetch.Ends answer) w = subst (λ (a : Answer). Told A B (StoreRose store old new) E a) (sym w.0) tt
 
-    load_lasts : (wanted : Wanted) (piece : Piece) (view : View) (place : Option (ℕ × Spot)) (turn : FetchTurn) (cache cache' : Cache) (old new : S)
+    load_lasts : (wanted : FetchRequest) (piece : Piece) (view : View) (place : Option (ℕ × Spot)) (turn : FetchTurn) (cache cache' : Cache) (old new : S)
         → LoadRow store.content store.control wanted piece view place (Ok turn) cache cache' old new → StoreLasts store old new × TurnTold A B (StoreRose store old new) E (fetch_outcome turn)
     load_lasts wanted piece view None turn cache cache' old new w = (store_same store old new w.2, ends_told (StoreRose store old new) E turn _ w.0 tt)
     load_lasts wanted piece view (Some place) turn cache cache' old new w =
         (store_ran store _ _ old new w.gets.control, loads_told wanted piece place.0 place.1 w.answer turn cache cache' old new w.gets.control w.loads)
 
-    index_lasts : (wanted : Wanted) (piece : Piece) (view : View) (turn : FetchTurn) (index : Option OffsetTable) (cache cache' : Cache) (old new : S)
+    index_lasts : (wanted : FetchRequest) (piece : Piece) (view : View) (turn : FetchTurn) (index : Option OffsetTable) (cache cache' : Cache) (old new : S)
         → IndexRow store.content store.control wanted piece view (Ok turn) index cache cache' old new → StoreLasts store old new × TurnTold A B (StoreRose store old new) E (fetch_outcome turn)
     index_lasts wanted piece view turn (Some index) cache cache' old new w = (store_same store old new w.2, ends_told (StoreRose store old new) E turn _ w.0 tt)
     index_lasts wanted piece view turn None cache cache' old new w =
         load_lasts wanted piece view (spot_in wanted.partition piece.id part.Index (entry_of piece.id view.entries)) turn cache cache' old new w
 
-    cuts_told : (wanted : Wanted) (piece : Piece) (spot : Spot) (span : Span) (answer : Result (Option (List ℕ)) Trouble) (turn : FetchTurn) (old new : S)
+    cuts_told : (wanted : FetchRequest) (piece : Piece) (spot : Spot) (span : Span) (answer : Result (Option (List ℕ)) Trouble) (turn : FetchTurn) (old new : S)
         → Ran Get (fate_of answer) (store.control old) (store.control new) → Cuts wanted piece spot span answer (Ok turn) → TurnTold A B (StoreRose store old new) E (fetch_outcome turn)
     cuts_told wanted piece spot span (Err Failed) turn old new r w = ends_told (StoreRose store old new) E turn _ w (r.cause refl)
     cuts_told wanted piece spot span (Err NoMemory) turn old new r w = absurd (let no : false ≡ true = w in cc)
@@ -93,7 +93,7 @@ module _ (A B : Type 0) where
         by None (fetch.Ends (Damaged place at)) w = tt
         by None turn w = elim w [ ]
 
-    log_lasts : (wanted : Wanted) (piece : Piece) (span : Span) (view : View) (place : Option (ℕ × Spot)) (turn : FetchTurn) (old new : S)
+    log_lasts : (wanted : FetchRequest) (piece : Piece) (span : Span) (view : View) (place : Option (ℕ × Spot)) (turn : FetchTurn) (old new : S)
         → LogRow store.content store.control wanted piece span view place (Ok turn) old new → StoreLasts store old new × TurnTold A B (StoreRose store old new) E (fetch_outcome turn)
     log_lasts wanted piece span view None turn old new w = (store_same store old new w.1, ends_told (StoreRose store old new) E turn _ w.0 tt)
     log_lasts wanted piece span view (Some place) turn old new w =
@@ -121,7 +121,7 @@ module _ (A B : Type 0) where
     rebuild_lasts wanted line view turn old new w = epochs_lasts wanted.offset view _ turn old new w
 
   module _ {S M : Type 0} (store : StoreGhosts S) (meta : MetaGhosts M) where
-    pub fetch_lasts : (wanted : Wanted) (line : List (ℕ × ℕ)) (next : Search) (turn : FetchTurn) (old new : Tiers S M)
+    pub fetch_lasts : (wanted : FetchRequest) (line : List (ℕ × ℕ)) (next : Search) (turn : FetchTurn) (old new : Tiers S M)
         → FetchRow store.content store.control meta.content meta.control wanted line next (Ok turn) old new
         → StoreLasts store old.store new.store × MetaLasts meta old.meta new.meta
         × TurnTold A B (StoreRose store old.store new.store) (MetaRose meta old.meta new.meta) (fetch_outcome turn)

@@ -3,16 +3,16 @@ use Rattle.std.proofs.Common.{◌≡◌, ◌≢◌, inl, inr, ◌∙◌, sym, ap
 use Rattle.std.proofs.lemmas.Bool.Decides.{nat_tests}
 use Rattle.log_terms.proofs.Lists.{get-set, within}
 use Rattle.plain_log.specs.declared.command.ActorList.{ActorList}
-use Rattle.partition_seen.specs.declared.seat.Stepped.{Stepped}
-use Rattle.partition_seen.specs.declared.seat.Stepped.TheVariants.{Ran, Done, Nothing, NoMemory}
+use Rattle.laws_partition.specs.declared.actor_progress.Stepped.{Stepped}
+use Rattle.laws_partition.specs.declared.actor_progress.Stepped.TheVariants.{Ran, Done, Nothing, NoMemory}
 use Rattle.disk_model.specs.declared.disk.Disk.{Ghosts as DiskGhosts}
 use Rattle.object_store.specs.declared.store.Store.{Ghosts as StoreGhosts}
 use Rattle.meta_log.specs.declared.log.MetaLog.{Ghosts as MetaGhosts}
 use Rattle.partition_world.specs.Whole.{Whole}
-use Rattle.partition_world.specs.declared.seat.Outcome.{Outcome}
-use Rattle.partition_world.specs.declared.seat.Outcome.TheVariants.{Answers, Begins, Chose, Goes, Seeks, Dates, Dooms, Deletes, Rebuilds}
-use Rattle.partition_world.specs.declared.seat.Seat.{Seat}
-use Rattle.partition_world.specs.Seats.{seat_after}
+use Rattle.partition_world.specs.declared.actor_state.Outcome.{Outcome}
+use Rattle.partition_world.specs.declared.actor_state.Outcome.TheVariants.{Answers, Begins, Chose, Goes, Seeks, Dates, Dooms, Deletes, Rebuilds}
+use Rattle.partition_world.specs.declared.actor_state.ActorState.{ActorState}
+use Rattle.partition_world.specs.ActorStates.{actor_state_after}
 use Rattle.partition_world.specs.Turn.{IsTurn, IsAtEnd, StaysWhole, Steps}
 use Rattle.partition_world.proofs.Advancing.{turns_left, advances_at, turns_less}
 use Rattle.partition_world.specs.Central.{KeepsCentral}
@@ -33,29 +33,29 @@ module _ {D S M : Type 0} (disk : DiskGhosts D) (store : StoreGhosts S) (meta : 
     ends = λ n e. b.ends n (a.ends n e);
   }
 
-  -- a seat never goes back
-  number_after : (seat : Seat) (outcome : Outcome) → seat.number ≤ (seat_after seat outcome).number
-  number_after seat (Answers answer) = omega arith
-  number_after seat (Begins g) = omega arith
-  number_after seat (Chose copy) = omega arith
-  number_after seat (Goes next) = omega arith
-  number_after seat (Seeks next) = omega arith
-  number_after seat (Dates cursor next) = omega arith
-  number_after seat (Dooms segment) = omega arith
-  number_after seat (Deletes next) = omega arith
-  number_after seat (Rebuilds next) = omega arith
+  -- an actor's state never goes back
+  number_after : (actor_state : ActorState) (outcome : Outcome) → actor_state.number ≤ (actor_state_after actor_state outcome).number
+  number_after actor_state (Answers answer) = omega arith
+  number_after actor_state (Begins g) = omega arith
+  number_after actor_state (Chose copy) = omega arith
+  number_after actor_state (Goes next) = omega arith
+  number_after actor_state (Seeks next) = omega arith
+  number_after actor_state (Dates cursor next) = omega arith
+  number_after actor_state (Dooms segment) = omega arith
+  number_after actor_state (Deletes next) = omega arith
+  number_after actor_state (Rebuilds next) = omega arith
 
   turn_ends : (w : Whole D S M) (a : ℕ) (outcome : Outcome) (w' : Whole D S M) → IsTurn disk store meta w a outcome w' → (b : ℕ) → IsAtEnd w b → IsAtEnd w' b
-  turn_ends w a outcome w' t b e = λ place l seat s.
+  turn_ends w a outcome w' t b e = λ place l actor_state s.
       let old : slice_get w.lists place ≡ Some l = ap (λ (k : List ActorList). slice_get k place) (sym t.lists) ∙ s.list in
-      let new : slice_get (slice_set w.desk t.place (seat_after t.seat outcome)) place ≡ Some seat = ap (λ (k : List Seat). slice_get k place) (sym t.desk) ∙ s.seat_is in
-      elim (get-set w.desk t.place (seat_after t.seat outcome) place seat new) [
+      let new : slice_get (slice_set w.desk t.place (actor_state_after t.actor_state outcome)) place ≡ Some actor_state = ap (λ (k : List ActorState). slice_get k place) (sym t.desk) ∙ s.actor_state_is in
+      elim (get-set w.desk t.place (actor_state_after t.actor_state outcome) place actor_state new) [
         | inl one ↦
-            let was : slice_get w.desk place ≡ Some t.seat = ap (λ (k : ℕ). slice_get w.desk k) one.0 ∙ t.at.seat_is in
-            let before = e place l t.seat (record { list = old; actor = s.actor; seat_is = was }) in
-            let on = number_after t.seat outcome in
-            omega (arith, before, on, ap (λ (k : Seat). k.number) one.1)
-        | inr other ↦ e place l seat (record { list = old; actor = s.actor; seat_is = other.1 })
+            let was : slice_get w.desk place ≡ Some t.actor_state = ap (λ (k : ℕ). slice_get w.desk k) one.0 ∙ t.at.actor_state_is in
+            let before = e place l t.actor_state (record { list = old; actor = s.actor; actor_state_is = was }) in
+            let on = number_after t.actor_state outcome in
+            omega (arith, before, on, ap (λ (k : ActorState). k.number) one.1)
+        | inr other ↦ e place l actor_state (record { list = old; actor = s.actor; actor_state_is = other.1 })
       ]
 
   pub turn_later : (w : Whole D S M) (a : ℕ) (outcome : Outcome) (w' : Whole D S M) → IsTurn disk store meta w a outcome w' → KeepsCentral disk store meta w w' → IsLater disk store meta w w'
@@ -78,7 +78,7 @@ module _ {D S M : Type 0} (disk : DiskGhosts D) (store : StoreGhosts S) (meta : 
     lists = ap (λ (k : Whole D S M). k.lists) s.fields;
     central = keeps;
     left = steps_keep_left disk store meta w a NoMemory w' s;
-    ends = λ b e. subst (λ (k : Whole D S M). IsAtEnd k b) (sym s.fields) (λ place l seat at. e place l seat (record { list = at.list; actor = at.actor; seat_is = at.seat_is }));
+    ends = λ b e. subst (λ (k : Whole D S M). IsAtEnd k b) (sym s.fields) (λ place l actor_state at. e place l actor_state (record { list = at.list; actor = at.actor; actor_state_is = at.actor_state_is }));
   }
 
   pub step_later : (w : Whole D S M) (a : ℕ) (stepped : Stepped) (w' : Whole D S M) → Steps disk store meta w a stepped w' → KeepsCentral disk store meta w w' → IsLater disk store meta w w'
@@ -90,8 +90,8 @@ module _ {D S M : Type 0} (disk : DiskGhosts D) (store : StoreGhosts S) (meta : 
   -- a turn leaves a turn less
   pub turn_left : (w : Whole D S M) (a : ℕ) (outcome : Outcome) (w' : Whole D S M) → IsTurn disk store meta w a outcome w' → turns_left w'.lists w'.desk < turns_left w.lists w.desk
   turn_left w a outcome w' t =
-      let on = advances_at disk store meta w.partition w.config w.held w.tier t.order.broker.0 t.seat.work t.order.command outcome w'.held w'.tier t.row in
-      let less = turns_less w.lists w.desk t.place t.list t.seat outcome t.at.list t.at.seat_is (within t.list.orders t.seat.number t.order t.next) on in
+      let on = advances_at disk store meta w.partition w.config w.held w.tier t.order.broker.0 t.actor_state.work t.order.command outcome w'.held w'.tier t.row in
+      let less = turns_less w.lists w.desk t.place t.list t.actor_state outcome t.at.list t.at.actor_state_is (within t.list.orders t.actor_state.number t.order t.next) on in
       rw (t.lists, t.desk) (omega (arith, less))
 
   -- a step that goes on does
@@ -104,7 +104,7 @@ module _ {D S M : Type 0} (disk : DiskGhosts D) (store : StoreGhosts S) (meta : 
 
   -- where the actor of each list is at its end, each actor is
   pub all_ended : (w : Whole D S M) → ((place : ℕ) (l : ActorList) → slice_get w.lists place ≡ Some l → IsAtEnd w l.actor.0) → (a : ℕ) → IsAtEnd w a
-  all_ended w h a = λ place l seat s. h place l s.list place l seat (record { list = s.list; actor = refl; seat_is = s.seat_is })
+  all_ended w h a = λ place l actor_state s. h place l s.list place l actor_state (record { list = s.list; actor = refl; actor_state_is = s.actor_state_is })
 
   -- one list more is at its end
   pub place_ended : (w w' : Whole D S M) (place : ℕ) (list : ActorList) → IsLater disk store meta w w' → slice_get w.lists place ≡ Some list → IsAtEnd w' list.actor.0

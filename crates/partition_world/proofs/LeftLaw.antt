@@ -10,10 +10,10 @@ use Rattle.plain_log.specs.declared.command.Config.{Config}
 use Rattle.plain_log.specs.Fresh.{fresh}
 use Rattle.plain_log.specs.Orders.{AreListsFor, IsConfig}
 use Rattle.plain_log.specs.declared.state.State.{State}
-use Rattle.partition_seen.specs.declared.seat.Stepped.{Stepped}
+use Rattle.laws_partition.specs.declared.actor_progress.Stepped.{Stepped}
 use Rattle.partition_world.specs.Central.{IsCentral}
 use Rattle.partition_world.specs.Left.{resolved, whole_with, IsCentralLeft, KeepsCentralLeft}
-use Rattle.partition_world.specs.declared.seat.Outcome.{Outcome}
+use Rattle.partition_world.specs.declared.actor_state.Outcome.{Outcome}
 use Rattle.partition_world.specs.Fresh.{IsFresh, IsSeenEmpty}
 use Rattle.partition_world.specs.Turn.{IsTurn, Steps}
 use Rattle.partition_world.specs.Whole.{Whole}
@@ -38,9 +38,9 @@ module _ {D S M : Type 0} (disk : DiskGhosts D) (store : StoreGhosts S) (meta : 
         shows = k.shows;
         central = k.central;
         scene = k.scene;
-        shows_tier = record { partition = t.partition; store_tells = t.store_tells; objects = t.objects; meta_tells = t.meta_tells; notes = t.notes; sites = t.sites; desk = t.desk };
+        shows_tier = record { partition = t.partition; store_tells = t.store_tells; objects = t.objects; meta_tells = t.meta_tells; notes = t.notes; tier_views = t.tier_views; desk = t.desk };
         tier = k.tier;
-        noted = k.noted;
+        recorded = k.recorded;
         dated = k.dated;
         few = k.few;
       }
@@ -65,10 +65,10 @@ module _ {D S M : Type 0} (disk : DiskGhosts D) (store : StoreGhosts S) (meta : 
         tier = record {
           objects = f.tier.objects;
           store_armed = f.tier.store_armed;
-          notes = record { tells = f.tier.notes.tells; notes = refl; left = λ x at. at };
+          notes = record { is_observable = f.tier.notes.is_observable; notes = refl; left = λ x at. at };
           meta_armed = f.tier.meta_armed;
         };
-        sides = f.sides;
+        broker_tiers = f.broker_tiers;
         desk = f.desk;
         journal = f.journal;
       })

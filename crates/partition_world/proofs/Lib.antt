@@ -1,9 +1,9 @@
-pub mod Sides
+pub mod BrokerTierStates
 pub mod Reaching
 pub mod Dispatch
 pub mod Halting
 pub mod Begins
-pub mod Works
+pub mod WorksInProgress
 pub mod FetchAdvances
 pub mod DateAdvances
 pub mod ExpiryAdvances
@@ -35,13 +35,13 @@ pub mod CountingSearches
 pub mod CountingDates
 pub mod CountingTurns
 pub mod CountingWants
-pub mod CalmLaw
+pub mod InfallibleLaw
 pub mod Chains
 pub mod FreshLaw
 pub mod LeftLaw
 pub mod ColdLaw
 pub mod SceneParts
-pub mod Noting
+pub mod Recording
 pub mod Dating
 pub mod Passing
 pub mod DateCentral

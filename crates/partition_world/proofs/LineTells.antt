@@ -7,13 +7,13 @@ use Rattle.copy_task.proofs.Mapping.{starts_within}
 use Rattle.remote_view.specs.Fold.{Seen}
 use Rattle.segment_meta.specs.declared.note.Note.{Note}
 use Rattle.tier_safe.specs.Reads.{TellsEpochs, IsRightView}
-use Rattle.tier_safe.specs.Scene.{Work}
+use Rattle.tier_safe.specs.Scene.{TierTask}
 use Rattle.tier_safe.specs.Views.{NotesStand, IsViewOf}
 use Rattle.tier_safe.proofs.Rules.{seen_kept}
-use Rattle.partition_seen.specs.Log.{IsLineFor}
-use Rattle.partition_seen.specs.Seen.{Node}
-use Rattle.partition_seen.specs.Sound.{NodeSound}
-use Rattle.partition_seen.proofs.Lines.{line_at}
+use Rattle.laws_partition.specs.Log.{IsLineFor}
+use Rattle.laws_partition.specs.Seen.{Node}
+use Rattle.laws_partition.specs.Sound.{NodeSound}
+use Rattle.laws_partition.proofs.Lines.{line_at}
 
 -- what holds of each start holds with one more
 all_push : (n : ℕ) (line : List (ℕ × ℕ)) (one : ℕ × ℕ) → AllByRecursion (λ (start : ℕ × ℕ). start.1 ≤ n) line → one.1 ≤ n → AllByRecursion (λ (start : ℕ × ℕ). start.1 ≤ n) (line ++ one ∷ [])
@@ -37,7 +37,7 @@ line_tells x s = record {
 }
 
 -- a view of some first notes keeps the rules of views
-pub right_view : (notes : List Note) (desk : List Work) (view : Seen) → NotesStand notes desk → IsViewOf notes view → IsRightView view
+pub right_view : (notes : List Note) (desk : List TierTask) (view : Seen) → NotesStand notes desk → IsViewOf notes view → IsRightView view
 right_view notes desk view n v =
     let kept = seen_kept notes v.before desk n v.begins in
     subst IsRightView (sym v.is) (record { kept = kept.0; distinct = kept.1 })

@@ -11,57 +11,57 @@ use Rattle.tier_base.specs.declared.plain.State.TheVariants.{CopyStarted, CopyFi
 use Rattle.segment_meta.specs.declared.note.Note.{Note}
 use Rattle.meta_log.specs.Content.{Keeps, appended_if}
 use Rattle.meta_log.specs.Calls.{Appends}
-use Rattle.meta_log.specs.declared.teller.Teller.{Teller}
+use Rattle.meta_log.specs.declared.event_origin.EventOrigin.{EventOrigin}
 use Rattle.remote_view.specs.Fold.{Seen, state_of}
 use Rattle.copy_task.specs.Copying.{Copied, keys}
 use Rattle.copy_task.specs.Turns.{Tiers, StartRow, FinishRow, CheckRow, PutRow, DeleteRow, CopyRow, checked, put_at, delete_at}
 use Rattle.copy_task.specs.declared.turn.CopyTurn.{CopyTurn}
 use Rattle.copy_task.specs.declared.turn.CopyTurn.TheVariants.{Goes as GoesOn, Ends}
-use Rattle.copy_task.specs.declared.turn.Next.{Next}
-use Rattle.copy_task.specs.declared.turn.Next.TheVariants.{Start, Put, Finish, Check, Delete}
+use Rattle.copy_task.specs.declared.turn.CopyStep.{CopyStep}
+use Rattle.copy_task.specs.declared.turn.CopyStep.TheVariants.{Start, Put, Finish, Check, Delete}
 use Rattle.expiry_task.specs.Turns as expiring
-use Rattle.expiry_task.specs.declared.turn.Doomed.{Doomed}
+use Rattle.expiry_task.specs.declared.turn.ExpiredSegment.{ExpiredSegment}
 use Rattle.expiry_task.specs.declared.turn.ExpiryTurn.{ExpiryTurn}
 use Rattle.expiry_task.specs.declared.turn.ExpiryTurn.TheVariants as expiry
-use Rattle.expiry_task.specs.declared.turn.Next.{Next as Deletion}
-use Rattle.expiry_task.specs.declared.turn.Next.TheVariants as deletion
+use Rattle.expiry_task.specs.declared.turn.DeletionStep.{DeletionStep as Deletion}
+use Rattle.expiry_task.specs.declared.turn.DeletionStep.TheVariants as deletion
 use Rattle.remote_find.specs.declared.piece.Piece.{Piece}
 use Rattle.tier_fetch.specs.declared.turn.Span.{Span}
 use Rattle.tier_fetch.specs.Turns.{Tiers as Fetched, FetchRow, RefreshRow}
 use Rattle.tier_fetch.specs.declared.turn.FetchTurn.{FetchTurn}
 use Rattle.tier_fetch.specs.declared.turn.FetchTurn.TheVariants as fetch
-use Rattle.tier_fetch.specs.declared.turn.Next.{Next as Search}
-use Rattle.tier_fetch.specs.declared.turn.Next.TheVariants.{Refresh, Index, Log}
-use Rattle.tier_fetch.specs.declared.turn.Wanted.{Wanted}
+use Rattle.tier_fetch.specs.declared.turn.FetchStep.{FetchStep as Search}
+use Rattle.tier_fetch.specs.declared.turn.FetchStep.TheVariants.{Refresh, Index, Log}
+use Rattle.tier_fetch.specs.declared.turn.FetchRequest.{FetchRequest}
 use Rattle.time_find.specs.Turns.{SeekRow, IndexRow, LogRow, TimeRow, wanted_at}
 use Rattle.time_find.specs.declared.turn.Asked.{Asked}
-use Rattle.time_find.specs.declared.turn.Next.{Next as Dating}
-use Rattle.time_find.specs.declared.turn.Next.TheVariants as search
+use Rattle.time_find.specs.declared.turn.SearchStep.{SearchStep as Dating}
+use Rattle.time_find.specs.declared.turn.SearchStep.TheVariants as search
 use Rattle.time_find.specs.declared.turn.TimeTurn.{TimeTurn}
 use Rattle.time_find.specs.declared.turn.TimeTurn.TheVariants as dating
 use Rattle.plain_log.specs.declared.answer.Answer.TheVariants.{MetaFault, StoreFault}
-use Rattle.partition_seen.specs.declared.begun.Begun.{Begun}
-use Rattle.partition_turns.proofs.FreshNodes.{length_more}
-use Rattle.partition_world.specs.declared.seat.Outcome.{Outcome}
-use Rattle.partition_world.specs.declared.seat.Outcome.TheVariants.{Answers, Begins, Chose, Goes, Seeks as Sought, Dates as Dated, Dooms, Deletes, Rebuilds as Rebuilding}
-use Rattle.partition_world.specs.declared.seat.Work.{Work}
-use Rattle.partition_world.specs.declared.seat.Work.TheVariants.{Idle, Noted, Copies, Seeks, Dates, Expires, Rebuilds}
+use Rattle.laws_partition.specs.declared.start_snapshot.StartSnapshot.{StartSnapshot}
+use Rattle.partition_commands.proofs.FreshNodes.{length_more}
+use Rattle.partition_world.specs.declared.actor_state.Outcome.{Outcome}
+use Rattle.partition_world.specs.declared.actor_state.Outcome.TheVariants.{Answers, Begins, Chose, Goes, Seeks as Sought, Dates as Dated, Dooms, Deletes, Rebuilds as Rebuilding}
+use Rattle.partition_world.specs.declared.actor_state.InProgress.{InProgress}
+use Rattle.partition_world.specs.declared.actor_state.InProgress.TheVariants.{Idle, Noted, Copies, Seeks, Dates, Expires, Rebuilds}
 use Rattle.partition_world.specs.Central.{told_by}
-use Rattle.partition_world.specs.Seats.{chosen, moved, sought, dated, doomed, deleting, rebuilding, copy_outcome, expiry_outcome}
+use Rattle.partition_world.specs.ActorStates.{chosen, moved, sought, dated, expired_segment, deleting, rebuilding, copy_outcome, expiry_outcome}
 
 -- how many notes a command has appended at most after a turn; once it is answered it appends none
-abbrev pub told_after : Work → Outcome → ℕ
+abbrev pub told_after : InProgress → Outcome → ℕ
 told_after work (Answers answer) = 2
 told_after work (Begins g) = told_by (Noted g)
 told_after work (Chose copy) = told_by (chosen work copy)
 told_after work (Goes next) = told_by (moved work next)
 told_after work (Sought next) = told_by (sought work next)
 told_after work (Dated cursor next) = told_by (dated work cursor next)
-told_after work (Dooms segment) = told_by (doomed work segment)
+told_after work (Dooms segment) = told_by (expired_segment work segment)
 told_after work (Deletes next) = told_by (deleting work next)
 told_after work (Rebuilding next) = told_by (rebuilding work next)
 
-pub few_told : (work : Work) → told_by work ≤ 2
+pub few_told : (work : InProgress) → told_by work ≤ 2
 few_told Idle = omega arith
 few_told (Noted g) = omega arith
 few_told (Copies g copy Start) = omega arith
@@ -77,16 +77,16 @@ few_told (Expires g segment deletion.Finish) = omega arith
 few_told (Rebuilds g next) = omega arith
 
 -- how many notes a copy has appended at most after a turn
-abbrev told_turn : Begun → Copied → CopyTurn → ℕ
+abbrev told_turn : StartSnapshot → Copied → CopyTurn → ℕ
 told_turn g copy (GoesOn next) = told_by (Copies g copy next)
 told_turn g copy (Ends answer) = 2
 
 -- how many an expiry has
-abbrev deleted_turn : Begun → Doomed → ExpiryTurn → ℕ
+abbrev deleted_turn : StartSnapshot → ExpiredSegment → ExpiryTurn → ℕ
 deleted_turn g segment (expiry.Goes next) = told_by (Expires g segment next)
 deleted_turn g segment (expiry.Ends answer) = 2
 
-next_told : (g : Begun) (segment : Doomed) (n : ℕ) (key : Option ObjectKey) → deleted_turn g segment (expiry.Goes (expiring.delete_at n key)) ≡ 1
+next_told : (g : StartSnapshot) (segment : ExpiredSegment) (n : ℕ) (key : Option ObjectKey) → deleted_turn g segment (expiry.Goes (expiring.delete_at n key)) ≡ 1
 next_told g segment n None = refl
 next_told g segment n (Some key) = refl
 
@@ -94,18 +94,18 @@ appended_most : (done : Bool) (note : Note) (notes : List Note) → length (appe
 appended_most true note notes = let more = length_more notes note in omega (arith, more)
 appended_most false note notes = omega arith
 
-checked_told : (g : Begun) (copy : Copied) (notes : ℕ) (state : Option State) → told_turn g copy (checked copy notes state) ≡ 2
+checked_told : (g : StartSnapshot) (copy : Copied) (notes : ℕ) (state : Option State) → told_turn g copy (checked copy notes state) ≡ 2
 checked_told g copy notes (Some CopyFinished) = refl
 checked_told g copy notes (Some DeleteStarted) = refl
 checked_told g copy notes (Some DeleteFinished) = refl
 checked_told g copy notes (Some CopyStarted) = refl
 checked_told g copy notes None = refl
 
-deleted_told : (g : Begun) (copy : Copied) (view : Seen) (n : ℕ) (key : Option ObjectKey) → told_turn g copy (delete_at copy view n key) ≡ 2
+deleted_told : (g : StartSnapshot) (copy : Copied) (view : Seen) (n : ℕ) (key : Option ObjectKey) → told_turn g copy (delete_at copy view n key) ≡ 2
 deleted_told g copy view n None = refl
 deleted_told g copy view n (Some key) = refl
 
-put_told : (g : Begun) (copy : Copied) (n : ℕ) (key : Option ObjectKey) → told_turn g copy (GoesOn (put_at n key)) ≡ 1
+put_told : (g : StartSnapshot) (copy : Copied) (n : ℕ) (key : Option ObjectKey) → told_turn g copy (GoesOn (put_at n key)) ≡ 1
 put_told g copy n None = refl
 put_told g copy n (Some key) = refl
 
@@ -114,15 +114,15 @@ module _ {M : Type 0} (meta : MetaGhosts M) where
   abbrev pub count : M → ℕ
   count m = length (meta.content m).notes
 
-  appends_most : (note : Note) (fate : Fate) (old new : M) → Appends meta.content meta.control note fate old new → IsTrue (meta.content old).tells → count new ≤ count old + 1
-  appends_most note fate old new a tells =
-      let g = a.content.notes tells in
+  appends_most : (note : Note) (fate : Fate) (old new : M) → Appends meta.content meta.control note fate old new → IsTrue (meta.content old).is_observable → count new ≤ count old + 1
+  appends_most note fate old new a is_observable =
+      let g = a.content.notes is_observable in
       let most = appended_most g.0 note (meta.content old).notes in
       omega (arith, most, ap (λ (l : List Note). length l) g.2)
 
-  appends_none : (note : Note) (old new : M) → Appends meta.content meta.control note Dry old new → IsTrue (meta.content old).tells → count new ≤ count old
-  appends_none note old new a tells =
-      let g = a.content.notes tells in
+  appends_none : (note : Note) (old new : M) → Appends meta.content meta.control note Dry old new → IsTrue (meta.content old).is_observable → count new ≤ count old
+  appends_none note old new a is_observable =
+      let g = a.content.notes is_observable in
       let none = g.1.dry refl in
       let same : (meta.content new).notes ≡ (meta.content old).notes = g.2 ∙ ap (λ (done : Bool). appended_if done note (meta.content old).notes) none in
       omega (arith, ap (λ (l : List Note). length l) same)
@@ -133,23 +133,23 @@ module _ {M : Type 0} (meta : MetaGhosts M) where
   pub same_count : (old new : M) → new ≡ old → count new ≤ count old
   same_count old new is = omega (arith, ap count is)
 
-  start_told : (g : Begun) (copy : Copied) (teller : Teller) (turn : CopyTurn) (old new : M) → StartRow meta.content meta.control copy teller (Ok turn) old new → IsTrue (meta.content old).tells
+  start_told : (g : StartSnapshot) (copy : Copied) (origin : EventOrigin) (turn : CopyTurn) (old new : M) → StartRow meta.content meta.control copy origin (Ok turn) old new → IsTrue (meta.content old).is_observable
       → count new + told_by (Copies g copy Start) ≤ count old + told_turn g copy turn
-  start_told g copy teller (Ends MetaFault) old new w tells = let most = appends_most _ _ old new w tells in omega (arith, most)
-  start_told g copy teller turn old new w tells =
-      let most = appends_most _ _ old new w.1 tells in
+  start_told g copy origin (Ends MetaFault) old new w is_observable = let most = appends_most _ _ old new w is_observable in omega (arith, most)
+  start_told g copy origin turn old new w is_observable =
+      let most = appends_most _ _ old new w.1 is_observable in
       let told : told_turn g copy turn ≡ 1 = ap (told_turn g copy) w.0 in
       omega (arith, most, told)
 
-  finish_told : (g : Begun) (copy : Copied) (teller : Teller) (turn : CopyTurn) (old new : M) → FinishRow meta.content meta.control copy teller (Ok turn) old new → IsTrue (meta.content old).tells
+  finish_told : (g : StartSnapshot) (copy : Copied) (origin : EventOrigin) (turn : CopyTurn) (old new : M) → FinishRow meta.content meta.control copy origin (Ok turn) old new → IsTrue (meta.content old).is_observable
       → count new + told_by (Copies g copy Finish) ≤ count old + told_turn g copy turn
-  finish_told g copy teller (Ends MetaFault) old new w tells = let most = appends_most _ _ old new w tells in omega (arith, most)
-  finish_told g copy teller turn old new w tells =
-      let most = appends_most _ _ old new w.1 tells in
+  finish_told g copy origin (Ends MetaFault) old new w is_observable = let most = appends_most _ _ old new w is_observable in omega (arith, most)
+  finish_told g copy origin turn old new w is_observable =
+      let most = appends_most _ _ old new w.1 is_observable in
       let told : told_turn g copy turn ≡ 2 = ap (told_turn g copy) w.0 in
       omega (arith, most, told)
 
-  check_told : (g : Begun) (copy : Copied) (turn : CopyTurn) (before after : Seen) (old new : M) → CheckRow meta.content meta.control copy (Ok turn) before after old new
+  check_told : (g : StartSnapshot) (copy : Copied) (turn : CopyTurn) (before after : Seen) (old new : M) → CheckRow meta.content meta.control copy (Ok turn) before after old new
       → count new + told_by (Copies g copy Check) ≤ count old + told_turn g copy turn
   check_told g copy (Ends MetaFault) before after old new w = let most = keeps_count old new w.content in omega (arith, most)
   check_told g copy turn before after old new w =
@@ -158,12 +158,12 @@ module _ {M : Type 0} (meta : MetaGhosts M) where
       omega (arith, most, told)
 
 module _ {S M : Type 0} (store : StoreGhosts S) (meta : MetaGhosts M) where
-  put_most : (g : Begun) (copy : Copied) (n : ℕ) (key : Option ObjectKey) (turn : CopyTurn) (old new : S) → PutRow store.content store.control copy n key (Ok turn) old new → 1 ≤ told_turn g copy turn
+  put_most : (g : StartSnapshot) (copy : Copied) (n : ℕ) (key : Option ObjectKey) (turn : CopyTurn) (old new : S) → PutRow store.content store.control copy n key (Ok turn) old new → 1 ≤ told_turn g copy turn
   put_most g copy n None turn old new w = let is : turn ≡ GoesOn Finish = cc (w.0) in omega (arith, ap (told_turn g copy) is)
   put_most g copy n (Some key) (Ends StoreFault) old new w = omega arith
   put_most g copy n (Some key) turn old new w = let told = ap (told_turn g copy) w.0 ∙ put_told g copy (n + 1) (slice_get (keys copy) (n + 1)) in omega (arith, told)
 
-  delete_most : (g : Begun) (copy : Copied) (view : Seen) (n : ℕ) (key : Option ObjectKey) (turn : CopyTurn) (old new : S) → DeleteRow store.content store.control copy view n key turn old new
+  delete_most : (g : StartSnapshot) (copy : Copied) (view : Seen) (n : ℕ) (key : Option ObjectKey) (turn : CopyTurn) (old new : S) → DeleteRow store.content store.control copy view n key turn old new
       → 2 ≤ told_turn g copy turn
   delete_most g copy view n None turn old new w = let told = ap (told_turn g copy) w.0 ∙ deleted_told g copy view n None in omega (arith, told)
   delete_most g copy view n (Some key) (Ends StoreFault) old new w = omega arith
@@ -171,35 +171,35 @@ module _ {S M : Type 0} (store : StoreGhosts S) (meta : MetaGhosts M) where
       let told = ap (told_turn g copy) w.0 ∙ deleted_told g copy view (n + 1) (slice_get (keys copy) (n + 1)) in omega (arith, told)
 
   -- a turn of a copy
-  pub copy_told : (g : Begun) (copy : Copied) (teller : Teller) (next : Next) (turn : CopyTurn) (old new : Tiers S M)
-      → CopyRow store.content store.control meta.content meta.control copy teller next (Ok turn) old new → IsTrue (meta.content old.meta).tells
+  pub copy_told : (g : StartSnapshot) (copy : Copied) (origin : EventOrigin) (next : CopyStep) (turn : CopyTurn) (old new : Tiers S M)
+      → CopyRow store.content store.control meta.content meta.control copy origin next (Ok turn) old new → IsTrue (meta.content old.meta).is_observable
       → count meta new.meta + told_by (Copies g copy next) ≤ count meta old.meta + told_turn g copy turn
-  copy_told g copy teller Start turn old new w tells = start_told meta g copy teller turn old.meta new.meta w.1 tells
-  copy_told g copy teller (Put n) turn old new w tells =
+  copy_told g copy origin Start turn old new w is_observable = start_told meta g copy origin turn old.meta new.meta w.1 is_observable
+  copy_told g copy origin (Put n) turn old new w is_observable =
       let one = put_most g copy n (slice_get (keys copy) n) turn old.store new.store w.1 in
       let same = same_count meta old.meta new.meta (ap (λ (t : Tiers S M). t.meta) w.0) in
       omega (arith, one, same)
-  copy_told g copy teller Finish turn old new w tells = finish_told meta g copy teller turn old.meta new.meta w.1 tells
-  copy_told g copy teller Check turn old new w tells = check_told meta g copy turn old.view new.view old.meta new.meta w.1
-  copy_told g copy teller (Delete n) turn old new w tells =
+  copy_told g copy origin Finish turn old new w is_observable = finish_told meta g copy origin turn old.meta new.meta w.1 is_observable
+  copy_told g copy origin Check turn old new w is_observable = check_told meta g copy turn old.view new.view old.meta new.meta w.1
+  copy_told g copy origin (Delete n) turn old new w is_observable =
       let two = delete_most g copy old.view n (slice_get (keys copy) n) turn old.store new.store w.1 in
       let same = same_count meta old.meta new.meta (ap (λ (t : Tiers S M). t.meta) w.0) in
       omega (arith, two, same)
 
   -- a turn of a fetch appends none
 
-  refresh_count : (wanted : Wanted) (line : List (ℕ × ℕ)) (turn : FetchTurn) (before after : Seen) (old new : M) → RefreshRow meta.content meta.control wanted line (Ok turn) before after old new
+  refresh_count : (wanted : FetchRequest) (line : List (ℕ × ℕ)) (turn : FetchTurn) (before after : Seen) (old new : M) → RefreshRow meta.content meta.control wanted line (Ok turn) before after old new
       → count meta new ≤ count meta old
   refresh_count wanted line (fetch.Ends MetaFault) before after old new w = keeps_count meta old new w.content
   refresh_count wanted line turn before after old new w = keeps_count meta old new w.1.content
 
-  pub fetch_count : (wanted : Wanted) (line : List (ℕ × ℕ)) (next : Search) (turn : FetchTurn) (old new : Fetched S M)
+  pub fetch_count : (wanted : FetchRequest) (line : List (ℕ × ℕ)) (next : Search) (turn : FetchTurn) (old new : Fetched S M)
       → FetchRow store.content store.control meta.content meta.control wanted line next (Ok turn) old new → count meta new.meta ≤ count meta old.meta
   fetch_count wanted line Refresh turn old new w = refresh_count wanted line turn old.view new.view old.meta new.meta w.1
   fetch_count wanted line (Index piece) turn old new w = same_count meta old.meta new.meta (ap (λ (t : Fetched S M). t.meta) w.0)
   fetch_count wanted line (Log piece span) turn old new w = same_count meta old.meta new.meta (ap (λ (t : Fetched S M). t.meta) w.0)
 
-  pub fetch_wants : (wanted : Wanted) (line : List (ℕ × ℕ)) (next : Search) (e : AllocError) (old new : Fetched S M)
+  pub fetch_wants : (wanted : FetchRequest) (line : List (ℕ × ℕ)) (next : Search) (e : AllocError) (old new : Fetched S M)
       → FetchRow store.content store.control meta.content meta.control wanted line next (Err e) old new → count meta new.meta ≤ count meta old.meta
   fetch_wants wanted line Refresh e old new w = keeps_count meta old.meta new.meta w.1.content
   fetch_wants wanted line (Index piece) e old new w = same_count meta old.meta new.meta (ap (λ (t : Fetched S M). t.meta) w.0)
@@ -212,7 +212,7 @@ module _ {S M : Type 0} (store : StoreGhosts S) (meta : MetaGhosts M) where
   seeking_count asked line cursor (dating.Ends MetaFault) before after old new w = keeps_count meta old new w.content
   seeking_count asked line cursor turn before after old new w = keeps_count meta old new w.1.content
 
-  fetched_count : (wanted : Wanted) (line : List (ℕ × ℕ)) (next : Search) (result : Result FetchTurn AllocError) (old new : Fetched S M)
+  fetched_count : (wanted : FetchRequest) (line : List (ℕ × ℕ)) (next : Search) (result : Result FetchTurn AllocError) (old new : Fetched S M)
       → FetchRow store.content store.control meta.content meta.control wanted line next result old new
       → count meta new.meta ≤ count meta old.meta
   fetched_count wanted line next (Ok turn) old new w = fetch_count wanted line next turn old new w
@@ -253,61 +253,61 @@ module _ {S M : Type 0} (store : StoreGhosts S) (meta : MetaGhosts M) where
 
   -- a turn of an expiry
 
-  begin_told : (g : Begun) (segment : Doomed) (teller : Teller) (turn : ExpiryTurn) (old new : M) → expiring.StartRow meta.content meta.control segment teller (Ok turn) old new → IsTrue (meta.content old).tells
+  begin_told : (g : StartSnapshot) (segment : ExpiredSegment) (origin : EventOrigin) (turn : ExpiryTurn) (old new : M) → expiring.StartRow meta.content meta.control segment origin (Ok turn) old new → IsTrue (meta.content old).is_observable
       → count meta new + told_by (Expires g segment deletion.Start) ≤ count meta old + deleted_turn g segment turn
-  begin_told g segment teller (expiry.Ends MetaFault) old new w tells = let most = appends_most meta _ _ old new w tells in omega (arith, most)
-  begin_told g segment teller turn old new w tells =
-      let most = appends_most meta _ _ old new w.1 tells in
+  begin_told g segment origin (expiry.Ends MetaFault) old new w is_observable = let most = appends_most meta _ _ old new w is_observable in omega (arith, most)
+  begin_told g segment origin turn old new w is_observable =
+      let most = appends_most meta _ _ old new w.1 is_observable in
       let told : deleted_turn g segment turn ≡ 1 = ap (deleted_turn g segment) w.0 in
       omega (arith, most, told)
 
-  end_told : (g : Begun) (segment : Doomed) (teller : Teller) (turn : ExpiryTurn) (old new : M) → expiring.FinishRow meta.content meta.control segment teller (Ok turn) old new → IsTrue (meta.content old).tells
+  end_told : (g : StartSnapshot) (segment : ExpiredSegment) (origin : EventOrigin) (turn : ExpiryTurn) (old new : M) → expiring.FinishRow meta.content meta.control segment origin (Ok turn) old new → IsTrue (meta.content old).is_observable
       → count meta new + told_by (Expires g segment deletion.Finish) ≤ count meta old + deleted_turn g segment turn
-  end_told g segment teller (expiry.Ends MetaFault) old new w tells = let most = appends_most meta _ _ old new w tells in omega (arith, most)
-  end_told g segment teller turn old new w tells =
-      let most = appends_most meta _ _ old new w.1 tells in
+  end_told g segment origin (expiry.Ends MetaFault) old new w is_observable = let most = appends_most meta _ _ old new w is_observable in omega (arith, most)
+  end_told g segment origin turn old new w is_observable =
+      let most = appends_most meta _ _ old new w.1 is_observable in
       let told : deleted_turn g segment turn ≡ 2 = ap (deleted_turn g segment) w.0 in
       omega (arith, most, told)
 
-  object_most : (g : Begun) (segment : Doomed) (n : ℕ) (key : Option ObjectKey) (turn : ExpiryTurn) (old new : S) → expiring.DeleteRow store.content store.control segment n key turn old new
+  object_most : (g : StartSnapshot) (segment : ExpiredSegment) (n : ℕ) (key : Option ObjectKey) (turn : ExpiryTurn) (old new : S) → expiring.DeleteRow store.content store.control segment n key turn old new
       → 1 ≤ deleted_turn g segment turn
   object_most g segment n None turn old new w = let told : deleted_turn g segment turn ≡ 1 = ap (deleted_turn g segment) w.0 in omega (arith, told)
   object_most g segment n (Some key) (expiry.Ends StoreFault) old new w = omega arith
   object_most g segment n (Some key) turn old new w =
       let told = ap (deleted_turn g segment) w.0 ∙ next_told g segment (n + 1) (slice_get (expiring.keys segment) (n + 1)) in omega (arith, told)
 
-  pub expiry_told : (g : Begun) (segment : Doomed) (teller : Teller) (next : Deletion) (turn : ExpiryTurn) (old new : expiring.Tiers S M)
-      → expiring.ExpiryRow store.content store.control meta.content meta.control segment teller next (Ok turn) old new → IsTrue (meta.content old.meta).tells
+  pub expiry_told : (g : StartSnapshot) (segment : ExpiredSegment) (origin : EventOrigin) (next : Deletion) (turn : ExpiryTurn) (old new : expiring.Tiers S M)
+      → expiring.ExpiryRow store.content store.control meta.content meta.control segment origin next (Ok turn) old new → IsTrue (meta.content old.meta).is_observable
       → count meta new.meta + told_by (Expires g segment next) ≤ count meta old.meta + deleted_turn g segment turn
-  expiry_told g segment teller deletion.Start turn old new w tells = begin_told g segment teller turn old.meta new.meta w.1 tells
-  expiry_told g segment teller (deletion.Delete n) turn old new w tells =
+  expiry_told g segment origin deletion.Start turn old new w is_observable = begin_told g segment origin turn old.meta new.meta w.1 is_observable
+  expiry_told g segment origin (deletion.Delete n) turn old new w is_observable =
       let one = object_most g segment n (slice_get (expiring.keys segment) n) turn old.store new.store w.1 in
       let same = same_count meta old.meta new.meta (ap (λ (t : expiring.Tiers S M). t.meta) w.0) in
       omega (arith, one, same)
-  expiry_told g segment teller deletion.Finish turn old new w tells = end_told g segment teller turn old.meta new.meta w.1 tells
+  expiry_told g segment origin deletion.Finish turn old new w is_observable = end_told g segment origin turn old.meta new.meta w.1 is_observable
 
-  pub expiry_wants : (segment : Doomed) (teller : Teller) (next : Deletion) (e : AllocError) (old new : expiring.Tiers S M)
-      → expiring.ExpiryRow store.content store.control meta.content meta.control segment teller next (Err e) old new → IsTrue (meta.content old.meta).tells → count meta new.meta ≤ count meta old.meta
-  expiry_wants segment teller deletion.Start e old new w tells = appends_none meta _ old.meta new.meta w.1 tells
-  expiry_wants segment teller (deletion.Delete n) e old new w tells = absurd w
-  expiry_wants segment teller deletion.Finish e old new w tells = appends_none meta _ old.meta new.meta w.1 tells
+  pub expiry_wants : (segment : ExpiredSegment) (origin : EventOrigin) (next : Deletion) (e : AllocError) (old new : expiring.Tiers S M)
+      → expiring.ExpiryRow store.content store.control meta.content meta.control segment origin next (Err e) old new → IsTrue (meta.content old.meta).is_observable → count meta new.meta ≤ count meta old.meta
+  expiry_wants segment origin deletion.Start e old new w is_observable = appends_none meta _ old.meta new.meta w.1 is_observable
+  expiry_wants segment origin (deletion.Delete n) e old new w is_observable = absurd w
+  expiry_wants segment origin deletion.Finish e old new w is_observable = appends_none meta _ old.meta new.meta w.1 is_observable
 
-  pub deletes_told : (g : Begun) (segment : Doomed) (next : Deletion) (turn : ExpiryTurn) (outcome : Outcome) → outcome ≡ expiry_outcome turn
+  pub deletes_told : (g : StartSnapshot) (segment : ExpiredSegment) (next : Deletion) (turn : ExpiryTurn) (outcome : Outcome) → outcome ≡ expiry_outcome turn
       → told_after (Expires g segment next) outcome ≡ deleted_turn g segment turn
   deletes_told g segment next (expiry.Goes then) outcome is = ap (told_after (Expires g segment next)) is
   deletes_told g segment next (expiry.Ends answer) outcome is = ap (told_after (Expires g segment next)) is
 
   -- one that wanted memory
-  pub copy_wants : (copy : Copied) (teller : Teller) (next : Next) (e : AllocError) (old new : Tiers S M)
-      → CopyRow store.content store.control meta.content meta.control copy teller next (Err e) old new → IsTrue (meta.content old.meta).tells → count meta new.meta ≤ count meta old.meta
-  copy_wants copy teller Start e old new (same, inl is) tells = same_count meta old.meta new.meta is
-  copy_wants copy teller Start e old new (same, inr a) tells = appends_none meta _ old.meta new.meta a tells
-  copy_wants copy teller (Put n) e old new w tells = same_count meta old.meta new.meta (ap (λ (t : Tiers S M). t.meta) w.0)
-  copy_wants copy teller Finish e old new (same, inl is) tells = same_count meta old.meta new.meta is
-  copy_wants copy teller Finish e old new (same, inr a) tells = appends_none meta _ old.meta new.meta a tells
-  copy_wants copy teller Check e old new w tells = keeps_count meta old.meta new.meta w.1.content
-  copy_wants copy teller (Delete n) e old new w tells = absurd w
+  pub copy_wants : (copy : Copied) (origin : EventOrigin) (next : CopyStep) (e : AllocError) (old new : Tiers S M)
+      → CopyRow store.content store.control meta.content meta.control copy origin next (Err e) old new → IsTrue (meta.content old.meta).is_observable → count meta new.meta ≤ count meta old.meta
+  copy_wants copy origin Start e old new (same, inl is) is_observable = same_count meta old.meta new.meta is
+  copy_wants copy origin Start e old new (same, inr a) is_observable = appends_none meta _ old.meta new.meta a is_observable
+  copy_wants copy origin (Put n) e old new w is_observable = same_count meta old.meta new.meta (ap (λ (t : Tiers S M). t.meta) w.0)
+  copy_wants copy origin Finish e old new (same, inl is) is_observable = same_count meta old.meta new.meta is
+  copy_wants copy origin Finish e old new (same, inr a) is_observable = appends_none meta _ old.meta new.meta a is_observable
+  copy_wants copy origin Check e old new w is_observable = keeps_count meta old.meta new.meta w.1.content
+  copy_wants copy origin (Delete n) e old new w is_observable = absurd w
 
-  pub turn_told : (g : Begun) (copy : Copied) (next : Next) (turn : CopyTurn) (outcome : Outcome) → outcome ≡ copy_outcome turn → told_after (Copies g copy next) outcome ≡ told_turn g copy turn
+  pub turn_told : (g : StartSnapshot) (copy : Copied) (next : CopyStep) (turn : CopyTurn) (outcome : Outcome) → outcome ≡ copy_outcome turn → told_after (Copies g copy next) outcome ≡ told_turn g copy turn
   turn_told g copy next (GoesOn then) outcome is = ap (told_after (Copies g copy next)) is
   turn_told g copy next (Ends answer) outcome is = ap (told_after (Copies g copy next)) is

@@ -8,12 +8,12 @@ use Rattle.plain_log.specs.declared.answer.Answer.TheVariants.{Stopped, NotLeade
 use Rattle.plain_log.specs.declared.command.Command.TheVariants.{Offset}
 use Rattle.plain_log.specs.declared.command.Which.TheVariants.{LatestTiered}
 use Rattle.plain_log.specs.declared.state.State.{State}
-use Rattle.partition_seen.specs.declared.begun.Begun.{Begun}
-use Rattle.partition_seen.specs.RowsOfOffsets as seen_offsets
-use Rattle.partition_turns.specs.Held.{node_of}
-use Rattle.partition_world.specs.declared.seat.Outcome.{Outcome}
-use Rattle.partition_world.specs.declared.seat.Outcome.TheVariants.{Answers}
-use Rattle.partition_world.specs.declared.seat.Work.TheVariants.{Idle, Noted}
+use Rattle.laws_partition.specs.declared.start_snapshot.StartSnapshot.{StartSnapshot}
+use Rattle.laws_partition.specs.RowsOfOffsets as seen_offsets
+use Rattle.partition_commands.specs.Partition.{node_of}
+use Rattle.partition_world.specs.declared.actor_state.Outcome.{Outcome}
+use Rattle.partition_world.specs.declared.actor_state.Outcome.TheVariants.{Answers}
+use Rattle.partition_world.specs.declared.actor_state.InProgress.TheVariants.{Idle, Noted}
 use Rattle.partition_world.specs.Central.{IsCentral}
 use Rattle.partition_world.specs.Turn.{IsTurn}
 use Rattle.partition_world.specs.TurnsOfOffset.{OffsetFirstRow, OffsetOnRow}
@@ -25,23 +25,23 @@ use Rattle.partition_world.proofs.TurnCentral.{stands, held_same, leads_first}
 
 module _ {D S M : Type 0} (disk : DiskGhosts D) (store : StoreGhosts S) (meta : MetaGhosts M) where
   module _ (opening : State) (w : Whole D S M) (a : ℕ) (outcome : Outcome) (w' : Whole D S M) (t : IsTurn disk store meta w a outcome w') (c : IsCentral disk store meta opening w)
-      (z : Place disk store meta opening w c t.place t.list t.seat t.order) (asks : t.order.command ≡ Offset LatestTiered) where
-    pub offset_first : t.seat.work ≡ Idle → (o : Outcome) → outcome ≡ o → OffsetFirstRow meta w.held w.tier t.order.broker.0 z.x z.side o w'.tier → w'.held ≡ w.held → IsCentral disk store meta opening w'
+      (z : Place disk store meta opening w c t.place t.list t.actor_state t.order) (asks : t.order.command ≡ Offset LatestTiered) where
+    pub offset_first : t.actor_state.work ≡ Idle → (o : Outcome) → outcome ≡ o → OffsetFirstRow meta w.held w.tier t.order.broker.0 z.x z.broker_tier o w'.tier → w'.held ≡ w.held → IsCentral disk store meta opening w'
     offset_first idle o is row same =
         leads_first disk store meta opening w a outcome w' t c z (Offset LatestTiered) asks idle (λ turn. refl) (λ g. refl) (λ turn r. r) o is row same
 
     -- the second turn
 
-    answers : (g : Begun) → t.seat.work ≡ Noted g → (answer : Answer) → outcome ≡ Answers answer → seen_offsets.OffsetOnRow c.partition (node_of z.x z.s) g answer c.partition
+    answers : (g : StartSnapshot) → t.actor_state.work ≡ Noted g → (answer : Answer) → outcome ≡ Answers answer → seen_offsets.OffsetOnRow c.partition (node_of z.x z.s) g answer c.partition
         → w'.held ≡ w.held → w'.tier ≡ w.tier → IsCentral disk store meta opening w'
-    answers g noted answer is row held tier =
-        stands disk store meta opening w a outcome w' t c z (Offset LatestTiered) asks (Noted g) noted answer is refl tier
+    answers g recorded answer is row held tier =
+        stands disk store meta opening w a outcome w' t c z (Offset LatestTiered) asks (Noted g) recorded answer is refl tier
         (held_same disk store meta opening w a outcome w' t c z (Offset LatestTiered) asks held) row
 
-    pub offset_on : (g : Begun) → t.seat.work ≡ Noted g → (o : Outcome) → outcome ≡ o → OffsetOnRow w.held z.x z.side g o → w'.held ≡ w.held → w'.tier ≡ w.tier → IsCentral disk store meta opening w'
-    offset_on g noted (Answers Stopped) is row held tier = answers g noted Stopped is (stopped_seen z.x z.s g row, refl) held tier
-    offset_on g noted (Answers NotLeader) is row held tier = answers g noted NotLeader is (row.0, row.1, row.2, refl) held tier
-    offset_on g noted (Answers (OffsetAnswer n)) is row held tier = answers g noted (OffsetAnswer n) is (keeps_seen z.x z.s g row.0, refl) held tier
-    offset_on g noted (Answers NoOffset) is row held tier = answers g noted NoOffset is (keeps_seen z.x z.s g row.0, refl) held tier
-    offset_on g noted (Answers other) is row held tier = elim row.1 [ ]
-    offset_on g noted other is row held tier = elim row [ ]
+    pub offset_on : (g : StartSnapshot) → t.actor_state.work ≡ Noted g → (o : Outcome) → outcome ≡ o → OffsetOnRow w.held z.x z.broker_tier g o → w'.held ≡ w.held → w'.tier ≡ w.tier → IsCentral disk store meta opening w'
+    offset_on g recorded (Answers Stopped) is row held tier = answers g recorded Stopped is (stopped_seen z.x z.s g row, refl) held tier
+    offset_on g recorded (Answers NotLeader) is row held tier = answers g recorded NotLeader is (row.0, row.1, row.2, refl) held tier
+    offset_on g recorded (Answers (OffsetAnswer n)) is row held tier = answers g recorded (OffsetAnswer n) is (keeps_seen z.x z.s g row.0, refl) held tier
+    offset_on g recorded (Answers NoOffset) is row held tier = answers g recorded NoOffset is (keeps_seen z.x z.s g row.0, refl) held tier
+    offset_on g recorded (Answers other) is row held tier = elim row.1 [ ]
+    offset_on g recorded other is row held tier = elim row [ ]

@@ -24,20 +24,20 @@ use Rattle.plain_log.specs.declared.answer.Answer.{Answer}
 use Rattle.plain_log.specs.declared.answer.Answer.TheVariants.{DiskFault, Damaged, Offset}
 use Rattle.plain_log.specs.declared.answer.Place.TheVariants.{File}
 use Rattle.plain_log.specs.RowsOfReads.{first_at}
-use Rattle.partition_seen.specs.Log.{IsLineFor, IsRunOf}
-use Rattle.partition_turns.proofs.RunsShown.{run_shown}
+use Rattle.laws_partition.specs.Log.{IsLineFor, IsRunOf}
+use Rattle.partition_commands.proofs.RunsShown.{run_shown}
 use Rattle.time_find.specs.declared.turn.Asked.{Asked}
-use Rattle.time_find.specs.declared.turn.Next.{Next}
-use Rattle.time_find.specs.declared.turn.Next.TheVariants.{Seek}
+use Rattle.time_find.specs.declared.turn.SearchStep.{SearchStep}
+use Rattle.time_find.specs.declared.turn.SearchStep.TheVariants.{Seek}
 use Rattle.time_find.specs.declared.turn.TimeTurn.{TimeTurn}
 use Rattle.time_find.specs.declared.turn.TimeTurn.TheVariants.{Goes, Ends}
 use Rattle.time_find.specs.Dates.{AreChecked}
 use Rattle.time_find.specs.Passing.{is_passed, passed_over}
 use Rattle.time_find.specs.Turns.{IsSearched, SearchesRun, ReadRow, OwnRow}
-use Rattle.tier_dates.specs.Passed.{HasPassed}
-use Rattle.tier_dates.proofs.Dates.{in_rest, in_beginning, consecutive_back}
-use Rattle.tier_dates.proofs.Early.{passed_more}
-use Rattle.tier_dates.proofs.Searched.{runs_are_searched}
+use Rattle.laws_time_find.specs.Passed.{HasPassed}
+use Rattle.laws_time_find.proofs.Dates.{in_rest, in_beginning, consecutive_back}
+use Rattle.laws_time_find.proofs.Early.{passed_more}
+use Rattle.laws_time_find.proofs.Searched.{runs_are_searched}
 
 -- batches that a segment holds
 
@@ -173,7 +173,7 @@ are_checked (batch ∷ run) each = (each.0, are_checked run each.1)
 -- what a turn came to, of a log that is seen so: where it goes on, all before it is too early; an offset that it answers is that of the
 -- timestamp
 pub record OwnComes (asked : Asked) (log : List (List ℕ)) (turn : TimeTurn) : Type 0 where
-  pub goes : (at : ℕ) (later : Next) → turn ≡ Goes at later → (later ≡ Seek) × HasPassed asked.ts asked.start log at
+  pub goes : (at : ℕ) (later : SearchStep) → turn ≡ Goes at later → (later ≡ Seek) × HasPassed asked.ts asked.start log at
   pub ends : (answer : Answer) → turn ≡ Ends answer → (answer ≡ DiskFault)
       ⊎ ((n : ℕ) × (answer ≡ Offset n) × (first_at asked.ts asked.start (from_offset asked.start (up_to asked.mark log)) ≡ Some n))
 

@@ -9,10 +9,10 @@ use Rattle.object_store.specs.declared.placing.Spot.{Spot}
 use Rattle.object_store.specs.Place.{short_of}
 use Rattle.object_store.specs.declared.store.Store.{Ghosts as StoreGhosts}
 use Rattle.remote_view.specs.Fold.{Seen as View}
-use Rattle.rebuild_task.specs.declared.turn.Next.TheVariants.{Restart}
+use Rattle.rebuild_task.specs.declared.turn.RebuildStep.TheVariants.{Restart}
 use Rattle.rebuild_task.specs.declared.turn.RebuildTurn.{RebuildTurn}
 use Rattle.rebuild_task.specs.declared.turn.RebuildTurn.TheVariants.{Goes, Ends}
-use Rattle.rebuild_task.specs.declared.turn.Wanted.{Wanted}
+use Rattle.rebuild_task.specs.declared.turn.RebuildRequest.{RebuildRequest}
 use Rattle.rebuild_task.specs.Turns.{TakesBytes, Takes, EpochsRow, RebuildRow}
 use Rattle.plain_log.specs.declared.answer.Answer.{Answer}
 use Rattle.plain_log.specs.declared.answer.Answer.TheVariants.{StoreFault, Damaged}
@@ -44,17 +44,17 @@ module _ {S : Type 0} (store : StoreGhosts S) where
   epochs_may wanted view None turn old new w = may_same turn _ w.0 tt
   epochs_may wanted view (Some spot) turn old new w = takes_may wanted spot w.answer turn w.takes
 
-  pub rebuild_may_turn : (wanted : Wanted) (line : List (ℕ × ℕ)) (view : View) (turn : RebuildTurn) (old new : S) → RebuildRow store.content store.control wanted line view (Ok turn) old new → MayTurn turn
+  pub rebuild_may_turn : (wanted : RebuildRequest) (line : List (ℕ × ℕ)) (view : View) (turn : RebuildTurn) (old new : S) → RebuildRow store.content store.control wanted line view (Ok turn) old new → MayTurn turn
   rebuild_may_turn wanted line view turn old new w = epochs_may wanted.offset view _ turn old new w
 
   -- the store holds and tells what it did
   pub record IsKept (old new : S) : Type 0 where
-    pub tells : (store.content new).tells ≡ (store.content old).tells
+    pub is_observable : (store.content new).is_observable ≡ (store.content old).is_observable
     pub objects : (store.content new).objects ≡ (store.content old).objects
 
   epochs_kept : (wanted : ℕ) (view : View) (spot : Option Spot) (result : Result RebuildTurn AllocError) (old new : S) → EpochsRow store.content store.control wanted view spot result old new → IsKept old new
-  epochs_kept wanted view None result old new w = record { tells = ap (λ (s : S). (store.content s).tells) w.1; objects = ap (λ (s : S). (store.content s).objects) w.1 }
-  epochs_kept wanted view (Some spot) result old new w = record { tells = w.gets.content.tells; objects = fun_ext (λ k. w.gets.content.objects k) }
+  epochs_kept wanted view None result old new w = record { is_observable = ap (λ (s : S). (store.content s).is_observable) w.1; objects = ap (λ (s : S). (store.content s).objects) w.1 }
+  epochs_kept wanted view (Some spot) result old new w = record { is_observable = w.gets.content.is_observable; objects = fun_ext (λ k. w.gets.content.objects k) }
 
-  pub rebuild_kept : (wanted : Wanted) (line : List (ℕ × ℕ)) (view : View) (result : Result RebuildTurn AllocError) (old new : S) → RebuildRow store.content store.control wanted line view result old new → IsKept old new
+  pub rebuild_kept : (wanted : RebuildRequest) (line : List (ℕ × ℕ)) (view : View) (result : Result RebuildTurn AllocError) (old new : S) → RebuildRow store.content store.control wanted line view result old new → IsKept old new
   rebuild_kept wanted line view result old new w = epochs_kept wanted.offset view _ result old new w

@@ -27,12 +27,12 @@ module _ {M : Type 0} (meta : MetaGhosts M) where
 
   -- the log tells
   abbrev pub Tells : M → Type 0
-  Tells m = IsTrue (meta.content m).tells
+  Tells m = IsTrue (meta.content m).is_observable
 
   -- a note was appended
   pub appends_with : (note : Note) (fate : Fate) (old new : M) (k : Appends meta.content meta.control note fate old new) → Tells old → (l' : List Note)
       → Left (meta.content new) l' → Before old (λ l. Appends (resolved meta).content (resolved meta).control note fate (old, l) (new, l'))
-  appends_with note fate old new k tells l' left = from (k.content.left tells l' left)
+  appends_with note fate old new k is_observable l' left = from (k.content.left is_observable l' left)
     where
       may : Bool → Type 0
       may = MayBeDone Append fate (meta.control old)
@@ -44,7 +44,7 @@ module _ {M : Type 0} (meta : MetaGhosts M) where
       grown l done m is x (inr none) = absurd none
 
       made : (l : List Note) (done : Bool) → may done → l' ≡ appended_if done note l → Appends (resolved meta).content (resolved meta).control note fate (old, l) (new, l')
-      made l done m is = record { control = k.control; content = record { tells = k.content.tells; notes = λ t. (done, m, is); left = λ t x at. grown l done m is x at } }
+      made l done m is = record { control = k.control; content = record { is_observable = k.content.is_observable; notes = λ t. (done, m, is); left = λ t x at. grown l done m is x at } }
 
       from : (may false × Left (meta.content old) l') ⊎ (may true × (l' ≡ (meta.content old).notes ++ note ∷ []))
           → Before old (λ l. Appends (resolved meta).content (resolved meta).control note fate (old, l) (new, l'))
@@ -59,14 +59,14 @@ module _ {M : Type 0} (meta : MetaGhosts M) where
   -- a view was refreshed
   pub refreshed_with : (before after : Seen) (old new : M) (k : Refreshed meta.content meta.control before after old new) → Tells old → (l' : List Note)
       → Left (meta.content new) l' → Before old (λ l. Refreshed (resolved meta).content (resolved meta).control before after (old, l) (new, l'))
-  refreshed_with before after old new k tells l' left =
-      let same : l' ≡ (meta.content old).notes = k.told tells l' left ∙ k.content.notes in (
+  refreshed_with before after old new k is_observable l' left =
+      let same : l' ≡ (meta.content old).notes = k.told is_observable l' left ∙ k.content.notes in (
         l',
         inl same,
         record {
-          view = record { notes = k.view.notes; are = k.view.are; view = k.view.view; further = λ t. k.view.further tells ∙ ap (drop before.notes) (sym same) };
+          view = record { notes = k.view.notes; are = k.view.are; view = k.view.view; further = λ t. k.view.further is_observable ∙ ap (drop before.notes) (sym same) };
           control = k.control;
-          content = record { tells = k.content.tells; notes = refl; left = λ x at. at };
+          content = record { is_observable = k.content.is_observable; notes = refl; left = λ x at. at };
           told = λ t x at. told_with new l' x at;
         },
       )
@@ -77,20 +77,20 @@ module _ {M : Type 0} (meta : MetaGhosts M) where
   unread_with before after old new k l' left = (
     l',
     k.content.left l' left,
-    record { view = k.view; control = k.control; content = record { tells = k.content.tells; notes = refl; left = λ x at. at } },
+    record { view = k.view; control = k.control; content = record { is_observable = k.content.is_observable; notes = refl; left = λ x at. at } },
   )
 
   -- memory was wanting
   pub halted_with : (before after : Seen) (old new : M) (k : Halted meta.content meta.control before after old new) → Tells old → (l' : List Note)
       → Left (meta.content new) l' → Before old (λ l. Halted (resolved meta).content (resolved meta).control before after (old, l) (new, l'))
-  halted_with before after old new k tells l' left = (l', k.content.left l' left, record { view = view k.moved; control = k.control; once = k.once; content = record { tells = k.content.tells; notes = refl; left = λ x at. at }; moved = inr (λ t x at. told_with new l' x at) })
+  halted_with before after old new k is_observable l' left = (l', k.content.left l' left, record { view = view k.moved; control = k.control; once = k.once; content = record { is_observable = k.content.is_observable; notes = refl; left = λ x at. at }; moved = inr (λ t x at. told_with new l' x at) })
     where
-      view : (after ≡ before) ⊎ (IsTrue (meta.content old).tells → (l : List Note) → Left (meta.content new) l → l ≡ (meta.content new).notes)
+      view : (after ≡ before) ⊎ (IsTrue (meta.content old).is_observable → (l : List Note) → Left (meta.content new) l → l ≡ (meta.content new).notes)
           → Advances ((resolved meta).content (old, l')) before after
       view (inl same) = record { notes = []; rest = drop before.notes l'; are = All-nil IsNote; further = λ t. refl; view = same }
       view (inr told) =
-          let same : l' ≡ (meta.content old).notes = told tells l' left ∙ k.content.notes in
-          record { notes = k.view.notes; rest = k.view.rest; are = k.view.are; view = k.view.view; further = λ t. k.view.further tells ∙ ap (drop before.notes) (sym same) }
+          let same : l' ≡ (meta.content old).notes = told is_observable l' left ∙ k.content.notes in
+          record { notes = k.view.notes; rest = k.view.rest; are = k.view.are; view = k.view.view; further = λ t. k.view.further is_observable ∙ ap (drop before.notes) (sym same) }
 
   -- the log is as it was
   pub same_with : (old new : M) → new ≡ old → (l' : List Note) → Left (meta.content new) l' → Before old (λ l. ◌≡◌ {A = M × List Note} (new, l') (old, l))

@@ -5,7 +5,7 @@ use Rattle.std.proofs.lemmas.Option.{slice_get_within, get_or_from_slice_get}
 use Rattle.plain_log.specs.declared.command.ActorList.{ActorList}
 use Rattle.plain_log.specs.declared.command.Config.{Config}
 use Rattle.plain_log.specs.Orders.{AreRising, AreListsFor, IsListFor}
-use Rattle.partition_seen.specs.Sound.{turns_left}
+use Rattle.laws_partition.specs.Sound.{turns_left}
 
 -- what holds of all holds of the one at a place
 all_at : {A : Type 0} (P : A → Type 0) (xs : List A) (i : ℕ) (x : A) → All P xs → slice_get xs i ≡ Some x → P x

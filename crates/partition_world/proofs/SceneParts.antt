@@ -4,66 +4,66 @@ use Rattle.plain_log.specs.declared.command.ActorList.{ActorList}
 use Rattle.plain_log.specs.declared.command.Command.{Command}
 use Rattle.plain_log.specs.declared.command.Command.TheVariants.{Join}
 use Rattle.plain_log.specs.declared.command.Order.{Order}
-use Rattle.partition_seen.specs.declared.begun.Begun.{Begun}
-use Rattle.partition_seen.specs.Seen as seen
-use Rattle.partition_tier.specs.Sites.{site_of, sites_of}
-use Rattle.partition_tier.specs.Works.{KeepsWork, work_of as work_seen}
-use Rattle.tier_safe.specs.Scene.{Site, Work as WorkSeen, Free}
-use Rattle.partition_world.specs.declared.seat.Seat.{Seat}
-use Rattle.partition_world.specs.declared.seat.Work.TheVariants.{Idle}
-use Rattle.partition_world.specs.declared.tier.Side.{Side}
-use Rattle.partition_world.specs.Central.{side_seen, sides_seen, work_of, desk_of}
+use Rattle.laws_partition.specs.declared.start_snapshot.StartSnapshot.{StartSnapshot}
+use Rattle.laws_partition.specs.Seen as seen
+use Rattle.laws_tier_turns.specs.BrokerTiers.{tier_view_of, tier_views_of}
+use Rattle.laws_tier_turns.specs.TierTasks.{KeepsTask, work_of as work_seen}
+use Rattle.tier_safe.specs.Scene.{BrokerTierView, TierTask as InProgressIsSeen, Free}
+use Rattle.partition_world.specs.declared.actor_state.ActorState.{ActorState}
+use Rattle.partition_world.specs.declared.actor_state.InProgress.TheVariants.{Idle}
+use Rattle.partition_world.specs.declared.tier.BrokerTierState.{BrokerTierState}
+use Rattle.partition_world.specs.Central.{broker_tier_seen, broker_tiers_seen, work_of, desk_of}
 
 -- as many sides are seen as there are
-pub sides_count : (sides : List Side) → length (sides_seen sides) ≡ length sides
-sides_count [] = refl
-sides_count (side ∷ sides) = ap suc (sides_count sides)
+pub broker_tiers_count : (broker_tiers : List BrokerTierState) → length (broker_tiers_seen broker_tiers) ≡ length broker_tiers
+broker_tiers_count [] = refl
+broker_tiers_count (broker_tier ∷ broker_tiers) = ap suc (broker_tiers_count broker_tiers)
 
 -- a broker's side of the scene
-pub site_at : (nodes : List seen.Node) (sides : List Side) (b : ℕ) (y : seen.Node) (side : Side) → slice_get nodes b ≡ Some y → slice_get sides b ≡ Some side
-    → slice_get (sites_of nodes (sides_seen sides)) b ≡ Some (site_of y (side_seen side))
-site_at [] sides b y side at to = absurd cc
-site_at (x ∷ nodes) [] b y side at to = absurd cc
-site_at (x ∷ nodes) (z ∷ sides) zero y side at to =
+pub tier_view_at : (nodes : List seen.Node) (broker_tiers : List BrokerTierState) (b : ℕ) (y : seen.Node) (broker_tier : BrokerTierState) → slice_get nodes b ≡ Some y → slice_get broker_tiers b ≡ Some broker_tier
+    → slice_get (tier_views_of nodes (broker_tiers_seen broker_tiers)) b ≡ Some (tier_view_of y (broker_tier_seen broker_tier))
+tier_view_at [] broker_tiers b y broker_tier at to = absurd cc
+tier_view_at (x ∷ nodes) [] b y broker_tier at to = absurd cc
+tier_view_at (x ∷ nodes) (z ∷ broker_tiers) zero y broker_tier at to =
     let one : x ≡ y = cc in
-    let two : z ≡ side = cc in
+    let two : z ≡ broker_tier = cc in
     rw (one, two) refl
-site_at (x ∷ nodes) (z ∷ sides) (suc b) y side at to = site_at nodes sides b y side at to
+tier_view_at (x ∷ nodes) (z ∷ broker_tiers) (suc b) y broker_tier at to = tier_view_at nodes broker_tiers b y broker_tier at to
 
 -- with another side in its place
-pub site_set : (nodes : List seen.Node) (sides : List Side) (b : ℕ) (y : seen.Node) (side : Side) → slice_get nodes b ≡ Some y
-    → sites_of nodes (sides_seen (slice_set sides b side)) ≡ slice_set (sites_of nodes (sides_seen sides)) b (site_of y (side_seen side))
-site_set [] sides b y side at = absurd cc
-site_set (x ∷ nodes) [] b y side at = refl
-site_set (x ∷ nodes) (z ∷ sides) zero y side at = let one : x ≡ y = cc in rw one refl
-site_set (x ∷ nodes) (z ∷ sides) (suc b) y side at = ap (λ (k : List Site). site_of x (side_seen z) ∷ k) (site_set nodes sides b y side at)
+pub tier_view_set : (nodes : List seen.Node) (broker_tiers : List BrokerTierState) (b : ℕ) (y : seen.Node) (broker_tier : BrokerTierState) → slice_get nodes b ≡ Some y
+    → tier_views_of nodes (broker_tiers_seen (slice_set broker_tiers b broker_tier)) ≡ slice_set (tier_views_of nodes (broker_tiers_seen broker_tiers)) b (tier_view_of y (broker_tier_seen broker_tier))
+tier_view_set [] broker_tiers b y broker_tier at = absurd cc
+tier_view_set (x ∷ nodes) [] b y broker_tier at = refl
+tier_view_set (x ∷ nodes) (z ∷ broker_tiers) zero y broker_tier at = let one : x ≡ y = cc in rw one refl
+tier_view_set (x ∷ nodes) (z ∷ broker_tiers) (suc b) y broker_tier at = ap (λ (k : List BrokerTierView). tier_view_of x (broker_tier_seen z) ∷ k) (tier_view_set nodes broker_tiers b y broker_tier at)
 
--- what the tier sees of a seat
-pub seat_at : (lists : List ActorList) (desk : List Seat) (place : ℕ) (l : ActorList) (seat : Seat) → slice_get lists place ≡ Some l → slice_get desk place ≡ Some seat
-    → slice_get (desk_of lists desk) place ≡ Some (work_of (slice_get l.orders seat.number) seat.work)
-seat_at [] desk place l seat at to = absurd cc
-seat_at (k ∷ lists) [] place l seat at to = absurd cc
-seat_at (k ∷ lists) (s ∷ desk) zero l seat at to =
+-- what the tier sees of an actor's state
+pub actor_state_at : (lists : List ActorList) (desk : List ActorState) (place : ℕ) (l : ActorList) (actor_state : ActorState) → slice_get lists place ≡ Some l → slice_get desk place ≡ Some actor_state
+    → slice_get (desk_of lists desk) place ≡ Some (work_of (slice_get l.orders actor_state.number) actor_state.work)
+actor_state_at [] desk place l actor_state at to = absurd cc
+actor_state_at (k ∷ lists) [] place l actor_state at to = absurd cc
+actor_state_at (k ∷ lists) (s ∷ desk) zero l actor_state at to =
     let one : k ≡ l = cc in
-    let two : s ≡ seat = cc in
+    let two : s ≡ actor_state = cc in
     rw (one, two) refl
-seat_at (k ∷ lists) (s ∷ desk) (suc place) l seat at to = seat_at lists desk place l seat at to
+actor_state_at (k ∷ lists) (s ∷ desk) (suc place) l actor_state at to = actor_state_at lists desk place l actor_state at to
 
 -- with another seat in its place
-pub seat_set : (lists : List ActorList) (desk : List Seat) (place : ℕ) (l : ActorList) (seat : Seat) → slice_get lists place ≡ Some l
-    → desk_of lists (slice_set desk place seat) ≡ slice_set (desk_of lists desk) place (work_of (slice_get l.orders seat.number) seat.work)
-seat_set [] desk place l seat at = absurd cc
-seat_set (k ∷ lists) [] place l seat at = refl
-seat_set (k ∷ lists) (s ∷ desk) zero l seat at = let one : k ≡ l = cc in rw one refl
-seat_set (k ∷ lists) (s ∷ desk) (suc place) l seat at =
-    ap (λ (ws : List WorkSeen). work_of (slice_get k.orders s.number) s.work ∷ ws) (seat_set lists desk place l seat at)
+pub actor_state_set : (lists : List ActorList) (desk : List ActorState) (place : ℕ) (l : ActorList) (actor_state : ActorState) → slice_get lists place ≡ Some l
+    → desk_of lists (slice_set desk place actor_state) ≡ slice_set (desk_of lists desk) place (work_of (slice_get l.orders actor_state.number) actor_state.work)
+actor_state_set [] desk place l actor_state at = absurd cc
+actor_state_set (k ∷ lists) [] place l actor_state at = refl
+actor_state_set (k ∷ lists) (s ∷ desk) zero l actor_state at = let one : k ≡ l = cc in rw one refl
+actor_state_set (k ∷ lists) (s ∷ desk) (suc place) l actor_state at =
+    ap (λ (ws : List InProgressIsSeen). work_of (slice_get k.orders s.number) s.work ∷ ws) (actor_state_set lists desk place l actor_state at)
 
 -- an idle seat is free
 pub idle_free : (order : Option Order) → work_of order Idle ≡ Free
 idle_free None = refl
 idle_free (Some order) = refl
 
--- what was noted is kept
-pub keeps_noted : (b : ℕ) (command : Command) (g : Begun) → KeepsWork b command (Some g) (work_seen b command (Some g))
-keeps_noted b Join g = (_, _, refl)
-keeps_noted b command g = refl
+-- what was recorded is kept
+pub keeps_recorded : (b : ℕ) (command : Command) (g : StartSnapshot) → KeepsTask b command (Some g) (work_seen b command (Some g))
+keeps_recorded b Join g = (_, _, refl)
+keeps_recorded b command g = refl

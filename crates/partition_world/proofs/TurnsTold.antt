@@ -7,9 +7,9 @@ use Rattle.object_store.specs.declared.call.StoreCall.{StoreCall}
 use Rattle.object_store.specs.declared.store.Store.{Ghosts as StoreGhosts}
 use Rattle.meta_log.specs.declared.call.MetaCall.{MetaCall}
 use Rattle.meta_log.specs.declared.log.MetaLog.{Ghosts as MetaGhosts}
-use Rattle.partition_turns.proofs.Told.{Told}
-use Rattle.partition_world.specs.declared.seat.Outcome.{Outcome}
-use Rattle.partition_world.specs.declared.seat.Outcome.TheVariants.{Answers}
+use Rattle.partition_commands.proofs.Told.{Told}
+use Rattle.partition_world.specs.declared.actor_state.Outcome.{Outcome}
+use Rattle.partition_world.specs.declared.actor_state.Outcome.TheVariants.{Answers}
 
 -- this holds where the turn is answered such a fault
 abbrev pub TurnTold : Type 0 → Type 0 → Type 0 → Type 0 → Outcome → Type 0

@@ -5,10 +5,10 @@ use Rattle.object_store.specs.declared.store.Store.{Ghosts as StoreGhosts}
 use Rattle.meta_log.specs.declared.log.MetaLog.{Ghosts as MetaGhosts}
 use Rattle.plain_log.specs.declared.answer.Answer.{Answer}
 use Rattle.plain_log.specs.declared.command.Order.{Order}
-use Rattle.partition_turns.specs.Disks.{HaveDisks, NoneFails, DisksCount}
-use Rattle.partition_turns.specs.Faults.{is_of_disk, is_of_store, is_of_meta, after_fault}
-use Rattle.partition_world.specs.declared.seat.Outcome.{Outcome}
-use Rattle.partition_world.specs.declared.seat.Outcome.TheVariants.{Answers}
+use Rattle.partition_commands.specs.Disks.{HaveDisks, NoneFails, DisksCount}
+use Rattle.partition_commands.specs.Faults.{is_of_disk, is_of_store, is_of_meta, after_fault}
+use Rattle.partition_world.specs.declared.actor_state.Outcome.{Outcome}
+use Rattle.partition_world.specs.declared.actor_state.Outcome.TheVariants.{Answers}
 use Rattle.partition_world.specs.Turn.{IsTurn, StaysWhole}
 use Rattle.partition_world.specs.Whole.{Whole}
 

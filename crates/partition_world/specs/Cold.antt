@@ -19,13 +19,13 @@ use Rattle.plain_log.specs.declared.state.State.{State}
 use Rattle.plain_log.specs.Orders.{AreListsFor}
 use Rattle.plain_log.specs.Safe.{PlainSafe}
 use Rattle.broker_log.specs.Seen.{Seen}
-use Rattle.partition_seen.specs.Central.{LinesStand}
-use Rattle.partition_seen.specs.Held.{broker_of}
-use Rattle.partition_tier.specs.Sites.{sites_of, fresh_side as fresh_seen}
-use Rattle.partition_turns.specs.Cold.{ShowDisks, IsColdHeld, node_back, held_back}
+use Rattle.laws_partition.specs.Central.{LinesStand}
+use Rattle.laws_partition.specs.Partition.{broker_of}
+use Rattle.laws_tier_turns.specs.BrokerTiers.{tier_views_of, fresh_broker_tier as fresh_seen}
+use Rattle.partition_commands.specs.Cold.{ShowDisks, IsColdPartition, node_back, held_back}
 use Rattle.tier_safe.specs.Scene.{Scene}
 use Rattle.tier_safe.specs.Safe.{TierSafe}
-use Rattle.partition_world.specs.Fresh.{fresh_seat, fresh_side}
+use Rattle.partition_world.specs.Fresh.{fresh_actor_state, fresh_broker_tier}
 use Rattle.partition_world.specs.Left.{IsCentralLeft}
 use Rattle.partition_world.specs.Tier.{IsArmedTier}
 use Rattle.partition_world.specs.Whole.{Whole}
@@ -36,7 +36,7 @@ scene_back partition objects notes logs = record {
   partition = partition;
   objects = objects;
   notes = notes;
-  sites = sites_of (map node_back logs) (replicate (length logs) fresh_seen);
+  tier_views = tier_views_of (map node_back logs) (replicate (length logs) fresh_seen);
   desk = [];
 }
 
@@ -48,10 +48,10 @@ module _ {D S M : Type 0} (disk : DiskGhosts D) (store : StoreGhosts S) (meta : 
     pub config_is : w.config ≡ config
     pub lists_are : w.lists ≡ lists
     pub count : length disks ≡ config.brokers
-    pub held : IsColdHeld disk.content disk.control config.settings registry disks w.held
+    pub held : IsColdPartition disk.content disk.control config.settings registry disks w.held
     pub tier : IsArmedTier store meta s m w.tier
-    pub sides : w.tier.sides ≡ replicate config.brokers fresh_side
-    pub desk : w.desk ≡ replicate (length lists) fresh_seat
+    pub broker_tiers : w.tier.broker_tiers ≡ replicate config.brokers fresh_broker_tier
+    pub desk : w.desk ≡ replicate (length lists) fresh_actor_state
     pub journal : w.journal.items ≡ []
 
   -- The devices and the registry are those of a partition in this plain state, whose brokers are all down and where no command has
@@ -66,8 +66,8 @@ module _ {D S M : Type 0} (disk : DiskGhosts D) (store : StoreGhosts S) (meta : 
     pub brokers : p.brokers ≡ map broker_of (map node_back logs)
     pub actors : p.actors ≡ []
     pub lines : LinesStand (held_back registry logs) p.paths p.broken
-    pub store_tells : IsTrue (store.content s).tells
-    pub meta_tells : IsTrue (meta.content m).tells
+    pub store_tells : IsTrue (store.content s).is_observable
+    pub meta_tells : IsTrue (meta.content m).is_observable
     pub tier : TierSafe (scene_back partition (store.content s).objects l logs) p
 
   -- they do with whatever notes a power cut now may leave, and a view could count as many more

@@ -11,28 +11,29 @@ use Rattle.meta_log.specs.Content as meta
 use Rattle.plain_log.specs.declared.command.ActorList.{ActorList}
 use Rattle.plain_log.specs.declared.command.Config.{Config}
 use Rattle.plain_log.specs.declared.journal.JournalEntry.{JournalEntry}
-use Rattle.partition_seen.specs.Sound.{turns_left as entries_left}
-use Rattle.partition_turns.specs.Disks.{HaveDisks}
-use Rattle.partition_turns.specs.Fresh.{IsFreshHeld, AreLaid, AllSeen}
-use Rattle.partition_world.specs.declared.seat.Seat.{Seat}
-use Rattle.partition_world.specs.declared.seat.Work.TheVariants.{Idle}
-use Rattle.partition_world.specs.declared.tier.Side.{Side}
+use Rattle.laws_partition.specs.Sound.{turns_left as entries_left}
+use Rattle.partition_commands.specs.Disks.{HaveDisks}
+use Rattle.partition_commands.specs.Fresh.{IsFreshPartition, AreLaid, AllSeen}
+use Rattle.partition_world.specs.declared.actor_state.ActorState.{ActorState}
+use Rattle.partition_world.specs.declared.actor_state.InProgress.TheVariants.{Idle}
+use Rattle.partition_world.specs.declared.tier.BrokerTierState.{BrokerTierState}
 use Rattle.partition_world.specs.Tier.{IsArmedTier}
 use Rattle.partition_world.specs.Whole.{Whole}
 
--- a seat at the front of its list
-abbrev pub fresh_seat : Seat
-fresh_seat = record { number = 0; work = Idle }
+-- an actor's state at the front of its list
+abbrev pub fresh_actor_state : ActorState
+fresh_actor_state = record { number = 0; work = Idle }
 
--- an empty journal with room for all entries of the lists, and a seat at the front of each list
-pub record AreFreshBooks (lists : List ActorList) (journal : Rolled JournalEntry) (desk : List Seat) : Type 0 where
+-- an empty journal with room for all entries of the lists, and an actor's state at the front of each list
+pub record AreFreshBooks (lists : List ActorList) (journal : Rolled JournalEntry)
+    (desk : List ActorState) : Type 0 where
   pub empty : journal.items ≡ []
   pub room : entries_left lists [] ≤ journal.room
-  pub desk_is : desk ≡ replicate (length lists) fresh_seat
+  pub desk_is : desk ≡ replicate (length lists) fresh_actor_state
 
 -- a broker that has seen no notes, and has chosen nothing to copy
-abbrev pub fresh_side : Side
-fresh_side = record {
+abbrev pub fresh_broker_tier : BrokerTierState
+fresh_broker_tier = record {
   view = record { entries = []; notes = 0 };
   incarnation = 0;
   attempt = 0;
@@ -41,16 +42,16 @@ fresh_side = record {
 
 -- no object stands in the store
 abbrev pub IsEmptyStore : store.Content → Type 0
-IsEmptyStore content = IsTrue content.tells → (key : ObjectKey) → content.objects key ≡ None
+IsEmptyStore content = IsTrue content.is_observable → (key : ObjectKey) → content.objects key ≡ None
 
 -- no note stands in the metadata log
 abbrev pub IsEmptyLog : meta.Content → Type 0
-IsEmptyLog content = IsTrue content.tells → content.notes ≡ []
+IsEmptyLog content = IsTrue content.is_observable → content.notes ≡ []
 
 -- nothing has happened yet, whatever the devices: each list is at its front, the journal is empty, and each broker has its disk
 pub record IsNew {D S M : Type 0} (lists : List ActorList) (w : Whole D S M) : Type 0 where
   pub lists_are : w.lists ≡ lists
-  pub desk : w.desk ≡ replicate (length lists) fresh_seat
+  pub desk : w.desk ≡ replicate (length lists) fresh_actor_state
   pub journal : w.journal.items ≡ []
   pub disks : HaveDisks w.held.nodes
 
@@ -62,17 +63,17 @@ module _ {D S M : Type 0} (disk : DiskGhosts D) (store : StoreGhosts S) (meta : 
     pub config_is : w.config ≡ config
     pub lists_are : w.lists ≡ lists
     pub count : length disks ≡ config.brokers
-    pub held : IsFreshHeld disk.control disks w.held
+    pub held : IsFreshPartition disk.control disks w.held
     pub laid : AreLaid config.settings w.held.nodes
     pub tier : IsArmedTier store meta s m w.tier
-    pub sides : w.tier.sides ≡ replicate config.brokers fresh_side
-    pub desk : w.desk ≡ replicate (length lists) fresh_seat
+    pub broker_tiers : w.tier.broker_tiers ≡ replicate config.brokers fresh_broker_tier
+    pub desk : w.desk ≡ replicate (length lists) fresh_actor_state
     pub journal : w.journal.items ≡ []
 
   -- the brokers' logs, the store and the metadata log are seen, and empty
   pub record IsSeenEmpty (w : Whole D S M) : Type 0 where
     pub logs : AllSeen disk.content w.held.nodes
-    pub store_tells : IsTrue (store.content w.tier.store).tells
+    pub store_tells : IsTrue (store.content w.tier.store).is_observable
     pub objects : IsEmptyStore (store.content w.tier.store)
-    pub meta_tells : IsTrue (meta.content w.tier.meta).tells
+    pub meta_tells : IsTrue (meta.content w.tier.meta).is_observable
     pub notes : IsEmptyLog (meta.content w.tier.meta)

@@ -15,14 +15,14 @@ entries_of a (entry ∷ journal) = if entry.actor.0 == a then entry ∷ entries_
 abbrev pub next_after : Event → ℕ → Bool → Option (ℕ × Bool)
 next_after (Begins cut) n false = Some (n, true)
 next_after (Begins cut) n true = None
-next_after (Answers answer) n begun = Some (n + 1, false)
+next_after (Answers answer) n snapshot = Some (n + 1, false)
 
 -- the entries of a list of so many commands, from the n-th one on, which has begun or not: a command that begins is answered
 -- by the next entry
 abbrev pub AreInTurn : ℕ → ℕ → Bool → List JournalEntry → Type 0
-AreInTurn count n begun [] = Unit {0}
-AreInTurn count n begun (entry ∷ entries) = (entry.number ≡ n) × (n < count)
-    × IsSomeAnd (next_after entry.event n begun) (λ next. AreInTurn count next.0 next.1 entries)
+AreInTurn count n snapshot [] = Unit {0}
+AreInTurn count n snapshot (entry ∷ entries) = (entry.number ≡ n) × (n < count)
+    × IsSomeAnd (next_after entry.event n snapshot) (λ next. AreInTurn count next.0 next.1 entries)
 
 -- of each actor the journal tells the commands of its list in their order: each is answered once, and begins at most once,
 -- with no other entry of that actor between the two

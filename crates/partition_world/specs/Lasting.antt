@@ -3,7 +3,7 @@ use Rattle.tier_base.specs.Device.{Lasts}
 use Rattle.disk_model.specs.declared.disk.Disk.{Ghosts as DiskGhosts}
 use Rattle.object_store.specs.declared.store.Store.{Ghosts as StoreGhosts}
 use Rattle.meta_log.specs.declared.log.MetaLog.{Ghosts as MetaGhosts}
-use Rattle.partition_turns.specs.Disks.{DisksLast}
+use Rattle.partition_commands.specs.Disks.{DisksLast}
 use Rattle.partition_world.specs.Whole.{Whole}
 
 -- each device has lasted: its plan is as it was, and its count of faults hasn't fallen

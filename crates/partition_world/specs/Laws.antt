@@ -14,9 +14,9 @@ use Rattle.plain_log.specs.Safe.{PlainSafe}
 use Rattle.plain_log.specs.declared.journal.JournalEntry.{JournalEntry}
 use Rattle.plain_log.specs.declared.state.State.{State}
 use Rattle.registry.specs.declared.registry.Registry.{Registry}
-use Rattle.partition_seen.specs.declared.seat.Stepped.{Stepped}
-use Rattle.partition_turns.specs.Calm.{AreUnplanned}
-use Rattle.partition_world.specs.Calm.{IsUnplanned, IsUnfailing}
+use Rattle.laws_partition.specs.declared.actor_progress.Stepped.{Stepped}
+use Rattle.partition_commands.specs.Infallible.{AreUnplanned}
+use Rattle.partition_world.specs.Infallible.{IsUnplanned, IsUnfailing}
 use Rattle.partition_world.specs.Central.{IsCentral, KeepsCentral}
 use Rattle.partition_world.specs.Cold.{IsReopened, AreCold}
 use Rattle.partition_world.specs.Fresh.{IsFresh, IsNew, IsSeenEmpty}

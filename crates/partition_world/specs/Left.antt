@@ -16,8 +16,8 @@ use Rattle.plain_log.specs.declared.command.Config.{Config}
 use Rattle.plain_log.specs.Fresh.{fresh}
 use Rattle.plain_log.specs.Orders.{AreListsFor, IsConfig}
 use Rattle.plain_log.specs.declared.state.State.{State}
-use Rattle.partition_seen.specs.declared.seat.Stepped.{Stepped}
-use Rattle.partition_world.specs.declared.tier.Tier.{Tier}
+use Rattle.laws_partition.specs.declared.actor_progress.Stepped.{Stepped}
+use Rattle.partition_world.specs.declared.tier.RemoteTier.{RemoteTier}
 use Rattle.partition_world.specs.Central.{IsCentral}
 use Rattle.partition_world.specs.Fresh.{IsFresh, IsSeenEmpty}
 use Rattle.partition_world.specs.Turn.{Steps}
@@ -25,7 +25,7 @@ use Rattle.partition_world.specs.Whole.{Whole}
 
 -- it tells these notes, and a power cut leaves no others
 abbrev pub resolved_to : Content → List Note → Content
-resolved_to c l = record { tells = c.tells; notes = l; besides = λ x. ⊥ }
+resolved_to c l = record { is_observable = c.is_observable; notes = l; besides = λ x. ⊥ }
 
 -- a metadata log beside notes
 abbrev pub resolved : {M : Type 0} → MetaGhosts M → MetaGhosts (M × List Note)
@@ -34,8 +34,8 @@ resolved meta = record {
   control = λ m. meta.control m.0;
 }
 
-abbrev pub tier_with : {S M : Type 0} → Tier S M → List Note → Tier S (M × List Note)
-tier_with t l = record { store = t.store; meta = (t.meta, l); sides = t.sides }
+abbrev pub tier_with : {S M : Type 0} → RemoteTier S M → List Note → RemoteTier S (M × List Note)
+tier_with t l = record { store = t.store; meta = (t.meta, l); broker_tiers = t.broker_tiers }
 
 abbrev pub whole_with : {D S M : Type 0} → Whole D S M → List Note → Whole D S (M × List Note)
 whole_with w l = record {

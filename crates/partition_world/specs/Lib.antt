@@ -1,5 +1,5 @@
 pub mod Tier
-pub mod Seats
+pub mod ActorStates
 pub mod TurnsOfCopy
 pub mod TurnsOfExpiry
 pub mod TurnsOfDate
@@ -12,7 +12,7 @@ pub mod Sound
 pub mod Whole
 pub mod Turn
 pub mod Central
-pub mod Calm
+pub mod Infallible
 pub mod Fresh
 pub mod Later
 pub mod Lasting

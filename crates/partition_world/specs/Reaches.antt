@@ -6,16 +6,16 @@ use Rattle.meta_log.specs.declared.log.MetaLog.{Ghosts as MetaGhosts}
 use Rattle.plain_log.specs.declared.command.ActorList.{ActorList}
 use Rattle.plain_log.specs.declared.command.Pace.{Pace}
 use Rattle.plain_log.specs.declared.command.Pace.TheVariants.{Until, Times}
-use Rattle.partition_world.specs.declared.seat.Outcome.{Outcome}
-use Rattle.partition_world.specs.declared.seat.Seat.{Seat}
-use Rattle.partition_world.specs.Turn.{IsSeat, IsTurn, IsAtEnd}
+use Rattle.partition_world.specs.declared.actor_state.Outcome.{Outcome}
+use Rattle.partition_world.specs.declared.actor_state.ActorState.{ActorState}
+use Rattle.partition_world.specs.Turn.{IsActorAt, IsTurn, IsAtEnd}
 use Rattle.partition_world.specs.Whole.{Whole}
 
 module _ {D S M : Type 0} where
   -- the actor has answered so many of its commands, or all of them
   abbrev pub HasAnswered : Whole D S M → ℕ → ℕ → Type 0
-  HasAnswered w a number = (place : ℕ) (l : ActorList) (seat : Seat) → IsSeat w a place l seat
-      → (number ≤ seat.number) ⊎ (length l.orders ≤ seat.number)
+  HasAnswered w a number = (place : ℕ) (l : ActorList) (actor_state : ActorState) → IsActorAt w a place l actor_state
+      → (number ≤ actor_state.number) ⊎ (length l.orders ≤ actor_state.number)
 
 module _ {D S M : Type 0} (disk : DiskGhosts D) (store : StoreGhosts S) (meta : MetaGhosts M) where
   -- a turn of the actor; where it is at the end of its list nothing changes

@@ -9,9 +9,9 @@ use Rattle.partition_world.specs.declared.ready.Want.{Want}
 use Rattle.partition_world.specs.declared.ready.Want.TheVariants as want
 use Rattle.partition_world.specs.declared.ready.Ready.{Ready}
 use Rattle.partition_world.specs.declared.ready.Ready.TheVariants as ready
-use Rattle.partition_world.specs.declared.seat.Seat.{Seat}
-use Rattle.partition_world.specs.declared.seat.Work.{Work}
-use Rattle.partition_world.specs.declared.seat.Work.TheVariants.{Idle, Copies}
+use Rattle.partition_world.specs.declared.actor_state.ActorState.{ActorState}
+use Rattle.partition_world.specs.declared.actor_state.InProgress.{InProgress}
+use Rattle.partition_world.specs.declared.actor_state.InProgress.TheVariants.{Idle, Copies}
 use Rattle.partition_world.specs.Turn.{IsAtEnd, IsNext}
 use Rattle.partition_world.specs.Whole.{Whole}
 
@@ -23,15 +23,16 @@ IsWantOfCopy copy (want.Bundle closed line interval) =
     (closed ≡ copy.segment) × (line ≡ copy.line) × (interval ≡ copy.interval)
 
 -- what the next turn of a command wants, of which so much is kept: the first of a raw wants the check of its bytes
-abbrev pub IsWantOf : Command → Work → Want → Type 0
+abbrev pub IsWantOf : Command → InProgress → Want → Type 0
 IsWantOf command (Copies g copy next) wanted = IsWantOfCopy copy wanted
 IsWantOf (Raw bytes) Idle wanted = wanted ≡ want.Check bytes
 IsWantOf command work wanted = wanted ≡ want.Nothing
 
 -- what an actor's next turn wants
 pub record IsWanted {D S M : Type 0} (w : Whole D S M) (a : ℕ) (wanted : Want) : Type 0 where
-  pub next : (place : ℕ) (l : ActorList) (seat : Seat) (order : Order) → IsNext w a place l seat order
-      → IsWantOf order.command seat.work wanted
+  pub next : (place : ℕ) (l : ActorList) (actor_state : ActorState) (order : Order)
+      → IsNext w a place l actor_state order
+      → IsWantOf order.command actor_state.work wanted
   pub none : IsAtEnd w a → wanted ≡ want.Nothing
 
 -- what is made of what is wanted

@@ -7,47 +7,48 @@ use Rattle.meta_log.specs.declared.log.MetaLog.{Ghosts as MetaGhosts}
 use Rattle.meta_log.specs.Content.{Keeps as KeepsNotes}
 use Rattle.remote_view.specs.Fold.{Seen}
 use Rattle.view_refresh.specs.Refreshing.{Refreshed, Unread, Halted}
-use Rattle.partition_world.specs.declared.tier.Side.{Side}
-use Rattle.partition_world.specs.declared.tier.Tier.{Tier}
+use Rattle.partition_world.specs.declared.tier.BrokerTierState.{BrokerTierState}
+use Rattle.partition_world.specs.declared.tier.RemoteTier.{RemoteTier}
 
 -- the number of the next copy of a log that was opened so often
-abbrev pub next_of : Side → ℕ → ℕ
-next_of side incarnation = if side.incarnation == incarnation then side.attempt else 0
+abbrev pub next_of : BrokerTierState → ℕ → ℕ
+next_of broker_tier incarnation = if broker_tier.incarnation == incarnation then broker_tier.attempt else 0
 
 -- the side after a copy under its next number
-abbrev pub counted : Side → ℕ → Side
-counted side incarnation = record side { incarnation = incarnation; attempt = next_of side incarnation + 1 }
+abbrev pub counted : BrokerTierState → ℕ → BrokerTierState
+counted broker_tier incarnation =
+    record broker_tier { incarnation = incarnation; attempt = next_of broker_tier incarnation + 1 }
 
 module _ {S M : Type 0} where
   -- the tier with this side in its place
-  abbrev pub put_side : Tier S M → ℕ → Side → Tier S M
-  put_side t b side = record t { sides = slice_set t.sides b side }
+  abbrev pub put_broker_tier : RemoteTier S M → ℕ → BrokerTierState → RemoteTier S M
+  put_broker_tier t b broker_tier = record t { broker_tiers = slice_set t.broker_tiers b broker_tier }
 
   -- there is such a side, and this holds of it
-  abbrev pub AtSide : Tier S M → ℕ → (Side → Type 0) → Type 0
-  AtSide t b P = IsSomeAnd (slice_get t.sides b) P
+  abbrev pub AtBrokerTier : RemoteTier S M → ℕ → (BrokerTierState → Type 0) → Type 0
+  AtBrokerTier t b P = IsSomeAnd (slice_get t.broker_tiers b) P
 
 module _ {S M : Type 0} (meta : MetaGhosts M) where
   -- the broker's view has taken in all that the metadata log has more
-  pub record Refreshes (t : Tier S M) (b : ℕ) (side : Side) (t' : Tier S M) : Type 0 where
+  pub record Refreshes (t : RemoteTier S M) (b : ℕ) (broker_tier : BrokerTierState) (t' : RemoteTier S M) : Type 0 where
     pub view : Seen
-    pub reads : Refreshed meta.content meta.control side.view view t.meta t'.meta
-    pub after : t' ≡ put_side (record t { meta = t'.meta }) b (record side { view = view })
+    pub reads : Refreshed meta.content meta.control broker_tier.view view t.meta t'.meta
+    pub after : t' ≡ put_broker_tier (record t { meta = t'.meta }) b (record broker_tier { view = view })
 
   -- the metadata log failed, and the view is as it was
-  pub record FailsToRead (t : Tier S M) (side : Side) (t' : Tier S M) : Type 0 where
-    pub reads : Unread meta.content meta.control side.view side.view t.meta t'.meta
+  pub record FailsToRead (t : RemoteTier S M) (broker_tier : BrokerTierState) (t' : RemoteTier S M) : Type 0 where
+    pub reads : Unread meta.content meta.control broker_tier.view broker_tier.view t.meta t'.meta
     pub after : t' ≡ record t { meta = t'.meta }
 
   -- memory was wanting, and the view has taken in some of what the metadata log has more
-  pub record Halts (t : Tier S M) (b : ℕ) (side : Side) (t' : Tier S M) : Type 0 where
+  pub record Halts (t : RemoteTier S M) (b : ℕ) (broker_tier : BrokerTierState) (t' : RemoteTier S M) : Type 0 where
     pub view : Seen
-    pub reads : Halted meta.content meta.control side.view view t.meta t'.meta
-    pub after : t' ≡ put_side (record t { meta = t'.meta }) b (record side { view = view })
+    pub reads : Halted meta.content meta.control broker_tier.view view t.meta t'.meta
+    pub after : t' ≡ put_broker_tier (record t { meta = t'.meta }) b (record broker_tier { view = view })
 
 module _ {S M : Type 0} (store : StoreGhosts S) (meta : MetaGhosts M) where
   -- the plans of store and metadata log are in force, and they hold what they did
-  pub record IsArmedTier (s : S) (m : M) (t : Tier S M) : Type 0 where
+  pub record IsArmedTier (s : S) (m : M) (t : RemoteTier S M) : Type 0 where
     pub objects : KeepsObjects (store.content s) (store.content t.store)
     pub store_armed : Arms (store.control s) (store.control t.store)
     pub notes : KeepsNotes (meta.content m) (meta.content t.meta)

@@ -6,31 +6,34 @@ use Rattle.meta_log.specs.declared.log.MetaLog.{Ghosts as MetaGhosts}
 use Rattle.plain_log.specs.declared.answer.Answer.{Answer}
 use Rattle.plain_log.specs.declared.command.ActorList.{ActorList}
 use Rattle.plain_log.specs.declared.command.Order.{Order}
-use Rattle.partition_seen.specs.declared.seat.Stepped.{Stepped}
-use Rattle.partition_seen.specs.declared.seat.Stepped.TheVariants.{Ran, Done, Nothing, NoMemory}
-use Rattle.partition_turns.specs.Turns.{takes_memory}
-use Rattle.partition_world.specs.declared.seat.Outcome.{Outcome}
-use Rattle.partition_world.specs.declared.seat.Outcome.TheVariants.{Answers}
-use Rattle.partition_world.specs.declared.seat.Seat.{Seat}
-use Rattle.partition_world.specs.Seats.{seat_after, told_of, IsUnanswered}
+use Rattle.laws_partition.specs.declared.actor_progress.Stepped.{Stepped}
+use Rattle.laws_partition.specs.declared.actor_progress.Stepped.TheVariants.{Ran, Done, Nothing, NoMemory}
+use Rattle.partition_commands.specs.Turns.{takes_memory}
+use Rattle.partition_world.specs.declared.actor_state.Outcome.{Outcome}
+use Rattle.partition_world.specs.declared.actor_state.Outcome.TheVariants.{Answers}
+use Rattle.partition_world.specs.declared.actor_state.ActorState.{ActorState}
+use Rattle.partition_world.specs.ActorStates.{actor_state_after, told_of, IsUnanswered}
 use Rattle.partition_world.specs.Turns.{TurnRow, StaysTier}
 use Rattle.partition_world.specs.Whole.{Whole}
 
 module _ {D S M : Type 0} where
   -- the actor's list and its place at the desk
-  pub record IsSeat (w : Whole D S M) (a place : ℕ) (l : ActorList) (seat : Seat) : Type 0 where
+  pub record IsActorAt (w : Whole D S M) (a place : ℕ) (l : ActorList) (actor_state : ActorState) : Type 0 where
     pub list : slice_get w.lists place ≡ Some l
     pub actor : l.actor.0 ≡ a
-    pub seat_is : slice_get w.desk place ≡ Some seat
+    pub actor_state_is : slice_get w.desk place ≡ Some actor_state
 
   -- the actor has no list, or has come to the end of it
   abbrev pub IsAtEnd : Whole D S M → ℕ → Type 0
-  IsAtEnd w a = (place : ℕ) (l : ActorList) (seat : Seat) → IsSeat w a place l seat → length l.orders ≤ seat.number
+  IsAtEnd w a =
+      (place : ℕ) (l : ActorList) (actor_state : ActorState) → IsActorAt w a place l actor_state
+      → length l.orders ≤ actor_state.number
 
   -- the actor's next order
-  pub record IsNext (w : Whole D S M) (a place : ℕ) (l : ActorList) (seat : Seat) (order : Order) : Type 0 where
-    pub at : IsSeat w a place l seat
-    pub next : slice_get l.orders seat.number ≡ Some order
+  pub record IsNext (w : Whole D S M) (a place : ℕ) (l : ActorList) (actor_state : ActorState)
+      (order : Order) : Type 0 where
+    pub at : IsActorAt w a place l actor_state
+    pub next : slice_get l.orders actor_state.number ≡ Some order
 
 module _ {D S M : Type 0} (disk : DiskGhosts D) (store : StoreGhosts S) (meta : MetaGhosts M) where
   -- a turn of the actor's next order, which begins, goes on or is answered; what began or was answered is entered into the
@@ -38,13 +41,13 @@ module _ {D S M : Type 0} (disk : DiskGhosts D) (store : StoreGhosts S) (meta : 
   pub record IsTurn (w : Whole D S M) (a : ℕ) (outcome : Outcome) (w' : Whole D S M) : Type 0 where
     pub place : ℕ
     pub list : ActorList
-    pub seat : Seat
+    pub actor_state : ActorState
     pub order : Order
-    pub at : IsSeat w a place list seat
-    pub next : slice_get list.orders seat.number ≡ Some order
-    pub row : TurnRow disk store meta w.partition w.config w.held w.tier order.broker.0 seat.work order.command outcome w'.held w'.tier
-    pub desk : w'.desk ≡ slice_set w.desk place (seat_after seat outcome)
-    pub entered : w'.journal.items ≡ w.journal.items ++ told_of list.actor seat.number order.command outcome
+    pub at : IsActorAt w a place list actor_state
+    pub next : slice_get list.orders actor_state.number ≡ Some order
+    pub row : TurnRow disk store meta w.partition w.config w.held w.tier order.broker.0 actor_state.work order.command outcome w'.held w'.tier
+    pub desk : w'.desk ≡ slice_set w.desk place (actor_state_after actor_state outcome)
+    pub entered : w'.journal.items ≡ w.journal.items ++ told_of list.actor actor_state.number order.command outcome
     pub partition : w'.partition ≡ w.partition
     pub config : w'.config ≡ w.config
     pub lists : w'.lists ≡ w.lists
@@ -54,11 +57,11 @@ module _ {D S M : Type 0} (disk : DiskGhosts D) (store : StoreGhosts S) (meta : 
   pub record StaysWhole (w : Whole D S M) (a : ℕ) (w' : Whole D S M) : Type 0 where
     pub place : ℕ
     pub list : ActorList
-    pub seat : Seat
+    pub actor_state : ActorState
     pub order : Order
-    pub next : IsNext w a place list seat order
+    pub next : IsNext w a place list actor_state order
     pub node : order.broker.0 < length w.held.nodes
-    pub tier : StaysTier disk store meta w.partition w.held w.tier order.broker.0 seat.work order.command w'.held w'.tier
+    pub tier : StaysTier disk store meta w.partition w.held w.tier order.broker.0 actor_state.work order.command w'.held w'.tier
     pub wants : IsTrue (takes_memory order.command)
     pub fields : w' ≡ record w { held = w'.held; tier = w'.tier }
 

@@ -7,7 +7,7 @@
 --
 -- A broker that has stopped, or has another role than at the first turn, has lost its lead. A segment is due where it ends below
 -- the log start and its deletion isn't whole. Only where none is due does retention count: the pieces of remote segments from the
--- log start up to the known mark, by the leader's own line, and behind them what its local log has. Where segments aren't
+-- log start up to the known high watermark, by the leader's own line, and behind them what its local log has. Where segments aren't
 -- copied any more, so that the local log goes on where the pieces end, its closed segments count as they do. Local logs stay as they
 -- are.
 --
@@ -29,63 +29,69 @@ use Rattle.remote_find.specs.Pieces.{chain}
 use Rattle.expiry_task.specs.Rule.{end_from, uncopied, end_behind, raised_to, rest_behind}
 use Rattle.expiry_task.specs.declared.rule.Uncopied.{Uncopied}
 use Rattle.expiry_task.specs.Turns.{Tiers, ExpiryRow}
-use Rattle.expiry_task.specs.declared.turn.Doomed.{Doomed}
+use Rattle.expiry_task.specs.declared.turn.ExpiredSegment.{ExpiredSegment}
 use Rattle.expiry_task.specs.declared.turn.ExpiryTurn.{ExpiryTurn}
-use Rattle.expiry_task.specs.declared.turn.Next.{Next}
+use Rattle.expiry_task.specs.declared.turn.DeletionStep.{DeletionStep}
 use Rattle.plain_log.specs.declared.answer.Answer.{Answer}
 use Rattle.plain_log.specs.declared.answer.Answer.TheVariants.{LostLead, Kept, StaleEpoch, Raised}
 use Rattle.plain_log.specs.declared.state.Role.{Role}
 use Rattle.plain_log.specs.declared.state.Role.TheVariants.{Leads}
 use Rattle.broker_log.specs.Seen.{closed_in, layout_in}
-use Rattle.partition_seen.specs.declared.begun.Begun.{Begun}
-use Rattle.partition_turns.specs.declared.held.Node.{Node}
-use Rattle.partition_turns.specs.declared.held.Held.{Held}
-use Rattle.partition_turns.specs.Held.{end_of, line_of, local_of}
-use Rattle.partition_turns.specs.TurnsOfElections.{Leaves}
-use Rattle.partition_world.specs.declared.tier.Side.{Side}
-use Rattle.partition_world.specs.declared.tier.Tier.{Tier}
-use Rattle.partition_world.specs.declared.seat.Outcome.{Outcome}
-use Rattle.partition_world.specs.declared.seat.Outcome.TheVariants.{Answers, Dooms}
-use Rattle.partition_world.specs.Seats.{expiry_outcome}
-use Rattle.partition_world.specs.TurnsOfCopy.{KeepsLead, teller_of, LeadersFirstRow}
+use Rattle.laws_partition.specs.declared.start_snapshot.StartSnapshot.{StartSnapshot}
+use Rattle.partition_commands.specs.declared.partition_state.Node.{Node}
+use Rattle.partition_commands.specs.declared.partition_state.PartitionState.{PartitionState}
+use Rattle.partition_commands.specs.Partition.{end_of, line_of, local_of}
+use Rattle.partition_commands.specs.TurnsOfElections.{Leaves}
+use Rattle.partition_world.specs.declared.tier.BrokerTierState.{BrokerTierState}
+use Rattle.partition_world.specs.declared.tier.RemoteTier.{RemoteTier}
+use Rattle.partition_world.specs.declared.actor_state.Outcome.{Outcome}
+use Rattle.partition_world.specs.declared.actor_state.Outcome.TheVariants.{Answers, Dooms}
+use Rattle.partition_world.specs.ActorStates.{expiry_outcome}
+use Rattle.partition_world.specs.TurnsOfCopy.{KeepsLead, origin_of, LeadersFirstRow}
 
 -- expire, first turn: as a copy's
 module _ {D S M : Type 0} (meta : MetaGhosts M) where
-  abbrev pub ExpireFirstRow : Held D → Tier S M → ℕ → Node D → Side → Outcome → Tier S M → Type 0
-  ExpireFirstRow h t b x side outcome t' = LeadersFirstRow meta h t b x side outcome t'
+  abbrev pub ExpireFirstRow : PartitionState D → RemoteTier S M → ℕ → Node D → BrokerTierState → Outcome
+      → RemoteTier S M → Type 0
+  ExpireFirstRow h t b x broker_tier outcome t' = LeadersFirstRow meta h t b x broker_tier outcome t'
 
 module _ {D : Type 0} where
   -- the first segment of the view that ends below the log start, and whose deletion isn't whole
-  abbrev pub due_of : Held D → Side → Option Entry
-  due_of h side = due h.registry.start side.view.entries
+  abbrev pub due_of : PartitionState D → BrokerTierState → Option Entry
+  due_of h broker_tier = due h.registry.start broker_tier.view.entries
 
-  -- the pieces of remote segments from the log start on that end at or below the known mark, by the broker's own line
-  abbrev pub pieces_of : Held D → Node D → Side → List Piece
-  pieces_of h x side = chain side.view.entries (line_of x) (end_of x) h.registry.start x.known
+  -- the pieces of remote segments from the log start on that end at or below the known high watermark, by the
+  -- broker's own line
+  abbrev pub pieces_of : PartitionState D → Node D → BrokerTierState → List Piece
+  pieces_of h x broker_tier =
+      chain broker_tier.view.entries (line_of x) (end_of x) h.registry.start x.known_high_watermark
 
   -- the bytes of the open segment, where the broker is up
   abbrev pub open_size_of : Node D → ℕ
   open_size_of x = unwrap_or (option_map (λ layout. size_of layout.active) (layout_in x.log)) 0
 
   -- the closed segments that count with these pieces, since they aren't copied any more
-  abbrev pub own_of : Held D → Node D → List Piece → List Uncopied
-  own_of h x pieces = uncopied h.copying (local_of x) (end_from h.registry.start pieces) x.known (closed_in x.log)
+  abbrev pub own_of : PartitionState D → Node D → List Piece → List Uncopied
+  own_of h x pieces =
+      uncopied h.copying (local_of x) (end_from h.registry.start pieces) x.known_high_watermark (closed_in x.log)
 
   -- the bytes of the broker's local log behind these pieces and segments
-  abbrev pub rest_of : Held D → Node D → List Piece → List Uncopied → ℕ
+  abbrev pub rest_of : PartitionState D → Node D → List Piece → List Uncopied → ℕ
   rest_of h x pieces own =
       rest_behind (end_behind (end_from h.registry.start pieces) own) (closed_in x.log) (open_size_of x) (end_of x)
 
   -- where the log start comes to by these
-  abbrev pub rises_by : Held D → Node D → Side → Keep → List Piece → List Uncopied → Option ℕ
-  rises_by h x side keep pieces own = raised_to side.view.entries pieces own (rest_of h x pieces own) h.clock keep
+  abbrev pub rises_by : PartitionState D → Node D → BrokerTierState → Keep → List Piece → List Uncopied → Option ℕ
+  rises_by h x broker_tier keep pieces own =
+      raised_to broker_tier.view.entries pieces own (rest_of h x pieces own) h.clock keep
 
   -- where the log start comes to, where retention lets it rise
-  abbrev pub rises_to : Held D → Node D → Side → Keep → Option ℕ
-  rises_to h x side keep = rises_by h x side keep (pieces_of h x side) (own_of h x (pieces_of h x side))
+  abbrev pub rises_to : PartitionState D → Node D → BrokerTierState → Keep → Option ℕ
+  rises_to h x broker_tier keep =
+      rises_by h x broker_tier keep (pieces_of h x broker_tier) (own_of h x (pieces_of h x broker_tier))
 
   -- the registry raises the log start to this for a broker of a role, or refuses since another leads by now
-  abbrev pub RaiseRow : Held D → Role → ℕ → Answer → Held D → Type 0
+  abbrev pub RaiseRow : PartitionState D → Role → ℕ → Answer → PartitionState D → Type 0
   RaiseRow h role wanted (StaleEpoch n) h' =
       (e : ℕ) × (role ≡ Leads e) × Leaves h (after_raise h.registry e wanted (Err (Reg.StaleEpoch n))) h'
   RaiseRow h role wanted (Raised start) h' =
@@ -93,55 +99,62 @@ module _ {D : Type 0} where
   RaiseRow h role wanted other h' = ⊥
 
   -- it takes up the first due segment of the view
-  pub record TakesUp (p : PartitionId) (h : Held D) (side : Side) (doomed : Doomed) (h' : Held D) : Type 0 where
+  pub record TakesUp (p : PartitionId) (h : PartitionState D) (broker_tier : BrokerTierState)
+      (expired_segment : ExpiredSegment) (h' : PartitionState D) : Type 0 where
     pub entry : Entry
-    pub first : due_of h side ≡ Some entry
-    pub id_is : doomed.id ≡ entry.id
-    pub partition_is : doomed.partition ≡ p
-    pub packed_is : doomed.packed ≡ entry.packed
+    pub first : due_of h broker_tier ≡ Some entry
+    pub id_is : expired_segment.id ≡ entry.id
+    pub partition_is : expired_segment.partition ≡ p
+    pub packed_is : expired_segment.packed ≡ entry.packed
     pub stays : h' ≡ h
 
   -- no segment is due, and the log start is to rise to this
-  pub record MayRise (h : Held D) (x : Node D) (side : Side) (keep : Keep) (start : ℕ) : Type 0 where
-    pub none : due_of h side ≡ None
-    pub rises : rises_to h x side keep ≡ Some start
+  pub record MayRise (h : PartitionState D) (x : Node D) (broker_tier : BrokerTierState) (keep : Keep)
+      (start : ℕ) : Type 0 where
+    pub none : due_of h broker_tier ≡ None
+    pub rises : rises_to h x broker_tier keep ≡ Some start
 
   -- expire, second turn, where it has kept its lead: by what it came to
-  abbrev pub ExpiresBy : PartitionId → Held D → Node D → Side → Keep → Outcome → Held D → Type 0
-  ExpiresBy p h x side keep (Dooms doomed) h' = TakesUp p h side doomed h'
-  ExpiresBy p h x side keep (Answers Kept) h' =
-      (due_of h side ≡ None) × (rises_to h x side keep ≡ None) × (h' ≡ h)
-  ExpiresBy p h x side keep (Answers answer) h' =
-      (start : ℕ) × MayRise h x side keep start × RaiseRow h x.role start answer h'
-  ExpiresBy p h x side keep other h' = ⊥
+  abbrev pub ExpiresBy : PartitionId → PartitionState D → Node D → BrokerTierState → Keep → Outcome → PartitionState D
+      → Type 0
+  ExpiresBy p h x broker_tier keep (Dooms expired_segment) h' = TakesUp p h broker_tier expired_segment h'
+  ExpiresBy p h x broker_tier keep (Answers Kept) h' =
+      (due_of h broker_tier ≡ None) × (rises_to h x broker_tier keep ≡ None) × (h' ≡ h)
+  ExpiresBy p h x broker_tier keep (Answers answer) h' =
+      (start : ℕ) × MayRise h x broker_tier keep start × RaiseRow h x.role start answer h'
+  ExpiresBy p h x broker_tier keep other h' = ⊥
 
   -- expire, second turn
-  abbrev pub ExpireOnRow : PartitionId → Held D → Node D → Side → Begun → Keep → Outcome → Held D → Type 0
-  ExpireOnRow p h x side g keep outcome h' =
+  abbrev pub ExpireOnRow : PartitionId → PartitionState D → Node D → BrokerTierState → StartSnapshot → Keep → Outcome
+      → PartitionState D → Type 0
+  ExpireOnRow p h x broker_tier g keep outcome h' =
       ((KeepsLead x g → ⊥) × (outcome ≡ Answers LostLead) × (h' ≡ h))
-      ⊎ (KeepsLead x g × ExpiresBy p h x side keep outcome h')
+      ⊎ (KeepsLead x g × ExpiresBy p h x broker_tier keep outcome h')
 
 -- what an expiry's turn changes
-abbrev pub expiry_tiers : {S M : Type 0} → Tier S M → Tiers S M
+abbrev pub expiry_tiers : {S M : Type 0} → RemoteTier S M → Tiers S M
 expiry_tiers t = record { store = t.store; meta = t.meta }
 
 module _ {D S M : Type 0} (store : StoreGhosts S) (meta : MetaGhosts M) where
   -- a turn of the expiry's row, and nothing else changes
-  pub record GoesOnDeletion (h : Held D) (t : Tier S M) (b : ℕ) (doomed : Doomed) (next : Next) (turn : ExpiryTurn) (t' : Tier S M)
+  pub record GoesOnDeletion (h : PartitionState D) (t : RemoteTier S M) (b : ℕ) (expired_segment : ExpiredSegment) (next : DeletionStep) (turn : ExpiryTurn) (t' : RemoteTier S M)
       : Type 0 where
-    pub row : ExpiryRow store.content store.control meta.content meta.control doomed (teller_of h b) next (Ok turn)
+    pub row : ExpiryRow store.content store.control meta.content meta.control expired_segment (origin_of h b) next
+        (Ok turn)
         (expiry_tiers t) (expiry_tiers t')
     pub after : t' ≡ record t { store = t'.store; meta = t'.meta }
 
   -- it wanted memory
-  pub record WantsForDeletion (h : Held D) (t : Tier S M) (b : ℕ) (doomed : Doomed) (next : Next) (t' : Tier S M) : Type 0 where
+  pub record WantsForDeletion (h : PartitionState D) (t : RemoteTier S M) (b : ℕ) (expired_segment : ExpiredSegment) (next : DeletionStep) (t' : RemoteTier S M) : Type 0 where
     pub error : AllocError
-    pub row : ExpiryRow store.content store.control meta.content meta.control doomed (teller_of h b) next (Err error)
+    pub row : ExpiryRow store.content store.control meta.content meta.control expired_segment (origin_of h b) next
+        (Err error)
         (expiry_tiers t) (expiry_tiers t')
     pub after : t' ≡ record t { store = t'.store; meta = t'.meta }
 
   -- expire, a later turn: the lead is lost, or it goes by the expiry's row
-  abbrev pub DeleteOnRow : Held D → Tier S M → ℕ → Node D → Begun → Doomed → Next → Outcome → Tier S M → Type 0
-  DeleteOnRow h t b x g doomed next outcome t' =
+  abbrev pub DeleteOnRow : PartitionState D → RemoteTier S M → ℕ → Node D → StartSnapshot → ExpiredSegment
+      → DeletionStep → Outcome → RemoteTier S M → Type 0
+  DeleteOnRow h t b x g expired_segment next outcome t' =
       ((KeepsLead x g → ⊥) × (outcome ≡ Answers LostLead) × (t' ≡ t))
-      ⊎ (KeepsLead x g × ((turn : ExpiryTurn) × (outcome ≡ expiry_outcome turn) × GoesOnDeletion h t b doomed next turn t'))
+      ⊎ (KeepsLead x g × ((turn : ExpiryTurn) × (outcome ≡ expiry_outcome turn) × GoesOnDeletion h t b expired_segment next turn t'))

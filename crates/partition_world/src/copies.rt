@@ -11,21 +11,21 @@ ghost use Rattle.segment_bundle.specs.Parts.{can_pack};
 ghost use Rattle.copy_task.specs.Candidate.{candidate};
 ghost use Rattle.copy_task.specs.Copying.{IsCopied};
 ghost use Rattle.copy_task.specs.Turns.{CopyRow};
-ghost use Rattle.partition_turns.specs.declared.held.Node.{Node as Broker};
-ghost use Rattle.partition_turns.specs.Held.{AtNode, StaysHeld, is_up, line_of, put_node};
-ghost use Rattle.partition_world.specs.declared.tier.Side.{Side as Knowledge};
-ghost use Rattle.partition_world.specs.Tier.{AtSide, next_of, put_side, Halts};
-ghost use Rattle.partition_world.specs.TurnsOfCopy.{KeepsLead, copied_to, IsPackedBy, LeadersFirstRow, CopyFirstRow, ChooseRow, ReadRow, ReadsQuietly, CopyOnRow, tiers_of, teller_of, WantsForCopy};
+ghost use Rattle.partition_commands.specs.declared.partition_state.Node.{Node as Broker};
+ghost use Rattle.partition_commands.specs.Partition.{AtNode, KeepsPartition, is_up, line_of, put_node};
+ghost use Rattle.partition_world.specs.declared.tier.BrokerTierState.{BrokerTierState as Knowledge};
+ghost use Rattle.partition_world.specs.Tier.{AtBrokerTier, next_of, put_broker_tier, Halts};
+ghost use Rattle.partition_world.specs.TurnsOfCopy.{KeepsLead, copied_to, IsPackedBy, LeadersFirstRow, CopyFirstRow, ChooseRow, ReadRow, ReadsQuietly, CopyOnRow, tiers_of, origin_of, WantsForCopy};
 
-use crate::seat::{Outcome, copy_outcome};
-use crate::tier::{Side, Tier};
+use crate::actor_state::{Outcome, copy_outcome};
+use crate::tier::{BrokerTierState, RemoteTier};
 use broker_log::ReadRefusal;
-use copy_task::{Copying, Next, candidate, copy_turn};
+use copy_task::{CopyStep, Copying, candidate, copy_turn};
 use disk_model::Disk;
-use meta_log::{MetaLog, Teller};
+use laws_partition::StartSnapshot;
+use meta_log::{EventOrigin, MetaLog};
 use object_store::Store;
-use partition_seen::Begun;
-use partition_turns::{Held, Node, leading};
+use partition_commands::{Node, PartitionState, leading};
 use plain_log::{Answer, Place};
 use remote_find::covered_to;
 use segment_file::Closed;
@@ -33,29 +33,29 @@ use std::alloc::{AllocError, Global};
 use tier_base::{BrokerId, PartitionId, SegmentId, Trouble, segment_id};
 
 /// Whether a broker is up, has not stopped since a command began, and has the role that it had.
-pub(crate) fn keeps_lead<D: Disk>(node: &Node<D>, noted: &Begun) -> bool
-    ensures { IsTrue result ↔ KeepsLead node.now noted.now }
+pub(crate) fn keeps_lead<D: Disk>(node: &Node<D>, recorded: &StartSnapshot) -> bool
+    ensures { IsTrue result ↔ KeepsLead node.now recorded.now }
 {
-    noted.stops == node.stops && node.is_up() && noted.role == node.role
+    recorded.stops == node.stops && node.is_up() && recorded.role == node.role
 }
 
 /// The end that the remote tier has all of a broker's log up to, from the log start or the local start on.
-pub(crate) fn copied_to<D: Disk>(node: &Node<D>, side: &Side, start: u64) -> u64
+pub(crate) fn copied_to<D: Disk>(node: &Node<D>, broker_tier: &BrokerTierState, start: u64) -> u64
     requires { is_up node.now ≡ true }
-    ensures { result ≡ copied_to node.now side.now start }
+    ensures { result ≡ copied_to node.now broker_tier.now start }
 {
     let (Some(line), Some(local)) = (node.log.line(), node.log.local_start()) else {
         unreachable!()
     };
-    covered_to(&side.view, line, node.end(), local.max(start))
+    covered_to(&broker_tier.view, line, node.end(), local.max(start))
 }
 
 /// Whether a closed segment comes next, behind the end that the remote tier has all up to.
 fn has_next<D: Disk>(node: &Node<D>, copied: u64) -> bool
-    ensures some { result ≡ true → IsSomeAnd (candidate (closed_in node.now.log) copied node.now.known) (λ segment. Unit {0}) }
-    ensures none { result ≡ false → candidate (closed_in node.now.log) copied node.now.known ≡ None }
+    ensures some { result ≡ true → IsSomeAnd (candidate (closed_in node.now.log) copied node.now.known_high_watermark) (λ segment. Unit {0}) }
+    ensures none { result ≡ false → candidate (closed_in node.now.log) copied node.now.known_high_watermark ≡ None }
 {
-    candidate(node.log.first_past(copied), node.known).is_some()
+    candidate(node.log.first_past(copied), node.known_high_watermark).is_some()
 }
 
 /// The segment of a broker's log under an id, and whether it is to be packed.
@@ -101,20 +101,20 @@ fn read_next<D: Disk>(
     offset: u64,
     packed: bool,
     node: &mut Node<D>,
-    side: &mut Side,
+    broker_tier: &mut BrokerTierState,
 ) -> Result<Outcome, AllocError>
     requires up { is_up node.old ≡ true }
     requires next { IsSomeAnd (first_past offset (closed_in node.old.log)) (λ segment. Unit {0}) }
-    requires tries { side.old.attempt < 18446744073709551615 }
-    ensures row { IfOk result (λ outcome. ReadRow D.Disk partition broker.0 node.old side.old offset outcome node.new side.new) }
+    requires tries { broker_tier.old.attempt < 18446744073709551615 }
+    ensures row { IfOk result (λ outcome. ReadRow D.Disk partition broker.0 node.old broker_tier.old offset outcome node.new broker_tier.new) }
     ensures form { IfOk result (IsPackedBy packed) }
     ensures err { OnErr result (ReadsQuietly D.Disk node.old node.new) }
-    ensures side { OnErr result (side.new ≡ side.old) }
+    ensures broker_tier { OnErr result (broker_tier.new ≡ broker_tier.old) }
 {
     let Some(incarnation) = node.log.incarnation() else {
         unreachable!()
     };
-    let next = side.next(incarnation);
+    let next = broker_tier.next(incarnation);
     let id = id_of(partition, broker, incarnation, next);
     let Some(settings) = node.log.settings() else {
         unreachable!()
@@ -123,7 +123,7 @@ fn read_next<D: Disk>(
         Ok(Some(segment)) => {
             let interval = settings.index_interval;
             let copying = copying(alloc, node, partition, id, segment, interval, packed)?;
-            side.count(incarnation);
+            broker_tier.count(incarnation);
             Ok(Outcome::Chose(copying))
         }
         Err(ReadRefusal::DiskFault) => Ok(Outcome::Answers(Answer::DiskFault)),
@@ -136,28 +136,29 @@ fn read_next<D: Disk>(
 }
 
 /// Who tells of what a broker does.
-pub(crate) fn teller<D: Disk>(held: &Held<D>, broker: BrokerId) -> Teller
-    ensures { result ≡ teller_of held.now broker.0 }
+pub(crate) fn origin<D: Disk>(held: &PartitionState<D>, broker: BrokerId) -> EventOrigin
+    ensures { result ≡ origin_of held.now broker.0 }
 {
-    Teller {
+    EventOrigin {
         broker,
         now: held.clock,
     }
 }
 
-impl<S: Store, M: MetaLog> Tier<S, M> {
+impl<S: Store, M: MetaLog> RemoteTier<S, M> {
     /// Begins a copy, where segments are copied.
     pub(crate) fn copy<D: Disk>(
         &mut self,
         alloc: Global,
         b: usize,
-        held: &Held<D>,
+        held: &PartitionState<D>,
     ) -> Result<Outcome, AllocError>
         requires node { b < length held.now.nodes }
-        requires side { b < length self.old.sides }
-        ensures row { IfOk result (λ outcome. AtNode held.now b (λ x. AtSide self.old b (λ side.
-            CopyFirstRow M.MetaLog held.now self.old b x side outcome self.new))) }
-        ensures err { OnErr result (AtSide self.old b (λ side. Halts M.MetaLog self.old b side self.new)) }
+        requires broker_tier { b < length self.old.broker_tiers }
+        ensures row { IfOk result (λ outcome. AtNode held.now b (λ x. AtBrokerTier self.old b (λ broker_tier.
+            CopyFirstRow M.MetaLog held.now self.old b x broker_tier outcome self.new))) }
+        ensures err { OnErr result
+            (AtBrokerTier self.old b (λ broker_tier. Halts M.MetaLog self.old b broker_tier self.new)) }
     {
         let node = held.nodes.get(b);
         if !held.copying && node.is_up() && leading(node.role).is_some() {
@@ -171,13 +172,14 @@ impl<S: Store, M: MetaLog> Tier<S, M> {
         &mut self,
         alloc: Global,
         b: usize,
-        held: &Held<D>,
+        held: &PartitionState<D>,
     ) -> Result<Outcome, AllocError>
         requires node { b < length held.now.nodes }
-        requires side { b < length self.old.sides }
-        ensures row { IfOk result (λ outcome. AtNode held.now b (λ x. AtSide self.old b (λ side.
-            LeadersFirstRow M.MetaLog held.now self.old b x side outcome self.new))) }
-        ensures err { OnErr result (AtSide self.old b (λ side. Halts M.MetaLog self.old b side self.new)) }
+        requires broker_tier { b < length self.old.broker_tiers }
+        ensures row { IfOk result (λ outcome. AtNode held.now b (λ x. AtBrokerTier self.old b (λ broker_tier.
+            LeadersFirstRow M.MetaLog held.now self.old b x broker_tier outcome self.new))) }
+        ensures err { OnErr result
+            (AtBrokerTier self.old b (λ broker_tier. Halts M.MetaLog self.old b broker_tier self.new)) }
     {
         let node = held.nodes.get(b);
         if !node.is_up() {
@@ -199,22 +201,23 @@ impl<S: Store, M: MetaLog> Tier<S, M> {
         alloc: Global,
         partition: PartitionId,
         broker: BrokerId,
-        noted: &Begun,
-        held: &mut Held<D>,
+        recorded: &StartSnapshot,
+        held: &mut PartitionState<D>,
     ) -> Result<Outcome, AllocError>
         requires node { broker.0 < length held.old.nodes }
-        requires side { broker.0 < length self.old.sides }
-        requires tries { AtSide self.old broker.0 (λ side. side.attempt < 18446744073709551615) }
-        ensures row { IfOk result (λ outcome. AtNode held.old broker.0 (λ x. AtSide self.old broker.0 (λ side.
-            ChooseRow D.Disk partition held.old self.old broker.0 x side noted.now outcome held.new self.new))) }
-        ensures err { OnErr result (StaysHeld D.content D.control held.old held.new × (self.new ≡ self.old)) }
+        requires broker_tier { broker.0 < length self.old.broker_tiers }
+        requires tries { AtBrokerTier self.old broker.0 (λ broker_tier. broker_tier.attempt < 18446744073709551615) }
+        ensures row { IfOk result
+            (λ outcome. AtNode held.old broker.0 (λ x. AtBrokerTier self.old broker.0 (λ broker_tier.
+            ChooseRow D.Disk partition held.old self.old broker.0 x broker_tier recorded.now outcome held.new self.new))) }
+        ensures err { OnErr result (KeepsPartition D.content D.control held.old held.new × (self.new ≡ self.old)) }
     {
         let b = broker.0 as usize;
         let node = held.nodes.get(b);
-        if !keeps_lead(node, noted) {
+        if !keeps_lead(node, recorded) {
             return Ok(Outcome::Answers(Answer::LostLead));
         }
-        let copied = copied_to(node, self.sides.get(b), held.registry.start);
+        let copied = copied_to(node, self.broker_tiers.get(b), held.registry.start);
         if !has_next(node, copied) {
             return Ok(Outcome::Answers(Answer::Level));
         }
@@ -228,15 +231,18 @@ impl<S: Store, M: MetaLog> Tier<S, M> {
         partition: PartitionId,
         broker: BrokerId,
         copied: u64,
-        held: &mut Held<D>,
+        held: &mut PartitionState<D>,
     ) -> Result<Outcome, AllocError>
         requires node { AtNode held.old broker.0 (λ x. is_up x ≡ true) }
         requires next { AtNode held.old broker.0 (λ x. IsSomeAnd (first_past copied (closed_in x.log)) (λ segment. Unit {0})) }
-        requires side { broker.0 < length self.old.sides }
-        requires tries { AtSide self.old broker.0 (λ side. side.attempt < 18446744073709551615) }
-        ensures row { IfOk result (λ outcome. AtNode held.old broker.0 (λ x. AtSide self.old broker.0 (λ side.
-            (x' : Broker D) × (side' : Knowledge) × ReadRow D.Disk partition broker.0 x side copied outcome x' side'
-            × (held.new ≡ put_node held.old broker.0 x') × (self.new ≡ put_side self.old broker.0 side')))) }
+        requires broker_tier { broker.0 < length self.old.broker_tiers }
+        requires tries { AtBrokerTier self.old broker.0 (λ broker_tier. broker_tier.attempt < 18446744073709551615) }
+        ensures row { IfOk result
+            (λ outcome. AtNode held.old broker.0 (λ x. AtBrokerTier self.old broker.0 (λ broker_tier.
+            (x' : Broker D) × (broker_tier' : Knowledge)
+            × ReadRow D.Disk partition broker.0 x broker_tier copied outcome x' broker_tier'
+            × (held.new ≡ put_node held.old broker.0 x')
+            × (self.new ≡ put_broker_tier self.old broker.0 broker_tier')))) }
         ensures form { IfOk result (IsPackedBy held.old.packed) }
         ensures err { OnErr result (AtNode held.old broker.0 (λ x. (x' : Broker D) × ReadsQuietly D.Disk x x'
             × (held.new ≡ put_node held.old broker.0 x'))) }
@@ -245,8 +251,8 @@ impl<S: Store, M: MetaLog> Tier<S, M> {
         let b = broker.0 as usize;
         let packed = held.packed;
         let node = held.nodes.at_mut(b);
-        let side = self.sides.at_mut(b);
-        read_next(alloc, partition, broker, copied, packed, node, side)
+        let broker_tier = self.broker_tiers.at_mut(b);
+        read_next(alloc, partition, broker, copied, packed, node, broker_tier)
     }
 
     /// Takes a later turn of a copy.
@@ -254,31 +260,32 @@ impl<S: Store, M: MetaLog> Tier<S, M> {
         &mut self,
         alloc: Global,
         broker: BrokerId,
-        noted: &Begun,
+        recorded: &StartSnapshot,
         copying: &mut Copying,
-        next: Next,
-        held: &Held<D>,
+        next: CopyStep,
+        held: &PartitionState<D>,
     ) -> Result<Outcome, AllocError>
         requires node { broker.0 < length held.now.nodes }
-        requires side { broker.0 < length self.old.sides }
-        ensures row { IfOk result (λ outcome. AtNode held.now broker.0 (λ x. AtSide self.old broker.0 (λ side.
-            CopyOnRow S.Store M.MetaLog held.now self.old broker.0 x side noted.now copying.old next outcome self.new))) }
-        ensures err { OnErr result (AtSide self.old broker.0 (λ side.
-            WantsForCopy S.Store M.MetaLog held.now self.old broker.0 side copying.old next self.new)) }
+        requires broker_tier { broker.0 < length self.old.broker_tiers }
+        ensures row { IfOk result
+            (λ outcome. AtNode held.now broker.0 (λ x. AtBrokerTier self.old broker.0 (λ broker_tier.
+            CopyOnRow S.Store M.MetaLog held.now self.old broker.0 x broker_tier recorded.now copying.old next outcome self.new))) }
+        ensures err { OnErr result (AtBrokerTier self.old broker.0 (λ broker_tier.
+            WantsForCopy S.Store M.MetaLog held.now self.old broker.0 broker_tier copying.old next self.new)) }
         ensures same { copying.new ≡ copying.old }
     {
         let b = broker.0 as usize;
-        if !keeps_lead(held.nodes.get(b), noted) {
+        if !keeps_lead(held.nodes.get(b), recorded) {
             return Ok(Outcome::Answers(Answer::LostLead));
         }
-        let teller = teller(held, broker);
-        let side = self.sides.at_mut(b);
+        let origin = origin(held, broker);
+        let broker_tier = self.broker_tiers.at_mut(b);
         let turn = copy_turn(
             alloc,
             copying,
             next,
-            teller,
-            &mut side.view,
+            origin,
+            &mut broker_tier.view,
             &mut self.store,
             &mut self.meta,
         )?;

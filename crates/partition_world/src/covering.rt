@@ -3,13 +3,13 @@
 ghost use Rattle.std.specs.Prelude.{◌≡◌, ◌↔◌, map, nat_le, true, IfOk, IsTrue};
 ghost use Rattle.remote_find.specs.Pieces.{covered_to};
 ghost use Rattle.broker_log.specs.Seen.{closed_in};
-ghost use Rattle.partition_turns.specs.Held.{is_up};
+ghost use Rattle.partition_commands.specs.Partition.{is_up};
 ghost use Rattle.partition_world.specs.TurnsOfTrim.{item_of, IsDue, MayTrim};
 
-use crate::tier::Side;
+use crate::tier::BrokerTierState;
 use disk_model::Disk;
 use epoch_line::Line;
-use partition_turns::{Held, Node};
+use partition_commands::{Node, PartitionState};
 use remote_find::find;
 use remote_view::View;
 use retention_rule::local_due;
@@ -75,26 +75,26 @@ fn is_due<D: Disk>(
 /// Whether the first closed segment of a broker's local log may go.
 pub(crate) fn may_trim<D: Disk>(
     alloc: Global,
-    held: &Held<D>,
+    held: &PartitionState<D>,
     node: &Node<D>,
-    side: &Side,
+    broker_tier: &BrokerTierState,
     keep: Keep,
 ) -> Result<bool, AllocError>
     requires { is_up node.now ≡ true }
-    ensures { IfOk result (λ may. IsTrue may ↔ MayTrim held.now node.now side.now keep) }
+    ensures { IfOk result (λ may. IsTrue may ↔ MayTrim held.now node.now broker_tier.now keep) }
 {
     if !node.log.may_drop() {
         return Ok(false);
     }
     let end = node.log.closed()[0].end();
-    if end > node.known {
+    if end > node.known_high_watermark {
         return Ok(false);
     }
     let (Some(line), Some(local)) = (node.log.line(), node.log.local_start()) else {
         unreachable!()
     };
     let start = held.registry.start;
-    if !reaches(&side.view, line, node.end(), local.max(start), end) {
+    if !reaches(&broker_tier.view, line, node.end(), local.max(start), end) {
         return Ok(false);
     }
     is_due(alloc, node, start, held.clock, keep)

@@ -1,44 +1,45 @@
 //! The turns of a search by timestamp, behind its first one.
 //!
 //! Each makes its tests anew, since a stop, an election or a raise of the log start may have come between: the broker hasn't
-//! stopped and leads the epoch that it led, the cursor isn't below the log start, and it is below the known mark.
+//! stopped and leads the epoch that it led, the cursor isn't below the log start, and it is below the known high
+//! watermark.
 
 ghost use Rattle.std.specs.Prelude.{◌≡◌, ◌<◌, ◌≤◌, ◌^◌, length, true, false, None, IfOk, IfSome, OnErr};
 ghost use Rattle.broker_log.specs.Seen.{line_in};
 ghost use Rattle.time_find.specs.Turns.{IsSet, IsBelow, GoesOn};
-ghost use Rattle.partition_turns.specs.Held.{AtNode, StaysHeld, is_up, line_of, local_of};
-ghost use Rattle.partition_world.specs.Tier.{AtSide};
+ghost use Rattle.partition_commands.specs.Partition.{AtNode, KeepsPartition, is_up, line_of, local_of};
+ghost use Rattle.partition_world.specs.Tier.{AtBrokerTier};
 ghost use Rattle.partition_world.specs.Turns.{DateHalts, StaysOr};
 ghost use Rattle.partition_world.specs.TurnsOfCopy.{KeepsLead};
 ghost use Rattle.partition_world.specs.TurnsOfDate.{resumed_at, resumed_with, is_own, asked_of, AnswersAtOnce, SearchesOwn, SearchesRemote, WantsForDate, SearchRow, DateOnRow};
 
-use crate::seat::{Outcome, date_outcome};
-use crate::tier::Tier;
+use crate::actor_state::{Outcome, date_outcome};
+use crate::tier::RemoteTier;
 use disk_model::Disk;
 use epoch_line::Line;
+use laws_partition::StartSnapshot;
 use meta_log::MetaLog;
 use object_store::Store;
-use partition_seen::Begun;
-use partition_turns::{Held, Node};
+use partition_commands::{Node, PartitionState};
 use plain_log::Answer;
 use std::alloc::{AllocError, Global};
 use tier_base::{BrokerId, PartitionId};
-use time_find::{Asked, Next, TimeTurn, own_turn, time_turn};
+use time_find::{Asked, SearchStep, TimeTurn, own_turn, time_turn};
 
 /// What a search is answered before it reads, where its broker has stopped or no longer leads as it did, or all that is
 /// committed has been searched.
-fn answer_of<D: Disk>(node: &Node<D>, noted: &Begun, at: u64) -> Option<Answer>
-    ensures some { IfSome result (AnswersAtOnce node.now noted.now at) }
-    ensures keeps { result ≡ None → KeepsLead node.now noted.now }
-    ensures below { result ≡ None → at < node.now.known }
+fn answer_of<D: Disk>(node: &Node<D>, recorded: &StartSnapshot, at: u64) -> Option<Answer>
+    ensures some { IfSome result (AnswersAtOnce node.now recorded.now at) }
+    ensures keeps { result ≡ None → KeepsLead node.now recorded.now }
+    ensures below { result ≡ None → at < node.now.known_high_watermark }
 {
-    if noted.stops != node.stops || !node.is_up() {
+    if recorded.stops != node.stops || !node.is_up() {
         return Some(Answer::Stopped);
     }
-    if noted.role != node.role {
+    if recorded.role != node.role {
         return Some(Answer::NotLeader);
     }
-    if at >= node.known {
+    if at >= node.known_high_watermark {
         return Some(Answer::NoOffset);
     }
     None
@@ -54,16 +55,25 @@ fn resumed_at(start: u64, cursor: u64) -> u64
 
 /// What a search goes on with.
 #[tactic(auto, using(crate::proofs::DateRows::set_at))]
-fn resumed_with(start: u64, cursor: u64, next: Next) -> Next
+fn resumed_with(start: u64, cursor: u64, next: SearchStep) -> SearchStep
     requires { IsSet cursor next }
     ensures is { result ≡ resumed_with start cursor next }
     ensures holds { IsSet (resumed_at start cursor) result }
 {
-    if cursor < start { Next::Seek } else { next }
+    if cursor < start {
+        SearchStep::Seek
+    } else {
+        next
+    }
 }
 
 /// What a search asks for at this turn.
-fn asked_of<D: Disk>(partition: PartitionId, held: &Held<D>, node: &Node<D>, ts: i64) -> Asked
+fn asked_of<D: Disk>(
+    partition: PartitionId,
+    held: &PartitionState<D>,
+    node: &Node<D>,
+    ts: i64,
+) -> Asked
     requires { is_up node.now ≡ true }
     ensures { result ≡ asked_of partition held.now node.now ts }
 {
@@ -76,25 +86,25 @@ fn asked_of<D: Disk>(partition: PartitionId, held: &Held<D>, node: &Node<D>, ts:
         start: held.registry.start,
         local,
         log_end: node.end(),
-        mark: node.known,
+        mark: node.known_high_watermark,
     }
 }
 
 /// Whether the turn is one in the local log.
-fn is_own(asked: &Asked, cursor: u64, next: &Next) -> bool
+fn is_own(asked: &Asked, cursor: u64, next: &SearchStep) -> bool
     ensures is { result ≡ is_own asked.now.local cursor next.now }
     ensures own { result ≡ true → asked.now.local ≤ cursor }
     ensures remote { result ≡ false → IsBelow asked.now cursor next.now }
 {
     match next {
-        Next::Seek => asked.local <= cursor,
+        SearchStep::Seek => asked.local <= cursor,
         _ => false,
     }
 }
 
 /// Takes a turn of a search in a broker's local log.
 fn search_own<D: Disk>(
-    held: &mut Held<D>,
+    held: &mut PartitionState<D>,
     b: usize,
     asked: &Asked,
     cursor: u64,
@@ -104,12 +114,12 @@ fn search_own<D: Disk>(
     requires mark { cursor < asked.now.mark }
     ensures row { IfOk result (λ turn. AtNode held.old b (λ x. SearchesOwn D.Disk held.old b x asked.now cursor turn held.new)) }
     ensures goes { IfOk result (GoesOn cursor) }
-    ensures err { OnErr result (StaysHeld D.content D.control held.old held.new) }
+    ensures err { OnErr result (KeepsPartition D.content D.control held.old held.new) }
 {
     own_turn(&mut held.nodes.at_mut(b).log, asked, cursor)
 }
 
-impl<S: Store, M: MetaLog> Tier<S, M> {
+impl<S: Store, M: MetaLog> RemoteTier<S, M> {
     /// Takes a turn of a search among the remote segments.
     fn search_remote(
         &mut self,
@@ -118,27 +128,27 @@ impl<S: Store, M: MetaLog> Tier<S, M> {
         line: &Line,
         asked: &Asked,
         cursor: u64,
-        next: Next,
+        next: SearchStep,
     ) -> Result<TimeTurn, AllocError>
-        requires side { b < length self.old.sides }
+        requires broker_tier { b < length self.old.broker_tiers }
         requires mark { cursor < asked.now.mark }
         requires remote { IsBelow asked.now cursor next }
         requires holds { IsSet cursor next }
-        ensures row { IfOk result (λ turn. AtSide self.old b (λ side.
-            SearchesRemote S.Store M.MetaLog self.old b side line.now asked.now cursor next turn self.new)) }
+        ensures row { IfOk result (λ turn. AtBrokerTier self.old b (λ broker_tier.
+            SearchesRemote S.Store M.MetaLog self.old b broker_tier line.now asked.now cursor next turn self.new)) }
         ensures goes { IfOk result (GoesOn cursor) }
-        ensures err { OnErr result (AtSide self.old b (λ side.
-            WantsForDate S.Store M.MetaLog self.old b side line.now asked.now cursor next self.new)) }
+        ensures err { OnErr result (AtBrokerTier self.old b (λ broker_tier.
+            WantsForDate S.Store M.MetaLog self.old b broker_tier line.now asked.now cursor next self.new)) }
     {
-        let side = self.sides.at_mut(b);
+        let broker_tier = self.broker_tiers.at_mut(b);
         time_turn(
             alloc,
             asked,
             cursor,
             next,
             line,
-            &mut side.view,
-            &mut side.cache,
+            &mut broker_tier.view,
+            &mut broker_tier.cache,
             &mut self.store,
             &mut self.meta,
         )
@@ -152,20 +162,20 @@ impl<S: Store, M: MetaLog> Tier<S, M> {
         b: usize,
         asked: &Asked,
         cursor: u64,
-        next: &Next,
-        held: &mut Held<D>,
+        next: &SearchStep,
+        held: &mut PartitionState<D>,
     ) -> Result<TimeTurn, AllocError>
         requires node { AtNode held.old b (λ x. is_up x ≡ true) }
         requires local { AtNode held.old b (λ x. local_of x ≡ asked.now.local) }
-        requires side { b < length self.old.sides }
+        requires broker_tier { b < length self.old.broker_tiers }
         requires mark { cursor < asked.now.mark }
         requires holds { IsSet cursor next.now }
-        ensures row { IfOk result (λ turn. AtNode held.old b (λ x. AtSide self.old b (λ side.
-            SearchRow D.Disk S.Store M.MetaLog held.old self.old b x side asked.now cursor next.now
+        ensures row { IfOk result (λ turn. AtNode held.old b (λ x. AtBrokerTier self.old b (λ broker_tier.
+            SearchRow D.Disk S.Store M.MetaLog held.old self.old b x broker_tier asked.now cursor next.now
             (is_own asked.now.local cursor next.now) turn held.new self.new))) }
         ensures goes { IfOk result (GoesOn cursor) }
-        ensures err { OnErr result (StaysOr D.Disk held.old self.old b (λ x side.
-            WantsForDate S.Store M.MetaLog self.old b side (line_of x) asked.now cursor next.now self.new) held.new self.new) }
+        ensures err { OnErr result (StaysOr D.Disk held.old self.old b (λ x broker_tier.
+            WantsForDate S.Store M.MetaLog self.old b broker_tier (line_of x) asked.now cursor next.now self.new) held.new self.new) }
     {
         if is_own(asked, cursor, next) {
             return search_own(held, b, asked, cursor);
@@ -182,25 +192,26 @@ impl<S: Store, M: MetaLog> Tier<S, M> {
         alloc: Global,
         partition: PartitionId,
         broker: BrokerId,
-        noted: &Begun,
+        recorded: &StartSnapshot,
         ts: i64,
         cursor: u64,
-        next: Next,
-        held: &mut Held<D>,
+        next: SearchStep,
+        held: &mut PartitionState<D>,
     ) -> Result<Outcome, AllocError>
         requires node { broker.0 < length held.old.nodes }
-        requires side { broker.0 < length self.old.sides }
+        requires broker_tier { broker.0 < length self.old.broker_tiers }
         requires holds { IsSet cursor next }
-        ensures row { IfOk result (λ outcome. AtNode held.old broker.0 (λ x. AtSide self.old broker.0 (λ side.
-            DateOnRow D.Disk S.Store M.MetaLog partition held.old self.old broker.0 x side noted.now ts cursor next outcome held.new self.new))) }
-        ensures err { OnErr result (StaysOr D.Disk held.old self.old broker.0 (λ x side.
-            DateHalts S.Store M.MetaLog partition held.old self.old broker.0 x side ts cursor next self.new) held.new self.new) }
+        ensures row { IfOk result
+            (λ outcome. AtNode held.old broker.0 (λ x. AtBrokerTier self.old broker.0 (λ broker_tier.
+            DateOnRow D.Disk S.Store M.MetaLog partition held.old self.old broker.0 x broker_tier recorded.now ts cursor next outcome held.new self.new))) }
+        ensures err { OnErr result (StaysOr D.Disk held.old self.old broker.0 (λ x broker_tier.
+            DateHalts S.Store M.MetaLog partition held.old self.old broker.0 x broker_tier ts cursor next self.new) held.new self.new) }
     {
         let b = broker.0 as usize;
         let node = held.nodes.get(b);
         let start = held.registry.start;
         let at = resumed_at(start, cursor);
-        if let Some(answer) = answer_of(node, noted, at) {
+        if let Some(answer) = answer_of(node, recorded, at) {
             return Ok(Outcome::Answers(answer));
         }
         let asked = asked_of(partition, held, node, ts);

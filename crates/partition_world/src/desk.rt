@@ -1,25 +1,25 @@
-//! The desk: a seat for each list, at the list's place.
+//! The desk: an actor's state for each list, at the list's place.
 
 ghost use Rattle.std.specs.Prelude.{◌≡◌, ◌≢◌, ◌<◌, ◌-◌, ◌^◌, ◌++◌, ℕ, length, replicate, slice_get, slice_set, Some, None, IfSome, IfOk, IsSomeAnd, []};
 ghost use Rattle.plain_log.specs.declared.command.ActorList.{ActorList};
-ghost use Rattle.partition_world.specs.Fresh.{fresh_seat};
-ghost use Rattle.partition_seen.specs.Sound.{turns_left};
-ghost use Rattle.partition_seen.specs.Turn.{event_of};
-ghost use Rattle.partition_seen.specs.declared.begun.Turned.TheVariants as turned;
+ghost use Rattle.partition_world.specs.Fresh.{fresh_actor_state};
+ghost use Rattle.laws_partition.specs.Sound.{turns_left};
+ghost use Rattle.laws_partition.specs.Turn.{event_of};
+ghost use Rattle.laws_partition.specs.declared.start_snapshot.Turned.TheVariants as turned;
 ghost use Rattle.plain_log.specs.declared.journal.Event.TheVariants as event;
-ghost use Rattle.partition_world.specs.declared.seat.Outcome.TheVariants.{Chose, Goes, Seeks, Dates, Dooms, Deletes, Rebuilds};
-ghost use Rattle.partition_world.specs.Seats.{seat_after, told_of, told_count, stepped_of};
+ghost use Rattle.partition_world.specs.declared.actor_state.Outcome.TheVariants.{Chose, Goes, Seeks, Dates, Dooms, Deletes, Rebuilds};
+ghost use Rattle.partition_world.specs.ActorStates.{actor_state_after, told_of, told_count, stepped_of};
 
-use crate::seat::{Outcome, Seat, Work};
-use copy_task::{Copying, Next};
-use expiry_task::{Doomed, Next as Deletion};
-use partition_seen::{Begun, Stepped};
+use crate::actor_state::{ActorState, InProgress, Outcome};
+use copy_task::{CopyStep, Copying};
+use expiry_task::{DeletionStep as Deletion, ExpiredSegment};
+use laws_partition::{StartSnapshot, Stepped};
 use plain_log::{ActorList, Command, Event, Journal, JournalEntry};
-use rebuild_task::Next as Rebuild;
+use rebuild_task::RebuildStep as Rebuild;
 use std::alloc::{AllocError, Global};
 use tier_base::{ActorId, Row};
-use tier_fetch::Next as Search;
-use time_find::Next as Dating;
+use tier_fetch::FetchStep as Search;
+use time_find::SearchStep as Dating;
 
 /// Finds the place of an actor's list.
 pub(crate) fn place_of(lists: &[ActorList], actor: ActorId) -> Option<usize>
@@ -47,130 +47,135 @@ pub(crate) fn count_entries(lists: &[ActorList]) -> usize
 }
 
 /// Makes a desk where no list has begun.
-pub(crate) fn fresh_desk(alloc: Global, count: usize) -> Result<Row<Seat>, AllocError>
-    ensures { IfOk result (λ desk. desk ≡ replicate count fresh_seat) }
+pub(crate) fn fresh_desk(alloc: Global, count: usize) -> Result<Row<ActorState>, AllocError>
+    ensures { IfOk result (λ desk. desk ≡ replicate count fresh_actor_state) }
 {
     let mut desk = Row::new(alloc);
     for _i in 0..count {
-        desk.push(Seat {
+        desk.push(ActorState {
             number: 0,
-            work: Work::Idle,
+            work: InProgress::Idle,
         })?;
     }
     Ok(desk)
 }
 
-/// Puts a work at a seat.
-pub(crate) fn set_seat(desk: &mut Row<Seat>, place: usize, number: u32, work: Work)
+/// Puts a work at an actor's state.
+pub(crate) fn set_actor_state(
+    desk: &mut Row<ActorState>,
+    place: usize,
+    number: u32,
+    work: InProgress,
+)
     requires { place < length desk.old }
     ensures { desk.new ≡ slice_set desk.old place (record { number = number; work = work }) }
 {
-    let _ = desk.replace(place, Seat { number, work });
+    let _ = desk.replace(place, ActorState { number, work });
 }
 
-/// Takes what stands at a seat.
-pub(crate) fn take_seat(desk: &mut Row<Seat>, place: usize) -> Seat
+/// Takes what stands at an actor's state.
+pub(crate) fn take_actor_state(desk: &mut Row<ActorState>, place: usize) -> ActorState
     requires { place < length desk.old }
-    ensures seat { slice_get desk.old place ≡ Some result }
-    ensures desk { desk.new ≡ slice_set desk.old place fresh_seat }
+    ensures actor_state { slice_get desk.old place ≡ Some result }
+    ensures desk { desk.new ≡ slice_set desk.old place fresh_actor_state }
 {
-    let idle = Seat {
+    let idle = ActorState {
         number: 0,
-        work: Work::Idle,
+        work: InProgress::Idle,
     };
     desk.replace(place, idle)
 }
 
 /// Lets a copy go on with the segment that it has chosen.
 #[tactic(auto, using(crate::proofs::Sides::set_twice))]
-fn choose_at(desk: &mut Row<Seat>, place: usize, copying: Copying)
+fn choose_at(desk: &mut Row<ActorState>, place: usize, copying: Copying)
     requires { place < length desk.old }
-    ensures { IsSomeAnd (slice_get desk.old place) (λ seat. desk.new ≡ slice_set desk.old place (seat_after seat (Chose copying))) }
+    ensures { IsSomeAnd (slice_get desk.old place) (λ actor_state. desk.new ≡ slice_set desk.old place (actor_state_after actor_state (Chose copying))) }
 {
-    let seat = take_seat(desk, place);
-    let number = seat.number;
-    let work = seat.work.chosen(copying);
-    set_seat(desk, place, number, work);
+    let actor_state = take_actor_state(desk, place);
+    let number = actor_state.number;
+    let work = actor_state.work.chosen(copying);
+    set_actor_state(desk, place, number, work);
 }
 
 /// Lets a copy go on with a turn.
 #[tactic(auto, using(crate::proofs::Sides::set_twice))]
-fn move_at(desk: &mut Row<Seat>, place: usize, next: Next)
+fn move_at(desk: &mut Row<ActorState>, place: usize, next: CopyStep)
     requires { place < length desk.old }
-    ensures { IsSomeAnd (slice_get desk.old place) (λ seat. desk.new ≡ slice_set desk.old place (seat_after seat (Goes next))) }
+    ensures { IsSomeAnd (slice_get desk.old place) (λ actor_state. desk.new ≡ slice_set desk.old place (actor_state_after actor_state (Goes next))) }
 {
-    let seat = take_seat(desk, place);
-    let number = seat.number;
-    let work = seat.work.moved(next);
-    set_seat(desk, place, number, work);
+    let actor_state = take_actor_state(desk, place);
+    let number = actor_state.number;
+    let work = actor_state.work.moved(next);
+    set_actor_state(desk, place, number, work);
 }
 
 /// Lets a fetch go on in the remote tier.
 #[tactic(auto, using(crate::proofs::Sides::set_twice))]
-fn seek_at(desk: &mut Row<Seat>, place: usize, next: Search)
+fn seek_at(desk: &mut Row<ActorState>, place: usize, next: Search)
     requires { place < length desk.old }
-    ensures { IsSomeAnd (slice_get desk.old place) (λ seat. desk.new ≡ slice_set desk.old place (seat_after seat (Seeks next))) }
+    ensures { IsSomeAnd (slice_get desk.old place) (λ actor_state. desk.new ≡ slice_set desk.old place (actor_state_after actor_state (Seeks next))) }
 {
-    let seat = take_seat(desk, place);
-    let number = seat.number;
-    let work = seat.work.sought(next);
-    set_seat(desk, place, number, work);
+    let actor_state = take_actor_state(desk, place);
+    let number = actor_state.number;
+    let work = actor_state.work.sought(next);
+    set_actor_state(desk, place, number, work);
 }
 
 /// Lets a search by timestamp go on.
 #[tactic(auto, using(crate::proofs::Sides::set_twice))]
-fn date_at(desk: &mut Row<Seat>, place: usize, cursor: u64, next: Dating)
+fn date_at(desk: &mut Row<ActorState>, place: usize, cursor: u64, next: Dating)
     requires { place < length desk.old }
-    ensures { IsSomeAnd (slice_get desk.old place) (λ seat. desk.new ≡ slice_set desk.old place (seat_after seat (Dates cursor next))) }
+    ensures { IsSomeAnd (slice_get desk.old place) (λ actor_state. desk.new ≡ slice_set desk.old place (actor_state_after actor_state (Dates cursor next))) }
 {
-    let seat = take_seat(desk, place);
-    let number = seat.number;
-    let work = seat.work.dated(cursor, next);
-    set_seat(desk, place, number, work);
+    let actor_state = take_actor_state(desk, place);
+    let number = actor_state.number;
+    let work = actor_state.work.dated(cursor, next);
+    set_actor_state(desk, place, number, work);
 }
 
 /// Lets an expiry go on with the remote segment that it has taken up.
 #[tactic(auto, using(crate::proofs::Sides::set_twice))]
-fn doom_at(desk: &mut Row<Seat>, place: usize, segment: Doomed)
+fn doom_at(desk: &mut Row<ActorState>, place: usize, segment: ExpiredSegment)
     requires { place < length desk.old }
-    ensures { IsSomeAnd (slice_get desk.old place) (λ seat. desk.new ≡ slice_set desk.old place (seat_after seat (Dooms segment))) }
+    ensures { IsSomeAnd (slice_get desk.old place) (λ actor_state. desk.new ≡ slice_set desk.old place (actor_state_after actor_state (Dooms segment))) }
 {
-    let seat = take_seat(desk, place);
-    let number = seat.number;
-    let work = seat.work.doomed(segment);
-    set_seat(desk, place, number, work);
+    let actor_state = take_actor_state(desk, place);
+    let number = actor_state.number;
+    let work = actor_state.work.expired_segment(segment);
+    set_actor_state(desk, place, number, work);
 }
 
 /// Lets an expiry go on with a turn.
 #[tactic(auto, using(crate::proofs::Sides::set_twice))]
-fn delete_at(desk: &mut Row<Seat>, place: usize, next: Deletion)
+fn delete_at(desk: &mut Row<ActorState>, place: usize, next: Deletion)
     requires { place < length desk.old }
-    ensures { IsSomeAnd (slice_get desk.old place) (λ seat. desk.new ≡ slice_set desk.old place (seat_after seat (Deletes next))) }
+    ensures { IsSomeAnd (slice_get desk.old place) (λ actor_state. desk.new ≡ slice_set desk.old place (actor_state_after actor_state (Deletes next))) }
 {
-    let seat = take_seat(desk, place);
-    let number = seat.number;
-    let work = seat.work.deleting(next);
-    set_seat(desk, place, number, work);
+    let actor_state = take_actor_state(desk, place);
+    let number = actor_state.number;
+    let work = actor_state.work.deleting(next);
+    set_actor_state(desk, place, number, work);
 }
 
 /// Lets a join go on that begins its log anew.
 #[tactic(auto, using(crate::proofs::Sides::set_twice))]
-fn rebuild_at(desk: &mut Row<Seat>, place: usize, next: Rebuild)
+fn rebuild_at(desk: &mut Row<ActorState>, place: usize, next: Rebuild)
     requires { place < length desk.old }
-    ensures { IsSomeAnd (slice_get desk.old place) (λ seat. desk.new ≡ slice_set desk.old place (seat_after seat (Rebuilds next))) }
+    ensures { IsSomeAnd (slice_get desk.old place) (λ actor_state. desk.new ≡ slice_set desk.old place (actor_state_after actor_state (Rebuilds next))) }
 {
-    let seat = take_seat(desk, place);
-    let number = seat.number;
-    let work = seat.work.rebuilding(next);
-    set_seat(desk, place, number, work);
+    let actor_state = take_actor_state(desk, place);
+    let number = actor_state.number;
+    let work = actor_state.work.rebuilding(next);
+    set_actor_state(desk, place, number, work);
 }
 
 /// Where the log was cut, of a join that begins.
-fn cut_of(command: &Command, begun: &Begun) -> Option<u64>
-    ensures { event_of (turned.Begins begun.now) command.now ≡ event.Begins result }
+fn cut_of(command: &Command, snapshot: &StartSnapshot) -> Option<u64>
+    ensures { event_of (turned.Begins snapshot.now) command.now ≡ event.Begins result }
 {
     match command {
-        Command::Join => Some(begun.end),
+        Command::Join => Some(snapshot.end),
         _ => None,
     }
 }
@@ -178,18 +183,18 @@ fn cut_of(command: &Command, begun: &Begun) -> Option<u64>
 /// Enters what a turn came to into the journal and at the desk.
 pub(crate) fn enter(
     journal: &mut Journal,
-    desk: &mut Row<Seat>,
+    desk: &mut Row<ActorState>,
     place: usize,
     actor: ActorId,
     command: &Command,
     outcome: Outcome,
 ) -> Stepped
     requires place { place < length desk.old }
-    requires few { IsSomeAnd (slice_get desk.old place) (λ seat. seat.number < 4294967295) }
+    requires few { IsSomeAnd (slice_get desk.old place) (λ actor_state. actor_state.number < 4294967295) }
     requires room { 0 < journal.old.room }
-    ensures desk { IsSomeAnd (slice_get desk.old place) (λ seat. desk.new ≡ slice_set desk.old place (seat_after seat outcome)) }
-    ensures entered { IsSomeAnd (slice_get desk.old place) (λ seat.
-        journal.new.items ≡ journal.old.items ++ told_of actor seat.number command.now outcome) }
+    ensures desk { IsSomeAnd (slice_get desk.old place) (λ actor_state. desk.new ≡ slice_set desk.old place (actor_state_after actor_state outcome)) }
+    ensures entered { IsSomeAnd (slice_get desk.old place) (λ actor_state.
+        journal.new.items ≡ journal.old.items ++ told_of actor actor_state.number command.now outcome) }
     ensures room { journal.new.room ≡ journal.old.room - told_count outcome }
     ensures stepped { result ≡ stepped_of outcome }
 {
@@ -201,17 +206,17 @@ pub(crate) fn enter(
                 number,
                 event: Event::Answers(answer),
             });
-            set_seat(desk, place, number + 1, Work::Idle);
+            set_actor_state(desk, place, number + 1, InProgress::Idle);
             Stepped::Done
         }
-        Outcome::Begins(begun) => {
-            let cut = cut_of(command, &begun);
+        Outcome::Begins(snapshot) => {
+            let cut = cut_of(command, &snapshot);
             journal.put(JournalEntry {
                 actor,
                 number,
                 event: Event::Begins { cut },
             });
-            set_seat(desk, place, number, Work::Noted(begun));
+            set_actor_state(desk, place, number, InProgress::Noted(snapshot));
             Stepped::Ran
         }
         Outcome::Chose(copying) => {

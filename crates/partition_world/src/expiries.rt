@@ -7,23 +7,23 @@
 ghost use Rattle.std.specs.Prelude.{◌≡◌, ◌<◌, ◌≤◌, ℕ, true, length, IfOk, IfSome, OnErr};
 ghost use Rattle.plain_log.specs.declared.state.Role.TheVariants.{Leads};
 ghost use Rattle.plain_log.specs.State.{leads};
-ghost use Rattle.partition_turns.specs.Held.{AtNode, is_up};
-ghost use Rattle.partition_turns.specs.Sound.{HeldSound};
-ghost use Rattle.partition_world.specs.Tier.{AtSide, Halts};
+ghost use Rattle.partition_commands.specs.Partition.{AtNode, is_up};
+ghost use Rattle.partition_commands.specs.Sound.{SoundPartition};
+ghost use Rattle.partition_world.specs.Tier.{AtBrokerTier, Halts};
 ghost use Rattle.partition_world.specs.TurnsOfExpiry.{rises_to, RaiseRow, ExpireFirstRow, ExpireOnRow, DeleteOnRow, WantsForDeletion};
 
-use crate::copies::{keeps_lead, teller};
-use crate::seat::{Outcome, expiry_outcome};
-use crate::tier::{Side, Tier};
+use crate::actor_state::{Outcome, expiry_outcome};
+use crate::copies::{keeps_lead, origin};
+use crate::tier::{BrokerTierState, RemoteTier};
 use disk_model::Disk;
 use expiry_task::{
-    Doomed, Next as Deletion, a_log_start_rises_up_to_the_known_mark, end_behind, end_from,
-    expiry_turn, find_uncopied, raised_to, rest_behind,
+    DeletionStep as Deletion, ExpiredSegment, a_log_start_rises_up_to_the_known_mark, end_behind,
+    end_from, expiry_turn, find_uncopied, raised_to, rest_behind,
 };
+use laws_partition::StartSnapshot;
 use meta_log::MetaLog;
 use object_store::Store;
-use partition_seen::Begun;
-use partition_turns::{Held, Node, leading};
+use partition_commands::{Node, PartitionState, leading};
 use plain_log::{Answer, Role};
 use registry::RegRefusal;
 use remote_find::chain;
@@ -33,13 +33,13 @@ use tier_base::{BrokerId, Keep, PartitionId};
 /// Where the log start comes to by a broker's log and view, where retention lets it rise.
 fn rises_to<D: Disk>(
     alloc: Global,
-    held: &Held<D>,
+    held: &PartitionState<D>,
     node: &Node<D>,
-    side: &Side,
+    broker_tier: &BrokerTierState,
     keep: Keep,
 ) -> Result<Option<u64>, AllocError>
     requires { is_up node.now ≡ true }
-    ensures { IfOk result (λ start. start ≡ rises_to held.now node.now side.now keep) }
+    ensures { IfOk result (λ start. start ≡ rises_to held.now node.now broker_tier.now keep) }
 {
     let (Some(line), Some(open)) = (node.log.line(), node.log.open_size()) else {
         unreachable!()
@@ -48,14 +48,28 @@ fn rises_to<D: Disk>(
         unreachable!()
     };
     let (start, end) = (held.registry.start, node.end());
-    let pieces = chain(alloc, &side.view, line, end, start, node.known)?;
+    let pieces = chain(
+        alloc,
+        &broker_tier.view,
+        line,
+        end,
+        start,
+        node.known_high_watermark,
+    )?;
     let offset = end_from(start, pieces.as_slice());
     let closed = node.log.closed();
-    let own = find_uncopied(alloc, held.copying, local, offset, node.known, closed)?;
+    let own = find_uncopied(
+        alloc,
+        held.copying,
+        local,
+        offset,
+        node.known_high_watermark,
+        closed,
+    )?;
     let rest = rest_behind(end_behind(offset, own.as_slice()), closed, open, end);
     raised_to(
         alloc,
-        &side.view,
+        &broker_tier.view,
         pieces.as_slice(),
         own.as_slice(),
         rest,
@@ -67,26 +81,27 @@ fn rises_to<D: Disk>(
 /// Where the log start comes to, which is above the log start, and at most the high watermark that the broker knows.
 fn rises_within<D: Disk>(
     alloc: Global,
-    held: &Held<D>,
+    held: &PartitionState<D>,
     node: &Node<D>,
-    side: &Side,
+    broker_tier: &BrokerTierState,
     keep: Keep,
 ) -> Result<Option<u64>, AllocError>
     requires { is_up node.now ≡ true }
-    ensures is { IfOk result (λ start. start ≡ rises_to held.now node.now side.now keep) }
-    ensures within { IfOk result (λ start. IfSome start (λ n. (held.now.registry.start < n) × (n ≤ node.now.known))) }
+    ensures is { IfOk result (λ start. start ≡ rises_to held.now node.now broker_tier.now keep) }
+    ensures within { IfOk result (λ start. IfSome start (λ n. (held.now.registry.start < n)
+        × (n ≤ node.now.known_high_watermark))) }
 {
     a_log_start_rises_up_to_the_known_mark();
     let Some(line) = node.log.line() else {
         unreachable!()
     };
-    let (_begins, _entries) = (line.entries(), side.view.entries());
-    rises_to(alloc, held, node, side, keep)
+    let (_begins, _entries) = (line.entries(), broker_tier.view.entries());
+    rises_to(alloc, held, node, broker_tier, keep)
 }
 
 /// Raises the log start for a leader. Retention raises it above the log start, and at most to the high watermark that the leader
 /// knows, so it is refused only where another epoch has begun.
-fn raise<D: Disk>(held: &mut Held<D>, role: Role, start: u64) -> Answer
+fn raise<D: Disk>(held: &mut PartitionState<D>, role: Role, start: u64) -> Answer
     requires leads { leads role ≡ true }
     requires above { held.old.registry.start < start }
     requires within { (e : ℕ) → role ≡ Leads e → held.old.registry.epoch ≤ e → start ≤ held.old.registry.mark }
@@ -102,19 +117,20 @@ fn raise<D: Disk>(held: &mut Held<D>, role: Role, start: u64) -> Answer
     }
 }
 
-impl<S: Store, M: MetaLog> Tier<S, M> {
+impl<S: Store, M: MetaLog> RemoteTier<S, M> {
     /// Begins an expiry: the leader's view takes in what the metadata log has more.
     pub(crate) fn expire<D: Disk>(
         &mut self,
         alloc: Global,
         b: usize,
-        held: &Held<D>,
+        held: &PartitionState<D>,
     ) -> Result<Outcome, AllocError>
         requires node { b < length held.now.nodes }
-        requires side { b < length self.old.sides }
-        ensures row { IfOk result (λ outcome. AtNode held.now b (λ x. AtSide self.old b (λ side.
-            ExpireFirstRow M.MetaLog held.now self.old b x side outcome self.new))) }
-        ensures err { OnErr result (AtSide self.old b (λ side. Halts M.MetaLog self.old b side self.new)) }
+        requires broker_tier { b < length self.old.broker_tiers }
+        ensures row { IfOk result (λ outcome. AtNode held.now b (λ x. AtBrokerTier self.old b (λ broker_tier.
+            ExpireFirstRow M.MetaLog held.now self.old b x broker_tier outcome self.new))) }
+        ensures err { OnErr result
+            (AtBrokerTier self.old b (λ broker_tier. Halts M.MetaLog self.old b broker_tier self.new)) }
     {
         self.begin_leading(alloc, b, held)
     }
@@ -125,31 +141,31 @@ impl<S: Store, M: MetaLog> Tier<S, M> {
         alloc: Global,
         partition: PartitionId,
         b: usize,
-        noted: &Begun,
+        recorded: &StartSnapshot,
         keep: Keep,
-        held: &mut Held<D>,
+        held: &mut PartitionState<D>,
     ) -> Result<Outcome, AllocError>
         requires node { b < length held.old.nodes }
-        requires side { b < length self.now.sides }
-        requires leads { leads noted.now.role ≡ true }
-        requires sound { HeldSound (length held.old.nodes) held.old }
-        ensures row { IfOk result (λ outcome. AtNode held.old b (λ x. AtSide self.now b (λ side.
-            ExpireOnRow partition held.old x side noted.now keep outcome held.new))) }
+        requires broker_tier { b < length self.now.broker_tiers }
+        requires leads { leads recorded.now.role ≡ true }
+        requires sound { SoundPartition (length held.old.nodes) held.old }
+        ensures row { IfOk result (λ outcome. AtNode held.old b (λ x. AtBrokerTier self.now b (λ broker_tier.
+            ExpireOnRow partition held.old x broker_tier recorded.now keep outcome held.new))) }
         ensures err { OnErr result (held.new ≡ held.old) }
     {
         let node = held.nodes.get(b);
-        if !keeps_lead(node, noted) {
+        if !keeps_lead(node, recorded) {
             return Ok(Outcome::Answers(Answer::LostLead));
         }
-        let side = self.sides.get(b);
-        if let Some(entry) = side.view.due(held.registry.start) {
-            return Ok(Outcome::Dooms(Doomed {
+        let broker_tier = self.broker_tiers.get(b);
+        if let Some(entry) = broker_tier.view.due(held.registry.start) {
+            return Ok(Outcome::Dooms(ExpiredSegment {
                 partition,
                 id: entry.id,
                 packed: entry.packed,
             }));
         }
-        let Some(start) = rises_within(alloc, held, node, side, keep)? else {
+        let Some(start) = rises_within(alloc, held, node, broker_tier, keep)? else {
             return Ok(Outcome::Answers(Answer::Kept));
         };
         let role = node.role;
@@ -161,21 +177,28 @@ impl<S: Store, M: MetaLog> Tier<S, M> {
         &mut self,
         alloc: Global,
         broker: BrokerId,
-        noted: &Begun,
-        doomed: Doomed,
+        recorded: &StartSnapshot,
+        expired_segment: ExpiredSegment,
         next: Deletion,
-        held: &Held<D>,
+        held: &PartitionState<D>,
     ) -> Result<Outcome, AllocError>
         requires node { broker.0 < length held.now.nodes }
         ensures row { IfOk result (λ outcome. AtNode held.now broker.0 (λ x.
-            DeleteOnRow S.Store M.MetaLog held.now self.old broker.0 x noted.now doomed next outcome self.new)) }
-        ensures err { OnErr result (WantsForDeletion S.Store M.MetaLog held.now self.old broker.0 doomed next self.new) }
+            DeleteOnRow S.Store M.MetaLog held.now self.old broker.0 x recorded.now expired_segment next outcome self.new)) }
+        ensures err { OnErr result (WantsForDeletion S.Store M.MetaLog held.now self.old broker.0 expired_segment next self.new) }
     {
-        if !keeps_lead(held.nodes.get(broker.0 as usize), noted) {
+        if !keeps_lead(held.nodes.get(broker.0 as usize), recorded) {
             return Ok(Outcome::Answers(Answer::LostLead));
         }
-        let teller = teller(held, broker);
-        let turn = expiry_turn(alloc, doomed, next, teller, &mut self.store, &mut self.meta)?;
+        let origin = origin(held, broker);
+        let turn = expiry_turn(
+            alloc,
+            expired_segment,
+            next,
+            origin,
+            &mut self.store,
+            &mut self.meta,
+        )?;
         Ok(expiry_outcome(turn))
     }
 }

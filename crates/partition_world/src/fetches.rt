@@ -1,92 +1,99 @@
 //! The turns of a fetch from the remote tier, behind its first one.
 //!
 //! Each makes its tests anew, since a stop, an election or a raise of the log start may have come between: the broker
-//! hasn't stopped and leads the epoch that it led, and the offset is in the log's range and below the known mark.
+//! hasn't stopped and leads the epoch that it led, and the offset is in the log's range and below the known high
+//! watermark.
 
 ghost use Rattle.std.specs.Prelude.{◌≡◌, ◌<◌, length, None, IfOk, IfSome, OnErr};
 ghost use Rattle.tier_fetch.specs.Turns.{IsFor};
-ghost use Rattle.partition_turns.specs.Held.{AtNode};
-ghost use Rattle.partition_world.specs.Tier.{AtSide};
+ghost use Rattle.partition_commands.specs.Partition.{AtNode};
+ghost use Rattle.partition_world.specs.Tier.{AtBrokerTier};
 ghost use Rattle.partition_world.specs.TurnsOfFetch.{AnswersAtOnce, Serves, FetchOnRow, WantsForFetch};
 
-use crate::seat::{Outcome, fetch_outcome};
-use crate::tier::Tier;
+use crate::actor_state::{Outcome, fetch_outcome};
+use crate::tier::RemoteTier;
 use disk_model::Disk;
+use laws_partition::StartSnapshot;
 use meta_log::MetaLog;
 use object_store::Store;
-use partition_seen::Begun;
-use partition_turns::{Held, Node};
+use partition_commands::{Node, PartitionState};
 use plain_log::Answer;
 use std::alloc::{AllocError, Global};
 use tier_base::{BrokerId, PartitionId};
-use tier_fetch::{Next, Wanted, fetch_turn};
+use tier_fetch::{FetchRequest, FetchStep, fetch_turn};
 
 /// What a fetch is answered before it reads, where its broker has stopped or no longer leads as it did, or the offset
 /// isn't committed or out of range.
-fn answer_of<D: Disk>(held: &Held<D>, node: &Node<D>, noted: &Begun, offset: u64) -> Option<Answer>
-    ensures some { IfSome result (AnswersAtOnce held.now node.now noted.now offset) }
-    ensures none { result ≡ None → Serves held.now node.now noted.now offset }
+fn answer_of<D: Disk>(
+    held: &PartitionState<D>,
+    node: &Node<D>,
+    recorded: &StartSnapshot,
+    offset: u64,
+) -> Option<Answer>
+    ensures some { IfSome result (AnswersAtOnce held.now node.now recorded.now offset) }
+    ensures none { result ≡ None → Serves held.now node.now recorded.now offset }
 {
-    if noted.stops != node.stops || !node.is_up() {
+    if recorded.stops != node.stops || !node.is_up() {
         return Some(Answer::Stopped);
     }
-    if noted.role != node.role {
+    if recorded.role != node.role {
         return Some(Answer::NotLeader);
     }
     let (start, end) = (held.registry.start, node.end());
     if offset < start || offset > end {
         return Some(Answer::OutOfRange(start, end));
     }
-    if offset >= node.known {
+    if offset >= node.known_high_watermark {
         return Some(Answer::Empty);
     }
     None
 }
 
-impl<S: Store, M: MetaLog> Tier<S, M> {
+impl<S: Store, M: MetaLog> RemoteTier<S, M> {
     /// Takes a later turn of a fetch.
     pub(crate) fn fetch_on<D: Disk>(
         &mut self,
         alloc: Global,
         partition: PartitionId,
         broker: BrokerId,
-        noted: &Begun,
-        next: Next,
+        recorded: &StartSnapshot,
+        next: FetchStep,
         offset: u64,
         limit: u32,
-        held: &Held<D>,
+        held: &PartitionState<D>,
     ) -> Result<Outcome, AllocError>
         requires node { broker.0 < length held.now.nodes }
-        requires side { broker.0 < length self.old.sides }
+        requires broker_tier { broker.0 < length self.old.broker_tiers }
         requires holds { IsFor offset next }
-        ensures row { IfOk result (λ outcome. AtNode held.now broker.0 (λ x. AtSide self.old broker.0 (λ side.
-            FetchOnRow S.Store M.MetaLog partition held.now self.old broker.0 x side noted.now offset limit next outcome self.new))) }
-        ensures err { OnErr result (AtNode held.now broker.0 (λ x. AtSide self.old broker.0 (λ side.
-            WantsForFetch S.Store M.MetaLog partition self.old broker.0 x side offset limit next self.new))) }
+        ensures row { IfOk result
+            (λ outcome. AtNode held.now broker.0 (λ x. AtBrokerTier self.old broker.0 (λ broker_tier.
+            FetchOnRow S.Store M.MetaLog partition held.now self.old broker.0 x broker_tier recorded.now offset limit next outcome self.new))) }
+        ensures err { OnErr result (AtNode held.now broker.0 (λ x. AtBrokerTier self.old broker.0 (λ broker_tier.
+            WantsForFetch S.Store M.MetaLog partition self.old broker.0 x broker_tier offset limit next self.new))) }
     {
         let b = broker.0 as usize;
         let node = held.nodes.get(b);
-        if let Some(answer) = answer_of(held, node, noted, offset) {
+        if let Some(answer) = answer_of(held, node, recorded, offset) {
             return Ok(Outcome::Answers(answer));
         }
         let Some(line) = node.log.line() else {
             unreachable!()
         };
-        let wanted = Wanted {
+        let wanted = FetchRequest {
             partition,
             offset,
             limit,
             log_end: node.end(),
-            mark: node.known,
+            mark: node.known_high_watermark,
         };
-        let side = self.sides.at_mut(b);
+        let broker_tier = self.broker_tiers.at_mut(b);
         let turn = fetch_turn(
             alloc,
             &wanted,
             next,
             line,
-            &mut side.view,
-            &mut side.cache,
+            &mut broker_tier.view,
+            &mut broker_tier.cache,
             &mut self.store,
             &mut self.meta,
         )?;

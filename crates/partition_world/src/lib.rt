@@ -3,10 +3,10 @@
 //!
 //! A turn of an actor carries out its next command, or goes on with one that has begun, and enters what it came to; a turn
 //! that neither begins a command nor answers it is entered nowhere. `specs/Turns.antt` says for each command which answer it
-//! is given and what that does: those on brokers' logs and the registry by the rows of the crate `partition_turns`. The code
+//! is given and what that does: those on brokers' logs and the registry by the rows of the crate `partition_commands`. The code
 //! proves its row and nothing else.
 //!
-//! `specs/Central.antt` has the central fact, for devices that tell: the world is the plain log after the world's own journal,
+//! `specs/Central.antt` has the central fact, for observable devices: the world is the plain log after the world's own journal,
 //! with the plain log's safety rules, and the remote tier beside it keeps its own (the crate `tier_safe`). That each turn
 //! keeps it is a law over the rows, and a clause of `World::step`.
 //!
@@ -14,6 +14,7 @@
 //! fail, done or not.
 #![tactic(auto)]
 
+mod actor_state;
 mod copies;
 mod covering;
 mod dates;
@@ -25,20 +26,19 @@ mod offsets;
 mod ready;
 mod rebuilds;
 mod runs;
-mod seat;
 mod tier;
 mod trims;
 mod turning;
 mod world;
 
+pub use actor_state::{ActorState, InProgress, Outcome};
 pub use laws::{
     ends_are_answered, ends_are_complete, fresh_is_central, fresh_is_unfailing,
     halts_meet_no_fault, reaches_in_turn, reaches_lasting, reaches_later, reaches_unfailing,
     reopened_is_unfailing, reopened_runs, reopens_central, steps_keep_central, turns_answer_faults,
 };
-pub use partition_turns::{Held, Node, WorldRefusal};
+pub use partition_commands::{Node, PartitionState, WorldRefusal};
 pub use ready::{Ready, Want};
 pub use runs::{run_in_order, run_to_end};
-pub use seat::{Outcome, Seat, Work};
-pub use tier::{Devices, Side, Tier};
+pub use tier::{BrokerTierState, Devices, RemoteTier};
 pub use world::World;

@@ -1,27 +1,31 @@
 //! The second turn of the question up to which offset the remote tier has the log.
 
 ghost use Rattle.std.specs.Prelude.{◌≡◌, ◌<◌, true, length, IfOk, OnErr};
-ghost use Rattle.partition_turns.specs.Held.{AtNode, is_up};
-ghost use Rattle.partition_world.specs.Tier.{AtSide};
+ghost use Rattle.partition_commands.specs.Partition.{AtNode, is_up};
+ghost use Rattle.partition_world.specs.Tier.{AtBrokerTier};
 ghost use Rattle.partition_world.specs.TurnsOfOffset.{tiered_offset, OffsetOnRow};
 
+use crate::actor_state::Outcome;
 use crate::copies::copied_to;
-use crate::seat::Outcome;
-use crate::tier::{Side, Tier};
+use crate::tier::{BrokerTierState, RemoteTier};
 use disk_model::Disk;
+use laws_partition::StartSnapshot;
 use meta_log::MetaLog;
 use object_store::Store;
-use partition_seen::Begun;
-use partition_turns::{Held, Node};
+use partition_commands::{Node, PartitionState};
 use plain_log::Answer;
 
 /// The last offset that the remote tier has with all before it.
-fn tiered_offset<D: Disk>(held: &Held<D>, node: &Node<D>, side: &Side) -> Option<u64>
+fn tiered_offset<D: Disk>(
+    held: &PartitionState<D>,
+    node: &Node<D>,
+    broker_tier: &BrokerTierState,
+) -> Option<u64>
     requires { is_up node.now ≡ true }
-    ensures { result ≡ tiered_offset held.now node.now side.now }
+    ensures { result ≡ tiered_offset held.now node.now broker_tier.now }
 {
     let start = held.registry.start;
-    let end = copied_to(node, side, start);
+    let end = copied_to(node, broker_tier, start);
     if end == start {
         None
     } else {
@@ -29,21 +33,27 @@ fn tiered_offset<D: Disk>(held: &Held<D>, node: &Node<D>, side: &Side) -> Option
     }
 }
 
-impl<S: Store, M: MetaLog> Tier<S, M> {
+impl<S: Store, M: MetaLog> RemoteTier<S, M> {
     /// Answers up to which offset the remote tier has a leader's log.
-    pub(crate) fn offset_on<D: Disk>(&self, b: usize, noted: &Begun, held: &Held<D>) -> Outcome
+    pub(crate) fn offset_on<D: Disk>(
+        &self,
+        b: usize,
+        recorded: &StartSnapshot,
+        held: &PartitionState<D>,
+    ) -> Outcome
         requires node { b < length held.now.nodes }
-        requires side { b < length self.now.sides }
-        ensures { AtNode held.now b (λ x. AtSide self.now b (λ side. OffsetOnRow held.now x side noted.now result)) }
+        requires broker_tier { b < length self.now.broker_tiers }
+        ensures { AtNode held.now b
+            (λ x. AtBrokerTier self.now b (λ broker_tier. OffsetOnRow held.now x broker_tier recorded.now result)) }
     {
         let node = held.nodes.get(b);
-        if noted.stops != node.stops || !node.is_up() {
+        if recorded.stops != node.stops || !node.is_up() {
             return Outcome::Answers(Answer::Stopped);
         }
-        if noted.role != node.role {
+        if recorded.role != node.role {
             return Outcome::Answers(Answer::NotLeader);
         }
-        match tiered_offset(held, node, self.sides.get(b)) {
+        match tiered_offset(held, node, self.broker_tiers.get(b)) {
             Some(offset) => Outcome::Answers(Answer::Offset(offset)),
             None => Outcome::Answers(Answer::NoOffset),
         }

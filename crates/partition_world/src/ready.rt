@@ -8,24 +8,24 @@
 
 ghost use Rattle.std.specs.Prelude.{◌≡◌, ◌<◌, length, slice_get, IfOk, OnErr, IsTrue, IsSomeAnd};
 ghost use Rattle.plain_log.specs.Orders.{IsInRange};
-ghost use Rattle.partition_turns.specs.Held.{CanStop};
-ghost use Rattle.partition_turns.specs.Sound.{HeldSound};
-ghost use Rattle.partition_turns.specs.Turns.{takes_memory};
+ghost use Rattle.partition_commands.specs.Partition.{CanStop};
+ghost use Rattle.partition_commands.specs.Sound.{SoundPartition};
+ghost use Rattle.partition_commands.specs.Turns.{takes_memory};
 ghost use Rattle.partition_world.specs.Ready.{IsWantOf, IsWantOfCopy, Prepares};
-ghost use Rattle.partition_world.specs.Sound.{IsWorkFor};
-ghost use Rattle.partition_world.specs.Tier.{AtSide};
+ghost use Rattle.partition_world.specs.Sound.{IsProgressOf};
+ghost use Rattle.partition_world.specs.Tier.{AtBrokerTier};
 ghost use Rattle.partition_world.specs.Turns.{TurnRow, StaysTier};
 
-use crate::desk::{set_seat, take_seat};
-use crate::seat::{Outcome, Seat, Work};
-use crate::tier::Tier;
+use crate::actor_state::{ActorState, InProgress, Outcome};
+use crate::desk::{set_actor_state, take_actor_state};
+use crate::tier::RemoteTier;
 use bytes::Bytes;
 use copy_task::Copying;
 use disk_model::Disk;
 use epoch_line::Line;
 use meta_log::MetaLog;
 use object_store::Store;
-use partition_turns::Held;
+use partition_commands::PartitionState;
 use plain_log::{Command, Config, Order};
 use record_batch::Checked;
 use segment_bundle::Bundle;
@@ -61,12 +61,16 @@ pub enum Ready {
 }
 
 /// What the next turn of a command wants, of which so much is kept.
-pub(crate) fn want_of(alloc: Global, work: &Work, command: &Command) -> Result<Want, AllocError>
+pub(crate) fn want_of(
+    alloc: Global,
+    work: &InProgress,
+    command: &Command,
+) -> Result<Want, AllocError>
     ensures { IfOk result (IsWantOf command.now work.now) }
 {
     match work {
-        Work::Copies(_, copying, _) => want_of_copy(alloc, copying),
-        Work::Idle => match command {
+        InProgress::Copies(_, copying, _) => want_of_copy(alloc, copying),
+        InProgress::Idle => match command {
             Command::Raw(bytes) => Ok(Want::Check(bytes.clone()?)),
             _ => Ok(Want::Nothing),
         },
@@ -104,7 +108,7 @@ pub(crate) fn prepared(alloc: Global, want: Want) -> Result<Ready, AllocError>
 }
 
 /// The work with what is ready for it, and a check that may be of its command's bytes.
-fn with_ready(work: Work, ready: Ready) -> (Work, Option<Checked>)
+fn with_ready(work: InProgress, ready: Ready) -> (InProgress, Option<Checked>)
     ensures { result.0 ≡ work }
 {
     match ready {
@@ -115,17 +119,21 @@ fn with_ready(work: Work, ready: Ready) -> (Work, Option<Checked>)
 }
 
 /// A copy is given a bundle, which it keeps where it is its own.
-fn given(work: Work, bundle: Bundle) -> Work
+fn given(work: InProgress, bundle: Bundle) -> InProgress
     ensures { result ≡ work }
 {
     match work {
-        Work::Copies(begun, copying, next) => Work::Copies(begun, copying.give(bundle), next),
+        InProgress::Copies(snapshot, copying, next) => InProgress::Copies(
+            snapshot,
+            copying.give(bundle),
+            next,
+        ),
         other => other,
     }
 }
 
-impl<S: Store, M: MetaLog> Tier<S, M> {
-    /// Carries out a turn of a command at its seat, which keeps of it what it kept.
+impl<S: Store, M: MetaLog> RemoteTier<S, M> {
+    /// Carries out a turn of a command at its state, which keeps of it what it kept.
     #[tactic(auto, using(crate::proofs::Sides::set_twice, crate::proofs::Sides::set_same))]
     pub(crate) fn turn_at<D: Disk>(
         &mut self,
@@ -133,29 +141,31 @@ impl<S: Store, M: MetaLog> Tier<S, M> {
         partition: PartitionId,
         config: Config,
         order: &Order,
-        desk: &mut Row<Seat>,
+        desk: &mut Row<ActorState>,
         place: usize,
         ready: Ready,
-        held: &mut Held<D>,
+        held: &mut PartitionState<D>,
     ) -> Result<Outcome, AllocError>
         requires node { order.now.broker.0 < length held.old.nodes }
-        requires side { order.now.broker.0 < length self.old.sides }
-        requires sound { HeldSound (length held.old.nodes) held.old }
+        requires broker_tier { order.now.broker.0 < length self.old.broker_tiers }
+        requires sound { SoundPartition (length held.old.nodes) held.old }
         requires fit { IsInRange order.now.command }
         requires place { place < length desk.old }
-        requires work { IsSomeAnd (slice_get desk.old place) (λ seat. IsWorkFor order.now.command seat.work) }
+        requires work { IsSomeAnd (slice_get desk.old place)
+            (λ actor_state. IsProgressOf order.now.command actor_state.work) }
         requires stops { CanStop held.old order.now.broker.0 }
-        requires tries { AtSide self.old order.now.broker.0 (λ side. side.attempt < 18446744073709551615) }
-        ensures row { IfOk result (λ outcome. IsSomeAnd (slice_get desk.old place) (λ seat. TurnRow D.Disk S.Store M.MetaLog partition
-            config held.old self.old order.now.broker.0 seat.work order.now.command outcome held.new self.new)) }
-        ensures err { OnErr result (IsSomeAnd (slice_get desk.old place) (λ seat. StaysTier D.Disk S.Store M.MetaLog partition
-            held.old self.old order.now.broker.0 seat.work order.now.command held.new self.new)) }
+        requires tries { AtBrokerTier self.old order.now.broker.0
+            (λ broker_tier. broker_tier.attempt < 18446744073709551615) }
+        ensures row { IfOk result (λ outcome. IsSomeAnd (slice_get desk.old place) (λ actor_state. TurnRow D.Disk S.Store M.MetaLog partition
+            config held.old self.old order.now.broker.0 actor_state.work order.now.command outcome held.new self.new)) }
+        ensures err { OnErr result (IsSomeAnd (slice_get desk.old place) (λ actor_state. StaysTier D.Disk S.Store M.MetaLog partition
+            held.old self.old order.now.broker.0 actor_state.work order.now.command held.new self.new)) }
         ensures wants { OnErr result (IsTrue (takes_memory order.now.command)) }
         ensures desk { desk.new ≡ desk.old }
     {
-        let seat = take_seat(desk, place);
-        let number = seat.number;
-        let (mut work, checked) = with_ready(seat.work, ready);
+        let actor_state = take_actor_state(desk, place);
+        let number = actor_state.number;
+        let (mut work, checked) = with_ready(actor_state.work, ready);
         let outcome = self.turn(
             alloc,
             partition,
@@ -165,7 +175,7 @@ impl<S: Store, M: MetaLog> Tier<S, M> {
             checked.as_ref(),
             held,
         );
-        set_seat(desk, place, number, work);
+        set_actor_state(desk, place, number, work);
         outcome
     }
 }

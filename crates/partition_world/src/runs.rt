@@ -7,9 +7,9 @@ ghost use Rattle.partition_world.specs.Reaches.{GoesTimes, GoesUntil, Paces, Rea
 
 use crate::world::World;
 use disk_model::Disk;
+use laws_partition::Stepped;
 use meta_log::MetaLog;
 use object_store::Store;
-use partition_seen::Stepped;
 use plain_log::Pace;
 use std::alloc::{AllocError, Global};
 use tier_base::ActorId;

@@ -2,7 +2,7 @@
 
 ghost use Rattle.std.specs.Prelude.{◌≡◌, ◌<◌, length, OnOk, OnErr, IsErrOf};
 ghost use Rattle.tier_base.specs.declared.fault.Trouble.TheVariants.{Failed, NoMemory};
-ghost use Rattle.partition_world.specs.Tier.{next_of, counted, AtSide, Refreshes, FailsToRead, Halts, IsArmedTier};
+ghost use Rattle.partition_world.specs.Tier.{next_of, counted, AtBrokerTier, Refreshes, FailsToRead, Halts, IsArmedTier};
 
 use disk_model::Disk;
 use index_cache::IndexCache;
@@ -14,7 +14,7 @@ use view_refresh::refresh;
 
 /// What a broker knows of the remote tier. It outlives the broker's stops.
 #[derive(Drop)]
-pub struct Side {
+pub struct BrokerTierState {
     /// The remote segments that the broker knows of.
     pub view: View,
     /// How often its log had been opened when it last chose a segment to copy, and the number of the next
@@ -27,10 +27,10 @@ pub struct Side {
 
 /// A partition's remote store and remote log metadata, and a side for each broker, in their order.
 #[derive(Drop)]
-pub struct Tier<S: Store, M: MetaLog> {
+pub struct RemoteTier<S: Store, M: MetaLog> {
     pub store: S,
     pub meta: M,
-    pub sides: Row<Side>,
+    pub broker_tiers: Row<BrokerTierState>,
 }
 
 /// The devices of a partition: a disk for each broker, in their order, the remote store, and the remote log metadata.
@@ -41,7 +41,7 @@ pub struct Devices<D: Disk, S: Store, M: MetaLog> {
     pub meta: M,
 }
 
-impl Side {
+impl BrokerTierState {
     /// The number of the next copy of a log that was opened so often.
     pub(crate) fn next(&self, incarnation: u32) -> u64
         ensures { result ≡ next_of self.now incarnation }
@@ -63,11 +63,11 @@ impl Side {
     }
 }
 
-impl<S: Store, M: MetaLog> Tier<S, M> {
+impl<S: Store, M: MetaLog> RemoteTier<S, M> {
     /// Puts the plans of store and metadata log in force.
     pub(crate) fn arm(&mut self)
         ensures tier { IsArmedTier S.Store M.MetaLog self.old.store self.old.meta self.new }
-        ensures sides { self.new.sides ≡ self.old.sides }
+        ensures broker_tiers { self.new.broker_tiers ≡ self.old.broker_tiers }
     {
         self.store.arm();
         self.meta.arm();
@@ -76,11 +76,13 @@ impl<S: Store, M: MetaLog> Tier<S, M> {
     /// Lets a broker's view take in what the metadata log has more.
     #[tactic(auto, using(crate::proofs::Sides::set_same))]
     pub(crate) fn refresh(&mut self, b: usize) -> Result<(), Trouble>
-        requires { b < length self.old.sides }
-        ensures ok { OnOk result (AtSide self.old b (λ side. Refreshes M.MetaLog self.old b side self.new)) }
-        ensures failed { IsErrOf result Failed → AtSide self.old b (λ side. FailsToRead M.MetaLog self.old side self.new) }
-        ensures dry { IsErrOf result NoMemory → AtSide self.old b (λ side. Halts M.MetaLog self.old b side self.new) }
+        requires { b < length self.old.broker_tiers }
+        ensures ok { OnOk result (AtBrokerTier self.old b
+            (λ broker_tier. Refreshes M.MetaLog self.old b broker_tier self.new)) }
+        ensures failed { IsErrOf result Failed → AtBrokerTier self.old b (λ broker_tier. FailsToRead M.MetaLog self.old broker_tier self.new) }
+        ensures dry { IsErrOf result NoMemory
+            → AtBrokerTier self.old b (λ broker_tier. Halts M.MetaLog self.old b broker_tier self.new) }
     {
-        refresh(&mut self.sides.at_mut(b).view, &mut self.meta)
+        refresh(&mut self.broker_tiers.at_mut(b).view, &mut self.meta)
     }
 }

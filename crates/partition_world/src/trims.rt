@@ -5,35 +5,36 @@
 //! as one that leads.
 
 ghost use Rattle.std.specs.Prelude.{◌≡◌, ◌<◌, length, IfOk, OnErr};
-ghost use Rattle.partition_turns.specs.Held.{AtNode, CanStop, StaysHeld};
-ghost use Rattle.partition_world.specs.Tier.{AtSide, Halts};
+ghost use Rattle.partition_commands.specs.Partition.{AtNode, CanStop, KeepsPartition};
+ghost use Rattle.partition_world.specs.Tier.{AtBrokerTier, Halts};
 ghost use Rattle.partition_world.specs.TurnsOfTrim.{TrimFirstRow, TrimOnRow};
 
+use crate::actor_state::Outcome;
 use crate::covering::may_trim;
-use crate::seat::Outcome;
-use crate::tier::Tier;
+use crate::tier::RemoteTier;
 use disk_model::Disk;
+use laws_partition::StartSnapshot;
 use meta_log::MetaLog;
 use object_store::Store;
-use partition_seen::Begun;
-use partition_turns::Held;
+use partition_commands::PartitionState;
 use plain_log::Answer;
 use std::alloc::{AllocError, Global};
 use tier_base::{Keep, Trouble};
 
-impl<S: Store, M: MetaLog> Tier<S, M> {
+impl<S: Store, M: MetaLog> RemoteTier<S, M> {
     /// Begins a trim: the broker's view takes in what the metadata log has more.
     pub(crate) fn trim<D: Disk>(
         &mut self,
         alloc: Global,
         b: usize,
-        held: &Held<D>,
+        held: &PartitionState<D>,
     ) -> Result<Outcome, AllocError>
         requires node { b < length held.now.nodes }
-        requires side { b < length self.old.sides }
-        ensures row { IfOk result (λ outcome. AtNode held.now b (λ x. AtSide self.old b (λ side.
-            TrimFirstRow M.MetaLog held.now self.old b x side outcome self.new))) }
-        ensures err { OnErr result (AtSide self.old b (λ side. Halts M.MetaLog self.old b side self.new)) }
+        requires broker_tier { b < length self.old.broker_tiers }
+        ensures row { IfOk result (λ outcome. AtNode held.now b (λ x. AtBrokerTier self.old b (λ broker_tier.
+            TrimFirstRow M.MetaLog held.now self.old b x broker_tier outcome self.new))) }
+        ensures err { OnErr result
+            (AtBrokerTier self.old b (λ broker_tier. Halts M.MetaLog self.old b broker_tier self.new)) }
     {
         if !held.nodes.get(b).is_up() {
             return Ok(Outcome::Answers(Answer::Down));
@@ -50,21 +51,21 @@ impl<S: Store, M: MetaLog> Tier<S, M> {
         &self,
         alloc: Global,
         b: usize,
-        noted: &Begun,
+        recorded: &StartSnapshot,
         keep: Keep,
-        held: &mut Held<D>,
+        held: &mut PartitionState<D>,
     ) -> Result<Outcome, AllocError>
         requires node { CanStop held.old b }
-        requires side { b < length self.now.sides }
-        ensures row { IfOk result (λ outcome. AtNode held.old b (λ x. AtSide self.now b (λ side.
-            TrimOnRow D.Disk held.old b x side noted.now keep outcome held.new))) }
-        ensures err { OnErr result (StaysHeld D.content D.control held.old held.new) }
+        requires broker_tier { b < length self.now.broker_tiers }
+        ensures row { IfOk result (λ outcome. AtNode held.old b (λ x. AtBrokerTier self.now b (λ broker_tier.
+            TrimOnRow D.Disk held.old b x broker_tier recorded.now keep outcome held.new))) }
+        ensures err { OnErr result (KeepsPartition D.content D.control held.old held.new) }
     {
         let node = held.nodes.get(b);
-        if noted.stops != node.stops || !node.is_up() {
+        if recorded.stops != node.stops || !node.is_up() {
             return Ok(Outcome::Answers(Answer::Stopped));
         }
-        if !may_trim(alloc, held, node, self.sides.get(b), keep)? {
+        if !may_trim(alloc, held, node, self.broker_tiers.get(b), keep)? {
             return Ok(Outcome::Answers(Answer::Kept));
         }
         Ok(Outcome::Answers(held.drop_first(b)?))

@@ -1,33 +1,33 @@
-//! A turn of a command, by what its seat keeps of it.
+//! A turn of a command, by what its actor's state has of it.
 
 ghost use Rattle.std.specs.Prelude.{◌≡◌, ◌<◌, length, IfOk, OnErr, IsTrue};
 ghost use Rattle.plain_log.specs.Orders.{IsInRange};
-ghost use Rattle.partition_turns.specs.Held.{AtNode, CanStop, StaysHeld};
-ghost use Rattle.partition_turns.specs.Sound.{HeldSound};
-ghost use Rattle.partition_world.specs.Tier.{AtSide};
-ghost use Rattle.partition_turns.specs.Turns.{IsOfTier, takes_memory};
-ghost use Rattle.partition_world.specs.declared.seat.Work.TheVariants.{Noted, Copies, Seeks, Dates, Expires, Rebuilds};
-ghost use Rattle.partition_world.specs.Sound.{IsWorkFor};
-ghost use Rattle.partition_world.specs.Turns.{OwnRow, BeginRow, NotedRow, CopyingRow, SeekingRow, DatingRow, DeletingRow, RebuildingRow, TurnRow, BeginHalts, NotedHalts, CopyingHalts, SeekingHalts, DatingHalts, DeletingHalts, RebuildingHalts, StaysOr, StaysTier};
+ghost use Rattle.partition_commands.specs.Partition.{AtNode, CanStop, KeepsPartition};
+ghost use Rattle.partition_commands.specs.Sound.{SoundPartition};
+ghost use Rattle.partition_world.specs.Tier.{AtBrokerTier};
+ghost use Rattle.partition_commands.specs.Turns.{IsOfTier, takes_memory};
+ghost use Rattle.partition_world.specs.declared.actor_state.InProgress.TheVariants.{Noted, Copies, Seeks, Dates, Expires, Rebuilds};
+ghost use Rattle.partition_world.specs.Sound.{IsProgressOf};
+ghost use Rattle.partition_world.specs.Turns.{OwnRow, BeginRow, ContinuedRow, CopyingRow, SeekingRow, DatingRow, DeletingRow, RebuildingRow, TurnRow, BeginHalts, ContinuedHalts, CopyingHalts, SeekingHalts, DatingHalts, DeletingHalts, RebuildingHalts, StaysOr, StaysTier};
 
-use crate::seat::{Outcome, Work, outcome_of};
-use crate::tier::Tier;
-use copy_task::{Copying, Next};
+use crate::actor_state::{InProgress, Outcome, outcome_of};
+use crate::tier::RemoteTier;
+use copy_task::{CopyStep, Copying};
 use disk_model::Disk;
-use expiry_task::{Doomed, Next as Deletion};
+use expiry_task::{DeletionStep as Deletion, ExpiredSegment};
+use laws_partition::StartSnapshot;
 use meta_log::MetaLog;
 use object_store::Store;
-use partition_seen::Begun;
-use partition_turns::Held;
+use partition_commands::PartitionState;
 use plain_log::{Command, Config, Order, Which};
-use rebuild_task::Next as Rebuild;
+use rebuild_task::RebuildStep as Rebuild;
 use record_batch::Checked;
 use std::alloc::{AllocError, Global};
 use tier_base::PartitionId;
-use tier_fetch::Next as Search;
-use time_find::Next as Dating;
+use tier_fetch::FetchStep as Search;
+use time_find::SearchStep as Dating;
 
-impl<S: Store, M: MetaLog> Tier<S, M> {
+impl<S: Store, M: MetaLog> RemoteTier<S, M> {
     /// Carries out a turn of a command, of which so much is kept. What is known of a check is used where it is of the command's bytes;
     /// a copy keeps the bundle that the turn made.
     pub(crate) fn turn<D: Disk>(
@@ -36,17 +36,18 @@ impl<S: Store, M: MetaLog> Tier<S, M> {
         partition: PartitionId,
         config: Config,
         order: &Order,
-        work: &mut Work,
+        work: &mut InProgress,
         known: Option<&Checked>,
-        held: &mut Held<D>,
+        held: &mut PartitionState<D>,
     ) -> Result<Outcome, AllocError>
         requires node { order.now.broker.0 < length held.old.nodes }
-        requires side { order.now.broker.0 < length self.old.sides }
-        requires sound { HeldSound (length held.old.nodes) held.old }
+        requires broker_tier { order.now.broker.0 < length self.old.broker_tiers }
+        requires sound { SoundPartition (length held.old.nodes) held.old }
         requires fit { IsInRange order.now.command }
-        requires work { IsWorkFor order.now.command work.old }
+        requires work { IsProgressOf order.now.command work.old }
         requires stops { CanStop held.old order.now.broker.0 }
-        requires tries { AtSide self.old order.now.broker.0 (λ side. side.attempt < 18446744073709551615) }
+        requires tries { AtBrokerTier self.old order.now.broker.0
+            (λ broker_tier. broker_tier.attempt < 18446744073709551615) }
         ensures row { IfOk result (λ outcome. TurnRow D.Disk S.Store M.MetaLog partition config held.old self.old
             order.now.broker.0 work.old order.now.command outcome held.new self.new) }
         ensures same { work.new ≡ work.old }
@@ -55,22 +56,24 @@ impl<S: Store, M: MetaLog> Tier<S, M> {
         ensures wants { OnErr result (IsTrue (takes_memory order.now.command)) }
     {
         match work {
-            Work::Idle => self.begin(alloc, order, known, held),
-            Work::Noted(noted) => self.go_on(alloc, partition, config, order, noted, held),
-            Work::Copies(noted, copying, next) => {
-                self.go_copying(alloc, order, noted, copying, *next, held)
+            InProgress::Idle => self.begin(alloc, order, known, held),
+            InProgress::Noted(recorded) => self.go_on(
+                alloc, partition, config, order, recorded, held,
+            ),
+            InProgress::Copies(recorded, copying, next) => {
+                self.go_copying(alloc, order, recorded, copying, *next, held)
             }
-            Work::Seeks(noted, next) => {
-                self.go_seeking(alloc, partition, order, noted, *next, held)
+            InProgress::Seeks(recorded, next) => {
+                self.go_seeking(alloc, partition, order, recorded, *next, held)
             }
-            Work::Dates(noted, cursor, next) => {
-                self.go_dating(alloc, partition, order, noted, *cursor, *next, held)
+            InProgress::Dates(recorded, cursor, next) => {
+                self.go_dating(alloc, partition, order, recorded, *cursor, *next, held)
             }
-            Work::Expires(noted, doomed, next) => {
-                self.go_deleting(alloc, order, noted, *doomed, *next, held)
+            InProgress::Expires(recorded, expired_segment, next) => {
+                self.go_deleting(alloc, order, recorded, *expired_segment, *next, held)
             }
-            Work::Rebuilds(noted, next) => {
-                self.go_rebuilding(alloc, partition, order, noted, next, held)
+            InProgress::Rebuilds(recorded, next) => {
+                self.go_rebuilding(alloc, partition, order, recorded, next, held)
             }
         }
     }
@@ -81,16 +84,16 @@ impl<S: Store, M: MetaLog> Tier<S, M> {
         alloc: Global,
         order: &Order,
         known: Option<&Checked>,
-        held: &mut Held<D>,
+        held: &mut PartitionState<D>,
     ) -> Result<Outcome, AllocError>
         requires node { CanStop held.old order.now.broker.0 }
-        requires side { order.now.broker.0 < length self.old.sides }
-        requires sound { HeldSound (length held.old.nodes) held.old }
+        requires broker_tier { order.now.broker.0 < length self.old.broker_tiers }
+        requires sound { SoundPartition (length held.old.nodes) held.old }
         requires fit { IsInRange order.now.command }
-        ensures row { IfOk result (λ outcome. AtNode held.old order.now.broker.0 (λ x. AtSide self.old order.now.broker.0 (λ side.
-            BeginRow D.Disk S.Store M.MetaLog held.old self.old order.now.broker.0 x side order.now.command outcome held.new self.new))) }
-        ensures err { OnErr result (StaysOr D.Disk held.old self.old order.now.broker.0 (λ x side.
-            BeginHalts M.MetaLog self.old order.now.broker.0 side order.now.command self.new) held.new self.new) }
+        ensures row { IfOk result (λ outcome. AtNode held.old order.now.broker.0 (λ x. AtBrokerTier self.old order.now.broker.0 (λ broker_tier.
+            BeginRow D.Disk S.Store M.MetaLog held.old self.old order.now.broker.0 x broker_tier order.now.command outcome held.new self.new))) }
+        ensures err { OnErr result (StaysOr D.Disk held.old self.old order.now.broker.0 (λ x broker_tier.
+            BeginHalts M.MetaLog self.old order.now.broker.0 broker_tier order.now.command self.new) held.new self.new) }
         ensures wants { OnErr result (IsTrue (takes_memory order.now.command)) }
     {
         match &order.command {
@@ -110,15 +113,15 @@ impl<S: Store, M: MetaLog> Tier<S, M> {
         alloc: Global,
         order: &Order,
         known: Option<&Checked>,
-        held: &mut Held<D>,
+        held: &mut PartitionState<D>,
     ) -> Result<Outcome, AllocError>
         requires node { CanStop held.old order.now.broker.0 }
-        requires sound { HeldSound (length held.old.nodes) held.old }
+        requires sound { SoundPartition (length held.old.nodes) held.old }
         requires fit { IsInRange order.now.command }
         requires own { IsOfTier order.now.command → ⊥ }
         ensures row { IfOk result (λ outcome. AtNode held.old order.now.broker.0 (λ x.
             OwnRow D.Disk held.old self.old order.now.broker.0 x order.now.command outcome held.new self.new)) }
-        ensures err { OnErr result (StaysHeld D.content D.control held.old held.new × (self.new ≡ self.old)) }
+        ensures err { OnErr result (KeepsPartition D.content D.control held.old held.new × (self.new ≡ self.old)) }
         ensures wants { OnErr result (IsTrue (takes_memory order.now.command)) }
     {
         match held.first_turn(alloc, order, known)? {
@@ -127,49 +130,50 @@ impl<S: Store, M: MetaLog> Tier<S, M> {
         }
     }
 
-    /// Carries out the second turn of a command of which its seat keeps what was noted.
+    /// Carries out the second turn of a command of which its actor's state has what was recorded.
     fn go_on<D: Disk>(
         &mut self,
         alloc: Global,
         partition: PartitionId,
         config: Config,
         order: &Order,
-        noted: &Begun,
-        held: &mut Held<D>,
+        recorded: &StartSnapshot,
+        held: &mut PartitionState<D>,
     ) -> Result<Outcome, AllocError>
         requires node { CanStop held.old order.now.broker.0 }
-        requires side { order.now.broker.0 < length self.old.sides }
-        requires sound { HeldSound (length held.old.nodes) held.old }
-        requires work { IsWorkFor order.now.command (Noted noted.now) }
-        requires tries { AtSide self.old order.now.broker.0 (λ side. side.attempt < 18446744073709551615) }
-        ensures row { IfOk result (λ outcome. AtNode held.old order.now.broker.0 (λ x. AtSide self.old order.now.broker.0 (λ side.
-            NotedRow D.Disk S.Store M.MetaLog partition config held.old self.old order.now.broker.0 x side noted.now order.now.command outcome held.new self.new))) }
-        ensures err { OnErr result (StaysOr D.Disk held.old self.old order.now.broker.0 (λ x side.
-            NotedHalts S.Store M.MetaLog partition held.old self.old order.now.broker.0 x side noted.now order.now.command self.new) held.new self.new) }
+        requires broker_tier { order.now.broker.0 < length self.old.broker_tiers }
+        requires sound { SoundPartition (length held.old.nodes) held.old }
+        requires work { IsProgressOf order.now.command (Noted recorded.now) }
+        requires tries { AtBrokerTier self.old order.now.broker.0
+            (λ broker_tier. broker_tier.attempt < 18446744073709551615) }
+        ensures row { IfOk result (λ outcome. AtNode held.old order.now.broker.0 (λ x. AtBrokerTier self.old order.now.broker.0 (λ broker_tier.
+            ContinuedRow D.Disk S.Store M.MetaLog partition config held.old self.old order.now.broker.0 x broker_tier recorded.now order.now.command outcome held.new self.new))) }
+        ensures err { OnErr result (StaysOr D.Disk held.old self.old order.now.broker.0 (λ x broker_tier.
+            ContinuedHalts S.Store M.MetaLog partition held.old self.old order.now.broker.0 x broker_tier recorded.now order.now.command self.new) held.new self.new) }
     {
         let b = order.broker.0 as usize;
         match &order.command {
-            Command::Copy => self.choose(alloc, partition, order.broker, noted, held),
-            Command::Trim => self.trim_on(alloc, b, noted, config.local_keep, held),
-            Command::Expire => self.expire_on(alloc, partition, b, noted, config.keep, held),
+            Command::Copy => self.choose(alloc, partition, order.broker, recorded, held),
+            Command::Trim => self.trim_on(alloc, b, recorded, config.local_keep, held),
+            Command::Expire => self.expire_on(alloc, partition, b, recorded, config.keep, held),
             Command::Fetch { offset, limit } => self.fetch_on(
                 alloc,
                 partition,
                 order.broker,
-                noted,
+                recorded,
                 Search::Refresh,
                 *offset,
                 *limit,
                 held,
             ),
-            Command::Join => self.join_on(alloc, order.broker, noted, held),
+            Command::Join => self.join_on(alloc, order.broker, recorded, held),
             Command::Offset(which) => match which {
-                Which::LatestTiered => Ok(self.offset_on(b, noted, held)),
+                Which::LatestTiered => Ok(self.offset_on(b, recorded, held)),
                 Which::At(ts) => self.date_on(
                     alloc,
                     partition,
                     order.broker,
-                    noted,
+                    recorded,
                     *ts,
                     0,
                     Dating::Seek,
@@ -177,7 +181,7 @@ impl<S: Store, M: MetaLog> Tier<S, M> {
                 ),
                 _ => unreachable!(),
             },
-            Command::Follow { .. } => Ok(Outcome::Answers(held.follow_on(b, noted)?)),
+            Command::Follow { .. } => Ok(Outcome::Answers(held.follow_on(b, recorded)?)),
             _ => unreachable!(),
         }
     }
@@ -187,21 +191,21 @@ impl<S: Store, M: MetaLog> Tier<S, M> {
         &mut self,
         alloc: Global,
         order: &Order,
-        noted: &Begun,
+        recorded: &StartSnapshot,
         copying: &mut Copying,
-        next: Next,
-        held: &mut Held<D>,
+        next: CopyStep,
+        held: &mut PartitionState<D>,
     ) -> Result<Outcome, AllocError>
         requires node { order.now.broker.0 < length held.old.nodes }
-        requires side { order.now.broker.0 < length self.old.sides }
-        requires work { IsWorkFor order.now.command (Copies noted.now copying.old next) }
-        ensures row { IfOk result (λ outcome. AtNode held.old order.now.broker.0 (λ x. AtSide self.old order.now.broker.0 (λ side.
-            CopyingRow S.Store M.MetaLog held.old self.old order.now.broker.0 x side noted.now copying.old next order.now.command outcome held.new self.new))) }
+        requires broker_tier { order.now.broker.0 < length self.old.broker_tiers }
+        requires work { IsProgressOf order.now.command (Copies recorded.now copying.old next) }
+        ensures row { IfOk result (λ outcome. AtNode held.old order.now.broker.0 (λ x. AtBrokerTier self.old order.now.broker.0 (λ broker_tier.
+            CopyingRow S.Store M.MetaLog held.old self.old order.now.broker.0 x broker_tier recorded.now copying.old next order.now.command outcome held.new self.new))) }
         ensures same { copying.new ≡ copying.old }
-        ensures err { OnErr result (StaysOr D.Disk held.old self.old order.now.broker.0 (λ x side.
-            CopyingHalts S.Store M.MetaLog held.old self.old order.now.broker.0 side copying.old next order.now.command self.new) held.new self.new) }
+        ensures err { OnErr result (StaysOr D.Disk held.old self.old order.now.broker.0 (λ x broker_tier.
+            CopyingHalts S.Store M.MetaLog held.old self.old order.now.broker.0 broker_tier copying.old next order.now.command self.new) held.new self.new) }
     {
-        self.copy_on(alloc, order.broker, noted, copying, next, held)
+        self.copy_on(alloc, order.broker, recorded, copying, next, held)
     }
 
     /// Carries out a turn of a fetch that goes on in the remote tier.
@@ -210,25 +214,25 @@ impl<S: Store, M: MetaLog> Tier<S, M> {
         alloc: Global,
         partition: PartitionId,
         order: &Order,
-        noted: &Begun,
+        recorded: &StartSnapshot,
         next: Search,
-        held: &Held<D>,
+        held: &PartitionState<D>,
     ) -> Result<Outcome, AllocError>
         requires node { order.now.broker.0 < length held.now.nodes }
-        requires side { order.now.broker.0 < length self.old.sides }
-        requires work { IsWorkFor order.now.command (Seeks noted.now next) }
-        ensures row { IfOk result (λ outcome. AtNode held.now order.now.broker.0 (λ x. AtSide self.old order.now.broker.0 (λ side.
-            SeekingRow S.Store M.MetaLog partition held.now self.old order.now.broker.0 x side noted.now next order.now.command
+        requires broker_tier { order.now.broker.0 < length self.old.broker_tiers }
+        requires work { IsProgressOf order.now.command (Seeks recorded.now next) }
+        ensures row { IfOk result (λ outcome. AtNode held.now order.now.broker.0 (λ x. AtBrokerTier self.old order.now.broker.0 (λ broker_tier.
+            SeekingRow S.Store M.MetaLog partition held.now self.old order.now.broker.0 x broker_tier recorded.now next order.now.command
             outcome held.now self.new))) }
-        ensures err { OnErr result (StaysOr D.Disk held.now self.old order.now.broker.0 (λ x side.
-            SeekingHalts S.Store M.MetaLog partition self.old order.now.broker.0 x side next order.now.command self.new) held.now self.new) }
+        ensures err { OnErr result (StaysOr D.Disk held.now self.old order.now.broker.0 (λ x broker_tier.
+            SeekingHalts S.Store M.MetaLog partition self.old order.now.broker.0 x broker_tier next order.now.command self.new) held.now self.new) }
     {
         match &order.command {
             Command::Fetch { offset, limit } => self.fetch_on(
                 alloc,
                 partition,
                 order.broker,
-                noted,
+                recorded,
                 next,
                 *offset,
                 *limit,
@@ -244,26 +248,26 @@ impl<S: Store, M: MetaLog> Tier<S, M> {
         alloc: Global,
         partition: PartitionId,
         order: &Order,
-        noted: &Begun,
+        recorded: &StartSnapshot,
         cursor: u64,
         next: Dating,
-        held: &mut Held<D>,
+        held: &mut PartitionState<D>,
     ) -> Result<Outcome, AllocError>
         requires node { order.now.broker.0 < length held.old.nodes }
-        requires side { order.now.broker.0 < length self.old.sides }
-        requires work { IsWorkFor order.now.command (Dates noted.now cursor next) }
-        ensures row { IfOk result (λ outcome. AtNode held.old order.now.broker.0 (λ x. AtSide self.old order.now.broker.0 (λ side.
-            DatingRow D.Disk S.Store M.MetaLog partition held.old self.old order.now.broker.0 x side noted.now cursor next
+        requires broker_tier { order.now.broker.0 < length self.old.broker_tiers }
+        requires work { IsProgressOf order.now.command (Dates recorded.now cursor next) }
+        ensures row { IfOk result (λ outcome. AtNode held.old order.now.broker.0 (λ x. AtBrokerTier self.old order.now.broker.0 (λ broker_tier.
+            DatingRow D.Disk S.Store M.MetaLog partition held.old self.old order.now.broker.0 x broker_tier recorded.now cursor next
             order.now.command outcome held.new self.new))) }
-        ensures err { OnErr result (StaysOr D.Disk held.old self.old order.now.broker.0 (λ x side.
-            DatingHalts S.Store M.MetaLog partition held.old self.old order.now.broker.0 x side cursor next order.now.command self.new) held.new self.new) }
+        ensures err { OnErr result (StaysOr D.Disk held.old self.old order.now.broker.0 (λ x broker_tier.
+            DatingHalts S.Store M.MetaLog partition held.old self.old order.now.broker.0 x broker_tier cursor next order.now.command self.new) held.new self.new) }
     {
         match &order.command {
             Command::Offset(Which::At(ts)) => self.date_on(
                 alloc,
                 partition,
                 order.broker,
-                noted,
+                recorded,
                 *ts,
                 cursor,
                 next,
@@ -278,21 +282,21 @@ impl<S: Store, M: MetaLog> Tier<S, M> {
         &mut self,
         alloc: Global,
         order: &Order,
-        noted: &Begun,
-        doomed: Doomed,
+        recorded: &StartSnapshot,
+        expired_segment: ExpiredSegment,
         next: Deletion,
-        held: &Held<D>,
+        held: &PartitionState<D>,
     ) -> Result<Outcome, AllocError>
         requires node { order.now.broker.0 < length held.now.nodes }
-        requires side { order.now.broker.0 < length self.old.sides }
-        requires work { IsWorkFor order.now.command (Expires noted.now doomed next) }
+        requires broker_tier { order.now.broker.0 < length self.old.broker_tiers }
+        requires work { IsProgressOf order.now.command (Expires recorded.now expired_segment next) }
         ensures row { IfOk result (λ outcome. AtNode held.now order.now.broker.0 (λ x.
-            DeletingRow S.Store M.MetaLog held.now self.old order.now.broker.0 x noted.now doomed next order.now.command
+            DeletingRow S.Store M.MetaLog held.now self.old order.now.broker.0 x recorded.now expired_segment next order.now.command
             outcome held.now self.new)) }
-        ensures err { OnErr result (StaysOr D.Disk held.now self.old order.now.broker.0 (λ x side.
-            DeletingHalts S.Store M.MetaLog held.now self.old order.now.broker.0 doomed next order.now.command self.new) held.now self.new) }
+        ensures err { OnErr result (StaysOr D.Disk held.now self.old order.now.broker.0 (λ x broker_tier.
+            DeletingHalts S.Store M.MetaLog held.now self.old order.now.broker.0 expired_segment next order.now.command self.new) held.now self.new) }
     {
-        self.delete_on(alloc, order.broker, noted, doomed, next, held)
+        self.delete_on(alloc, order.broker, recorded, expired_segment, next, held)
     }
 
     /// Carries out a turn of a join that begins its log anew.
@@ -301,22 +305,22 @@ impl<S: Store, M: MetaLog> Tier<S, M> {
         alloc: Global,
         partition: PartitionId,
         order: &Order,
-        noted: &Begun,
+        recorded: &StartSnapshot,
         next: &Rebuild,
-        held: &mut Held<D>,
+        held: &mut PartitionState<D>,
     ) -> Result<Outcome, AllocError>
         requires node { CanStop held.old order.now.broker.0 }
-        requires side { order.now.broker.0 < length self.old.sides }
-        requires work { IsWorkFor order.now.command (Rebuilds noted.now next.now) }
-        ensures row { IfOk result (λ outcome. AtNode held.old order.now.broker.0 (λ x. AtSide self.old order.now.broker.0 (λ side.
-            RebuildingRow D.Disk S.Store partition held.old self.old order.now.broker.0 x side noted.now next.now order.now.command
+        requires broker_tier { order.now.broker.0 < length self.old.broker_tiers }
+        requires work { IsProgressOf order.now.command (Rebuilds recorded.now next.now) }
+        ensures row { IfOk result (λ outcome. AtNode held.old order.now.broker.0 (λ x. AtBrokerTier self.old order.now.broker.0 (λ broker_tier.
+            RebuildingRow D.Disk S.Store partition held.old self.old order.now.broker.0 x broker_tier recorded.now next.now order.now.command
             outcome held.new self.new))) }
-        ensures err { OnErr result (StaysOr D.Disk held.old self.old order.now.broker.0 (λ x side.
-            RebuildingHalts S.Store partition self.old side noted.now next.now order.now.command self.new) held.new self.new) }
+        ensures err { OnErr result (StaysOr D.Disk held.old self.old order.now.broker.0 (λ x broker_tier.
+            RebuildingHalts S.Store partition self.old broker_tier recorded.now next.now order.now.command self.new) held.new self.new) }
     {
         match next {
-            Rebuild::Epochs => self.read_epochs(alloc, partition, order.broker, noted, held),
-            Rebuild::Restart(line) => self.restart(alloc, order.broker, noted, line, held),
+            Rebuild::Epochs => self.read_epochs(alloc, partition, order.broker, recorded, held),
+            Rebuild::Restart(line) => self.restart(alloc, order.broker, recorded, line, held),
         }
     }
 }

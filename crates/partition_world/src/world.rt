@@ -6,13 +6,13 @@ ghost use Rattle.std.specs.Prelude.{◌≡◌, ◌<◌, ◌+◌, ◌^◌, [], le
 ghost use Rattle.tier_base.specs.Device.{Lasts};
 ghost use Rattle.plain_log.specs.Fresh.{fresh as fresh_plain};
 ghost use Rattle.plain_log.specs.Orders.{AreListsFor, IsConfig};
-ghost use Rattle.partition_seen.specs.Sound.{turns_left as entries_left};
-ghost use Rattle.partition_turns.specs.Fresh.{AreFreshDisks, AreCalmDisks, AreDisksOf, DisksTell, AllSeen, Refuses};
-ghost use Rattle.partition_turns.specs.declared.refusal.WorldRefusal.TheVariants as refusal;
-ghost use Rattle.partition_world.specs.Fresh.{IsFresh, IsNew, IsSeenEmpty, AreFreshBooks, fresh_side};
+ghost use Rattle.laws_partition.specs.Sound.{turns_left as entries_left};
+ghost use Rattle.partition_commands.specs.Fresh.{AreFreshDisks, AreInfallibleDisks, AreDisksOf, DisksTell, AllSeen, Refuses};
+ghost use Rattle.partition_commands.specs.declared.refusal.WorldRefusal.TheVariants as refusal;
+ghost use Rattle.partition_world.specs.Fresh.{IsFresh, IsNew, IsSeenEmpty, AreFreshBooks, fresh_broker_tier};
 ghost use Rattle.plain_log.specs.declared.state.State.{State};
-ghost use Rattle.partition_turns.specs.Cold.{DisksReopen};
-ghost use Rattle.partition_turns.specs.Disks.{AllReopen};
+ghost use Rattle.partition_commands.specs.Cold.{DisksReopen};
+ghost use Rattle.partition_commands.specs.Disks.{AllReopen};
 ghost use Rattle.partition_world.specs.Cold.{IsReopened, AreCold};
 ghost use Rattle.partition_world.specs.Turn.{Steps};
 ghost use Rattle.partition_world.specs.Central.{IsCentral, KeepsCentral};
@@ -21,19 +21,19 @@ ghost use Rattle.meta_log.specs.Content.{LeavesTold};
 ghost use Rattle.partition_world.specs.Reaches.{HasAnswered};
 ghost use Rattle.partition_world.specs.Ready.{IsWanted, Prepares};
 
+use crate::actor_state::ActorState;
 use crate::desk::{count_entries, enter, fresh_desk, place_of};
 use crate::laws::{
     fresh_is_central, fresh_is_central_left, reopens_central, steps_keep_central, steps_keep_left,
 };
 use crate::ready::{Ready, Want, prepared, want_of};
-use crate::seat::Seat;
-use crate::tier::{Devices, Side, Tier};
+use crate::tier::{BrokerTierState, Devices, RemoteTier};
 use disk_model::Disk;
 use index_cache::IndexCache;
+use laws_partition::Stepped;
 use meta_log::MetaLog;
 use object_store::Store;
-use partition_seen::Stepped;
-use partition_turns::{Held, WorldRefusal};
+use partition_commands::{PartitionState, WorldRefusal};
 use plain_log::{ActorList, Config, Journal, Registry};
 use remote_view::View;
 use std::alloc::{AllocError, Global};
@@ -49,9 +49,9 @@ pub struct World<D: Disk, S: Store, M: MetaLog> {
     partition: PartitionId,
     config: Config,
     lists: Row<ActorList>,
-    held: Held<D>,
-    tier: Tier<S, M>,
-    desk: Row<Seat>,
+    held: PartitionState<D>,
+    tier: RemoteTier<S, M>,
+    desk: Row<ActorState>,
     journal: Journal,
     /// Room for the disks, which the brokers have until the world is closed.
     room: Vec<D>,
@@ -74,9 +74,9 @@ impl<D: Disk, S: Store, M: MetaLog> Model for World<D, S, M> {
       journal = w.journal;
     } };
 
-    ghost invariant = { λ w. IsSound w.config w.lists w.held w.tier.sides w.desk w.journal.room
+    ghost invariant = { λ w. IsSound w.config w.lists w.held w.tier.broker_tiers w.desk w.journal.room
         × (w.room.items ≡ []) × (w.config.brokers ≤ vec_capacity w.room)
-        × AreCounted w.lists w.held w.tier.sides w.desk (length w.journal.items) };
+        × AreCounted w.lists w.held w.tier.broker_tiers w.desk (length w.journal.items) };
 }
 
 impl<D: Disk, S: Store, M: MetaLog> World<D, S, M> {
@@ -107,7 +107,7 @@ impl<D: Disk, S: Store, M: MetaLog> World<D, S, M> {
         ensures err { IfErr result (λ e. Refuses D.control devices.disks.items e.0.disks.items e.1) }
         ensures store { IfErr result (λ e. e.0.store ≡ devices.store) }
         ensures meta { IfErr result (λ e. e.0.meta ≡ devices.meta) }
-        ensures memory { AreCalmDisks D.control devices.disks.items → IfErr result (λ e. e.1 ≡ refusal.NoMemory) }
+        ensures memory { AreInfallibleDisks D.control devices.disks.items → IfErr result (λ e. e.1 ≡ refusal.NoMemory) }
     {
         fresh_is_central::<D, S, M>();
         fresh_is_central_left::<D, S, M>();
@@ -135,7 +135,7 @@ impl<D: Disk, S: Store, M: MetaLog> World<D, S, M> {
         let Ok((journal, desk)) = fresh_books(alloc, lists.as_slice()) else {
             return Err((devices, WorldRefusal::NoMemory));
         };
-        let Ok(sides) = fresh_sides(alloc, config.brokers) else {
+        let Ok(broker_tiers) = fresh_broker_tiers(alloc, config.brokers) else {
             return Err((devices, WorldRefusal::NoMemory));
         };
         let Devices {
@@ -144,11 +144,15 @@ impl<D: Disk, S: Store, M: MetaLog> World<D, S, M> {
             meta,
         } = devices;
         // The devices' plans are in force once this is done.
-        let held = match Held::fresh(alloc, &mut disks, config.settings) {
+        let held = match PartitionState::fresh(alloc, &mut disks, config.settings) {
             Ok(held) => held,
             Err(why) => return Err((Devices { disks, store, meta }, why)),
         };
-        let mut tier = Tier { store, meta, sides };
+        let mut tier = RemoteTier {
+            store,
+            meta,
+            broker_tiers,
+        };
         tier.arm();
         Ok(World {
             partition,
@@ -216,7 +220,7 @@ impl<D: Disk, S: Store, M: MetaLog> World<D, S, M> {
         let Ok((journal, desk)) = fresh_books(alloc, lists.as_slice()) else {
             return Err((devices, AllocError));
         };
-        let Ok(sides) = fresh_sides(alloc, config.brokers) else {
+        let Ok(broker_tiers) = fresh_broker_tiers(alloc, config.brokers) else {
             return Err((devices, AllocError));
         };
         let Devices {
@@ -225,11 +229,15 @@ impl<D: Disk, S: Store, M: MetaLog> World<D, S, M> {
             meta,
         } = devices;
         // The devices' plans are in force once this is done.
-        let held = match Held::reopen(alloc, &mut disks, config.settings, registry) {
+        let held = match PartitionState::reopen(alloc, &mut disks, config.settings, registry) {
             Ok(held) => held,
             Err(why) => return Err((Devices { disks, store, meta }, why)),
         };
-        let mut tier = Tier { store, meta, sides };
+        let mut tier = RemoteTier {
+            store,
+            meta,
+            broker_tiers,
+        };
         tier.arm();
         Ok(World {
             partition,
@@ -248,7 +256,7 @@ impl<D: Disk, S: Store, M: MetaLog> World<D, S, M> {
     pub fn reopens(&self)
         ensures disks { AllReopen D.content self.now.held.nodes }
         ensures brokers { length self.now.held.nodes ≡ self.now.config.brokers }
-        ensures sides { length self.now.tier.sides ≡ self.now.config.brokers }
+        ensures broker_tiers { length self.now.tier.broker_tiers ≡ self.now.config.brokers }
     {
         self.held.reopens();
     }
@@ -275,7 +283,7 @@ impl<D: Disk, S: Store, M: MetaLog> World<D, S, M> {
             room,
             ..
         } = self;
-        let Tier { store, meta, .. } = tier;
+        let RemoteTier { store, meta, .. } = tier;
         let disks = held.close(room);
         Devices { disks, store, meta }
     }
@@ -309,8 +317,8 @@ impl<D: Disk, S: Store, M: MetaLog> World<D, S, M> {
             return true;
         };
         let list = self.lists.get(place);
-        let seat = self.desk.get(place);
-        number <= seat.number || list.orders.len() <= seat.number as usize
+        let actor_state = self.desk.get(place);
+        number <= actor_state.number || list.orders.len() <= actor_state.number as usize
     }
 
     /// Answers what the next turn of an actor's commands would have made ready.
@@ -320,13 +328,13 @@ impl<D: Disk, S: Store, M: MetaLog> World<D, S, M> {
         let Some(place) = place_of(self.lists.as_slice(), actor) else {
             return Ok(Want::Nothing);
         };
-        let seat = self.desk.get(place);
+        let actor_state = self.desk.get(place);
         let list = self.lists.get(place);
-        if seat.number as usize >= list.orders.len() {
+        if actor_state.number as usize >= list.orders.len() {
             return Ok(Want::Nothing);
         }
-        let order = list.orders.get(seat.number as usize);
-        want_of(alloc, &seat.work, &order.command)
+        let order = list.orders.get(actor_state.number as usize);
+        want_of(alloc, &actor_state.work, &order.command)
     }
 
     /// Makes what a turn wants, without the world.
@@ -362,8 +370,8 @@ impl<D: Disk, S: Store, M: MetaLog> World<D, S, M> {
         let Some(place) = place_of(self.lists.as_slice(), actor) else {
             return Stepped::Nothing;
         };
-        let seat = self.desk.get(place);
-        let number = seat.number;
+        let actor_state = self.desk.get(place);
+        let number = actor_state.number;
         let list = self.lists.get(place);
         if number as usize >= list.orders.len() {
             return Stepped::Nothing;
@@ -394,7 +402,7 @@ impl<D: Disk, S: Store, M: MetaLog> World<D, S, M> {
 }
 
 /// Makes an empty journal with room for all entries, and a desk where no list has begun.
-fn fresh_books(alloc: Global, lists: &[ActorList]) -> Result<(Journal, Row<Seat>), AllocError>
+fn fresh_books(alloc: Global, lists: &[ActorList]) -> Result<(Journal, Row<ActorState>), AllocError>
     requires few { entries_left lists.now [] < 2 ^ 64 }
     ensures { IfOk result (λ books. AreFreshBooks lists.now books.0 books.1) }
 {
@@ -405,17 +413,17 @@ fn fresh_books(alloc: Global, lists: &[ActorList]) -> Result<(Journal, Row<Seat>
 }
 
 /// Makes the sides of so many brokers, which know of no remote segment.
-fn fresh_sides(alloc: Global, count: u16) -> Result<Row<Side>, AllocError>
-    ensures { IfOk result (λ sides. sides ≡ replicate count fresh_side) }
+fn fresh_broker_tiers(alloc: Global, count: u16) -> Result<Row<BrokerTierState>, AllocError>
+    ensures { IfOk result (λ broker_tiers. broker_tiers ≡ replicate count fresh_broker_tier) }
 {
-    let mut sides = Row::new(alloc);
+    let mut broker_tiers = Row::new(alloc);
     for _i in 0..count {
-        sides.push(Side {
+        broker_tiers.push(BrokerTierState {
             view: View::new(alloc),
             incarnation: 0,
             attempt: 0,
             cache: IndexCache::new(alloc, INDEXES)?,
         })?;
     }
-    Ok(sides)
+    Ok(broker_tiers)
 }

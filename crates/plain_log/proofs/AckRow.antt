@@ -19,7 +19,7 @@ use Rattle.registry.specs.Replicas.{mark_over, least_acked}
 use Rattle.registry.specs.Registry.{with_ack}
 use Rattle.plain_log.specs.State.{path_of, acking, is_stale}
 use Rattle.plain_log.specs.RowsOfReplicas.{acknowledged, may_ack, ack_row}
-use Rattle.plain_log.specs.Safe.{RoleSafe, BrokerSafe, SharedTo, AckSafe, current, KnownSafe, NotedSafe, PlainSafe}
+use Rattle.plain_log.specs.Safe.{RoleSafe, BrokerSafe, SharedTo, AckSafe, current, KnownSafe, SnapshotIsSafe, PlainSafe}
 use Rattle.plain_log.proofs.Wider.{wider_self}
 use Rattle.plain_log.proofs.Keeps.{Keeps, silent, by_when}
 use Rattle.plain_log.proofs.Swaps.{current_is, one_leader_set}
@@ -69,10 +69,10 @@ pub acknowledged_keeps : (p : State) (b : ℕ) (x : Broker) (r : Replica) (l : L
     → x.up ≡ true → IsPrefix x.log l → path_of p.paths p.registry.epoch ≡ Some l
     → PlainSafe p → Keeps p (acknowledged p b x r l)
 acknowledged_keeps p b x r l bx br up on pa s =
-    let m = (with_ack p.registry b r x.stable).mark in
-    let is : m ≡ mark_over p.registry.mark (slice_set p.registry.replicas b (record r { acked = x.stable })) = refl in
+    let m = (with_ack p.registry b r x.flushed_end).mark in
+    let is : m ≡ mark_over p.registry.mark (slice_set p.registry.replicas b (record r { acked = x.flushed_end })) = refl in
     let h = s.brokers b x bx in
-    let t : Replica = record r { acked = x.stable } in
+    let t : Replica = record r { acked = x.flushed_end } in
     let ts = slice_set p.registry.replicas b t in
     let c = (s.paths p.registry.epoch l pa).log_safe.consecutive in
     let base : current p.paths p.registry.epoch p.committed ≡ l = current_is p.paths p.registry.epoch p.committed l pa in
@@ -82,7 +82,7 @@ acknowledged_keeps p b x r l bx br up on pa s =
     let up_mark : p.registry.mark ≤ m = omega (arith, is) in
     let each_ends : (d : ℕ) (v : Replica) → slice_get ts d ≡ Some v → EndsAt v.acked l = λ d v dv.
     elim (get-set p.registry.replicas b t d v dv) [
-      | inl i ↦ subst (λ (k : Replica). EndsAt k.acked l) (sym i.1) (ends_more x.stable x.log l h.stable on)
+      | inl i ↦ subst (λ (k : Replica). EndsAt k.acked l) (sym i.1) (ends_more x.flushed_end x.log l h.flushed_end on)
       | inr i ↦
           let z = look p.brokers d (omega (arith, within p.registry.replicas d v i.1, s.same_count)) in
           let a = s.acks d z.0 v z.1 i.1 in
@@ -97,7 +97,7 @@ acknowledged_keeps p b x r l bx br up on pa s =
     let at_end = up_to_end m l c ends in
     let whole : SharedTo m l (up_to m l) = (up_to m l, up_to_prefix m l, at_end, prefix_self (up_to m l)) in
     let known : SharedTo (min m (end_of x.log)) x.log (up_to m l) = shared_min m x.log l (up_to m l) c on whole (up_to_prefix m l) in
-    let y : Broker = record x { known = min m (end_of x.log) } in
+    let y : Broker = record x { known_high_watermark = min m (end_of x.log) } in
     let safe : PlainSafe (acknowledged p b x r l) = record {
       marks = record {
         start = omega (arith, s.marks.start, up_mark);
@@ -108,9 +108,9 @@ acknowledged_keeps p b x r l bx br up on pa s =
       };
       paths = s.paths;
       brokers = each-set (BrokerSafe p.paths p.registry.epoch) p.brokers b y s.brokers
-          (record { log = h.log; role = h.role; stable = h.stable; known = (known.0, known.1, known.2); down = λ d. absurd (cc (up, d)) });
-      known = each-set (KnownSafe p.unclean p.registry.epoch m (up_to m l)) p.brokers b y
-          (λ d z dz. let k = s.known d z dz in record {
+          (record { log = h.log; role = h.role; flushed_end = h.flushed_end; known_high_watermark = (known.0, known.1, known.2); down = λ d. absurd (cc (up, d)) });
+      known_high_watermark = each-set (KnownSafe p.unclean p.registry.epoch m (up_to m l)) p.brokers b y
+          (λ d z dz. let k = s.known_high_watermark d z dz in record {
             shared = λ u. let w = k.shared u in (w.0, w.1, w.2, prefix_trans w.0 p.committed (up_to m l) w.3 grows);
             leader = λ i. omega (arith, k.leader i, up_mark);
           })
@@ -123,9 +123,9 @@ acknowledged_keeps p b x r l bx br up on pa s =
               | inl j ↦
                   subst (λ (k : Broker). AckSafe l m k v) (sym i.1) (subst (λ (k : Replica). AckSafe l m y k) (sym j.1)
                   (record {
-                    stable = omega arith;
-                    shared = (h.stable.0, h.stable.1, h.stable.2, prefix_trans h.stable.0 x.log l h.stable.1 on);
-                    in_sync = λ q. in_sync_le b t (sym (ap (λ (k : ℕ). slice_get ts k) j.0) ∙ dv ∙ ap Some j.1) q (omega (arith, ack.stable, ack.in_sync q));
+                    flushed_end = omega arith;
+                    shared = (h.flushed_end.0, h.flushed_end.1, h.flushed_end.2, prefix_trans h.flushed_end.0 x.log l h.flushed_end.1 on);
+                    in_sync = λ q. in_sync_le b t (sym (ap (λ (k : ℕ). slice_get ts k) j.0) ∙ dv ∙ ap Some j.1) q (omega (arith, ack.flushed_end, ack.in_sync q));
                   }))
               | inr j ↦ absurd (j.0 i.0)
             ]
@@ -135,7 +135,7 @@ acknowledged_keeps p b x r l bx br up on pa s =
                   let a = s.acks d z v i.1 j.1 in
                   let w = a.shared in
                   record {
-                    stable = a.stable;
+                    flushed_end = a.flushed_end;
                     shared = (w.0, w.1, w.2, subst (λ (k : List (List ℕ)). IsPrefix w.0 k) base w.3);
                     in_sync = λ q. in_sync_le d v dv q (a.in_sync q);
                   }
@@ -149,13 +149,13 @@ acknowledged_keeps p b x r l bx br up on pa s =
       broken = s.broken;
       leader_within = omega (arith, s.leader_within, length-slice_set p.registry.replicas b t);
       same_count = length-slice_set p.registry.replicas b t ∙ s.same_count ∙ sym (length-slice_set p.brokers b y);
-      noted = λ a n z bg nz.
+      recorded = λ a n z bg nz.
           elim (get-set p.brokers b y n.order.broker.0 z nz) [
             | inl i ↦
-                let o = s.noted a n x bg (ap (λ (k : ℕ). slice_get p.brokers k) i.0 ∙ bx) in
-                subst (λ (k : Broker). NotedSafe p.paths p.registry.epoch n k) (sym i.1)
+                let o = s.recorded a n x bg (ap (λ (k : ℕ). slice_get p.brokers k) i.0 ∙ bx) in
+                subst (λ (k : Broker). SnapshotIsSafe p.paths p.registry.epoch n k) (sym i.1)
                 (record { stops = o.stops; up = o.up; leads = o.leads; joined = o.joined })
-            | inr i ↦ s.noted a n z bg i.1
+            | inr i ↦ s.recorded a n z bg i.1
           ];
     } in
     record { safe = safe; actors = refl; wider = wider_self p.paths; grows = grows; clean = refl }

@@ -22,11 +22,11 @@ use Rattle.plain_log.specs.declared.state.Role.TheVariants.{Idle, Leads, Follows
 use Rattle.registry.specs.Registry.{epoch_limit}
 use Rattle.plain_log.specs.State.{path_of, longer, leads, leads_in, breaks}
 use Rattle.plain_log.specs.RowsOfLog.{offset_limit, has_room, gained, append_row, raw_row}
-use Rattle.plain_log.specs.Safe.{Has, LogSafe, PathSafe, BrokerSafe, AckSafe, current, KnownSafe, NotedSafe, PlainSafe}
+use Rattle.plain_log.specs.Safe.{Has, LogSafe, PathSafe, BrokerSafe, AckSafe, current, KnownSafe, SnapshotIsSafe, PlainSafe}
 use Rattle.plain_log.proofs.Options.{both, le_of, eq_of}
 use Rattle.plain_log.proofs.Keeps.{Keeps, grown, silent, by_when, breaks_kept}
 use Rattle.plain_log.proofs.Swaps.{one_leader_set, role_as}
-use Rattle.plain_log.proofs.Wider.{Wider, has_wider, log_wider, broker_wider, noted_wider}
+use Rattle.plain_log.proofs.Wider.{Wider, has_wider, log_wider, broker_wider, recorded_wider}
 
 -- the paths where one gains a batch
 
@@ -146,8 +146,8 @@ gained_safe p b x e v bx lead up base ep s =
                 (record {
                   log = log;
                   role = role_as qs p.registry.epoch (Leads e) x.role (x.log ++ v ∷ []) (sym lead) (r.0, made);
-                  stable = ends_more x.stable x.log (x.log ++ v ∷ []) h.stable grows;
-                  known = ends_more x.known x.log (x.log ++ v ∷ []) h.known grows;
+                  flushed_end = ends_more x.flushed_end x.log (x.log ++ v ∷ []) h.flushed_end grows;
+                  known_high_watermark = ends_more x.known_high_watermark x.log (x.log ++ v ∷ []) h.known_high_watermark grows;
                   down = λ d. absurd (cc (up, d));
                 })
             | inr i ↦
@@ -155,8 +155,8 @@ gained_safe p b x e v bx lead up base ep s =
                 (λ f lf is. longer_other p.paths e v f (λ same. i.0 (s.one_leader c b z x e i.1 bx (lf ∙ ap Leads same) lead)) ∙ is)
                 (s.brokers c z i.1)
           ];
-      known = each-set (KnownSafe p.unclean p.registry.epoch p.registry.mark p.committed) p.brokers b y s.known
-          (let k = s.known b x bx in record {
+      known_high_watermark = each-set (KnownSafe p.unclean p.registry.epoch p.registry.mark p.committed) p.brokers b y s.known_high_watermark
+          (let k = s.known_high_watermark b x bx in record {
             shared = λ u. let w = k.shared u in (w.0, prefix_trans w.0 x.log (x.log ++ v ∷ []) w.1 grows, w.2, w.3);
             leader = k.leader;
           });
@@ -168,7 +168,7 @@ gained_safe p b x e v bx lead up base ep s =
                 let w = a.shared in
                 subst (λ (k : Broker). AckSafe (current qs p.registry.epoch p.committed) p.registry.mark k t) (sym i.1)
                 (record {
-                  stable = a.stable;
+                  flushed_end = a.flushed_end;
                   shared = (w.0, prefix_trans w.0 x.log (x.log ++ v ∷ []) w.1 grows, w.2, prefix_trans w.0 (current p.paths p.registry.epoch p.committed) (current qs p.registry.epoch p.committed) w.3 on);
                   in_sync = a.in_sync;
                 })
@@ -176,7 +176,7 @@ gained_safe p b x e v bx lead up base ep s =
                 let a = s.acks c z t i.1 ct in
                 let w = a.shared in
                 record {
-                  stable = a.stable;
+                  flushed_end = a.flushed_end;
                   shared = (w.0, w.1, w.2, prefix_trans w.0 (current p.paths p.registry.epoch p.committed) (current qs p.registry.epoch p.committed) w.3 on);
                   in_sync = a.in_sync;
                 }
@@ -185,13 +185,13 @@ gained_safe p b x e v bx lead up base ep s =
       leader_within = s.leader_within;
       broken = s.broken;
       same_count = s.same_count ∙ sym (length-slice_set p.brokers b y);
-      noted = λ a n z bg nz.
+      recorded = λ a n z bg nz.
           elim (get-set p.brokers b y n.order.broker.0 z nz) [
             | inl i ↦
-                let o = noted_wider p.paths qs p.registry.epoch n x wide (s.noted a n x bg (ap (λ (k : ℕ). slice_get p.brokers k) i.0 ∙ bx)) in
-                subst (λ (k : Broker). NotedSafe qs p.registry.epoch n k) (sym i.1)
+                let o = recorded_wider p.paths qs p.registry.epoch n x wide (s.recorded a n x bg (ap (λ (k : ℕ). slice_get p.brokers k) i.0 ∙ bx)) in
+                subst (λ (k : Broker). SnapshotIsSafe qs p.registry.epoch n k) (sym i.1)
                 (record { stops = o.stops; up = o.up; leads = o.leads; joined = o.joined })
-            | inr i ↦ noted_wider p.paths qs p.registry.epoch n z wide (s.noted a n z bg i.1)
+            | inr i ↦ recorded_wider p.paths qs p.registry.epoch n z wide (s.recorded a n z bg i.1)
           ];
     }
 

@@ -53,13 +53,13 @@ unclean_goes p b x LastEpoch q at e s = row_goes p q (refused p q _ e s)
 unclean_goes p b x DownBroker q at e s = row_goes p q (refused p q _ e s)
 unclean_goes p b x (BehindStart end start) q at e s = row_goes p q (refused p q _ e s)
 unclean_goes p b x (OkAt n) q at e s =
-    let l = left (elected_alone p.registry b x.stable) (restarted p x) q (not (is_last p.registry) && x.up && nat_le p.registry.start x.stable && (n == p.registry.epoch + 1))
+    let l = left (elected_alone p.registry b x.flushed_end) (restarted p x) q (not (is_last p.registry) && x.up && nat_le p.registry.start x.flushed_end && (n == p.registry.epoch + 1))
     e in
-    let t1 = both (not (is_last p.registry) && x.up && nat_le p.registry.start x.stable) (n == p.registry.epoch + 1) l.0 in
-    let t2 = both (not (is_last p.registry) && x.up) (nat_le p.registry.start x.stable) t1.0 in
+    let t1 = both (not (is_last p.registry) && x.up && nat_le p.registry.start x.flushed_end) (n == p.registry.epoch + 1) l.0 in
+    let t2 = both (not (is_last p.registry) && x.up) (nat_le p.registry.start x.flushed_end) t1.0 in
     let t3 = both (not (is_last p.registry)) x.up t2.0 in
     subst (λ (k : State). RowGoes true p k) l.1 (record {
-      safe = elected_alone_safe p b x at (le_of p.registry.start x.stable t2.1) (below_last p.registry.epoch epoch_limit t3.0) s;
+      safe = elected_alone_safe p b x at (le_of p.registry.start x.flushed_end t2.1) (below_last p.registry.epoch epoch_limit t3.0) s;
       actors = refl;
       wider = wider_self p.paths;
       grows = λ u. absurd cc;

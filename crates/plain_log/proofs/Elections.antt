@@ -33,8 +33,8 @@ list_of a commands = record { actor = record { 0 = a }; orders = orders_to a com
 abbrev answered : ℕ → ℕ → Answer → JournalEntry
 answered a number answer = record { actor = record { 0 = a }; number = number; event = Answers answer }
 
-abbrev begun : ℕ → ℕ → Option ℕ → JournalEntry
-begun a number cut = record { actor = record { 0 = a }; number = number; event = Begins cut }
+abbrev snapshot : ℕ → ℕ → Option ℕ → JournalEntry
+snapshot a number cut = record { actor = record { 0 = a }; number = number; event = Begins cut }
 
 -- a leader that lost a batch in a stop: it can't lead its old epoch again, and the follower cuts what it had of it
 
@@ -47,13 +47,13 @@ lists =
 abbrev before : List JournalEntry
 before =
     answered 0 0 (answers.OkSpan 0 0 0) ∷ answered 0 1 (answers.OkSpan 1 1 0) ∷ answered 0 2 (answers.OkAt 2) ∷ answered 0 3 (answers.OkSpan 2 2 0)
-    ∷ begun 1 0 None ∷ answered 1 0 (answers.Copied 3) ∷ answered 0 4 answers.Ok ∷ answered 0 5 (answers.Up 2) ∷ []
+    ∷ snapshot 1 0 None ∷ answered 1 0 (answers.Copied 3) ∷ answered 0 4 answers.Ok ∷ answered 0 5 (answers.Up 2) ∷ []
 
 -- the election, and the follower's cut
 abbrev after : List JournalEntry
 after =
     answered 0 6 (answers.NeedsElection 0) ∷ answered 0 7 (answers.OkAt 1) ∷ answered 0 8 (answers.Leads 1) ∷ answered 0 9 (answers.OkSpan 2 2 1)
-    ∷ answered 1 1 (answers.Follows 1) ∷ answered 1 2 (answers.Cut 2) ∷ begun 1 3 None ∷ answered 1 3 (answers.Copied 3) ∷ []
+    ∷ answered 1 1 (answers.Follows 1) ∷ answered 1 2 (answers.Cut 2) ∷ snapshot 1 3 None ∷ answered 1 3 (answers.Copied 3) ∷ []
 
 allowed : is_some (replay lists (fresh_state 1) (before ++ after)) ≡ true
 unfolding field_at base_of epoch_of last_offset_delta_of crc_step crc32c shortest varint_bytes varlong_bytes blob_bytes optional_bytes header_bytes header_list_bytes body_bytes record_bytes all_bytes u32_bytes ts_bytes no_producer late_head early_head sealed built stamped
@@ -74,10 +74,10 @@ dropped =
 abbrev dropping : List JournalEntry
 dropping =
     answered 1 0 answers.Ok ∷ answered 0 0 (answers.OkSpan 0 0 0) ∷ answered 0 1 (answers.OkSpan 1 1 0) ∷ answered 0 2 (answers.OkSpan 2 2 0)
-    ∷ answered 0 3 (answers.OkAt 3) ∷ answered 0 4 (answers.OkAt 3) ∷ answered 0 5 (answers.OkAt 2) ∷ begun 0 6 None
-    ∷ answered 0 6 (answers.Dropped 0 1) ∷ answered 1 1 (answers.Moved 2) ∷ begun 1 2 (Some 0) ∷ []
+    ∷ answered 0 3 (answers.OkAt 3) ∷ answered 0 4 (answers.OkAt 3) ∷ answered 0 5 (answers.OkAt 2) ∷ snapshot 0 6 None
+    ∷ answered 0 6 (answers.Dropped 0 1) ∷ answered 1 1 (answers.Moved 2) ∷ snapshot 1 2 (Some 0) ∷ []
 
-begins_anew : is_some (replay dropped (fresh_state 1) (dropping ++ answered 1 2 (answers.Rebuilt 2) ∷ begun 1 3 None ∷ answered 1 3 (answers.Copied 3) ∷ [])) ≡ true
+begins_anew : is_some (replay dropped (fresh_state 1) (dropping ++ answered 1 2 (answers.Rebuilt 2) ∷ snapshot 1 3 None ∷ answered 1 3 (answers.Copied 3) ∷ [])) ≡ true
 unfolding field_at base_of epoch_of last_offset_delta_of crc_step crc32c shortest varint_bytes varlong_bytes blob_bytes optional_bytes header_bytes header_list_bytes body_bytes record_bytes all_bytes u32_bytes ts_bytes no_producer late_head early_head sealed built stamped
 begins_anew = refl
 
@@ -100,7 +100,7 @@ restart =
 restarts : is_some (replay alone (fresh_state 0) restart) ≡ true
 restarts = refl
 
--- an unclean election: the high watermark falls to what the new leader has stable
+-- an unclean election: the high watermark falls to what the new leader has flushed
 
 abbrev lossy : List ActorList
 lossy =
@@ -110,7 +110,7 @@ lossy =
 abbrev losing : List JournalEntry
 losing =
     answered 0 0 (answers.OkSpan 0 0 0) ∷ answered 0 1 (answers.OkSpan 1 1 0) ∷ answered 0 2 (answers.OkSpan 2 2 0) ∷ answered 0 3 (answers.OkSpan 3 3 0)
-    ∷ answered 0 4 (answers.OkSpan 4 4 0) ∷ answered 0 5 (answers.OkSpan 5 5 0) ∷ begun 1 0 None ∷ answered 1 0 (answers.Copied 3) ∷ answered 1 1 (answers.OkAt 3)
+    ∷ answered 0 4 (answers.OkSpan 4 4 0) ∷ answered 0 5 (answers.OkSpan 5 5 0) ∷ snapshot 1 0 None ∷ answered 1 0 (answers.Copied 3) ∷ answered 1 1 (answers.OkAt 3)
     ∷ answered 1 2 answers.Ok ∷ answered 0 6 (answers.OkAt 6) ∷ answered 0 7 (answers.OkAt 6) ∷ answered 1 3 (answers.OkAt 1) ∷ answered 1 4 (answers.Leads 1)
     ∷ answered 1 5 (answers.OkAt 3) ∷ answered 1 6 (answers.OkSpan 3 3 1) ∷ answered 1 7 (answers.OkAt 4) ∷ []
 
@@ -123,7 +123,7 @@ refused_mark : is_some (replay lossy (fresh_state 1) (losing ++ answered 1 8 (an
 unfolding field_at base_of epoch_of last_offset_delta_of crc_step crc32c shortest varint_bytes varlong_bytes blob_bytes optional_bytes header_bytes header_list_bytes body_bytes record_bytes all_bytes u32_bytes ts_bytes no_producer late_head early_head sealed built stamped
 refused_mark = refl
 
--- what a stop in the middle of a write may leave: what is stable, or more, but not less
+-- what a stop in the middle of a write may leave: what is flushed, or more, but not less
 
 abbrev broken : List ActorList
 broken = list_of 0 (append 97 ∷ Flush ∷ append 98 ∷ Flush ∷ Up ∷ []) ∷ []

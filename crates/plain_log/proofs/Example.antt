@@ -53,20 +53,20 @@ abbrev entry : ℕ → Answer → JournalEntry
 entry number answer = record { actor = record { 0 = 0 }; number = number; event = Answers answer }
 
 -- the first four answers
-abbrev begun : List JournalEntry
-begun = entry 0 (OkSpan 0 0 0) ∷ entry 1 (OkSpan 1 1 0) ∷ entry 2 (OkAt 2) ∷ entry 3 (OkAt 2) ∷ []
+abbrev snapshot : List JournalEntry
+snapshot = entry 0 (OkSpan 0 0 0) ∷ entry 1 (OkSpan 1 1 0) ∷ entry 2 (OkAt 2) ∷ entry 3 (OkAt 2) ∷ []
 
 -- the fetch is answered by both batches
-allowed : is_some (replay lists (fresh_state 0) (begun ++ entry 4 (Run (Local 0) 138 Mark (first_batch ++ second_batch)) ∷ [])) ≡ true
+allowed : is_some (replay lists (fresh_state 0) (snapshot ++ entry 4 (Run (Local 0) 138 Mark (first_batch ++ second_batch)) ∷ [])) ≡ true
 unfolding field_at base_of epoch_of last_offset_delta_of crc_step crc32c shortest varint_bytes varlong_bytes blob_bytes optional_bytes header_bytes header_list_bytes body_bytes record_bytes all_bytes u32_bytes ts_bytes no_producer late_head early_head sealed built stamped
 allowed = refl
 
 -- not by the first alone, whose next batch would fit the limit
-refused_short : is_some (replay lists (fresh_state 0) (begun ++ entry 4 (Run (Local 0) 69 Limit first_batch) ∷ [])) ≡ false
+refused_short : is_some (replay lists (fresh_state 0) (snapshot ++ entry 4 (Run (Local 0) 69 Limit first_batch) ∷ [])) ≡ false
 unfolding field_at base_of epoch_of last_offset_delta_of crc_step crc32c shortest varint_bytes varlong_bytes blob_bytes optional_bytes header_bytes header_list_bytes body_bytes record_bytes all_bytes u32_bytes ts_bytes no_producer late_head early_head sealed built stamped
 refused_short = refl
 
 -- nor by nothing
-refused_empty : is_some (replay lists (fresh_state 0) (begun ++ entry 4 Empty ∷ [])) ≡ false
+refused_empty : is_some (replay lists (fresh_state 0) (snapshot ++ entry 4 Empty ∷ [])) ≡ false
 unfolding field_at base_of epoch_of last_offset_delta_of crc_step crc32c shortest varint_bytes varlong_bytes blob_bytes optional_bytes header_bytes header_list_bytes body_bytes record_bytes all_bytes u32_bytes ts_bytes no_producer late_head early_head sealed built stamped
 refused_empty = refl

@@ -10,7 +10,7 @@ use Rattle.plain_log.specs.declared.answer.Answer.{Answer}
 use Rattle.plain_log.specs.declared.answer.Answer.TheVariants.{Down, TooManySegments, DiskFault, DiskFaultAt, NotFollower, StaleEpoch, NoLeader, Cut, Stopped, Passed, BelowStart, MetaFault, StoreFault, Damaged, Rebuilt, NotJoined, Level, Moved, Copied}
 use Rattle.plain_log.specs.declared.state.State.{State}
 use Rattle.plain_log.specs.declared.state.Broker.{Broker}
-use Rattle.plain_log.specs.declared.state.Noted.{Noted}
+use Rattle.plain_log.specs.declared.state.PlainSnapshot.{PlainSnapshot}
 use Rattle.plain_log.specs.declared.state.Role.{Role}
 use Rattle.plain_log.specs.declared.state.Role.TheVariants.{Joined}
 use Rattle.plain_log.specs.Ends.{common}
@@ -24,98 +24,98 @@ use Rattle.plain_log.proofs.Swaps.{Swap, swap_trans, swap_stop, swap_all_stable}
 use Rattle.plain_log.proofs.Joins.{swap_cut, swap_extended, extended_ends}
 use Rattle.plain_log.proofs.Keeps.{Keeps, silent, by_when, by_broker, broker_kept, breaks_kept}
 
--- a begun join or follow whose turn goes on: the broker has the noted role
-pub still_joined : (p : State) (x : Broker) (noted : Noted) → goes_on p x noted ≡ true
-    → HasJoined p.registry.epoch noted x → (e : ℕ) × (x.role ≡ Joined e)
-still_joined p x noted t j =
-    let same : noted.stops ≡ x.stops = grind (arith, nat_tests, t) in
-    let a = both ((noted.stops == x.stops) && not (is_stale p (followed noted.role))) (end_of x.log == noted.end) t in
-    let b = both (noted.stops == x.stops) (not (is_stale p (followed noted.role))) a.0 in
+-- a begun join or follow whose turn goes on: the broker has the recorded role
+pub still_joined : (p : State) (x : Broker) (recorded : PlainSnapshot) → goes_on p x recorded ≡ true
+    → HasJoined p.registry.epoch recorded x → (e : ℕ) × (x.role ≡ Joined e)
+still_joined p x recorded t j =
+    let same : recorded.stops ≡ x.stops = grind (arith, nat_tests, t) in
+    let a = both ((recorded.stops == x.stops) && not (is_stale p (followed recorded.role))) (end_of x.log == recorded.end) t in
+    let b = both (recorded.stops == x.stops) (not (is_stale p (followed recorded.role))) a.0 in
     let c : not (is_stale p (followed (Joined j.0))) ≡ true = subst (λ (r : Role). not (is_stale p (followed r)) ≡ true) j.1 b.1 in
     let le : p.registry.epoch ≤ j.0 = grind (arith, nat_tests, c) in
     (j.0, j.2 same le ∙ j.1)
 
--- what was noted of this command, as its row needs it
-abbrev pub JoinedNoted : State → Broker → Option Noted → Type 0
-JoinedNoted p x None = Unit {0}
-JoinedNoted p x (Some noted) = HasJoined p.registry.epoch noted x
+-- what was recorded of this command, as its row needs it
+abbrev pub JoinedSnapshot : State → Broker → Option PlainSnapshot → Type 0
+JoinedSnapshot p x None = Unit {0}
+JoinedSnapshot p x (Some recorded) = HasJoined p.registry.epoch recorded x
 
 -- a log begun anew is the path up to n
-pub swap_rebuilt : (p : State) (b : ℕ) (x : Broker) (noted : Noted) (n : ℕ) (y : Broker) → slice_get p.brokers b ≡ Some x → JoinedNoted p x (Some noted)
-    → rebuilt p x noted n ≡ Some y → PlainSafe p → Swap p x y × (extended p x n ≡ Some y)
-swap_rebuilt p b x noted n y at j e s =
+pub swap_rebuilt : (p : State) (b : ℕ) (x : Broker) (recorded : PlainSnapshot) (n : ℕ) (y : Broker) → slice_get p.brokers b ≡ Some x → JoinedSnapshot p x (Some recorded)
+    → rebuilt p x recorded n ≡ Some y → PlainSafe p → Swap p x y × (extended p x n ≡ Some y)
+swap_rebuilt p b x recorded n y at j e s =
     let f = and_then_some _ (extended p x n) y e in
     let w = when_some _ _ y f.2 in
-    let t = both (goes_on p x noted) (not (was_passed p noted n)) w.0 in
-    let r = still_joined p x noted t.0 j in
+    let t = both (goes_on p x recorded) (not (was_passed p recorded n)) w.0 in
+    let r = still_joined p x recorded t.0 j in
     let is : extended p x n ≡ Some y = f.1 ∙ ap Some w.1 in
-    (swap_extended p x n r.0 y is r.1 (λ g l h. (s.paths g l h).log_safe) (s.brokers b x at) (s.known b x at), is)
+    (swap_extended p x n r.0 y is r.1 (λ g l h. (s.paths g l h).log_safe) (s.brokers b x at) (s.known_high_watermark b x at), is)
 
 -- where a log is cut it ends
-pub cut_ends : (p : State) (x : Broker) (n : ℕ) (y : Broker) → cut_to p x n ≡ Some y → (y.stable ≡ n) × EndsAt n x.log
+pub cut_ends : (p : State) (x : Broker) (n : ℕ) (y : Broker) → cut_to p x n ≡ Some y → (y.flushed_end ≡ n) × EndsAt n x.log
 cut_ends p x n y is =
     let f = and_then_some _ (followed x.role) y is in
     let g = and_then_some _ (path_of p.paths f.0) y f.2 in
     let w = when_some _ _ y g.2 in
     let ends : end_of (common x.log g.0) ≡ n = grind (arith, nat_tests, w.0) in
-    (ap (λ (z : Broker). z.stable) (sym w.1), (common x.log g.0, common_left x.log g.0, ends))
+    (ap (λ (z : Broker). z.flushed_end) (sym w.1), (common x.log g.0, common_left x.log g.0, ends))
 
--- a cut that fails: the log keeps all, and no more than the smaller end is stable
+-- a cut that fails: the log keeps all, and no more than the smaller end is flushed
 pub join_fault : (p : State) (b : ℕ) (x : Broker) (n : ℕ) (q : State) → slice_get p.brokers b ≡ Some x
-    → option_map (λ (y : Broker). breaks p b (record x { stable = min x.stable n })) (cut_to p x n) ≡ Some q → PlainSafe p → Keeps p q
+    → option_map (λ (y : Broker). breaks p b (record x { flushed_end = min x.flushed_end n })) (cut_to p x n) ≡ Some q → PlainSafe p → Keeps p q
 join_fault p b x n q at e s =
-    by_broker p q (λ (y : Broker). breaks p b (record x { stable = min x.stable n })) (cut_to p x n) e (λ y is.
+    by_broker p q (λ (y : Broker). breaks p b (record x { flushed_end = min x.flushed_end n })) (cut_to p x n) e (λ y is.
     let h = s.brokers b x at in
-    let c = swap_cut p x n y is h (s.known b x at) in
+    let c = swap_cut p x n y is h (s.known_high_watermark b x at) in
     let ends = cut_ends p x n y is in
-    let v : Swap p x (record (stopped x) { stable = min x.stable n; loose = true }) = record {
-      broker = record { log = h.log; role = tt; stable = ends_min x.stable n x.log h.stable ends.1; known = ends_at_zero x.log; down = λ _. (refl, refl) };
-      known = record { shared = λ _. ([], (x.log, refl), refl, (p.committed, refl)); leader = λ i. absurd cc };
+    let v : Swap p x (record (stopped x) { flushed_end = min x.flushed_end n; loose = true }) = record {
+      broker = record { log = h.log; role = tt; flushed_end = ends_min x.flushed_end n x.log h.flushed_end ends.1; known_high_watermark = ends_at_zero x.log; down = λ _. (refl, refl) };
+      known_high_watermark = record { shared = λ _. ([], (x.log, refl), refl, (p.committed, refl)); leader = λ i. absurd cc };
       leads = λ f i. absurd cc;
-      acks = λ r a. record { stable = omega (arith, a.stable, (c.acks r a).stable, ends.0); shared = a.shared; in_sync = a.in_sync };
-      noted = λ m a. let k = (swap_stop p x true h).noted m a in record { stops = k.stops; up = k.up; leads = k.leads; joined = k.joined };
+      acks = λ r a. record { flushed_end = omega (arith, a.flushed_end, (c.acks r a).flushed_end, ends.0); shared = a.shared; in_sync = a.in_sync };
+      recorded = λ m a. let k = (swap_stop p x true h).recorded m a in record { stops = k.stops; up = k.up; leads = k.leads; joined = k.joined };
     } in
-    broker_kept p b x (record (stopped x) { stable = min x.stable n; loose = true }) at v s)
+    broker_kept p b x (record (stopped x) { flushed_end = min x.flushed_end n; loose = true }) at v s)
 
 -- what a later turn of either finds
-later_keeps : (p : State) (x : Broker) (noted : Noted) (answer : Answer) (q : State) → later_row p x noted answer ≡ Some q → PlainSafe p → Keeps p q
-later_keeps p x noted Stopped q e s = silent p q _ e s
-later_keeps p x noted (StaleEpoch n) q e s = silent p q _ e s
-later_keeps p x noted (Passed n) q e s = silent p q _ e s
-later_keeps p x noted other q e s = absurd (none-some q e)
+later_keeps : (p : State) (x : Broker) (recorded : PlainSnapshot) (answer : Answer) (q : State) → later_row p x recorded answer ≡ Some q → PlainSafe p → Keeps p q
+later_keeps p x recorded Stopped q e s = silent p q _ e s
+later_keeps p x recorded (StaleEpoch n) q e s = silent p q _ e s
+later_keeps p x recorded (Passed n) q e s = silent p q _ e s
+later_keeps p x recorded other q e s = absurd (none-some q e)
 
 -- the row of join
-pub join_keeps : (p : State) (b : ℕ) (x : Broker) (noted : Option Noted) (answer : Answer) (q : State) → slice_get p.brokers b ≡ Some x → JoinedNoted p x noted
-    → join_row p b x noted answer ≡ Some q → PlainSafe p → Keeps p q
+pub join_keeps : (p : State) (b : ℕ) (x : Broker) (recorded : Option PlainSnapshot) (answer : Answer) (q : State) → slice_get p.brokers b ≡ Some x → JoinedSnapshot p x recorded
+    → join_row p b x recorded answer ≡ Some q → PlainSafe p → Keeps p q
 join_keeps p b x None Down q at j e s = silent p q _ e s
 join_keeps p b x None NotFollower q at j e s = silent p q _ e s
 join_keeps p b x None (StaleEpoch n) q at j e s = silent p q _ e s
 join_keeps p b x None NoLeader q at j e s = silent p q _ e s
 join_keeps p b x None (DiskFaultAt n) q at j e s = join_fault p b x n q at e s
 join_keeps p b x None (Cut n) q at j e s =
-    by_broker p q (put_broker p b) (cut_to p x n) e (λ y is. broker_kept p b x y at (swap_cut p x n y is (s.brokers b x at) (s.known b x at)) s)
+    by_broker p q (put_broker p b) (cut_to p x n) e (λ y is. broker_kept p b x y at (swap_cut p x n y is (s.brokers b x at) (s.known_high_watermark b x at)) s)
 join_keeps p b x None other q at j e s = absurd (none-some q e)
-join_keeps p b x (Some noted) (BelowStart start) q at j e s = silent p q _ e s
-join_keeps p b x (Some noted) MetaFault q at j e s = silent p q _ e s
-join_keeps p b x (Some noted) StoreFault q at j e s = silent p q _ e s
-join_keeps p b x (Some noted) (Damaged place k) q at j e s = silent p q _ e s
-join_keeps p b x (Some noted) (DiskFaultAt n) q at j e s =
-    by_broker p q (breaks p b) (rebuilt p x noted n) e (λ y is.
-    let v = (swap_rebuilt p b x noted n y at j is s).0 in
+join_keeps p b x (Some recorded) (BelowStart start) q at j e s = silent p q _ e s
+join_keeps p b x (Some recorded) MetaFault q at j e s = silent p q _ e s
+join_keeps p b x (Some recorded) StoreFault q at j e s = silent p q _ e s
+join_keeps p b x (Some recorded) (Damaged place k) q at j e s = silent p q _ e s
+join_keeps p b x (Some recorded) (DiskFaultAt n) q at j e s =
+    by_broker p q (breaks p b) (rebuilt p x recorded n) e (λ y is.
+    let v = (swap_rebuilt p b x recorded n y at j is s).0 in
     broker_kept p b x (record (stopped y) { loose = true }) at (swap_trans p x y _ v (swap_stop p y true v.broker)) s)
-join_keeps p b x (Some noted) (Rebuilt n) q at j e s =
-    by_broker p q (λ (y : Broker). put_broker p b (record y { stable = n })) (rebuilt p x noted n) e (λ y is.
-    let v = swap_rebuilt p b x noted n y at j is s in
+join_keeps p b x (Some recorded) (Rebuilt n) q at j e s =
+    by_broker p q (λ (y : Broker). put_broker p b (record y { flushed_end = n })) (rebuilt p x recorded n) e (λ y is.
+    let v = swap_rebuilt p b x recorded n y at j is s in
     let ends = extended_ends p x n y v.1 (λ g l h. (s.paths g l h).log_safe.consecutive) in
     let h = s.brokers b x at in
-    let le = ends_below x.stable x.log h.log.consecutive h.stable in
-    broker_kept p b x (record y { stable = n }) at
-    (swap_trans p x y _ v.0 (swap_all_stable p y n ends.0 (omega (arith, ends.1, ends.2, le)) v.0.broker v.0.known)) s)
-join_keeps p b x (Some noted) other q at j e s = later_keeps p x noted other q e s
+    let le = ends_below x.flushed_end x.log h.log.consecutive h.flushed_end in
+    broker_kept p b x (record y { flushed_end = n }) at
+    (swap_trans p x y _ v.0 (swap_all_stable p y n ends.0 (omega (arith, ends.1, ends.2, le)) v.0.broker v.0.known_high_watermark)) s)
+join_keeps p b x (Some recorded) other q at j e s = later_keeps p x recorded other q e s
 
 -- the row of follow
-pub follow_keeps : (p : State) (b : ℕ) (x : Broker) (limit : ℕ) (noted : Option Noted) (answer : Answer) (q : State) → slice_get p.brokers b ≡ Some x → JoinedNoted p x noted
-    → follow_row p b x limit noted answer ≡ Some q → PlainSafe p → Keeps p q
+pub follow_keeps : (p : State) (b : ℕ) (x : Broker) (limit : ℕ) (recorded : Option PlainSnapshot) (answer : Answer) (q : State) → slice_get p.brokers b ≡ Some x → JoinedSnapshot p x recorded
+    → follow_row p b x limit recorded answer ≡ Some q → PlainSafe p → Keeps p q
 follow_keeps p b x limit None Down q at j e s = silent p q _ e s
 follow_keeps p b x limit None NotJoined q at j e s = silent p q _ e s
 follow_keeps p b x limit None (StaleEpoch n) q at j e s = silent p q _ e s
@@ -125,14 +125,14 @@ follow_keeps p b x limit None (Moved n) q at j e s = silent p q _ e s
 follow_keeps p b x limit None DiskFault q at j e s = silent p q _ e s
 follow_keeps p b x limit None (Damaged place k) q at j e s = silent p q _ e s
 follow_keeps p b x limit None other q at j e s = absurd (none-some q e)
-follow_keeps p b x limit (Some noted) TooManySegments q at j e s = silent p q _ e s
-follow_keeps p b x limit (Some noted) DiskFault q at j e s = by_when p (breaks p b x) q _ e (λ _. breaks_kept p b x at s)
-follow_keeps p b x limit (Some noted) (Copied n) q at j e s =
-    by_broker p q (put_broker p b) (copied p x noted limit n) e (λ y c.
+follow_keeps p b x limit (Some recorded) TooManySegments q at j e s = silent p q _ e s
+follow_keeps p b x limit (Some recorded) DiskFault q at j e s = by_when p (breaks p b x) q _ e (λ _. breaks_kept p b x at s)
+follow_keeps p b x limit (Some recorded) (Copied n) q at j e s =
+    by_broker p q (put_broker p b) (copied p x recorded limit n) e (λ y c.
     let f = and_then_some _ (extended p x n) y c in
     let v = when_some _ _ y f.2 in
-    let t = both (goes_on p x noted) (is_within limit (drop (length x.log) f.0.log)) v.0 in
-    let r = still_joined p x noted t.0 j in
+    let t = both (goes_on p x recorded) (is_within limit (drop (length x.log) f.0.log)) v.0 in
+    let r = still_joined p x recorded t.0 j in
     let is : extended p x n ≡ Some y = f.1 ∙ ap Some v.1 in
-    broker_kept p b x y at (swap_extended p x n r.0 y is r.1 (λ g l h. (s.paths g l h).log_safe) (s.brokers b x at) (s.known b x at)) s)
-follow_keeps p b x limit (Some noted) other q at j e s = later_keeps p x noted other q e s
+    broker_kept p b x y at (swap_extended p x n r.0 y is r.1 (λ g l h. (s.paths g l h).log_safe) (s.brokers b x at) (s.known_high_watermark b x at)) s)
+follow_keeps p b x limit (Some recorded) other q at j e s = later_keeps p x recorded other q e s

@@ -48,10 +48,10 @@ path_safe : PathSafe paths 0 0 []
 path_safe = record { log_safe = empty_safe; epochs = λ front batch p. absurd (no_batch front batch p.0 p.1); below = omega arith }
 
 leader_safe : BrokerSafe paths 0 (fresh_broker (Leads 0))
-leader_safe = record { log = empty_safe; role = (omega arith, refl); stable = ends_at_zero []; known = ends_at_zero []; down = λ d. absurd cc }
+leader_safe = record { log = empty_safe; role = (omega arith, refl); flushed_end = ends_at_zero []; known_high_watermark = ends_at_zero []; down = λ d. absurd cc }
 
 follower_safe : BrokerSafe paths 0 (fresh_broker (Joined 0))
-follower_safe = record { log = empty_safe; role = (omega arith, ([], refl, ([], refl))); stable = ends_at_zero []; known = ends_at_zero []; down = λ d. absurd cc }
+follower_safe = record { log = empty_safe; role = (omega arith, ([], refl, ([], refl))); flushed_end = ends_at_zero []; known_high_watermark = ends_at_zero []; down = λ d. absurd cc }
 
 -- a broker of the fresh state
 broker_is : (n c : ℕ) (x : Broker) → slice_get ((fresh_state n).brokers) c ≡ Some x → ((c ≡ 0) × (x ≡ fresh_broker (Leads 0))) ⊎ (x ≡ fresh_broker (Joined 0))
@@ -77,7 +77,7 @@ fresh_safe n = record {
         | inl i ↦ subst (λ (k : Broker). BrokerSafe paths 0 k) (sym i.1) leader_safe
         | inr i ↦ subst (λ (k : Broker). BrokerSafe paths 0 k) (sym i) follower_safe
       ];
-  known = λ c x e.
+  known_high_watermark = λ c x e.
       elim (broker_is n c x e) [
         | inl i ↦ subst (λ (k : Broker). KnownSafe false 0 0 [] k) (sym i.1) (record { shared = λ _. ([], ([], refl), refl, ([], refl)); leader = λ _. omega arith })
         | inr i ↦ subst (λ (k : Broker). KnownSafe false 0 0 [] k) (sym i) (record { shared = λ _. ([], ([], refl), refl, ([], refl)); leader = λ _. omega arith })
@@ -92,10 +92,10 @@ fresh_safe n = record {
       ];
   acks = λ c x r cx cr.
       subst (λ (k : Replica). AckSafe [] 0 x k) (sym (replica_is n c r cr))
-      (record { stable = omega arith; shared = ([], (x.log, refl), refl, ([], refl)); in_sync = λ _. omega arith });
+      (record { flushed_end = omega arith; shared = ([], (x.log, refl), refl, ([], refl)); in_sync = λ _. omega arith });
   leader = λ r e. ap (λ (k : Replica). k.in_sync) (replica_is n 0 r e);
   leader_within = omega arith;
   same_count = ap suc (replicate_length fresh_replica (fresh_broker (Joined 0)) n);
   broken = λ m i. absurd cc;
-  noted = λ a m x bg e. absurd cc;
+  recorded = λ a m x bg e. absurd cc;
 }

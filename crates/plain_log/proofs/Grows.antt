@@ -25,7 +25,7 @@ use Rattle.plain_log.specs.declared.state.Path.{Path}
 use Rattle.plain_log.specs.declared.state.Broker.{Broker}
 use Rattle.plain_log.specs.declared.state.Role.{Role}
 use Rattle.plain_log.specs.declared.state.Role.TheVariants.{Idle, Leads, Follows, Joined}
-use Rattle.plain_log.specs.declared.state.Noted.{Noted}
+use Rattle.plain_log.specs.declared.state.PlainSnapshot.{PlainSnapshot}
 use Rattle.registry.specs.Calls.{when}
 use Rattle.plain_log.specs.State.{leads, path_of, actor_at}
 use Rattle.plain_log.specs.Fetch.{fitting, run_of, is_within, gives_run, stops_rightly, is_run}
@@ -91,20 +91,20 @@ end_any m n first others = refl
 pub record RunTests (x : Broker) (offset limit size : ℕ) (bytes : List ℕ) : Type 0 where
   pub is : joined (run_of x offset size) ≡ bytes
   pub some : is_within limit (run_of x offset size) ≡ true
-  pub below : end_of (run_of x offset size) ≤ x.known
+  pub below : end_of (run_of x offset size) ≤ x.known_high_watermark
 
 run_tests : (x : Broker) (offset limit size : ℕ) (stop : Stop) (bytes : List ℕ) → is_run x offset limit size stop bytes ≡ true → RunTests x offset limit size bytes
 run_tests x offset limit size stop bytes e =
     let run = run_of x offset size in
-    let t1 = both ((size == length bytes) && bytes_eq (joined run) bytes && is_within limit run && nat_le (end_of run) x.known) (stops_rightly x offset limit size stop) e in
-    let t2 = both ((size == length bytes) && bytes_eq (joined run) bytes && is_within limit run) (nat_le (end_of run) x.known) t1.0 in
+    let t1 = both ((size == length bytes) && bytes_eq (joined run) bytes && is_within limit run && nat_le (end_of run) x.known_high_watermark) (stops_rightly x offset limit size stop) e in
+    let t2 = both ((size == length bytes) && bytes_eq (joined run) bytes && is_within limit run) (nat_le (end_of run) x.known_high_watermark) t1.0 in
     let t3 = both ((size == length bytes) && bytes_eq (joined run) bytes) (is_within limit run) t2.0 in
     let t4 = both (size == length bytes) (bytes_eq (joined run) bytes) t3.0 in
-    record { is = (bytes_eq-Decides (joined run) bytes).0 t4.1; some = t3.1; below = le_of (end_of run) x.known t2.1 }
+    record { is = (bytes_eq-Decides (joined run) bytes).0 t4.1; some = t3.1; below = le_of (end_of run) x.known_high_watermark t2.1 }
 
 -- a run is a part of each list that has the beginnings of the log up to the high watermark that the broker knows
 part_in : (x : Broker) (offset limit size : ℕ) (stop : Stop) (bytes : List ℕ) (list : List (List ℕ)) → IsConsecutive 0 x.log
-    → ((run : List (List ℕ)) → IsPrefix run x.log → end_of run ≤ x.known → IsPrefix run list)
+    → ((run : List (List ℕ)) → IsPrefix run x.log → end_of run ≤ x.known_high_watermark → IsPrefix run list)
     → is_run x offset limit size stop bytes ≡ true → IsPartAt offset bytes list
 part_in x offset limit size stop bytes list c h e = go (run_of x offset size) refl
   where
@@ -123,7 +123,7 @@ part_in x offset limit size stop bytes list c h e = go (run_of x offset size) re
         let q : IsPrefix (first ∷ others) (from_offset offset x.log) = subst (λ (k : List (List ℕ)). IsPrefix k (from_offset offset x.log)) is pre in
         let whole : (sp.front ++ (first ∷ others)) ++ q.0 ≡ x.log = append_assoc sp.front (first ∷ others) q.0 ∙ (ap (λ (k : List (List ℕ)). sp.front ++ k) q.1 ∙ sp.parts) in
         let ends : end_of (sp.front ++ (first ∷ others)) ≡ end_of (first ∷ others) = end_append 0 sp.front (first ∷ others) in
-        let below : end_of (first ∷ others) ≤ x.known = subst (λ (k : List (List ℕ)). end_of k ≤ x.known) is t.below in
+        let below : end_of (first ∷ others) ≤ x.known_high_watermark = subst (λ (k : List (List ℕ)). end_of k ≤ x.known_high_watermark) is t.below in
         let m = h (sp.front ++ (first ∷ others)) (q.0, whole) (omega (arith, ends, below)) in
         let c2 : IsConsecutive 0 (sp.front ++ (first ∷ (others ++ q.0))) = subst (λ (k : List (List ℕ)). IsConsecutive 0 k) (sym whole ∙ append_assoc sp.front (first ∷ others) q.0) c in
         let base = base_at 0 sp.front first (others ++ q.0) c2 in
@@ -142,7 +142,7 @@ part_of : (p : State) (b : ℕ) (x : Broker) (offset limit size : ℕ) (stop : S
     → is_run x offset limit size stop bytes ≡ true → IsPartAt offset bytes p.committed
 part_of p b x offset limit size stop bytes at s clean e =
     let c = (s.brokers b x at).log.consecutive in
-    let known = (s.known b x at).shared clean in
+    let known = (s.known_high_watermark b x at).shared clean in
     part_in x offset limit size stop bytes p.committed c
     (λ run on le. prefix_trans run known.0 p.committed (nested 0 run known.0 x.log c on known.1 (omega (arith, le, known.2))) known.3) e
 
@@ -154,30 +154,30 @@ led_path paths n (Follows e) log t h = absurd cc
 led_path paths n (Joined e) log t h = absurd cc
 
 -- so a run is a part of it
-fetch_led : (p : State) (b : ℕ) (x : Broker) (offset limit : ℕ) (noted : Option Noted) (tier : Tier) (size : ℕ) (stop : Stop) (bytes : List ℕ) (q : State)
-    → slice_get p.brokers b ≡ Some x → PlainSafe p → fetch_row p x offset limit noted (Run tier size stop bytes) ≡ Some q → IsPartOfPath p.paths offset bytes
-fetch_led p b x offset limit noted tier size stop bytes q at s e = go noted e
+fetch_led : (p : State) (b : ℕ) (x : Broker) (offset limit : ℕ) (recorded : Option PlainSnapshot) (tier : Tier) (size : ℕ) (stop : Stop) (bytes : List ℕ) (q : State)
+    → slice_get p.brokers b ≡ Some x → PlainSafe p → fetch_row p x offset limit recorded (Run tier size stop bytes) ≡ Some q → IsPartOfPath p.paths offset bytes
+fetch_led p b x offset limit recorded tier size stop bytes q at s e = go recorded e
   where
-    leading : (o : Option Noted) → gives_run p x offset o ≡ true → leads x.role ≡ true
+    leading : (o : Option PlainSnapshot) → gives_run p x offset o ≡ true → leads x.role ≡ true
     leading None g = grind (arith, nat_tests, g)
     leading (Some n) g = grind (arith, nat_tests, g)
 
-    made : (o : Option Noted) → when (gives_run p x offset o && is_run x offset limit size stop bytes) p ≡ Some q → IsPartOfPath p.paths offset bytes
+    made : (o : Option PlainSnapshot) → when (gives_run p x offset o && is_run x offset limit size stop bytes) p ≡ Some q → IsPartOfPath p.paths offset bytes
     made o i =
         let t = both (gives_run p x offset o) (is_run x offset limit size stop bytes) (when_some _ p q i).0 in
         let h = s.brokers b x at in
         let on = led_path p.paths p.registry.epoch x.role x.log (leading o t.0) h.role in
         (on.0, x.log, on.1, part_in x offset limit size stop bytes x.log h.log.consecutive (λ run prefix le. prefix) t.1)
 
-    go : (o : Option Noted) → fetch_row p x offset limit o (Run tier size stop bytes) ≡ Some q → IsPartOfPath p.paths offset bytes
+    go : (o : Option PlainSnapshot) → fetch_row p x offset limit o (Run tier size stop bytes) ≡ Some q → IsPartOfPath p.paths offset bytes
     go None i = made None i
     go (Some n) i = made (Some n) i
 
 -- a fetch that is answered by a run
-fetch_part : (p : State) (b : ℕ) (x : Broker) (offset limit : ℕ) (noted : Option Noted) (tier : Tier) (size : ℕ) (stop : Stop) (bytes : List ℕ) (q : State)
-    → slice_get p.brokers b ≡ Some x → PlainSafe p → p.unclean ≡ false → fetch_row p x offset limit noted (Run tier size stop bytes) ≡ Some q → IsPartAt offset bytes p.committed
+fetch_part : (p : State) (b : ℕ) (x : Broker) (offset limit : ℕ) (recorded : Option PlainSnapshot) (tier : Tier) (size : ℕ) (stop : Stop) (bytes : List ℕ) (q : State)
+    → slice_get p.brokers b ≡ Some x → PlainSafe p → p.unclean ≡ false → fetch_row p x offset limit recorded (Run tier size stop bytes) ≡ Some q → IsPartAt offset bytes p.committed
 fetch_part p b x offset limit None tier size stop bytes q at s clean e = part_of p b x offset limit size stop bytes at s clean (both _ _ (when_some _ p q e).0).1
-fetch_part p b x offset limit (Some noted) tier size stop bytes q at s clean e = part_of p b x offset limit size stop bytes at s clean (both _ _ (when_some _ p q e).0).1
+fetch_part p b x offset limit (Some recorded) tier size stop bytes q at s clean e = part_of p b x offset limit size stop bytes at s clean (both _ _ (when_some _ p q e).0).1
 
 -- a part of what begins a list is a part of the list
 part_more : (offset : ℕ) (bytes : List ℕ) (log more : List (List ℕ)) → IsPrefix log more → IsPartAt offset bytes log → IsPartAt offset bytes more
@@ -197,9 +197,9 @@ part_more offset bytes log more p h = record {
 record FetchOf (p : State) (order : Order) (offset limit : ℕ) (answer : Answer) : Type 0 where
   broker : Broker
   at : slice_get p.brokers order.broker.0 ≡ Some broker
-  noted : Option Noted
+  recorded : Option PlainSnapshot
   next : State
-  row_is : fetch_row p broker offset limit noted answer ≡ Some next
+  row_is : fetch_row p broker offset limit recorded answer ≡ Some next
 
 fetch_of : (p : State) (order : Order) (entry : JournalEntry) (q : State) (offset limit : ℕ) (answer : Answer) → step p order entry ≡ Some q
     → order.command ≡ Fetch offset limit → entry.event ≡ Answers answer → FetchOf p order offset limit answer
@@ -207,13 +207,13 @@ fetch_of p order entry q offset limit answer e command event =
     let h = step_of p order entry q e in
     let answers : event_step p entry.actor.0 (actor_at p.actors entry.actor.0) order h.broker h.replica (Answers answer) ≡ Some q =
     subst (λ (k : Event). event_step p entry.actor.0 (actor_at p.actors entry.actor.0) order h.broker h.replica k ≡ Some q) event h.event in
-    let w = map_some _ (row p order.broker.0 h.broker h.replica (actor_at p.actors entry.actor.0).begun order.command answer) q answers in
+    let w = map_some _ (row p order.broker.0 h.broker h.replica (actor_at p.actors entry.actor.0).snapshot order.command answer) q answers in
     record {
       broker = h.broker;
       at = h.at;
-      noted = (actor_at p.actors entry.actor.0).begun;
+      recorded = (actor_at p.actors entry.actor.0).snapshot;
       next = w.0;
-      row_is = subst (λ (k : Command). row p order.broker.0 h.broker h.replica (actor_at p.actors entry.actor.0).begun k answer ≡ Some w.0) command w.1;
+      row_is = subst (λ (k : Command). row p order.broker.0 h.broker h.replica (actor_at p.actors entry.actor.0).snapshot k answer ≡ Some w.0) command w.1;
     }
 
 entry_part : (p : State) (order : Order) (entry : JournalEntry) (q : State) (offset limit : ℕ) (tier : Tier) (size : ℕ) (stop : Stop) (bytes : List ℕ)
@@ -221,14 +221,14 @@ entry_part : (p : State) (order : Order) (entry : JournalEntry) (q : State) (off
     → IsPartAt offset bytes p.committed
 entry_part p order entry q offset limit tier size stop bytes e s clean command event =
     let f = fetch_of p order entry q offset limit (Run tier size stop bytes) e command event in
-    fetch_part p order.broker.0 f.broker offset limit f.noted tier size stop bytes f.next f.at s clean f.row_is
+    fetch_part p order.broker.0 f.broker offset limit f.recorded tier size stop bytes f.next f.at s clean f.row_is
 
 entry_led : (p : State) (order : Order) (entry : JournalEntry) (q : State) (offset limit : ℕ) (tier : Tier) (size : ℕ) (stop : Stop) (bytes : List ℕ)
     → step p order entry ≡ Some q → PlainSafe p → order.command ≡ Fetch offset limit → entry.event ≡ Answers (Run tier size stop bytes)
     → IsPartOfPath p.paths offset bytes
 entry_led p order entry q offset limit tier size stop bytes e s command event =
     let f = fetch_of p order entry q offset limit (Run tier size stop bytes) e command event in
-    fetch_led p order.broker.0 f.broker offset limit f.noted tier size stop bytes f.next f.at s f.row_is
+    fetch_led p order.broker.0 f.broker offset limit f.recorded tier size stop bytes f.next f.at s f.row_is
 
 -- a part of a path is one of the path that it grew to
 path_more : (ps qs : List Path) (offset : ℕ) (bytes : List ℕ) → Wider ps qs → IsPartOfPath ps offset bytes → IsPartOfPath qs offset bytes

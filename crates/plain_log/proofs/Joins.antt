@@ -48,7 +48,7 @@ swap_cut p x n y is h k =
   where
     go : (e : ℕ) (l : List (List ℕ)) → followed x.role ≡ Some e → path_of p.paths e ≡ Some l
         → may_join p x e && (n == end_of (common x.log l)) ≡ true
-        → record x { role = Joined e; log = common x.log l; stable = n; known = min x.known n } ≡ y → Swap p x y
+        → record x { role = Joined e; log = common x.log l; flushed_end = n; known_high_watermark = min x.known_high_watermark n } ≡ y → Swap p x y
     go e l fo pa t same =
         let up : x.up ≡ true = grind (arith, nat_tests, t) in
         let fresh : p.registry.epoch ≤ e = grind (arith, nat_tests, t) in
@@ -57,17 +57,17 @@ swap_cut p x n y is h k =
         let now : e ≡ p.registry.epoch = omega (arith, fresh, below) in
         let left = common_left x.log l in
         let base : current p.paths p.registry.epoch p.committed ≡ l = current_is p.paths p.registry.epoch p.committed l (sym (ap (path_of p.paths) now) ∙ pa) in
-        let known : SharedTo (min x.known n) (common x.log l) x.log = shared_cut x.known n x.log (common x.log l) x.log h.log.consecutive left ends (h.known.0, h.known.1, h.known.2, h.known.1) in
+        let known : SharedTo (min x.known_high_watermark n) (common x.log l) x.log = shared_cut x.known_high_watermark n x.log (common x.log l) x.log h.log.consecutive left ends (h.known_high_watermark.0, h.known_high_watermark.1, h.known_high_watermark.2, h.known_high_watermark.1) in
         subst (λ (z : Broker). Swap p x z) same (record {
           broker = record {
             log = log_prefix p.paths (common x.log l) x.log left h.log;
             role = (below, (l, pa, common_right x.log l));
-            stable = (common x.log l, prefix_self (common x.log l), ends);
-            known = (known.0, known.1, known.2);
+            flushed_end = (common x.log l, prefix_self (common x.log l), ends);
+            known_high_watermark = (known.0, known.1, known.2);
             down = λ d. absurd (cc (up, d));
           };
-          known = record {
-            shared = λ u. shared_cut x.known n x.log (common x.log l) p.committed h.log.consecutive left ends (k.shared u);
+          known_high_watermark = record {
+            shared = λ u. shared_cut x.known_high_watermark n x.log (common x.log l) p.committed h.log.consecutive left ends (k.shared u);
             leader = λ i. absurd cc;
           };
           leads = λ f i. absurd cc;
@@ -76,11 +76,11 @@ swap_cut p x n y is h k =
               let on : IsPrefix sh.0 l = subst (λ (z : List (List ℕ)). IsPrefix sh.0 z) base sh.3 in
               let kept = common_all sh.0 x.log l sh.1 on in
               record {
-                stable = omega (arith, prefix_end sh.0 (common x.log l) (consecutive_prefix 0 (common x.log l) x.log left h.log.consecutive) kept, sh.2, ends);
+                flushed_end = omega (arith, prefix_end sh.0 (common x.log l) (consecutive_prefix 0 (common x.log l) x.log left h.log.consecutive) kept, sh.2, ends);
                 shared = (sh.0, kept, sh.2, sh.3);
                 in_sync = a.in_sync;
               };
-          noted = λ m a. record {
+          recorded = λ m a. record {
             stops = a.stops;
             up = a.up;
             leads = a.leads;
@@ -125,27 +125,27 @@ swap_extended p x n e y is role paths h k =
           broker = record {
             log = log_prefix p.paths (up_to n l) l (up_to_prefix n l) safe;
             role = role_as p.paths p.registry.epoch (Joined e) x.role (up_to n l) (sym role) (r.0, (l, pa, up_to_prefix n l));
-            stable = ends_more x.stable x.log (up_to n l) h.stable grows;
-            known = ends_more x.known x.log (up_to n l) h.known grows;
+            flushed_end = ends_more x.flushed_end x.log (up_to n l) h.flushed_end grows;
+            known_high_watermark = ends_more x.known_high_watermark x.log (up_to n l) h.known_high_watermark grows;
             down = h.down;
           };
-          known = record {
+          known_high_watermark = record {
             shared = λ u. let c = k.shared u in (c.0, prefix_trans c.0 x.log (up_to n l) c.1 grows, c.2, c.3);
             leader = k.leader;
           };
           leads = λ f i. i;
           acks = λ s a. record {
-            stable = a.stable;
+            flushed_end = a.flushed_end;
             shared = (let c = a.shared in (c.0, prefix_trans c.0 x.log (up_to n l) c.1 grows, c.2, c.3));
             in_sync = a.in_sync;
           };
-          noted = λ m a. record { stops = a.stops; up = a.up; leads = a.leads; joined = a.joined };
+          recorded = λ m a. record { stops = a.stops; up = a.up; leads = a.leads; joined = a.joined };
         })
 
 -- what extended gives ends at n
 pub extended_ends : (p : State) (x : Broker) (n : ℕ) (y : Broker) → extended p x n ≡ Some y
     → ((f : ℕ) (l : List (List ℕ)) → path_of p.paths f ≡ Some l → IsConsecutive 0 l)
-    → EndsAt n y.log × (y.stable ≡ x.stable) × (end_of x.log < n)
+    → EndsAt n y.log × (y.flushed_end ≡ x.flushed_end) × (end_of x.log < n)
 extended_ends p x n y is paths =
     let f = and_then_some _ (followed x.role) y is in
     let g = and_then_some _ (path_of p.paths f.0) y f.2 in
@@ -154,4 +154,4 @@ extended_ends p x n y is paths =
     let ends = is_end_ends n g.0 t.0 in
     let c = paths f.0 g.0 g.1 in
     let here : EndsAt n (up_to n g.0) = (up_to n g.0, prefix_self (up_to n g.0), up_to_end n g.0 c ends) in
-    (subst (λ (z : Broker). EndsAt n z.log) w.1 here, ap (λ (z : Broker). z.stable) (sym w.1), grind (arith, nat_tests, t.1))
+    (subst (λ (z : Broker). EndsAt n z.log) w.1 here, ap (λ (z : Broker). z.flushed_end) (sym w.1), grind (arith, nat_tests, t.1))

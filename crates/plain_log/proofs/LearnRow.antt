@@ -16,9 +16,9 @@ use Rattle.plain_log.specs.declared.state.Broker.{Broker}
 use Rattle.plain_log.specs.declared.state.Role.TheVariants.{Leads, Follows, Joined}
 use Rattle.plain_log.specs.State.{path_of, has_path, put_broker, breaks, is_in}
 use Rattle.plain_log.specs.RowsOfElections.{knows, learns, may_lead, led, learn_row}
-use Rattle.plain_log.specs.Safe.{PathSafe, BrokerSafe, AckSafe, current, KnownSafe, NotedSafe, PlainSafe}
+use Rattle.plain_log.specs.Safe.{PathSafe, BrokerSafe, AckSafe, current, KnownSafe, SnapshotIsSafe, PlainSafe}
 use Rattle.plain_log.proofs.Options.{both, not_true, eq_of}
-use Rattle.plain_log.proofs.Wider.{Wider, log_wider, noted_wider, broker_wider}
+use Rattle.plain_log.proofs.Wider.{Wider, log_wider, recorded_wider, broker_wider}
 use Rattle.plain_log.proofs.Swaps.{current_is, swap_follows, role_as, knows_joined}
 use Rattle.plain_log.proofs.Keeps.{Keeps, grown, kept, silent, by_when, broker_kept, breaks_kept}
 use Rattle.plain_log.proofs.NewEpoch.{current_none}
@@ -108,7 +108,7 @@ led_safe p b x r bx br up new lead none s =
     let n = p.registry.epoch in
     let ps : List Path = record { epoch = p.registry.epoch; log = x.log } ∷ p.paths in
     let h = s.brokers b x bx in
-    let y : Broker = record x { role = Leads p.registry.epoch; stable = end_of x.log; known = p.registry.mark } in
+    let y : Broker = record x { role = Leads p.registry.epoch; flushed_end = end_of x.log; known_high_watermark = p.registry.mark } in
     let wide : Wider p.paths ps = led_wider p b x none in
     let made : path_of ps p.registry.epoch ≡ Some x.log = added_new p.paths p.registry.epoch x.log in
     let all = committed_in p b x r bx br lead none s in
@@ -138,11 +138,11 @@ led_safe p b x r bx br up new lead none s =
           (record {
             log = log_wider p.paths ps x.log wide h.log;
             role = (omega arith, made);
-            stable = ends_at_end x.log;
-            known = (p.committed, all, s.marks.ends);
+            flushed_end = ends_at_end x.log;
+            known_high_watermark = (p.committed, all, s.marks.ends);
             down = λ d. absurd (cc (up, d));
           });
-      known = each-set (KnownSafe p.unclean p.registry.epoch p.registry.mark p.committed) p.brokers b y s.known
+      known_high_watermark = each-set (KnownSafe p.unclean p.registry.epoch p.registry.mark p.committed) p.brokers b y s.known_high_watermark
           (record { shared = λ u. (p.committed, all, s.marks.ends, prefix_self p.committed); leader = λ _. omega arith });
       one_leader = one_leader_new p.brokers b y p.registry.epoch refl
           (λ d z i is. let k = role_as p.paths p.registry.epoch z.role (Leads p.registry.epoch) z.log is (s.brokers d z i).role in absurd (cc (k.1, none))) s.one_leader;
@@ -153,22 +153,22 @@ led_safe p b x r bx br up new lead none s =
                 let a = s.acks b x v bx (sym (ap (λ (k : ℕ). slice_get p.registry.replicas k) i.0) ∙ cv) in
                 let w = a.shared in
                 subst (λ (k : Broker). AckSafe x.log p.registry.mark k v) (sym i.1)
-                (record { stable = omega (arith, a.stable, ends_below x.stable x.log h.log.consecutive h.stable); shared = (w.0, w.1, w.2, w.1); in_sync = a.in_sync })
+                (record { flushed_end = omega (arith, a.flushed_end, ends_below x.flushed_end x.log h.log.consecutive h.flushed_end); shared = (w.0, w.1, w.2, w.1); in_sync = a.in_sync })
             | inr i ↦
                 let a = s.acks c z v i.1 cv in
                 let w = a.shared in
                 let on : IsPrefix w.0 p.committed = subst (λ (k : List (List ℕ)). IsPrefix w.0 k) old w.3 in
-                record { stable = a.stable; shared = (w.0, w.1, w.2, prefix_trans w.0 p.committed x.log on all); in_sync = a.in_sync }
+                record { flushed_end = a.flushed_end; shared = (w.0, w.1, w.2, prefix_trans w.0 p.committed x.log on all); in_sync = a.in_sync }
           ]);
       leader = s.leader;
       leader_within = s.leader_within;
       broken = s.broken;
       same_count = s.same_count ∙ sym (length-slice_set p.brokers b y);
-      noted = λ a m z bg mz.
+      recorded = λ a m z bg mz.
           elim (get-set p.brokers b y m.order.broker.0 z mz) [
             | inl i ↦
-                let o = noted_wider p.paths ps p.registry.epoch m x wide (s.noted a m x bg (ap (λ (k : ℕ). slice_get p.brokers k) i.0 ∙ bx)) in
-                subst (λ (k : Broker). NotedSafe ps p.registry.epoch m k) (sym i.1)
+                let o = recorded_wider p.paths ps p.registry.epoch m x wide (s.recorded a m x bg (ap (λ (k : ℕ). slice_get p.brokers k) i.0 ∙ bx)) in
+                subst (λ (k : Broker). SnapshotIsSafe ps p.registry.epoch m k) (sym i.1)
                 (record {
                   stops = o.stops;
                   up = o.up;
@@ -184,7 +184,7 @@ led_safe p b x r bx br up new lead none s =
                             absurd (cc (known, new)),
                       );
                 })
-            | inr i ↦ noted_wider p.paths ps p.registry.epoch m z wide (s.noted a m z bg i.1)
+            | inr i ↦ recorded_wider p.paths ps p.registry.epoch m z wide (s.recorded a m z bg i.1)
           ];
     }
 
@@ -194,14 +194,14 @@ broken_safe p k h s = record {
   marks = s.marks;
   paths = s.paths;
   brokers = s.brokers;
-  known = s.known;
+  known_high_watermark = s.known_high_watermark;
   one_leader = s.one_leader;
   acks = s.acks;
   leader = s.leader;
   leader_within = s.leader_within;
   same_count = s.same_count;
   broken = h;
-  noted = s.noted;
+  recorded = s.recorded;
 }
 
 is_in_more : (p : State) → PlainSafe p → (n : ℕ) → is_in n (p.registry.epoch ∷ p.broken) ≡ true → n ≤ p.registry.epoch
@@ -233,7 +233,7 @@ learn_keeps p b x r (FollowsAnswer n) q bx br e s =
     by_when p (put_broker p b (record x { role = Follows n })) q (learns p x n && not (p.registry.leader.0 == b)) e (λ w.
     let t = both (learns p x n) (not (p.registry.leader.0 == b)) w in
     let u = learns_of p x n t.0 in
-    let safe = broker_kept p b x (record x { role = Follows p.registry.epoch }) bx (swap_follows p x u.up u.unknown (s.brokers b x bx) (s.known b x bx)) s in
+    let safe = broker_kept p b x (record x { role = Follows p.registry.epoch }) bx (swap_follows p x u.up u.unknown (s.brokers b x bx) (s.known_high_watermark b x bx)) s in
     subst (λ (m : ℕ). Keeps p (put_broker p b (record x { role = Follows m }))) u.now safe)
 learn_keeps p b x r (LeadsAnswer n) q bx br e s =
     by_when p (led p b x n) q (may_lead p b x n) e (λ w.

@@ -23,12 +23,12 @@ pub flush_keeps : (p : State) (b : ℕ) (x : Broker) (answer : Answer) (q : Stat
 flush_keeps p b x Down q at e s = silent p q _ e s
 flush_keeps p b x DiskFault q at e s = by_when p (breaks p b x) q _ e (λ _. breaks_kept p b x at s)
 flush_keeps p b x (OkAt n) q at e s =
-    by_when p (put_broker p b (record x { stable = n })) q _ e (λ w.
+    by_when p (put_broker p b (record x { flushed_end = n })) q _ e (λ w.
     let is : end_of x.log ≡ n = grind (arith, nat_tests, w) in
     let h = s.brokers b x at in
     let all : EndsAt n x.log = subst (λ (k : ℕ). EndsAt k x.log) is (ends_at_end x.log) in
-    broker_kept p b x (record x { stable = n }) at
-    (swap_all_stable p x n all (omega (arith, is, ends_below x.stable x.log h.log.consecutive h.stable)) h (s.known b x at)) s)
+    broker_kept p b x (record x { flushed_end = n }) at
+    (swap_all_stable p x n all (omega (arith, is, ends_below x.flushed_end x.log h.log.consecutive h.flushed_end)) h (s.known_high_watermark b x at)) s)
 flush_keeps p b x other q at e s = absurd (none-some q e)
 
 -- the row of roll
@@ -48,17 +48,17 @@ stop_keeps p b x Ok q at e s =
 stop_keeps p b x other q at e s = absurd (none-some q e)
 
 -- where a broker may open, its log ends
-may_open_ends : (x : Broker) (n : ℕ) → may_open_at x n ≡ true → EndsAt x.stable x.log → EndsAt n x.log × (x.stable ≤ n)
+may_open_ends : (x : Broker) (n : ℕ) → may_open_at x n ≡ true → EndsAt x.flushed_end x.log → EndsAt n x.log × (x.flushed_end ≤ n)
 may_open_ends x n e h = go x.loose refl e
   where
-    go : (l : Bool) → x.loose ≡ l → may_open_at x n ≡ true → EndsAt n x.log × (x.stable ≤ n)
+    go : (l : Bool) → x.loose ≡ l → may_open_at x n ≡ true → EndsAt n x.log × (x.flushed_end ≤ n)
     go true is t =
-        let u : is_end n x.log && nat_le x.stable n && nat_le n (end_of x.log) ≡ true = (rw is at t) in
+        let u : is_end n x.log && nat_le x.flushed_end n && nat_le n (end_of x.log) ≡ true = (rw is at t) in
         let ends : is_end n x.log ≡ true = grind (arith, nat_tests, u) in
         (is_end_ends n x.log ends, grind (arith, nat_tests, u))
     go false is t =
-        let u : (n == x.stable) ≡ true = (rw is at t) in
-        let same : x.stable ≡ n = grind (arith, nat_tests, u) in
+        let u : (n == x.flushed_end) ≡ true = (rw is at t) in
+        let same : x.flushed_end ≡ n = grind (arith, nat_tests, u) in
         (subst (λ (z : ℕ). EndsAt z x.log) same h, omega (arith, same))
 
 -- the row of up
@@ -71,6 +71,6 @@ up_keeps p b x (Up n) q at e s =
     by_when p (put_broker p b (opened x n)) q (not x.up && may_open_at x n) e (λ w.
     let t = both (not x.up) (may_open_at x n) w in
     let h = s.brokers b x at in
-    let m = may_open_ends x n t.1 h.stable in
-    broker_kept p b x (opened x n) at (swap_up p x n (not_true x.up t.0) m.0 m.1 h (s.known b x at)) s)
+    let m = may_open_ends x n t.1 h.flushed_end in
+    broker_kept p b x (opened x n) at (swap_up p x n (not_true x.up t.0) m.0 m.1 h (s.known_high_watermark b x at)) s)
 up_keeps p b x other q at e s = absurd (none-some q e)

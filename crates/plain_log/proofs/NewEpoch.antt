@@ -10,12 +10,12 @@ use Rattle.registry.specs.Registry.{epoch_limit, elected, elected_alone}
 use Rattle.plain_log.specs.declared.state.State.{State}
 use Rattle.plain_log.specs.declared.state.Path.{Path}
 use Rattle.plain_log.specs.declared.state.Broker.{Broker}
-use Rattle.plain_log.specs.declared.state.Noted.{Noted}
+use Rattle.plain_log.specs.declared.state.PlainSnapshot.{PlainSnapshot}
 use Rattle.plain_log.specs.declared.state.Role.{Role}
 use Rattle.plain_log.specs.declared.state.Role.TheVariants.{Idle, Leads, Follows, Joined}
 use Rattle.plain_log.specs.State.{path_of, set_registry}
 use Rattle.plain_log.specs.RowsOfElections.{restarted}
-use Rattle.plain_log.specs.Safe.{PathSafe, RoleSafe, BrokerSafe, SharedTo, AckSafe, current, NotedSafe, PlainSafe}
+use Rattle.plain_log.specs.Safe.{PathSafe, RoleSafe, BrokerSafe, SharedTo, AckSafe, current, SnapshotIsSafe, PlainSafe}
 
 -- no path has an epoch above the registry's
 pub no_path : (p : State) (n : ℕ) → p.registry.epoch < n → PlainSafe p → path_of p.paths n ≡ None
@@ -37,13 +37,13 @@ role_later paths m n (Follows e) log le h = omega (arith, le, h)
 role_later paths m n (Joined e) log le h = (omega (arith, le, h.0), h.1)
 
 pub broker_later : (paths : List Path) (m n : ℕ) (x : Broker) → m ≤ n → BrokerSafe paths m x → BrokerSafe paths n x
-broker_later paths m n x le h = record { log = h.log; role = role_later paths m n x.role x.log le h.role; stable = h.stable; known = h.known; down = h.down }
+broker_later paths m n x le h = record { log = h.log; role = role_later paths m n x.role x.log le h.role; flushed_end = h.flushed_end; known_high_watermark = h.known_high_watermark; down = h.down }
 
 pub path_later : (paths : List Path) (m n e : ℕ) (l : List (List ℕ)) → m ≤ n → PathSafe paths m e l → PathSafe paths n e l
 path_later paths m n e l le h = record { log_safe = h.log_safe; epochs = h.epochs; below = omega (arith, le, h.below) }
 
-pub noted_later : (paths : List Path) (m n : ℕ) (y : Noted) (x : Broker) → m ≤ n → NotedSafe paths m y x → NotedSafe paths n y x
-noted_later paths m n y x le h = record {
+pub recorded_later : (paths : List Path) (m n : ℕ) (y : PlainSnapshot) (x : Broker) → m ≤ n → SnapshotIsSafe paths m y x → SnapshotIsSafe paths n y x
+recorded_later paths m n y x le h = record {
   stops = h.stops;
   up = h.up;
   leads = h.leads;
@@ -85,10 +85,10 @@ ack_reset p x t s h = go t.in_sync refl
         let c = s.marks in
         let sub = nested 0 p.committed w.0 (current p.paths p.registry.epoch p.committed) (current_consecutive p s) c.begins w.3 (omega (arith, c.ends, w.2, le)) in
         subst (λ (k : Bool). AckSafe p.committed p.registry.mark x (record t { acked = if k then p.registry.mark else 0 })) (sym i)
-        (record { stable = omega (arith, le, h.stable); shared = (p.committed, prefix_trans p.committed w.0 x.log sub w.1, c.ends, prefix_self p.committed); in_sync = λ _. omega arith })
+        (record { flushed_end = omega (arith, le, h.flushed_end); shared = (p.committed, prefix_trans p.committed w.0 x.log sub w.1, c.ends, prefix_self p.committed); in_sync = λ _. omega arith })
     go false i =
         subst (λ (k : Bool). AckSafe p.committed p.registry.mark x (record t { acked = if k then p.registry.mark else 0 })) (sym i)
-        (record { stable = omega arith; shared = ([], (x.log, refl), refl, (p.committed, refl)); in_sync = λ j. absurd (cc (i, j)) })
+        (record { flushed_end = omega arith; shared = ([], (x.log, refl), refl, (p.committed, refl)); in_sync = λ j. absurd (cc (i, j)) })
 
 -- a clean election keeps the safety rules
 pub elected_safe : (p : State) (b : ℕ) (r : Replica) → slice_get p.registry.replicas b ≡ Some r → r.in_sync ≡ true → p.registry.epoch < epoch_limit
@@ -106,8 +106,8 @@ elected_safe p b r at synced lt s =
       };
       paths = λ e l h. path_later p.paths p.registry.epoch (p.registry.epoch + 1) e l (omega arith) (s.paths e l h);
       brokers = λ c x h. broker_later p.paths p.registry.epoch (p.registry.epoch + 1) x (omega arith) (s.brokers c x h);
-      known = λ c x h. record {
-        shared = (s.known c x h).shared;
+      known_high_watermark = λ c x h. record {
+        shared = (s.known_high_watermark c x h).shared;
         leader = λ i. absurd (let k = leads_below p.paths p.registry.epoch (p.registry.epoch + 1) x.role x.log i (s.brokers c x h).role in omega (arith, k));
       };
       one_leader = s.one_leader;
@@ -122,7 +122,7 @@ elected_safe p b r at synced lt s =
       broken = λ k i. omega (arith, s.broken k i);
       leader_within = omega (arith, within p.registry.replicas b r at, reset_length p.registry.mark p.registry.replicas);
       same_count = reset_length p.registry.mark p.registry.replicas ∙ s.same_count;
-      noted = λ a n x bg nx. noted_later p.paths p.registry.epoch (p.registry.epoch + 1) n x (omega arith) (s.noted a n x bg nx);
+      recorded = λ a n x bg nx. recorded_later p.paths p.registry.epoch (p.registry.epoch + 1) n x (omega arith) (s.recorded a n x bg nx);
     }
 
 -- a replica after an unclean election
@@ -136,51 +136,51 @@ all_out_length [] = refl
 all_out_length (s ∷ ss) = ap suc (all_out_length ss)
 
 -- an unclean election keeps them
-pub elected_alone_safe : (p : State) (b : ℕ) (x : Broker) → slice_get p.brokers b ≡ Some x → p.registry.start ≤ x.stable → p.registry.epoch < epoch_limit → PlainSafe p
-    → PlainSafe (set_registry (restarted p x) (elected_alone p.registry b x.stable))
+pub elected_alone_safe : (p : State) (b : ℕ) (x : Broker) → slice_get p.brokers b ≡ Some x → p.registry.start ≤ x.flushed_end → p.registry.epoch < epoch_limit → PlainSafe p
+    → PlainSafe (set_registry (restarted p x) (elected_alone p.registry b x.flushed_end))
 elected_alone_safe p b x at ok lt s =
     let h = s.brokers b x at in
     let none = no_path p (p.registry.epoch + 1) (omega arith) s in
-    let base = current_none p.paths (p.registry.epoch + 1) (up_to x.stable x.log) none in
-    let ends = up_to_end x.stable x.log h.log.consecutive h.stable in
+    let base = current_none p.paths (p.registry.epoch + 1) (up_to x.flushed_end x.log) none in
+    let ends = up_to_end x.flushed_end x.log h.log.consecutive h.flushed_end in
     record {
       marks = record {
         start = ok;
-        consecutive = consecutive_prefix 0 (up_to x.stable x.log) x.log (up_to_prefix x.stable x.log) h.log.consecutive;
+        consecutive = consecutive_prefix 0 (up_to x.flushed_end x.log) x.log (up_to_prefix x.flushed_end x.log) h.log.consecutive;
         ends = ends;
-        begins = subst (λ (k : List (List ℕ)). IsPrefix (up_to x.stable x.log) k) (sym base) (prefix_self (up_to x.stable x.log));
+        begins = subst (λ (k : List (List ℕ)). IsPrefix (up_to x.flushed_end x.log) k) (sym base) (prefix_self (up_to x.flushed_end x.log));
         epoch = omega (arith, lt);
       };
       paths = λ e l i. path_later p.paths p.registry.epoch (p.registry.epoch + 1) e l (omega arith) (s.paths e l i);
       brokers = λ c z i. broker_later p.paths p.registry.epoch (p.registry.epoch + 1) z (omega arith) (s.brokers c z i);
-      known = λ c z i. record {
+      known_high_watermark = λ c z i. record {
         shared = λ u. absurd cc;
         leader = λ j. absurd (let k = leads_below p.paths p.registry.epoch (p.registry.epoch + 1) z.role z.log j (s.brokers c z i).role in omega (arith, k));
       };
       one_leader = s.one_leader;
       acks = λ c z v cz cv.
-          subst (λ (k : List (List ℕ)). AckSafe k x.stable z v) (sym base)
-          (elim (get-set (all_out p.registry.replicas) b (record { in_sync = true; acked = x.stable }) c v cv) [
+          subst (λ (k : List (List ℕ)). AckSafe k x.flushed_end z v) (sym base)
+          (elim (get-set (all_out p.registry.replicas) b (record { in_sync = true; acked = x.flushed_end }) c v cv) [
             | inl i ↦
                 let same : z ≡ x = cc (cz, i.0, at) in
-                subst (λ (k : Replica). AckSafe (up_to x.stable x.log) x.stable z k) (sym i.1)
-                (subst (λ (k : Broker). AckSafe (up_to x.stable x.log) x.stable k (record { in_sync = true; acked = x.stable })) (sym same)
-                (record { stable = omega arith; shared = (up_to x.stable x.log, up_to_prefix x.stable x.log, ends, prefix_self (up_to x.stable x.log)); in_sync = λ _. omega arith }))
+                subst (λ (k : Replica). AckSafe (up_to x.flushed_end x.log) x.flushed_end z k) (sym i.1)
+                (subst (λ (k : Broker). AckSafe (up_to x.flushed_end x.log) x.flushed_end k (record { in_sync = true; acked = x.flushed_end })) (sym same)
+                (record { flushed_end = omega arith; shared = (up_to x.flushed_end x.log, up_to_prefix x.flushed_end x.log, ends, prefix_self (up_to x.flushed_end x.log)); in_sync = λ _. omega arith }))
             | inr i ↦
                 let o = all_out_get p.registry.replicas c v i.1 in
                 record {
-                  stable = omega (arith, o.1);
-                  shared = subst (λ (k : ℕ). SharedTo k z.log (up_to x.stable x.log)) (sym o.1) ([], (z.log, refl), refl, (up_to x.stable x.log, refl));
+                  flushed_end = omega (arith, o.1);
+                  shared = subst (λ (k : ℕ). SharedTo k z.log (up_to x.flushed_end x.log)) (sym o.1) ([], (z.log, refl), refl, (up_to x.flushed_end x.log, refl));
                   in_sync = λ j. absurd (cc (o.0, j));
                 }
           ]);
       leader = λ v lv.
-          elim (get-set (all_out p.registry.replicas) b (record { in_sync = true; acked = x.stable }) b v lv) [
+          elim (get-set (all_out p.registry.replicas) b (record { in_sync = true; acked = x.flushed_end }) b v lv) [
             | inl i ↦ ap (λ (k : Replica). k.in_sync) i.1
             | inr i ↦ absurd (i.0 refl)
           ];
       broken = λ k i. omega (arith, s.broken k i);
-      leader_within = omega (arith, within p.brokers b x at, s.same_count, length-slice_set (all_out p.registry.replicas) b (record { in_sync = true; acked = x.stable }), all_out_length p.registry.replicas);
-      same_count = length-slice_set (all_out p.registry.replicas) b (record { in_sync = true; acked = x.stable }) ∙ all_out_length p.registry.replicas ∙ s.same_count;
-      noted = λ a n z bg nz. noted_later p.paths p.registry.epoch (p.registry.epoch + 1) n z (omega arith) (s.noted a n z bg nz);
+      leader_within = omega (arith, within p.brokers b x at, s.same_count, length-slice_set (all_out p.registry.replicas) b (record { in_sync = true; acked = x.flushed_end }), all_out_length p.registry.replicas);
+      same_count = length-slice_set (all_out p.registry.replicas) b (record { in_sync = true; acked = x.flushed_end }) ∙ all_out_length p.registry.replicas ∙ s.same_count;
+      recorded = λ a n z bg nz. recorded_later p.paths p.registry.epoch (p.registry.epoch + 1) n z (omega arith) (s.recorded a n z bg nz);
     }

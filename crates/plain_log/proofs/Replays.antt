@@ -52,10 +52,10 @@ number_after (Answers answer) n = n + 1
 event_number : (p : State) (a : ℕ) (order : Order) (x : Broker) (r : Replica) (event : Event) (q : State)
     → event_step p a (actor_at p.actors a) order x r event ≡ Some q → number_of q a ≡ number_after event (number_of p a)
 event_number p a order x r (Begins cut) q e =
-    let w = map_some _ (option_and_then (λ (z : Broker). when (is_none (actor_at p.actors a).begun) z) (begins p x order.command cut)) q e in
+    let w = map_some _ (option_and_then (λ (z : Broker). when (is_none (actor_at p.actors a).snapshot) z) (begins p x order.command cut)) q e in
     sym (ap (λ (k : State). number_of k a) w.2) ∙ ap (λ (k : Actor). k.number) (actor_put p.actors a _)
 event_number p a order x r (Answers answer) q e =
-    let w = map_some _ (row p order.broker.0 x r (actor_at p.actors a).begun order.command answer) q e in
+    let w = map_some _ (row p order.broker.0 x r (actor_at p.actors a).snapshot order.command answer) q e in
     sym (ap (λ (k : State). number_of k a) w.2) ∙ ap (λ (k : Actor). k.number) (actor_put w.0.actors a _)
 
 -- the numbers answered from the actor's next one on, and the number after them

@@ -24,7 +24,7 @@ put_replica_safe p b r t at w lead s = record {
   marks = record { start = s.marks.start; consecutive = s.marks.consecutive; ends = s.marks.ends; begins = s.marks.begins; epoch = s.marks.epoch };
   paths = s.paths;
   brokers = s.brokers;
-  known = s.known;
+  known_high_watermark = s.known_high_watermark;
   one_leader = s.one_leader;
   acks = λ c z v cz cv.
       elim (get-set p.registry.replicas b t c v cv) [
@@ -41,7 +41,7 @@ put_replica_safe p b r t at w lead s = record {
   broken = s.broken;
   leader_within = omega (arith, s.leader_within, length-slice_set p.registry.replicas b t);
   same_count = length-slice_set p.registry.replicas b t ∙ s.same_count;
-  noted = s.noted;
+  recorded = s.recorded;
 }
 
 -- the row of shrink
@@ -55,7 +55,7 @@ shrink_keeps p b r Ok q at e s =
     let ne : p.registry.leader.0 ≢ b = grind (arith, nat_tests, t.1) in
     kept p (set_registry p (shrunk p.registry b r)) refl refl refl refl
     (put_replica_safe p b r (record r { in_sync = false }) at
-    (λ x a. record { stable = a.stable; shared = a.shared; in_sync = λ i. absurd cc }) (λ i. absurd (ne i)) s))
+    (λ x a. record { flushed_end = a.flushed_end; shared = a.shared; in_sync = λ i. absurd cc }) (λ i. absurd (ne i)) s))
 shrink_keeps p b r other q at e s = absurd (none-some q e)
 
 -- the row of expand
@@ -68,5 +68,5 @@ expand_keeps p b x r Ok q at e s =
     let le = le_of p.registry.mark r.acked (both x.up (nat_le p.registry.mark r.acked) w).1 in
     kept p (set_registry p (expanded p.registry b r)) refl refl refl refl
     (put_replica_safe p b r (record r { in_sync = true }) at
-    (λ z a. record { stable = a.stable; shared = a.shared; in_sync = λ i. le }) (λ i. refl) s))
+    (λ z a. record { flushed_end = a.flushed_end; shared = a.shared; in_sync = λ i. le }) (λ i. refl) s))
 expand_keeps p b x r other q at e s = absurd (none-some q e)

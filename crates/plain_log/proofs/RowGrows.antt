@@ -9,7 +9,7 @@ use Rattle.plain_log.specs.RowsOfFollowers.{cut_to, goes_on, extended, was_passe
 use Rattle.plain_log.specs.Safe.{PlainSafe, Has, RoleSafe}
 use Rattle.plain_log.specs.State.{breaks, set_registry, left_by, put_broker, stopped, path_of, followed}
 use Rattle.plain_log.specs.declared.state.Broker.{Broker}
-use Rattle.plain_log.specs.declared.state.Noted.{Noted}
+use Rattle.plain_log.specs.declared.state.PlainSnapshot.{PlainSnapshot}
 use Rattle.plain_log.specs.declared.state.Path.{Path}
 use Rattle.plain_log.specs.declared.state.Role.{Role}
 use Rattle.plain_log.specs.declared.state.Role.TheVariants.{Joined}
@@ -20,7 +20,7 @@ use Rattle.std.proofs.lemmas.Bool.Decides.{nat_tests}
 use Rattle.std.specs.Prelude.{nat_lt, option_map}
 use mathlib.Core.List.{IsPrefix}
 use Rattle.registry.specs.declared.registry.Registry.{Registry}
-use Rattle.plain_log.proofs.FollowerRows.{still_joined, JoinedNoted}
+use Rattle.plain_log.proofs.FollowerRows.{still_joined, JoinedSnapshot}
 use Rattle.plain_log.specs.Grows.{BrokerGrows}
 
 -- what a row does to brokers and to the log start
@@ -128,10 +128,10 @@ as_longer p x n e y is role has paths =
 joined_has : (paths : List Path) (epoch : ℕ) (r : Role) (e : ℕ) (log : List (List ℕ)) → r ≡ Joined e → RoleSafe paths epoch r log → Has paths e log
 joined_has paths epoch r e log is h = (subst (λ (k : Role). RoleSafe paths epoch k log) is h).1
 
-pub extended_is : (p : State) (b : ℕ) (x : Broker) (noted : Noted) (n : ℕ) (y : Broker) → slice_get p.brokers b ≡ Some x → (j : JoinedNoted p x (Some noted))
-    → (t : goes_on p x noted ≡ true) → extended p x n ≡ Some y → PlainSafe p → IsLonger x y (still_joined p x noted t j).0
-extended_is p b x noted n y at j t is s =
-    let r = still_joined p x noted t j in
+pub extended_is : (p : State) (b : ℕ) (x : Broker) (recorded : PlainSnapshot) (n : ℕ) (y : Broker) → slice_get p.brokers b ≡ Some x → (j : JoinedSnapshot p x (Some recorded))
+    → (t : goes_on p x recorded ≡ true) → extended p x n ≡ Some y → PlainSafe p → IsLonger x y (still_joined p x recorded t j).0
+extended_is p b x recorded n y at j t is s =
+    let r = still_joined p x recorded t j in
     as_longer p x n r.0 y is r.1 (joined_has p.paths p.registry.epoch x.role r.0 x.log r.1 (s.brokers b x at).role) (λ f l h. (s.paths f l h).log_safe.consecutive)
 
 -- a log begun anew
@@ -141,11 +141,11 @@ pub record IsBegunAnew (x y : Broker) : Type 0 where
   pub role : y.role ≡ Joined epoch
   pub log : IsPrefix x.log y.log
 
-pub rebuilt_is : (p : State) (b : ℕ) (x : Broker) (noted : Noted) (n : ℕ) (y : Broker) → slice_get p.brokers b ≡ Some x → JoinedNoted p x (Some noted)
-    → rebuilt p x noted n ≡ Some y → PlainSafe p → IsBegunAnew x y
-rebuilt_is p b x noted n y at j e s =
+pub rebuilt_is : (p : State) (b : ℕ) (x : Broker) (recorded : PlainSnapshot) (n : ℕ) (y : Broker) → slice_get p.brokers b ≡ Some x → JoinedSnapshot p x (Some recorded)
+    → rebuilt p x recorded n ≡ Some y → PlainSafe p → IsBegunAnew x y
+rebuilt_is p b x recorded n y at j e s =
     let f = and_then_some _ (extended p x n) y e in
     let w = when_some _ _ y f.2 in
-    let t = both (goes_on p x noted) (not (was_passed p noted n)) w.0 in
-    let v = extended_is p b x noted n y at j t.0 (f.1 ∙ ap Some w.1) s in
-    record { epoch = (still_joined p x noted t.0 j).0; stops = v.stops; role = v.role; log = v.log }
+    let t = both (goes_on p x recorded) (not (was_passed p recorded n)) w.0 in
+    let v = extended_is p b x recorded n y at j t.0 (f.1 ∙ ap Some w.1) s in
+    record { epoch = (still_joined p x recorded t.0 j).0; stops = v.stops; role = v.role; log = v.log }

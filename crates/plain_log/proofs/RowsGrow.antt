@@ -20,7 +20,7 @@ use Rattle.plain_log.specs.declared.command.Command.TheVariants.{Up, Offset}
 use Rattle.plain_log.specs.declared.command.Which.{Which}
 use Rattle.plain_log.specs.declared.command.Which.TheVariants.{At}
 use Rattle.plain_log.specs.declared.state.Broker.{Broker}
-use Rattle.plain_log.specs.declared.state.Noted.{Noted}
+use Rattle.plain_log.specs.declared.state.PlainSnapshot.{PlainSnapshot}
 use Rattle.plain_log.specs.declared.state.Role.TheVariants.{Leads, Follows}
 use Rattle.plain_log.specs.declared.state.State.{State}
 use Rattle.record_batch.specs.Check.{Batch}
@@ -34,38 +34,38 @@ use Rattle.std.proofs.Common.{◌≡◌, subst, refl, ℕ, ◌≤◌, ◌==◌, 
 use Rattle.std.proofs.lemmas.Bool.Decides.{nat_tests}
 use Rattle.std.proofs.lemmas.Option.{none-some}
 use Rattle.std.specs.Prelude.{nat_lt, nat_le}
-use Rattle.plain_log.proofs.FollowerRows.{JoinedNoted}
+use Rattle.plain_log.proofs.FollowerRows.{JoinedSnapshot}
 use Rattle.plain_log.proofs.LearnRow.{path_none}
 use Rattle.plain_log.proofs.RowGrows.{RowGrows, like, stopping, none_grows, one_grows, put_grows, broke, same, silent, by_when, by_broker, refused, by_left, cut_grows, extended_is, rebuilt_is}
 
 -- the row of copy
-pub copy_grows : (p : State) (x : Broker) (noted : Option Noted) (answer : Answer) (q : State) → copy_row p x noted answer ≡ Some q → PlainSafe p → RowGrows p q
+pub copy_grows : (p : State) (x : Broker) (recorded : Option PlainSnapshot) (answer : Answer) (q : State) → copy_row p x recorded answer ≡ Some q → PlainSafe p → RowGrows p q
 copy_grows p x None Down q e s = silent p q _ e s
 copy_grows p x None NotLeader q e s = silent p q _ e s
 copy_grows p x None CopyOff q e s = silent p q _ e s
 copy_grows p x None MetaFault q e s = silent p q _ e s
 copy_grows p x None other q e s = absurd (none-some q e)
-copy_grows p x (Some noted) LostLead q e s = silent p q _ e s
-copy_grows p x (Some noted) Level q e s = silent p q _ e s
-copy_grows p x (Some noted) DiskFault q e s = silent p q _ e s
-copy_grows p x (Some noted) (Damaged place k) q e s = silent p q _ e s
-copy_grows p x (Some noted) MetaFault q e s = silent p q _ e s
-copy_grows p x (Some noted) StoreFault q e s = silent p q _ e s
-copy_grows p x (Some noted) (Overtaken state) q e s = silent p q _ e s
-copy_grows p x (Some noted) (CopiedSegment id start last) q e s = silent p q _ e s
-copy_grows p x (Some noted) other q e s = absurd (none-some q e)
+copy_grows p x (Some recorded) LostLead q e s = silent p q _ e s
+copy_grows p x (Some recorded) Level q e s = silent p q _ e s
+copy_grows p x (Some recorded) DiskFault q e s = silent p q _ e s
+copy_grows p x (Some recorded) (Damaged place k) q e s = silent p q _ e s
+copy_grows p x (Some recorded) MetaFault q e s = silent p q _ e s
+copy_grows p x (Some recorded) StoreFault q e s = silent p q _ e s
+copy_grows p x (Some recorded) (Overtaken state) q e s = silent p q _ e s
+copy_grows p x (Some recorded) (CopiedSegment id start last) q e s = silent p q _ e s
+copy_grows p x (Some recorded) other q e s = absurd (none-some q e)
 
 -- the row of trim
-pub trim_grows : (p : State) (b : ℕ) (x : Broker) (noted : Option Noted) (answer : Answer) (q : State) → slice_get p.brokers b ≡ Some x
-    → trim_row p b x noted answer ≡ Some q → PlainSafe p → RowGrows p q
+pub trim_grows : (p : State) (b : ℕ) (x : Broker) (recorded : Option PlainSnapshot) (answer : Answer) (q : State) → slice_get p.brokers b ≡ Some x
+    → trim_row p b x recorded answer ≡ Some q → PlainSafe p → RowGrows p q
 trim_grows p b x None Down q at e s = silent p q _ e s
 trim_grows p b x None MetaFault q at e s = silent p q _ e s
 trim_grows p b x None other q at e s = absurd (none-some q e)
-trim_grows p b x (Some noted) Stopped q at e s = silent p q _ e s
-trim_grows p b x (Some noted) Kept q at e s = silent p q _ e s
-trim_grows p b x (Some noted) DiskFault q at e s = by_when p (breaks p b x) q _ e (λ _. broke p b x at)
-trim_grows p b x (Some noted) (Dropped base last) q at e s = silent p q _ e s
-trim_grows p b x (Some noted) other q at e s = absurd (none-some q e)
+trim_grows p b x (Some recorded) Stopped q at e s = silent p q _ e s
+trim_grows p b x (Some recorded) Kept q at e s = silent p q _ e s
+trim_grows p b x (Some recorded) DiskFault q at e s = by_when p (breaks p b x) q _ e (λ _. broke p b x at)
+trim_grows p b x (Some recorded) (Dropped base last) q at e s = silent p q _ e s
+trim_grows p b x (Some recorded) other q at e s = absurd (none-some q e)
 
 -- what the registry makes of a raise
 after_raise_grows : (p : State) (e wanted : ℕ) (result : Result ℕ RegRefusal) (q : State) → left_by p (after_raise p.registry e wanted result) ≡ Some q → PlainSafe p → RowGrows p q
@@ -91,23 +91,23 @@ raised_grows p x wanted result q is s =
     go false e i = absurd (none-some q i)
 
 -- the row of expire
-pub expire_grows : (p : State) (x : Broker) (noted : Option Noted) (answer : Answer) (q : State) → expire_row p x noted answer ≡ Some q → PlainSafe p → RowGrows p q
+pub expire_grows : (p : State) (x : Broker) (recorded : Option PlainSnapshot) (answer : Answer) (q : State) → expire_row p x recorded answer ≡ Some q → PlainSafe p → RowGrows p q
 expire_grows p x None Down q e s = silent p q _ e s
 expire_grows p x None NotLeader q e s = silent p q _ e s
 expire_grows p x None MetaFault q e s = silent p q _ e s
 expire_grows p x None other q e s = absurd (none-some q e)
-expire_grows p x (Some noted) LostLead q e s = silent p q _ e s
-expire_grows p x (Some noted) Kept q e s = silent p q _ e s
-expire_grows p x (Some noted) (StaleEpoch n) q e s = silent p q _ e s
-expire_grows p x (Some noted) (Raised start) q e s = go (keeps_lead x noted) e
+expire_grows p x (Some recorded) LostLead q e s = silent p q _ e s
+expire_grows p x (Some recorded) Kept q e s = silent p q _ e s
+expire_grows p x (Some recorded) (StaleEpoch n) q e s = silent p q _ e s
+expire_grows p x (Some recorded) (Raised start) q e s = go (keeps_lead x recorded) e
   where
     go : (t : Bool) → (if t then raised_by p x start (Ok start) else None) ≡ Some q → RowGrows p q
     go true i = raised_grows p x start (Ok start) q i s
     go false i = absurd (none-some q i)
-expire_grows p x (Some noted) MetaFault q e s = silent p q _ e s
-expire_grows p x (Some noted) StoreFault q e s = silent p q _ e s
-expire_grows p x (Some noted) (Deleted id) q e s = silent p q _ e s
-expire_grows p x (Some noted) other q e s = absurd (none-some q e)
+expire_grows p x (Some recorded) MetaFault q e s = silent p q _ e s
+expire_grows p x (Some recorded) StoreFault q e s = silent p q _ e s
+expire_grows p x (Some recorded) (Deleted id) q e s = silent p q _ e s
+expire_grows p x (Some recorded) other q e s = absurd (none-some q e)
 
 -- the row of raise
 pub raise_grows : (p : State) (x : Broker) (wanted : ℕ) (answer : Answer) (q : State) → raise_row p x wanted answer ≡ Some q → PlainSafe p → RowGrows p q
@@ -125,8 +125,8 @@ silent_grows p OkAnswer q e s = let is : p ≡ q = cc (e) in subst (λ (k : Stat
 silent_grows p other q e s = absurd (none-some q e)
 
 -- the row of fetch
-pub fetch_grows : (p : State) (x : Broker) (offset limit : ℕ) (noted : Option Noted) (answer : Answer) (q : State)
-    → fetch_row p x offset limit noted answer ≡ Some q → PlainSafe p → RowGrows p q
+pub fetch_grows : (p : State) (x : Broker) (offset limit : ℕ) (recorded : Option PlainSnapshot) (answer : Answer) (q : State)
+    → fetch_row p x offset limit recorded answer ≡ Some q → PlainSafe p → RowGrows p q
 fetch_grows p x offset limit None Down q e s = silent p q _ e s
 fetch_grows p x offset limit None NotLeader q e s = silent p q _ e s
 fetch_grows p x offset limit None (OutOfRange start end) q e s = silent p q _ e s
@@ -135,40 +135,40 @@ fetch_grows p x offset limit None (Run tier size stop bytes) q e s = silent p q 
 fetch_grows p x offset limit None DiskFault q e s = silent p q _ e s
 fetch_grows p x offset limit None (Damaged place k) q e s = silent p q _ e s
 fetch_grows p x offset limit None other q e s = absurd (none-some q e)
-fetch_grows p x offset limit (Some noted) Stopped q e s = silent p q _ e s
-fetch_grows p x offset limit (Some noted) NotLeader q e s = silent p q _ e s
-fetch_grows p x offset limit (Some noted) (OutOfRange start end) q e s = silent p q _ e s
-fetch_grows p x offset limit (Some noted) Empty q e s = silent p q _ e s
-fetch_grows p x offset limit (Some noted) (Run tier size stop bytes) q e s = silent p q _ e s
-fetch_grows p x offset limit (Some noted) MetaFault q e s = silent p q _ e s
-fetch_grows p x offset limit (Some noted) StoreFault q e s = silent p q _ e s
-fetch_grows p x offset limit (Some noted) (Damaged place k) q e s = silent p q _ e s
-fetch_grows p x offset limit (Some noted) other q e s = absurd (none-some q e)
+fetch_grows p x offset limit (Some recorded) Stopped q e s = silent p q _ e s
+fetch_grows p x offset limit (Some recorded) NotLeader q e s = silent p q _ e s
+fetch_grows p x offset limit (Some recorded) (OutOfRange start end) q e s = silent p q _ e s
+fetch_grows p x offset limit (Some recorded) Empty q e s = silent p q _ e s
+fetch_grows p x offset limit (Some recorded) (Run tier size stop bytes) q e s = silent p q _ e s
+fetch_grows p x offset limit (Some recorded) MetaFault q e s = silent p q _ e s
+fetch_grows p x offset limit (Some recorded) StoreFault q e s = silent p q _ e s
+fetch_grows p x offset limit (Some recorded) (Damaged place k) q e s = silent p q _ e s
+fetch_grows p x offset limit (Some recorded) other q e s = absurd (none-some q e)
 
 -- the row of offset
-pub offset_grows : (p : State) (x : Broker) (which : Which) (noted : Option Noted) (answer : Answer) (q : State)
-    → offset_row p x which noted answer ≡ Some q → PlainSafe p → RowGrows p q
+pub offset_grows : (p : State) (x : Broker) (which : Which) (recorded : Option PlainSnapshot) (answer : Answer) (q : State)
+    → offset_row p x which recorded answer ≡ Some q → PlainSafe p → RowGrows p q
 offset_grows p x which None Down q e s = silent p q _ e s
 offset_grows p x which None NotLeader q e s = silent p q _ e s
 offset_grows p x which None MetaFault q e s = silent p q _ e s
 offset_grows p x which None (Offset n) q e s = silent p q _ e s
 offset_grows p x which None other q e s = absurd (none-some q e)
-offset_grows p x which (Some noted) Stopped q e s = silent p q _ e s
-offset_grows p x which (Some noted) NotLeader q e s = silent p q _ e s
-offset_grows p x which (Some noted) (Offset n) q e s = silent p q _ e s
-offset_grows p x which (Some noted) NoOffset q e s = silent p q _ e s
-offset_grows p x (At ts) (Some noted) MetaFault q e s = silent p q _ e s
-offset_grows p x (At ts) (Some noted) StoreFault q e s = silent p q _ e s
-offset_grows p x (At ts) (Some noted) DiskFault q e s = silent p q _ e s
-offset_grows p x (At ts) (Some noted) (Damaged place k) q e s = silent p q _ e s
-offset_grows p x which (Some noted) other q e s = absurd (none-some q e)
+offset_grows p x which (Some recorded) Stopped q e s = silent p q _ e s
+offset_grows p x which (Some recorded) NotLeader q e s = silent p q _ e s
+offset_grows p x which (Some recorded) (Offset n) q e s = silent p q _ e s
+offset_grows p x which (Some recorded) NoOffset q e s = silent p q _ e s
+offset_grows p x (At ts) (Some recorded) MetaFault q e s = silent p q _ e s
+offset_grows p x (At ts) (Some recorded) StoreFault q e s = silent p q _ e s
+offset_grows p x (At ts) (Some recorded) DiskFault q e s = silent p q _ e s
+offset_grows p x (At ts) (Some recorded) (Damaged place k) q e s = silent p q _ e s
+offset_grows p x which (Some recorded) other q e s = absurd (none-some q e)
 
 -- the row of flush
 pub flush_grows : (p : State) (b : ℕ) (x : Broker) (answer : Answer) (q : State) → slice_get p.brokers b ≡ Some x → flush_row p b x answer ≡ Some q → PlainSafe p → RowGrows p q
 flush_grows p b x Down q at e s = silent p q _ e s
 flush_grows p b x DiskFault q at e s = by_when p (breaks p b x) q _ e (λ _. broke p b x at)
 flush_grows p b x (OkAt n) q at e s =
-    by_when p (put_broker p b (record x { stable = n })) q _ e (λ w. put_grows p b x (record x { stable = n }) at (like p.paths x (record x { stable = n }) refl refl refl))
+    by_when p (put_broker p b (record x { flushed_end = n })) q _ e (λ w. put_grows p b x (record x { flushed_end = n }) at (like p.paths x (record x { flushed_end = n }) refl refl refl))
 flush_grows p b x other q at e s = absurd (none-some q e)
 
 -- the row of roll
@@ -242,8 +242,8 @@ unclean_grows p b x LastEpoch q at e s = refused p q _ e s
 unclean_grows p b x DownBroker q at e s = refused p q _ e s
 unclean_grows p b x (BehindStart end start) q at e s = refused p q _ e s
 unclean_grows p b x (OkAt n) q at e s =
-    by_left p (restarted p x) q (not (is_last p.registry) && x.up && nat_le p.registry.start x.stable && (n == p.registry.epoch + 1))
-    (elected_alone p.registry b x.stable) e (λ w. none_grows p (set_registry (restarted p x) (elected_alone p.registry b x.stable)) refl (omega arith))
+    by_left p (restarted p x) q (not (is_last p.registry) && x.up && nat_le p.registry.start x.flushed_end && (n == p.registry.epoch + 1))
+    (elected_alone p.registry b x.flushed_end) e (λ w. none_grows p (set_registry (restarted p x) (elected_alone p.registry b x.flushed_end)) refl (omega arith))
 unclean_grows p b x other q at e s = absurd (none-some q e)
 
 -- the row of learn
@@ -259,7 +259,7 @@ learn_grows p b x r (LeadsAnswer n) q bx br e s =
     by_when p (led p b x n) q (may_lead p b x n) e (λ w.
     let t1 = both (learns p x n && (p.registry.leader.0 == b)) (not (has_path p n)) w in
     let none = path_none p n (not_true (has_path p n) t1.1) in
-    one_grows p (led p b x n) b x (record x { role = Leads n; stable = end_of x.log; known = p.registry.mark }) bx refl (omega arith)
+    one_grows p (led p b x n) b x (record x { role = Leads n; flushed_end = end_of x.log; known_high_watermark = p.registry.mark }) bx refl (omega arith)
     (record { stops = omega arith; log = inl (prefix_self x.log); leads = λ k _ role. inr (let same : n ≡ k = cc (role) in subst (λ (z : ℕ). path_of p.paths z ≡ None) same none) }))
 learn_grows p b x r DiskFault q bx br e s =
     by_when p (record (breaks p b x) { broken = p.registry.epoch ∷ p.broken }) q (may_lead p b x p.registry.epoch) e
@@ -268,43 +268,43 @@ learn_grows p b x r DiskFault q bx br e s =
 learn_grows p b x r other q bx br e s = absurd (none-some q e)
 
 -- what a later turn of either finds
-later_grows : (p : State) (x : Broker) (noted : Noted) (answer : Answer) (q : State) → later_row p x noted answer ≡ Some q → PlainSafe p → RowGrows p q
-later_grows p x noted Stopped q e s = silent p q _ e s
-later_grows p x noted (StaleEpoch n) q e s = silent p q _ e s
-later_grows p x noted (Passed n) q e s = silent p q _ e s
-later_grows p x noted other q e s = absurd (none-some q e)
+later_grows : (p : State) (x : Broker) (recorded : PlainSnapshot) (answer : Answer) (q : State) → later_row p x recorded answer ≡ Some q → PlainSafe p → RowGrows p q
+later_grows p x recorded Stopped q e s = silent p q _ e s
+later_grows p x recorded (StaleEpoch n) q e s = silent p q _ e s
+later_grows p x recorded (Passed n) q e s = silent p q _ e s
+later_grows p x recorded other q e s = absurd (none-some q e)
 
 -- the row of join
-pub join_grows : (p : State) (b : ℕ) (x : Broker) (noted : Option Noted) (answer : Answer) (q : State) → slice_get p.brokers b ≡ Some x → JoinedNoted p x noted
-    → join_row p b x noted answer ≡ Some q → PlainSafe p → RowGrows p q
+pub join_grows : (p : State) (b : ℕ) (x : Broker) (recorded : Option PlainSnapshot) (answer : Answer) (q : State) → slice_get p.brokers b ≡ Some x → JoinedSnapshot p x recorded
+    → join_row p b x recorded answer ≡ Some q → PlainSafe p → RowGrows p q
 join_grows p b x None Down q at j e s = silent p q _ e s
 join_grows p b x None NotFollower q at j e s = silent p q _ e s
 join_grows p b x None (StaleEpoch n) q at j e s = silent p q _ e s
 join_grows p b x None NoLeader q at j e s = silent p q _ e s
 join_grows p b x None (DiskFaultAt n) q at j e s =
-    by_broker p q (λ (y : Broker). breaks p b (record x { stable = min x.stable n })) (cut_to p x n) e (λ y is.
-    put_grows p b x (record (stopped x) { stable = min x.stable n; loose = true }) at (stopping p.paths x (record (stopped x) { stable = min x.stable n; loose = true }) refl refl))
+    by_broker p q (λ (y : Broker). breaks p b (record x { flushed_end = min x.flushed_end n })) (cut_to p x n) e (λ y is.
+    put_grows p b x (record (stopped x) { flushed_end = min x.flushed_end n; loose = true }) at (stopping p.paths x (record (stopped x) { flushed_end = min x.flushed_end n; loose = true }) refl refl))
 join_grows p b x None (Cut n) q at j e s = by_broker p q (put_broker p b) (cut_to p x n) e (λ y is. put_grows p b x y at (cut_grows p x n y is))
 join_grows p b x None other q at j e s = absurd (none-some q e)
-join_grows p b x (Some noted) (BelowStart start) q at j e s = silent p q _ e s
-join_grows p b x (Some noted) MetaFault q at j e s = silent p q _ e s
-join_grows p b x (Some noted) StoreFault q at j e s = silent p q _ e s
-join_grows p b x (Some noted) (Damaged place k) q at j e s = silent p q _ e s
-join_grows p b x (Some noted) (DiskFaultAt n) q at j e s =
-    by_broker p q (breaks p b) (rebuilt p x noted n) e (λ y is.
-    let v = rebuilt_is p b x noted n y at j is s in
+join_grows p b x (Some recorded) (BelowStart start) q at j e s = silent p q _ e s
+join_grows p b x (Some recorded) MetaFault q at j e s = silent p q _ e s
+join_grows p b x (Some recorded) StoreFault q at j e s = silent p q _ e s
+join_grows p b x (Some recorded) (Damaged place k) q at j e s = silent p q _ e s
+join_grows p b x (Some recorded) (DiskFaultAt n) q at j e s =
+    by_broker p q (breaks p b) (rebuilt p x recorded n) e (λ y is.
+    let v = rebuilt_is p b x recorded n y at j is s in
     put_grows p b x (record (stopped y) { loose = true }) at
     (record { stops = omega (arith, v.stops); log = inl v.log; leads = λ k same role. absurd (cc (role)) }))
-join_grows p b x (Some noted) (Rebuilt n) q at j e s =
-    by_broker p q (λ (y : Broker). put_broker p b (record y { stable = n })) (rebuilt p x noted n) e (λ y is.
-    let v = rebuilt_is p b x noted n y at j is s in
-    put_grows p b x (record y { stable = n }) at
+join_grows p b x (Some recorded) (Rebuilt n) q at j e s =
+    by_broker p q (λ (y : Broker). put_broker p b (record y { flushed_end = n })) (rebuilt p x recorded n) e (λ y is.
+    let v = rebuilt_is p b x recorded n y at j is s in
+    put_grows p b x (record y { flushed_end = n }) at
     (record { stops = omega (arith, v.stops); log = inl v.log; leads = λ k same role. absurd (cc (role, v.role)) }))
-join_grows p b x (Some noted) other q at j e s = later_grows p x noted other q e s
+join_grows p b x (Some recorded) other q at j e s = later_grows p x recorded other q e s
 
 -- the row of follow
-pub follow_grows : (p : State) (b : ℕ) (x : Broker) (limit : ℕ) (noted : Option Noted) (answer : Answer) (q : State) → slice_get p.brokers b ≡ Some x → JoinedNoted p x noted
-    → follow_row p b x limit noted answer ≡ Some q → PlainSafe p → RowGrows p q
+pub follow_grows : (p : State) (b : ℕ) (x : Broker) (limit : ℕ) (recorded : Option PlainSnapshot) (answer : Answer) (q : State) → slice_get p.brokers b ≡ Some x → JoinedSnapshot p x recorded
+    → follow_row p b x limit recorded answer ≡ Some q → PlainSafe p → RowGrows p q
 follow_grows p b x limit None Down q at j e s = silent p q _ e s
 follow_grows p b x limit None NotJoined q at j e s = silent p q _ e s
 follow_grows p b x limit None (StaleEpoch n) q at j e s = silent p q _ e s
@@ -314,16 +314,16 @@ follow_grows p b x limit None (Moved n) q at j e s = silent p q _ e s
 follow_grows p b x limit None DiskFault q at j e s = silent p q _ e s
 follow_grows p b x limit None (Damaged place k) q at j e s = silent p q _ e s
 follow_grows p b x limit None other q at j e s = absurd (none-some q e)
-follow_grows p b x limit (Some noted) TooManySegments q at j e s = silent p q _ e s
-follow_grows p b x limit (Some noted) DiskFault q at j e s = by_when p (breaks p b x) q _ e (λ _. broke p b x at)
-follow_grows p b x limit (Some noted) (Copied n) q at j e s =
-    by_broker p q (put_broker p b) (copied p x noted limit n) e (λ y c.
+follow_grows p b x limit (Some recorded) TooManySegments q at j e s = silent p q _ e s
+follow_grows p b x limit (Some recorded) DiskFault q at j e s = by_when p (breaks p b x) q _ e (λ _. broke p b x at)
+follow_grows p b x limit (Some recorded) (Copied n) q at j e s =
+    by_broker p q (put_broker p b) (copied p x recorded limit n) e (λ y c.
     let f = and_then_some _ (extended p x n) y c in
     let v = when_some _ _ y f.2 in
-    let t = both (goes_on p x noted) (is_within limit (drop (length x.log) f.0.log)) v.0 in
-    let w = extended_is p b x noted n y at j t.0 (f.1 ∙ ap Some v.1) s in
+    let t = both (goes_on p x recorded) (is_within limit (drop (length x.log) f.0.log)) v.0 in
+    let w = extended_is p b x recorded n y at j t.0 (f.1 ∙ ap Some v.1) s in
     put_grows p b x y at (record { stops = omega (arith, w.stops); log = inl w.log; leads = λ k same role. absurd (cc (role, w.role)) }))
-follow_grows p b x limit (Some noted) other q at j e s = later_grows p x noted other q e s
+follow_grows p b x limit (Some recorded) other q at j e s = later_grows p x recorded other q e s
 
 -- the row of ack
 pub ack_grows : (p : State) (b : ℕ) (x : Broker) (r : Replica) (answer : Answer) (q : State) → slice_get p.brokers b ≡ Some x → slice_get p.registry.replicas b ≡ Some r
@@ -334,8 +334,8 @@ ack_grows p b x r (StaleEpoch n) q bx br e s = silent p q _ e s
 ack_grows p b x r (OkAt m) q bx br e s =
     let f = and_then_some _ (path_of p.paths p.registry.epoch) q e in
     by_when p (acknowledged p b x r f.0) q (may_ack p b x r m) f.2
-    (λ w. one_grows p (acknowledged p b x r f.0) b x (record x { known = min (with_ack p.registry b r x.stable).mark (end_of x.log) }) bx refl (omega arith)
-    (like p.paths x (record x { known = min (with_ack p.registry b r x.stable).mark (end_of x.log) }) refl refl refl))
+    (λ w. one_grows p (acknowledged p b x r f.0) b x (record x { known_high_watermark = min (with_ack p.registry b r x.flushed_end).mark (end_of x.log) }) bx refl (omega arith)
+    (like p.paths x (record x { known_high_watermark = min (with_ack p.registry b r x.flushed_end).mark (end_of x.log) }) refl refl refl))
 ack_grows p b x r other q bx br e s = absurd (none-some q e)
 
 -- the row of shrink

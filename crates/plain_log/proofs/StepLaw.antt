@@ -23,15 +23,15 @@ use Rattle.plain_log.specs.declared.state.State.{State}
 use Rattle.plain_log.specs.declared.state.Path.{Path}
 use Rattle.plain_log.specs.declared.state.Broker.{Broker}
 use Rattle.plain_log.specs.declared.state.Actor.{Actor}
-use Rattle.plain_log.specs.declared.state.Noted.{Noted}
+use Rattle.plain_log.specs.declared.state.PlainSnapshot.{PlainSnapshot}
 use Rattle.plain_log.specs.declared.state.Role.{Role}
 use Rattle.plain_log.specs.declared.state.Role.TheVariants.{Idle, Leads, Follows, Joined}
 use Rattle.plain_log.specs.State.{leads, followed, joined, path_of, put_broker, actor_at, put_actor, with_actor}
 use Rattle.plain_log.specs.RowsOfFollowers.{cut_to}
 use Rattle.plain_log.specs.Rows.{row}
-use Rattle.plain_log.specs.Step.{begins, same_command, noted_of, is_noted, event_step, next_actor, step}
+use Rattle.plain_log.specs.Step.{begins, same_command, recorded_of, is_recorded, event_step, next_actor, step}
 use Rattle.plain_log.specs.Committed.{restarts}
-use Rattle.plain_log.specs.Safe.{RoleSafe, NotedSafe, PlainSafe, is_leaders, is_followers}
+use Rattle.plain_log.specs.Safe.{RoleSafe, SnapshotIsSafe, PlainSafe, is_leaders, is_followers}
 use Rattle.plain_log.proofs.Options.{when_some, map_some, both, eq_of}
 use Rattle.plain_log.proofs.Wider.{Wider}
 use Rattle.plain_log.proofs.Swaps.{Swap, swap_same}
@@ -41,7 +41,7 @@ use Rattle.plain_log.proofs.LogRows.{flush_keeps, roll_keeps, stop_keeps, up_kee
 use Rattle.plain_log.proofs.AppendRow.{append_keeps, raw_keeps}
 use Rattle.plain_log.proofs.ElectionRows.{elect_keeps, unclean_goes}
 use Rattle.plain_log.proofs.LearnRow.{learn_keeps}
-use Rattle.plain_log.proofs.FollowerRows.{JoinedNoted, join_keeps, follow_keeps}
+use Rattle.plain_log.proofs.FollowerRows.{JoinedSnapshot, join_keeps, follow_keeps}
 use Rattle.plain_log.proofs.AckRow.{ack_keeps}
 use Rattle.plain_log.proofs.ReplicaRows.{shrink_keeps, expand_keeps}
 use Rattle.plain_log.proofs.TierRows.{copy_keeps, trim_keeps, expire_keeps, raise_keeps, silent_keeps}
@@ -56,45 +56,45 @@ same_follow (Follow n) limit e = refl
 same_follow other limit e = absurd cc
 
 -- what is known of a begun command whose order is this one
-abbrev pub BegunSafe : State → Broker → Option Noted → Command → Type 0
-BegunSafe p x None c = Unit {0}
-BegunSafe p x (Some noted) c = (same_command noted.order.command c ≡ true) × NotedSafe p.paths p.registry.epoch noted x
+abbrev pub StartIsSafe : State → Broker → Option PlainSnapshot → Command → Type 0
+StartIsSafe p x None c = Unit {0}
+StartIsSafe p x (Some recorded) c = (same_command recorded.order.command c ≡ true) × SnapshotIsSafe p.paths p.registry.epoch recorded x
 
-pub joined_for_join : (p : State) (x : Broker) (noted : Option Noted) → BegunSafe p x noted Join → JoinedNoted p x noted
+pub joined_for_join : (p : State) (x : Broker) (recorded : Option PlainSnapshot) → StartIsSafe p x recorded Join → JoinedSnapshot p x recorded
 joined_for_join p x None h = tt
-joined_for_join p x (Some noted) h = h.1.joined (same_join noted.order.command h.0)
+joined_for_join p x (Some recorded) h = h.1.joined (same_join recorded.order.command h.0)
 
-pub joined_for_follow : (p : State) (x : Broker) (noted : Option Noted) (limit : ℕ) → BegunSafe p x noted (Follow limit) → JoinedNoted p x noted
+pub joined_for_follow : (p : State) (x : Broker) (recorded : Option PlainSnapshot) (limit : ℕ) → StartIsSafe p x recorded (Follow limit) → JoinedSnapshot p x recorded
 joined_for_follow p x None limit h = tt
-joined_for_follow p x (Some noted) limit h = h.1.joined (same_follow noted.order.command limit h.0)
+joined_for_follow p x (Some recorded) limit h = h.1.joined (same_follow recorded.order.command limit h.0)
 
 -- each row keeps them
-pub row_keeps : (p : State) (b : ℕ) (x : Broker) (r : Replica) (noted : Option Noted) (command : Command) (answer : Answer) (q : State)
-    → slice_get p.brokers b ≡ Some x → slice_get p.registry.replicas b ≡ Some r → BegunSafe p x noted command
-    → row p b x r noted command answer ≡ Some q → PlainSafe p → RowGoes (restarts command (Answers answer)) p q
-row_keeps p b x r noted (Append recs) answer q bx br j e s = row_goes p q (append_keeps p b x (built recs) answer q bx (built_long recs) e s)
-row_keeps p b x r noted (Raw bytes) answer q bx br j e s = row_goes p q (raw_keeps p b x bytes (checked bytes) answer q bx (λ batch is. (is_batch_of bytes batch is).long) e s)
-row_keeps p b x r noted Flush answer q bx br j e s = row_goes p q (flush_keeps p b x answer q bx e s)
-row_keeps p b x r noted Roll answer q bx br j e s = row_goes p q (roll_keeps p b x answer q bx e s)
-row_keeps p b x r noted Elect answer q bx br j e s = row_goes p q (elect_keeps p b x r answer q br e s)
-row_keeps p b x r noted Unclean answer q bx br j e s = unclean_goes p b x answer q bx e s
-row_keeps p b x r noted Learn answer q bx br j e s = row_goes p q (learn_keeps p b x r answer q bx br e s)
-row_keeps p b x r noted Join answer q bx br j e s = row_goes p q (join_keeps p b x noted answer q bx (joined_for_join p x noted j) e s)
-row_keeps p b x r noted (Follow limit) answer q bx br j e s = row_goes p q (follow_keeps p b x limit noted answer q bx (joined_for_follow p x noted limit j) e s)
-row_keeps p b x r noted Ack answer q bx br j e s = row_goes p q (ack_keeps p b x r answer q bx br e s)
-row_keeps p b x r noted Shrink answer q bx br j e s = row_goes p q (shrink_keeps p b r answer q br e s)
-row_keeps p b x r noted Expand answer q bx br j e s = row_goes p q (expand_keeps p b x r answer q br e s)
-row_keeps p b x r noted Copy answer q bx br j e s = row_goes p q (copy_keeps p x noted answer q e s)
-row_keeps p b x r noted Trim answer q bx br j e s = row_goes p q (trim_keeps p b x noted answer q bx e s)
-row_keeps p b x r noted Expire answer q bx br j e s = row_goes p q (expire_keeps p x noted answer q e s)
-row_keeps p b x r noted (Raise start) answer q bx br j e s = row_goes p q (raise_keeps p x start answer q e s)
-row_keeps p b x r noted (Clock ms) answer q bx br j e s = row_goes p q (silent_keeps p answer q e s)
-row_keeps p b x r noted Stop answer q bx br j e s = row_goes p q (stop_keeps p b x answer q bx e s)
-row_keeps p b x r noted Up answer q bx br j e s = row_goes p q (up_keeps p b x answer q bx e s)
-row_keeps p b x r noted (Fetch offset limit) answer q bx br j e s = row_goes p q (fetch_keeps p x offset limit noted answer q e s)
-row_keeps p b x r noted (Pack on) answer q bx br j e s = row_goes p q (silent_keeps p answer q e s)
-row_keeps p b x r noted (Copying on) answer q bx br j e s = row_goes p q (silent_keeps p answer q e s)
-row_keeps p b x r noted (Offset which) answer q bx br j e s = row_goes p q (offset_keeps p x which noted answer q e s)
+pub row_keeps : (p : State) (b : ℕ) (x : Broker) (r : Replica) (recorded : Option PlainSnapshot) (command : Command) (answer : Answer) (q : State)
+    → slice_get p.brokers b ≡ Some x → slice_get p.registry.replicas b ≡ Some r → StartIsSafe p x recorded command
+    → row p b x r recorded command answer ≡ Some q → PlainSafe p → RowGoes (restarts command (Answers answer)) p q
+row_keeps p b x r recorded (Append recs) answer q bx br j e s = row_goes p q (append_keeps p b x (built recs) answer q bx (built_long recs) e s)
+row_keeps p b x r recorded (Raw bytes) answer q bx br j e s = row_goes p q (raw_keeps p b x bytes (checked bytes) answer q bx (λ batch is. (is_batch_of bytes batch is).long) e s)
+row_keeps p b x r recorded Flush answer q bx br j e s = row_goes p q (flush_keeps p b x answer q bx e s)
+row_keeps p b x r recorded Roll answer q bx br j e s = row_goes p q (roll_keeps p b x answer q bx e s)
+row_keeps p b x r recorded Elect answer q bx br j e s = row_goes p q (elect_keeps p b x r answer q br e s)
+row_keeps p b x r recorded Unclean answer q bx br j e s = unclean_goes p b x answer q bx e s
+row_keeps p b x r recorded Learn answer q bx br j e s = row_goes p q (learn_keeps p b x r answer q bx br e s)
+row_keeps p b x r recorded Join answer q bx br j e s = row_goes p q (join_keeps p b x recorded answer q bx (joined_for_join p x recorded j) e s)
+row_keeps p b x r recorded (Follow limit) answer q bx br j e s = row_goes p q (follow_keeps p b x limit recorded answer q bx (joined_for_follow p x recorded limit j) e s)
+row_keeps p b x r recorded Ack answer q bx br j e s = row_goes p q (ack_keeps p b x r answer q bx br e s)
+row_keeps p b x r recorded Shrink answer q bx br j e s = row_goes p q (shrink_keeps p b r answer q br e s)
+row_keeps p b x r recorded Expand answer q bx br j e s = row_goes p q (expand_keeps p b x r answer q br e s)
+row_keeps p b x r recorded Copy answer q bx br j e s = row_goes p q (copy_keeps p x recorded answer q e s)
+row_keeps p b x r recorded Trim answer q bx br j e s = row_goes p q (trim_keeps p b x recorded answer q bx e s)
+row_keeps p b x r recorded Expire answer q bx br j e s = row_goes p q (expire_keeps p x recorded answer q e s)
+row_keeps p b x r recorded (Raise start) answer q bx br j e s = row_goes p q (raise_keeps p x start answer q e s)
+row_keeps p b x r recorded (Clock ms) answer q bx br j e s = row_goes p q (silent_keeps p answer q e s)
+row_keeps p b x r recorded Stop answer q bx br j e s = row_goes p q (stop_keeps p b x answer q bx e s)
+row_keeps p b x r recorded Up answer q bx br j e s = row_goes p q (up_keeps p b x answer q bx e s)
+row_keeps p b x r recorded (Fetch offset limit) answer q bx br j e s = row_goes p q (fetch_keeps p x offset limit recorded answer q e s)
+row_keeps p b x r recorded (Pack on) answer q bx br j e s = row_goes p q (silent_keeps p answer q e s)
+row_keeps p b x r recorded (Copying on) answer q bx br j e s = row_goes p q (silent_keeps p answer q e s)
+row_keeps p b x r recorded (Offset which) answer q bx br j e s = row_goes p q (offset_keeps p x which recorded answer q e s)
 
 -- what was written of an actor stands there
 pub actor_put : (actors : List Actor) (a : ℕ) (y : Actor) → actor_at (put_actor actors a y) a ≡ y
@@ -116,30 +116,30 @@ actor_kept (z ∷ actors) (suc a) y (suc c) ne = actor_kept actors a y c (λ e. 
 
 -- an actor that goes on keeps them, where what it noted is safe
 pub with_actor_safe : (p : State) (a : ℕ) (y : Actor)
-    → ((n : Noted) (x : Broker) → y.begun ≡ Some n → slice_get p.brokers n.order.broker.0 ≡ Some x → NotedSafe p.paths p.registry.epoch n x)
+    → ((n : PlainSnapshot) (x : Broker) → y.snapshot ≡ Some n → slice_get p.brokers n.order.broker.0 ≡ Some x → SnapshotIsSafe p.paths p.registry.epoch n x)
     → PlainSafe p → PlainSafe (with_actor a y p)
 with_actor_safe p a y h s = record {
   marks = s.marks;
   paths = s.paths;
   brokers = s.brokers;
-  known = s.known;
+  known_high_watermark = s.known_high_watermark;
   one_leader = s.one_leader;
   acks = s.acks;
   leader = s.leader;
   leader_within = s.leader_within;
   same_count = s.same_count;
   broken = s.broken;
-  noted = λ c n x bg nx. go c n x bg nx (c == a) refl;
+  recorded = λ c n x bg nx. go c n x bg nx (c == a) refl;
 }
   where
-    go : (c : ℕ) (n : Noted) (x : Broker) → (actor_at (put_actor p.actors a y) c).begun ≡ Some n → slice_get p.brokers n.order.broker.0 ≡ Some x
-        → (t : Bool) → (c == a) ≡ t → NotedSafe p.paths p.registry.epoch n x
+    go : (c : ℕ) (n : PlainSnapshot) (x : Broker) → (actor_at (put_actor p.actors a y) c).snapshot ≡ Some n → slice_get p.brokers n.order.broker.0 ≡ Some x
+        → (t : Bool) → (c == a) ≡ t → SnapshotIsSafe p.paths p.registry.epoch n x
     go c n x bg nx true t =
         let is : c ≡ a = grind (arith, nat_tests, t) in
-        h n x (sym (ap (λ (k : Actor). k.begun) (ap (actor_at (put_actor p.actors a y)) is ∙ actor_put p.actors a y)) ∙ bg) nx
+        h n x (sym (ap (λ (k : Actor). k.snapshot) (ap (actor_at (put_actor p.actors a y)) is ∙ actor_put p.actors a y)) ∙ bg) nx
     go c n x bg nx false t =
         let ne : c ≢ a = grind (arith, nat_tests, t) in
-        s.noted c n x (sym (ap (λ (k : Actor). k.begun) (actor_kept p.actors a y c ne)) ∙ bg) nx
+        s.recorded c n x (sym (ap (λ (k : Actor). k.snapshot) (actor_kept p.actors a y c ne)) ∙ bg) nx
 
 -- a broker as it is where a command begins
 pub record BeginSafe (p : State) (x : Broker) (c : Command) (z : Broker) : Type 0 where
@@ -184,7 +184,7 @@ cut_joined p x n y is =
 begins_safe : (p : State) (b : ℕ) (x : Broker) (c : Command) (cut : Option ℕ) (z : Broker) → slice_get p.brokers b ≡ Some x → begins p x c cut ≡ Some z → PlainSafe p → BeginSafe p x c z
 begins_safe p b x Join (Some n) z at e s =
     let k = cut_joined p x n z e in
-    record { swap = swap_cut p x n z e (s.brokers b x at) (s.known b x at); up = k.0; leads = λ i. absurd cc; joined = λ i. k.1 }
+    record { swap = swap_cut p x n z e (s.brokers b x at) (s.known_high_watermark b x at); up = k.0; leads = λ i. absurd cc; joined = λ i. k.1 }
 begins_safe p b x (Follow limit) None z at e s =
     begin_same p b x (Follow limit) _ z at e s (λ w. (grind (arith, nat_tests, w), (λ i. absurd cc), (λ i. grind (arith, nat_tests, w))))
 begins_safe p b x Copy None z at e s = begin_same p b x Copy _ z at e s (λ w. (grind (arith, nat_tests, w), (λ i. grind (arith, nat_tests, w)), (λ i. absurd cc)))
@@ -197,8 +197,8 @@ begins_safe p b x (Offset which) None z at e s =
     begin_same p b x (Offset which) _ z at e s (λ w. (grind (arith, nat_tests, w), (λ i. grind (arith, nat_tests, w)), (λ i. absurd cc)))
 begins_safe p b x other cut z at e s = absurd (none-some z e)
 
-noted_begin : (p : State) (order : Order) (x z : Broker) → BeginSafe p x order.command z → NotedSafe p.paths p.registry.epoch (noted_of p order z) z
-noted_begin p order x z h = record {
+recorded_begin : (p : State) (order : Order) (x z : Broker) → BeginSafe p x order.command z → SnapshotIsSafe p.paths p.registry.epoch (recorded_of p order z) z
+recorded_begin p order x z h = record {
   stops = omega arith;
   up = λ _. h.up;
   leads = h.leads;
@@ -219,7 +219,7 @@ pub record EventGoes (anew : Bool) (p : State) (a : ℕ) (q : State) : Type 0 wh
 
 -- an actor that goes on keeps what a row does
 with_actor_goes : (anew : Bool) (p q : State) (a : ℕ) (y : Actor)
-    → ((n : Noted) (x : Broker) → y.begun ≡ Some n → slice_get q.brokers n.order.broker.0 ≡ Some x → NotedSafe q.paths q.registry.epoch n x)
+    → ((n : PlainSnapshot) (x : Broker) → y.snapshot ≡ Some n → slice_get q.brokers n.order.broker.0 ≡ Some x → SnapshotIsSafe q.paths q.registry.epoch n x)
     → RowGoes anew p q → EventGoes anew p a (with_actor a y q)
 with_actor_goes anew p q a y h k = record {
   goes = record { safe = with_actor_safe q a y h k.safe; wider = k.wider; grows = k.grows; clean = k.clean };
@@ -227,13 +227,13 @@ with_actor_goes anew p q a y h k = record {
 }
 
 -- what an actor has begun is known of, where the order is its command
-pub begun_safe : (p : State) (a : ℕ) (order : Order) (x : Broker) (o : Option Noted) → slice_get p.brokers order.broker.0 ≡ Some x → PlainSafe p
-    → (actor_at p.actors a).begun ≡ o → is_noted o order ≡ true → BegunSafe p x o order.command
+pub begun_safe : (p : State) (a : ℕ) (order : Order) (x : Broker) (o : Option PlainSnapshot) → slice_get p.brokers order.broker.0 ≡ Some x → PlainSafe p
+    → (actor_at p.actors a).snapshot ≡ o → is_recorded o order ≡ true → StartIsSafe p x o order.command
 begun_safe p a order x None bx s i t = tt
 begun_safe p a order x (Some n) bx s i t =
     let u = both (n.order.broker.0 == order.broker.0) (same_command n.order.command order.command) t in
     let one : n.order.broker.0 ≡ order.broker.0 = eq_of n.order.broker.0 order.broker.0 u.0 in
-    (u.1, s.noted a n x i (ap (λ (k : ℕ). slice_get p.brokers k) one ∙ bx))
+    (u.1, s.recorded a n x i (ap (λ (k : ℕ). slice_get p.brokers k) one ∙ bx))
 
 -- a command that begins leaves what is committed
 begins_on : (c : Command) (cut : Option ℕ) → restarts c (Begins cut) ≡ false
@@ -243,28 +243,28 @@ begins_on other cut = refl
 -- so does each event
 event_goes : (p : State) (a : ℕ) (order : Order) (x : Broker) (r : Replica) (event : Event) (q : State)
     → slice_get p.brokers order.broker.0 ≡ Some x → slice_get p.registry.replicas order.broker.0 ≡ Some r
-    → is_noted (actor_at p.actors a).begun order ≡ true
+    → is_recorded (actor_at p.actors a).snapshot order ≡ true
     → event_step p a (actor_at p.actors a) order x r event ≡ Some q → PlainSafe p → EventGoes (restarts order.command event) p a q
-event_goes p a order x r (Begins cut) q bx br noted e s =
-    let w = map_some _ (option_and_then (λ (z : Broker). when (is_none (actor_at p.actors a).begun) z) (begins p x order.command cut)) q e in
+event_goes p a order x r (Begins cut) q bx br recorded e s =
+    let w = map_some _ (option_and_then (λ (z : Broker). when (is_none (actor_at p.actors a).snapshot) z) (begins p x order.command cut)) q e in
     let f = and_then_some _ (begins p x order.command cut) w.0 w.1 in
     let v = when_some _ _ w.0 f.2 in
     let is : begins p x order.command cut ≡ Some w.0 = f.1 ∙ ap Some v.1 in
     let g = begins_safe p order.broker.0 x order.command cut w.0 bx is s in
     subst (λ (k : Bool). EventGoes k p a q) (sym (begins_on order.command cut)) (subst (λ (k : State). EventGoes false p a k) w.2 (with_actor_goes false p (put_broker p order.broker.0 w.0) a _
     (λ n z bg nz.
-    let same : noted_of p order w.0 ≡ n = cc (bg) in
-    subst (λ (k : Noted). NotedSafe p.paths p.registry.epoch k z) same
-    (elim (get-set p.brokers order.broker.0 w.0 order.broker.0 z (ap (λ (k : Noted). slice_get (slice_set p.brokers order.broker.0 w.0) k.order.broker.0) same ∙ nz)) [
-      | inl i ↦ subst (λ (k : Broker). NotedSafe p.paths p.registry.epoch (noted_of p order w.0) k) (sym i.1) (noted_begin p order x w.0 g)
+    let same : recorded_of p order w.0 ≡ n = cc (bg) in
+    subst (λ (k : PlainSnapshot). SnapshotIsSafe p.paths p.registry.epoch k z) same
+    (elim (get-set p.brokers order.broker.0 w.0 order.broker.0 z (ap (λ (k : PlainSnapshot). slice_get (slice_set p.brokers order.broker.0 w.0) k.order.broker.0) same ∙ nz)) [
+      | inl i ↦ subst (λ (k : Broker). SnapshotIsSafe p.paths p.registry.epoch (recorded_of p order w.0) k) (sym i.1) (recorded_begin p order x w.0 g)
       | inr i ↦ absurd (i.0 refl)
     ]))
     (row_goes p (put_broker p order.broker.0 w.0) (broker_kept p order.broker.0 x w.0 bx g.swap s))))
-event_goes p a order x r (Answers answer) q bx br noted e s =
-    let w = map_some _ (row p order.broker.0 x r (actor_at p.actors a).begun order.command answer) q e in
-    let begun = begun_safe p a order x (actor_at p.actors a).begun bx s refl noted in
+event_goes p a order x r (Answers answer) q bx br recorded e s =
+    let w = map_some _ (row p order.broker.0 x r (actor_at p.actors a).snapshot order.command answer) q e in
+    let snapshot = begun_safe p a order x (actor_at p.actors a).snapshot bx s refl recorded in
     subst (λ (k : State). EventGoes (restarts order.command (Answers answer)) p a k) w.2 (with_actor_goes (restarts order.command (Answers answer)) p w.0 a _ (λ n z bg nz. absurd cc)
-    (row_keeps p order.broker.0 x r (actor_at p.actors a).begun order.command answer w.0 bx br begun w.1 s))
+    (row_keeps p order.broker.0 x r (actor_at p.actors a).snapshot order.command answer w.0 bx br snapshot w.1 s))
 
 -- what a step is made of
 pub record StepOf (p : State) (order : Order) (entry : JournalEntry) (q : State) : Type 0 where
@@ -273,7 +273,7 @@ pub record StepOf (p : State) (order : Order) (entry : JournalEntry) (q : State)
   pub replica : Replica
   pub place : slice_get p.registry.replicas order.broker.0 ≡ Some replica
   pub number : entry.number ≡ (actor_at p.actors entry.actor.0).number
-  pub noted : is_noted (actor_at p.actors entry.actor.0).begun order ≡ true
+  pub recorded : is_recorded (actor_at p.actors entry.actor.0).snapshot order ≡ true
   pub event : event_step p entry.actor.0 (actor_at p.actors entry.actor.0) order broker replica entry.event ≡ Some q
 
 pub step_of : (p : State) (order : Order) (entry : JournalEntry) (q : State) → step p order entry ≡ Some q → StepOf p order entry q
@@ -282,14 +282,14 @@ step_of p order entry q e =
     let r = and_then_some _ (slice_get p.registry.replicas order.broker.0) q x.2 in
     let y = and_then_some _ (next_actor p order entry) q r.2 in
     let w = when_some _ _ y.0 y.1 in
-    let t = both (entry.number == (actor_at p.actors entry.actor.0).number) (is_noted (actor_at p.actors entry.actor.0).begun order) w.0 in
+    let t = both (entry.number == (actor_at p.actors entry.actor.0).number) (is_recorded (actor_at p.actors entry.actor.0).snapshot order) w.0 in
     record {
       broker = x.0;
       at = x.1;
       replica = r.0;
       place = r.1;
       number = grind (arith, nat_tests, t.0);
-      noted = t.1;
+      recorded = t.1;
       event = subst (λ (k : Actor). event_step p entry.actor.0 k order x.0 r.0 entry.event ≡ Some q) (sym w.1) y.2;
     }
 
@@ -297,7 +297,7 @@ step_event : (p : State) (order : Order) (entry : JournalEntry) (q : State) → 
     → EventGoes (restarts order.command entry.event) p entry.actor.0 q
 step_event p order entry q e s =
     let h = step_of p order entry q e in
-    event_goes p entry.actor.0 order h.broker h.replica entry.event q h.at h.place h.noted h.event s
+    event_goes p entry.actor.0 order h.broker h.replica entry.event q h.at h.place h.recorded h.event s
 
 -- so does each step
 pub step_goes : (p : State) (order : Order) (entry : JournalEntry) (q : State) → step p order entry ≡ Some q → PlainSafe p

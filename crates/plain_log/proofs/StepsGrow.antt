@@ -4,7 +4,7 @@ use Rattle.plain_log.proofs.Options.{when_some, map_some}
 use Rattle.plain_log.specs.Rows.{row}
 use Rattle.plain_log.specs.Safe.{PlainSafe}
 use Rattle.plain_log.specs.State.{put_broker, actor_at, with_actor}
-use Rattle.plain_log.specs.Step.{begins, is_noted, event_step}
+use Rattle.plain_log.specs.Step.{begins, is_recorded, event_step}
 use Rattle.plain_log.specs.declared.answer.Answer.{Answer}
 use Rattle.plain_log.specs.declared.answer.Answer.TheVariants.{Offset, Up}
 use Rattle.plain_log.specs.declared.command.Command.{Command}
@@ -14,7 +14,7 @@ use Rattle.plain_log.specs.declared.journal.Event.{Event}
 use Rattle.plain_log.specs.declared.journal.Event.TheVariants.{Begins, Answers}
 use Rattle.plain_log.specs.declared.state.Actor.{Actor}
 use Rattle.plain_log.specs.declared.state.Broker.{Broker}
-use Rattle.plain_log.specs.declared.state.Noted.{Noted}
+use Rattle.plain_log.specs.declared.state.PlainSnapshot.{PlainSnapshot}
 use Rattle.plain_log.specs.declared.state.State.{State}
 use Rattle.record_batch.proofs.BuildLaws.{built_long}
 use Rattle.record_batch.proofs.Passing.{is_batch_of}
@@ -28,7 +28,7 @@ use Rattle.std.specs.Option.{option_and_then}
 use Rattle.std.specs.Prelude.{is_none}
 use Rattle.plain_log.specs.Grows.{BrokerGrows}
 use Rattle.plain_log.specs.Laws.{StepsGrow}
-use Rattle.plain_log.proofs.StepLaw.{BegunSafe, begun_safe, joined_for_join, joined_for_follow, step_of, step_goes}
+use Rattle.plain_log.proofs.StepLaw.{StartIsSafe, begun_safe, joined_for_join, joined_for_follow, step_of, step_goes}
 use Rattle.plain_log.proofs.RowGrows.{RowGrows, like, put_grows, cut_grows}
 use Rattle.plain_log.proofs.RowsGrow.{ack_grows, append_grows, copy_grows, elect_grows, expand_grows, expire_grows, fetch_grows, flush_grows, follow_grows, join_grows, learn_grows, offset_grows, raise_grows, raw_grows, roll_grows, shrink_grows, silent_grows, stop_grows, trim_grows, unclean_grows, up_grows}
 
@@ -36,32 +36,32 @@ same_when : (p : State) (x : Broker) (t : Bool) (z : Broker) → when t x ≡ So
 same_when p x t z e = let w = when_some t x z e in subst (λ (y : Broker). BrokerGrows p.paths x y) w.1 (like p.paths x x refl refl refl)
 
 -- each row keeps them
-pub row_grows : (p : State) (b : ℕ) (x : Broker) (r : Replica) (noted : Option Noted) (command : Command) (answer : Answer) (q : State)
-    → slice_get p.brokers b ≡ Some x → slice_get p.registry.replicas b ≡ Some r → BegunSafe p x noted command
-    → row p b x r noted command answer ≡ Some q → PlainSafe p → RowGrows p q
-row_grows p b x r noted (Append recs) answer q bx br j e s = append_grows p b x (built recs) answer q bx (built_long recs) e s
-row_grows p b x r noted (Raw bytes) answer q bx br j e s = raw_grows p b x bytes (checked bytes) answer q bx (λ batch is. (is_batch_of bytes batch is).long) e s
-row_grows p b x r noted Flush answer q bx br j e s = flush_grows p b x answer q bx e s
-row_grows p b x r noted Roll answer q bx br j e s = roll_grows p b x answer q bx e s
-row_grows p b x r noted Elect answer q bx br j e s = elect_grows p b x r answer q br e s
-row_grows p b x r noted Unclean answer q bx br j e s = unclean_grows p b x answer q bx e s
-row_grows p b x r noted Learn answer q bx br j e s = learn_grows p b x r answer q bx br e s
-row_grows p b x r noted Join answer q bx br j e s = join_grows p b x noted answer q bx (joined_for_join p x noted j) e s
-row_grows p b x r noted (Follow limit) answer q bx br j e s = follow_grows p b x limit noted answer q bx (joined_for_follow p x noted limit j) e s
-row_grows p b x r noted Ack answer q bx br j e s = ack_grows p b x r answer q bx br e s
-row_grows p b x r noted Shrink answer q bx br j e s = shrink_grows p b r answer q br e s
-row_grows p b x r noted Expand answer q bx br j e s = expand_grows p b x r answer q br e s
-row_grows p b x r noted Copy answer q bx br j e s = copy_grows p x noted answer q e s
-row_grows p b x r noted Trim answer q bx br j e s = trim_grows p b x noted answer q bx e s
-row_grows p b x r noted Expire answer q bx br j e s = expire_grows p x noted answer q e s
-row_grows p b x r noted (Raise start) answer q bx br j e s = raise_grows p x start answer q e s
-row_grows p b x r noted (Clock ms) answer q bx br j e s = silent_grows p answer q e s
-row_grows p b x r noted Stop answer q bx br j e s = stop_grows p b x answer q bx e s
-row_grows p b x r noted Up answer q bx br j e s = up_grows p b x answer q bx e s
-row_grows p b x r noted (Fetch offset limit) answer q bx br j e s = fetch_grows p x offset limit noted answer q e s
-row_grows p b x r noted (Pack on) answer q bx br j e s = silent_grows p answer q e s
-row_grows p b x r noted (Copying on) answer q bx br j e s = silent_grows p answer q e s
-row_grows p b x r noted (Offset which) answer q bx br j e s = offset_grows p x which noted answer q e s
+pub row_grows : (p : State) (b : ℕ) (x : Broker) (r : Replica) (recorded : Option PlainSnapshot) (command : Command) (answer : Answer) (q : State)
+    → slice_get p.brokers b ≡ Some x → slice_get p.registry.replicas b ≡ Some r → StartIsSafe p x recorded command
+    → row p b x r recorded command answer ≡ Some q → PlainSafe p → RowGrows p q
+row_grows p b x r recorded (Append recs) answer q bx br j e s = append_grows p b x (built recs) answer q bx (built_long recs) e s
+row_grows p b x r recorded (Raw bytes) answer q bx br j e s = raw_grows p b x bytes (checked bytes) answer q bx (λ batch is. (is_batch_of bytes batch is).long) e s
+row_grows p b x r recorded Flush answer q bx br j e s = flush_grows p b x answer q bx e s
+row_grows p b x r recorded Roll answer q bx br j e s = roll_grows p b x answer q bx e s
+row_grows p b x r recorded Elect answer q bx br j e s = elect_grows p b x r answer q br e s
+row_grows p b x r recorded Unclean answer q bx br j e s = unclean_grows p b x answer q bx e s
+row_grows p b x r recorded Learn answer q bx br j e s = learn_grows p b x r answer q bx br e s
+row_grows p b x r recorded Join answer q bx br j e s = join_grows p b x recorded answer q bx (joined_for_join p x recorded j) e s
+row_grows p b x r recorded (Follow limit) answer q bx br j e s = follow_grows p b x limit recorded answer q bx (joined_for_follow p x recorded limit j) e s
+row_grows p b x r recorded Ack answer q bx br j e s = ack_grows p b x r answer q bx br e s
+row_grows p b x r recorded Shrink answer q bx br j e s = shrink_grows p b r answer q br e s
+row_grows p b x r recorded Expand answer q bx br j e s = expand_grows p b x r answer q br e s
+row_grows p b x r recorded Copy answer q bx br j e s = copy_grows p x recorded answer q e s
+row_grows p b x r recorded Trim answer q bx br j e s = trim_grows p b x recorded answer q bx e s
+row_grows p b x r recorded Expire answer q bx br j e s = expire_grows p x recorded answer q e s
+row_grows p b x r recorded (Raise start) answer q bx br j e s = raise_grows p x start answer q e s
+row_grows p b x r recorded (Clock ms) answer q bx br j e s = silent_grows p answer q e s
+row_grows p b x r recorded Stop answer q bx br j e s = stop_grows p b x answer q bx e s
+row_grows p b x r recorded Up answer q bx br j e s = up_grows p b x answer q bx e s
+row_grows p b x r recorded (Fetch offset limit) answer q bx br j e s = fetch_grows p x offset limit recorded answer q e s
+row_grows p b x r recorded (Pack on) answer q bx br j e s = silent_grows p answer q e s
+row_grows p b x r recorded (Copying on) answer q bx br j e s = silent_grows p answer q e s
+row_grows p b x r recorded (Offset which) answer q bx br j e s = offset_grows p x which recorded answer q e s
 
 -- where a command begins
 begun_grows : (p : State) (x : Broker) (c : Command) (cut : Option ℕ) (z : Broker) → begins p x c cut ≡ Some z → BrokerGrows p.paths x z
@@ -80,24 +80,24 @@ with_actor_grows p q a y g = record { start = g.start; count = g.count; brokers 
 
 event_grows : (p : State) (a : ℕ) (order : Order) (x : Broker) (r : Replica) (event : Event) (q : State)
     → slice_get p.brokers order.broker.0 ≡ Some x → slice_get p.registry.replicas order.broker.0 ≡ Some r
-    → is_noted (actor_at p.actors a).begun order ≡ true
+    → is_recorded (actor_at p.actors a).snapshot order ≡ true
     → event_step p a (actor_at p.actors a) order x r event ≡ Some q → PlainSafe p → RowGrows p q
-event_grows p a order x r (Begins cut) q bx br noted e s =
-    let w = map_some _ (option_and_then (λ (z : Broker). when (is_none (actor_at p.actors a).begun) z) (begins p x order.command cut)) q e in
+event_grows p a order x r (Begins cut) q bx br recorded e s =
+    let w = map_some _ (option_and_then (λ (z : Broker). when (is_none (actor_at p.actors a).snapshot) z) (begins p x order.command cut)) q e in
     let f = and_then_some _ (begins p x order.command cut) w.0 w.1 in
     let v = when_some _ _ w.0 f.2 in
     let is : begins p x order.command cut ≡ Some w.0 = f.1 ∙ ap Some v.1 in
     subst (λ (k : State). RowGrows p k) w.2
     (with_actor_grows p (put_broker p order.broker.0 w.0) a _ (put_grows p order.broker.0 x w.0 bx (begun_grows p x order.command cut w.0 is)))
-event_grows p a order x r (Answers answer) q bx br noted e s =
-    let w = map_some _ (row p order.broker.0 x r (actor_at p.actors a).begun order.command answer) q e in
-    let begun = begun_safe p a order x (actor_at p.actors a).begun bx s refl noted in
+event_grows p a order x r (Answers answer) q bx br recorded e s =
+    let w = map_some _ (row p order.broker.0 x r (actor_at p.actors a).snapshot order.command answer) q e in
+    let snapshot = begun_safe p a order x (actor_at p.actors a).snapshot bx s refl recorded in
     subst (λ (k : State). RowGrows p k) w.2 (with_actor_grows p w.0 a _
-    (row_grows p order.broker.0 x r (actor_at p.actors a).begun order.command answer w.0 bx br begun w.1 s))
+    (row_grows p order.broker.0 x r (actor_at p.actors a).snapshot order.command answer w.0 bx br snapshot w.1 s))
 
 -- each step grows
 pub steps_grow : StepsGrow
 steps_grow p order entry q e s =
     let h = step_of p order entry q e in
-    let g = event_grows p entry.actor.0 order h.broker h.replica entry.event q h.at h.place h.noted h.event s in
+    let g = event_grows p entry.actor.0 order h.broker h.replica entry.event q h.at h.place h.recorded h.event s in
     record { paths = (step_goes p order entry q e s).wider; start = g.start; count = g.count; brokers = g.brokers }

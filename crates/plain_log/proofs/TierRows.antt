@@ -11,7 +11,7 @@ use Rattle.plain_log.specs.declared.answer.Answer.{Answer}
 use Rattle.plain_log.specs.declared.answer.Answer.TheVariants.{Ok as OkAnswer, OkAt, Down, NotLeader, DiskFault, StaleEpoch, Stopped, MetaFault, StoreFault, Damaged, Level, CopiedSegment, LostLead, Overtaken, Kept, Dropped, Raised, Deleted, NotAbove, AboveMark, CopyOff}
 use Rattle.plain_log.specs.declared.state.State.{State}
 use Rattle.plain_log.specs.declared.state.Broker.{Broker}
-use Rattle.plain_log.specs.declared.state.Noted.{Noted}
+use Rattle.plain_log.specs.declared.state.PlainSnapshot.{PlainSnapshot}
 use Rattle.plain_log.specs.State.{leading, breaks, set_registry, left_by}
 use Rattle.plain_log.specs.RowsOfTiers.{keeps_lead, copy_row, trim_row, raised_by, expire_row, raise_row, silent_row}
 use Rattle.plain_log.specs.Safe.{PlainSafe}
@@ -19,33 +19,33 @@ use Rattle.plain_log.proofs.Options.{both, le_of}
 use Rattle.plain_log.proofs.Keeps.{Keeps, kept, same, silent, by_when, breaks_kept, refused, by_left}
 
 -- the row of copy
-pub copy_keeps : (p : State) (x : Broker) (noted : Option Noted) (answer : Answer) (q : State) → copy_row p x noted answer ≡ Some q → PlainSafe p → Keeps p q
+pub copy_keeps : (p : State) (x : Broker) (recorded : Option PlainSnapshot) (answer : Answer) (q : State) → copy_row p x recorded answer ≡ Some q → PlainSafe p → Keeps p q
 copy_keeps p x None Down q e s = silent p q _ e s
 copy_keeps p x None NotLeader q e s = silent p q _ e s
 copy_keeps p x None CopyOff q e s = silent p q _ e s
 copy_keeps p x None MetaFault q e s = silent p q _ e s
 copy_keeps p x None other q e s = absurd (none-some q e)
-copy_keeps p x (Some noted) LostLead q e s = silent p q _ e s
-copy_keeps p x (Some noted) Level q e s = silent p q _ e s
-copy_keeps p x (Some noted) DiskFault q e s = silent p q _ e s
-copy_keeps p x (Some noted) (Damaged place k) q e s = silent p q _ e s
-copy_keeps p x (Some noted) MetaFault q e s = silent p q _ e s
-copy_keeps p x (Some noted) StoreFault q e s = silent p q _ e s
-copy_keeps p x (Some noted) (Overtaken state) q e s = silent p q _ e s
-copy_keeps p x (Some noted) (CopiedSegment id start last) q e s = silent p q _ e s
-copy_keeps p x (Some noted) other q e s = absurd (none-some q e)
+copy_keeps p x (Some recorded) LostLead q e s = silent p q _ e s
+copy_keeps p x (Some recorded) Level q e s = silent p q _ e s
+copy_keeps p x (Some recorded) DiskFault q e s = silent p q _ e s
+copy_keeps p x (Some recorded) (Damaged place k) q e s = silent p q _ e s
+copy_keeps p x (Some recorded) MetaFault q e s = silent p q _ e s
+copy_keeps p x (Some recorded) StoreFault q e s = silent p q _ e s
+copy_keeps p x (Some recorded) (Overtaken state) q e s = silent p q _ e s
+copy_keeps p x (Some recorded) (CopiedSegment id start last) q e s = silent p q _ e s
+copy_keeps p x (Some recorded) other q e s = absurd (none-some q e)
 
 -- the row of trim
-pub trim_keeps : (p : State) (b : ℕ) (x : Broker) (noted : Option Noted) (answer : Answer) (q : State) → slice_get p.brokers b ≡ Some x
-    → trim_row p b x noted answer ≡ Some q → PlainSafe p → Keeps p q
+pub trim_keeps : (p : State) (b : ℕ) (x : Broker) (recorded : Option PlainSnapshot) (answer : Answer) (q : State) → slice_get p.brokers b ≡ Some x
+    → trim_row p b x recorded answer ≡ Some q → PlainSafe p → Keeps p q
 trim_keeps p b x None Down q at e s = silent p q _ e s
 trim_keeps p b x None MetaFault q at e s = silent p q _ e s
 trim_keeps p b x None other q at e s = absurd (none-some q e)
-trim_keeps p b x (Some noted) Stopped q at e s = silent p q _ e s
-trim_keeps p b x (Some noted) Kept q at e s = silent p q _ e s
-trim_keeps p b x (Some noted) DiskFault q at e s = by_when p (breaks p b x) q _ e (λ _. breaks_kept p b x at s)
-trim_keeps p b x (Some noted) (Dropped base last) q at e s = silent p q _ e s
-trim_keeps p b x (Some noted) other q at e s = absurd (none-some q e)
+trim_keeps p b x (Some recorded) Stopped q at e s = silent p q _ e s
+trim_keeps p b x (Some recorded) Kept q at e s = silent p q _ e s
+trim_keeps p b x (Some recorded) DiskFault q at e s = by_when p (breaks p b x) q _ e (λ _. breaks_kept p b x at s)
+trim_keeps p b x (Some recorded) (Dropped base last) q at e s = silent p q _ e s
+trim_keeps p b x (Some recorded) other q at e s = absurd (none-some q e)
 
 -- the log start is at most the high watermark
 pub start_safe : (p : State) (n : ℕ) → n ≤ p.registry.mark → PlainSafe p → PlainSafe (set_registry p (started p.registry n))
@@ -53,14 +53,14 @@ start_safe p n le s = record {
   marks = record { start = le; consecutive = s.marks.consecutive; ends = s.marks.ends; begins = s.marks.begins; epoch = s.marks.epoch };
   paths = s.paths;
   brokers = s.brokers;
-  known = s.known;
+  known_high_watermark = s.known_high_watermark;
   one_leader = s.one_leader;
   acks = s.acks;
   leader = s.leader;
   leader_within = s.leader_within;
   same_count = s.same_count;
   broken = s.broken;
-  noted = s.noted;
+  recorded = s.recorded;
 }
 
 -- what the registry makes of a raise
@@ -85,23 +85,23 @@ raised_keeps p x wanted result q is s =
     go false e i = absurd cc
 
 -- the row of expire
-pub expire_keeps : (p : State) (x : Broker) (noted : Option Noted) (answer : Answer) (q : State) → expire_row p x noted answer ≡ Some q → PlainSafe p → Keeps p q
+pub expire_keeps : (p : State) (x : Broker) (recorded : Option PlainSnapshot) (answer : Answer) (q : State) → expire_row p x recorded answer ≡ Some q → PlainSafe p → Keeps p q
 expire_keeps p x None Down q e s = silent p q _ e s
 expire_keeps p x None NotLeader q e s = silent p q _ e s
 expire_keeps p x None MetaFault q e s = silent p q _ e s
 expire_keeps p x None other q e s = absurd (none-some q e)
-expire_keeps p x (Some noted) LostLead q e s = silent p q _ e s
-expire_keeps p x (Some noted) Kept q e s = silent p q _ e s
-expire_keeps p x (Some noted) (StaleEpoch n) q e s = silent p q _ e s
-expire_keeps p x (Some noted) (Raised start) q e s = go (keeps_lead x noted) e
+expire_keeps p x (Some recorded) LostLead q e s = silent p q _ e s
+expire_keeps p x (Some recorded) Kept q e s = silent p q _ e s
+expire_keeps p x (Some recorded) (StaleEpoch n) q e s = silent p q _ e s
+expire_keeps p x (Some recorded) (Raised start) q e s = go (keeps_lead x recorded) e
   where
     go : (t : Bool) → (if t then raised_by p x start (Ok start) else None) ≡ Some q → Keeps p q
     go true i = raised_keeps p x start (Ok start) q i s
     go false i = absurd cc
-expire_keeps p x (Some noted) MetaFault q e s = silent p q _ e s
-expire_keeps p x (Some noted) StoreFault q e s = silent p q _ e s
-expire_keeps p x (Some noted) (Deleted id) q e s = silent p q _ e s
-expire_keeps p x (Some noted) other q e s = absurd (none-some q e)
+expire_keeps p x (Some recorded) MetaFault q e s = silent p q _ e s
+expire_keeps p x (Some recorded) StoreFault q e s = silent p q _ e s
+expire_keeps p x (Some recorded) (Deleted id) q e s = silent p q _ e s
+expire_keeps p x (Some recorded) other q e s = absurd (none-some q e)
 
 -- the row of raise
 pub raise_keeps : (p : State) (x : Broker) (wanted : ℕ) (answer : Answer) (q : State) → raise_row p x wanted answer ≡ Some q → PlainSafe p → Keeps p q

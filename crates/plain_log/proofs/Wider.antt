@@ -4,11 +4,11 @@ use Rattle.log_terms.specs.Batch.{epoch_of}
 use Rattle.log_terms.proofs.Lists.{prefix_self, prefix_trans}
 use Rattle.plain_log.specs.declared.state.Path.{Path}
 use Rattle.plain_log.specs.declared.state.Broker.{Broker}
-use Rattle.plain_log.specs.declared.state.Noted.{Noted}
+use Rattle.plain_log.specs.declared.state.PlainSnapshot.{PlainSnapshot}
 use Rattle.plain_log.specs.declared.state.Role.{Role}
 use Rattle.plain_log.specs.declared.state.Role.TheVariants.{Idle, Leads, Follows, Joined}
 use Rattle.plain_log.specs.State.{path_of}
-use Rattle.plain_log.specs.Safe.{Has, LogSafe, RoleSafe, BrokerSafe, NotedSafe}
+use Rattle.plain_log.specs.Safe.{Has, LogSafe, RoleSafe, BrokerSafe, SnapshotIsSafe}
 
 -- each path is the beginning of one
 abbrev pub Wider : List Path → List Path → Type 0
@@ -34,8 +34,8 @@ log_wider ps qs log w h = record {
   matching = λ front batch p. has_wider ps qs (epoch_of batch) (front ++ batch ∷ []) w (h.matching front batch p);
 }
 
-pub noted_wider : (ps qs : List Path) (epoch : ℕ) (n : Noted) (x : Broker) → Wider ps qs → NotedSafe ps epoch n x → NotedSafe qs epoch n x
-noted_wider ps qs epoch n x w h = record {
+pub recorded_wider : (ps qs : List Path) (epoch : ℕ) (n : PlainSnapshot) (x : Broker) → Wider ps qs → SnapshotIsSafe ps epoch n x → SnapshotIsSafe qs epoch n x
+recorded_wider ps qs epoch n x w h = record {
   stops = h.stops;
   up = h.up;
   joined = h.joined;
@@ -55,7 +55,7 @@ pub broker_wider : (ps qs : List Path) (epoch : ℕ) (x : Broker) → Wider ps q
 broker_wider ps qs epoch x w f h = record {
   log = log_wider ps qs x.log w h.log;
   role = role_wider ps qs epoch x.role x.log w f h.role;
-  stable = h.stable;
-  known = h.known;
+  flushed_end = h.flushed_end;
+  known_high_watermark = h.known_high_watermark;
   down = h.down;
 }

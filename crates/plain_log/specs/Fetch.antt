@@ -8,26 +8,26 @@ use Rattle.tier_base.specs.declared.plain.Stop.TheVariants.{Mark, Piece, Limit}
 use Rattle.log_terms.specs.Log.{end_of, joined, from_offset}
 use Rattle.plain_log.specs.declared.state.State.{State}
 use Rattle.plain_log.specs.declared.state.Broker.{Broker}
-use Rattle.plain_log.specs.declared.state.Noted.{Noted}
+use Rattle.plain_log.specs.declared.state.PlainSnapshot.{PlainSnapshot}
 use Rattle.plain_log.specs.State.{leads, same_role}
 
 -- the broker is up, and has not stopped since the command began
-abbrev pub is_on : Broker → Option Noted → Bool
+abbrev pub is_on : Broker → Option PlainSnapshot → Bool
 is_on x None = x.up
-is_on x (Some noted) = x.up && (noted.stops == x.stops)
+is_on x (Some recorded) = x.up && (recorded.stops == x.stops)
 
 -- it also leads, and in the epoch in which the command began
-abbrev pub serves : Broker → Option Noted → Bool
+abbrev pub serves : Broker → Option PlainSnapshot → Bool
 serves x None = x.up && leads x.role
-serves x (Some noted) = is_on x (Some noted) && leads x.role && same_role noted.role x.role
+serves x (Some recorded) = is_on x (Some recorded) && leads x.role && same_role recorded.role x.role
 
 -- the offset isn't below the log start offset nor above the log end offset
 abbrev pub in_range : State → Broker → ℕ → Bool
 in_range p x offset = nat_le p.registry.start offset && nat_le offset (end_of x.log)
 
 -- a fetch at the offset is answered by a run
-abbrev pub gives_run : State → Broker → ℕ → Option Noted → Bool
-gives_run p x offset noted = serves x noted && in_range p x offset && nat_lt offset x.known
+abbrev pub gives_run : State → Broker → ℕ → Option PlainSnapshot → Bool
+gives_run p x offset recorded = serves x recorded && in_range p x offset && nat_lt offset x.known_high_watermark
 
 -- the first batches that fit the room
 abbrev pub fitting : ℕ → List (List ℕ) → List (List ℕ)
@@ -47,14 +47,14 @@ is_within limit (batch ∷ next ∷ log) = nat_le (length (joined (batch ∷ nex
 -- the stop says why the run ends: at the known high watermark, with its piece, or since the next batch would pass the
 -- limit
 abbrev pub stops_rightly : Broker → ℕ → ℕ → ℕ → Stop → Bool
-stops_rightly x offset limit size Mark = end_of (run_of x offset size) == x.known
-stops_rightly x offset limit size Piece = not (end_of (run_of x offset size) == x.known)
+stops_rightly x offset limit size Mark = end_of (run_of x offset size) == x.known_high_watermark
+stops_rightly x offset limit size Piece = not (end_of (run_of x offset size) == x.known_high_watermark)
 stops_rightly x offset limit size Limit =
-    not (end_of (run_of x offset size) == x.known)
+    not (end_of (run_of x offset size) == x.known_high_watermark)
     && nat_lt limit (length (joined (take (length (run_of x offset size) + 1) (from_offset offset x.log))))
 
 -- these bytes are a run, of this size and with this stop
 abbrev pub is_run : Broker → ℕ → ℕ → ℕ → Stop → List ℕ → Bool
 is_run x offset limit size stop bytes =
     (size == length bytes) && bytes_eq (joined (run_of x offset size)) bytes && is_within limit (run_of x offset size)
-    && nat_le (end_of (run_of x offset size)) x.known && stops_rightly x offset limit size stop
+    && nat_le (end_of (run_of x offset size)) x.known_high_watermark && stops_rightly x offset limit size stop

@@ -9,7 +9,8 @@ use Rattle.plain_log.specs.declared.state.Role.TheVariants.{Leads, Joined}
 
 -- a broker that is up, with an empty log
 abbrev pub fresh_broker : Role → Broker
-fresh_broker role = record { up = true; stops = 0; role = role; log = []; stable = 0; loose = false; known = 0 }
+fresh_broker role =
+    record { up = true; stops = 0; role = role; log = []; flushed_end = 0; loose = false; known_high_watermark = 0 }
 
 -- the fresh state of so many brokers behind the leader
 abbrev pub fresh_state : ℕ → State

@@ -2,7 +2,7 @@
 --
 -- A row gives the next state, or none where the answer isn't allowed. The tests of a command stand in the order
 -- in which they are made: a later answer is allowed only where no earlier one is. Where a command takes several turns,
--- what was noted at its beginning tells a later turn from the first. What a row doesn't name stays as it is.
+-- what was recorded at its beginning tells a later turn from the first. What a row doesn't name stays as it is.
 use Rattle.std.specs.Prelude.{ℕ, Option}
 use Rattle.registry.specs.declared.registry.Replica.{Replica}
 use Rattle.record_batch.specs.Build.{built}
@@ -12,7 +12,7 @@ use Rattle.plain_log.specs.declared.command.Command.{Command}
 use Rattle.plain_log.specs.declared.command.Command.TheVariants.{Append, Raw, Flush, Roll, Elect, Unclean, Learn, Join, Follow, Ack, Shrink, Expand, Copy, Trim, Expire, Raise, Clock, Stop, Up, Fetch, Pack, Copying, Offset}
 use Rattle.plain_log.specs.declared.state.State.{State}
 use Rattle.plain_log.specs.declared.state.Broker.{Broker}
-use Rattle.plain_log.specs.declared.state.Noted.{Noted}
+use Rattle.plain_log.specs.declared.state.PlainSnapshot.{PlainSnapshot}
 use Rattle.plain_log.specs.RowsOfLog.{append_row, raw_row, flush_row, roll_row, stop_row, up_row}
 use Rattle.plain_log.specs.RowsOfElections.{elect_row, unclean_row, learn_row}
 use Rattle.plain_log.specs.RowsOfFollowers.{join_row, follow_row}
@@ -21,27 +21,27 @@ use Rattle.plain_log.specs.RowsOfTiers.{copy_row, trim_row, expire_row, raise_ro
 use Rattle.plain_log.specs.RowsOfReads.{fetch_row, offset_row}
 
 -- the state after an answer to a command of broker b, but for the actor's own numbers
-abbrev pub row : State → ℕ → Broker → Replica → Option Noted → Command → Answer → Option State
-row p b x s noted (Append recs) answer = append_row p b x (built recs) answer
-row p b x s noted (Raw bytes) answer = raw_row p b x bytes (checked bytes) answer
-row p b x s noted Flush answer = flush_row p b x answer
-row p b x s noted Roll answer = roll_row p b x answer
-row p b x s noted Elect answer = elect_row p b x s answer
-row p b x s noted Unclean answer = unclean_row p b x answer
-row p b x s noted Learn answer = learn_row p b x answer
-row p b x s noted Join answer = join_row p b x noted answer
-row p b x s noted (Follow limit) answer = follow_row p b x limit noted answer
-row p b x s noted Ack answer = ack_row p b x s answer
-row p b x s noted Shrink answer = shrink_row p b s answer
-row p b x s noted Expand answer = expand_row p b x s answer
-row p b x s noted Copy answer = copy_row p x noted answer
-row p b x s noted Trim answer = trim_row p b x noted answer
-row p b x s noted Expire answer = expire_row p x noted answer
-row p b x s noted (Raise start) answer = raise_row p x start answer
-row p b x s noted (Clock ms) answer = silent_row p answer
-row p b x s noted Stop answer = stop_row p b x answer
-row p b x s noted Up answer = up_row p b x answer
-row p b x s noted (Fetch offset limit) answer = fetch_row p x offset limit noted answer
-row p b x s noted (Pack on) answer = silent_row p answer
-row p b x s noted (Copying on) answer = silent_row p answer
-row p b x s noted (Offset which) answer = offset_row p x which noted answer
+abbrev pub row : State → ℕ → Broker → Replica → Option PlainSnapshot → Command → Answer → Option State
+row p b x s recorded (Append recs) answer = append_row p b x (built recs) answer
+row p b x s recorded (Raw bytes) answer = raw_row p b x bytes (checked bytes) answer
+row p b x s recorded Flush answer = flush_row p b x answer
+row p b x s recorded Roll answer = roll_row p b x answer
+row p b x s recorded Elect answer = elect_row p b x s answer
+row p b x s recorded Unclean answer = unclean_row p b x answer
+row p b x s recorded Learn answer = learn_row p b x answer
+row p b x s recorded Join answer = join_row p b x recorded answer
+row p b x s recorded (Follow limit) answer = follow_row p b x limit recorded answer
+row p b x s recorded Ack answer = ack_row p b x s answer
+row p b x s recorded Shrink answer = shrink_row p b s answer
+row p b x s recorded Expand answer = expand_row p b x s answer
+row p b x s recorded Copy answer = copy_row p x recorded answer
+row p b x s recorded Trim answer = trim_row p b x recorded answer
+row p b x s recorded Expire answer = expire_row p x recorded answer
+row p b x s recorded (Raise start) answer = raise_row p x start answer
+row p b x s recorded (Clock ms) answer = silent_row p answer
+row p b x s recorded Stop answer = stop_row p b x answer
+row p b x s recorded Up answer = up_row p b x answer
+row p b x s recorded (Fetch offset limit) answer = fetch_row p x offset limit recorded answer
+row p b x s recorded (Pack on) answer = silent_row p answer
+row p b x s recorded (Copying on) answer = silent_row p answer
+row p b x s recorded (Offset which) answer = offset_row p x which recorded answer

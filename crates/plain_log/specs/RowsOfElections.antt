@@ -25,17 +25,17 @@ elect_row p b x s DownBroker = left_by p (after_elect p.registry b s x.up (Err r
 elect_row p b x s (OkAt n) = left_by p (after_elect p.registry b s x.up (Ok n))
 elect_row p b x s other = None
 
--- what is committed is the broker's log up to its stable end
+-- what is committed is the broker's log up to its flushed end
 abbrev pub restarted : State → Broker → State
-restarted p x = record p { committed = up_to x.stable x.log; unclean = true }
+restarted p x = record p { committed = up_to x.flushed_end x.log; unclean = true }
 
 -- the registry elects the broker, in sync or not
 abbrev pub unclean_row : State → ℕ → Broker → Answer → Option State
-unclean_row p b x LastEpoch = left_by p (after_unclean p.registry b x.up x.stable (Err refusal.LastEpoch))
-unclean_row p b x DownBroker = left_by p (after_unclean p.registry b x.up x.stable (Err refusal.DownBroker))
+unclean_row p b x LastEpoch = left_by p (after_unclean p.registry b x.up x.flushed_end (Err refusal.LastEpoch))
+unclean_row p b x DownBroker = left_by p (after_unclean p.registry b x.up x.flushed_end (Err refusal.DownBroker))
 unclean_row p b x (BehindStart end start) =
-    left_by p (after_unclean p.registry b x.up x.stable (Err (refusal.BehindStart end start)))
-unclean_row p b x (OkAt n) = left_by (restarted p x) (after_unclean p.registry b x.up x.stable (Ok n))
+    left_by p (after_unclean p.registry b x.up x.flushed_end (Err (refusal.BehindStart end start)))
+unclean_row p b x (OkAt n) = left_by (restarted p x) (after_unclean p.registry b x.up x.flushed_end (Ok n))
 unclean_row p b x other = None
 
 -- the broker's role is of the registry's epoch
@@ -50,11 +50,13 @@ learns p x n = x.up && not (knows p x) && (n == p.registry.epoch)
 abbrev pub may_lead : State → ℕ → Broker → ℕ → Bool
 may_lead p b x n = learns p x n && (p.registry.leader.0 == b) && not (has_path p n)
 
--- the broker leads this epoch: its whole log is stable, and is the epoch's path
+-- the broker leads this epoch: its whole log is flushed, and is the epoch's path
 abbrev pub led : State → ℕ → Broker → ℕ → State
 led p b x n = record p {
   paths = record { epoch = n; log = x.log } ∷ p.paths;
-  brokers = slice_set p.brokers b (record x { role = Leads n; stable = end_of x.log; known = p.registry.mark });
+  brokers =
+      slice_set p.brokers b
+      (record x { role = Leads n; flushed_end = end_of x.log; known_high_watermark = p.registry.mark });
 }
 
 -- the broker learns who leads

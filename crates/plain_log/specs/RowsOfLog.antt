@@ -59,11 +59,11 @@ raw_row p b x bytes (Err why) NotLeader = when (x.up && not (leads x.role)) p
 raw_row p b x bytes (Err why) (Refused cause) = when (x.up && leads x.role && same_cause cause why) p
 raw_row p b x bytes (Err why) other = None
 
--- all of the log becomes stable
+-- all of the log becomes flushed
 abbrev pub flush_row : State → ℕ → Broker → Answer → Option State
 flush_row p b x Down = when (not x.up) p
 flush_row p b x DiskFault = when x.up (breaks p b x)
-flush_row p b x (OkAt n) = when (x.up && (n == end_of x.log)) (put_broker p b (record x { stable = n }))
+flush_row p b x (OkAt n) = when (x.up && (n == end_of x.log)) (put_broker p b (record x { flushed_end = n }))
 flush_row p b x other = None
 
 -- the open segment is closed, and the next begins at the log's end
@@ -81,13 +81,14 @@ stop_row p b x Down = when (not x.up) p
 stop_row p b x OkAnswer = when x.up (put_broker p b (stopped x))
 stop_row p b x other = None
 
--- the log may end here when the broker comes up: at its stable end, or after a broken write at an end past it too
+-- the log may end here when the broker comes up: at its flushed end, or after a broken write at an end past it too
 abbrev pub may_open_at : Broker → ℕ → Bool
-may_open_at x n = if x.loose then is_end n x.log && nat_le x.stable n && nat_le n (end_of x.log) else n == x.stable
+may_open_at x n =
+    if x.loose then is_end n x.log && nat_le x.flushed_end n && nat_le n (end_of x.log) else n == x.flushed_end
 
 -- the broker is up, and its log ends here
 abbrev pub opened : Broker → ℕ → Broker
-opened x n = record x { up = true; log = up_to n x.log; stable = n; loose = false }
+opened x n = record x { up = true; log = up_to n x.log; flushed_end = n; loose = false }
 
 -- the broker comes up
 abbrev pub up_row : State → ℕ → Broker → Answer → Option State

@@ -16,20 +16,22 @@ use Rattle.plain_log.specs.declared.state.State.{State}
 use Rattle.plain_log.specs.declared.state.Broker.{Broker}
 use Rattle.plain_log.specs.State.{acking, path_of, is_stale, left_by}
 
--- the registry takes the broker's stable end, what is committed follows the high watermark, and the broker learns it
+-- the registry takes the broker's flushed end, what is committed follows the high watermark, and the broker learns it
 abbrev pub acknowledged : State → ℕ → Broker → Replica → List (List ℕ) → State
 acknowledged p b x s path = record p {
-  registry = with_ack p.registry b s x.stable;
-  committed = up_to (with_ack p.registry b s x.stable).mark path;
-  brokers = slice_set p.brokers b (record x { known = min (with_ack p.registry b s x.stable).mark (end_of x.log) });
+  registry = with_ack p.registry b s x.flushed_end;
+  committed = up_to (with_ack p.registry b s x.flushed_end).mark path;
+  brokers =
+      slice_set p.brokers b
+      (record x { known_high_watermark = min (with_ack p.registry b s x.flushed_end).mark (end_of x.log) });
 }
 
 -- the broker may acknowledge, and the high watermark is then this one
 abbrev pub may_ack : State → ℕ → Broker → Replica → ℕ → Bool
 may_ack p b x s mark =
-    x.up && is_some (acking x.role) && not (is_stale p (acking x.role)) && (mark == (with_ack p.registry b s x.stable).mark)
+    x.up && is_some (acking x.role) && not (is_stale p (acking x.role)) && (mark == (with_ack p.registry b s x.flushed_end).mark)
 
--- the broker acknowledges its stable end
+-- the broker acknowledges its flushed end
 abbrev pub ack_row : State → ℕ → Broker → Replica → Answer → Option State
 ack_row p b x s Down = when (not x.up) p
 ack_row p b x s NotJoined = when (x.up && is_none (acking x.role)) p

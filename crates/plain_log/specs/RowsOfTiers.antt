@@ -15,40 +15,40 @@ use Rattle.plain_log.specs.declared.answer.Answer.{Answer}
 use Rattle.plain_log.specs.declared.answer.Answer.TheVariants.{Ok as OkAnswer, OkAt, Down, NotLeader, DiskFault, StaleEpoch, Stopped, MetaFault, StoreFault, Damaged, Level, CopiedSegment, LostLead, Overtaken, Kept, Dropped, Raised, Deleted, NotAbove, AboveMark, CopyOff}
 use Rattle.plain_log.specs.declared.state.State.{State}
 use Rattle.plain_log.specs.declared.state.Broker.{Broker}
-use Rattle.plain_log.specs.declared.state.Noted.{Noted}
+use Rattle.plain_log.specs.declared.state.PlainSnapshot.{PlainSnapshot}
 use Rattle.plain_log.specs.State.{leads, leading, epoch_in, same_role, breaks, is_stale, left_by}
 
 -- the broker has not stopped, and leads as it did when the command began
-abbrev pub keeps_lead : Broker → Noted → Bool
-keeps_lead x noted = (noted.stops == x.stops) && same_role noted.role x.role
+abbrev pub keeps_lead : Broker → PlainSnapshot → Bool
+keeps_lead x recorded = (recorded.stops == x.stops) && same_role recorded.role x.role
 
 -- a segment goes to the remote tier
-abbrev pub copy_row : State → Broker → Option Noted → Answer → Option State
+abbrev pub copy_row : State → Broker → Option PlainSnapshot → Answer → Option State
 copy_row p x None Down = when (not x.up) p
 copy_row p x None NotLeader = when (x.up && not (leads x.role)) p
 copy_row p x None CopyOff = when (x.up && leads x.role) p
 copy_row p x None MetaFault = when (x.up && leads x.role) p
 copy_row p x None other = None
-copy_row p x (Some noted) LostLead = when (not (keeps_lead x noted)) p
-copy_row p x (Some noted) Level = when (keeps_lead x noted) p
-copy_row p x (Some noted) DiskFault = when (keeps_lead x noted) p
-copy_row p x (Some noted) (Damaged place at) = when (keeps_lead x noted) p
-copy_row p x (Some noted) MetaFault = when (keeps_lead x noted) p
-copy_row p x (Some noted) StoreFault = when (keeps_lead x noted) p
-copy_row p x (Some noted) (Overtaken state) = when (keeps_lead x noted) p
-copy_row p x (Some noted) (CopiedSegment id start last) = when (keeps_lead x noted) p
-copy_row p x (Some noted) other = None
+copy_row p x (Some recorded) LostLead = when (not (keeps_lead x recorded)) p
+copy_row p x (Some recorded) Level = when (keeps_lead x recorded) p
+copy_row p x (Some recorded) DiskFault = when (keeps_lead x recorded) p
+copy_row p x (Some recorded) (Damaged place at) = when (keeps_lead x recorded) p
+copy_row p x (Some recorded) MetaFault = when (keeps_lead x recorded) p
+copy_row p x (Some recorded) StoreFault = when (keeps_lead x recorded) p
+copy_row p x (Some recorded) (Overtaken state) = when (keeps_lead x recorded) p
+copy_row p x (Some recorded) (CopiedSegment id start last) = when (keeps_lead x recorded) p
+copy_row p x (Some recorded) other = None
 
 -- a local segment goes
-abbrev pub trim_row : State → ℕ → Broker → Option Noted → Answer → Option State
+abbrev pub trim_row : State → ℕ → Broker → Option PlainSnapshot → Answer → Option State
 trim_row p b x None Down = when (not x.up) p
 trim_row p b x None MetaFault = when x.up p
 trim_row p b x None other = None
-trim_row p b x (Some noted) Stopped = when (not (noted.stops == x.stops)) p
-trim_row p b x (Some noted) Kept = when (noted.stops == x.stops) p
-trim_row p b x (Some noted) DiskFault = when ((noted.stops == x.stops) && x.up) (breaks p b x)
-trim_row p b x (Some noted) (Dropped base last) = when (noted.stops == x.stops) p
-trim_row p b x (Some noted) other = None
+trim_row p b x (Some recorded) Stopped = when (not (recorded.stops == x.stops)) p
+trim_row p b x (Some recorded) Kept = when (recorded.stops == x.stops) p
+trim_row p b x (Some recorded) DiskFault = when ((recorded.stops == x.stops) && x.up) (breaks p b x)
+trim_row p b x (Some recorded) (Dropped base last) = when (recorded.stops == x.stops) p
+trim_row p b x (Some recorded) other = None
 
 -- the registry raises the log start for the broker, which is up and leads
 abbrev pub raised_by : State → Broker → ℕ → Result ℕ RegRefusal → Option State
@@ -56,20 +56,20 @@ raised_by p x wanted answer =
     option_and_then (λ e. if x.up then left_by p (after_raise p.registry e wanted answer) else None) (leading x.role)
 
 -- retention raises the log start, or what is below it goes from the remote tier
-abbrev pub expire_row : State → Broker → Option Noted → Answer → Option State
+abbrev pub expire_row : State → Broker → Option PlainSnapshot → Answer → Option State
 expire_row p x None Down = when (not x.up) p
 expire_row p x None NotLeader = when (x.up && not (leads x.role)) p
 expire_row p x None MetaFault = when (x.up && leads x.role) p
 expire_row p x None other = None
-expire_row p x (Some noted) LostLead = when (not (keeps_lead x noted)) p
-expire_row p x (Some noted) Kept = when (keeps_lead x noted) p
-expire_row p x (Some noted) (StaleEpoch n) =
-    when (keeps_lead x noted && is_stale p (epoch_in noted.role) && (n == p.registry.epoch)) p
-expire_row p x (Some noted) (Raised start) = if keeps_lead x noted then raised_by p x start (Ok start) else None
-expire_row p x (Some noted) MetaFault = when (keeps_lead x noted) p
-expire_row p x (Some noted) StoreFault = when (keeps_lead x noted) p
-expire_row p x (Some noted) (Deleted id) = when (keeps_lead x noted) p
-expire_row p x (Some noted) other = None
+expire_row p x (Some recorded) LostLead = when (not (keeps_lead x recorded)) p
+expire_row p x (Some recorded) Kept = when (keeps_lead x recorded) p
+expire_row p x (Some recorded) (StaleEpoch n) =
+    when (keeps_lead x recorded && is_stale p (epoch_in recorded.role) && (n == p.registry.epoch)) p
+expire_row p x (Some recorded) (Raised start) = if keeps_lead x recorded then raised_by p x start (Ok start) else None
+expire_row p x (Some recorded) MetaFault = when (keeps_lead x recorded) p
+expire_row p x (Some recorded) StoreFault = when (keeps_lead x recorded) p
+expire_row p x (Some recorded) (Deleted id) = when (keeps_lead x recorded) p
+expire_row p x (Some recorded) other = None
 
 -- the log start is raised by a command
 abbrev pub raise_row : State → Broker → ℕ → Answer → Option State

@@ -11,7 +11,7 @@ use Rattle.registry.specs.Registry.{epoch_limit}
 use Rattle.plain_log.specs.declared.state.State.{State}
 use Rattle.plain_log.specs.declared.state.Path.{Path}
 use Rattle.plain_log.specs.declared.state.Broker.{Broker}
-use Rattle.plain_log.specs.declared.state.Noted.{Noted}
+use Rattle.plain_log.specs.declared.state.PlainSnapshot.{PlainSnapshot}
 use Rattle.plain_log.specs.declared.state.Role.{Role}
 use Rattle.plain_log.specs.declared.state.Role.TheVariants.{Idle, Leads, Follows, Joined}
 use Rattle.plain_log.specs.State.{path_of, actor_at, is_in}
@@ -39,13 +39,13 @@ RoleSafe paths epoch (Leads e) log = (e ≤ epoch) × (path_of paths e ≡ Some 
 RoleSafe paths epoch (Follows e) log = e ≤ epoch
 RoleSafe paths epoch (Joined e) log = (e ≤ epoch) × Has paths e log
 
--- a broker's log, role, stable end and known high watermark; one that is down is idle and knows none
+-- a broker's log, role, flushed end and known high watermark; one that is down is idle and knows none
 pub record BrokerSafe (paths : List Path) (epoch : ℕ) (x : Broker) : Type 0 where
   pub log : LogSafe paths x.log
   pub role : RoleSafe paths epoch x.role x.log
-  pub stable : EndsAt x.stable x.log
-  pub known : EndsAt x.known x.log
-  pub down : x.up ≡ false → (x.role ≡ Idle) × (x.known ≡ 0)
+  pub flushed_end : EndsAt x.flushed_end x.log
+  pub known_high_watermark : EndsAt x.known_high_watermark x.log
+  pub down : x.up ≡ false → (x.role ≡ Idle) × (x.known_high_watermark ≡ 0)
 
 -- the log up to n begins these batches
 abbrev pub SharedTo : ℕ → List (List ℕ) → List (List ℕ) → Type 0
@@ -55,9 +55,9 @@ SharedTo n log batches = (front : List (List ℕ)) × IsPrefix front log × (end
 abbrev pub current : List Path → ℕ → List (List ℕ) → List (List ℕ)
 current paths epoch committed = unwrap_or (path_of paths epoch) committed
 
--- what a broker acknowledged is stable and begins the current path; a replica in sync has acknowledged the mark
+-- what a broker acknowledged is flushed and begins the current path; a replica in sync has acknowledged the mark
 pub record AckSafe (path : List (List ℕ)) (mark : ℕ) (x : Broker) (s : Replica) : Type 0 where
-  pub stable : s.acked ≤ x.stable
+  pub flushed_end : s.acked ≤ x.flushed_end
   pub shared : SharedTo s.acked x.log path
   pub in_sync : s.in_sync ≡ true → mark ≤ s.acked
 
@@ -72,8 +72,8 @@ pub record MarkSafe (paths : List Path) (r : Registry) (committed : List (List �
 -- what a broker knows to be committed is, while elections are clean; the leader of the current epoch knows no more
 -- than the mark
 pub record KnownSafe (unclean : Bool) (epoch mark : ℕ) (committed : List (List ℕ)) (x : Broker) : Type 0 where
-  pub shared : unclean ≡ false → SharedTo x.known x.log committed
-  pub leader : x.role ≡ Leads epoch → x.known ≤ mark
+  pub shared : unclean ≡ false → SharedTo x.known_high_watermark x.log committed
+  pub leader : x.role ≡ Leads epoch → x.known_high_watermark ≤ mark
 
 -- a command that a leader alone begins
 abbrev pub is_leaders : Command → Bool
@@ -89,12 +89,12 @@ is_followers Join = true
 is_followers (Follow limit) = true
 is_followers other = false
 
--- the broker has the noted role still, unless it stopped or a later epoch came
-abbrev pub HasJoined : ℕ → Noted → Broker → Type 0
+-- the broker has the recorded role still, unless it stopped or a later epoch came
+abbrev pub HasJoined : ℕ → PlainSnapshot → Broker → Type 0
 HasJoined epoch n x = (e : ℕ) × (n.role ≡ Joined e) × (n.stops ≡ x.stops → epoch ≤ e → x.role ≡ n.role)
 
--- what was noted of a begun command, against its broker
-pub record NotedSafe (paths : List Path) (epoch : ℕ) (n : Noted) (x : Broker) : Type 0 where
+-- what was recorded of a begun command, against its broker
+pub record SnapshotIsSafe (paths : List Path) (epoch : ℕ) (n : PlainSnapshot) (x : Broker) : Type 0 where
   pub stops : n.stops ≤ x.stops
   pub up : n.stops ≡ x.stops → x.up ≡ true
   pub leads : is_leaders n.order.command ≡ true
@@ -106,7 +106,7 @@ pub record PlainSafe (p : State) : Type 0 where
   pub marks : MarkSafe p.paths p.registry p.committed
   pub paths : (e : ℕ) (log : List (List ℕ)) → path_of p.paths e ≡ Some log → PathSafe p.paths p.registry.epoch e log
   pub brokers : (b : ℕ) (x : Broker) → slice_get p.brokers b ≡ Some x → BrokerSafe p.paths p.registry.epoch x
-  pub known : (b : ℕ) (x : Broker) → slice_get p.brokers b ≡ Some x
+  pub known_high_watermark : (b : ℕ) (x : Broker) → slice_get p.brokers b ≡ Some x
       → KnownSafe p.unclean p.registry.epoch p.registry.mark p.committed x
   pub one_leader : (b c : ℕ) (x y : Broker) (e : ℕ) → slice_get p.brokers b ≡ Some x → slice_get p.brokers c ≡ Some y
       → x.role ≡ Leads e → y.role ≡ Leads e → b ≡ c
@@ -116,6 +116,6 @@ pub record PlainSafe (p : State) : Type 0 where
   pub leader_within : p.registry.leader.0 < length p.registry.replicas
   pub same_count : length p.registry.replicas ≡ length p.brokers
   pub broken : (n : ℕ) → is_in n p.broken ≡ true → n ≤ p.registry.epoch
-  pub noted : (a : ℕ) (n : Noted) (x : Broker) → (actor_at p.actors a).begun ≡ Some n
+  pub recorded : (a : ℕ) (n : PlainSnapshot) (x : Broker) → (actor_at p.actors a).snapshot ≡ Some n
       → slice_get p.brokers n.order.broker.0 ≡ Some x
-      → NotedSafe p.paths p.registry.epoch n x
+      → SnapshotIsSafe p.paths p.registry.epoch n x

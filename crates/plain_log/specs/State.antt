@@ -67,9 +67,9 @@ put_broker p b x = record p { brokers = slice_set p.brokers b x }
 
 -- the broker after a stop
 abbrev pub stopped : Broker → Broker
-stopped x = record x { up = false; stops = x.stops + 1; role = Idle; known = 0 }
+stopped x = record x { up = false; stops = x.stops + 1; role = Idle; known_high_watermark = 0 }
 
--- the broker stops in the middle of a write, and more than what is stable may come back
+-- the broker stops in the middle of a write, and more than what is flushed may come back
 abbrev pub breaks : State → ℕ → Broker → State
 breaks p b x = put_broker p b (record (stopped x) { loose = true })
 
@@ -121,7 +121,7 @@ leader_leads p = is_some (the_leader p)
 
 -- an actor that has not begun
 abbrev pub idle : Actor
-idle = record { number = 0; begun = None }
+idle = record { number = 0; snapshot = None }
 
 -- how far the actor has come
 abbrev pub actor_at : List Actor → ℕ → Actor

@@ -18,7 +18,7 @@ use Rattle.plain_log.specs.declared.journal.JournalEntry.{JournalEntry}
 use Rattle.plain_log.specs.declared.state.State.{State}
 use Rattle.plain_log.specs.declared.state.Broker.{Broker}
 use Rattle.plain_log.specs.declared.state.Actor.{Actor}
-use Rattle.plain_log.specs.declared.state.Noted.{Noted}
+use Rattle.plain_log.specs.declared.state.PlainSnapshot.{PlainSnapshot}
 use Rattle.plain_log.specs.State.{leads, put_broker, actor_at, with_actor}
 use Rattle.plain_log.specs.Fetch.{gives_run}
 use Rattle.plain_log.specs.RowsOfFollowers.{cut_to, leader_end, may_follow}
@@ -56,28 +56,30 @@ same_command (Fetch offset limit) (Fetch other most) = (offset == other) && (lim
 same_command (Offset which) (Offset other) = same_which which other
 same_command command other = false
 
--- what is noted where the order's command begins
-abbrev pub noted_of : State → Order → Broker → Noted
-noted_of p order x = record { order = order; stops = x.stops; role = x.role; end = end_of x.log; start = p.registry.start }
+-- what is recorded where the order's command begins
+abbrev pub recorded_of : State → Order → Broker → PlainSnapshot
+recorded_of p order x = record { order = order; stops = x.stops; role = x.role; end = end_of x.log; start = p.registry.start }
 
--- a command that has begun is the noted one
-abbrev pub is_noted : Option Noted → Order → Bool
-is_noted None order = true
-is_noted (Some noted) order = (noted.order.broker.0 == order.broker.0) && same_command noted.order.command order.command
+-- a command that has begun is the recorded one
+abbrev pub is_recorded : Option PlainSnapshot → Order → Bool
+is_recorded None order = true
+is_recorded (Some recorded) order =
+    (recorded.order.broker.0 == order.broker.0) && same_command recorded.order.command order.command
 
 -- a command of actor a, whose next number is y's, begins or is answered
 abbrev pub event_step : State → ℕ → Actor → Order → Broker → Replica → Event → Option State
 event_step p a y order x s (Begins cut) =
-    option_map (λ z. with_actor a (record y { begun = Some (noted_of p order z) }) (put_broker p order.broker.0 z))
-    (option_and_then (λ z. when (is_none y.begun) z) (begins p x order.command cut))
+    option_map (λ z. with_actor a (record y { snapshot = Some (recorded_of p order z) })
+    (put_broker p order.broker.0 z))
+    (option_and_then (λ z. when (is_none y.snapshot) z) (begins p x order.command cut))
 event_step p a y order x s (Answers answer) =
-    option_map (with_actor a (record { number = y.number + 1; begun = None }))
-    (row p order.broker.0 x s y.begun order.command answer)
+    option_map (with_actor a (record { number = y.number + 1; snapshot = None }))
+    (row p order.broker.0 x s y.snapshot order.command answer)
 
 -- the entry has the actor's next number, and is of the command that has begun, if one has
 abbrev pub next_actor : State → Order → JournalEntry → Option Actor
 next_actor p order entry =
-    when ((entry.number == (actor_at p.actors entry.actor.0).number) && is_noted (actor_at p.actors entry.actor.0).begun order)
+    when ((entry.number == (actor_at p.actors entry.actor.0).number) && is_recorded (actor_at p.actors entry.actor.0).snapshot order)
     (actor_at p.actors entry.actor.0)
 
 -- the next state, or none where the entry isn't allowed

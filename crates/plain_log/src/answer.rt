@@ -56,7 +56,7 @@ pub enum Answer {
     NotInSync,
     /// The broker isn't up, and the registry wants it to be.
     DownBroker,
-    /// The broker's stable end, the first, is below the log start offset, the second.
+    /// The broker's flushed end, the first, is below the log start offset, the second.
     BehindStart(u64, u64),
     /// The broker has learned of this epoch already.
     Known,

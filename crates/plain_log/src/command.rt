@@ -39,7 +39,7 @@ pub enum Command {
     Append(Row<Rec>),
     /// The leader appends these bytes, where they are a batch.
     Raw(Bytes),
-    /// The broker makes its log stable up to its end.
+    /// The broker makes its log flushed up to its end.
     Flush,
     /// The broker closes its open log segment, and begins the next.
     Roll,
@@ -53,7 +53,7 @@ pub enum Command {
     Join,
     /// A follower that has joined copies batches from the leader, as many as fit `limit` bytes, and at least one.
     Follow { limit: u32 },
-    /// The broker acknowledges its stable end, which may raise the high watermark.
+    /// The broker acknowledges its flushed end, which may raise the high watermark.
     Ack,
     /// The broker leaves the replicas in sync.
     Shrink,

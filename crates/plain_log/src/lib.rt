@@ -22,4 +22,4 @@ pub use laws::{
     runs_answer_in_order, runs_are_committed, runs_are_led, steps_grow, steps_keep_safe,
 };
 pub use registry::{Registry, Replica};
-pub use state::{Actor, Broker, Noted, Path, Role, State};
+pub use state::{Actor, Broker, Path, PlainSnapshot, Role, State};

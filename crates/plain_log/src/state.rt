@@ -29,11 +29,11 @@ pub struct Broker {
     /// Its record batches from offset 0 on.
     pub log: Row<Bytes>,
     /// The offset up to which the log survives a stop.
-    pub stable: u64,
-    /// It stopped in the middle of a write, so more than what is stable may come back.
+    pub flushed_end: u64,
+    /// It stopped in the middle of a write, so more than what is flushed may come back.
     pub loose: bool,
     /// The high watermark that it knows.
-    pub known: u64,
+    pub known_high_watermark: u64,
 }
 
 /// The log that the leader of one epoch has.
@@ -43,9 +43,9 @@ pub struct Path {
     pub log: Row<Bytes>,
 }
 
-/// What was noted where a command of several turns began.
+/// What was recorded where a command of several turns began.
 #[derive(Debug, Drop)]
-pub struct Noted {
+pub struct PlainSnapshot {
     pub order: Order,
     /// How often its broker had stopped.
     pub stops: u64,
@@ -62,8 +62,8 @@ pub struct Noted {
 pub struct Actor {
     /// The number of its next command, or of the one that has begun.
     pub number: u32,
-    /// What was noted of the command, where it has begun.
-    pub begun: Option<Noted>,
+    /// What was recorded of the command, where it has begun.
+    pub snapshot: Option<PlainSnapshot>,
 }
 
 /// A partition: what the registry says and what is committed, the log of each leader epoch, the brokers, and how far

@@ -33,8 +33,8 @@ use Rattle.remote_find.specs.declared.piece.Piece.{Piece}
 use Rattle.remote_find.specs.Pieces.{piece_at}
 use Rattle.plain_log.specs.declared.answer.Answer.TheVariants.{StoreFault, Damaged}
 use Rattle.plain_log.specs.declared.answer.Place.TheVariants.{Key, Meta}
-use Rattle.rebuild_task.specs.declared.turn.Wanted.{Wanted}
-use Rattle.rebuild_task.specs.declared.turn.Next.TheVariants.{Restart}
+use Rattle.rebuild_task.specs.declared.turn.RebuildRequest.{RebuildRequest}
+use Rattle.rebuild_task.specs.declared.turn.RebuildStep.TheVariants.{Restart}
 use Rattle.rebuild_task.specs.declared.turn.RebuildTurn.{RebuildTurn}
 use Rattle.rebuild_task.specs.declared.turn.RebuildTurn.TheVariants.{Goes, Ends}
 
@@ -87,7 +87,7 @@ module _ {S : Type 0} (objects : S → Content) (calls : S → Control call_code
   EpochsRow wanted view (Some spot) result old new = ReadsEpochs wanted spot result old new
 
   -- a turn of a rebuild: what it came to, or that it wanted memory
-  abbrev pub RebuildRow : Wanted → List (ℕ × ℕ) → Seen → Result RebuildTurn AllocError → S → S → Type 0
+  abbrev pub RebuildRow : RebuildRequest → List (ℕ × ℕ) → Seen → Result RebuildTurn AllocError → S → S → Type 0
   RebuildRow wanted line view result old new =
       EpochsRow wanted.offset view
       (epochs_of wanted.partition view.entries (piece_at view.entries line wanted.offset (wanted.offset - 1))) result old new

@@ -15,5 +15,5 @@
 mod turn;
 mod turns;
 
-pub use turn::{Next, RebuildTurn, Wanted};
+pub use turn::{RebuildRequest, RebuildStep, RebuildTurn};
 pub use turns::rebuild_turn;

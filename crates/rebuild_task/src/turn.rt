@@ -6,7 +6,7 @@ use tier_base::PartitionId;
 
 /// What a rebuild asks for.
 #[derive(Clone, Copy, Debug, PartialEq, Eq)]
-pub struct Wanted {
+pub struct RebuildRequest {
     pub partition: PartitionId,
     /// Where the local log is to start.
     pub offset: u64,
@@ -14,7 +14,7 @@ pub struct Wanted {
 
 /// What the next turn of a rebuild does, once its broker's view is refreshed.
 #[derive(Debug, Drop)]
-pub enum Next {
+pub enum RebuildStep {
     /// Read the leader epochs of a remote segment.
     Epochs,
     /// Start the local log anew, with these leader epochs.
@@ -25,7 +25,7 @@ pub enum Next {
 #[derive(Debug, Drop)]
 pub enum RebuildTurn {
     /// The rebuild continues with this turn.
-    Goes(Next),
+    Goes(RebuildStep),
     /// The rebuild has ended with this answer.
     Ends(Answer),
 }

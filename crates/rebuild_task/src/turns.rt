@@ -7,7 +7,7 @@ ghost use Rattle.remote_find.specs.Pieces.{piece_at};
 ghost use Rattle.rebuild_task.specs.declared.turn.RebuildTurn.TheVariants.{Ends};
 ghost use Rattle.rebuild_task.specs.Turns.{epochs_of, Takes, RebuildRow};
 
-use crate::turn::{Next, RebuildTurn, Wanted};
+use crate::turn::{RebuildRequest, RebuildStep, RebuildTurn};
 use bytes::Bytes;
 use epoch_line::{Line, TextRefusal};
 use object_store::{Spot, Store, get_spot, place};
@@ -20,7 +20,7 @@ use tier_base::{Part, Trouble};
 /// Reads the leader's epochs up to the wanted offset. `line` has the leader's, up to there.
 pub fn rebuild_turn<S: Store>(
     alloc: Global,
-    wanted: Wanted,
+    wanted: RebuildRequest,
     line: &Line,
     view: &View,
     store: &mut S,
@@ -38,7 +38,7 @@ pub fn rebuild_turn<S: Store>(
 }
 
 /// Where the epochs stand of the segment that holds the last offset below the wanted one.
-fn epochs_of(wanted: Wanted, line: &Line, view: &View) -> Option<Spot>
+fn epochs_of(wanted: RebuildRequest, line: &Line, view: &View) -> Option<Spot>
     ensures spot { result ≡ epochs_of wanted.partition view.now.entries
         (piece_at view.now.entries line.now wanted.offset (wanted.offset - 1)) }
     ensures near { IfSome result (λ spot. spot.at < 2 ^ 34) }
@@ -77,7 +77,7 @@ fn take(
     match Line::from_text(alloc, bytes.as_slice()) {
         Ok(mut line) => {
             line.cut_end(wanted);
-            Ok(RebuildTurn::Goes(Next::Restart(line)))
+            Ok(RebuildTurn::Goes(RebuildStep::Restart(line)))
         }
         Err(TextRefusal::BadText { .. }) => Ok(damaged(spot, spot.at)),
         Err(TextRefusal::NoMemory) => Err(AllocError),

@@ -31,22 +31,22 @@ after_elect r b s up (Err DownBroker) = when (not (is_last r) && s.in_sync && no
 after_elect r b s up (Ok epoch) = when (not (is_last r) && s.in_sync && up && (epoch == r.epoch + 1)) (elected r b)
 after_elect r b s up other = None
 
--- an unclean election of the broker, which is up or not, and whose stable end is this one
+-- an unclean election of the broker, which is up or not, and whose flushed end is this one
 abbrev pub after_unclean : Registry → ℕ → Bool → ℕ → Result ℕ RegRefusal → Option Registry
-after_unclean r b up stable (Err LastEpoch) = when (is_last r) r
-after_unclean r b up stable (Err DownBroker) = when (not (is_last r) && not up) r
-after_unclean r b up stable (Err (BehindStart end start)) =
-    when (not (is_last r) && up && nat_lt stable r.start && (end == stable) && (start == r.start)) r
-after_unclean r b up stable (Ok epoch) =
-    when (not (is_last r) && up && nat_le r.start stable && (epoch == r.epoch + 1)) (elected_alone r b stable)
-after_unclean r b up stable other = None
+after_unclean r b up flushed_end (Err LastEpoch) = when (is_last r) r
+after_unclean r b up flushed_end (Err DownBroker) = when (not (is_last r) && not up) r
+after_unclean r b up flushed_end (Err (BehindStart end start)) =
+    when (not (is_last r) && up && nat_lt flushed_end r.start && (end == flushed_end) && (start == r.start)) r
+after_unclean r b up flushed_end (Ok epoch) =
+    when (not (is_last r) && up && nat_le r.start flushed_end && (epoch == r.epoch + 1)) (elected_alone r b flushed_end)
+after_unclean r b up flushed_end other = None
 
--- an acknowledgement of a stable end by a broker of this epoch, which answers the high watermark
+-- an acknowledgement of a flushed end by a broker of this epoch, which answers the high watermark
 abbrev pub after_ack : Registry → ℕ → Replica → ℕ → ℕ → Result ℕ RegRefusal → Option Registry
-after_ack r b s epoch stable (Err (StaleEpoch current)) = when (is_stale r epoch && (current == r.epoch)) r
-after_ack r b s epoch stable (Ok mark) =
-    when (not (is_stale r epoch) && (mark == (with_ack r b s stable).mark)) (with_ack r b s stable)
-after_ack r b s epoch stable other = None
+after_ack r b s epoch flushed_end (Err (StaleEpoch current)) = when (is_stale r epoch && (current == r.epoch)) r
+after_ack r b s epoch flushed_end (Ok mark) =
+    when (not (is_stale r epoch) && (mark == (with_ack r b s flushed_end).mark)) (with_ack r b s flushed_end)
+after_ack r b s epoch flushed_end other = None
 
 -- the broker leaves the replicas in sync
 abbrev pub after_shrink : Registry → ℕ → Replica → Result (Unit {0}) RegRefusal → Option Registry

@@ -22,13 +22,13 @@ abbrev pub elected : Registry → ℕ → Registry
 elected r b =
     record r { epoch = r.epoch + 1; leader = record { 0 = b }; replicas = reset_acks r.mark r.replicas }
 
--- an unclean election: the next epoch, whose leader alone is in sync, and its stable end is the high watermark
+-- an unclean election: the next epoch, whose leader alone is in sync, and its flushed end is the high watermark
 abbrev pub elected_alone : Registry → ℕ → ℕ → Registry
-elected_alone r b stable = record r {
+elected_alone r b flushed_end = record r {
   epoch = r.epoch + 1;
   leader = record { 0 = b };
-  mark = stable;
-  replicas = slice_set (all_out r.replicas) b (record { in_sync = true; acked = stable });
+  mark = flushed_end;
+  replicas = slice_set (all_out r.replicas) b (record { in_sync = true; acked = flushed_end });
 }
 
 -- an acknowledgement of this end, which may raise the high watermark

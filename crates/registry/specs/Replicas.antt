@@ -1,6 +1,6 @@
 -- The replicas of a partition: which are in sync, and what each acknowledged.
 --
--- A broker acknowledges its stable end. The high watermark is the greatest offset that every replica in sync has
+-- A broker acknowledges its flushed end. The high watermark is the greatest offset that every replica in sync has
 -- acknowledged, and never falls.
 use Rattle.std.specs.Prelude.{ℕ, min, max, true, false, List, [], ◌∷◌, map, Option, Some, None, if◌then◌else◌, slice_get, IsSomeAnd, option_map, unwrap_or}
 use Rattle.registry.specs.declared.registry.Replica.{Replica}

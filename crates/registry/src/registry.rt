@@ -84,22 +84,23 @@ impl Registry {
         self.leader = broker;
     }
 
-    /// Starts the next epoch with this leader, whose unclean election is allowed, and whose flushed end is `stable`.
-    pub fn lead_alone(&mut self, broker: BrokerId, stable: u64)
+    /// Starts the next epoch with this leader, whose unclean election is allowed, and whose flushed end is
+    /// `flushed_end`.
+    pub fn lead_alone(&mut self, broker: BrokerId, flushed_end: u64)
         requires within { broker.0 < length self.old.replicas }
         requires follows { self.old.epoch < 2 ^ 32 - 1 }
-        ensures is { self.new ≡ elected_alone self.old broker.0 stable }
+        ensures is { self.new ≡ elected_alone self.old broker.0 flushed_end }
         ensures count { length self.new.replicas ≡ length self.old.replicas }
     {
         all_out(&mut self.replicas);
         let leader = Replica {
             in_sync: true,
-            acked: stable,
+            acked: flushed_end,
         };
         let _ = self.replicas.replace(broker.0 as usize, leader);
         self.epoch += 1;
         self.leader = broker;
-        self.mark = stable;
+        self.mark = flushed_end;
     }
 
     /// Elects a leader from the ISR, and returns the new leader epoch. `up` says whether the broker is up.
@@ -123,15 +124,15 @@ impl Registry {
     }
 
     /// Elects a leader that may be outside the ISR, and returns the new leader epoch. From then on exactly what its
-    /// log has below its flushed end, `stable`, is committed.
+    /// log has below its flushed end, `flushed_end`, is committed.
     pub fn elect_unclean(
         &mut self,
         broker: BrokerId,
         up: bool,
-        stable: u64,
+        flushed_end: u64,
     ) -> Result<u32, RegRefusal>
         requires { broker.0 < length self.old.replicas }
-        ensures is { after_unclean self.old broker.0 up stable result ≡ Some self.new }
+        ensures is { after_unclean self.old broker.0 up flushed_end result ≡ Some self.new }
         ensures count { length self.new.replicas ≡ length self.old.replicas }
         ensures err { OnErr result (self.new ≡ self.old) }
     {
@@ -141,21 +142,21 @@ impl Registry {
         if !up {
             return Err(RegRefusal::DownBroker);
         }
-        if stable < self.start {
+        if flushed_end < self.start {
             return Err(RegRefusal::BehindStart {
-                end: stable,
+                end: flushed_end,
                 start: self.start,
             });
         }
-        self.lead_alone(broker, stable);
+        self.lead_alone(broker, flushed_end);
         Ok(self.epoch)
     }
 
     /// Records that a broker acknowledges its flushed end, and returns the high watermark. `epoch` is the one in
     /// which the broker leads or has joined.
-    pub fn ack(&mut self, broker: BrokerId, epoch: u32, stable: u64) -> Result<u64, RegRefusal>
+    pub fn ack(&mut self, broker: BrokerId, epoch: u32, flushed_end: u64) -> Result<u64, RegRefusal>
         requires { broker.0 < length self.old.replicas }
-        ensures is { AtReplica self.old broker.0 (λ s. after_ack self.old broker.0 s epoch stable result ≡ Some self.new) }
+        ensures is { AtReplica self.old broker.0 (λ s. after_ack self.old broker.0 s epoch flushed_end result ≡ Some self.new) }
         ensures count { length self.new.replicas ≡ length self.old.replicas }
         ensures err { OnErr result (self.new ≡ self.old) }
     {
@@ -164,7 +165,7 @@ impl Registry {
         let in_sync = self.replicas.get(b).in_sync;
         let acked = Replica {
             in_sync,
-            acked: stable,
+            acked: flushed_end,
         };
         let _ = self.replicas.replace(b, acked);
         self.mark = mark_over(self.mark, self.replicas.as_slice());

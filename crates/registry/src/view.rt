@@ -17,7 +17,7 @@ pub struct RegView {
     pub leader: BrokerId,
     /// Which brokers are in sync: bit b is set where broker b is.
     pub in_sync: u8,
-    /// The stable end that each broker acknowledged last in this epoch. The places past the last broker are 0.
+    /// The flushed end that each broker acknowledged last in this epoch. The places past the last broker are 0.
     pub acked: [u64; 8],
     /// The high watermark.
     pub mark: u64,

@@ -43,13 +43,13 @@ KeepsOneOf d r s = (c : Files) → Image d c → (c RegistryName ≡ Some (regis
 
 -- this registry's file was put in the place of the old one, or that is there still
 pub record Replaces (r : Registry) (old new : Content) : Type 0 where
-  pub tells : new.tells ≡ old.tells
-  pub reads : IsTrue old.tells → Swapped (registry_bytes r) (old.files RegistryName) (new.files RegistryName)
+  pub is_observable : new.is_observable ≡ old.is_observable
+  pub reads : IsTrue old.is_observable → Swapped (registry_bytes r) (old.files RegistryName) (new.files RegistryName)
   pub images : (c : Files) → Image new c → (d : Files) × Image old d × Swapped (registry_bytes r) (d RegistryName) (c RegistryName)
 
 -- the old one is there still
 pub record Refrains (old new : Content) : Type 0 where
-  pub reads : IsTrue old.tells → new.files RegistryName ≡ old.files RegistryName
+  pub reads : IsTrue old.is_observable → new.files RegistryName ≡ old.files RegistryName
   pub images : (c : Files) → Image new c → Image old c
 
 -- the refusal of a read with this trouble
@@ -59,9 +59,9 @@ refusal_of trouble.NoMemory = find.NoMemory
 
 -- A read of the file answers so: what it says is what was handed, and of a disk that tells what its file has.
 abbrev pub Finds : Content → Control call_code → Control call_code → Result (Option RegView) FindRefusal → Type 0
-Finds d c c' (Ok None) = IsTrue d.tells → d.files RegistryName ≡ None
+Finds d c c' (Ok None) = IsTrue d.is_observable → d.files RegistryName ≡ None
 Finds d c c' (Ok (Some view)) =
-    IsView view × (view_in c'.handed ≡ Ok view) × (IsTrue d.tells → d.files RegistryName ≡ Some c'.handed)
-Finds d c c' (Err (find.Bad at)) = (view_in c'.handed ≡ Err (file.Bad at)) × (IsTrue d.tells → d.files RegistryName ≡ Some c'.handed)
+    IsView view × (view_in c'.last_read ≡ Ok view) × (IsTrue d.is_observable → d.files RegistryName ≡ Some c'.last_read)
+Finds d c c' (Err (find.Bad at)) = (view_in c'.last_read ≡ Err (file.Bad at)) × (IsTrue d.is_observable → d.files RegistryName ≡ Some c'.last_read)
 Finds d c c' (Err find.Fault) = Rose c.faults c'.faults
 Finds d c c' (Err find.NoMemory) = Unit {0}

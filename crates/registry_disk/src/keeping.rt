@@ -49,7 +49,7 @@ pub fn keep_registry<D: Disk>(
     ensures since { LeavesOnly (D.content disk.old) (D.content disk.new)
         (λ c. Image (D.content disk.old) c ⊎ Image (D.content disk.new) c) }
     ensures control { Lasts (D.control disk.old) (D.control disk.new) }
-    ensures handed { (D.control disk.new).handed ≡ (D.control disk.old).handed }
+    ensures last_read { (D.control disk.new).last_read ≡ (D.control disk.old).last_read }
     ensures fault { IsErrOf result Failed → Rose (D.control disk.old).faults (D.control disk.new).faults }
 
     // A call of the disk that failed was the only one.

@@ -13,7 +13,7 @@ use Rattle.segment_meta.specs.Rules.{IsAdded}
 use Rattle.segment_meta.specs.Steps.{next_state}
 use Rattle.remote_view.specs.declared.stairs.Stair.{Stair}
 use Rattle.remote_view.specs.declared.stairs.Stairs.{Stairs}
-use Rattle.remote_view.specs.Fold.{entry_of, changed, updated, noted, IsKept, AreKept, AreDistinct}
+use Rattle.remote_view.specs.Fold.{entry_of, changed, updated, recorded, IsKept, AreKept, AreDistinct}
 use Rattle.remote_view.specs.Lookup.{is_readable}
 use Rattle.remote_view.specs.Storing.{stair_on, replaced, IsFresh, IsViewed}
 use Rattle.remote_view.proofs.Ids.{same_id, bytes_self}
@@ -92,7 +92,7 @@ found_id id (e ∷ es) x here = by (bytes_eq e.id.0 id.0) refl here (λ there. f
     by false same is more = more is
 
 -- what notes come to, by whether the id is known
-pub adds_nothing : (es : List Entry) (e x : Entry) → e.state ≡ CopyStarted → entry_of e.id es ≡ Some x → es ≡ noted es (Add e)
+pub adds_nothing : (es : List Entry) (e x : Entry) → e.state ≡ CopyStarted → entry_of e.id es ≡ Some x → es ≡ recorded es (Add e)
 adds_nothing es e x started here = rw here (by x.state e.state started)
   where
     by : (old state : State) → state ≡ CopyStarted → es ≡ cond (is_some (next_state (Some old) state)) (es ++ e ∷ []) es
@@ -104,25 +104,25 @@ adds_nothing es e x started here = rw here (by x.state e.state started)
         never DeleteStarted = refl
         never DeleteFinished = refl
 
-pub adds_it : (es : List Entry) (e : Entry) → e.state ≡ CopyStarted → entry_of e.id es ≡ None → es ++ e ∷ [] ≡ noted es (Add e)
+pub adds_it : (es : List Entry) (e : Entry) → e.state ≡ CopyStarted → entry_of e.id es ≡ None → es ++ e ∷ [] ≡ recorded es (Add e)
 adds_it es e started none = rw none (by e.state started)
   where
     by : (state : State) → state ≡ CopyStarted → es ++ e ∷ [] ≡ cond (is_some (next_state None state)) (es ++ e ∷ []) es
     by state is = rw is refl
 
 pub misses_it : (es : List Entry) (id : SegmentId) (broker : BrokerId) (event_ts : ℤ) (state : State) (custom : Option (List ℕ)) → state ≢ CopyStarted → entry_of id es ≡ None
-    → es ≡ noted es (Update id broker event_ts state custom)
+    → es ≡ recorded es (Update id broker event_ts state custom)
 misses_it es id broker event_ts CopyStarted custom other none = absurd (other refl)
 misses_it es id broker event_ts CopyFinished custom other none = rw none refl
 misses_it es id broker event_ts DeleteStarted custom other none = rw none refl
 misses_it es id broker event_ts DeleteFinished custom other none = rw none refl
 
 pub no_step : (es : List Entry) (id : SegmentId) (x : Entry) (broker : BrokerId) (event_ts : ℤ) (state : State) (custom : Option (List ℕ)) → entry_of id es ≡ Some x → is_some (next_state (Some x.state) state) ≡ false
-    → es ≡ noted es (Update id broker event_ts state custom)
+    → es ≡ recorded es (Update id broker event_ts state custom)
 no_step es id x broker event_ts state custom here none = rw (here, none) refl
 
 pub a_step : (es : List Entry) (id : SegmentId) (x : Entry) (broker : BrokerId) (event_ts : ℤ) (state : State) (custom : Option (List ℕ)) → entry_of id es ≡ Some x → is_some (next_state (Some x.state) state) ≡ true
-    → changed id (updated broker event_ts state custom) es ≡ noted es (Update id broker event_ts state custom)
+    → changed id (updated broker event_ts state custom) es ≡ recorded es (Update id broker event_ts state custom)
 a_step es id x broker event_ts state custom here some = rw (here, some) refl
 
 -- no entries and empty stairs

@@ -9,12 +9,12 @@ use Rattle.segment_meta.specs.declared.note.Note.{Note}
 use Rattle.segment_meta.specs.declared.note.Note.TheVariants.{Add, Update}
 use Rattle.segment_meta.specs.Rules.{IsNote}
 use Rattle.segment_meta.specs.Steps.{next_state}
-use Rattle.remote_view.specs.Fold.{entry_of, state_of, changed, updated, AreDistinct, noted, folded_from, fold, Seen, fed, view_of}
+use Rattle.remote_view.specs.Fold.{entry_of, state_of, changed, updated, AreDistinct, recorded, folded_from, fold, Seen, fed, view_of}
 use Rattle.remote_view.proofs.Changes.{change_distinct, distinct_push, adds_it, adds_nothing}
 
-folded-push : (entries : List Entry) (notes : List Note) (note : Note) → noted (folded_from entries notes) note ≡ folded_from entries (notes ++ note ∷ [])
+folded-push : (entries : List Entry) (notes : List Note) (note : Note) → recorded (folded_from entries notes) note ≡ folded_from entries (notes ++ note ∷ [])
 folded-push entries [] note = refl
-folded-push entries (first ∷ notes) note = folded-push (noted entries first) notes note
+folded-push entries (first ∷ notes) note = folded-push (recorded entries first) notes note
 
 counted-push : (n m : ℕ) → m ≡ n + 1 → counted (counted 0 n) 1 ≡ counted 0 m
 counted-push n m e = omega (arith, e)
@@ -28,13 +28,13 @@ fed_again notes note =
     ∙ ap (λ (n : ℕ). (let v : Seen = record { entries = fold (notes ++ note ∷ []); notes = n } in v)) count
 
 -- one note leaves the ids apart
-noted_distinct : (es : List Entry) (note : Note) → IsNote note → AreDistinct es → AreDistinct (noted es note)
-noted_distinct es (Add e) is h = by (entry_of e.id es) refl
+recorded_distinct : (es : List Entry) (note : Note) → IsNote note → AreDistinct es → AreDistinct (recorded es note)
+recorded_distinct es (Add e) is h = by (entry_of e.id es) refl
   where
-    by : (found : Option Entry) → entry_of e.id es ≡ found → AreDistinct (noted es (Add e))
+    by : (found : Option Entry) → entry_of e.id es ≡ found → AreDistinct (recorded es (Add e))
     by None none = subst AreDistinct (adds_it es e is.started none) (distinct_push es e h none)
     by (Some x) here = subst AreDistinct (adds_nothing es e x is.started here) h
-noted_distinct es (Update id broker event_ts state custom) is h = by (is_some (next_state (state_of id es) state))
+recorded_distinct es (Update id broker event_ts state custom) is h = by (is_some (next_state (state_of id es) state))
   where
     by : (t : Bool) → AreDistinct (cond t (changed id (updated broker event_ts state custom) es) es)
     by true = change_distinct id broker event_ts state custom es h
@@ -42,7 +42,7 @@ noted_distinct es (Update id broker event_ts state custom) is h = by (is_some (n
 
 folded_distinct : (es : List Entry) (notes : List Note) → AllByRecursion IsNote notes → AreDistinct es → AreDistinct (folded_from es notes)
 folded_distinct es [] is h = h
-folded_distinct es (note ∷ notes) is h = folded_distinct (noted es note) notes is.1 (noted_distinct es note is.0 h)
+folded_distinct es (note ∷ notes) is h = folded_distinct (recorded es note) notes is.1 (recorded_distinct es note is.0 h)
 
 pub fold_distinct : (notes : List Note) → AllByRecursion IsNote notes → AreDistinct (fold notes)
 fold_distinct notes is = folded_distinct [] notes is tt

@@ -48,17 +48,17 @@ changed id change (entry ∷ entries) =
     if bytes_eq entry.id.0 id.0 then change entry ∷ entries else entry ∷ changed id change entries
 
 -- the entries after a note: one that makes no step changes nothing
-abbrev pub noted : List Entry → Note → List Entry
-noted entries (Add entry) =
+abbrev pub recorded : List Entry → Note → List Entry
+recorded entries (Add entry) =
     if is_some (next_state (state_of entry.id entries) entry.state) then entries ++ entry ∷ [] else entries
-noted entries (Update id broker event_ts state custom) =
+recorded entries (Update id broker event_ts state custom) =
     if is_some (next_state (state_of id entries) state) then changed id (updated broker event_ts state custom) entries
     else entries
 
 -- the entries after further notes
 abbrev pub folded_from : List Entry → List Note → List Entry
 folded_from entries [] = entries
-folded_from entries (note ∷ notes) = folded_from (noted entries note) notes
+folded_from entries (note ∷ notes) = folded_from (recorded entries note) notes
 
 -- the fold of notes
 abbrev pub fold : List Note → List Entry
@@ -71,7 +71,7 @@ pub record Seen : Type 0 where
 
 -- the view after one note more
 abbrev pub fed : Seen → Note → Seen
-fed view note = record { entries = noted view.entries note; notes = counted view.notes 1 }
+fed view note = record { entries = recorded view.entries note; notes = counted view.notes 1 }
 
 -- the view of notes
 abbrev pub view_of : List Note → Seen

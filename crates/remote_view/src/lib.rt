@@ -10,7 +10,7 @@
 #![tactic(auto)]
 
 mod changing;
-mod flight;
+mod epoch_ranges;
 mod known;
 mod laws;
 mod laying;

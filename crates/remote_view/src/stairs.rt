@@ -8,7 +8,7 @@ ghost use Rattle.remote_view.specs.Stairs.{id_at, Rises, IsEndFrom};
 ghost use Rattle.remote_view.specs.Laying.{in_place, IsLifted};
 ghost use Rattle.remote_view.specs.Storing.{stair_on, has_room, replaced, HaveRoom};
 
-use crate::flight::Flight;
+use crate::epoch_ranges::EpochRanges;
 use crate::tread::Tread;
 use std::alloc::{AllocError, Global};
 use std::collections::BTreeMap;
@@ -18,13 +18,13 @@ use tier_base::{Row, SegmentId};
 #[derive(Drop)]
 pub(crate) struct Stair {
     pub epoch: u32,
-    pub treads: Flight,
+    pub treads: EpochRanges,
 }
 
 /// The stairs.
 #[derive(Drop)]
 pub(crate) struct Stairs {
-    treads: BTreeMap<u32, Flight>,
+    treads: BTreeMap<u32, EpochRanges>,
 }
 
 impl Stairs {
@@ -48,12 +48,12 @@ impl Stairs {
     }
 
     /// A copy of an epoch's stair.
-    pub fn copy(&self, alloc: Global, epoch: u32) -> Result<Flight, AllocError>
+    pub fn copy(&self, alloc: Global, epoch: u32) -> Result<EpochRanges, AllocError>
         ensures { IfOk result (λ copy. copy ≡ stair_on self.now epoch) }
     {
         match self.treads.get(&epoch) {
             Some(stair) => stair.copy(alloc),
-            None => Ok(Flight::new(alloc)),
+            None => Ok(EpochRanges::new(alloc)),
         }
     }
 
@@ -64,7 +64,7 @@ impl Stairs {
         epoch: u32,
         id: &SegmentId,
         end: u64,
-    ) -> Result<Flight, AllocError>
+    ) -> Result<EpochRanges, AllocError>
         requires rises { Rises (stair_on self.now epoch) }
         requires ends { (o : ℕ) → end ≤ o
             → in_place id.now None (id_at (stair_on self.now epoch) o) ≡ id_at (stair_on self.now epoch) o }
@@ -72,7 +72,7 @@ impl Stairs {
     {
         match self.treads.get(&epoch) {
             Some(stair) => stair.lifted(alloc, id, end),
-            None => Ok(Flight::new(alloc)),
+            None => Ok(EpochRanges::new(alloc)),
         }
     }
 
@@ -96,7 +96,7 @@ impl Stairs {
         if self.treads.contains_key(&epoch) {
             return Ok(());
         }
-        self.treads.insert(epoch, Flight::new(alloc))?;
+        self.treads.insert(epoch, EpochRanges::new(alloc))?;
         Ok(())
     }
 

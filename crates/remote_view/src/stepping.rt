@@ -11,7 +11,7 @@ ghost use Rattle.remote_view.specs.Stairs.{Rises, IsStair};
 ghost use Rattle.remote_view.specs.Laying.{IsLaidIn};
 ghost use Rattle.remote_view.specs.Storing.{stair_on, IsFresh};
 
-use crate::flight::Flight;
+use crate::epoch_ranges::EpochRanges;
 use crate::known::Known;
 use crate::lifting::lies_under;
 use crate::lookup::is_readable;
@@ -25,10 +25,10 @@ use tier_base::{Row, State};
 fn lay_in(
     alloc: Global,
     known: &Known,
-    stair: Flight,
+    stair: EpochRanges,
     entry: &Entry,
     epoch: u32,
-) -> Result<Flight, AllocError>
+) -> Result<EpochRanges, AllocError>
     requires kept { IsKept entry.now }
     requires rises { Rises stair }
     ensures { IfOk result (λ laid. IsLaidIn known.now entry.now epoch stair laid) }
@@ -46,7 +46,7 @@ fn bared(
     stairs: &Stairs,
     entry: &Entry,
     epoch: u32,
-) -> Result<Flight, AllocError>
+) -> Result<EpochRanges, AllocError>
     requires kept { AreKept known.now }
     requires distinct { AreDistinct known.now }
     requires stair { IsStair known.now epoch (stair_on stairs.now epoch) }
@@ -70,7 +70,7 @@ fn anew(
     entry: &Entry,
     state: State,
     epoch: u32,
-) -> Result<Flight, AllocError>
+) -> Result<EpochRanges, AllocError>
     requires kept { AreKept known.now }
     requires distinct { AreDistinct known.now }
     requires stair { IsStair known.now epoch (stair_on stairs.now epoch) }

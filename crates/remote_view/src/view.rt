@@ -9,7 +9,7 @@ ghost use Rattle.std.specs.Option.{option_map};
 ghost use Rattle.tier_base.specs.declared.plain.State.TheVariants.{CopyStarted};
 ghost use Rattle.segment_meta.specs.declared.note.Note.TheVariants.{Add, Update};
 ghost use Rattle.segment_meta.specs.Rules.{IsNote, IsAdded};
-ghost use Rattle.remote_view.specs.Fold.{IsKept, AreKept, AreDistinct, entry_of, state_of, noted, fed};
+ghost use Rattle.remote_view.specs.Fold.{IsKept, AreKept, AreDistinct, entry_of, state_of, recorded, fed};
 ghost use Rattle.remote_view.specs.Lookup.{finished, due, IsReach};
 ghost use Rattle.remote_view.specs.Stairs.{IsStair};
 
@@ -147,7 +147,7 @@ impl View {
     /// Adds an entry, where its id is new.
     fn add(&mut self, entry: &Entry) -> Result<(), AllocError>
         requires { IsAdded entry.now }
-        ensures ok { OnOk result (self.new ≡ record self.old { entries = noted self.old.entries (Add entry.now) }) }
+        ensures ok { OnOk result (self.new ≡ record self.old { entries = recorded self.old.entries (Add entry.now) }) }
         ensures err { OnErr result (self.new ≡ self.old) }
     {
         if self.known.get(&entry.id).is_some() {
@@ -168,7 +168,7 @@ impl View {
     ) -> Result<(), AllocError>
         requires { state ≢ CopyStarted }
         ensures ok { OnOk result (self.new
-            ≡ record self.old { entries = noted self.old.entries (Update id.now broker event_ts state custom.now) }) }
+            ≡ record self.old { entries = recorded self.old.entries (Update id.now broker event_ts state custom.now) }) }
         ensures err { OnErr result (self.new ≡ self.old) }
     {
         let Some(entry) = self.known.get(id) else {

@@ -16,7 +16,7 @@ use Rattle.plain_log.specs.declared.state.State.{State}
 use Rattle.plain_log.specs.declared.journal.JournalEntry.{JournalEntry}
 use Rattle.plain_log.specs.Fresh.{fresh}
 use Rattle.device_yard.specs.declared.came.Came.{Came}
-use Rattle.device_yard.specs.Held.{Held, HandsDisk, HandsStore, HandsLog, HoldsDisk}
+use Rattle.device_yard.specs.YardContent.{YardContent, HandsDisk, HandsStore, HandsLog, HoldsDisk}
 use Rattle.partition_world.specs.declared.tier.Devices.{Devices}
 use Rattle.script_lang.specs.declared.script.PartScript.{PartScript}
 use Rattle.cold_state.specs.Cold.{cold_of}
@@ -27,9 +27,9 @@ use Rattle.cold_start.specs.Running.{Running}
 use Rattle.cold_start.proofs.StandLaw.{keeps_cold}
 use Rattle.cold_start.proofs.SweptWorldLaw.{kept_cut}
 use Rattle.plain_log.specs.declared.command.ActorList.{ActorList}
-use Rattle.yard_run.specs.Opens.{OpensAt}
-use Rattle.yard_run.specs.Runs.{IsRunIn}
-use Rattle.yard_run.specs.Yard.{HoldsAll}
+use Rattle.run_yard.specs.Opens.{OpensAt}
+use Rattle.run_yard.specs.Runs.{IsRunIn}
+use Rattle.run_yard.specs.Yard.{HoldsAll}
 use Rattle.run_again.specs.Again.{StandsIn, GoesOn, RunsContinue}
 
 module _ {D : Type 0} (content : D → disk_content.Content) where
@@ -44,12 +44,12 @@ module _ {D : Type 0} (content : D → disk_content.Content) where
   handed_cut : (o : Option D) (d e : D) → o ≡ Some d → HandsDisk content o (content e) → IsCutDisk (content d) (content e)
   handed_cut o d e is hands =
       let k : disk_content.Keeps (content d) (content e) = subst (λ (p : Option D). HandsDisk content p (content e)) is hands in
-      record { tells = λ t. subst IsTrue (sym k.tells) t; images = k.images }
+      record { is_observable = λ t. subst IsTrue (sym k.is_observable) t; images = k.images }
 
   -- a registry's disk, which was held as another one with the same files
-  handed_told : (o : Option D) (d e : D) → HoldsDisk content d o → HandsDisk content o (content e) → IsTrue (content d).tells → IsTrue (content e).tells
+  handed_told : (o : Option D) (d e : D) → HoldsDisk content d o → HandsDisk content o (content e) → IsTrue (content d).is_observable → IsTrue (content e).is_observable
   handed_told None d e holds hands t = absurd holds
-  handed_told (Some x) d e holds hands t = subst IsTrue (sym (hands.tells ∙ holds.tells)) t
+  handed_told (Some x) d e holds hands t = subst IsTrue (sym (hands.is_observable ∙ holds.is_observable)) t
 
   handed_file : (o : Option D) (d e : D) → HoldsDisk content d o → HandsDisk content o (content e) → (content e).files Registry ≡ (content d).files Registry
   handed_file None d e holds hands = absurd holds
@@ -57,7 +57,7 @@ module _ {D : Type 0} (content : D → disk_content.Content) where
 
 module _ {D S M : Type 0} (disk : DiskGhosts D) (store : StoreGhosts S) (meta : MetaGhosts M) where
   -- what a run left stands for a state, and so does what is handed out next
-  pub next_stands : (count : ℕ) (p : PartitionId) (held : Held D S M) (back : Devices D S M) (kept : D) (q : State) → length back.disks.items ≡ count → HoldsAll disk.content p back kept held
+  pub next_stands : (count : ℕ) (p : PartitionId) (held : YardContent D S M) (back : Devices D S M) (kept : D) (q : State) → length back.disks.items ≡ count → HoldsAll disk.content p back kept held
       → StandsFor disk store meta p back.disks.items back.store back.meta kept q → StandsIn disk store meta count held p q
   next_stands count p held back kept q many holds stands = λ devices registry so hands.
       let kept_store : store_content.Keeps (store.content back.store) (store.content devices.store) =
@@ -72,10 +72,10 @@ module _ {D S M : Type 0} (disk : DiskGhosts D) (store : StoreGhosts S) (meta : 
             (are_cut disk.content back.disks.items devices.disks.items (so ∙ sym many)
             (λ i d e at now. handed_cut disk.content (held.disks p (record { 0 = i })) d e (holds.others.disks (record { 0 = i }) d at) (hands.logs (record { 0 = i }) e now)))
             (kept_cut (store.content back.store) (store.content devices.store) kept_store)
-            (record { tells = λ t. subst IsTrue (sym kept_log.tells) t; left = kept_log.left });
+            (record { is_observable = λ t. subst IsTrue (sym kept_log.is_observable) t; left = kept_log.left });
       }
 
-  goes_on : (config : Config) (part : PartScript) (was held : Held D S M) (run : ℕ × List JournalEntry) (came : List Came) (is : IsRunIn disk store meta config part was held run came) → IsTrue held.tells
+  goes_on : (config : Config) (part : PartScript) (was held : YardContent D S M) (run : ℕ × List JournalEntry) (came : List Came) (is : IsRunIn disk store meta config part was held run came) → IsTrue held.is_observable
       → length is.back.disks.items ≡ config.brokers → (q : State) → OpensAt disk store meta part.partition config is.devices is.registry q → GoesOn disk store meta config part held run.1 q
   goes_on config part was held run came is now many q at = record {
     log_run = is.is.log_run q at;
@@ -97,5 +97,5 @@ module _ {D S M : Type 0} (disk : DiskGhosts D) (store : StoreGhosts S) (meta : 
   runs_continue config part was held run came is told now = record {
     from = λ q stands. goes_on config part was held run came is now is.is.count q
         (inl (stands is.devices is.registry (given_long part.partition config part.lists is.devices.disks.items is.devices.store is.devices.meta is.registry is.is.first is.is.starts) (is.handed told)));
-    begun = λ none. goes_on config part was held run came is now is.is.count (fresh config) (inr (is.begun told none));
+    snapshot = λ none. goes_on config part was held run came is now is.is.count (fresh config) (inr (is.snapshot told none));
   }

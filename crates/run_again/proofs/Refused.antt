@@ -14,15 +14,15 @@ use Rattle.meta_log.specs.declared.log.MetaLog.{Ghosts as MetaGhosts}
 use Rattle.plain_log.specs.declared.command.Config.{Config}
 use Rattle.plain_log.specs.declared.state.State.{State}
 use Rattle.plain_log.specs.Fresh.{fresh}
-use Rattle.device_yard.specs.Held.{Held, Has, HandsDisk, HandsStore, HandsLog, HoldsDisk, HasTier}
+use Rattle.device_yard.specs.YardContent.{YardContent, Has, HandsDisk, HandsStore, HandsLog, HoldsDisk, HasTier}
 use Rattle.partition_world.specs.declared.tier.Devices.{Devices}
 use Rattle.script_lang.specs.declared.script.PartScript.{PartScript}
 use Rattle.cold_state.specs.Cold.{cold_of}
 use Rattle.cold_start.specs.Stands.{StandsFor, IsBlank}
-use Rattle.yard_run.specs.Handed.{HandsDevices}
-use Rattle.yard_run.specs.Reading.{file_in}
-use Rattle.yard_run.specs.Stopped.{DiskRests, StoreRests, LogRests, RestsIn, IsLedFrom, IsStoppedIn}
-use Rattle.yard_run.specs.Yard.{HoldsAll}
+use Rattle.run_yard.specs.Handed.{HandsDevices}
+use Rattle.run_yard.specs.Reading.{file_in}
+use Rattle.run_yard.specs.Stopped.{DiskRests, StoreRests, LogRests, RestsIn, IsLedFrom, IsStoppedIn}
+use Rattle.run_yard.specs.Yard.{HoldsAll}
 use Rattle.run_again.specs.Again.{StandsIn, IsLedOn, IsUnbegun, StaysOrIsLed, RefusalsContinue}
 use Rattle.run_again.proofs.Handing.{next_stands}
 
@@ -32,7 +32,7 @@ keeps_then a b c lawful f g =
     let first = f.time.later in
     let second = g.time.later in
     record {
-      tells = g.tells ∙ f.tells;
+      is_observable = g.is_observable ∙ f.is_observable;
       files = λ n. g.files n ∙ f.files n;
       images = λ k at. f.images k (g.images k at);
       time = record {
@@ -53,27 +53,27 @@ module _ {D S M : Type 0} (disk : DiskGhosts D) (store : StoreGhosts S) (meta : 
   -- what is handed out where all is as it was might have been handed out before
   disk_still : ((d : D) → disk_content.Lawful (disk.content d)) → (a b : Option D) (e : D) → DiskRests disk.content a b → HandsDisk disk.content b (disk.content e) → HandsDisk disk.content a (disk.content e)
   disk_still lawful None None e rests hands = hands
-  disk_still lawful None (Some x) e rests hands = record { tells = subst IsTrue (sym hands.tells) rests.tells; files = λ n. hands.files n ∙ rests.files n; images = λ c at n. rests.images c (hands.images c at) n }
+  disk_still lawful None (Some x) e rests hands = record { is_observable = subst IsTrue (sym hands.is_observable) rests.is_observable; files = λ n. hands.files n ∙ rests.files n; images = λ c at n. rests.images c (hands.images c at) n }
   disk_still lawful (Some y) None e rests hands = absurd rests
   disk_still lawful (Some y) (Some x) e rests hands = keeps_then (disk.content y) (disk.content x) (disk.content e) (lawful y) rests hands
 
   store_still : (a b : Option S) (e : S) → StoreRests store.content a b → HandsStore store.content b (store.content e) → HandsStore store.content a (store.content e)
   store_still None None e rests hands = hands
-  store_still None (Some x) e rests hands = record { tells = subst IsTrue (sym hands.tells) rests.tells; objects = λ k. hands.objects k ∙ rests.objects k }
+  store_still None (Some x) e rests hands = record { is_observable = subst IsTrue (sym hands.is_observable) rests.is_observable; objects = λ k. hands.objects k ∙ rests.objects k }
   store_still (Some y) None e rests hands = absurd rests
-  store_still (Some y) (Some x) e rests hands = record { tells = hands.tells ∙ rests.tells; objects = λ k. hands.objects k ∙ rests.objects k }
+  store_still (Some y) (Some x) e rests hands = record { is_observable = hands.is_observable ∙ rests.is_observable; objects = λ k. hands.objects k ∙ rests.objects k }
 
   log_still : (a b : Option M) (e : M) → LogRests meta.content a b → HandsLog meta.content b (meta.content e) → HandsLog meta.content a (meta.content e)
   log_still None None e rests hands = hands
   log_still None (Some x) e rests hands = record {
-    tells = subst IsTrue (sym hands.tells) rests.tells;
+    is_observable = subst IsTrue (sym hands.is_observable) rests.is_observable;
     notes = hands.notes ∙ rests.notes;
     left = λ l at. rests.left l (hands.left l at) ∙ sym hands.notes;
   }
   log_still (Some y) None e rests hands = absurd rests
-  log_still (Some y) (Some x) e rests hands = record { tells = hands.tells ∙ rests.tells; notes = hands.notes ∙ rests.notes; left = λ l at. rests.left l (hands.left l at) }
+  log_still (Some y) (Some x) e rests hands = record { is_observable = hands.is_observable ∙ rests.is_observable; notes = hands.notes ∙ rests.notes; left = λ l at. rests.left l (hands.left l at) }
 
-  hands_still : ((d : D) → disk_content.Lawful (disk.content d)) → (p : PartitionId) (devices : Devices D S M) (registry : D) (was held : Held D S M) → RestsIn disk store meta p was held
+  hands_still : ((d : D) → disk_content.Lawful (disk.content d)) → (p : PartitionId) (devices : Devices D S M) (registry : D) (was held : YardContent D S M) → RestsIn disk store meta p was held
       → HandsDevices disk store meta p devices registry held → HandsDevices disk store meta p devices registry was
   hands_still lawful p devices registry was held rests hands = record {
     logs = λ b d at. disk_still lawful (was.disks p b) (held.disks p b) d (rests.disks b) (hands.logs b d at);
@@ -101,7 +101,7 @@ module _ {D S M : Type 0} (disk : DiskGhosts D) (store : StoreGhosts S) (meta : 
   had_notes (Some y) None rests has = absurd rests
   had_notes (Some y) (Some x) rests has = λ none. has (rests.notes ∙ none)
 
-  unbegun_still : (p : PartitionId) (was held : Held D S M) → RestsIn disk store meta p was held → IsUnbegun disk store meta was p → IsUnbegun disk store meta held p
+  unbegun_still : (p : PartitionId) (was held : YardContent D S M) → RestsIn disk store meta p was held → IsUnbegun disk store meta was p → IsUnbegun disk store meta held p
   unbegun_still p was held rests none = record {
     file = no_file (was.registries p) (held.registries p) rests.file none.file;
     tierless = λ tier. none.tierless (before tier);
@@ -116,7 +116,7 @@ module _ {D S M : Type 0} (disk : DiskGhosts D) (store : StoreGhosts S) (meta : 
   blank_file kept None holds none = absurd holds
   blank_file kept (Some x) holds none = holds.files Registry ∙ none
 
-  unbegun_back : (p : PartitionId) (held : Held D S M) (back : Devices D S M) (kept : D) → HoldsAll disk.content p back kept held → IsBlank disk store meta back.store back.meta kept → IsUnbegun disk store meta held p
+  unbegun_back : (p : PartitionId) (held : YardContent D S M) (back : Devices D S M) (kept : D) → HoldsAll disk.content p back kept held → IsBlank disk store meta back.store back.meta kept → IsUnbegun disk store meta held p
   unbegun_back p held back kept holds blank = record {
     file = blank_file kept (held.registries p) holds.file blank.file;
     tierless = none;
@@ -130,7 +130,7 @@ module _ {D S M : Type 0} (disk : DiskGhosts D) (store : StoreGhosts S) (meta : 
           let there : (meta.content back.meta).notes ≢ [] = subst (Has (λ m. (meta.content m).notes ≢ [])) holds.others.log notes in
           there (blank.notes blank.meta_tells)
 
-  led_on : (config : Config) (part : PartScript) (held : Held D S M) (back : Devices D S M) (kept : D) (q : State) → length back.disks.items ≡ config.brokers → HoldsAll disk.content part.partition back kept held
+  led_on : (config : Config) (part : PartScript) (held : YardContent D S M) (back : Devices D S M) (kept : D) (q : State) → length back.disks.items ≡ config.brokers → HoldsAll disk.content part.partition back kept held
       → IsLedFrom disk store meta part.partition part.lists back kept q → IsLedOn disk store meta config part held q
   led_on config part held back kept q many holds led = record {
     journal = led.journal;
@@ -140,15 +140,15 @@ module _ {D S M : Type 0} (disk : DiskGhosts D) (store : StoreGhosts S) (meta : 
     stand = next_stands disk store meta config.brokers part.partition held back kept (cold_of led.last) many holds led.stand;
   }
 
-  stopped_on : (config : Config) (part : PartScript) (was held : Held D S M) → IsStoppedIn disk store meta config part was held → StaysOrIsLed disk store meta config part was held
+  stopped_on : (config : Config) (part : PartScript) (was held : YardContent D S M) → IsStoppedIn disk store meta config part was held → StaysOrIsLed disk store meta config part was held
   stopped_on config part was held is = record {
     from = λ q stands. elim (is.stopped.from q (stands is.devices is.registry is.given is.handed)) [
       | inl still ↦ inl (next_stands disk store meta config.brokers part.partition held is.back is.kept q is.count is.holds still)
       | inr led ↦ inr (led_on config part held is.back is.kept q is.count is.holds led)
     ];
-    begun = λ unbegun.
-        let opens = is.begun unbegun.file in
-        elim (is.stopped.begun opens.disks_tell opens.blank) [
+    snapshot = λ unbegun.
+        let opens = is.snapshot unbegun.file in
+        elim (is.stopped.snapshot opens.disks_tell opens.blank) [
           | inl blank ↦ inl (unbegun_back part.partition held is.back is.kept is.holds blank)
           | inr led ↦ inr (led_on config part held is.back is.kept (fresh config) is.count is.holds led)
         ];
@@ -159,6 +159,6 @@ module _ {D S M : Type 0} (disk : DiskGhosts D) (store : StoreGhosts S) (meta : 
     stopped = stopped_on;
     rests = λ config part was held rests. record {
       from = λ q stands. inl (λ devices registry so hands. stands devices registry so (hands_still lawful part.partition devices registry was held rests hands));
-      begun = λ unbegun. inl (unbegun_still part.partition was held rests unbegun);
+      snapshot = λ unbegun. inl (unbegun_still part.partition was held rests unbegun);
     };
   }

@@ -18,40 +18,40 @@ use Rattle.plain_log.specs.Fresh.{fresh}
 use Rattle.plain_log.specs.Runs.{replay}
 use Rattle.plain_log.specs.Safe.{PlainSafe}
 use Rattle.device_yard.specs.declared.came.Came.{Came}
-use Rattle.device_yard.specs.Held.{Held, HasTier}
+use Rattle.device_yard.specs.YardContent.{YardContent, HasTier}
 use Rattle.partition_world.specs.declared.tier.Devices.{Devices}
 use Rattle.script_lang.specs.declared.script.PartScript.{PartScript}
 use Rattle.cold_state.specs.Cold.{cold_of}
 use Rattle.cold_start.specs.Stands.{StandsFor}
-use Rattle.yard_run.specs.Handed.{HandsDevices}
-use Rattle.yard_run.specs.Reading.{file_in}
-use Rattle.yard_run.specs.Run.{IsLogRun}
-use Rattle.yard_run.specs.Runs.{IsRunIn}
-use Rattle.yard_run.specs.Stopped.{RestsIn, IsStoppedIn}
+use Rattle.run_yard.specs.Handed.{HandsDevices}
+use Rattle.run_yard.specs.Reading.{file_in}
+use Rattle.run_yard.specs.Run.{IsLogRun}
+use Rattle.run_yard.specs.Runs.{IsRunIn}
+use Rattle.run_yard.specs.Stopped.{RestsIn, IsStoppedIn}
 
 module _ {D S M : Type 0} (disk : DiskGhosts D) (store : StoreGhosts S) (meta : MetaGhosts M) where
   -- whatever devices, so many disks among them, have what the yard holds of the partition, they stand for this plain state
-  abbrev pub StandsIn : ℕ → Held D S M → PartitionId → State → Type 0
+  abbrev pub StandsIn : ℕ → YardContent D S M → PartitionId → State → Type 0
   StandsIn count held partition q = (devices : Devices D S M) (registry : D) → length devices.disks.items ≡ count
       → HandsDevices disk store meta partition devices registry held
       → StandsFor disk store meta partition devices.disks.items devices.store devices.meta registry q
 
   -- the journal is a run of the plain log from this state, and the yard holds what is left of the state that it leads to
-  pub record GoesOn (config : Config) (part : PartScript) (held : Held D S M) (journal : List JournalEntry) (q : State) : Type 0 where
+  pub record GoesOn (config : Config) (part : PartScript) (held : YardContent D S M) (journal : List JournalEntry) (q : State) : Type 0 where
     pub log_run : IsLogRun q part.lists journal
     pub stand : StandsIn config.brokers held part.partition (cold_of log_run.last)
 
-  -- each run over a yard that tells goes on from each state that what was held stands for, and else from the fresh one
-  pub record Continues (config : Config) (part : PartScript) (was held : Held D S M) (journal : List JournalEntry) : Type 0 where
+  -- each run over an observable yard goes on from each state that what was held stands for, and else from the fresh one
+  pub record Continues (config : Config) (part : PartScript) (was held : YardContent D S M) (journal : List JournalEntry) : Type 0 where
     pub from : (q : State) → StandsIn config.brokers was part.partition q → GoesOn config part held journal q
-    pub begun : file_in disk.content (was.registries part.partition) ≡ None → GoesOn config part held journal (fresh config)
+    pub snapshot : file_in disk.content (was.registries part.partition) ≡ None → GoesOn config part held journal (fresh config)
 
   abbrev pub RunsContinue : Type 0
-  RunsContinue = (config : Config) (part : PartScript) (was held : Held D S M) (run : ℕ × List JournalEntry) (came : List Came)
-      → IsRunIn disk store meta config part was held run came → IsTrue was.tells → IsTrue held.tells → Continues config part was held run.1
+  RunsContinue = (config : Config) (part : PartScript) (was held : YardContent D S M) (run : ℕ × List JournalEntry) (came : List Came)
+      → IsRunIn disk store meta config part was held run came → IsTrue was.is_observable → IsTrue held.is_observable → Continues config part was held run.1
 
   -- the yard holds what is left of a state with the safety rules, to which entries of the lists lead from this one
-  pub record IsLedOn (config : Config) (part : PartScript) (held : Held D S M) (q : State) : Type 0 where
+  pub record IsLedOn (config : Config) (part : PartScript) (held : YardContent D S M) (q : State) : Type 0 where
     pub journal : List JournalEntry
     pub last : State
     pub replays : replay part.lists q journal ≡ Some last
@@ -59,19 +59,20 @@ module _ {D S M : Type 0} (disk : DiskGhosts D) (store : StoreGhosts S) (meta : 
     pub stand : StandsIn config.brokers held part.partition (cold_of last)
 
   -- the partition has no registry, and no object and no note: a run begins in the fresh state
-  pub record IsUnbegun (held : Held D S M) (p : PartitionId) : Type 0 where
+  pub record IsUnbegun (held : YardContent D S M) (p : PartitionId) : Type 0 where
     pub file : file_in disk.content (held.registries p) ≡ None
     pub tierless : HasTier disk.content store.content meta.content held p → ⊥
 
   -- what the yard held of the partition stands for a state: it does still, or it is led on from there
-  pub record StaysOrIsLed (config : Config) (part : PartScript) (was held : Held D S M) : Type 0 where
+  pub record StaysOrIsLed (config : Config) (part : PartScript) (was held : YardContent D S M) : Type 0 where
     pub from : (q : State) → StandsIn config.brokers was part.partition q
         → StandsIn config.brokers held part.partition q ⊎ IsLedOn config part held q
-    pub begun : IsUnbegun was part.partition → IsUnbegun held part.partition ⊎ IsLedOn config part held (fresh config)
+    pub snapshot : IsUnbegun was part.partition
+        → IsUnbegun held part.partition ⊎ IsLedOn config part held (fresh config)
 
   -- so it is with the partition at which a refused run stopped, and with each of which it left what is held as it was
   pub record RefusalsContinue : Type 0 where
-    pub stopped : (config : Config) (part : PartScript) (was held : Held D S M)
+    pub stopped : (config : Config) (part : PartScript) (was held : YardContent D S M)
         → IsStoppedIn disk store meta config part was held → StaysOrIsLed config part was held
-    pub rests : (config : Config) (part : PartScript) (was held : Held D S M)
+    pub rests : (config : Config) (part : PartScript) (was held : YardContent D S M)
         → RestsIn disk store meta part.partition was held → StaysOrIsLed config part was held

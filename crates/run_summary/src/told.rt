@@ -2,13 +2,13 @@
 
 ghost use Rattle.std.specs.Prelude.{◌≡◌, ◌≤◌, IfOk};
 ghost use Rattle.std.specs.Option.{option_copied, option_to_list};
-ghost use Rattle.plain_machine.specs.Fits.{AreFor};
+ghost use Rattle.plain_executor.specs.Fits.{AreFor};
 ghost use Rattle.run_summary.specs.Told.{answer_in, answers_of, bytes_of, ended, first_end as end_is, size_in, told_of};
 
 use crate::given::{End, Given};
 use crate::names::command_name;
+use plain_executor::{Plain, find_order, replay};
 use plain_log::{ActorList, Answer, Config, Event, JournalEntry, Order};
-use plain_machine::{Plain, find_order, replay};
 use std::alloc::{AllocError, Global};
 use tier_base::{BrokerId, PartitionId, Row};
 use trace_text::answer_name;

@@ -8,8 +8,8 @@ ghost use Rattle.plain_log.specs.Orders.{AreListsFor, IsConfig};
 
 use crate::tests::{made, sink_of, source_of, words_of};
 use crate::yard_tests::read as read_script;
+use plain_executor::is_complete_run;
 use plain_log::Config;
-use plain_machine::is_complete_run;
 use script_lang::PartScript;
 use std::alloc::{AllocError, Global};
 use tier_base::{MemorySink, MemorySource};

@@ -1,11 +1,11 @@
 //! Laws of what fetches and searches by timestamp are answered, called once each over devices in memory.
 
-use command_answers::{
+use disk_model::MemoryDisk;
+use laws_answers::{
     fetches_have_causes, marked_are_found, new_has_searches, new_has_spans, no_search_is_damaged,
     searches_are_answered, searches_tell_dates, turns_keep_searches, turns_keep_spans,
     unfailing_are_found, unfailing_are_served, unhindered_are_found, unhindered_are_served,
 };
-use disk_model::MemoryDisk;
 use meta_log::MemoryLog;
 use object_store::MemoryStore;
 

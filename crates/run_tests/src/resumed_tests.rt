@@ -4,12 +4,12 @@
 //! that was made apart from this repository.
 
 use crate::tests::{sink_of, source_of, words_of};
-use broker_call::{Status, tiered_in_order};
 use device_yard::Yard;
 use disk_model::{Disk, MemoryDisk};
 use memory_yard::MemoryYard;
 use std::alloc::Global;
 use tier_base::{FileName, PartitionId};
+use tiered_call::{Status, tiered_in_order};
 
 /// Three batches that are appended, flushed and acknowledged.
 static COMMITTED: &str =
@@ -124,7 +124,7 @@ fn is_refused(alloc: Global, ran: &Option<Ran>, number: u8, told: &str) -> bool 
 }
 
 /// A yard in which the first run has ended.
-fn begun(rt: HostRuntime) -> Option<MemoryYard> {
+fn snapshot(rt: HostRuntime) -> Option<MemoryYard> {
     let mut yard = new_yard(rt.alloc());
     let ran = run(rt, &mut yard, COMMITTED);
     if is_ran(&ran, 0, COMMITTED_TRACE) {
@@ -158,14 +158,14 @@ fn put_registry(yard: &mut MemoryYard, partition: PartitionId, file: Option<&[u8
 /// What the registry's disk was read as when it came back last.
 fn last_read(yard: &MemoryYard) -> &[u8] {
     match yard.registries().last() {
-        Some(read) => read.handed.as_slice(),
+        Some(read) => read.last_read.as_slice(),
         None => &[],
     }
 }
 
 #[test]
 fn a_run_begins_where_the_last_one_ended(rt: HostRuntime) {
-    let mut yard = begun(rt).expect(&rt, "a first run");
+    let mut yard = snapshot(rt).expect(&rt, "a first run");
     let ran = run(rt, &mut yard, AGAIN);
     assert!(rt; is_ran(&ran, 0, AGAIN_TRACE), "the second run");
     assert!(rt; is_file(last_read(&yard)), "the registry that it read");
@@ -180,7 +180,7 @@ fn a_run_begins_where_the_last_one_ended(rt: HostRuntime) {
 
 #[test]
 fn another_count_of_brokers_is_refused(rt: HostRuntime) {
-    let mut yard = begun(rt).expect(&rt, "a first run");
+    let mut yard = snapshot(rt).expect(&rt, "a first run");
     let told = "tiered: partition 0 has 1 brokers, not 2\n";
     for script in ["brokers 2\n", "brokers 2\npartitions 2\n0 0 1 up\n"] {
         let ran = run(rt, &mut yard, script);
@@ -224,7 +224,7 @@ fn registries_are_read_before_anything_runs(rt: HostRuntime) {
 
 /// Whether a run over a yard whose registry has this file is refused at this place, or isn't refused for it, and leaves the file.
 fn is_told_at(rt: HostRuntime, file: &[u8], at: Option<u32>) -> bool {
-    let Some(mut yard) = begun(rt) else {
+    let Some(mut yard) = snapshot(rt) else {
         return false;
     };
     if !put_registry(&mut yard, PartitionId(0), Some(file)) {
@@ -267,7 +267,7 @@ fn a_registry_cut_at_each_length_is_told(rt: HostRuntime) {
 /// What an earlier version left: objects and metadata events, and no registry. Nobody can say what the brokers' logs had.
 #[test]
 fn a_tier_without_a_registry_is_refused(rt: HostRuntime) {
-    let mut yard = begun(rt).expect(&rt, "a first run");
+    let mut yard = snapshot(rt).expect(&rt, "a first run");
     assert!(rt;
         is_ran(&run(rt, &mut yard, AGAIN), 0, AGAIN_TRACE),
         "a copy"
@@ -288,7 +288,7 @@ fn a_tier_without_a_registry_is_refused(rt: HostRuntime) {
 /// Brokers' files alone are of a run that was cut off before its first registry was written: it answered nothing.
 #[test]
 fn files_without_a_registry_are_begun_anew(rt: HostRuntime) {
-    let mut yard = begun(rt).expect(&rt, "a first run");
+    let mut yard = snapshot(rt).expect(&rt, "a first run");
     assert!(rt;
         put_registry(&mut yard, PartitionId(0), None),
         "the registry is lost"
@@ -302,7 +302,7 @@ fn files_without_a_registry_are_begun_anew(rt: HostRuntime) {
 /// A registry whose store was lost: the run goes on, and tells that what was copied is damaged.
 #[test]
 fn a_registry_without_its_store_is_told_by_answers(rt: HostRuntime) {
-    let mut yard = begun(rt).expect(&rt, "a first run");
+    let mut yard = snapshot(rt).expect(&rt, "a first run");
     assert!(rt;
         is_ran(&run(rt, &mut yard, AGAIN), 0, AGAIN_TRACE),
         "a copy"

@@ -2,11 +2,11 @@
 //!
 //! The batches' bytes come from a writer of record batches that was made apart from this repository.
 
-use broker_call::{Form, Status, Why, explained, folder, form_of, printed, tiered_in_order};
 use folder_yard::FolderYard;
 use std::alloc::{AllocError, Global};
 use std::fs;
 use tier_base::{Blob, MemorySink, MemorySource, PartitionId};
+use tiered_call::{Form, Status, Why, explained, folder, form_of, printed, tiered_in_order};
 
 /// Adds a word.
 fn add(alloc: Global, words: &mut Vec<String>, word: &str) -> bool {

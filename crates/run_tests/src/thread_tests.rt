@@ -2,13 +2,13 @@
 //! journals of the worlds that the threads turned.
 
 use crate::tests::{Wanted, is_wanted, sink_of, source_of, well, words_of};
-use broker_call::{Gate, OpenGate, tiered};
 use memory_yard::MemoryYard;
 use std::sync::Wait;
 use std::sync::atomic::{AtomicBool, Ordering};
 use std::thread;
 use std::thread::Threads;
 use tier_base::{ActorId, MemorySink, MemorySource};
+use tiered_call::{Gate, OpenGate, tiered};
 
 /// How often a held thread looks whether the other one has come.
 const MOST_LOOKS: u32 = 500_000_000;

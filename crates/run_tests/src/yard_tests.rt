@@ -5,7 +5,6 @@ ghost use Rattle.plain_log.specs.Orders.{AreListsFor, IsConfig};
 ghost use Rattle.script_lang.specs.Fit.{StepsToEnds, AreNumbered, IsFit};
 
 use crate::tests::{Wanted, is_wanted, sink_of, source_of, well, words_of};
-use broker_call::tiered_in_order;
 use cold_start::ColdRefusal;
 use disk_model::{DiskCall, MemoryDisk};
 use memory_yard::MemoryYard;
@@ -13,10 +12,11 @@ use meta_log::MemoryLog;
 use object_store::MemoryStore;
 use partition_world::Devices;
 use plain_log::Config;
+use run_yard::{YardRefusal, run_in_yard, run_on};
 use script_lang::{PartScript, Script, parse};
 use std::alloc::Global;
 use tier_base::{MemorySink, MemorySource, Planned, Row};
-use yard_run::{YardRefusal, run_in_yard, run_on};
+use tiered_call::tiered_in_order;
 
 /// How a run ends.
 #[derive(Clone, Copy, Debug, PartialEq, Eq)]

@@ -7,7 +7,7 @@ ghost use Rattle.script_help.specs.Shown.{Explains, IsEnded};
 
 use crate::causes::{cause, section};
 use crate::line::{heads, line_at};
-use crate::place::{Place, counts_of, find_place};
+use crate::place::{TextPlace, counts_of, find_place};
 use crate::shown::write_shown;
 use crate::wanted::{Wanted, ask};
 use crate::words::COMMANDS;
@@ -81,7 +81,12 @@ fn write_wanted(alloc: Global, out: &mut String, wanted: &Wanted) -> Result<(), 
 }
 
 /// What would be right at the place of a cause. Of a cause that isn't one of the line's words nothing is asked.
-fn wanted_at(alloc: Global, counts: &[u8], place: &Place, why: Why) -> Result<Wanted, AllocError> {
+fn wanted_at(
+    alloc: Global,
+    counts: &[u8],
+    place: &TextPlace,
+    why: Why,
+) -> Result<Wanted, AllocError> {
     if !matches!(why, Why::Word | Why::Number | Why::Field | Why::Hex) {
         return Ok(Wanted::nothing(alloc));
     }

@@ -170,7 +170,7 @@ fn word_of(why: Why, heads: &[&[u8]]) -> usize {
 
 /// The place at which a line is refused.
 #[derive(Drop)]
-pub struct Place<'a> {
+pub struct TextPlace<'a> {
     /// The text up to the end of the word before.
     pub head: &'a [u8],
     /// Where the caret stands in the text.
@@ -188,19 +188,19 @@ fn head_before<'a>(heads: &[&'a [u8]], number: usize) -> &'a [u8] {
 }
 
 /// The place of the word of this number in a text, or the text's end.
-fn place_of<'a>(text: &'a [u8], heads: &[&'a [u8]], number: usize) -> Place<'a>
+fn place_of<'a>(text: &'a [u8], heads: &[&'a [u8]], number: usize) -> TextPlace<'a>
     requires { All (λ head. IsHead text.now head.now) heads.now }
     ensures { IsUnder text.now result.column }
 {
     let head = head_before(heads, number);
     if number < heads.len() {
-        return Place {
+        return TextPlace {
             head,
             column: last_word_at(heads[number]),
             is_there: true,
         };
     }
-    Place {
+    TextPlace {
         head,
         column: text.len(),
         is_there: false,
@@ -221,11 +221,11 @@ pub fn find_place<'a>(
     counts: &[u8],
     text: &'a [u8],
     why: Why,
-) -> Result<Place<'a>, AllocError>
+) -> Result<TextPlace<'a>, AllocError>
     ensures { IfOk result (λ place. why ≢ Why.NotText → IsUnder text.now place.column) }
 {
     if why == Why::NotText {
-        return Ok(Place {
+        return Ok(TextPlace {
             head: &[],
             column: bad_byte_at(text),
             is_there: true,

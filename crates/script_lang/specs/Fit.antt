@@ -102,7 +102,7 @@ pub record IsSound (t : Told) : Type 0 where
   pub small : AreSmall t.sums
   pub few : (a : ℕ) → length (slot_at t.actors a).orders ≤ t.sums.commands
   pub orders : (a : ℕ) → All (IsOrderFor (config_of t.options)) (slot_at t.actors a).orders
-  pub unbegun : t.begun ≡ false → (a : ℕ) → (slot_at t.actors a).orders ≡ []
+  pub unbegun : t.snapshot ≡ false → (a : ℕ) → (slot_at t.actors a).orders ≡ []
   pub actors : length t.actors ≡ 64
   pub numbered : AreNumbered 0 t.parts
   pub empty : All (λ (part : PartScript). part.lists ≡ []) t.parts

@@ -43,7 +43,7 @@ use Rattle.script_lang.specs.Limits.{none_so_far, with_command, with_turns, with
 pub record Told : Type 0 where
   pub options : Options
   -- a command, later, turn or fault line was read
-  pub begun : Bool
+  pub snapshot : Bool
   pub sums : Counts
   pub actors : List Slot
   -- the schedule and the faults of each partition; its lists are empty yet
@@ -112,7 +112,7 @@ known_actor (Some partition) = Ok tt
 -- a form may stand behind the lines so far
 abbrev pub may_stand : Told → Form → Result (Unit {0}) Why
 may_stand t Blank = Ok tt
-may_stand t (Given option) = option_place t.begun (is_given t.options option)
+may_stand t (Given option) = option_place t.snapshot (is_given t.options option)
 may_stand t (Placed actor partition order at_once) = same_partition (slot_at t.actors actor.0).partition partition
 may_stand t (Turn actor turns) = known_actor (slot_at t.actors actor.0).partition
 may_stand t (Faulty partition fault) = Ok tt
@@ -160,17 +160,17 @@ abbrev pub told_with : Told → Counts → Form → Told
 told_with t sums Blank = t
 told_with t sums (Given option) = record t { options = options_with t.options option }
 told_with t sums (Placed actor partition order at_once) = record t {
-  begun = true;
+  snapshot = true;
   sums = sums;
   actors = with_order t.actors actor.0 partition order;
   parts = parts_stepped t.parts at_once actor (length (slot_at t.actors actor.0).orders + 1) partition.0;
 }
 told_with t sums (Turn actor turns) = record t {
-  begun = true;
+  snapshot = true;
   sums = sums;
   parts = with_pace t.parts (partition_or_first (slot_at t.actors actor.0).partition) (Times actor turns);
 }
-told_with t sums (Faulty partition fault) = record t { begun = true; parts = with_fault t.parts partition.0 fault }
+told_with t sums (Faulty partition fault) = record t { snapshot = true; parts = with_fault t.parts partition.0 fault }
 
 -- a form behind the lines so far
 unfoldable pub form_behind : Told → Form → Result Told Why
@@ -209,7 +209,7 @@ nothing_told = record {
     local_retention_ms = None;
     local_retention_bytes = None;
   };
-  begun = false;
+  snapshot = false;
   sums = none_so_far;
   actors = replicate 64 idle;
   parts = empty_parts 0 64;

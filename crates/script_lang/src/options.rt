@@ -74,10 +74,10 @@ impl Options {
     }
 
     /// Answers whether an option may be given, where lines that aren't options may have begun.
-    pub fn allow(&self, begun: bool, option: OptionLine) -> Result<(), Why>
-        ensures { result ≡ option_place begun (is_given self.now option) }
+    pub fn allow(&self, snapshot: bool, option: OptionLine) -> Result<(), Why>
+        ensures { result ≡ option_place snapshot (is_given self.now option) }
     {
-        if begun {
+        if snapshot {
             return Err(Why::TooLate);
         }
         if self.is_given(option) {

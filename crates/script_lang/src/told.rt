@@ -29,7 +29,7 @@ use tier_base::{ActorId, PartitionId};
 #[derive(Drop)]
 pub struct Told {
     options: Options,
-    begun: bool,
+    snapshot: bool,
     counts: Counts,
     actors: Actors,
     partitions: Partitions,
@@ -43,7 +43,7 @@ impl Model for Told {
 
     ghost view = { λ t. record {
       options = t.options;
-      begun = t.begun;
+      snapshot = t.snapshot;
       sums = t.counts;
       actors = t.actors;
       parts = t.partitions;
@@ -51,7 +51,7 @@ impl Model for Told {
 
     ghost invariant = { λ t. IsSound (record {
       options = t.options;
-      begun = t.begun;
+      snapshot = t.snapshot;
       sums = t.counts;
       actors = t.actors;
       parts = t.partitions;
@@ -85,7 +85,7 @@ impl Told {
     {
         Ok(Told {
             options: Options::new(),
-            begun: false,
+            snapshot: false,
             counts: Counts::new(),
             actors: Actors::new(alloc)?,
             partitions: Partitions::new(alloc)?,
@@ -99,7 +99,7 @@ impl Told {
     {
         match form {
             Form::Blank => Ok(()),
-            Form::Given(option) => self.options.allow(self.begun, *option),
+            Form::Given(option) => self.options.allow(self.snapshot, *option),
             Form::Placed {
                 actor,
                 partition,
@@ -128,7 +128,7 @@ impl Told {
     /// Gives an option.
     fn with_option(self, option: OptionLine) -> Told
         requires range { IsOptionInRange option }
-        requires unbegun { self.begun ≡ false }
+        requires unbegun { self.snapshot ≡ false }
         ensures { result ≡ told_with self self.sums (Form.Given option) }
     {
         let mut told = self;
@@ -154,7 +154,7 @@ impl Told {
         let number = told.actors.len(actor) as u32 + 1;
         told.partitions.step(at_once, actor, number, partition)?;
         told.actors.put(actor, partition, order)?;
-        told.begun = true;
+        told.snapshot = true;
         told.counts = counts;
         Ok(told)
     }
@@ -169,7 +169,7 @@ impl Told {
         let partition = told.actors.partition(actor).unwrap_or(PartitionId(0));
         told.partitions
             .put_pace(partition, Pace::Times { actor, turns })?;
-        told.begun = true;
+        told.snapshot = true;
         told.counts = counts;
         Ok(told)
     }
@@ -185,7 +185,7 @@ impl Told {
     {
         let mut told = self;
         told.partitions.put_fault(partition, fault)?;
-        told.begun = true;
+        told.snapshot = true;
         Ok(told)
     }
 

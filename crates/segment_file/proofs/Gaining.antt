@@ -21,7 +21,7 @@ use Rattle.segment_file.specs.Gathering.{epoch_after, MayGoOn, IsGathered, Tells
 use Rattle.segment_file.proofs.Finding.{not_empty}
 use Rattle.segment_file.proofs.Runs.{joined_push}
 use Rattle.segment_file.proofs.Standing.{AreBytes, bytes_drop, front_bytes}
-use Rattle.segment_file.proofs.Telling.{tells}
+use Rattle.segment_file.proofs.Telling.{is_observable}
 use Rattle.segment_file.proofs.Joining.{GoesOn, end_push, epoch_push, consecutive_up, segment_push, segment_last, segment_front, nothing_joined, parts_same}
 
 -- the greatest timestamp with a batch more
@@ -38,19 +38,19 @@ greatest_push at (x ∷ xs) batch all e =
     rw (not_empty at (omega (arith, e, long, size))) (greatest_from_push (max_ts_of x) xs batch)
 
 -- the line with a batch more
-abbrev begun : ℕ → ℕ → ℕ → List (ℕ × ℕ)
-begun epoch last base = cond (epoch == last) [] ((epoch, base) ∷ [])
+abbrev snapshot : ℕ → ℕ → ℕ → List (ℕ × ℕ)
+snapshot epoch last base = cond (epoch == last) [] ((epoch, base) ∷ [])
 
-line_after_push : (epoch : ℕ) (xs : List (List ℕ)) (batch : List ℕ) → line_after epoch (xs ++ batch ∷ []) ≡ line_after epoch xs ++ begun (epoch_of batch) (epoch_after epoch xs) (base_of batch)
+line_after_push : (epoch : ℕ) (xs : List (List ℕ)) (batch : List ℕ) → line_after epoch (xs ++ batch ∷ []) ≡ line_after epoch xs ++ snapshot (epoch_of batch) (epoch_after epoch xs) (base_of batch)
 line_after_push epoch [] batch = go (epoch_of batch == epoch) refl
   where
-    go : (t : Bool) → (epoch_of batch == epoch) ≡ t → line_after epoch (batch ∷ []) ≡ begun (epoch_of batch) epoch (base_of batch)
+    go : (t : Bool) → (epoch_of batch == epoch) ≡ t → line_after epoch (batch ∷ []) ≡ snapshot (epoch_of batch) epoch (base_of batch)
     go true e = rw e refl
     go false e = rw e refl
 line_after_push epoch (x ∷ xs) batch = go (epoch_of x == epoch) refl (line_after_push epoch xs batch) (line_after_push (epoch_of x) xs batch)
   where
     tail : ℕ → List (ℕ × ℕ)
-    tail last = begun (epoch_of batch) (epoch_after last xs) (base_of batch)
+    tail last = snapshot (epoch_of batch) (epoch_after last xs) (base_of batch)
 
     go : (t : Bool) → (epoch_of x == epoch) ≡ t → line_after epoch (xs ++ batch ∷ []) ≡ line_after epoch xs ++ tail epoch → line_after (epoch_of x) (xs ++ batch ∷ []) ≡ line_after (epoch_of x) xs ++ tail (epoch_of x)
         → line_after epoch (x ∷ xs ++ batch ∷ []) ≡ line_after epoch (x ∷ xs) ++ tail (epoch_of x)
@@ -83,13 +83,13 @@ last_begun base (x ∷ xs) row =
     let same : (epoch_after (epoch_of x) xs, last.0) ≡ entry = same_Some (epoch_after (epoch_of x) xs, last.0) entry (sym last.1 ∙ e) in
     (ap (λ (p : ℕ × ℕ). p.0) (sym same), (let start = ap (λ (p : ℕ × ℕ). p.1) (sym same) in omega (arith, start, last.2)))
 
-with_by : (line : List (ℕ × ℕ)) (last s epoch start : ℕ) → last_entry line ≡ Some (last, s) → with_epoch line epoch start ≡ line ++ begun epoch last start
+with_by : (line : List (ℕ × ℕ)) (last s epoch start : ℕ) → last_entry line ≡ Some (last, s) → with_epoch line epoch start ≡ line ++ snapshot epoch last start
 with_by line last s epoch start e = go (epoch == last) refl
   where
     is : last_epoch line ≡ Some last
     is = ap (option_map (λ (p : ℕ × ℕ). p.0)) e
 
-    go : (t : Bool) → (epoch == last) ≡ t → with_epoch line epoch start ≡ line ++ begun epoch last start
+    go : (t : Bool) → (epoch == last) ≡ t → with_epoch line epoch start ≡ line ++ snapshot epoch last start
     go true t = rw (is, t) (sym (append-nil line))
     go false t = rw (is, t) refl
 
@@ -129,7 +129,7 @@ may_go_on base bytes front batch head g t o = record {
 pub gathered_more : (base : ℕ) (bytes : List ℕ) (front : Gathered) (head : Head) → IsGathered base bytes front → GoesOnAt base bytes front head → IsGathered base bytes (gained front head)
 gathered_more base bytes front head g o =
     let batch = o.batch in
-    let t : Tells batch head = o.tells in
+    let t : Tells batch head = o.is_observable in
     let on = goes_on base bytes front batch head g o.is t o.may in
     let more = joined_push g.batches batch in
     let size : length (joined (g.batches ++ batch ∷ [])) ≡ length (joined g.batches) + length batch = ap length more ∙ length-append (joined g.batches) batch in
@@ -154,7 +154,7 @@ bad_place base bytes front clean g nothing within =
     let none : (batch more : List ℕ) → rest ≡ batch ++ more → IsSegment base (g.batches ++ batch ∷ []) → ⊥ = λ batch more parts s.
     let on = segment_last base g.batches batch s in
     let clean' : AreBytes batch = front_bytes batch more (subst AreBytes parts (bytes_drop front.at bytes clean)) in
-    nothing batch more parts on.is (may_go_on base bytes front batch (head_of batch) g (tells batch clean' on.is) on) in record {
+    nothing batch more parts on.is (may_go_on base bytes front batch (head_of batch) g (is_observable batch clean' on.is) on) in record {
       batches = g.batches;
       rest = rest;
       parts = g.parts;

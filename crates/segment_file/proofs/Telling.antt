@@ -36,8 +36,8 @@ tells_by batch b clean e = record {
 }
 
 -- a head tells its batch's numbers
-pub tells : (batch : List ℕ) → AreBytes batch → IsOk (checked batch) → Tells batch (head_of batch)
-tells batch clean ok = go (checked batch) refl ok
+pub is_observable : (batch : List ℕ) → AreBytes batch → IsOk (checked batch) → Tells batch (head_of batch)
+is_observable batch clean ok = go (checked batch) refl ok
   where
     go : (r : Result Batch BatchRefusal) → checked batch ≡ r → IsOk r → Tells batch (head_of batch)
     go (Ok b) e ok = tells_by batch b clean e
@@ -48,4 +48,4 @@ pub placed_same : (at : ℕ) (batch : List ℕ) (head : Head) → Tells batch he
 placed_same at batch head t = rw (t.base, t.delta, t.max_ts, t.size) refl
 
 pub head_places : (at : ℕ) (batch : List ℕ) → IsOk (checked batch) → ((i : ℕ) → get_or batch i 0 < 2 ^ 8) → placed_in at (head_of batch) ≡ placed at batch
-head_places at batch ok clean = placed_same at batch (head_of batch) (tells batch clean ok)
+head_places at batch ok clean = placed_same at batch (head_of batch) (is_observable batch clean ok)

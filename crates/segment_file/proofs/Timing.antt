@@ -159,7 +159,7 @@ begin_more at limit (x ∷ batches) batch low = let size = length-append x (join
 
 -- a timestamp is reached, or no entry was due since its batch began at a place
 record Waits (interval at : ℕ) (batches : List (List ℕ)) (marks : Marks) (ts : ℤ) : Type 0 where
-  begun : begun_at (last_of marks.entries) ≤ at
+  snapshot : begun_at (last_of marks.entries) ≤ at
   begins : BeginBy 0 (at + interval) batches
   up : ts ≤ℤ marks.top.0
 
@@ -213,7 +213,7 @@ reach_close base limit batches moments top ts (inr h) = go (int_lt (time_of (las
 -- a batch more, where what waits is at or below the greatest with it
 wait_step : (base interval at : ℕ) (batches : List (List ℕ)) (batch : List ℕ) (marks : Marks) (ts : ℤ) → Timed base batches marks → begun_at (last_of marks.entries) ≤ at → BeginBy 0 (at + interval) batches → ts ≤ℤ (raised marks.top (placed marks.size batch)).0
     → IsSoon base interval at (batches ++ batch ∷ []) (marked base interval marks (placed marks.size batch)) ts
-wait_step base interval at batches batch marks ts t begun begins up = go (is_due interval marks.entries marks.size) refl
+wait_step base interval at batches batch marks ts t snapshot begins up = go (is_due interval marks.entries marks.size) refl
   where
     one : Placed
     one = placed marks.size batch
@@ -230,21 +230,21 @@ wait_step base interval at batches batch marks ts t begun begins up = go (is_due
     now = timed_step base interval batches batch marks t
 
     low : is_due interval marks.entries marks.size ≡ false → length (joined batches) ≤ at + interval
-    low e = let few = ltb-false interval (marks.size - begun_at (last_of marks.entries)) e in omega (arith, few, begun, t.size)
+    low e = let few = ltb-false interval (marks.size - begun_at (last_of marks.entries)) e in omega (arith, few, snapshot, t.size)
 
     go : (due : Bool) → is_due interval marks.entries marks.size ≡ due → IsSoon base interval at (batches ++ batch ∷ []) (after due) ts
     go true e =
         inl (reach_with base (at + interval) (batches ++ batch ∷ []) marks.moments (raised marks.top one) ts up
         (subst (λ (due : Bool). (entry : ℤ × ℕ) → Contains (cond due (with_time base marks.moments (raised marks.top one)) marks.moments) entry → IsTimeOf base (batches ++ batch ∷ []) entry) e now.each)
         (λ front rest b parts. begin_front 0 (at + interval) front batches rest b batch parts begins))
-    go false e = inr (record { begun = begun; begins = begin_more 0 (at + interval) batches batch (let few = low e in omega (arith, few)); up = up })
+    go false e = inr (record { snapshot = snapshot; begins = begin_more 0 (at + interval) batches batch (let few = low e in omega (arith, few)); up = up })
 
 soon_step : (base interval at : ℕ) (batches : List (List ℕ)) (batch : List ℕ) (marks : Marks) (ts : ℤ) → Timed base batches marks → IsSoon base interval at batches marks ts
     → IsSoon base interval at (batches ++ batch ∷ []) (marked base interval marks (placed marks.size batch)) ts
 soon_step base interval at batches batch marks ts t (inl h) =
     inl (reach_step base (at + interval) batches batch marks.moments (raised marks.top (placed marks.size batch)) (is_due interval marks.entries marks.size) ts h)
 soon_step base interval at batches batch marks ts t (inr w) =
-    wait_step base interval at batches batch marks ts t w.begun w.begins (up_through ts marks.top.0 _ w.up (above_old marks.top (placed marks.size batch)))
+    wait_step base interval at batches batch marks ts t w.snapshot w.begins (up_through ts marks.top.0 _ w.up (above_old marks.top (placed marks.size batch)))
 
 soon_all : (base interval at : ℕ) (batches rest : List (List ℕ)) (marks : Marks) (ts : ℤ) → Timed base batches marks → IsSoon base interval at batches marks ts
     → Timed base (batches ++ rest) (marked_by base interval marks (placed_from marks.size rest)) × IsSoon base interval at (batches ++ rest) (marked_by base interval marks (placed_from marks.size rest)) ts

@@ -27,7 +27,7 @@ use Rattle.segment_file.specs.Gathering.{Tells}
 use Rattle.segment_file.specs.Marking.{HasSegment, marks_in, IsFrom, MayMark, IsMarked}
 use Rattle.segment_file.proofs.Finding.{drop_append, length_drop, headed_front}
 use Rattle.segment_file.proofs.Standing.{AreBytes, bytes_drop, front_bytes}
-use Rattle.segment_file.proofs.Telling.{tells}
+use Rattle.segment_file.proofs.Telling.{is_observable}
 use Rattle.segment_file.proofs.Placing.{placed_append, placed_size, placed_end}
 use Rattle.segment_file.proofs.Runs.{joined_append}
 use Rattle.segment_file.proofs.Laying.{last_push, last_below, none_below, marked_append, marked_size, end_up}
@@ -223,7 +223,7 @@ pub tells_there : (base : ℕ) (bytes : List ℕ) (interval at : ℕ) (marking :
 tells_there base bytes interval at marking head clean n e =
     let same : head_of n.batch ≡ head = ok_same (headed (drop at bytes)) (head_of n.batch) head (read_there base bytes interval at marking n) e in
     let clean' : AreBytes n.batch = front_bytes n.batch (joined n.rest) (subst AreBytes n.there (bytes_drop at bytes clean)) in
-    subst (Tells n.batch) same (tells n.batch clean' n.ok)
+    subst (Tells n.batch) same (is_observable n.batch clean' n.ok)
   where
     ok_same : (r : Result Head HeadRefusal) (h h' : Head) → r ≡ Ok h → r ≡ Ok h' → h ≡ h'
     ok_same r h h' e e' = cc

@@ -56,7 +56,7 @@ pub record GoesOnAt (base : ℕ) (bytes : List ℕ) (front : Gathered) (head : H
   pub batch : List ℕ
   pub is : IsOk (checked batch)
   pub parts : drop front.at bytes ≡ batch ++ drop (front.at + size_in head) bytes
-  pub tells : Tells batch head
+  pub is_observable : Tells batch head
   pub may : MayGoOn base front.at front.end front.epoch head
   pub inside : front.at + size_in head ≤ length bytes
 

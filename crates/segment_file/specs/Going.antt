@@ -36,9 +36,9 @@ pub record IsDone (bytes : List ℕ) (offset limit bound : ℕ) (going : Going) 
   pub stops : going.end < bound → would_pass limit (length (joined (is.first ∷ is.others))) (headed (drop going.to bytes)) ≡ true
 
 -- a run has begun, or can't
-abbrev pub Begun : List ℕ → ℕ → ℕ → ℕ → Result Going BadAt → Type 0
-Begun bytes offset limit bound (Ok going) = IsGoing bytes offset limit bound going
-Begun bytes offset limit bound (Err bad) = IsBadAt bytes offset limit bound bad.at
+abbrev pub GoingFrom : List ℕ → ℕ → ℕ → ℕ → Result Going BadAt → Type 0
+GoingFrom bytes offset limit bound (Ok going) = IsGoing bytes offset limit bound going
+GoingFrom bytes offset limit bound (Err bad) = IsBadAt bytes offset limit bound bad.at
 
 -- a run has ended, or can't
 abbrev pub Done : List ℕ → ℕ → ℕ → ℕ → Result Going BadAt → Type 0

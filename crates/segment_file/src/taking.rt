@@ -9,7 +9,7 @@ ghost use Rattle.std.specs.Option.{ForSome};
 ghost use Rattle.tier_base.specs.declared.plain.Stop.TheVariants as Stop;
 ghost use Rattle.record_batch.specs.Check.{headed};
 ghost use Rattle.segment_file.specs.Run.{Begins, NoBatch, would_pass, Takes};
-ghost use Rattle.segment_file.specs.Going.{IsNext, IsGoing, Begun, Done};
+ghost use Rattle.segment_file.specs.Going.{IsNext, IsGoing, GoingFrom, Done};
 
 use crate::walking::{Found, size_in, walk};
 use record_batch::read_head;
@@ -51,7 +51,7 @@ pub fn take_run(
     ensures { Takes bytes.now offset limit mark piece_end result }
 {
     let bound = mark.min(piece_end);
-    let first = begun(bytes, offset, bound)?;
+    let first = snapshot(bytes, offset, bound)?;
     let run = extended(bytes, offset, limit, bound, first)?;
     Ok(Cutout {
         from: run.from,
@@ -62,9 +62,9 @@ pub fn take_run(
 }
 
 /// The run of one batch, the one that holds the offset.
-fn begun(bytes: &[u8], offset: u64, bound: u64) -> Result<Going, BadAt>
+fn snapshot(bytes: &[u8], offset: u64, bound: u64) -> Result<Going, BadAt>
     requires { offset < bound }
-    ensures { (limit : ℕ) → Begun bytes.now offset limit bound result }
+    ensures { (limit : ℕ) → GoingFrom bytes.now offset limit bound result }
 {
     let mut at = 0;
     let mut last = None;

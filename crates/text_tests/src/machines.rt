@@ -1,10 +1,10 @@
 //! The happy path of each public call, and an entry that is refused. Expected values are worked by hand.
 
 ghost use Rattle.std.specs.Prelude.{◌≡◌, All, IfOk};
-ghost use Rattle.plain_machine.specs.Fits.{AreFor, IsFor};
+ghost use Rattle.plain_executor.specs.Fits.{AreFor, IsFor};
 
+use plain_executor::{Plain, first_refused, is_complete, is_complete_run, is_run};
 use plain_log::{ActorList, Answer, Command, Config, Event, JournalEntry, Order};
-use plain_machine::{Plain, first_refused, is_complete, is_complete_run, is_run};
 use std::alloc::{AllocError, Global};
 use tier_base::{ActorId, BrokerId, Keep, Row, Settings};
 

@@ -1,7 +1,7 @@
 //! A journal and a summary, worked by hand.
 
 ghost use Rattle.std.specs.Prelude.{◌≡◌, All, IfOk};
-ghost use Rattle.plain_machine.specs.Fits.{AreFor, IsFor};
+ghost use Rattle.plain_executor.specs.Fits.{AreFor, IsFor};
 
 use plain_log::{ActorList, Answer, Command, Config, Event, JournalEntry, Order};
 use run_summary::{End, Given, Told, summary, tell};

@@ -34,15 +34,15 @@ pub objects_same : (old new : Content) → Keeps old new → new.objects ≡ old
 objects_same old new keeps = λ i key. keeps.objects key i
 
 keeps_then : (old mid new : Content) → Keeps old mid → Keeps mid new → Keeps old new
-keeps_then old mid new first second = record { tells = second.tells ∙ first.tells; objects = λ k. second.objects k ∙ first.objects k }
+keeps_then old mid new first second = record { is_observable = second.is_observable ∙ first.is_observable; objects = λ k. second.objects k ∙ first.objects k }
 
-pub tells_on : (old new : Content) → Keeps old new → IsTrue old.tells → IsTrue new.tells
-tells_on old new keeps tells = keeps.tells ∙ tells
+pub tells_on : (old new : Content) → Keeps old new → IsTrue old.is_observable → IsTrue new.is_observable
+tells_on old new keeps is_observable = keeps.is_observable ∙ is_observable
 
 module _ {S : Type 0} (objects : S → Content) (calls : S → Control call_code) where
   -- it wasn't asked
   pub asks_none : (store : S) → Asks objects calls Went store store
-  asks_none store = record { control = lasts_same (calls store); cause = λ e. absurd (cc); content = record { tells = refl; objects = λ k. refl } }
+  asks_none store = record { control = lasts_same (calls store); cause = λ e. absurd (cc); content = record { is_observable = refl; objects = λ k. refl } }
 
   -- it was asked, and then again
   pub asks_then : (fate : Fate) (old mid new : S) → Asks objects calls Went old mid → Asks objects calls fate mid new → Asks objects calls fate old new

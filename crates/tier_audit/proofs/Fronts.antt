@@ -21,7 +21,7 @@ use Rattle.segment_file.specs.Gathering.{Tells, with_epoch, later_ts}
 use Rattle.segment_file.specs.Index.{placed, placed_in, placed_from}
 use Rattle.segment_file.proofs.Finding.{not_empty}
 use Rattle.segment_file.proofs.Standing.{AreBytes, bytes_drop, front_bytes, standing}
-use Rattle.segment_file.proofs.Telling.{tells, placed_same}
+use Rattle.segment_file.proofs.Telling.{is_observable, placed_same}
 use Rattle.segment_file.proofs.Runs.{joined_append, joined_push}
 use Rattle.segment_file.proofs.Joining.{all_parts, end_push, end_append, consecutive_parts, consecutive_up, segment_push, segment_last, segment_front, parts_same}
 use Rattle.segment_file.proofs.Placing.{placed_push}
@@ -46,16 +46,16 @@ near_by entry front batch head t m = record {
 -- the batch that was found may come, where its head says so
 pub comes_next : (entry : Entry) (bytes : List ℕ) (front : Front) (head : Head) (next : Placed) (more : Option ℕ) → AreBytes bytes → front.at ≤ length bytes
     → found_at front.at (drop front.at bytes) ≡ found.Batch head → IsNear entry front head → next ≡ placed_in front.at head → epoch_at entry.map front.end ≡ Some (cast_unsigned w32 head.leader_epoch)
-    → BeginsMore entry.map front.begun (cast_unsigned w32 head.leader_epoch) front.end more → ComesNext entry bytes front (next, more)
-comes_next entry bytes front head next more clean inside e near place has begun =
+    → BeginsMore entry.map front.snapshot (cast_unsigned w32 head.leader_epoch) front.end more → ComesNext entry bytes front (next, more)
+comes_next entry bytes front head next more clean inside e near place has snapshot =
     let s = standing front.at bytes head clean inside e in
     let clean' : AreBytes s.batch = front_bytes s.batch _ (subst AreBytes s.parts (bytes_drop front.at bytes clean)) in
-    let t : Tells s.batch head = subst (Tells s.batch) (sym s.head_is) (tells s.batch clean' s.is) in
+    let t : Tells s.batch head = subst (Tells s.batch) (sym s.head_is) (is_observable s.batch clean' s.is) in
     let start : front.end ≡ base_of s.batch = sym near.begins ∙ t.base in
     let size : size_in head ≡ length s.batch = s.size in
     let own : epoch_at entry.map (base_of s.batch) ≡ Some (epoch_of s.batch) = ap (epoch_at entry.map) (sym start) ∙ has ∙ ap (λ (n : ℕ). Some n) t.epoch in
-    let map : BeginsMore entry.map front.begun (epoch_of s.batch) (base_of s.batch) more =
-    subst (λ (n : ℕ). BeginsMore entry.map front.begun (epoch_of s.batch) n more) start (subst (λ (n : ℕ). BeginsMore entry.map front.begun n front.end more) t.epoch begun) in
+    let map : BeginsMore entry.map front.snapshot (epoch_of s.batch) (base_of s.batch) more =
+    subst (λ (n : ℕ). BeginsMore entry.map front.snapshot (epoch_of s.batch) n more) start (subst (λ (n : ℕ). BeginsMore entry.map front.snapshot n front.end more) t.epoch snapshot) in
     let d = t.delta in
     let w = near.within in
     let n = near.near in
@@ -83,7 +83,7 @@ all_push P [] x all one = (one, tt)
 all_push P (y ∷ xs) x all one = (all.0, all_push P xs x all.1 one)
 
 -- the entries of a map that have begun with a batch more
-begun_more : (map : List (ℕ × ℕ)) (xs : List (List ℕ)) (batch : List ℕ) (begun more : Option ℕ) → AreBegun map xs begun → BeginsMore map begun (epoch_of batch) (base_of batch) more → AreBegun map (xs ++ batch ∷ []) more
+begun_more : (map : List (ℕ × ℕ)) (xs : List (List ℕ)) (batch : List ℕ) (snapshot more : Option ℕ) → AreBegun map xs snapshot → BeginsMore map snapshot (epoch_of batch) (base_of batch) more → AreBegun map (xs ++ batch ∷ []) more
 begun_more map xs batch None more are is =
     subst (AreBegun map (xs ++ batch ∷ [])) (sym is) (λ (p : IsPrefix (line_of (xs ++ batch ∷ [])) map). are (let front = line_front xs (batch ∷ []) in (front.0 ++ p.0, sym (append_assoc (line_of xs) front.0 p.0) ∙ (ap (λ (line : List (ℕ × ℕ)). line ++ p.0) front.1 ∙ p.1))))
 begun_more map xs batch (Some n) None are is =
@@ -154,7 +154,7 @@ front_more entry bytes old new next kept f n g =
       end_is = g.end_is ∙ (ap (λ (p : Placed). p.last + 1) place ∙ sym (end_push entry.start f.batches batch));
       max_ts_is = g.max_ts_is ∙ (ap (λ z. later_ts old.at z next.0.max_ts) f.max_ts_is ∙ (ap (λ (p : Placed). later_ts old.at (greatest_ts f.batches) p.max_ts) place ∙ sym (greatest_push old.at f.batches batch f.begins.is.checked was)));
       placed_are = g.batches_are ∙ (ap (λ ps. ps ++ next.0 ∷ []) f.placed_are ∙ (ap (λ (p : Placed). placed_from 0 f.batches ++ p ∷ []) (place ∙ ap (λ k. placed k batch) (let zero_at : old.at ≡ 0 + length (joined f.batches) = omega (arith, was) in zero_at)) ∙ sym (placed_push 0 f.batches batch)));
-      begun_are = subst (AreBegun entry.map (f.batches ++ batch ∷ [])) (sym g.begun_is) (begun_more entry.map f.batches batch old.begun next.1 f.begun_are n.begun_is);
+      begun_are = subst (AreBegun entry.map (f.batches ++ batch ∷ [])) (sym g.begun_is) (begun_more entry.map f.batches batch old.snapshot next.1 f.begun_are n.begun_is);
     }
 
 drop_front : (xs ys : List ℕ) → drop (length xs) (xs ++ ys) ≡ ys
@@ -276,7 +276,7 @@ prefix_short : (xs line : List (ℕ × ℕ)) (n : ℕ) → xs ≡ take n line �
 prefix_short xs line n e few same = (let long = ap length e ∙ length-take-le n line few in let other = ap length same in omega (arith, long, other))
 
 -- batches whose epochs are the map begin each of its entries
-all_begun : (map : List (ℕ × ℕ)) (xs : List (List ℕ)) (begun : Option ℕ) → AreBegun map xs begun → map ≡ line_of xs → begun ≡ Some (length map)
+all_begun : (map : List (ℕ × ℕ)) (xs : List (List ℕ)) (snapshot : Option ℕ) → AreBegun map xs snapshot → map ≡ line_of xs → snapshot ≡ Some (length map)
 all_begun map xs None are same = absurd (are ([], append-nil (line_of xs) ∙ sym same))
 all_begun map xs (Some n) are same = ap (λ (k : ℕ). Some k) (prefix_short (line_of xs) map n are.0 are.1 same)
 
@@ -290,7 +290,7 @@ comes_to_all entry bytes front f d none =
       whole = omega (arith, at, parts, none);
       size_is = at ∙ sym size;
       end_is = f.end_is ∙ sym d.last_is;
-      begun_is = all_begun entry.map f.batches front.begun f.begun_are d.map_is;
+      begun_is = all_begun entry.map f.batches front.snapshot f.begun_are d.map_is;
       max_ts_is = f.max_ts_is ∙ sym d.max_ts_is;
     }
   where

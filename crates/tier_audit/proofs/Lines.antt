@@ -15,19 +15,19 @@ use Rattle.segment_file.specs.Gathering.{epoch_after, with_epoch}
 use Rattle.segment_file.proofs.Joining.{consecutive_up}
 
 -- the entry that a batch of this epoch begins behind one of another
-abbrev begun : ℕ → ℕ → ℕ → List (ℕ × ℕ)
-begun epoch last base = cond (epoch == last) [] ((epoch, base) ∷ [])
+abbrev snapshot : ℕ → ℕ → ℕ → List (ℕ × ℕ)
+snapshot epoch last base = cond (epoch == last) [] ((epoch, base) ∷ [])
 
-after_push : (epoch : ℕ) (xs : List (List ℕ)) (batch : List ℕ) → line_after epoch (xs ++ batch ∷ []) ≡ line_after epoch xs ++ begun (epoch_of batch) (epoch_after epoch xs) (base_of batch)
+after_push : (epoch : ℕ) (xs : List (List ℕ)) (batch : List ℕ) → line_after epoch (xs ++ batch ∷ []) ≡ line_after epoch xs ++ snapshot (epoch_of batch) (epoch_after epoch xs) (base_of batch)
 after_push epoch [] batch = go (epoch_of batch == epoch) refl
   where
-    go : (t : Bool) → (epoch_of batch == epoch) ≡ t → line_after epoch (batch ∷ []) ≡ begun (epoch_of batch) epoch (base_of batch)
+    go : (t : Bool) → (epoch_of batch == epoch) ≡ t → line_after epoch (batch ∷ []) ≡ snapshot (epoch_of batch) epoch (base_of batch)
     go true e = rw e refl
     go false e = rw e refl
 after_push epoch (x ∷ xs) batch = go (epoch_of x == epoch) refl (after_push epoch xs batch) (after_push (epoch_of x) xs batch)
   where
     tail : ℕ → List (ℕ × ℕ)
-    tail last = begun (epoch_of batch) (epoch_after last xs) (base_of batch)
+    tail last = snapshot (epoch_of batch) (epoch_after last xs) (base_of batch)
 
     go : (t : Bool) → (epoch_of x == epoch) ≡ t → line_after epoch (xs ++ batch ∷ []) ≡ line_after epoch xs ++ tail epoch → line_after (epoch_of x) (xs ++ batch ∷ []) ≡ line_after (epoch_of x) xs ++ tail (epoch_of x)
         → line_after epoch (x ∷ xs ++ batch ∷ []) ≡ line_after epoch (x ∷ xs) ++ tail (epoch_of x)
@@ -49,13 +49,13 @@ last_after epoch start (x ∷ xs) = go (epoch_of x == epoch) refl (last_after ep
         (same.0, rw e (same.1 ∙ ap (λ m. Some (epoch_after m xs, same.0)) (sym is)))
     go false e same other = (other.0, rw e other.1)
 
-with_by : (line : List (ℕ × ℕ)) (last s epoch start : ℕ) → last_entry line ≡ Some (last, s) → with_epoch line epoch start ≡ line ++ begun epoch last start
+with_by : (line : List (ℕ × ℕ)) (last s epoch start : ℕ) → last_entry line ≡ Some (last, s) → with_epoch line epoch start ≡ line ++ snapshot epoch last start
 with_by line last s epoch start e = go (epoch == last) refl
   where
     is : last_epoch line ≡ Some last
     is = ap (option_map (λ (p : ℕ × ℕ). p.0)) e
 
-    go : (t : Bool) → (epoch == last) ≡ t → with_epoch line epoch start ≡ line ++ begun epoch last start
+    go : (t : Bool) → (epoch == last) ≡ t → with_epoch line epoch start ≡ line ++ snapshot epoch last start
     go true t = rw (is, t) (sym (append-nil line))
     go false t = rw (is, t) refl
 

@@ -205,14 +205,14 @@ first_is entry (batch ∷ batches) d = d.is.consecutive.0
 -- the part of a line within a segment is that of what starts up to the segment's end
 within_same : (line : List (ℕ × ℕ)) (base last : ℕ) → IsLine line → base ≤ last → within (cut_end line (last + 1)) base last ≡ within line base last
 within_same line base last is up =
-    let begun = λ (e : ℕ × ℕ). nat_lt e.1 (last + 1) in
+    let snapshot = λ (e : ℕ × ℕ). nat_lt e.1 (last + 1) in
     let past = λ (e : ℕ × ℕ). nat_lt base e.1 && nat_le e.1 last in
     let started-same : started base (cut_end line (last + 1)) ≡ started base line =
-    filter-filter (λ (e : ℕ × ℕ). nat_le e.1 base) begun line ∙ filter_agree (λ (e : ℕ × ℕ). nat_le e.1 base && nat_lt e.1 (last + 1)) (λ (e : ℕ × ℕ). nat_le e.1 base) (λ e. both e.1) line in
+    filter-filter (λ (e : ℕ × ℕ). nat_le e.1 base) snapshot line ∙ filter_agree (λ (e : ℕ × ℕ). nat_le e.1 base && nat_lt e.1 (last + 1)) (λ (e : ℕ × ℕ). nat_le e.1 base) (λ e. both e.1) line in
     let at : epoch_at (cut_end line (last + 1)) base ≡ epoch_at line base =
-    epoch_at-started (cut_end line (last + 1)) base (IsLine-filter begun line is) ∙ (ap last_epoch started-same ∙ sym (epoch_at-started line base is)) in
+    epoch_at-started (cut_end line (last + 1)) base (IsLine-filter snapshot line is) ∙ (ap last_epoch started-same ∙ sym (epoch_at-started line base is)) in
     let rest : filter past (cut_end line (last + 1)) ≡ filter past line =
-    filter-filter past begun line ∙ filter_agree (λ (e : ℕ × ℕ). (nat_lt base e.1 && nat_le e.1 last) && nat_lt e.1 (last + 1)) past (λ e. inside e.1) line in
+    filter-filter past snapshot line ∙ filter_agree (λ (e : ℕ × ℕ). (nat_lt base e.1 && nat_le e.1 last) && nat_lt e.1 (last + 1)) past (λ e. inside e.1) line in
     ap (λ o. at_base o base ++ filter past (cut_end line (last + 1))) at ∙ ap (λ xs. at_base (epoch_at line base) base ++ xs) rest
   where
     both : (n : ℕ) → (nat_le n base && nat_lt n (last + 1)) ≡ nat_le n base

@@ -91,7 +91,7 @@ abbrev pub FindsLog : Objects → Entry → LogFound → Type 0
 FindsLog objects entry (log_found.Right found) = HasPlaced objects entry found.items
 FindsLog objects entry (log_found.Flawed flaw) = IsCopyFlaw objects entry flaw
 
--- its batches are those of a segment, whether the store tells or not
+-- its batches are those of a segment, whether the store is observable or not
 abbrev pub PlacesLog : Entry → LogFound → Type 0
 PlacesLog entry (log_found.Right found) = ArePlaced entry.start found.items
 PlacesLog entry (log_found.Flawed flaw) = Unit {0}

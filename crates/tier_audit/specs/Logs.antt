@@ -22,13 +22,13 @@ use Rattle.tier_audit.specs.Flaws.{IsFirstBad, MayBegin}
 -- so many of a map's entries are the epochs of batches; none where these don't begin the map entry by entry
 abbrev pub AreBegun : List (ℕ × ℕ) → List (List ℕ) → Option ℕ → Type 0
 AreBegun map batches None = IsPrefix (line_of batches) map → ⊥
-AreBegun map batches (Some begun) = (line_of batches ≡ take begun map) × (begun ≤ length map)
+AreBegun map batches (Some snapshot) = (line_of batches ≡ take snapshot map) × (snapshot ≤ length map)
 
 -- and with a batch more, of this epoch at this base
 abbrev pub BeginsMore : List (ℕ × ℕ) → Option ℕ → ℕ → ℕ → Option ℕ → Type 0
 BeginsMore map None epoch base more = more ≡ None
-BeginsMore map (Some begun) epoch base None = IsPrefix (with_epoch (take begun map) epoch base) map → ⊥
-BeginsMore map (Some begun) epoch base (Some more) = (with_epoch (take begun map) epoch base ≡ take more map) × (more ≤ length map)
+BeginsMore map (Some snapshot) epoch base None = IsPrefix (with_epoch (take snapshot map) epoch base) map → ⊥
+BeginsMore map (Some snapshot) epoch base (Some more) = (with_epoch (take snapshot map) epoch base ≡ take more map) × (more ≤ length map)
 
 -- the batches of a log's front come to this, and may begin the log
 pub record IsFront (entry : Entry) (bytes : List ℕ) (front : Front) : Type 0 where
@@ -40,7 +40,7 @@ pub record IsFront (entry : Entry) (bytes : List ℕ) (front : Front) : Type 0 w
   pub end_is : front.end ≡ end_from entry.start batches
   pub max_ts_is : front.max_ts ≡ greatest_ts batches
   pub placed_are : front.batches.items ≡ placed_from 0 batches
-  pub begun_are : AreBegun entry.map batches front.begun
+  pub begun_are : AreBegun entry.map batches front.snapshot
 
 -- the batch of a head begins where the front ends, and goes past nothing
 pub record IsNear (entry : Entry) (front : Front) (head : Head) : Type 0 where
@@ -67,7 +67,7 @@ pub record ComesNext (entry : Entry) (bytes : List ℕ) (front : Front) (next : 
   pub inside : front.at + length batch ≤ length bytes
   pub may : MayCome entry front batch
   pub placed_is : next.0 ≡ placed front.at batch
-  pub begun_is : BeginsMore entry.map front.begun (epoch_of batch) (base_of batch) next.1
+  pub begun_is : BeginsMore entry.map front.snapshot (epoch_of batch) (base_of batch) next.1
 
 -- none does
 abbrev pub NothingNext : Entry → List ℕ → Front → Type 0
@@ -78,7 +78,7 @@ NothingNext entry bytes front =
 pub record Gains (old : Front) (next : Placed × Option ℕ) (new : Front) : Type 0 where
   pub at_is : new.at ≡ next.0.to
   pub end_is : new.end ≡ next.0.last + 1
-  pub begun_is : new.begun ≡ next.1
+  pub begun_is : new.snapshot ≡ next.1
   pub max_ts_is : new.max_ts ≡ later_ts old.at old.max_ts next.0.max_ts
   pub batches_are : new.batches.items ≡ old.batches.items ++ next.0 ∷ []
 
@@ -93,7 +93,7 @@ pub record IsAll (entry : Entry) (size : ℕ) (front : Front) : Type 0 where
   pub whole : front.at ≡ size
   pub size_is : front.at ≡ entry.size
   pub end_is : front.end ≡ entry.end + 1
-  pub begun_is : front.begun ≡ Some (length entry.map)
+  pub begun_is : front.snapshot ≡ Some (length entry.map)
   pub max_ts_is : front.max_ts ≡ entry.max_ts
 
 -- the batches of a right log, as they stand in it

@@ -27,7 +27,7 @@ pub fn audit<S: Store, M: MetaLog>(
     store: &mut S,
     meta: &mut M,
 ) -> Result<Verdict, AuditRefusal>
-    ensures verdict { IsTrue (S.content store.old).tells → IsTrue (M.content meta.old).tells
+    ensures verdict { IsTrue (S.content store.old).is_observable → IsTrue (M.content meta.old).is_observable
         → IfOk result (λ verdict. IsVerdict (S.content store.old).objects (fold (M.content meta.old).notes) verdict) }
     ensures store_kept { Keeps (S.content store.old) (S.content store.new) }
     ensures meta_kept { KeepsNotes (M.content meta.old) (M.content meta.new) }
@@ -59,7 +59,7 @@ pub fn audit<S: Store, M: MetaLog>(
 fn audit_store<S: Store>(alloc: Global, view: &View, store: &mut S) -> Result<Verdict, Trouble>
     ensures asks { Asks S.content S.control (fate_of result) store.old store.new }
     ensures calls { Audits (fate_of result) (S.control store.old) (S.control store.new) }
-    ensures verdict { IsTrue (S.content store.old).tells
+    ensures verdict { IsTrue (S.content store.old).is_observable
         → IfOk result (λ verdict. IsVerdict (S.content store.old).objects view.now.entries verdict) }
 {
     let keys = store.keys()?;

@@ -44,7 +44,7 @@ pub(crate) fn find_unreadable<S: Store>(
     requires { AreKept entries.now }
     ensures asks { Asks S.content S.control (fate_of result) store.old store.new }
     ensures reads { Reads (fate_of result) (S.control store.old) (S.control store.new) }
-    ensures found { IsTrue (S.content store.old).tells
+    ensures found { IsTrue (S.content store.old).is_observable
         → IfOk result (λ found. FindsCopies (S.content store.old).objects entries.now found) }
 {
     for entry in entries {
@@ -64,7 +64,7 @@ fn check_entry<S: Store>(
     requires { IsKept entry.now }
     ensures asks { Asks S.content S.control (fate_of result) store.old store.new }
     ensures reads { Reads (fate_of result) (S.control store.old) (S.control store.new) }
-    ensures found { IsTrue (S.content store.old).tells
+    ensures found { IsTrue (S.content store.old).is_observable
         → IfOk result (λ found. FindsCopy (S.content store.old).objects entry.now found) }
 {
     match entry.state {
@@ -82,7 +82,7 @@ fn check_copy<S: Store>(
     requires { IsKept entry.now }
     ensures asks { Asks S.content S.control (fate_of result) store.old store.new }
     ensures reads { Reads (fate_of result) (S.control store.old) (S.control store.new) }
-    ensures found { IsTrue (S.content store.old).tells
+    ensures found { IsTrue (S.content store.old).is_observable
         → IfOk result (λ found. FindsParts (S.content store.old).objects entry.now found) }
 {
     match check_log(alloc, entry, store)? {
@@ -97,7 +97,7 @@ fn check_log<S: Store>(alloc: Global, entry: &Entry, store: &mut S) -> Result<Lo
     ensures asks { Asks S.content S.control (fate_of result) store.old store.new }
     ensures reads { Reads (fate_of result) (S.control store.old) (S.control store.new) }
     ensures placed { IfOk result (λ found. PlacesLog entry.now found) }
-    ensures found { IsTrue (S.content store.old).tells
+    ensures found { IsTrue (S.content store.old).is_observable
         → IfOk result (λ found. FindsLog (S.content store.old).objects entry.now found) }
 {
     let Some(spot) = place_of(entry, Part::Log) else {
@@ -123,7 +123,8 @@ fn check_parts<S: Store>(
     requires placed { ArePlaced entry.now.start batches.now }
     ensures asks { Asks S.content S.control (fate_of result) store.old store.new }
     ensures reads { Reads (fate_of result) (S.control store.old) (S.control store.new) }
-    ensures found { IsTrue (S.content store.old).tells → HasPlaced (S.content store.old).objects entry.now batches.now
+    ensures found { IsTrue (S.content store.old).is_observable
+        → HasPlaced (S.content store.old).objects entry.now batches.now
         → IfOk result (λ found. FindsParts (S.content store.old).objects entry.now found) }
 {
     if let Some(flaw) = check_part(alloc, entry, batches, Part::Index, store)? {
@@ -149,7 +150,7 @@ fn check_part<S: Store>(
     requires own { part ≢ Pack }
     ensures asks { Asks S.content S.control (fate_of result) store.old store.new }
     ensures reads { Reads (fate_of result) (S.control store.old) (S.control store.new) }
-    ensures found { IsTrue (S.content store.old).tells → (log : List (List ℕ)) → batches.now ≡ placed_from 0 log
+    ensures found { IsTrue (S.content store.old).is_observable → (log : List (List ℕ)) → batches.now ≡ placed_from 0 log
         → IfOk result (λ found. FindsPart (S.content store.old).objects entry.now log part found) }
 {
     let Some(spot) = place_of(entry, part) else {

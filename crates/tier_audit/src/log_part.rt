@@ -31,7 +31,7 @@ const REACH: u64 = 1 << 31;
 pub(crate) struct Front {
     pub at: u32,
     pub end: u64,
-    pub begun: Option<usize>,
+    pub snapshot: Option<usize>,
     pub max_ts: i64,
     pub batches: Vec<Placed>,
 }
@@ -67,10 +67,10 @@ fn front_of(alloc: Global, entry: &Entry, bytes: &[u8]) -> Result<Front, AllocEr
 {
     let mut front = nothing_yet(alloc, entry);
     while (front.at as usize) < bytes.len() {
-        let Some((batch, begun)) = next_batch(entry, &front, bytes) else {
+        let Some((batch, snapshot)) = next_batch(entry, &front, bytes) else {
             return Ok(front);
         };
-        gain(&mut front, batch, begun)?;
+        gain(&mut front, batch, snapshot)?;
     }
     Ok(front)
 }
@@ -83,7 +83,7 @@ fn nothing_yet(alloc: Global, entry: &Entry) -> Front
     Front {
         at: 0,
         end: entry.start,
-        begun: Some(0),
+        snapshot: Some(0),
         max_ts: -1,
         batches: Vec::new(alloc),
     }
@@ -106,8 +106,8 @@ fn next_batch(entry: &Entry, front: &Front, bytes: &[u8]) -> Option<(Placed, Opt
     if !has_epoch(entry, front.end, epoch) {
         return None;
     }
-    let begun = begun_after(entry.map.entries(), front.begun, epoch, front.end);
-    Some((place(&head, front), begun))
+    let snapshot = begun_after(entry.map.entries(), front.snapshot, epoch, front.end);
+    Some((place(&head, front), snapshot))
 }
 
 /// Whether the batch of a head begins where the front ends, ends within the copy and what a segment reaches, and isn't
@@ -139,33 +139,33 @@ fn has_epoch(entry: &Entry, offset: u64, epoch: u32) -> bool
 }
 
 /// How many entries of a map have begun with a batch of this epoch more, at this base, if none is passed over.
-fn begun_after(map: &[(u32, u64)], begun: Option<usize>, epoch: u32, base: u64) -> Option<usize>
+fn begun_after(map: &[(u32, u64)], snapshot: Option<usize>, epoch: u32, base: u64) -> Option<usize>
     requires line { IsLine map.now }
-    requires few { ForSome begun (λ n. n ≤ length map.now) }
-    ensures { BeginsMore map.now begun epoch base result }
+    requires few { ForSome snapshot (λ n. n ≤ length map.now) }
+    ensures { BeginsMore map.now snapshot epoch base result }
 {
-    match begun {
-        Some(begun) => begun_with(map, begun, epoch, base),
+    match snapshot {
+        Some(snapshot) => begun_with(map, snapshot, epoch, base),
         None => None,
     }
 }
 
 /// How many entries of a map have begun with a batch of this epoch more, at this start, where the map has it so.
-fn begun_with(map: &[(u32, u64)], begun: usize, epoch: u32, start: u64) -> Option<usize>
+fn begun_with(map: &[(u32, u64)], snapshot: usize, epoch: u32, start: u64) -> Option<usize>
     requires line { IsLine map.now }
-    requires few { begun ≤ length map.now }
+    requires few { snapshot ≤ length map.now }
     ensures some { IfSome result (λ more. (more ≤ length map.now)
-        × (with_epoch (take begun map.now) epoch start ≡ take more map.now)) }
-    ensures none { result ≡ None → IsPrefix (with_epoch (take begun map.now) epoch start) map.now → ⊥ }
+        × (with_epoch (take snapshot map.now) epoch start ≡ take more map.now)) }
+    ensures none { result ≡ None → IsPrefix (with_epoch (take snapshot map.now) epoch start) map.now → ⊥ }
 {
-    let (front, rest) = map.split_at(begun);
+    let (front, rest) = map.split_at(snapshot);
     if last_epoch(front) == Some(epoch) {
-        return Some(begun);
+        return Some(snapshot);
     }
     match rest {
         [next, ..] => {
             if next.0 == epoch && next.1 == start {
-                Some(begun + 1)
+                Some(snapshot + 1)
             } else {
                 None
             }
@@ -207,15 +207,15 @@ fn place(head: &Head, front: &Front) -> Placed
 }
 
 /// Adds a batch.
-fn gain(front: &mut Front, batch: Placed, begun: Option<usize>) -> Result<(), AllocError>
+fn gain(front: &mut Front, batch: Placed, snapshot: Option<usize>) -> Result<(), AllocError>
     requires { batch.last < 2 ^ 62 }
-    ensures { OnOk result (Gains front.old (batch, begun) front.new) }
+    ensures { OnOk result (Gains front.old (batch, snapshot) front.new) }
 {
     front.batches.push(batch)?;
     front.max_ts = later_ts(front.at, front.max_ts, batch.max_ts);
     front.at = batch.to;
     front.end = batch.last + 1;
-    front.begun = begun;
+    front.snapshot = snapshot;
     Ok(())
 }
 
@@ -234,7 +234,7 @@ fn is_all(entry: &Entry, size: usize, front: &Front) -> bool
     if front.at == 0 || front.at as usize != size || front.at != entry.size {
         return false;
     }
-    if front.end != entry.end + 1 || front.begun != Some(entry.map.entries().len()) {
+    if front.end != entry.end + 1 || front.snapshot != Some(entry.map.entries().len()) {
         return false;
     }
     front.max_ts == entry.max_ts

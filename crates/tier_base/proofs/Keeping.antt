@@ -38,7 +38,7 @@ module _ {K : Type 0} (code : K → ℕ) where
   by_plan (Some false) n = one_more n
 
   module _ (f f' : Faults K) (call : K) (ending : Ending) (kept : AreKept code f) (ends : ending ≡ ending_at code f call) (plan : f'.plan ≡ f.plan)
-      (ruled : f'.ruled ≡ f.ruled) (fuse : f'.fuse ≡ shorter f.fuse)
+      (scripted : f'.scripted ≡ f.scripted) (fuse : f'.fuse ≡ shorter f.fuse)
       (made : (kind : K) → count_of code f' kind ≡ made_after code call Went f.armed kind (count_of code f kind))
       (faults : f'.faults ≡ (if goes_well ending then f.faults else counted f.faults 1)) where
     same : (kind : K) → code kind ≡ code call → count_of code f kind ≡ count_of code f call
@@ -66,18 +66,18 @@ module _ {K : Type 0} (code : K → ℕ) where
         rw (plan, is, met_same code (count_of code f') (count_of code f) f.plan (unmade off)) refl
 
     pub faults_after : faults_of code f' ≡ (if goes_well ending then faults_of code f else counted (faults_of code f) 1)
-    faults_after = by f.ruled refl
+    faults_after = by f.scripted refl
       where
-        by : (b : Bool) → f.ruled ≡ b → (if f'.ruled then counted 0 (met code (count_of code f') f'.plan) else f'.faults)
+        by : (b : Bool) → f.scripted ≡ b → (if f'.scripted then counted 0 (met code (count_of code f') f'.plan) else f'.faults)
             ≡ (if goes_well ending then (if b then counted 0 (met code (count_of code f) f.plan) else f.faults)
             else counted (if b then counted 0 (met code (count_of code f) f.plan) else f.faults) 1)
-        by true e = rw (ruled ∙ e) (named f.armed refl (kept.alone (truth f.ruled e)))
-        by false e = rw (ruled ∙ e) faults
+        by true e = rw (scripted ∙ e) (named f.armed refl (kept.alone (truth f.scripted e)))
+        by false e = rw (scripted ∙ e) faults
 
     pub kept_after : AreKept code f'
     kept_after = record {
       numbers = subst NumbersFit (sym plan) kept.numbers;
-      alone = λ is. fuse ∙ ap shorter (kept.alone (subst IsTrue ruled is));
+      alone = λ is. fuse ∙ ap shorter (kept.alone (subst IsTrue scripted is));
       exact = faults ∙ ap (λ (n : ℕ). if goes_well ending then n else counted n 1) kept.exact ∙ sym faults_after;
     }
 
@@ -100,7 +100,7 @@ zeros i = go no_counts i (refl, (refl, (refl, (refl, (refl, (refl, (refl, (refl,
 module _ {K : Type 0} (code : K → ℕ) where
   -- at first no call was made
   pub kept_first : (plan : List (Planned K)) (counts : List ℕ) → NumbersFit plan → ((kind : K) → get_or counts (code kind) 0 ≡ 0)
-      → AreKept code (record { plan = plan; armed = false; counts = counts; fuse = None; ruled = true; faults = 0 })
+      → AreKept code (record { plan = plan; armed = false; counts = counts; fuse = None; scripted = true; faults = 0 })
   kept_first plan counts fit none = record {
     numbers = fit;
     alone = λ is. refl;
@@ -109,18 +109,18 @@ module _ {K : Type 0} (code : K → ℕ) where
 
   -- a fuse is set, or done away with: as many calls have failed
   pub fused : (f : Faults K) (fuse : Option ℕ) → f.faults ≡ faults_of code f
-      → faults_of code (record f { fuse = fuse; ruled = f.ruled && has_none fuse }) ≡ faults_of code f
-  fused f fuse exact = by f.ruled fuse refl
+      → faults_of code (record f { fuse = fuse; scripted = f.scripted && has_none fuse }) ≡ faults_of code f
+  fused f fuse exact = by f.scripted fuse refl
     where
-      by : (b : Bool) (fuse : Option ℕ) → f.ruled ≡ b → (if b && has_none fuse then counted 0 (met code (count_of code f) f.plan) else f.faults) ≡ faults_of code f
+      by : (b : Bool) (fuse : Option ℕ) → f.scripted ≡ b → (if b && has_none fuse then counted 0 (met code (count_of code f) f.plan) else f.faults) ≡ faults_of code f
       by true None e = rw e refl
       by true (Some n) e = exact
       by false fuse e = exact
 
-  pub kept_fused : (f : Faults K) (fuse : Option ℕ) → AreKept code f → AreKept code (record f { fuse = fuse; ruled = f.ruled && has_none fuse })
+  pub kept_fused : (f : Faults K) (fuse : Option ℕ) → AreKept code f → AreKept code (record f { fuse = fuse; scripted = f.scripted && has_none fuse })
   kept_fused f fuse kept = record {
     numbers = kept.numbers;
-    alone = alone f.ruled fuse;
+    alone = alone f.scripted fuse;
     exact = kept.exact ∙ sym (fused f fuse kept.exact);
   }
     where

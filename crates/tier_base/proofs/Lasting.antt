@@ -15,10 +15,10 @@ module _ {K : Type 0} {code : K → ℕ} where
   ran_lasts call fate old new ran = record {
     plan = ran.plan;
     armed = ran.armed;
-    ruled = ran.ruled;
+    scripted = ran.scripted;
     never_falls = ran.never_falls;
-    stays_calm = ran.stays_calm;
-    no_fault = λ calm. (ran.calm calm).1;
+    stays_infallible = ran.stays_infallible;
+    no_fault = λ infallible. (ran.infallible infallible).1;
     unmade = λ off kind. ran.made kind ∙ ap (λ (armed : Bool). made_after code call fate armed kind (old.made kind)) off
         ∙ uncounted code call fate kind (old.made kind);
   }
@@ -28,10 +28,10 @@ module _ {K : Type 0} {code : K → ℕ} where
   lasts_same c = record {
     plan = refl;
     armed = refl;
-    ruled = refl;
+    scripted = refl;
     never_falls = omega arith;
-    stays_calm = λ calm. calm;
-    no_fault = λ calm. refl;
+    stays_infallible = λ infallible. infallible;
+    no_fault = λ infallible. refl;
     unmade = λ off kind. refl;
   }
 
@@ -40,10 +40,10 @@ module _ {K : Type 0} {code : K → ℕ} where
   lasts_then old mid new first second = record {
     plan = second.plan ∙ first.plan;
     armed = second.armed ∙ first.armed;
-    ruled = second.ruled ∙ first.ruled;
+    scripted = second.scripted ∙ first.scripted;
     never_falls = omega (arith, first.never_falls, second.never_falls);
-    stays_calm = λ calm. second.stays_calm (first.stays_calm calm);
-    no_fault = λ calm. second.no_fault (first.stays_calm calm) ∙ first.no_fault calm;
+    stays_infallible = λ infallible. second.stays_infallible (first.stays_infallible infallible);
+    no_fault = λ infallible. second.no_fault (first.stays_infallible infallible) ∙ first.no_fault infallible;
     unmade = λ off kind. second.unmade (first.armed ∙ off) kind ∙ first.unmade off kind;
   }
 
@@ -52,9 +52,9 @@ module _ {K : Type 0} {code : K → ℕ} where
   rests_lasts old new rests = record {
     plan = rests.plan;
     armed = rests.armed;
-    ruled = rests.ruled;
+    scripted = rests.scripted;
     never_falls = omega (arith, rests.faults);
-    stays_calm = λ calm. rests.calm ∙ calm;
-    no_fault = λ calm. rests.faults;
+    stays_infallible = λ infallible. rests.infallible ∙ infallible;
+    no_fault = λ infallible. rests.faults;
     unmade = λ off kind. rests.made kind;
   }

@@ -10,11 +10,11 @@
 --   Lasts old new               any calls but `arm`
 --   Arms old new                from now on planned calls fail
 --   IsFresh c                   as the device is handed out
---   FailsAsPlanned c            of a ruled device: as many calls failed as its plan names of those that were made
+--   FailsAsPlanned c            of a scripted device: as many calls failed as its plan names of those that were made
 --
--- Planned calls are counted from the first `arm` on. A device is calm while no call can fail. It is ruled if its plan
--- alone decides which calls fail, and has done so from the first call on. Which call failed is said call by call, in
--- `Ran`.
+-- Planned calls are counted from the first `arm` on. A device is infallible while no call can fail. It is scripted if
+-- its plan alone decides which calls fail, and has done so from the first call on. Which call failed is said call by
+-- call, in `Ran`.
 use Rattle.std.specs.Prelude.{◌≡◌, ◌≢◌, ◌↔◌, ℕ, ◌≤◌, ◌+◌, nat_le, Bool, false, not, ◌&&◌, ◌==◌, if◌then◌else◌, List, [], ◌∷◌, IsTrue, IsFalse, IsSome, is_some, Option, Some, None, Ok, Err}
 use Rattle.std.specs.declared.result.Result.{Result}
 use Rattle.tier_base.specs.declared.fault.Failed.{Failed}
@@ -53,10 +53,10 @@ pub record Control {K : Type 0} (code : K → ℕ) : Type 0 where
   pub armed : Bool
   -- how many calls of each kind were made since it was armed
   pub made : K → ℕ
-  pub calm : Bool
-  pub ruled : Bool
+  pub infallible : Bool
+  pub scripted : Bool
   -- the bytes that the last read gave
-  pub handed : List ℕ
+  pub last_read : List ℕ
 
 module _ {K : Type 0} (code : K → ℕ) where
   -- the first item of a plan that names the call with this number: whether that call is done all the same
@@ -90,52 +90,52 @@ module _ {K : Type 0} {code : K → ℕ} where
   -- as want of memory leaves it
   pub record Untouched (old new : Control code) : Type 0 where
     pub faults : new.faults ≡ old.faults
-    pub calm : new.calm ≡ old.calm
+    pub infallible : new.infallible ≡ old.infallible
 
   -- a call of one kind that ended so
   pub record Ran (call : K) (fate : Fate) (old new : Control code) : Type 0 where
     pub plan : new.plan ≡ old.plan
     pub armed : new.armed ≡ old.armed
-    pub ruled : new.ruled ≡ old.ruled
+    pub scripted : new.scripted ≡ old.scripted
     pub made : (kind : K) → new.made kind ≡ made_after code call fate old.armed kind (old.made kind)
     pub never_falls : old.faults ≤ new.faults
     pub went : fate ≡ Went → new.faults ≡ old.faults
     pub once : fate ≡ Fault → new.faults ≡ counted old.faults 1
     pub cause : fate ≡ Fault → Rose old.faults new.faults
     pub dry : fate ≡ Dry → Untouched old new
-    pub stays_calm : IsTrue old.calm → IsTrue new.calm
-    pub calm : IsTrue old.calm → (fate ≢ Fault) × (new.faults ≡ old.faults)
-    pub by_plan : IsTrue old.ruled → fate ≢ Dry → (fate ≡ Fault) ↔ IsSome (due call old)
+    pub stays_infallible : IsTrue old.infallible → IsTrue new.infallible
+    pub infallible : IsTrue old.infallible → (fate ≢ Fault) × (new.faults ≡ old.faults)
+    pub by_plan : IsTrue old.scripted → fate ≢ Dry → (fate ≡ Fault) ↔ IsSome (due call old)
 
   -- a call that leaves what was handed
   pub record RanQuietly (call : K) (fate : Fate) (old new : Control code) : Type 0 where
     pub ran : Ran call fate old new
-    pub handed : new.handed ≡ old.handed
+    pub last_read : new.last_read ≡ old.last_read
 
   -- whether a call that ended so may have been done
   pub record MayBeDone (call : K) (fate : Fate) (old : Control code) (done : Bool) : Type 0 where
     pub went : fate ≡ Went → IsTrue done
     pub dry : fate ≡ Dry → IsFalse done
-    pub planned : IsTrue old.ruled → fate ≡ Fault → due call old ≡ Some done
+    pub planned : IsTrue old.scripted → fate ≡ Fault → due call old ≡ Some done
 
   -- no call
   pub record Rests (old new : Control code) : Type 0 where
     pub plan : new.plan ≡ old.plan
     pub armed : new.armed ≡ old.armed
-    pub ruled : new.ruled ≡ old.ruled
-    pub calm : new.calm ≡ old.calm
+    pub scripted : new.scripted ≡ old.scripted
+    pub infallible : new.infallible ≡ old.infallible
     pub faults : new.faults ≡ old.faults
     pub made : (kind : K) → new.made kind ≡ old.made kind
-    pub handed : new.handed ≡ old.handed
+    pub last_read : new.last_read ≡ old.last_read
 
   -- any calls but `arm`
   pub record Lasts (old new : Control code) : Type 0 where
     pub plan : new.plan ≡ old.plan
     pub armed : new.armed ≡ old.armed
-    pub ruled : new.ruled ≡ old.ruled
+    pub scripted : new.scripted ≡ old.scripted
     pub never_falls : old.faults ≤ new.faults
-    pub stays_calm : IsTrue old.calm → IsTrue new.calm
-    pub no_fault : IsTrue old.calm → new.faults ≡ old.faults
+    pub stays_infallible : IsTrue old.infallible → IsTrue new.infallible
+    pub no_fault : IsTrue old.infallible → new.faults ≡ old.faults
     -- until it is armed no call is counted
     pub unmade : old.armed ≡ false → (kind : K) → new.made kind ≡ old.made kind
 
@@ -143,20 +143,20 @@ module _ {K : Type 0} {code : K → ℕ} where
   pub record Arms (old new : Control code) : Type 0 where
     pub plan : new.plan ≡ old.plan
     pub armed : IsTrue new.armed
-    pub ruled : new.ruled ≡ old.ruled
+    pub scripted : new.scripted ≡ old.scripted
     pub faults : new.faults ≡ old.faults
     pub made : (kind : K) → new.made kind ≡ old.made kind
-    pub handed : new.handed ≡ old.handed
-    pub again : IsTrue old.armed → new.calm ≡ old.calm
-    pub still_calm : IsTrue old.ruled → IsTrue old.calm → old.plan ≡ [] → IsTrue new.calm
+    pub last_read : new.last_read ≡ old.last_read
+    pub again : IsTrue old.armed → new.infallible ≡ old.infallible
+    pub still_infallible : IsTrue old.scripted → IsTrue old.infallible → old.plan ≡ [] → IsTrue new.infallible
 
   -- a device as it is handed out: no fault, no call counted, nothing handed
   pub record IsFresh (c : Control code) : Type 0 where
     pub faults : c.faults ≡ 0
     pub armed : c.armed ≡ false
     pub made : (kind : K) → c.made kind ≡ 0
-    pub handed : c.handed ≡ []
+    pub last_read : c.last_read ≡ []
 
   -- where the plan alone decides which calls fail, as many failed as it names of those that were made
   abbrev pub FailsAsPlanned : Control code → Type 0
-  FailsAsPlanned c = IsTrue c.ruled → c.faults ≡ counted 0 (met code c.made c.plan)
+  FailsAsPlanned c = IsTrue c.scripted → c.faults ≡ counted 0 (met code c.made c.plan)

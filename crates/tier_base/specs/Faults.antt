@@ -16,7 +16,7 @@ pub record Faults (K : Type 0) : Type 0 where
   -- how many more calls pass before each one fails
   pub fuse : Option ℕ
   -- there was no fuse from the first on
-  pub ruled : Bool
+  pub scripted : Bool
   -- how many calls failed
   pub faults : ℕ
 
@@ -77,23 +77,23 @@ module _ {K : Type 0} (code : K → ℕ) where
 
   -- how many calls failed: without a fuse those that the plan names
   abbrev pub faults_of : Faults K → ℕ
-  faults_of f = if f.ruled then counted 0 (met code (count_of f) f.plan) else f.faults
+  faults_of f = if f.scripted then counted 0 (met code (count_of f) f.plan) else f.faults
 
   -- what holds of them at any moment
   pub record AreKept (f : Faults K) : Type 0 where
     pub numbers : NumbersFit f.plan
-    pub alone : IsTrue f.ruled → f.fuse ≡ None
+    pub alone : IsTrue f.scripted → f.fuse ≡ None
     pub exact : f.faults ≡ faults_of f
 
   -- what a device with these faults tells, where the last read gave these bytes
   abbrev pub control_of : Faults K → List ℕ → Control code
-  control_of f handed =
+  control_of f last_read =
       record {
         faults = faults_of f;
         plan = f.plan;
         armed = f.armed;
         made = count_of f;
-        calm = has_none f.fuse && (not f.armed || is_empty f.plan);
-        ruled = f.ruled;
-        handed = handed;
+        infallible = has_none f.fuse && (not f.armed || is_empty f.plan);
+        scripted = f.scripted;
+        last_read = last_read;
       }

@@ -4,7 +4,7 @@
 --   In n names             the name is in the list
 --   Names held names       the names of what is held, each once and no other
 --   OnlyAt n R old new     one goes from old to new by R, and the others stay
---   handed_after r before  what was handed last, after a read that answered r
+--   last_read_after r before  what was handed last, after a read that answered r
 use Rattle.std.specs.Prelude.{◌≡◌, ◌≢◌, ◌⊎◌, ◌↔◌, ℕ, List, [], ◌∷◌, Option, Some, None, Ok, Err, unwrap_or, IsSome}
 use Rattle.std.specs.declared.result.Result.{Result}
 use Rattle.tier_base.specs.declared.fault.Trouble.{Trouble}
@@ -14,9 +14,9 @@ abbrev pub bytes_in : Option (List ℕ) → List ℕ
 bytes_in held = unwrap_or held []
 
 -- what was handed last: the bytes that a read gave, and none where there was nothing
-abbrev pub handed_after : Result (Option (List ℕ)) Trouble → List ℕ → List ℕ
-handed_after (Ok held) before = bytes_in held
-handed_after (Err e) before = before
+abbrev pub last_read_after : Result (Option (List ℕ)) Trouble → List ℕ → List ℕ
+last_read_after (Ok held) before = bytes_in held
+last_read_after (Err e) before = before
 
 -- these bytes, whatever was there
 abbrev pub replaced : List ℕ → Option (List ℕ) → Option (List ℕ)

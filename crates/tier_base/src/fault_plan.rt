@@ -25,7 +25,7 @@ pub struct FaultPlan<K: CallKind> {
     counts: [u64; 8],
     nexts: [Option<usize>; 8],
     fuse: Option<u64>,
-    ruled: bool,
+    scripted: bool,
     faults: u64,
 }
 
@@ -40,7 +40,7 @@ impl<K: CallKind> Model for FaultPlan<K> {
       armed = f.armed;
       counts = f.counts;
       fuse = f.fuse;
-      ruled = f.ruled;
+      scripted = f.scripted;
       faults = f.faults;
     } };
 
@@ -50,7 +50,7 @@ impl<K: CallKind> Model for FaultPlan<K> {
           armed = f.armed;
           counts = f.counts;
           fuse = f.fuse;
-          ruled = f.ruled;
+          scripted = f.scripted;
           faults = f.faults;
         }) };
 }
@@ -60,7 +60,7 @@ impl<K: CallKind> FaultPlan<K> {
     pub fn new(plan: Vec<Planned<K>>) -> FaultPlan<K>
         ensures plan { result.plan ≡ plan.items }
         ensures fuse { result.fuse ≡ None }
-        ensures ruled { IsTrue result.ruled }
+        ensures scripted { IsTrue result.scripted }
         ensures fresh { IsFresh (control_of K.code result []) }
     {
         fit(plan.as_slice());
@@ -71,7 +71,7 @@ impl<K: CallKind> FaultPlan<K> {
             counts: [0; 8],
             nexts,
             fuse: None,
-            ruled: true,
+            scripted: true,
             faults: 0,
         }
     }
@@ -113,26 +113,26 @@ impl<K: CallKind> FaultPlan<K> {
 
     /// Answers whether the plan alone decides which calls fail, and did so from the first on: whether there was no
     /// fuse.
-    pub fn is_ruled(&self) -> bool
-        ensures { result ≡ self.now.ruled }
+    pub fn is_scripted(&self) -> bool
+        ensures { result ≡ self.now.scripted }
     {
-        self.ruled
+        self.scripted
     }
 
     /// Lets so many calls pass, and then every call fails, or does away with the fuse.
     pub fn set_fuse(&mut self, fuse: Option<u64>)
-        ensures is { self.new ≡ record self.old { fuse = fuse; ruled = self.old.ruled && has_none fuse } }
+        ensures is { self.new ≡ record self.old { fuse = fuse; scripted = self.old.scripted && has_none fuse } }
         ensures faults { faults_of K.code self.new ≡ faults_of K.code self.old }
     {
         self.fuse = fuse;
-        self.ruled = self.ruled && fuse.is_none();
+        self.scripted = self.scripted && fuse.is_none();
     }
 
     /// From the first time on planned calls fail.
     pub fn arm(&mut self)
         ensures armed { self.new ≡ record self.old { armed = true } }
-        ensures arms { (handed : List ℕ)
-            → Arms (control_of K.code self.old handed) (control_of K.code self.new handed) }
+        ensures arms { (last_read : List ℕ)
+            → Arms (control_of K.code self.old last_read) (control_of K.code self.new last_read) }
     {
         self.armed = true;
     }
@@ -160,10 +160,10 @@ impl<K: CallKind> FaultPlan<K> {
         requires { ending ≡ ending_at K.code self.old call }
         ensures plan { self.new.plan ≡ self.old.plan }
         ensures armed { self.new.armed ≡ self.old.armed }
-        ensures ruled { self.new.ruled ≡ self.old.ruled }
+        ensures scripted { self.new.scripted ≡ self.old.scripted }
         ensures fuse { has_none self.new.fuse ≡ has_none self.old.fuse }
         ensures burns { self.new.fuse ≡ shorter self.old.fuse }
-        ensures alone { IsTrue self.old.ruled → self.old.fuse ≡ None }
+        ensures alone { IsTrue self.old.scripted → self.old.fuse ≡ None }
         ensures later { faults_of K.code self.old ≤ faults_of K.code self.new }
         ensures faults { faults_of K.code self.new ≡ if goes_well ending
             then faults_of K.code self.old else counted (faults_of K.code self.old) 1 }
@@ -186,8 +186,8 @@ impl<K: CallKind> FaultPlan<K> {
         requires { ending ≡ ending_at K.code self.old call }
         ensures ran { (before after : List ℕ) → Ran call (failing result)
             (control_of K.code self.old before) (control_of K.code self.new after) }
-        ensures done { (handed : List ℕ) → MayBeDone call (failing result)
-            (control_of K.code self.old handed) (is_done ending) }
+        ensures done { (last_read : List ℕ) → MayBeDone call (failing result)
+            (control_of K.code self.old last_read) (is_done ending) }
         ensures ok { OnOk result (ending ≡ Ending.Done) }
         ensures burns { self.new.fuse ≡ shorter self.old.fuse }
     {

@@ -80,7 +80,7 @@ pub enum Part {
 /// A file of a broker's partition, of its metadata log, or of its registry.
 #[derive(Clone, Copy, Debug, PartialEq, Eq)]
 pub enum FileName {
-    /// What is stable of the log: `manifest`.
+    /// What is flushed of the log: `manifest`.
     Manifest,
     /// The log segment with this base offset: 20 digits and `.log`.
     Log(u64),

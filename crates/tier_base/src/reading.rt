@@ -46,7 +46,7 @@ pub fn read_all<R: Source>(
     ensures within { IfOk result (λ bytes. length bytes.items ≤ limit) }
     ensures err { OnErr result (GaveUpTo (R.left source.old) (R.left source.new)
         (R.given source.old) (R.given source.new) (limit + 1)) }
-    ensures tells { is_some (R.left source.new) ≡ is_some (R.left source.old) }
+    ensures is_observable { is_some (R.left source.new) ≡ is_some (R.left source.old) }
     ensures later { R.faults source.old ≤ R.faults source.new }
 
     // Each cause.
@@ -106,7 +106,7 @@ fn read_at<R: Source>(source: &mut R, bytes: &mut Vec<u8>, at: usize) -> Result<
     ensures bytes { ReadConsumes (R.left source.old) (R.left source.new)
         result (drop at bytes.new.items) }
     ensures count { R.given source.new ≡ counted (R.given source.old) (result_unwrap_or result 0) }
-    ensures tells { is_some (R.left source.new) ≡ is_some (R.left source.old) }
+    ensures is_observable { is_some (R.left source.new) ≡ is_some (R.left source.old) }
     ensures cause { HasCause (R.faults source.old) (R.faults source.new) result }
 {
     source.read(&mut bytes[at..])

@@ -16,7 +16,7 @@ use crate::fault::Failed;
 /// What gives bytes, up to an end. A read that answers `Failed` has given none, and another one may
 /// follow.
 pub trait Source {
-    /// The bytes that are left, where the source tells.
+    /// The bytes that are left, where the source is observable.
     ghost left: { Self → Option (List ℕ) };
 
     /// How many calls have failed.
@@ -30,7 +30,7 @@ pub trait Source {
         ensures bound { ReadsAtMost result buf.new }
         ensures bytes { ReadConsumes (left self.old) (left self.new) result buf.new }
         ensures count { given self.new ≡ counted (given self.old) (result_unwrap_or result 0) }
-        ensures tells { is_some (left self.new) ≡ is_some (left self.old) }
+        ensures is_observable { is_some (left self.new) ≡ is_some (left self.old) }
         ensures cause { HasCause (faults self.old) (faults self.new) result };
 
     /// The count of bytes stands still at its type's end.
@@ -40,7 +40,7 @@ pub trait Source {
 /// What takes bytes, one behind another. A write that answers `Failed` has taken none, and another
 /// one may follow.
 pub trait Sink {
-    /// The bytes that were written, where the sink tells.
+    /// The bytes that were written, where the sink is observable.
     ghost written: { Self → Option (List ℕ) };
 
     /// How many calls have failed.
@@ -51,6 +51,6 @@ pub trait Sink {
         ensures bound { WritesAtMost result piece.now }
         ensures some { 0 < length piece.now → IfOk result (λ count. 0 < count) }
         ensures bytes { WriteAppends (written self.old) (written self.new) result piece.now }
-        ensures tells { is_some (written self.new) ≡ is_some (written self.old) }
+        ensures is_observable { is_some (written self.new) ≡ is_some (written self.old) }
         ensures cause { HasCause (faults self.old) (faults self.new) result };
 }

@@ -12,7 +12,7 @@ use crate::stream::Sink;
 pub fn write_all<W: Sink>(sink: &mut W, piece: &[u8]) -> Result<(), Failed>
     ensures ok { OnOk result (Appends (W.written sink.old) (W.written sink.new) piece.now) }
     ensures err { OnErr result (AppendsFront (W.written sink.old) (W.written sink.new) piece.now) }
-    ensures tells { is_some (W.written sink.new) ≡ is_some (W.written sink.old) }
+    ensures is_observable { is_some (W.written sink.new) ≡ is_some (W.written sink.old) }
     ensures cause { HasCause (W.faults sink.old) (W.faults sink.new) result }
 {
     let mut done = 0;

@@ -44,16 +44,16 @@ use Rattle.plain_log.specs.declared.answer.Place.{Place}
 use Rattle.plain_log.specs.declared.answer.Place.TheVariants.{Key, Meta}
 use Rattle.plain_log.specs.declared.answer.Tier.{Tier}
 use Rattle.plain_log.specs.declared.answer.Tier.TheVariants.{Remote}
-use Rattle.tier_fetch.specs.declared.turn.Wanted.{Wanted}
+use Rattle.tier_fetch.specs.declared.turn.FetchRequest.{FetchRequest}
 use Rattle.tier_fetch.specs.declared.turn.Span.{Span}
-use Rattle.tier_fetch.specs.declared.turn.Next.{Next}
-use Rattle.tier_fetch.specs.declared.turn.Next.TheVariants.{Refresh, Index, Log}
+use Rattle.tier_fetch.specs.declared.turn.FetchStep.{FetchStep}
+use Rattle.tier_fetch.specs.declared.turn.FetchStep.TheVariants.{Refresh, Index, Log}
 use Rattle.tier_fetch.specs.declared.turn.FetchTurn.{FetchTurn}
 use Rattle.tier_fetch.specs.declared.turn.FetchTurn.TheVariants.{Goes, Ends}
 use Rattle.tier_fetch.specs.Span.{span_of}
 
 -- the turn's piece, where it has one, ends past the offset
-abbrev pub IsFor : ℕ → Next → Type 0
+abbrev pub IsFor : ℕ → FetchStep → Type 0
 IsFor offset Refresh = Unit {0}
 IsFor offset (Index piece) = offset < piece.to
 IsFor offset (Log piece span) = offset < piece.to
@@ -75,11 +75,12 @@ spot_in partition id part (Some entry) =
     option_map (λ spot. (entry.start, spot)) (spot_of partition id entry.packed entry.custom part)
 
 -- the turn that reads what an index shows
-abbrev pub reads_by : Wanted → Piece → OffsetTable → FetchTurn
+abbrev pub reads_by : FetchRequest → Piece → OffsetTable → FetchTurn
 reads_by wanted piece index = Goes (Log piece (span_of index wanted.offset wanted.limit piece.to))
 
 -- these are the bytes of an index, which is kept, and the fetch goes on with it
-pub record IsLoaded (wanted : Wanted) (piece : Piece) (base : ℕ) (bytes : List ℕ) (turn : FetchTurn) (old new : Cache)
+pub record IsLoaded (wanted : FetchRequest) (piece : Piece) (base : ℕ) (bytes : List ℕ) (turn : FetchTurn)
+    (old new : Cache)
     : Type 0 where
   pub index : OffsetTable
   pub base_is : index.base ≡ base
@@ -90,7 +91,7 @@ pub record IsLoaded (wanted : Wanted) (piece : Piece) (base : ℕ) (bytes : List
 
 -- what becomes of a fetch by bytes of its index, of a segment with this base offset, and by where more of them are
 -- lacking
-abbrev pub LoadsBytes : Option ℕ → Wanted → Piece → ℕ → Spot → List ℕ → Result FetchTurn AllocError → Cache → Cache → Type 0
+abbrev pub LoadsBytes : Option ℕ → FetchRequest → Piece → ℕ → Spot → List ℕ → Result FetchTurn AllocError → Cache → Cache → Type 0
 LoadsBytes (Some end) wanted piece base spot bytes result old new =
     (result ≡ Ok (Ends (Damaged (Key spot.key) end))) × (new ≡ old)
 LoadsBytes None wanted piece base spot bytes (Ok (Goes next)) old new = IsLoaded wanted piece base bytes (Goes next) old new
@@ -99,7 +100,7 @@ LoadsBytes None wanted piece base spot bytes (Ok (Ends answer)) old new =
 LoadsBytes None wanted piece base spot bytes (Err e) old new = new ≡ old
 
 -- by what the store answered of it
-abbrev pub Loads : Wanted → Piece → ℕ → Spot → Result (Option (List ℕ)) Trouble → Result FetchTurn AllocError → Cache → Cache
+abbrev pub Loads : FetchRequest → Piece → ℕ → Spot → Result (Option (List ℕ)) Trouble → Result FetchTurn AllocError → Cache → Cache
     → Type 0
 Loads wanted piece base spot (Err Failed) result old new = (result ≡ Ok (Ends StoreFault)) × (new ≡ old)
 Loads wanted piece base spot (Err NoMemory) result old new = IsErr result × (new ≡ old)
@@ -107,7 +108,7 @@ Loads wanted piece base spot (Ok None) result old new = (result ≡ Ok (Ends (Da
 Loads wanted piece base spot (Ok (Some bytes)) result old new = LoadsBytes (short_of spot bytes) wanted piece base spot bytes result old new
 
 -- the run that is cut out of bytes, clipped by the piece
-pub record IsRunOf (wanted : Wanted) (piece : Piece) (bytes : List ℕ) (tier : Tier) (size : ℕ) (stop : Stop) (run : List ℕ)
+pub record IsRunOf (wanted : FetchRequest) (piece : Piece) (bytes : List ℕ) (tier : Tier) (size : ℕ) (stop : Stop) (run : List ℕ)
     : Type 0 where
   pub cut : Cutout
   pub is : IsRun bytes wanted.offset wanted.limit wanted.mark piece.to cut
@@ -117,7 +118,7 @@ pub record IsRunOf (wanted : Wanted) (piece : Piece) (bytes : List ℕ) (tier : 
   pub stop_is : stop ≡ cut.stop
 
 -- the bytes from a position of a segment's log on have no such run from this place on
-pub record HasNoRun (wanted : Wanted) (piece : Piece) (spot : Spot) (span : Span) (bytes : List ℕ) (place : Place) (at : ℕ)
+pub record HasNoRun (wanted : FetchRequest) (piece : Piece) (spot : Spot) (span : Span) (bytes : List ℕ) (place : Place) (at : ℕ)
     : Type 0 where
   pub found : ℕ
   pub bad : IsBadAt bytes wanted.offset wanted.limit (min wanted.mark piece.to) found
@@ -125,7 +126,7 @@ pub record HasNoRun (wanted : Wanted) (piece : Piece) (spot : Spot) (span : Span
   pub at_is : at ≡ spot.at + span.from + found
 
 -- what becomes of it by bytes of the segment's log, and by where more of them are lacking
-abbrev pub CutsBytes : Option ℕ → Wanted → Piece → Spot → Span → List ℕ → Result FetchTurn AllocError → Type 0
+abbrev pub CutsBytes : Option ℕ → FetchRequest → Piece → Spot → Span → List ℕ → Result FetchTurn AllocError → Type 0
 CutsBytes (Some end) wanted piece spot span bytes result = result ≡ Ok (Ends (Damaged (Key spot.key) end))
 CutsBytes None wanted piece spot span bytes (Ok (Ends (Run tier size stop run))) = IsRunOf wanted piece bytes tier size stop run
 CutsBytes None wanted piece spot span bytes (Ok (Ends (Damaged place at))) = HasNoRun wanted piece spot span bytes place at
@@ -133,7 +134,8 @@ CutsBytes None wanted piece spot span bytes (Ok turn) = ⊥
 CutsBytes None wanted piece spot span bytes (Err e) = Unit {0}
 
 -- by what the store answered of it
-abbrev pub Cuts : Wanted → Piece → Spot → Span → Result (Option (List ℕ)) Trouble → Result FetchTurn AllocError → Type 0
+abbrev pub Cuts : FetchRequest → Piece → Spot → Span → Result (Option (List ℕ)) Trouble → Result FetchTurn AllocError
+    → Type 0
 Cuts wanted piece spot span (Err Failed) result = result ≡ Ok (Ends StoreFault)
 Cuts wanted piece spot span (Err NoMemory) result = IsErr result
 Cuts wanted piece spot span (Ok None) result = result ≡ Ok (Ends (Damaged (Key spot.key) 0))
@@ -142,7 +144,7 @@ Cuts wanted piece spot span (Ok (Some bytes)) result =
 
 module _ {M : Type 0} (notes : M → meta.Content) (calls : M → Control meta_call.call_code) where
   -- the piece is chosen
-  abbrev pub RefreshRow : Wanted → List (ℕ × ℕ) → Result FetchTurn AllocError → Seen → Seen → M → M → Type 0
+  abbrev pub RefreshRow : FetchRequest → List (ℕ × ℕ) → Result FetchTurn AllocError → Seen → Seen → M → M → Type 0
   RefreshRow wanted line (Ok (Ends MetaFault)) before after old new = Unread notes calls before after old new
   RefreshRow wanted line (Ok turn) before after old new =
       (turn ≡ chosen after.notes (piece_at after.entries line wanted.log_end wanted.offset))
@@ -151,20 +153,21 @@ module _ {M : Type 0} (notes : M → meta.Content) (calls : M → Control meta_c
 
 module _ {S : Type 0} (objects : S → store.Content) (calls : S → Control store_call.call_code) where
   -- one read of a segment's index, which is kept
-  pub record ReadsIndex (wanted : Wanted) (piece : Piece) (place : ℕ × Spot) (result : Result FetchTurn AllocError)
+  pub record ReadsIndex (wanted : FetchRequest) (piece : Piece) (place : ℕ × Spot)
+      (result : Result FetchTurn AllocError)
       (cache cache' : Cache) (old new : S) : Type 0 where
     pub answer : Result (Option (List ℕ)) Trouble
     pub gets : Gets objects calls place.1.key (all_of place.1) answer old new
     pub loads : Loads wanted piece place.0 place.1 answer result cache cache'
 
   -- the index isn't in the cache: it is read where it stands
-  abbrev pub LoadRow : Wanted → Piece → Seen → Option (ℕ × Spot) → Result FetchTurn AllocError → Cache → Cache → S → S → Type 0
+  abbrev pub LoadRow : FetchRequest → Piece → Seen → Option (ℕ × Spot) → Result FetchTurn AllocError → Cache → Cache → S → S → Type 0
   LoadRow wanted piece view None result cache cache' old new =
       (result ≡ Ok (Ends (Damaged Meta view.notes))) × (cache' ≡ cache) × (new ≡ old)
   LoadRow wanted piece view (Some place) result cache cache' old new = ReadsIndex wanted piece place result cache cache' old new
 
   -- the index: no call is made where it is in the cache
-  abbrev pub IndexRow : Wanted → Piece → Seen → Result FetchTurn AllocError → Option OffsetTable → Cache → Cache → S → S → Type 0
+  abbrev pub IndexRow : FetchRequest → Piece → Seen → Result FetchTurn AllocError → Option OffsetTable → Cache → Cache → S → S → Type 0
   IndexRow wanted piece view result (Some index) cache cache' old new =
       (result ≡ Ok (reads_by wanted piece index)) × (cache' ≡ brought_front cache piece.id.0) × (new ≡ old)
   IndexRow wanted piece view result None cache cache' old new =
@@ -172,14 +175,15 @@ module _ {S : Type 0} (objects : S → store.Content) (calls : S → Control sto
       cache cache' old new
 
   -- one read of a segment's log, no further than the span
-  pub record ReadsLog (wanted : Wanted) (piece : Piece) (spot : Spot) (span : Span) (result : Result FetchTurn AllocError)
+  pub record ReadsLog (wanted : FetchRequest) (piece : Piece) (spot : Spot) (span : Span) (result : Result FetchTurn AllocError)
       (old new : S) : Type 0 where
     pub answer : Result (Option (List ℕ)) Trouble
     pub gets : Gets objects calls spot.key (some_of spot span.from span.most) answer old new
     pub cuts : Cuts wanted piece spot span answer result
 
   -- the run is read where the segment's log stands
-  abbrev pub LogRow : Wanted → Piece → Span → Seen → Option (ℕ × Spot) → Result FetchTurn AllocError → S → S → Type 0
+  abbrev pub LogRow : FetchRequest → Piece → Span → Seen → Option (ℕ × Spot) → Result FetchTurn AllocError → S → S
+      → Type 0
   LogRow wanted piece span view None result old new = (result ≡ Ok (Ends (Damaged Meta view.notes))) × (new ≡ old)
   LogRow wanted piece span view (Some place) result old new = ReadsLog wanted piece place.1 span result old new
 
@@ -193,7 +197,8 @@ pub record Tiers (S M : Type 0) : Type 0 where
 module _ {S M : Type 0} (objects : S → store.Content) (calls : S → Control store_call.call_code)
     (notes : M → meta.Content) (notings : M → Control meta_call.call_code) where
   -- a turn of a fetch, by what was next: what it came to, or that it wanted memory
-  abbrev pub FetchRow : Wanted → List (ℕ × ℕ) → Next → Result FetchTurn AllocError → Tiers S M → Tiers S M → Type 0
+  abbrev pub FetchRow : FetchRequest → List (ℕ × ℕ) → FetchStep → Result FetchTurn AllocError → Tiers S M → Tiers S M
+      → Type 0
   FetchRow wanted line Refresh result old new =
       (new ≡ record old { view = new.view; meta = new.meta })
       × RefreshRow notes notings wanted line result old.view new.view old.meta new.meta

@@ -8,7 +8,7 @@
 //! Before each turn the caller tests that the broker hasn't stopped since the fetch began and still leads in that
 //! epoch, that the offset is in the log's range, and that it is below the broker's high watermark. The turns don't
 //! test this again.
-//! offset is in the log's range, and that it is below the known mark. The turns test none of it again.
+//! offset is in the log's range, and that it is below the known high watermark. The turns test none of it again.
 #![tactic(auto)]
 
 mod spanning;
@@ -16,5 +16,5 @@ mod turn;
 mod turns;
 
 pub use spanning::span_of;
-pub use turn::{FetchTurn, Next, Span, Wanted};
+pub use turn::{FetchRequest, FetchStep, FetchTurn, Span};
 pub use turns::fetch_turn;

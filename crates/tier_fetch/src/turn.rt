@@ -6,7 +6,7 @@ use tier_base::PartitionId;
 
 /// What a fetch asks for, and how far its broker's log goes at this turn.
 #[derive(Clone, Copy, Debug, PartialEq, Eq)]
-pub struct Wanted {
+pub struct FetchRequest {
     pub partition: PartitionId,
     pub offset: u64,
     /// The most bytes of a run of several batches.
@@ -26,7 +26,7 @@ pub struct Span {
 
 /// What the next turn of a fetch does.
 #[derive(Clone, Copy, Debug, PartialEq, Eq)]
-pub enum Next {
+pub enum FetchStep {
     /// Refresh the broker's view, and choose the piece that has the offset.
     Refresh,
     /// Get the offset index of the piece's segment, from the cache or the store.
@@ -39,7 +39,7 @@ pub enum Next {
 #[derive(Debug, Drop)]
 pub enum FetchTurn {
     /// The fetch continues with this turn.
-    Goes(Next),
+    Goes(FetchStep),
     /// The fetch has ended with this answer.
     Ends(Answer),
 }

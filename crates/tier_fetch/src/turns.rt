@@ -12,7 +12,7 @@ ghost use Rattle.tier_fetch.specs.Span.{span_of};
 ghost use Rattle.tier_fetch.specs.Turns.{Tiers, IsFor, GoesFor, chosen, spot_in, Loads, Cuts, RefreshRow, IndexRow, LoadRow, LogRow, FetchRow};
 
 use crate::spanning::span_of;
-use crate::turn::{FetchTurn, Next, Span, Wanted};
+use crate::turn::{FetchRequest, FetchStep, FetchTurn, Span};
 use bytes::Bytes;
 use epoch_line::Line;
 use index_cache::IndexCache;
@@ -30,8 +30,8 @@ use view_refresh::refresh;
 /// Takes the next turn of a fetch. `line` has the leader epochs of its broker's log.
 pub fn fetch_turn<S: Store, M: MetaLog>(
     alloc: Global,
-    wanted: &Wanted,
-    next: Next,
+    wanted: &FetchRequest,
+    next: FetchStep,
     line: &Line,
     view: &mut View,
     cache: &mut IndexCache,
@@ -46,15 +46,15 @@ pub fn fetch_turn<S: Store, M: MetaLog>(
     ensures goes { IfOk result (GoesFor wanted.now.offset) }
 {
     match next {
-        Next::Refresh => choose(wanted, line, view, meta),
-        Next::Index(piece) => index(alloc, wanted, &piece, view, cache, store),
-        Next::Log(piece, span) => log(wanted, &piece, span, view, store),
+        FetchStep::Refresh => choose(wanted, line, view, meta),
+        FetchStep::Index(piece) => index(alloc, wanted, &piece, view, cache, store),
+        FetchStep::Log(piece, span) => log(wanted, &piece, span, view, store),
     }
 }
 
 /// Refreshes a view, and chooses the piece that holds the offset.
 fn choose<M: MetaLog>(
-    wanted: &Wanted,
+    wanted: &FetchRequest,
     line: &Line,
     view: &mut View,
     meta: &mut M,
@@ -70,7 +70,7 @@ fn choose<M: MetaLog>(
 }
 
 /// What a refreshed view has for the offset.
-fn chosen(wanted: &Wanted, line: &Line, view: &View) -> FetchTurn
+fn chosen(wanted: &FetchRequest, line: &Line, view: &View) -> FetchTurn
     ensures turn { result ≡ chosen view.now.notes
         (piece_at view.now.entries line.now wanted.now.log_end wanted.now.offset) }
     ensures goes { GoesFor wanted.now.offset result }
@@ -80,7 +80,7 @@ fn chosen(wanted: &Wanted, line: &Line, view: &View) -> FetchTurn
             // Reading both shows that the piece ends past the offset.
             let _entries = view.entries();
             let _line = line.entries();
-            FetchTurn::Goes(Next::Index(piece))
+            FetchTurn::Goes(FetchStep::Index(piece))
         }
         None => lost(view),
     }
@@ -96,7 +96,7 @@ fn lost(view: &View) -> FetchTurn
 /// Has the index of a piece's segment: the one in the cache, or else the one in the store.
 fn index<S: Store>(
     alloc: Global,
-    wanted: &Wanted,
+    wanted: &FetchRequest,
     piece: &Piece,
     view: &View,
     cache: &mut IndexCache,
@@ -109,13 +109,13 @@ fn index<S: Store>(
 {
     let shown = cached(wanted, piece, cache);
     match shown {
-        Some(span) => Ok(FetchTurn::Goes(Next::Log(*piece, span))),
+        Some(span) => Ok(FetchTurn::Goes(FetchStep::Log(*piece, span))),
         None => load(alloc, wanted, piece, view, cache, store),
     }
 }
 
 /// What the index in the cache shows, where there is one.
-fn cached(wanted: &Wanted, piece: &Piece, cache: &mut IndexCache) -> Option<Span>
+fn cached(wanted: &FetchRequest, piece: &Piece, cache: &mut IndexCache) -> Option<Span>
     requires { wanted.now.offset < piece.now.to }
     ensures span { result ≡ option_map (λ index. span_of index wanted.now.offset wanted.now.limit piece.now.to)
         (found piece.now.id.0 cache.old.pairs) }
@@ -130,7 +130,7 @@ fn cached(wanted: &Wanted, piece: &Piece, cache: &mut IndexCache) -> Option<Span
 /// Reads the index out of the store, and keeps it.
 fn load<S: Store>(
     alloc: Global,
-    wanted: &Wanted,
+    wanted: &FetchRequest,
     piece: &Piece,
     view: &View,
     cache: &mut IndexCache,
@@ -153,7 +153,7 @@ fn load<S: Store>(
 }
 
 /// The base offset of a piece's segment, and where a part of it stands.
-fn spot_in(wanted: &Wanted, piece: &Piece, view: &View, part: Part) -> Option<(u64, Spot)>
+fn spot_in(wanted: &FetchRequest, piece: &Piece, view: &View, part: Part) -> Option<(u64, Spot)>
     ensures spot { result ≡ spot_in wanted.now.partition piece.now.id part (entry_of piece.now.id view.now.entries) }
     ensures low { IfSome result (λ found. found.0 ≤ 2 ^ 62) }
     ensures near { IfSome result (λ found. found.1.at < 2 ^ 34) }
@@ -177,7 +177,7 @@ fn spot_in(wanted: &Wanted, piece: &Piece, view: &View, part: Part) -> Option<(u
 /// Reads the index in what the store gave, and keeps it.
 fn keep(
     alloc: Global,
-    wanted: &Wanted,
+    wanted: &FetchRequest,
     piece: &Piece,
     base: u64,
     spot: &Spot,
@@ -201,7 +201,7 @@ fn keep(
             let span = span_of(&index, wanted.offset, wanted.limit, piece.to);
             let _rises = index.offsets();
             cache.keep(piece.id, index)?;
-            Ok(FetchTurn::Goes(Next::Log(*piece, span)))
+            Ok(FetchTurn::Goes(FetchStep::Log(*piece, span)))
         }
         Err(IndexRefusal::BadLength | IndexRefusal::NotRising { .. }) => Ok(damaged(spot, spot.at)),
         Err(IndexRefusal::NoMemory) => Err(AllocError),
@@ -217,7 +217,7 @@ fn damaged(spot: &Spot, at: u64) -> FetchTurn
 
 /// Reads a part of a segment's log, and cuts the run out of it.
 fn log<S: Store>(
-    wanted: &Wanted,
+    wanted: &FetchRequest,
     piece: &Piece,
     span: Span,
     view: &View,
@@ -242,7 +242,7 @@ fn log<S: Store>(
 
 /// Cuts the run out of what the store gave.
 fn cut_out(
-    wanted: &Wanted,
+    wanted: &FetchRequest,
     piece: &Piece,
     spot: &Spot,
     span: Span,

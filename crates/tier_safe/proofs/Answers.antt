@@ -5,16 +5,16 @@ use Rattle.plain_log.specs.declared.journal.JournalEntry.{JournalEntry}
 use Rattle.plain_log.specs.declared.state.State.{State as Plain}
 use Rattle.plain_log.specs.declared.state.Broker.{Broker}
 use Rattle.plain_log.specs.Step.{step}
-use Rattle.tier_safe.specs.Scene.{Scene, Site}
+use Rattle.tier_safe.specs.Scene.{Scene, BrokerTierView}
 use Rattle.tier_safe.specs.Changes.{Steps}
 use Rattle.tier_safe.specs.Safe.{TierSafe, BothSafe}
-use Rattle.tier_safe.specs.Follow.{SiteGoes, MayStep}
+use Rattle.tier_safe.specs.Follow.{BrokerTierGoes, MayStep}
 use Rattle.tier_safe.specs.Laws.{AnswersKeepSafe}
 use Rattle.tier_safe.proofs.Kept.{all_kept}
 
 -- sides stay where no broker changes
-sites_stay : (c : Scene) (p q : Plain) (order : Order) (entry : JournalEntry) → step p order entry ≡ Some q → q.brokers ≡ p.brokers → TierSafe c p → MayStep c.sites c p q
-sites_stay c p q order entry is same h = record {
+tier_views_stay : (c : Scene) (p q : Plain) (order : Order) (entry : JournalEntry) → step p order entry ≡ Some q → q.brokers ≡ p.brokers → TierSafe c p → MayStep c.tier_views c p q
+tier_views_stay c p q order entry is same h = record {
   order = order;
   entry = entry;
   is = is;
@@ -23,8 +23,8 @@ sites_stay c p q order entry is same h = record {
     each = λ b old new x y at bt bx by.
         (let one : new ≡ old = cc (at, bt) in
         let two : y ≡ x = cc (bx, by, same) in
-        let stands = h.sites.each b old x at bx in
-        subst (λ (s : Site). SiteGoes old s x y) (sym one) (subst (λ (z : Broker). SiteGoes old old x z) (sym two) (record {
+        let stands = h.tier_views.each b old x at bx in
+        subst (λ (s : BrokerTierView). BrokerTierGoes old s x y) (sym one) (subst (λ (z : Broker). BrokerTierGoes old old x z) (sym two) (record {
           up = stands.up;
           start = omega arith;
           within = stands.within;
@@ -39,4 +39,4 @@ sites_stay c p q order entry is same h = record {
 pub answers_keep : AnswersKeepSafe
 answers_keep c d p q order entry k is same h =
     let at = subst (λ (e : Scene). BothSafe e p) k.is (all_kept k.changes c p p k.may h) in
-    all_kept (Steps d.sites ∷ []) d p q (q, sites_stay d p q order entry is same at.tier, refl) at
+    all_kept (Steps d.tier_views ∷ []) d p q (q, tier_views_stay d p q order entry is same at.tier, refl) at

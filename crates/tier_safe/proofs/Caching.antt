@@ -13,7 +13,7 @@ use Rattle.log_terms.proofs.Lists.{get-set, prefix_self, prefix_more, prefix_tra
 use Rattle.plain_log.specs.declared.state.State.{State as Plain}
 use Rattle.plain_log.specs.declared.state.Path.{Path}
 use Rattle.remote_view.specs.Fold.{entry_of, fold}
-use Rattle.tier_safe.specs.Scene.{Scene, Site}
+use Rattle.tier_safe.specs.Scene.{Scene, BrokerTierView}
 use Rattle.tier_safe.specs.Changes.{note_for, Change, Steps, Moves, Chooses, Tells, Stores, Sees, Caches, Drops, effect}
 use Rattle.tier_safe.specs.Fetches.{IsIndexOf, CachedStands, CachesStand}
 use Rattle.tier_safe.specs.Safe.{TierSafe}
@@ -49,32 +49,32 @@ cached_told paths notes more id index pre k = record {
 }
 
 -- a site, and what it keeps
-caches_site : (paths : List Path) (notes : List Note) (sites : List Site) (b : ℕ) (new : Site)
-    → ((id : SegmentId) (index : OffsetTable) → In (id, index) new.cache → CachedStands paths notes id index) → CachesStand paths notes sites → CachesStand paths notes (slice_set sites b new)
-caches_site paths notes sites b new own h = λ d site at id index has. elim (get-set sites b new d site at) [
-  | inl here ↦ own id index (subst (λ (s : Site). In (id, index) s.cache) here.1 has)
-  | inr there ↦ h d site there.1 id index has
+caches_tier_view : (paths : List Path) (notes : List Note) (tier_views : List BrokerTierView) (b : ℕ) (new : BrokerTierView)
+    → ((id : SegmentId) (index : OffsetTable) → In (id, index) new.cache → CachedStands paths notes id index) → CachesStand paths notes tier_views → CachesStand paths notes (slice_set tier_views b new)
+caches_tier_view paths notes tier_views b new own h = λ d tier_view at id index has. elim (get-set tier_views b new d tier_view at) [
+  | inl here ↦ own id index (subst (λ (s : BrokerTierView). In (id, index) s.cache) here.1 has)
+  | inr there ↦ h d tier_view there.1 id index has
 ]
 
-pub caches_kept : (change : Change) (c : Scene) (p : Plain) → MayAlter change c p → TierSafe c p → CachesStand p.paths (effect change c).notes (effect change c).sites
-caches_kept (Steps sites) c p m h = absurd m
+pub caches_kept : (change : Change) (c : Scene) (p : Plain) → MayAlter change c p → TierSafe c p → CachesStand p.paths (effect change c).notes (effect change c).tier_views
+caches_kept (Steps tier_views) c p m h = absurd m
 caches_kept (Moves a move) c p m h = h.caches
-caches_kept (Chooses a b site copy) c p m h = caches_site p.paths c.notes c.sites b (record site { next = site.next + 1 }) (h.caches b site m.site_is) h.caches
-caches_kept (Tells a telling teller) c p m h = λ b site at id index has.
-    cached_told p.paths c.notes (c.notes ++ note_for telling teller ∷ []) id index (prefix_more c.notes c.notes (note_for telling teller ∷ []) (prefix_self c.notes)) (h.caches b site at id index has)
+caches_kept (Chooses a b tier_view copy) c p m h = caches_tier_view p.paths c.notes c.tier_views b (record tier_view { next = tier_view.next + 1 }) (h.caches b tier_view m.tier_view_is) h.caches
+caches_kept (Tells a telling origin) c p m h = λ b tier_view at id index has.
+    cached_told p.paths c.notes (c.notes ++ note_for telling origin ∷ []) id index (prefix_more c.notes c.notes (note_for telling origin ∷ []) (prefix_self c.notes)) (h.caches b tier_view at id index has)
 caches_kept (Stores a storing objects) c p m h = h.caches
-caches_kept (Sees b site view) c p m h = caches_site p.paths c.notes c.sites b (record site { view = view }) (h.caches b site m.site_is) h.caches
-caches_kept (Caches b site cache) c p m h = caches_site p.paths c.notes c.sites b (record site { cache = cache })
+caches_kept (Sees b tier_view view) c p m h = caches_tier_view p.paths c.notes c.tier_views b (record tier_view { view = view }) (h.caches b tier_view m.tier_view_is) h.caches
+caches_kept (Caches b tier_view cache) c p m h = caches_tier_view p.paths c.notes c.tier_views b (record tier_view { cache = cache })
     (λ id index has. elim (m.are id index has) [
-      | inl old ↦ h.caches b site m.site_is id index old
+      | inl old ↦ h.caches b tier_view m.tier_view_is id index old
       | inr new ↦ new
     ]) h.caches
-caches_kept (Drops b site start dropping) c p m h = caches_site p.paths c.notes c.sites b (record site { start = start }) (h.caches b site m.site_is) h.caches
+caches_kept (Drops b tier_view start dropping) c p m h = caches_tier_view p.paths c.notes c.tier_views b (record tier_view { start = start }) (h.caches b tier_view m.tier_view_is) h.caches
 
 -- so does a step
-pub caches_stepped : (sites : List Site) (c : Scene) (p q : Plain) → StepGoes sites c p q → TierSafe c p → CachesStand q.paths c.notes sites
-caches_stepped sites c p q m h = λ b site at id index has.
-    (let f = followed sites c p q b site m h at in
+pub caches_stepped : (tier_views : List BrokerTierView) (c : Scene) (p q : Plain) → StepGoes tier_views c p q → TierSafe c p → CachesStand q.paths c.notes tier_views
+caches_stepped tier_views c p q m h = λ b tier_view at id index has.
+    (let f = followed tier_views c p q b tier_view m h at in
     let k = h.caches b f.old f.old_is id index (subst (λ (l : List (SegmentId × OffsetTable)). In (id, index) l) f.goes.cache has) in
     record {
       before = k.before;

@@ -12,21 +12,21 @@ use Rattle.segment_meta.specs.declared.note.Entry.{Entry}
 use Rattle.segment_meta.specs.Rules.{bare_custom}
 use Rattle.segment_meta.specs.Steps.{next_state}
 use Rattle.object_store.specs.Content.{Objects}
-use Rattle.meta_log.specs.declared.teller.Teller.{Teller}
+use Rattle.meta_log.specs.declared.event_origin.EventOrigin.{EventOrigin}
 use Rattle.log_terms.proofs.Lists.{get-set, look, within}
 use Rattle.plain_log.specs.declared.state.Path.{Path}
 use Rattle.plain_log.specs.declared.state.State.{State as Plain}
 use Rattle.copy_task.specs.Copying.{Copied, keys, entry_of as copied_entry, custom_of}
 use Rattle.copy_task.specs.Turns.{put_at}
-use Rattle.copy_task.specs.declared.turn.Next.{Next as CopyNext}
-use Rattle.copy_task.specs.declared.turn.Next.TheVariants as copying
-use Rattle.expiry_task.specs.declared.turn.Doomed.{Doomed}
-use Rattle.expiry_task.specs.declared.turn.Next.{Next as ExpiryNext}
-use Rattle.expiry_task.specs.declared.turn.Next.TheVariants as expiring
+use Rattle.copy_task.specs.declared.turn.CopyStep.{CopyStep as CopyNext}
+use Rattle.copy_task.specs.declared.turn.CopyStep.TheVariants as copying
+use Rattle.expiry_task.specs.declared.turn.ExpiredSegment.{ExpiredSegment}
+use Rattle.expiry_task.specs.declared.turn.DeletionStep.{DeletionStep as ExpiryNext}
+use Rattle.expiry_task.specs.declared.turn.DeletionStep.TheVariants as expiring
 use Rattle.expiry_task.specs.Turns.{note_of}
 use Rattle.plain_log.proofs.Options.{map_some}
-use Rattle.remote_view.specs.Fold.{Seen, entry_of, state_of, noted, updated, fold}
-use Rattle.tier_safe.specs.Scene.{Scene, Site, Work, Copies, Expires}
+use Rattle.remote_view.specs.Fold.{Seen, entry_of, state_of, recorded, updated, fold}
+use Rattle.tier_safe.specs.Scene.{Scene, BrokerTierView, TierTask, Copies, Expires}
 use Rattle.tier_safe.specs.Changes.{Move, Leaves, Overtakes, Dooms, Wants, Refreshes, Lines, Asks, Finds, Skips, Reads, moved, Telling, CopyStarts, CopyEnds, ExpiryStarts, ExpiryEnds, note_for, after_telling, Storing, Puts, Undoes, Deletes, key_for, after_storing, undone, Change, Steps, Moves, Chooses, Tells, Stores, Sees, Caches, Drops, effect}
 use Rattle.tier_safe.specs.Views.{IsIdOf, IsUsed}
 use Rattle.tier_safe.specs.Copies.{IsEntryFor, HasPut, HasPutBefore, HasPutAll, CopyHasKey, CopyAt, CopyStands, CopiesStand, is_deleted}
@@ -127,40 +127,40 @@ at_gone old new es copy copying.Finish x there gone h =
 at_gone old new es copy copying.Check x there gone h = record { entry = h.entry; there = h.there; is = h.is; state = h.state }
 at_gone old new es copy (copying.Delete n) x there gone h = record { entry = h.entry; there = h.there; is = h.is; state = h.state }
 
--- a seat by its work
+-- an actor's state by its work
 
-abbrev pub CopyWork : Objects → List Path → List Entry → Work → Type 0
-CopyWork objects paths es (Copies copy next) = CopyStands objects paths es copy next
-CopyWork objects paths es other = Unit {0}
+abbrev pub CopyTask : Objects → List Path → List Entry → TierTask → Type 0
+CopyTask objects paths es (Copies copy next) = CopyStands objects paths es copy next
+CopyTask objects paths es other = Unit {0}
 
 -- no other seat has a copy of this id
-abbrev pub IsAlone : List Work → ℕ → SegmentId → Type 0
+abbrev pub IsAlone : List TierTask → ℕ → SegmentId → Type 0
 IsAlone desk a id = (k : ℕ) (other : Copied) (next : CopyNext) → k ≢ a → slice_get desk k ≡ Some (Copies other next) → id ≢ other.id
 
-abbrev pub AloneWork : List Work → ℕ → Work → Type 0
-AloneWork desk a (Copies copy next) = IsAlone desk a copy.id
-AloneWork desk a other = Unit {0}
+abbrev pub AloneTask : List TierTask → ℕ → TierTask → Type 0
+AloneTask desk a (Copies copy next) = IsAlone desk a copy.id
+AloneTask desk a other = Unit {0}
 
-pub alone_seat : (c : Scene) (p : Plain) (a : ℕ) (copy : Copied) (next : CopyNext) → TierSafe c p → slice_get c.desk a ≡ Some (Copies copy next) → IsAlone c.desk a copy.id
-alone_seat c p a copy next h seat = λ k other then ne at e. ne (sym (h.copies.apart a k copy other next then seat at e))
+pub alone_actor_state : (c : Scene) (p : Plain) (a : ℕ) (copy : Copied) (next : CopyNext) → TierSafe c p → slice_get c.desk a ≡ Some (Copies copy next) → IsAlone c.desk a copy.id
+alone_actor_state c p a copy next h actor_state = λ k other then ne at e. ne (sym (h.copies.apart a k copy other next then actor_state at e))
 
 -- what each work stands for, after one was put in its place
-pub copies_set : (objects : Objects) (paths : List Path) (es : List Entry) (desk : List Work) (a : ℕ) (w : Work) → CopyWork objects paths es w → AloneWork desk a w
+pub copies_set : (objects : Objects) (paths : List Path) (es : List Entry) (desk : List TierTask) (a : ℕ) (w : TierTask) → CopyTask objects paths es w → AloneTask desk a w
     → ((k : ℕ) (copy : Copied) (next : CopyNext) → k ≢ a → slice_get desk k ≡ Some (Copies copy next) → CopyStands objects paths es copy next)
     → ((k j : ℕ) (copy other : Copied) (next then : CopyNext) → slice_get desk k ≡ Some (Copies copy next) → slice_get desk j ≡ Some (Copies other then) → copy.id ≡ other.id → k ≡ j)
     → CopiesStand objects paths es (slice_set desk a w)
 copies_set objects paths es desk a w own alone others apart = record {
   each = λ k copy next at. elim (get-set desk a w k (Copies copy next) at) [
-    | inl here ↦ subst (λ (v : Work). CopyWork objects paths es v) (sym here.1) own
+    | inl here ↦ subst (λ (v : TierTask). CopyTask objects paths es v) (sym here.1) own
     | inr there ↦ others k copy next there.0 there.1
   ];
   apart = λ k j copy other next then at bt e. elim (get-set desk a w k (Copies copy next) at) [
     | inl here ↦ elim (get-set desk a w j (Copies other then) bt) [
       | inl here2 ↦ here.0 ∙ sym here2.0
-      | inr there2 ↦ absurd (subst (λ (v : Work). AloneWork desk a v) (sym here.1) alone j other then there2.0 there2.1 e)
+      | inr there2 ↦ absurd (subst (λ (v : TierTask). AloneTask desk a v) (sym here.1) alone j other then there2.0 there2.1 e)
     ]
     | inr there ↦ elim (get-set desk a w j (Copies other then) bt) [
-      | inl here2 ↦ absurd (subst (λ (v : Work). AloneWork desk a v) (sym here2.1) alone k copy next there.0 there.1 (sym e))
+      | inl here2 ↦ absurd (subst (λ (v : TierTask). AloneTask desk a v) (sym here2.1) alone k copy next there.0 there.1 (sym e))
       | inr there2 ↦ apart k j copy other next then there.1 there2.1 e
     ]
   ];
@@ -171,8 +171,8 @@ copies_set objects paths es desk a w own alone others apart = record {
 overtaken : (a : ℕ) (copy : Copied) (c : Scene) (p : Plain) → MayOvertake a copy c → TierSafe c p
     → CopyStands c.objects p.paths (fold c.notes) copy (copying.Delete 0)
 overtaken a copy c p m h =
-    let s = h.copies.each a copy copying.Check m.seat in
-    let v = h.views m.b m.site m.site_is in
+    let s = h.copies.each a copy copying.Check m.actor_state in
+    let v = h.views m.b m.tier_view m.tier_view_is in
     let shown : state_of copy.id (fold v.before) ≡ Some m.state = subst (λ (w : Seen). state_of copy.id w.entries ≡ Some m.state) v.is m.shows in
     let x = map_some (λ (e : Entry). e.state) (entry_of copy.id (fold v.before)) m.state shown in
     let y = prefix_goes v.before c.notes copy.id x.0 v.begins x.1 in
@@ -189,10 +189,10 @@ overtaken a copy c p m h =
     }
 
 moved_works : (a : ℕ) (move : Move) (c : Scene) (p : Plain) → MayMove a move c p → TierSafe c p
-    → CopyWork c.objects p.paths (fold c.notes) (moved move) × AloneWork c.desk a (moved move)
+    → CopyTask c.objects p.paths (fold c.notes) (moved move) × AloneTask c.desk a (moved move)
 moved_works a Leaves c p m h = (tt, tt)
-moved_works a (Overtakes copy) c p m h = (overtaken a copy c p m h, alone_seat c p a copy _ h m.seat)
-moved_works a (Dooms b doomed) c p m h = (tt, tt)
+moved_works a (Overtakes copy) c p m h = (overtaken a copy c p m h, alone_actor_state c p a copy _ h m.actor_state)
+moved_works a (Dooms b expired_segment) c p m h = (tt, tt)
 moved_works a (Wants rebuild) c p m h = (tt, tt)
 moved_works a (Refreshes rebuild) c p m h = (tt, tt)
 moved_works a (Lines rebuild line) c p m h = (tt, tt)
@@ -204,10 +204,10 @@ moved_works a (Reads sought from) c p m h = (tt, tt)
 -- a new id
 
 -- the id that a site would choose next isn't used
-pub next_unused : (c : Scene) (p : Plain) (id : SegmentId) (partition b : ℕ) (site : Site) → TierSafe c p → slice_get c.sites b ≡ Some site → site.up ≡ true
-    → IsIdOf id partition b site.incarnation site.next → IsUsed (fold c.notes) c.desk id → ⊥
-next_unused c p id partition b site h at up is used =
-    let chosen = h.ids id partition b site.incarnation site.next site used is at in
+pub next_unused : (c : Scene) (p : Plain) (id : SegmentId) (partition b : ℕ) (tier_view : BrokerTierView) → TierSafe c p → slice_get c.tier_views b ≡ Some tier_view → tier_view.up ≡ true
+    → IsIdOf id partition b tier_view.incarnation tier_view.next → IsUsed (fold c.notes) c.desk id → ⊥
+next_unused c p id partition b tier_view h at up is used =
+    let chosen = h.ids id partition b tier_view.incarnation tier_view.next tier_view used is at in
     let below = chosen.below up refl in
     absurd (omega (arith, below))
 
@@ -230,74 +230,74 @@ told_ends broker event_ts custom x = by x.state
     by DeleteStarted e = absurd (cc (e))
     by DeleteFinished e = absurd (cc (e))
 
-own_told : (telling : Telling) (a : ℕ) (teller : Teller) (c : Scene) (p : Plain) → MayTell a telling c → TierSafe c p
-    → CopyWork c.objects p.paths (noted (fold c.notes) (note_for telling teller)) (after_telling telling)
-own_told (CopyStarts copy) a teller c p m h =
-    let s = h.copies.each a copy _ m.seat in
+own_told : (telling : Telling) (a : ℕ) (origin : EventOrigin) (c : Scene) (p : Plain) → MayTell a telling c → TierSafe c p
+    → CopyTask c.objects p.paths (recorded (fold c.notes) (note_for telling origin)) (after_telling telling)
+own_told (CopyStarts copy) a origin c p m h =
+    let s = h.copies.each a copy _ m.actor_state in
     record {
       source = s.source;
       at = record {
-        entry = copied_entry copy teller;
-        there = add_entry (fold c.notes) (copied_entry copy teller) refl s.at;
+        entry = copied_entry copy origin;
+        there = add_entry (fold c.notes) (copied_entry copy origin) refl s.at;
         is = record { partition = refl; start = refl; end = refl; map = refl; size = refl; max_ts = refl; packed = refl };
         state = (λ e. absurd (cc (e)), λ e i key at low. absurd (omega (arith, low)));
       };
       key = some_keys copy.partition copy.id copy.packed;
     }
-own_told (CopyEnds copy) a teller c p m h =
-    let s = h.copies.each a copy _ m.seat in
+own_told (CopyEnds copy) a origin c p m h =
+    let s = h.copies.each a copy _ m.actor_state in
     record {
       source = s.source;
       at = record {
-        entry = told teller.broker teller.now CopyFinished (custom_of copy) s.at.entry;
-        there = told_entry (fold c.notes) copy.id teller.broker teller.now CopyFinished (custom_of copy) s.at.entry s.at.there;
-        is = entry_for_follows copy s.at.entry (told teller.broker teller.now CopyFinished (custom_of copy) s.at.entry) (told_follows teller.broker teller.now CopyFinished (custom_of copy) s.at.entry) s.at.is;
-        state = told_ends teller.broker teller.now (custom_of copy) s.at.entry;
+        entry = told origin.broker origin.now CopyFinished (custom_of copy) s.at.entry;
+        there = told_entry (fold c.notes) copy.id origin.broker origin.now CopyFinished (custom_of copy) s.at.entry s.at.there;
+        is = entry_for_follows copy s.at.entry (told origin.broker origin.now CopyFinished (custom_of copy) s.at.entry) (told_follows origin.broker origin.now CopyFinished (custom_of copy) s.at.entry) s.at.is;
+        state = told_ends origin.broker origin.now (custom_of copy) s.at.entry;
       };
       key = tt;
     }
-own_told (ExpiryStarts doomed) a teller c p m h = tt
-own_told (ExpiryEnds doomed) a teller c p m h = tt
+own_told (ExpiryStarts expired_segment) a origin c p m h = tt
+own_told (ExpiryEnds expired_segment) a origin c p m h = tt
 
-alone_told : (telling : Telling) (a : ℕ) (c : Scene) (p : Plain) → MayTell a telling c → TierSafe c p → AloneWork c.desk a (after_telling telling)
-alone_told (CopyStarts copy) a c p m h = alone_seat c p a copy _ h m.seat
-alone_told (CopyEnds copy) a c p m h = alone_seat c p a copy _ h m.seat
-alone_told (ExpiryStarts doomed) a c p m h = tt
-alone_told (ExpiryEnds doomed) a c p m h = tt
+alone_told : (telling : Telling) (a : ℕ) (c : Scene) (p : Plain) → MayTell a telling c → TierSafe c p → AloneTask c.desk a (after_telling telling)
+alone_told (CopyStarts copy) a c p m h = alone_actor_state c p a copy _ h m.actor_state
+alone_told (CopyEnds copy) a c p m h = alone_actor_state c p a copy _ h m.actor_state
+alone_told (ExpiryStarts expired_segment) a c p m h = tt
+alone_told (ExpiryEnds expired_segment) a c p m h = tt
 
 -- an expiry's note on a copy's id
-expiry_told : (doomed : Doomed) (state : State) (a : ℕ) (was : ExpiryNext) (teller : Teller) (c : Scene) (p : Plain) (copy : Copied) (next : CopyNext) → is_deleted state ≡ true
-    → slice_get c.desk a ≡ Some (Expires doomed was) → TierSafe c p → doomed.id ≡ copy.id → CopyAt c.objects (fold c.notes) copy next
-    → CopyAt c.objects (noted (fold c.notes) (note_of doomed teller state)) copy next
-expiry_told doomed state a was teller c p copy next d seat h same at =
-    let e = h.deletions.each a doomed was seat in
-    let new = told_entry (fold c.notes) doomed.id teller.broker teller.now state (bare_custom doomed.packed) e.entry e.there in
-    at_deleted c.objects (fold c.notes) (noted (fold c.notes) (note_of doomed teller state)) copy next e.entry (told teller.broker teller.now state (bare_custom doomed.packed) e.entry)
+expiry_told : (expired_segment : ExpiredSegment) (state : State) (a : ℕ) (was : ExpiryNext) (origin : EventOrigin) (c : Scene) (p : Plain) (copy : Copied) (next : CopyNext) → is_deleted state ≡ true
+    → slice_get c.desk a ≡ Some (Expires expired_segment was) → TierSafe c p → expired_segment.id ≡ copy.id → CopyAt c.objects (fold c.notes) copy next
+    → CopyAt c.objects (recorded (fold c.notes) (note_of expired_segment origin state)) copy next
+expiry_told expired_segment state a was origin c p copy next d actor_state h same at =
+    let e = h.deletions.each a expired_segment was actor_state in
+    let new = told_entry (fold c.notes) expired_segment.id origin.broker origin.now state (bare_custom expired_segment.packed) e.entry e.there in
+    at_deleted c.objects (fold c.notes) (recorded (fold c.notes) (note_of expired_segment origin state)) copy next e.entry (told origin.broker origin.now state (bare_custom expired_segment.packed) e.entry)
     (subst (λ (i : SegmentId). entry_of i (fold c.notes) ≡ Some e.entry) same e.there)
-    (subst (λ (i : SegmentId). entry_of i (noted (fold c.notes) (note_of doomed teller state)) ≡ Some (told teller.broker teller.now state (bare_custom doomed.packed) e.entry)) same new)
-    (told_follows teller.broker teller.now state (bare_custom doomed.packed) e.entry) (told_gone teller.broker teller.now state (bare_custom doomed.packed) e.entry d) at
+    (subst (λ (i : SegmentId). entry_of i (recorded (fold c.notes) (note_of expired_segment origin state)) ≡ Some (told origin.broker origin.now state (bare_custom expired_segment.packed) e.entry)) same new)
+    (told_follows origin.broker origin.now state (bare_custom expired_segment.packed) e.entry) (told_gone origin.broker origin.now state (bare_custom expired_segment.packed) e.entry d) at
 
-same_told : (telling : Telling) (a : ℕ) (teller : Teller) (c : Scene) (p : Plain) (k : ℕ) (copy : Copied) (next : CopyNext) → MayTell a telling c → TierSafe c p
-    → k ≢ a → slice_get c.desk k ≡ Some (Copies copy next) → id_in (note_for telling teller) ≡ copy.id
-    → CopyAt c.objects (noted (fold c.notes) (note_for telling teller)) copy next
-same_told (CopyStarts own) a teller c p k copy next m h ne at same = absurd (alone_seat c p a own _ h m.seat k copy next ne at same)
-same_told (CopyEnds own) a teller c p k copy next m h ne at same = absurd (alone_seat c p a own _ h m.seat k copy next ne at same)
-same_told (ExpiryStarts doomed) a teller c p k copy next m h ne at same =
-    expiry_told doomed DeleteStarted a expiring.Start teller c p copy next refl m.seat h same (h.copies.each k copy next at).at
-same_told (ExpiryEnds doomed) a teller c p k copy next m h ne at same =
-    expiry_told doomed DeleteFinished a expiring.Finish teller c p copy next refl m.seat h same (h.copies.each k copy next at).at
+same_told : (telling : Telling) (a : ℕ) (origin : EventOrigin) (c : Scene) (p : Plain) (k : ℕ) (copy : Copied) (next : CopyNext) → MayTell a telling c → TierSafe c p
+    → k ≢ a → slice_get c.desk k ≡ Some (Copies copy next) → id_in (note_for telling origin) ≡ copy.id
+    → CopyAt c.objects (recorded (fold c.notes) (note_for telling origin)) copy next
+same_told (CopyStarts own) a origin c p k copy next m h ne at same = absurd (alone_actor_state c p a own _ h m.actor_state k copy next ne at same)
+same_told (CopyEnds own) a origin c p k copy next m h ne at same = absurd (alone_actor_state c p a own _ h m.actor_state k copy next ne at same)
+same_told (ExpiryStarts expired_segment) a origin c p k copy next m h ne at same =
+    expiry_told expired_segment DeleteStarted a expiring.Start origin c p copy next refl m.actor_state h same (h.copies.each k copy next at).at
+same_told (ExpiryEnds expired_segment) a origin c p k copy next m h ne at same =
+    expiry_told expired_segment DeleteFinished a expiring.Finish origin c p copy next refl m.actor_state h same (h.copies.each k copy next at).at
 
-told_copies : (telling : Telling) (a : ℕ) (teller : Teller) (c : Scene) (p : Plain) → MayTell a telling c → TierSafe c p
-    → CopiesStand c.objects p.paths (noted (fold c.notes) (note_for telling teller)) (slice_set c.desk a (after_telling telling))
-told_copies telling a teller c p m h =
-    copies_set c.objects p.paths (noted (fold c.notes) (note_for telling teller)) c.desk a (after_telling telling)
-    (own_told telling a teller c p m h) (alone_told telling a c p m h)
+told_copies : (telling : Telling) (a : ℕ) (origin : EventOrigin) (c : Scene) (p : Plain) → MayTell a telling c → TierSafe c p
+    → CopiesStand c.objects p.paths (recorded (fold c.notes) (note_for telling origin)) (slice_set c.desk a (after_telling telling))
+told_copies telling a origin c p m h =
+    copies_set c.objects p.paths (recorded (fold c.notes) (note_for telling origin)) c.desk a (after_telling telling)
+    (own_told telling a origin c p m h) (alone_told telling a c p m h)
     (λ k copy next ne at. record {
       source = (h.copies.each k copy next at).source;
-      at = elim (id_cases (id_in (note_for telling teller)) copy.id) [
-        | inl same ↦ same_told telling a teller c p k copy next m h ne at same
-        | inr other ↦ at_entries c.objects (fold c.notes) (noted (fold c.notes) (note_for telling teller)) copy next
-            (other_entry (fold c.notes) (note_for telling teller) copy.id other) (h.copies.each k copy next at).at
+      at = elim (id_cases (id_in (note_for telling origin)) copy.id) [
+        | inl same ↦ same_told telling a origin c p k copy next m h ne at same
+        | inr other ↦ at_entries c.objects (fold c.notes) (recorded (fold c.notes) (note_for telling origin)) copy next
+            (other_entry (fold c.notes) (note_for telling origin) copy.id other) (h.copies.each k copy next at).at
       ];
       key = (h.copies.each k copy next at).key;
     })
@@ -337,64 +337,64 @@ put_key copy n None is = tt
 put_key copy n (Some key) is = within (keys copy) n key is
 
 own_undone : (objects : Objects) (paths : List Path) (es : List Entry) (copy : Copied) (n m : ℕ) (next : Option ObjectKey) (old : Objects)
-    → slice_get (keys copy) m ≡ next → CopyStands old paths es copy (copying.Delete n) → CopyWork objects paths es (undone copy m next)
+    → slice_get (keys copy) m ≡ next → CopyStands old paths es copy (copying.Delete n) → CopyTask objects paths es (undone copy m next)
 own_undone objects paths es copy n m None old is h = tt
 own_undone objects paths es copy n m (Some key) old is h =
     record { source = h.source; at = record { entry = h.at.entry; there = h.at.there; is = h.at.is; state = h.at.state }; key = within (keys copy) m key is }
 
-alone_undone : (desk : List Work) (a : ℕ) (copy : Copied) (n : ℕ) (next : Option ObjectKey) → IsAlone desk a copy.id → AloneWork desk a (undone copy n next)
+alone_undone : (desk : List TierTask) (a : ℕ) (copy : Copied) (n : ℕ) (next : Option ObjectKey) → IsAlone desk a copy.id → AloneTask desk a (undone copy n next)
 alone_undone desk a copy n None h = tt
 alone_undone desk a copy n (Some key) h = h
 
 own_stored : (storing : Storing) (a : ℕ) (objects : Objects) (c : Scene) (p : Plain) → MayStore a storing objects c → TierSafe c p
-    → CopyWork objects p.paths (fold c.notes) (after_storing storing) × AloneWork c.desk a (after_storing storing)
+    → CopyTask objects p.paths (fold c.notes) (after_storing storing) × AloneTask c.desk a (after_storing storing)
 own_stored (Puts copy n key) a objects c p m h =
-    let s = h.copies.each a copy _ m.seat in (
+    let s = h.copies.each a copy _ m.actor_state in (
       record {
         source = s.source;
         at = part_put c.objects objects (fold c.notes) copy n key (slice_get (keys copy) (n + 1)) m.key refl m.made.there m.made.others s.at;
         key = put_key copy (n + 1) (slice_get (keys copy) (n + 1)) refl;
       },
-      alone_seat c p a copy _ h m.seat,
+      alone_actor_state c p a copy _ h m.actor_state,
     )
 own_stored (Undoes copy n key) a objects c p m h = (
-  own_undone objects p.paths (fold c.notes) copy n (n + 1) (slice_get (keys copy) (n + 1)) c.objects refl (h.copies.each a copy (copying.Delete n) m.seat),
-  alone_undone c.desk a copy (n + 1) (slice_get (keys copy) (n + 1)) (alone_seat c p a copy _ h m.seat),
+  own_undone objects p.paths (fold c.notes) copy n (n + 1) (slice_get (keys copy) (n + 1)) c.objects refl (h.copies.each a copy (copying.Delete n) m.actor_state),
+  alone_undone c.desk a copy (n + 1) (slice_get (keys copy) (n + 1)) (alone_actor_state c p a copy _ h m.actor_state),
 )
-own_stored (Deletes doomed n key) a objects c p m h = (tt, tt)
+own_stored (Deletes expired_segment n key) a objects c p m h = (tt, tt)
 
 same_stored : (storing : Storing) (a : ℕ) (objects : Objects) (c : Scene) (p : Plain) (k : ℕ) (copy : Copied) (next : CopyNext) → MayStore a storing objects c → TierSafe c p
     → k ≢ a → slice_get c.desk k ≡ Some (Copies copy next) → (key_for storing).id ≡ copy.id → CopyAt objects (fold c.notes) copy next
 same_stored (Puts own n key) a objects c p k copy next m h ne at same =
-    absurd (alone_seat c p a own _ h m.seat k copy next ne at (sym (ap (λ (j : ObjectKey). j.id) (key_is own.partition own.id own.packed n key m.key)) ∙ same))
+    absurd (alone_actor_state c p a own _ h m.actor_state k copy next ne at (sym (ap (λ (j : ObjectKey). j.id) (key_is own.partition own.id own.packed n key m.key)) ∙ same))
 same_stored (Undoes own n key) a objects c p k copy next m h ne at same =
-    absurd (alone_seat c p a own _ h m.seat k copy next ne at (sym (ap (λ (j : ObjectKey). j.id) (key_is own.partition own.id own.packed n key m.key)) ∙ same))
-same_stored (Deletes doomed n key) a objects c p k copy next m h ne at same =
-    let e = h.deletions.each a doomed _ m.seat in
-    let id : doomed.id ≡ copy.id = sym (ap (λ (j : ObjectKey). j.id) (key_is doomed.partition doomed.id doomed.packed n key m.key)) ∙ same in
-    at_gone c.objects objects (fold c.notes) copy next e.entry (subst (λ (i : SegmentId). entry_of i (fold c.notes) ≡ Some e.entry) id e.there) e.begun (h.copies.each k copy next at).at
+    absurd (alone_actor_state c p a own _ h m.actor_state k copy next ne at (sym (ap (λ (j : ObjectKey). j.id) (key_is own.partition own.id own.packed n key m.key)) ∙ same))
+same_stored (Deletes expired_segment n key) a objects c p k copy next m h ne at same =
+    let e = h.deletions.each a expired_segment _ m.actor_state in
+    let id : expired_segment.id ≡ copy.id = sym (ap (λ (j : ObjectKey). j.id) (key_is expired_segment.partition expired_segment.id expired_segment.packed n key m.key)) ∙ same in
+    at_gone c.objects objects (fold c.notes) copy next e.entry (subst (λ (i : SegmentId). entry_of i (fold c.notes) ≡ Some e.entry) id e.there) e.snapshot (h.copies.each k copy next at).at
 
 pub copies_kept : (change : Change) (c : Scene) (p : Plain) → MayAlter change c p → TierSafe c p
     → CopiesStand (effect change c).objects p.paths (fold (effect change c).notes) (effect change c).desk
-copies_kept (Steps sites) c p m h = absurd m
+copies_kept (Steps tier_views) c p m h = absurd m
 copies_kept (Moves a move) c p m h =
     let w = moved_works a move c p m h in
     copies_set c.objects p.paths (fold c.notes) c.desk a (moved move) w.0 w.1 (λ k copy next ne at. h.copies.each k copy next at) h.copies.apart
-copies_kept (Chooses a b site copy) c p m h =
+copies_kept (Chooses a b tier_view copy) c p m h =
     copies_set c.objects p.paths (fold c.notes) c.desk a (Copies copy copying.Start)
     (record {
       source = m.source;
       at = elim (some_or_none (entry_of copy.id (fold c.notes))) [
         | inl none ↦ none
-        | inr some ↦ absurd (next_unused c p copy.id copy.partition.0 b site h m.site_is m.up m.id (inl some))
+        | inr some ↦ absurd (next_unused c p copy.id copy.partition.0 b tier_view h m.tier_view_is m.up m.id (inl some))
       ];
       key = tt;
     })
-    (λ k other next ne at e. next_unused c p copy.id copy.partition.0 b site h m.site_is m.up m.id (inr (k, other, next, at, sym e)))
+    (λ k other next ne at e. next_unused c p copy.id copy.partition.0 b tier_view h m.tier_view_is m.up m.id (inr (k, other, next, at, sym e)))
     (λ k other next ne at. h.copies.each k other next at) h.copies.apart
-copies_kept (Tells a telling teller) c p m h =
-    subst (λ (es : List Entry). CopiesStand c.objects p.paths es (slice_set c.desk a (after_telling telling))) (sym (fold_push c.notes (note_for telling teller)))
-    (told_copies telling a teller c p m h)
+copies_kept (Tells a telling origin) c p m h =
+    subst (λ (es : List Entry). CopiesStand c.objects p.paths es (slice_set c.desk a (after_telling telling))) (sym (fold_push c.notes (note_for telling origin)))
+    (told_copies telling a origin c p m h)
 copies_kept (Stores a storing objects) c p m h =
     let w = own_stored storing a objects c p m h in
     copies_set objects p.paths (fold c.notes) c.desk a (after_storing storing) w.0 w.1
@@ -408,13 +408,13 @@ copies_kept (Stores a storing objects) c p m h =
       key = (h.copies.each k copy next at).key;
     })
     h.copies.apart
-copies_kept (Sees b site view) c p m h = h.copies
-copies_kept (Caches b site cache) c p m h = h.copies
-copies_kept (Drops b site start dropping) c p m h = h.copies
+copies_kept (Sees b tier_view view) c p m h = h.copies
+copies_kept (Caches b tier_view cache) c p m h = h.copies
+copies_kept (Drops b tier_view start dropping) c p m h = h.copies
 
 -- so does a step
-pub copies_stepped : (sites : List Site) (c : Scene) (p q : Plain) → StepGoes sites c p q → TierSafe c p → CopiesStand c.objects q.paths (fold c.notes) c.desk
-copies_stepped sites c p q m h = record {
+pub copies_stepped : (tier_views : List BrokerTierView) (c : Scene) (p q : Plain) → StepGoes tier_views c p q → TierSafe c p → CopiesStand c.objects q.paths (fold c.notes) c.desk
+copies_stepped tier_views c p q m h = record {
   each = λ a copy next at. let s = h.copies.each a copy next at in record { source = source_grows p.paths q.paths copy m.grows.paths s.source; at = s.at; key = s.key };
   apart = h.copies.apart;
 }

@@ -21,7 +21,7 @@ use Rattle.plain_log.proofs.Options.{both, le_of}
 use Rattle.remote_view.specs.Fold.{Seen, entry_of, fold}
 use Rattle.remote_view.specs.Lookup.{is_readable, is_epoch, covers}
 use Rattle.remote_find.proofs.Clipping.{given}
-use Rattle.tier_safe.specs.Scene.{Scene, Site}
+use Rattle.tier_safe.specs.Scene.{Scene, BrokerTierView}
 use Rattle.tier_safe.specs.Changes.{note_for, Dropping, Trims, Restarts, Change, Steps, Moves, Chooses, Tells, Stores, Sees, Caches, Drops, effect}
 use Rattle.tier_safe.specs.Lineage.{Covers, CoversLog}
 use Rattle.tier_safe.specs.Starts.{DeletedEnd, CoveredStands}
@@ -125,18 +125,18 @@ one_front p e xs ys s h k same =
     one_end 0 xs ys h.0 (s.paths e h.0 h.1).log_safe.consecutive h.2 (subst (λ (l : List (List ℕ)). IsPrefix ys l) (sym log) k.2) same
 
 -- a local log that starts later
-dropped : (b : ℕ) (site : Site) (start : ℕ) (dropping : Dropping) (c : Scene) (p : Plain) → MayDrop b site start dropping c p → PlainSafe p → TierSafe c p
+dropped : (b : ℕ) (tier_view : BrokerTierView) (start : ℕ) (dropping : Dropping) (c : Scene) (p : Plain) → MayDrop b tier_view start dropping c p → PlainSafe p → TierSafe c p
     → (x : Broker) → slice_get p.brokers b ≡ Some x → (o : ℕ) → p.registry.start ≤ o → o < start → CoversLog (fold c.notes) x.log o
-dropped b site start Trims c p m safe h x bx o low high = elim (cases_lt o site.start) [
-  | inl old ↦ h.covered b site x m.site_is bx o low old
+dropped b tier_view start Trims c p m safe h x bx o low high = elim (cases_lt o tier_view.start) [
+  | inl old ↦ h.covered b tier_view x m.tier_view_is bx o low old
   | inr new ↦
-      let v = h.views b site m.site_is in
+      let v = h.views b tier_view m.tier_view_is in
       let same = one_some (slice_get p.brokers b) m.x x m.broker_is bx in
-      let seen = subst (λ (y : Broker). CoversLog site.view.entries y.log o) same (m.why o low new high) in
+      let seen = subst (λ (y : Broker). CoversLog tier_view.view.entries y.log o) same (m.why o low new high) in
       log_goes c.notes v.before c.notes p.registry.start x.log o h.deletions.ended v.begins (prefix_self c.notes) v.begins low
       (subst (λ (s : Seen). CoversLog s.entries x.log o) v.is seen)
 ]
-dropped b site start (Restarts a rebuild) c p m safe h x bx o low high =
+dropped b tier_view start (Restarts a rebuild) c p m safe h x bx o low high =
     let same = one_some (slice_get p.brokers b) m.x x m.broker_is bx in
     let r = h.rebuilds a rebuild m.why.0 in
     let front : r.front ≡ m.x.log = one_front p rebuild.epoch r.front m.x.log safe r.begins m.why.3 (r.ends ∙ m.why.1 ∙ sym m.why.2) in
@@ -144,41 +144,41 @@ dropped b site start (Restarts a rebuild) c p m safe h x bx o low high =
     subst (λ (y : Broker). CoversLog (fold c.notes) y.log o) same (subst (λ (l : List (List ℕ)). CoversLog (fold c.notes) l o) front (r.covered o low below))
 
 -- a site with the same local start
-covered_set : (es : List Entry) (start : ℕ) (sites : List Site) (brokers : List Broker) (b : ℕ) (new : Site)
+covered_set : (es : List Entry) (start : ℕ) (tier_views : List BrokerTierView) (brokers : List Broker) (b : ℕ) (new : BrokerTierView)
     → ((x : Broker) → slice_get brokers b ≡ Some x → (o : ℕ) → start ≤ o → o < new.start → CoversLog es x.log o)
-    → CoveredStands es start sites brokers → CoveredStands es start (slice_set sites b new) brokers
-covered_set es start sites brokers b new own h = λ d site x is bx o low high. elim (get-set sites b new d site is) [
-  | inl here ↦ own x (ap (slice_get brokers) (sym here.0) ∙ bx) o low (subst (λ (s : Site). o < s.start) here.1 high)
-  | inr there ↦ h d site x there.1 bx o low high
+    → CoveredStands es start tier_views brokers → CoveredStands es start (slice_set tier_views b new) brokers
+covered_set es start tier_views brokers b new own h = λ d tier_view x is bx o low high. elim (get-set tier_views b new d tier_view is) [
+  | inl here ↦ own x (ap (slice_get brokers) (sym here.0) ∙ bx) o low (subst (λ (s : BrokerTierView). o < s.start) here.1 high)
+  | inr there ↦ h d tier_view x there.1 bx o low high
 ]
 
 pub covered_kept : (change : Change) (c : Scene) (p : Plain) → MayAlter change c p → PlainSafe p → TierSafe c p
-    → CoveredStands (fold (effect change c).notes) p.registry.start (effect change c).sites p.brokers
-covered_kept (Steps sites) c p m safe h = absurd m
+    → CoveredStands (fold (effect change c).notes) p.registry.start (effect change c).tier_views p.brokers
+covered_kept (Steps tier_views) c p m safe h = absurd m
 covered_kept (Moves a move) c p m safe h = h.covered
-covered_kept (Chooses a b site copy) c p m safe h =
-    covered_set (fold c.notes) p.registry.start c.sites p.brokers b (record site { next = site.next + 1 }) (λ x bx o low high. h.covered b site x m.site_is bx o low high) h.covered
-covered_kept (Tells a telling teller) c p m safe h = λ b site x is bx o low high.
-    (let ended = (deletions_kept (Tells a telling teller) c p m h).ended in
-    let first = prefix_more c.notes c.notes (note_for telling teller ∷ []) (prefix_self c.notes) in
-    log_goes (c.notes ++ note_for telling teller ∷ []) c.notes (c.notes ++ note_for telling teller ∷ []) p.registry.start x.log o ended first (prefix_self _) first low
-    (h.covered b site x is bx o low high))
+covered_kept (Chooses a b tier_view copy) c p m safe h =
+    covered_set (fold c.notes) p.registry.start c.tier_views p.brokers b (record tier_view { next = tier_view.next + 1 }) (λ x bx o low high. h.covered b tier_view x m.tier_view_is bx o low high) h.covered
+covered_kept (Tells a telling origin) c p m safe h = λ b tier_view x is bx o low high.
+    (let ended = (deletions_kept (Tells a telling origin) c p m h).ended in
+    let first = prefix_more c.notes c.notes (note_for telling origin ∷ []) (prefix_self c.notes) in
+    log_goes (c.notes ++ note_for telling origin ∷ []) c.notes (c.notes ++ note_for telling origin ∷ []) p.registry.start x.log o ended first (prefix_self _) first low
+    (h.covered b tier_view x is bx o low high))
 covered_kept (Stores a storing objects) c p m safe h = h.covered
-covered_kept (Sees b site view) c p m safe h =
-    covered_set (fold c.notes) p.registry.start c.sites p.brokers b (record site { view = view }) (λ x bx o low high. h.covered b site x m.site_is bx o low high) h.covered
-covered_kept (Caches b site cache) c p m safe h =
-    covered_set (fold c.notes) p.registry.start c.sites p.brokers b (record site { cache = cache }) (λ x bx o low high. h.covered b site x m.site_is bx o low high) h.covered
-covered_kept (Drops b site start dropping) c p m safe h =
-    covered_set (fold c.notes) p.registry.start c.sites p.brokers b (record site { start = start }) (dropped b site start dropping c p m safe h) h.covered
+covered_kept (Sees b tier_view view) c p m safe h =
+    covered_set (fold c.notes) p.registry.start c.tier_views p.brokers b (record tier_view { view = view }) (λ x bx o low high. h.covered b tier_view x m.tier_view_is bx o low high) h.covered
+covered_kept (Caches b tier_view cache) c p m safe h =
+    covered_set (fold c.notes) p.registry.start c.tier_views p.brokers b (record tier_view { cache = cache }) (λ x bx o low high. h.covered b tier_view x m.tier_view_is bx o low high) h.covered
+covered_kept (Drops b tier_view start dropping) c p m safe h =
+    covered_set (fold c.notes) p.registry.start c.tier_views p.brokers b (record tier_view { start = start }) (dropped b tier_view start dropping c p m safe h) h.covered
 
 -- so does a step
-pub covered_stepped : (sites : List Site) (c : Scene) (p q : Plain) → StepGoes sites c p q → TierSafe c p → CoveredStands (fold c.notes) q.registry.start sites q.brokers
-covered_stepped sites c p q m h = λ b new y is by o low high.
-    (let f = followed sites c p q b new m h is in
+pub covered_stepped : (tier_views : List BrokerTierView) (c : Scene) (p q : Plain) → StepGoes tier_views c p q → TierSafe c p → CoveredStands (fold c.notes) q.registry.start tier_views q.brokers
+covered_stepped tier_views c p q m h = λ b new y is by o low high.
+    (let f = followed tier_views c p q b new m h is in
     let same = one_some (slice_get q.brokers b) f.y y f.y_is by in
     let start = f.goes.start in
     let within = f.goes.within in
-    let old_within = (h.sites.each b f.old f.x f.old_is f.x_is).within in
+    let old_within = (h.tier_views.each b f.old f.x f.old_is f.x_is).within in
     let old = h.covered b f.old f.x f.old_is f.x_is o (omega (arith, low, m.grows.start)) (omega (arith, high, start)) in
     subst (λ (z : Broker). CoversLog (fold c.notes) z.log o) same
     (covers_same (fold c.notes) f.x.log f.y.log o (comparable_same f.x.log f.y.log o (m.grows.brokers b f.x f.y f.x_is f.y_is).log

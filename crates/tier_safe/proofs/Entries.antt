@@ -13,7 +13,7 @@ use Rattle.segment_meta.specs.declared.note.Note.{Note}
 use Rattle.segment_meta.specs.declared.note.Note.TheVariants.{Add, Update}
 use Rattle.segment_meta.specs.Spelling.{state_code}
 use Rattle.segment_meta.specs.Steps.{next_state}
-use Rattle.remote_view.specs.Fold.{entry_of, state_of, changed, updated, custom_after, noted, folded_from, fold}
+use Rattle.remote_view.specs.Fold.{entry_of, state_of, changed, updated, custom_after, recorded, folded_from, fold}
 use Rattle.remote_view.proofs.Ids.{same_id, bytes_self, other_bytes}
 
 -- an entry later: of the same segment, in no earlier state; once its copy isn't under way, its custom metadata stays
@@ -100,7 +100,7 @@ change_own id f (y ∷ es) x k h = by (bytes_eq y.id.0 id.0) refl h (change_own 
     by false is h more = rw is (more h)
 
 -- a note of another id
-pub other_entry : (es : List Entry) (note : Note) (id : SegmentId) → id_in note ≢ id → entry_of id (noted es note) ≡ entry_of id es
+pub other_entry : (es : List Entry) (note : Note) (id : SegmentId) → id_in note ≢ id → entry_of id (recorded es note) ≡ entry_of id es
 other_entry es (Add e) id ne = by (is_some (next_state (state_of e.id es) e.state))
   where
     by : (t : Bool) → entry_of id (cond t (es ++ e ∷ []) es) ≡ entry_of id es
@@ -113,7 +113,7 @@ other_entry es (Update own broker event_ts state custom) id ne = by (is_some (ne
     by false = refl
 
 -- a note that adds an entry of an unknown id
-pub add_entry : (es : List Entry) (e : Entry) → e.state ≡ CopyStarted → entry_of e.id es ≡ None → entry_of e.id (noted es (Add e)) ≡ Some e
+pub add_entry : (es : List Entry) (e : Entry) → e.state ≡ CopyStarted → entry_of e.id es ≡ None → entry_of e.id (recorded es (Add e)) ≡ Some e
 add_entry es e started none = by (is_some (next_state (state_of e.id es) e.state)) (rw (none, started) refl)
   where
     by : (t : Bool) → t ≡ true → entry_of e.id (cond t (es ++ e ∷ []) es) ≡ Some e
@@ -122,7 +122,7 @@ add_entry es e started none = by (is_some (next_state (state_of e.id es) e.state
 
 -- an update of a known id
 pub told_entry : (es : List Entry) (id : SegmentId) (broker : BrokerId) (event_ts : ℤ) (state : State) (custom : Option Blob) (x : Entry) → entry_of id es ≡ Some x
-    → entry_of id (noted es (Update id broker event_ts state custom)) ≡ Some (told broker event_ts state custom x)
+    → entry_of id (recorded es (Update id broker event_ts state custom)) ≡ Some (told broker event_ts state custom x)
 told_entry es id broker event_ts state custom x h = rw h (by (is_some (next_state (Some x.state) state)))
   where
     by : (t : Bool) → entry_of id (cond t (changed id (updated broker event_ts state custom) es) es) ≡ Some (cond t (updated broker event_ts state custom x) x)
@@ -185,7 +185,7 @@ both h k = absurd (cc (h, k))
 
 -- an entry goes on after any note
 pub entry_goes : (es : List Entry) (note : Note) (id : SegmentId) (x : Entry) → entry_of id es ≡ Some x
-    → (y : Entry) × (entry_of id (noted es note) ≡ Some y) × Follows x y
+    → (y : Entry) × (entry_of id (recorded es note) ≡ Some y) × Follows x y
 entry_goes es (Add e) id x h = (x, by (is_some (next_state (state_of e.id es) e.state)), follows_self x)
   where
     by : (t : Bool) → entry_of id (cond t (es ++ e ∷ []) es) ≡ Some x
@@ -193,22 +193,22 @@ entry_goes es (Add e) id x h = (x, by (is_some (next_state (state_of e.id es) e.
     by false = h
 entry_goes es (Update own broker event_ts state custom) id x h = by (bytes_eq own.0 id.0) refl
   where
-    by : (t : Bool) → bytes_eq own.0 id.0 ≡ t → (y : Entry) × (entry_of id (noted es (Update own broker event_ts state custom)) ≡ Some y) × Follows x y
+    by : (t : Bool) → bytes_eq own.0 id.0 ≡ t → (y : Entry) × (entry_of id (recorded es (Update own broker event_ts state custom)) ≡ Some y) × Follows x y
     by true is =
         let one : own ≡ id = same_id own id is in (
           told broker event_ts state custom x,
-          subst (λ (i : SegmentId). entry_of id (noted es (Update i broker event_ts state custom)) ≡ Some (told broker event_ts state custom x)) (sym one)
+          subst (λ (i : SegmentId). entry_of id (recorded es (Update i broker event_ts state custom)) ≡ Some (told broker event_ts state custom x)) (sym one)
               (told_entry es id broker event_ts state custom x h),
           told_follows broker event_ts state custom x,
         )
     by false is = (x, other_entry es (Update own broker event_ts state custom) id (λ same. both (ap (λ (i : SegmentId). bytes_eq i.0 id.0) same ∙ bytes_self id.0) is) ∙ h, follows_self x)
 
 -- the fold of one note more
-folded_push : (entries : List Entry) (notes : List Note) (note : Note) → folded_from entries (notes ++ note ∷ []) ≡ noted (folded_from entries notes) note
+folded_push : (entries : List Entry) (notes : List Note) (note : Note) → folded_from entries (notes ++ note ∷ []) ≡ recorded (folded_from entries notes) note
 folded_push entries [] note = refl
-folded_push entries (first ∷ notes) note = folded_push (noted entries first) notes note
+folded_push entries (first ∷ notes) note = folded_push (recorded entries first) notes note
 
-pub fold_push : (notes : List Note) (note : Note) → fold (notes ++ note ∷ []) ≡ noted (fold notes) note
+pub fold_push : (notes : List Note) (note : Note) → fold (notes ++ note ∷ []) ≡ recorded (fold notes) note
 fold_push notes note = folded_push [] notes note
 
 folded_goes : (es : List Entry) (notes : List Note) (id : SegmentId) (x : Entry) → entry_of id es ≡ Some x
@@ -216,12 +216,12 @@ folded_goes : (es : List Entry) (notes : List Note) (id : SegmentId) (x : Entry)
 folded_goes es [] id x h = (x, h, follows_self x)
 folded_goes es (note ∷ notes) id x h =
     let one = entry_goes es note id x h in
-    let more = folded_goes (noted es note) notes id one.0 one.1 in
+    let more = folded_goes (recorded es note) notes id one.0 one.1 in
     (more.0, more.1, follows_trans x one.0 more.0 one.2 more.2)
 
 folded_append : (es : List Entry) (notes more : List Note) → folded_from es (notes ++ more) ≡ folded_from (folded_from es notes) more
 folded_append es [] more = refl
-folded_append es (note ∷ notes) more = folded_append (noted es note) notes more
+folded_append es (note ∷ notes) more = folded_append (recorded es note) notes more
 
 -- and after all further notes
 pub prefix_goes : (before notes : List Note) (id : SegmentId) (x : Entry) → IsPrefix before notes → entry_of id (fold before) ≡ Some x

@@ -18,10 +18,10 @@ use Rattle.plain_log.specs.declared.state.Broker.{Broker}
 use Rattle.plain_log.specs.declared.state.Role.TheVariants.{Leads}
 use Rattle.plain_log.specs.State.{path_of}
 use Rattle.copy_task.specs.Copying.{Copied, keys as copy_keys}
-use Rattle.copy_task.specs.declared.turn.Next.TheVariants as copying
+use Rattle.copy_task.specs.declared.turn.CopyStep.TheVariants as copying
 use Rattle.remote_find.specs.declared.piece.Piece.{Piece}
 use Rattle.remote_view.specs.Fold.{Seen, entry_of, fold, view_of}
-use Rattle.tier_safe.specs.Scene.{Scene, Site, Sought, Work, Copies, Seeks}
+use Rattle.tier_safe.specs.Scene.{Scene, BrokerTierView, Sought, TierTask, Copies, Seeks}
 use Rattle.tier_safe.specs.Changes.{Move, Leaves, Overtakes, Dooms, Wants, Refreshes, Lines, Asks, Finds, Skips, Reads, moved, Telling, CopyStarts, CopyEnds, ExpiryStarts, ExpiryEnds, note_for, after_telling, Storing, Puts, Undoes, Deletes, after_storing, undone, Change, Steps, Moves, Chooses, Tells, Stores, Sees, Caches, Drops, effect}
 use Rattle.tier_safe.specs.Lineage.{IsPart, Describes}
 use Rattle.plain_log.specs.Grows.{BrokerGrows}
@@ -38,56 +38,56 @@ use Rattle.tier_safe.proofs.Lineage.{index_grows}
 use Rattle.tier_safe.proofs.IdsLaw.{followed}
 use Rattle.tier_safe.proofs.Covering.{finished_stays}
 
--- a seat by its work
+-- an actor's state by its work
 
-abbrev pub FetchWork : List Path → List Note → ℕ → List Site → List Broker → Work → Type 0
-FetchWork paths notes start sites brokers (Seeks sought) =
-    (site : Site) (x : Broker) → slice_get sites sought.broker ≡ Some site → slice_get brokers sought.broker ≡ Some x → FetchStands paths notes start site x sought
-FetchWork paths notes start sites brokers other = Unit {0}
+abbrev pub FetchTask : List Path → List Note → ℕ → List BrokerTierView → List Broker → TierTask → Type 0
+FetchTask paths notes start tier_views brokers (Seeks sought) =
+    (tier_view : BrokerTierView) (x : Broker) → slice_get tier_views sought.broker ≡ Some tier_view → slice_get brokers sought.broker ≡ Some x → FetchStands paths notes start tier_view x sought
+FetchTask paths notes start tier_views brokers other = Unit {0}
 
-fetches_set : (paths : List Path) (notes : List Note) (start : ℕ) (sites : List Site) (brokers : List Broker) (desk : List Work) (a : ℕ) (w : Work)
-    → FetchWork paths notes start sites brokers w → FetchesStand paths notes start sites brokers desk → FetchesStand paths notes start sites brokers (slice_set desk a w)
-fetches_set paths notes start sites brokers desk a w own h = λ k sought site x at is bx. elim (get-set desk a w k (Seeks sought) at) [
-  | inl here ↦ subst (λ (v : Work). FetchWork paths notes start sites brokers v) (sym here.1) own site x is bx
-  | inr there ↦ h k sought site x there.1 is bx
+fetches_set : (paths : List Path) (notes : List Note) (start : ℕ) (tier_views : List BrokerTierView) (brokers : List Broker) (desk : List TierTask) (a : ℕ) (w : TierTask)
+    → FetchTask paths notes start tier_views brokers w → FetchesStand paths notes start tier_views brokers desk → FetchesStand paths notes start tier_views brokers (slice_set desk a w)
+fetches_set paths notes start tier_views brokers desk a w own h = λ k sought tier_view x at is bx. elim (get-set desk a w k (Seeks sought) at) [
+  | inl here ↦ subst (λ (v : TierTask). FetchTask paths notes start tier_views brokers v) (sym here.1) own tier_view x is bx
+  | inr there ↦ h k sought tier_view x there.1 is bx
 ]
 
 -- moves
 
-asked : (a : ℕ) (sought : Sought) (c : Scene) (p : Plain) → MayAsk a sought c p → (site : Site) (x : Broker) → slice_get c.sites sought.broker ≡ Some site
-    → slice_get p.brokers sought.broker ≡ Some x → FetchStands p.paths c.notes p.registry.start site x sought
-asked a sought c p m site x is bx =
+asked : (a : ℕ) (sought : Sought) (c : Scene) (p : Plain) → MayAsk a sought c p → (tier_view : BrokerTierView) (x : Broker) → slice_get c.tier_views sought.broker ≡ Some tier_view
+    → slice_get p.brokers sought.broker ≡ Some x → FetchStands p.paths c.notes p.registry.start tier_view x sought
+asked a sought c p m tier_view x is bx =
     let same = one_some (slice_get p.brokers sought.broker) m.x x m.broker_is bx in
-    let one = one_some (slice_get c.sites sought.broker) m.site site m.site_is is in
+    let one = one_some (slice_get c.tier_views sought.broker) m.tier_view tier_view m.tier_view_is is in
     let stops : x.stops ≡ sought.stops = sym (ap (λ (y : Broker). y.stops) same) ∙ m.leads.stops in
     record {
       stops = omega (arith, stops);
       taken = (m.x.log, m.path);
-      below = λ none leads. subst (λ (s : Site). sought.offset < s.start) one m.below;
+      below = λ none leads. subst (λ (s : BrokerTierView). sought.offset < s.start) one m.below;
       seen = λ piece has. absurd (cc (has, m.unread.0));
       piece = λ piece has. absurd (cc (has, m.unread.0));
       from = λ piece from has. absurd (cc (has, m.unread.0));
     }
 
-found : (a : ℕ) (sought : Sought) (piece : Piece) (c : Scene) (p : Plain) → MayFind a sought piece c p → TierSafe c p → (site : Site) (x : Broker) → slice_get c.sites sought.broker ≡ Some site
-    → slice_get p.brokers sought.broker ≡ Some x → FetchStands p.paths c.notes p.registry.start site x (record sought { piece = Some piece })
-found a sought piece c p m h site x is bx =
-    let f = h.fetches a sought site x m.seat is bx in
+found : (a : ℕ) (sought : Sought) (piece : Piece) (c : Scene) (p : Plain) → MayFind a sought piece c p → TierSafe c p → (tier_view : BrokerTierView) (x : Broker) → slice_get c.tier_views sought.broker ≡ Some tier_view
+    → slice_get p.brokers sought.broker ≡ Some x → FetchStands p.paths c.notes p.registry.start tier_view x (record sought { piece = Some piece })
+found a sought piece c p m h tier_view x is bx =
+    let f = h.fetches a sought tier_view x m.actor_state is bx in
     record {
       stops = f.stops;
       taken = f.taken;
       below = λ none leads. absurd (cc (none));
       seen = λ other has. (let same : other ≡ piece = cc (has) in
-          subst (λ (q : Piece). SeesCopy site.view.entries q.id) (sym same) (m.seen site is));
+          subst (λ (q : Piece). SeesCopy tier_view.view.entries q.id) (sym same) (m.seen tier_view is));
       piece = λ other has leads low. (let same : other ≡ piece = cc (has) in
           subst (λ (q : Piece). PieceStands c.notes x.log sought.offset q) (sym same) (m.gives x bx (record { stops = leads.stops; role = leads.role }) low));
       from = λ other from has read. absurd (cc (read, m.unread));
     }
 
-skipped : (a : ℕ) (sought : Sought) (offset : ℕ) (c : Scene) (p : Plain) → MaySkip a sought offset c p → TierSafe c p → (site : Site) (x : Broker) → slice_get c.sites sought.broker ≡ Some site
-    → slice_get p.brokers sought.broker ≡ Some x → FetchStands p.paths c.notes p.registry.start site x (record sought { offset = offset })
-skipped a sought offset c p m h site x is bx =
-    let f = h.fetches a sought site x m.seat is bx in
+skipped : (a : ℕ) (sought : Sought) (offset : ℕ) (c : Scene) (p : Plain) → MaySkip a sought offset c p → TierSafe c p → (tier_view : BrokerTierView) (x : Broker) → slice_get c.tier_views sought.broker ≡ Some tier_view
+    → slice_get p.brokers sought.broker ≡ Some x → FetchStands p.paths c.notes p.registry.start tier_view x (record sought { offset = offset })
+skipped a sought offset c p m h tier_view x is bx =
+    let f = h.fetches a sought tier_view x m.actor_state is bx in
     record {
       stops = f.stops;
       taken = f.taken;
@@ -98,10 +98,10 @@ skipped a sought offset c p m h site x is bx =
       from = λ other from has read. absurd (cc (read, m.unread));
     }
 
-placed : (a : ℕ) (sought : Sought) (from : ℕ) (c : Scene) (p : Plain) → MayRead a sought from c p → TierSafe c p → (site : Site) (x : Broker) → slice_get c.sites sought.broker ≡ Some site
-    → slice_get p.brokers sought.broker ≡ Some x → FetchStands p.paths c.notes p.registry.start site x (record sought { from = Some from })
-placed a sought from c p m h site x is bx =
-    let f = h.fetches a sought site x m.seat is bx in
+placed : (a : ℕ) (sought : Sought) (from : ℕ) (c : Scene) (p : Plain) → MayRead a sought from c p → TierSafe c p → (tier_view : BrokerTierView) (x : Broker) → slice_get c.tier_views sought.broker ≡ Some tier_view
+    → slice_get p.brokers sought.broker ≡ Some x → FetchStands p.paths c.notes p.registry.start tier_view x (record sought { from = Some from })
+placed a sought from c p m h tier_view x is bx =
+    let f = h.fetches a sought tier_view x m.actor_state is bx in
     record {
       stops = f.stops;
       taken = f.taken;
@@ -114,10 +114,10 @@ placed a sought from c p m h site x is bx =
           (subst (λ (n : ℕ). PositionStands p.paths (fold c.notes) m.piece.id sought.offset n) (sym same) m.is));
     }
 
-moved_fetch : (a : ℕ) (move : Move) (c : Scene) (p : Plain) → MayMove a move c p → TierSafe c p → FetchWork p.paths c.notes p.registry.start c.sites p.brokers (moved move)
+moved_fetch : (a : ℕ) (move : Move) (c : Scene) (p : Plain) → MayMove a move c p → TierSafe c p → FetchTask p.paths c.notes p.registry.start c.tier_views p.brokers (moved move)
 moved_fetch a Leaves c p m h = tt
 moved_fetch a (Overtakes copy) c p m h = tt
-moved_fetch a (Dooms b doomed) c p m h = tt
+moved_fetch a (Dooms b expired_segment) c p m h = tt
 moved_fetch a (Wants rebuild) c p m h = tt
 moved_fetch a (Refreshes rebuild) c p m h = tt
 moved_fetch a (Lines rebuild line) c p m h = tt
@@ -149,9 +149,9 @@ index_follows paths x y index f i = record {
 }
 
 -- a fetch after further notes
-fetch_told : (paths : List Path) (notes more : List Note) (start : ℕ) (site : Site) (x : Broker) (sought : Sought) → DeletedEnd notes start → IsPrefix notes more
-    → FetchStands paths notes start site x sought → FetchStands paths more start site x sought
-fetch_told paths notes more start site x sought ended pre f = record {
+fetch_told : (paths : List Path) (notes more : List Note) (start : ℕ) (tier_view : BrokerTierView) (x : Broker) (sought : Sought) → DeletedEnd notes start → IsPrefix notes more
+    → FetchStands paths notes start tier_view x sought → FetchStands paths more start tier_view x sought
+fetch_told paths notes more start tier_view x sought ended pre f = record {
   stops = f.stops;
   taken = f.taken;
   below = f.below;
@@ -180,70 +180,70 @@ fetch_told paths notes more start site x sought ended pre f = record {
       (i.0, subst (λ (e : Entry). IsIndexOf paths e i.0) same (index_follows paths y.0 z.0 i.0 z.2 i.1), i.2)));
 }
 
-told_fetch : (paths : List Path) (notes : List Note) (start : ℕ) (sites : List Site) (brokers : List Broker) (telling : Telling) → FetchWork paths notes start sites brokers (after_telling telling)
-told_fetch paths notes start sites brokers (CopyStarts copy) = tt
-told_fetch paths notes start sites brokers (CopyEnds copy) = tt
-told_fetch paths notes start sites brokers (ExpiryStarts doomed) = tt
-told_fetch paths notes start sites brokers (ExpiryEnds doomed) = tt
+told_fetch : (paths : List Path) (notes : List Note) (start : ℕ) (tier_views : List BrokerTierView) (brokers : List Broker) (telling : Telling) → FetchTask paths notes start tier_views brokers (after_telling telling)
+told_fetch paths notes start tier_views brokers (CopyStarts copy) = tt
+told_fetch paths notes start tier_views brokers (CopyEnds copy) = tt
+told_fetch paths notes start tier_views brokers (ExpiryStarts expired_segment) = tt
+told_fetch paths notes start tier_views brokers (ExpiryEnds expired_segment) = tt
 
-undone_fetch : (paths : List Path) (notes : List Note) (start : ℕ) (sites : List Site) (brokers : List Broker) (copy : Copied) (n : ℕ) (next : Option ObjectKey)
-    → FetchWork paths notes start sites brokers (undone copy n next)
-undone_fetch paths notes start sites brokers copy n None = tt
-undone_fetch paths notes start sites brokers copy n (Some key) = tt
+undone_fetch : (paths : List Path) (notes : List Note) (start : ℕ) (tier_views : List BrokerTierView) (brokers : List Broker) (copy : Copied) (n : ℕ) (next : Option ObjectKey)
+    → FetchTask paths notes start tier_views brokers (undone copy n next)
+undone_fetch paths notes start tier_views brokers copy n None = tt
+undone_fetch paths notes start tier_views brokers copy n (Some key) = tt
 
-stored_fetch : (paths : List Path) (notes : List Note) (start : ℕ) (sites : List Site) (brokers : List Broker) (storing : Storing) → FetchWork paths notes start sites brokers (after_storing storing)
-stored_fetch paths notes start sites brokers (Puts copy n key) = tt
-stored_fetch paths notes start sites brokers (Undoes copy n key) = undone_fetch paths notes start sites brokers copy (n + 1) (slice_get (copy_keys copy) (n + 1))
-stored_fetch paths notes start sites brokers (Deletes doomed n key) = tt
+stored_fetch : (paths : List Path) (notes : List Note) (start : ℕ) (tier_views : List BrokerTierView) (brokers : List Broker) (storing : Storing) → FetchTask paths notes start tier_views brokers (after_storing storing)
+stored_fetch paths notes start tier_views brokers (Puts copy n key) = tt
+stored_fetch paths notes start tier_views brokers (Undoes copy n key) = undone_fetch paths notes start tier_views brokers copy (n + 1) (slice_get (copy_keys copy) (n + 1))
+stored_fetch paths notes start tier_views brokers (Deletes expired_segment n key) = tt
 
 -- a copy that the one site's view sees the other's sees too
-abbrev SeesOn : Site → Site → Type 0
+abbrev SeesOn : BrokerTierView → BrokerTierView → Type 0
 SeesOn old new = (id : SegmentId) → SeesCopy old.view.entries id → SeesCopy new.view.entries id
 
 -- a view of more notes
-sees_more : (old new : Site) (before more : List Note) → old.view ≡ view_of before → new.view ≡ view_of more → IsPrefix before more → SeesOn old new
+sees_more : (old new : BrokerTierView) (before more : List Note) → old.view ≡ view_of before → new.view ≡ view_of more → IsPrefix before more → SeesOn old new
 sees_more old new before more was is pre id k =
     let y = prefix_goes before more id k.0 pre (subst (λ (v : Seen). entry_of id v.entries ≡ Some k.0) was k.1) in
     (y.0, subst (λ (v : Seen). entry_of id v.entries ≡ Some y.0) (sym is) y.1, not_begun k.0.state y.0.state y.2.state k.2)
 
 -- a site whose local start doesn't fall, and whose view has the entries that it had
-fetches_site : (paths : List Path) (notes : List Note) (start : ℕ) (sites : List Site) (brokers : List Broker) (desk : List Work) (b : ℕ) (old new : Site) → slice_get sites b ≡ Some old
-    → old.start ≤ new.start → SeesOn old new → FetchesStand paths notes start sites brokers desk → FetchesStand paths notes start (slice_set sites b new) brokers desk
-fetches_site paths notes start sites brokers desk b old new at rises on h = λ a sought site x seat is bx. elim (get-set sites b new sought.broker site is) [
+fetches_tier_view : (paths : List Path) (notes : List Note) (start : ℕ) (tier_views : List BrokerTierView) (brokers : List Broker) (desk : List TierTask) (b : ℕ) (old new : BrokerTierView) → slice_get tier_views b ≡ Some old
+    → old.start ≤ new.start → SeesOn old new → FetchesStand paths notes start tier_views brokers desk → FetchesStand paths notes start (slice_set tier_views b new) brokers desk
+fetches_tier_view paths notes start tier_views brokers desk b old new at rises on h = λ a sought tier_view x actor_state is bx. elim (get-set tier_views b new sought.broker tier_view is) [
   | inl here ↦
-      let f = h a sought old x seat (ap (slice_get sites) here.0 ∙ at) bx in
+      let f = h a sought old x actor_state (ap (slice_get tier_views) here.0 ∙ at) bx in
       record {
         stops = f.stops;
         taken = f.taken;
-        below = λ none leads. (let low = f.below none leads in subst (λ (s : Site). sought.offset < s.start) (sym here.1) (omega (arith, low, rises)));
-        seen = λ piece has. subst (λ (s : Site). SeesCopy s.view.entries piece.id) (sym here.1) (on piece.id (f.seen piece has));
+        below = λ none leads. (let low = f.below none leads in subst (λ (s : BrokerTierView). sought.offset < s.start) (sym here.1) (omega (arith, low, rises)));
+        seen = λ piece has. subst (λ (s : BrokerTierView). SeesCopy s.view.entries piece.id) (sym here.1) (on piece.id (f.seen piece has));
         piece = f.piece;
         from = f.from;
       }
-  | inr there ↦ h a sought site x seat there.1 bx
+  | inr there ↦ h a sought tier_view x actor_state there.1 bx
 ]
 
 pub fetches_kept : (change : Change) (c : Scene) (p : Plain) → MayAlter change c p → TierSafe c p
-    → FetchesStand p.paths (effect change c).notes p.registry.start (effect change c).sites p.brokers (effect change c).desk
-fetches_kept (Steps sites) c p m h = absurd m
-fetches_kept (Moves a move) c p m h = fetches_set p.paths c.notes p.registry.start c.sites p.brokers c.desk a (moved move) (moved_fetch a move c p m h) h.fetches
-fetches_kept (Chooses a b site copy) c p m h =
-    fetches_set p.paths c.notes p.registry.start (slice_set c.sites b (record site { next = site.next + 1 })) p.brokers c.desk a (Copies copy copying.Start) tt
-    (fetches_site p.paths c.notes p.registry.start c.sites p.brokers c.desk b site (record site { next = site.next + 1 }) m.site_is (omega arith) (λ id k. k) h.fetches)
-fetches_kept (Tells a telling teller) c p m h =
-    let notes = c.notes ++ note_for telling teller ∷ [] in
-    let first = prefix_more c.notes c.notes (note_for telling teller ∷ []) (prefix_self c.notes) in
-    fetches_set p.paths notes p.registry.start c.sites p.brokers c.desk a (after_telling telling) (told_fetch p.paths notes p.registry.start c.sites p.brokers telling)
-    (λ k sought site x seat is bx. fetch_told p.paths c.notes notes p.registry.start site x sought h.deletions.ended first (h.fetches k sought site x seat is bx))
+    → FetchesStand p.paths (effect change c).notes p.registry.start (effect change c).tier_views p.brokers (effect change c).desk
+fetches_kept (Steps tier_views) c p m h = absurd m
+fetches_kept (Moves a move) c p m h = fetches_set p.paths c.notes p.registry.start c.tier_views p.brokers c.desk a (moved move) (moved_fetch a move c p m h) h.fetches
+fetches_kept (Chooses a b tier_view copy) c p m h =
+    fetches_set p.paths c.notes p.registry.start (slice_set c.tier_views b (record tier_view { next = tier_view.next + 1 })) p.brokers c.desk a (Copies copy copying.Start) tt
+    (fetches_tier_view p.paths c.notes p.registry.start c.tier_views p.brokers c.desk b tier_view (record tier_view { next = tier_view.next + 1 }) m.tier_view_is (omega arith) (λ id k. k) h.fetches)
+fetches_kept (Tells a telling origin) c p m h =
+    let notes = c.notes ++ note_for telling origin ∷ [] in
+    let first = prefix_more c.notes c.notes (note_for telling origin ∷ []) (prefix_self c.notes) in
+    fetches_set p.paths notes p.registry.start c.tier_views p.brokers c.desk a (after_telling telling) (told_fetch p.paths notes p.registry.start c.tier_views p.brokers telling)
+    (λ k sought tier_view x actor_state is bx. fetch_told p.paths c.notes notes p.registry.start tier_view x sought h.deletions.ended first (h.fetches k sought tier_view x actor_state is bx))
 fetches_kept (Stores a storing objects) c p m h =
-    fetches_set p.paths c.notes p.registry.start c.sites p.brokers c.desk a (after_storing storing) (stored_fetch p.paths c.notes p.registry.start c.sites p.brokers storing) h.fetches
-fetches_kept (Sees b site view) c p m h =
-    fetches_site p.paths c.notes p.registry.start c.sites p.brokers c.desk b site (record site { view = view }) m.site_is (omega arith)
-    (sees_more site (record site { view = view }) m.before m.more m.old m.new m.grows) h.fetches
-fetches_kept (Caches b site cache) c p m h =
-    fetches_site p.paths c.notes p.registry.start c.sites p.brokers c.desk b site (record site { cache = cache }) m.site_is (omega arith) (λ id k. k) h.fetches
-fetches_kept (Drops b site start dropping) c p m h =
-    fetches_site p.paths c.notes p.registry.start c.sites p.brokers c.desk b site (record site { start = start }) m.site_is m.rises (λ id k. k) h.fetches
+    fetches_set p.paths c.notes p.registry.start c.tier_views p.brokers c.desk a (after_storing storing) (stored_fetch p.paths c.notes p.registry.start c.tier_views p.brokers storing) h.fetches
+fetches_kept (Sees b tier_view view) c p m h =
+    fetches_tier_view p.paths c.notes p.registry.start c.tier_views p.brokers c.desk b tier_view (record tier_view { view = view }) m.tier_view_is (omega arith)
+    (sees_more tier_view (record tier_view { view = view }) m.before m.more m.old m.new m.grows) h.fetches
+fetches_kept (Caches b tier_view cache) c p m h =
+    fetches_tier_view p.paths c.notes p.registry.start c.tier_views p.brokers c.desk b tier_view (record tier_view { cache = cache }) m.tier_view_is (omega arith) (λ id k. k) h.fetches
+fetches_kept (Drops b tier_view start dropping) c p m h =
+    fetches_tier_view p.paths c.notes p.registry.start c.tier_views p.brokers c.desk b tier_view (record tier_view { start = start }) m.tier_view_is m.rises (λ id k. k) h.fetches
 
 -- a step
 
@@ -272,13 +272,13 @@ led_before paths sought x y g low taken leads =
       | inr none ↦ absurd (cc (none, taken.1))
     ]
 
-pub fetches_stepped : (sites : List Site) (c : Scene) (p q : Plain) → StepGoes sites c p q → TierSafe c p → FetchesStand q.paths c.notes q.registry.start sites q.brokers c.desk
-fetches_stepped sites c p q m h = λ a sought site y seat is by.
-    (let s = followed sites c p q sought.broker site m h is in
+pub fetches_stepped : (tier_views : List BrokerTierView) (c : Scene) (p q : Plain) → StepGoes tier_views c p q → TierSafe c p → FetchesStand q.paths c.notes q.registry.start tier_views q.brokers c.desk
+fetches_stepped tier_views c p q m h = λ a sought tier_view y actor_state is by.
+    (let s = followed tier_views c p q sought.broker tier_view m h is in
     let same = one_some (slice_get q.brokers sought.broker) s.y y s.y_is by in
-    let f = h.fetches a sought s.old s.x seat s.old_is s.x_is in
+    let f = h.fetches a sought s.old s.x actor_state s.old_is s.x_is in
     let g = m.grows.brokers sought.broker s.x s.y s.x_is s.y_is in
-    subst (λ (z : Broker). FetchStands q.paths c.notes q.registry.start site z sought) same (record {
+    subst (λ (z : Broker). FetchStands q.paths c.notes q.registry.start tier_view z sought) same (record {
       stops = (let one = f.stops in let two = g.stops in omega (arith, one, two));
       taken = (let k = m.grows.paths sought.epoch f.taken.0 f.taken.1 in (k.0, k.1));
       below = λ none leads. (let b = led_before p.paths sought s.x s.y g f.stops f.taken leads in

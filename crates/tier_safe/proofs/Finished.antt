@@ -16,18 +16,18 @@ use Rattle.tier_base.specs.Layout.{layout_bytes}
 use Rattle.segment_bundle.specs.Parts.{Parts, part_in, layout_of}
 use Rattle.object_store.specs.Content.{Objects}
 use Rattle.object_store.specs.Place.{keys_of}
-use Rattle.meta_log.specs.declared.teller.Teller.{Teller}
+use Rattle.meta_log.specs.declared.event_origin.EventOrigin.{EventOrigin}
 use Rattle.plain_log.specs.declared.state.Path.{Path}
 use Rattle.plain_log.specs.declared.state.State.{State as Plain}
 use Rattle.copy_task.specs.Copying.{Copied, entry_of as copied_entry, custom_of, start_note, finish_note}
-use Rattle.expiry_task.specs.declared.turn.Doomed.{Doomed}
-use Rattle.expiry_task.specs.declared.turn.Next.{Next as ExpiryNext}
+use Rattle.expiry_task.specs.declared.turn.ExpiredSegment.{ExpiredSegment}
+use Rattle.expiry_task.specs.declared.turn.DeletionStep.{DeletionStep as ExpiryNext}
 use Rattle.expiry_task.specs.Turns.{note_of}
-use Rattle.remote_view.specs.Fold.{entry_of, noted, updated, fold}
+use Rattle.remote_view.specs.Fold.{entry_of, recorded, updated, fold}
 use Rattle.remote_view.proofs.Changes.{found_id}
-use Rattle.tier_safe.specs.Scene.{Scene, Site, Expires}
+use Rattle.tier_safe.specs.Scene.{Scene, BrokerTierView, Expires}
 use Rattle.tier_safe.specs.Changes.{Telling, CopyStarts, CopyEnds, ExpiryStarts, ExpiryEnds, note_for, Storing, Puts, Undoes, Deletes, key_for, Change, Steps, Moves, Chooses, Tells, Stores, Sees, Caches, Drops, effect}
-use Rattle.tier_safe.specs.Lineage.{IsPart, TellsParts, IsHeld, IsSource}
+use Rattle.tier_safe.specs.Lineage.{IsPart, TellsParts, IsStoredWhole, IsSource}
 use Rattle.tier_safe.specs.Copies.{FinishedStand, IsEntryFor, HasPutAll}
 use Rattle.tier_safe.specs.Safe.{TierSafe}
 use Rattle.tier_safe.specs.May.{MayAlter, MayStore, MayTell}
@@ -42,7 +42,7 @@ custom_packed copy packed = rw packed refl
 
 -- a copy whose objects all stand, with its entry
 pub copied_held : (objects : Objects) (paths : List Path) (copy : Copied) (entry : Entry) → IsSource paths copy → IsEntryFor copy entry → entry.id ≡ copy.id
-    → entry.custom ≡ custom_of copy → HasPutAll objects copy → IsHeld objects paths entry
+    → entry.custom ≡ custom_of copy → HasPutAll objects copy → IsStoredWhole objects paths entry
 copied_held objects paths copy entry s e id told put = record {
   batches = s.copied.batches;
   line = copy.line;
@@ -88,34 +88,34 @@ told_custom : (broker : BrokerId) (event_ts : ℤ) (custom : Option Blob) (x : E
 told_custom broker event_ts custom x started = rw started refl
 
 -- after a note of an expiry an entry of its id that is finished was so
-expired_held : (doomed : Doomed) (teller : Teller) (state : State) (a : ℕ) (next : ExpiryNext) (c : Scene) (p : Plain) (entry : Entry) → state ≢ CopyFinished
-    → slice_get c.desk a ≡ Some (Expires doomed next) → TierSafe c p
-    → entry_of doomed.id (noted (fold c.notes) (note_of doomed teller state)) ≡ Some entry → entry.state ≡ CopyFinished → IsHeld c.objects p.paths entry
-expired_held doomed teller state a next c p entry ne seat h is done =
-    let s = h.deletions.each a doomed next seat in
-    let new = told_entry (fold c.notes) doomed.id teller.broker teller.now state (bare_custom doomed.packed) s.entry s.there in
-    let one = one_some (entry_of doomed.id (noted (fold c.notes) (note_of doomed teller state))) entry (told teller.broker teller.now state (bare_custom doomed.packed) s.entry) is new in
-    let same = told_finished teller.broker teller.now state (bare_custom doomed.packed) s.entry ne (subst (λ (y : Entry). y.state ≡ CopyFinished) one done) in
+expired_held : (expired_segment : ExpiredSegment) (origin : EventOrigin) (state : State) (a : ℕ) (next : ExpiryNext) (c : Scene) (p : Plain) (entry : Entry) → state ≢ CopyFinished
+    → slice_get c.desk a ≡ Some (Expires expired_segment next) → TierSafe c p
+    → entry_of expired_segment.id (recorded (fold c.notes) (note_of expired_segment origin state)) ≡ Some entry → entry.state ≡ CopyFinished → IsStoredWhole c.objects p.paths entry
+expired_held expired_segment origin state a next c p entry ne actor_state h is done =
+    let s = h.deletions.each a expired_segment next actor_state in
+    let new = told_entry (fold c.notes) expired_segment.id origin.broker origin.now state (bare_custom expired_segment.packed) s.entry s.there in
+    let one = one_some (entry_of expired_segment.id (recorded (fold c.notes) (note_of expired_segment origin state))) entry (told origin.broker origin.now state (bare_custom expired_segment.packed) s.entry) is new in
+    let same = told_finished origin.broker origin.now state (bare_custom expired_segment.packed) s.entry ne (subst (λ (y : Entry). y.state ≡ CopyFinished) one done) in
     let was : entry ≡ s.entry = one ∙ same in
-    h.finished doomed.id entry (subst (λ (y : Entry). entry_of doomed.id (fold c.notes) ≡ Some y) (sym was) s.there) done
+    h.finished expired_segment.id entry (subst (λ (y : Entry). entry_of expired_segment.id (fold c.notes) ≡ Some y) (sym was) s.there) done
 
 -- after a note, an entry of its id is finished
-told_held : (telling : Telling) (a : ℕ) (teller : Teller) (c : Scene) (p : Plain) (entry : Entry) → MayTell a telling c → TierSafe c p
-    → entry_of (id_in (note_for telling teller)) (noted (fold c.notes) (note_for telling teller)) ≡ Some entry → entry.state ≡ CopyFinished
-    → IsHeld c.objects p.paths entry
-told_held (CopyStarts copy) a teller c p entry m h is done =
-    let e = add_entry (fold c.notes) (copied_entry copy teller) refl (h.copies.each a copy _ m.seat).at in
-    let one = one_some (entry_of copy.id (noted (fold c.notes) (start_note copy teller))) entry (copied_entry copy teller) is e in
+told_held : (telling : Telling) (a : ℕ) (origin : EventOrigin) (c : Scene) (p : Plain) (entry : Entry) → MayTell a telling c → TierSafe c p
+    → entry_of (id_in (note_for telling origin)) (recorded (fold c.notes) (note_for telling origin)) ≡ Some entry → entry.state ≡ CopyFinished
+    → IsStoredWhole c.objects p.paths entry
+told_held (CopyStarts copy) a origin c p entry m h is done =
+    let e = add_entry (fold c.notes) (copied_entry copy origin) refl (h.copies.each a copy _ m.actor_state).at in
+    let one = one_some (entry_of copy.id (recorded (fold c.notes) (start_note copy origin))) entry (copied_entry copy origin) is e in
     absurd (cc (ap (λ (x : Entry). x.state) one, done))
-told_held (CopyEnds copy) a teller c p entry m h is done =
-    let s = h.copies.each a copy _ m.seat in
+told_held (CopyEnds copy) a origin c p entry m h is done =
+    let s = h.copies.each a copy _ m.actor_state in
     let x = s.at.entry in
-    let new = told_entry (fold c.notes) copy.id teller.broker teller.now CopyFinished (custom_of copy) x s.at.there in
-    let one = one_some (entry_of copy.id (noted (fold c.notes) (finish_note copy teller))) entry (told teller.broker teller.now CopyFinished (custom_of copy) x) is new in
-    let f = told_follows teller.broker teller.now CopyFinished (custom_of copy) x in
-    let started = told_copied teller.broker teller.now (custom_of copy) x s.at.state.0 (subst (λ (y : Entry). y.state ≡ CopyFinished) one done) in
-    subst (λ (y : Entry). IsHeld c.objects p.paths y) (sym one)
-    (copied_held c.objects p.paths copy (told teller.broker teller.now CopyFinished (custom_of copy) x) s.source (record {
+    let new = told_entry (fold c.notes) copy.id origin.broker origin.now CopyFinished (custom_of copy) x s.at.there in
+    let one = one_some (entry_of copy.id (recorded (fold c.notes) (finish_note copy origin))) entry (told origin.broker origin.now CopyFinished (custom_of copy) x) is new in
+    let f = told_follows origin.broker origin.now CopyFinished (custom_of copy) x in
+    let started = told_copied origin.broker origin.now (custom_of copy) x s.at.state.0 (subst (λ (y : Entry). y.state ≡ CopyFinished) one done) in
+    subst (λ (y : Entry). IsStoredWhole c.objects p.paths y) (sym one)
+    (copied_held c.objects p.paths copy (told origin.broker origin.now CopyFinished (custom_of copy) x) s.source (record {
       partition = f.partition ∙ s.at.is.partition;
       start = f.start ∙ s.at.is.start;
       end = f.end ∙ s.at.is.end;
@@ -123,11 +123,11 @@ told_held (CopyEnds copy) a teller c p entry m h is done =
       size = f.size ∙ s.at.is.size;
       max_ts = f.max_ts ∙ s.at.is.max_ts;
       packed = f.packed ∙ s.at.is.packed;
-    }) (f.id ∙ found_id copy.id (fold c.notes) x s.at.there) (told_custom teller.broker teller.now (custom_of copy) x started) (s.at.state.1 started))
-told_held (ExpiryStarts doomed) a teller c p entry m h is done =
-    expired_held doomed teller DeleteStarted a _ c p entry (λ e. absurd (cc (e))) m.seat h is done
-told_held (ExpiryEnds doomed) a teller c p entry m h is done =
-    expired_held doomed teller DeleteFinished a _ c p entry (λ e. absurd (cc (e))) m.seat h is done
+    }) (f.id ∙ found_id copy.id (fold c.notes) x s.at.there) (told_custom origin.broker origin.now (custom_of copy) x started) (s.at.state.1 started))
+told_held (ExpiryStarts expired_segment) a origin c p entry m h is done =
+    expired_held expired_segment origin DeleteStarted a _ c p entry (λ e. absurd (cc (e))) m.actor_state h is done
+told_held (ExpiryEnds expired_segment) a origin c p entry m h is done =
+    expired_held expired_segment origin DeleteFinished a _ c p entry (λ e. absurd (cc (e))) m.actor_state h is done
 
 -- the entry of a segment, by one of its keys
 under : (partition : PartitionId) (id : SegmentId) (packed : Bool) (n : ℕ) (key : ObjectKey) (es : List Entry) (x : Entry) → slice_get (keys_of partition id packed) n ≡ Some key
@@ -138,25 +138,25 @@ under partition id packed n key es x at there = ap (λ (k : ObjectKey). entry_of
 pub stored_unfinished : (storing : Storing) (a : ℕ) (objects : Objects) (c : Scene) (p : Plain) → MayStore a storing objects c → TierSafe c p
     → (x : Entry) × (entry_of (key_for storing).id (fold c.notes) ≡ Some x) × (x.state ≢ CopyFinished)
 stored_unfinished (Puts copy n key) a objects c p m h =
-    let e = (h.copies.each a copy _ m.seat).at in
+    let e = (h.copies.each a copy _ m.actor_state).at in
     (e.entry, under copy.partition copy.id copy.packed n key (fold c.notes) e.entry m.key e.there, e.state.0)
 stored_unfinished (Undoes copy n key) a objects c p m h =
-    let e = (h.copies.each a copy _ m.seat).at in
+    let e = (h.copies.each a copy _ m.actor_state).at in
     (e.entry, under copy.partition copy.id copy.packed n key (fold c.notes) e.entry m.key e.there, not_finished e.entry.state e.state)
-stored_unfinished (Deletes doomed n key) a objects c p m h =
-    let e = h.deletions.each a doomed _ m.seat in
-    (e.entry, under doomed.partition doomed.id doomed.packed n key (fold c.notes) e.entry m.key e.there, not_finished e.entry.state e.begun)
+stored_unfinished (Deletes expired_segment n key) a objects c p m h =
+    let e = h.deletions.each a expired_segment _ m.actor_state in
+    (e.entry, under expired_segment.partition expired_segment.id expired_segment.packed n key (fold c.notes) e.entry m.key e.there, not_finished e.entry.state e.snapshot)
 
 pub finished_kept : (change : Change) (c : Scene) (p : Plain) → MayAlter change c p → TierSafe c p
     → FinishedStand (effect change c).objects p.paths (fold (effect change c).notes)
-finished_kept (Steps sites) c p m h = absurd m
+finished_kept (Steps tier_views) c p m h = absurd m
 finished_kept (Moves a move) c p m h = h.finished
-finished_kept (Chooses a b site copy) c p m h = h.finished
-finished_kept (Tells a telling teller) c p m h = λ id entry is done.
-    let new = sym (ap (entry_of id) (fold_push c.notes (note_for telling teller))) ∙ is in
-    elim (id_cases (id_in (note_for telling teller)) id) [
-      | inl own ↦ told_held telling a teller c p entry m h (ap (λ (i : SegmentId). entry_of i (noted (fold c.notes) (note_for telling teller))) own ∙ new) done
-      | inr other ↦ h.finished id entry (sym (other_entry (fold c.notes) (note_for telling teller) id other) ∙ new) done
+finished_kept (Chooses a b tier_view copy) c p m h = h.finished
+finished_kept (Tells a telling origin) c p m h = λ id entry is done.
+    let new = sym (ap (entry_of id) (fold_push c.notes (note_for telling origin))) ∙ is in
+    elim (id_cases (id_in (note_for telling origin)) id) [
+      | inl own ↦ told_held telling a origin c p entry m h (ap (λ (i : SegmentId). entry_of i (recorded (fold c.notes) (note_for telling origin))) own ∙ new) done
+      | inr other ↦ h.finished id entry (sym (other_entry (fold c.notes) (note_for telling origin) id other) ∙ new) done
     ]
 finished_kept (Stores a storing objects) c p m h = λ id entry is done.
     let x = stored_unfinished storing a objects c p m h in
@@ -166,10 +166,10 @@ finished_kept (Stores a storing objects) c p m h = λ id entry is done.
     held_same c.objects objects p.paths entry
     (λ n key at. m.made.others key (λ e. apart (sym (ap (λ (k : ObjectKey). k.id) e) ∙ ap (λ (k : ObjectKey). k.id) (key_is entry.partition entry.id entry.packed n key at))))
     (h.finished id entry is done)
-finished_kept (Sees b site view) c p m h = h.finished
-finished_kept (Caches b site cache) c p m h = h.finished
-finished_kept (Drops b site start dropping) c p m h = h.finished
+finished_kept (Sees b tier_view view) c p m h = h.finished
+finished_kept (Caches b tier_view cache) c p m h = h.finished
+finished_kept (Drops b tier_view start dropping) c p m h = h.finished
 
 -- so does a step
-pub finished_stepped : (sites : List Site) (c : Scene) (p q : Plain) → StepGoes sites c p q → TierSafe c p → FinishedStand c.objects q.paths (fold c.notes)
-finished_stepped sites c p q m h = λ id entry is done. held_grows c.objects p.paths q.paths entry m.grows.paths (h.finished id entry is done)
+pub finished_stepped : (tier_views : List BrokerTierView) (c : Scene) (p q : Plain) → StepGoes tier_views c p q → TierSafe c p → FinishedStand c.objects q.paths (fold c.notes)
+finished_stepped tier_views c p q m h = λ id entry is done. held_grows c.objects p.paths q.paths entry m.grows.paths (h.finished id entry is done)

@@ -3,7 +3,7 @@ use Rattle.tier_safe.proofs.Rules.{notes_kept}
 use Rattle.std.proofs.Common.{◌≡◌, sym, subst, List, [], ◌∷◌}
 use Rattle.plain_log.specs.declared.state.State.{State as Plain}
 use Rattle.plain_log.specs.Safe.{PlainSafe}
-use Rattle.tier_safe.specs.Scene.{Scene, Site}
+use Rattle.tier_safe.specs.Scene.{Scene, BrokerTierView}
 use Rattle.tier_safe.specs.Changes.{Change, Steps, Moves, Chooses, Tells, Stores, Sees, Caches, Drops, effect, effects}
 use Rattle.tier_safe.specs.Safe.{TierSafe, BothSafe}
 use Rattle.tier_safe.specs.May.{MayAlter, May, Mays}
@@ -15,7 +15,7 @@ use Rattle.tier_safe.proofs.Finished.{finished_kept, finished_stepped}
 use Rattle.tier_safe.proofs.Copies.{copies_kept, copies_stepped}
 use Rattle.tier_safe.proofs.IdsLaw.{ids_kept, ids_stepped}
 use Rattle.tier_safe.proofs.Deletions.{deletions_kept, deletions_stepped}
-use Rattle.tier_safe.proofs.SitesLaw.{views_kept, views_stepped, sites_kept, sites_stepped}
+use Rattle.tier_safe.proofs.BrokerTiersLaw.{views_kept, views_stepped, tier_views_kept, tier_views_stepped}
 use Rattle.tier_safe.proofs.Covering.{covered_kept, covered_stepped}
 use Rattle.tier_safe.proofs.Rebuilding.{rebuilds_kept, rebuilds_stepped}
 use Rattle.tier_safe.proofs.Caching.{caches_kept, caches_stepped}
@@ -24,7 +24,7 @@ use Rattle.tier_safe.proofs.Fetching.{fetches_kept, fetches_stepped}
 altered : (change : Change) (c : Scene) (p : Plain) → MayAlter change c p → PlainSafe p → TierSafe c p → TierSafe (effect change c) p
 altered change c p m safe h = record {
   views = views_kept change c p m h;
-  sites = sites_kept change c p m h;
+  tier_views = tier_views_kept change c p m h;
   finished = finished_kept change c p m h;
   named = named_kept change c p m h;
   copies = copies_kept change c p m h;
@@ -38,20 +38,20 @@ altered change c p m safe h = record {
   partition = partition_kept change c p m h;
 }
 
-stepped : (sites : List Site) (c : Scene) (p q : Plain) → StepGoes sites c p q → TierSafe c p → TierSafe (effect (Steps sites) c) q
-stepped sites c p q m h = record {
-  views = views_stepped sites c p q m h;
-  sites = sites_stepped sites c p q m h;
-  finished = finished_stepped sites c p q m h;
+stepped : (tier_views : List BrokerTierView) (c : Scene) (p q : Plain) → StepGoes tier_views c p q → TierSafe c p → TierSafe (effect (Steps tier_views) c) q
+stepped tier_views c p q m h = record {
+  views = views_stepped tier_views c p q m h;
+  tier_views = tier_views_stepped tier_views c p q m h;
+  finished = finished_stepped tier_views c p q m h;
   named = h.named;
   partition = h.partition;
-  copies = copies_stepped sites c p q m h;
-  ids = ids_stepped sites c p q m h;
-  deletions = deletions_stepped sites c p q m h;
-  covered = covered_stepped sites c p q m h;
-  rebuilds = rebuilds_stepped sites c p q m h;
-  caches = caches_stepped sites c p q m h;
-  fetches = fetches_stepped sites c p q m h;
+  copies = copies_stepped tier_views c p q m h;
+  ids = ids_stepped tier_views c p q m h;
+  deletions = deletions_stepped tier_views c p q m h;
+  covered = covered_stepped tier_views c p q m h;
+  rebuilds = rebuilds_stepped tier_views c p q m h;
+  caches = caches_stepped tier_views c p q m h;
+  fetches = fetches_stepped tier_views c p q m h;
   notes = h.notes;
 }
 
@@ -60,26 +60,26 @@ same_plain : (change : Change) (c : Scene) (p q : Plain) → (q ≡ p) × MayAlt
 same_plain change c p q m safe h = subst (λ (r : Plain). TierSafe (effect change c) r) (sym m.0) (altered change c p m.1 safe h)
 
 pub kept : (change : Change) (c : Scene) (p q : Plain) → May change c p q → PlainSafe p → TierSafe c p → TierSafe (effect change c) q
-kept (Steps sites) c p q m safe h =
-    stepped sites c p q (step_goes sites c p q m safe) h
+kept (Steps tier_views) c p q m safe h =
+    stepped tier_views c p q (step_goes tier_views c p q m safe) h
 kept (Moves a move) c p q m safe h = same_plain (Moves a move) c p q m safe h
-kept (Chooses a b site copy) c p q m safe h = same_plain (Chooses a b site copy) c p q m safe h
-kept (Tells a telling teller) c p q m safe h = same_plain (Tells a telling teller) c p q m safe h
+kept (Chooses a b tier_view copy) c p q m safe h = same_plain (Chooses a b tier_view copy) c p q m safe h
+kept (Tells a telling origin) c p q m safe h = same_plain (Tells a telling origin) c p q m safe h
 kept (Stores a storing objects) c p q m safe h = same_plain (Stores a storing objects) c p q m safe h
-kept (Sees b site view) c p q m safe h = same_plain (Sees b site view) c p q m safe h
-kept (Caches b site cache) c p q m safe h = same_plain (Caches b site cache) c p q m safe h
-kept (Drops b site start dropping) c p q m safe h = same_plain (Drops b site start dropping) c p q m safe h
+kept (Sees b tier_view view) c p q m safe h = same_plain (Sees b tier_view view) c p q m safe h
+kept (Caches b tier_view cache) c p q m safe h = same_plain (Caches b tier_view cache) c p q m safe h
+kept (Drops b tier_view start dropping) c p q m safe h = same_plain (Drops b tier_view start dropping) c p q m safe h
 
 -- the plain log's rules go on with it
 still_safe : (change : Change) (c : Scene) (p q : Plain) → May change c p q → PlainSafe p → PlainSafe q
-still_safe (Steps sites) c p q m safe = step_safe p m.order m.entry q m.is safe
+still_safe (Steps tier_views) c p q m safe = step_safe p m.order m.entry q m.is safe
 still_safe (Moves a move) c p q m safe = subst PlainSafe (sym m.0) safe
-still_safe (Chooses a b site copy) c p q m safe = subst PlainSafe (sym m.0) safe
-still_safe (Tells a telling teller) c p q m safe = subst PlainSafe (sym m.0) safe
+still_safe (Chooses a b tier_view copy) c p q m safe = subst PlainSafe (sym m.0) safe
+still_safe (Tells a telling origin) c p q m safe = subst PlainSafe (sym m.0) safe
 still_safe (Stores a storing objects) c p q m safe = subst PlainSafe (sym m.0) safe
-still_safe (Sees b site view) c p q m safe = subst PlainSafe (sym m.0) safe
-still_safe (Caches b site cache) c p q m safe = subst PlainSafe (sym m.0) safe
-still_safe (Drops b site start dropping) c p q m safe = subst PlainSafe (sym m.0) safe
+still_safe (Sees b tier_view view) c p q m safe = subst PlainSafe (sym m.0) safe
+still_safe (Caches b tier_view cache) c p q m safe = subst PlainSafe (sym m.0) safe
+still_safe (Drops b tier_view start dropping) c p q m safe = subst PlainSafe (sym m.0) safe
 
 pub all_kept : (changes : List Change) (c : Scene) (p q : Plain) → Mays changes c p q → BothSafe c p → BothSafe (effects changes c) q
 all_kept [] c p q m h = subst (λ (r : Plain). BothSafe c r) (sym m) h

@@ -3,7 +3,7 @@ pub mod Basics
 pub mod Steps
 pub mod Lineage
 pub mod Rules
-pub mod SitesLaw
+pub mod BrokerTiersLaw
 pub mod Partition
 pub mod Placed
 pub mod IdsLaw

@@ -9,7 +9,7 @@ use Rattle.plain_log.proofs.Wider.{has_wider}
 use Rattle.sparse_index.specs.Offsets.{OffsetTable}
 use Rattle.copy_task.specs.Copying.{Copied}
 use Rattle.plain_log.specs.Grows.{PathsGrow}
-use Rattle.tier_safe.specs.Lineage.{IsPart, Describes, IsHeld, IsSource}
+use Rattle.tier_safe.specs.Lineage.{IsPart, Describes, IsStoredWhole, IsSource}
 use Rattle.tier_safe.specs.Fetches.{IsIndexOf}
 
 pub part_grows : (ps qs : List Path) (base : ℕ) (batches : List (List ℕ)) (line : List (ℕ × ℕ)) → PathsGrow ps qs → IsPart ps base batches line → IsPart qs base batches line
@@ -32,7 +32,7 @@ describes_grows ps qs entry batches line w h = record {
   size_is = h.size_is;
 }
 
-pub held_grows : (objects : Objects) (ps qs : List Path) (entry : Entry) → PathsGrow ps qs → IsHeld objects ps entry → IsHeld objects qs entry
+pub held_grows : (objects : Objects) (ps qs : List Path) (entry : Entry) → PathsGrow ps qs → IsStoredWhole objects ps entry → IsStoredWhole objects qs entry
 held_grows objects ps qs entry w h = record {
   batches = h.batches;
   line = h.line;
@@ -59,7 +59,7 @@ index_grows ps qs entry index w h = record {
 
 -- the objects of an entry stand where those under its keys do
 pub held_same : (old new : Objects) (paths : List Path) (entry : Entry) → ((n : ℕ) (key : ObjectKey) → slice_get (keys_of entry.partition entry.id entry.packed) n ≡ Some key → new key ≡ old key)
-    → IsHeld old paths entry → IsHeld new paths entry
+    → IsStoredWhole old paths entry → IsStoredWhole new paths entry
 held_same old new paths entry same h = record {
   batches = h.batches;
   line = h.line;

@@ -90,30 +90,30 @@ piece_found entries l log_end offset e below at h =
 
 -- what a local log lacks is found
 pub lacking_is_found : LackingIsFound
-lacking_is_found c p b site x line offset h is bx low below all tells =
-    let within = (h.sites.each b site x is bx).within in
+lacking_is_found c p b tier_view x line offset h is bx low below all is_observable =
+    let within = (h.tier_views.each b tier_view x is bx).within in
     let high : offset < end_of x.log = omega (arith, below, within) in
-    let k = h.covered b site x is bx offset low below in
-    let v : Covers site.view.entries k.epoch offset = subst (λ (s : Seen). Covers s.entries k.epoch offset) (sym all) k.covers in
-    piece_found site.view.entries line (end_of x.log) offset k.epoch high (tells.says offset high ∙ k.holds) v
+    let k = h.covered b tier_view x is bx offset low below in
+    let v : Covers tier_view.view.entries k.epoch offset = subst (λ (s : Seen). Covers s.entries k.epoch offset) (sym all) k.covers in
+    piece_found tier_view.view.entries line (end_of x.log) offset k.epoch high (is_observable.says offset high ∙ k.holds) v
 
 -- so is what a fetch asks for
 pub asked_is_found : AskedIsFound
-asked_is_found c p a sought site x line h seat none is bx leads low all tells =
-    lacking_is_found c p sought.broker site x line sought.offset h is bx low ((h.fetches a sought site x seat is bx).below none leads) all tells
+asked_is_found c p a sought tier_view x line h actor_state none is bx leads low all is_observable =
+    lacking_is_found c p sought.broker tier_view x line sought.offset h is bx low ((h.fetches a sought tier_view x actor_state is bx).below none leads) all is_observable
 
 -- and what a rebuild looks up
 pub wanted_is_found : WantedIsFound
-wanted_is_found c p a rebuild site line h seat is done below says =
-    let r = h.rebuilds a rebuild seat in
-    let k = r.seen site is done below in
+wanted_is_found c p a rebuild tier_view line h actor_state is done below says =
+    let r = h.rebuilds a rebuild actor_state in
+    let k = r.seen tier_view is done below in
     let above = r.above in
-    piece_found site.view.entries line rebuild.wanted (rebuild.wanted - 1) k.epoch (omega (arith, above)) (says ∙ k.holds) k.covers
+    piece_found tier_view.view.entries line rebuild.wanted (rebuild.wanted - 1) k.epoch (omega (arith, above)) (says ∙ k.holds) k.covers
 
 -- and what is found stands
 pub found_stands : FoundStands
-found_stands notes view line log offset piece v right tells made =
-    let k = piece_lies view.entries line (end_of log) offset piece right.kept right.distinct tells.rises made in
+found_stands notes view line log offset piece v right is_observable made =
+    let k = piece_lies view.entries line (end_of log) offset piece right.kept right.distinct is_observable.rises made in
     let i = k.2 in
     record {
       before = v.before;
@@ -124,7 +124,7 @@ found_stands notes view line log offset piece v right tells made =
       holds = i.holds;
       within = i.within;
       epoch = k.0;
-      of_log = λ o from to. (let end = i.below tells.within in sym (tells.says o (omega (arith, to, end))) ∙ i.of_line o from to);
+      of_log = λ o from to. (let end = i.below is_observable.within in sym (is_observable.says o (omega (arith, to, end))) ∙ i.of_line o from to);
       of_copy = i.of_copy;
     }
 
@@ -136,14 +136,14 @@ covering e o entry readable low high gives = rw (readable, le-leb entry.start o 
 -- a piece covers each of its offsets
 piece_covers : (view : Seen) (line : List (ℕ × ℕ)) (log : List (List ℕ)) (at : ℕ) (piece : Piece) → IsRightView view → TellsEpochs line log
     → piece_at view.entries line (end_of log) at ≡ Some piece → (o : ℕ) → at ≤ o → o < piece.to → CoversLog view.entries log o
-piece_covers view line log at piece right tells made o low high =
-    let k = piece_lies view.entries line (end_of log) at piece right.kept right.distinct tells.rises made in
+piece_covers view line log at piece right is_observable made o low high =
+    let k = piece_lies view.entries line (end_of log) at piece right.kept right.distinct is_observable.rises made in
     let i = k.2 in
     let from : piece.from ≤ o = (let holds = i.holds.0 in omega (arith, holds, low)) in
-    let end = i.below tells.within in
+    let end = i.below is_observable.within in
     record {
       epoch = k.0;
-      holds = sym (tells.says o (omega (arith, high, end))) ∙ i.of_line o from high;
+      holds = sym (is_observable.says o (omega (arith, high, end))) ∙ i.of_line o from high;
       covers = record {
         id = piece.id;
         entry = k.1;
@@ -154,12 +154,12 @@ piece_covers view line log at piece right tells made o low high =
 
 -- so do pieces up to the end that they reach
 pub reached_is_covered : ReachedIsCovered
-reached_is_covered view line log at right tells o low high =
-    let reach = covered view.entries line (end_of log) at right.kept right.distinct tells.rises tells.within in
+reached_is_covered view line log at right is_observable o low high =
+    let reach = covered view.entries line (end_of log) at right.kept right.distinct is_observable.rises is_observable.within in
     by (piece_at view.entries line (end_of log) o) refl (reach.each o low high)
   where
     by : (found : Option Piece) → piece_at view.entries line (end_of log) o ≡ found → IsSome found → CoversLog view.entries log o
     by None is some = absurd (cc (some))
     by (Some piece) is some =
-        let lies = (piece_lies view.entries line (end_of log) o piece right.kept right.distinct tells.rises is).2.holds in
-        piece_covers view line log o piece right tells is o (omega arith) lies.1
+        let lies = (piece_lies view.entries line (end_of log) o piece right.kept right.distinct is_observable.rises is).2.holds in
+        piece_covers view line log o piece right is_observable is o (omega arith) lies.1

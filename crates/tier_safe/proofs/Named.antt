@@ -25,23 +25,23 @@ named_more notes note id h =
 stored_named : (storing : Storing) (a : ℕ) (objects : Objects) (c : Scene) (p : Plain) (bytes : List ℕ) → MayStore a storing objects c → TierSafe c p
     → made_by storing (c.objects (key_for storing)) ≡ Some bytes → IsNamed (fold c.notes) (key_for storing).id
 stored_named (Puts copy n key) a objects c p bytes m h is =
-    let e = (h.copies.each a copy _ m.seat).at in
+    let e = (h.copies.each a copy _ m.actor_state).at in
     let own = ap (λ (k : ObjectKey). k.id) (key_is copy.partition copy.id copy.packed n key m.key) in
     (e.entry, ap (λ (i : SegmentId). entry_of i (fold c.notes)) own ∙ e.there)
 stored_named (Undoes copy n key) a objects c p bytes m h is = absurd (cc)
-stored_named (Deletes doomed n key) a objects c p bytes m h is = absurd (cc)
+stored_named (Deletes expired_segment n key) a objects c p bytes m h is = absurd (cc)
 
 pub named_kept : (change : Change) (c : Scene) (p : Plain) → MayAlter change c p → TierSafe c p
     → ObjectsNamed (effect change c).objects (fold (effect change c).notes)
-named_kept (Steps sites) c p m h = absurd m
+named_kept (Steps tier_views) c p m h = absurd m
 named_kept (Moves a move) c p m h = h.named
-named_kept (Chooses a b site copy) c p m h = h.named
-named_kept (Tells a telling teller) c p m h = λ key bytes is. named_more c.notes (note_for telling teller) key.id (h.named key bytes is)
+named_kept (Chooses a b tier_view copy) c p m h = h.named
+named_kept (Tells a telling origin) c p m h = λ key bytes is. named_more c.notes (note_for telling origin) key.id (h.named key bytes is)
 named_kept (Stores a storing objects) c p m h = λ key bytes is.
     elim (object_at (key_for storing) (made_by storing) c.objects objects key m.made) [
       | inl own ↦ subst (λ (k : ObjectKey). IsNamed (fold c.notes) k.id) (sym own.0) (stored_named storing a objects c p bytes m h (sym own.1 ∙ is))
       | inr other ↦ h.named key bytes (sym other.1 ∙ is)
     ]
-named_kept (Sees b site view) c p m h = h.named
-named_kept (Caches b site cache) c p m h = h.named
-named_kept (Drops b site start dropping) c p m h = h.named
+named_kept (Sees b tier_view view) c p m h = h.named
+named_kept (Caches b tier_view cache) c p m h = h.named
+named_kept (Drops b tier_view start dropping) c p m h = h.named

@@ -15,7 +15,7 @@ use Rattle.object_store.specs.Place.{key_of, keys_of, whole, spot_of, told_layou
 use Rattle.object_store.specs.declared.placing.Spot.{Spot}
 use Rattle.object_store.proofs.Parts.{AreAll, parts_stand}
 use Rattle.plain_log.specs.declared.state.Path.{Path}
-use Rattle.tier_safe.specs.Lineage.{Stand, TellsParts, IsHeld}
+use Rattle.tier_safe.specs.Lineage.{Stand, TellsParts, IsStoredWhole}
 
 -- one of the parts that are read
 abbrev pub IsRead : Part → Type 0
@@ -82,7 +82,7 @@ pack_placed objects partition id custom parts part read h t = record {
     fills Pack r = absurd r
 
 -- each part of a held segment
-pub held_placed : (objects : Objects) (paths : List Path) (entry : Entry) (part : Part) → IsRead part → (h : IsHeld objects paths entry)
+pub held_placed : (objects : Objects) (paths : List Path) (entry : Entry) (part : Part) → IsRead part → (h : IsStoredWhole objects paths entry)
     → HasSpot objects entry.partition entry.id entry.packed entry.custom part (part_in (parts_of h.batches h.line h.interval) part)
 held_placed objects paths entry part read h = by entry.packed h.stand h.custom
   where

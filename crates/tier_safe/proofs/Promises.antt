@@ -9,10 +9,10 @@ use Rattle.tier_safe.proofs.Agreeing.{entry_agrees}
 -- what is dropped
 
 pub dropped_kept : DroppedIsKept
-dropped_kept b site x o c p both site_is x_is low high =
+dropped_kept b tier_view x o c p both tier_view_is x_is low high =
     let s = both.plain in
     let h = both.tier in
-    let k = h.covered b site x site_is x_is o low high in
+    let k = h.covered b tier_view x tier_view_is x_is o low high in
     let t = covers_is k.epoch o k.covers.entry k.covers.gives in
     let held = h.finished k.covers.id k.covers.entry k.covers.there t.finished in
     record {

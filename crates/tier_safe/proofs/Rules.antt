@@ -21,14 +21,14 @@ use Rattle.segment_meta.specs.declared.note.Entry.{Entry}
 use Rattle.segment_meta.specs.Rules.{IsNote, MayTell as MayTellCustom, bare_custom}
 use Rattle.segment_meta.specs.Steps.{next_state}
 use Rattle.object_store.specs.Content.{Objects}
-use Rattle.meta_log.specs.declared.teller.Teller.{Teller}
+use Rattle.meta_log.specs.declared.event_origin.EventOrigin.{EventOrigin}
 use Rattle.plain_log.specs.declared.state.State.{State as Plain}
-use Rattle.remote_view.specs.Fold.{state_of, noted, changed, updated, folded_from, fold, AreKept, AreDistinct}
+use Rattle.remote_view.specs.Fold.{state_of, recorded, changed, updated, folded_from, fold, AreKept, AreDistinct}
 use Rattle.remote_view.proofs.Changes.{change_keeps, kept_push}
 use Rattle.remote_view.proofs.Folding.{fold_distinct}
 use Rattle.copy_task.specs.Copying.{Copied, keys as copy_keys, IsCopied, start_note}
-use Rattle.copy_task.specs.declared.turn.Next.{Next as CopyNext}
-use Rattle.tier_safe.specs.Scene.{Work, Copies, Scene}
+use Rattle.copy_task.specs.declared.turn.CopyStep.{CopyStep as CopyNext}
+use Rattle.tier_safe.specs.Scene.{TierTask, Copies, Scene}
 use Rattle.tier_safe.specs.Changes.{Move, Leaves, Overtakes, Dooms, Wants, Refreshes, Lines, Asks, Finds, Skips, Reads, moved, Telling, CopyStarts, CopyEnds, ExpiryStarts, ExpiryEnds, after_telling, note_for, Storing, Puts, Undoes, Deletes, after_storing, undone, Change, Steps, Moves, Chooses, Tells, Stores, Sees, Caches, Drops, effect}
 use Rattle.tier_safe.specs.Views.{IsRight, NotesStand}
 use Rattle.tier_safe.specs.Safe.{TierSafe}
@@ -59,8 +59,8 @@ line_rises n [] c rise far = tt
 line_rises n (b ∷ bs) c rise far = rising (epoch_of b) (base_of b) (last_of b + 1) bs rise.1 (omega arith) c.1 rise.2 far
 
 -- the note that a copy starts keeps the rules
-pub started_right : (copy : Copied) (teller : Teller) → IsCopied copy → IsId copy.id → IsRight (start_note copy teller)
-started_right copy teller is id =
+pub started_right : (copy : Copied) (origin : EventOrigin) → IsCopied copy → IsId copy.id → IsRight (start_note copy origin)
+started_right copy origin is id =
     let line : IsLine copy.segment.epochs = subst IsLine (sym is.epochs_are) (line_rises copy.segment.base is.batches is.is.consecutive is.is.epochs is.is.low) in
     record {
       is = record { started = refl; ordered = ordered copy is; bounded = bounded copy is; map = is_map copy is line; bare = refl };
@@ -73,12 +73,12 @@ bare_right state false = tt
 bare_right state true = record { few = omega arith; bare = λ ne. refl }
 
 -- so do a command's notes
-told_right : (telling : Telling) (a : ℕ) (teller : Teller) (c : Scene) (p : Plain) → MayTell a telling c → TierSafe c p → NotesStand c.notes c.desk
-    → IsRight (note_for telling teller)
-told_right (CopyStarts copy) a teller c p m h n = started_right copy teller (h.copies.each a copy _ m.seat).source.copied (n.ids a copy _ m.seat)
-told_right (CopyEnds copy) a teller c p m h n = record { is = (λ e. absurd (cc (e)), custom_may copy); id = tt }
-told_right (ExpiryStarts doomed) a teller c p m h n = record { is = (λ e. absurd (cc (e)), bare_right DeleteStarted doomed.packed); id = tt }
-told_right (ExpiryEnds doomed) a teller c p m h n = record { is = (λ e. absurd (cc (e)), bare_right DeleteFinished doomed.packed); id = tt }
+told_right : (telling : Telling) (a : ℕ) (origin : EventOrigin) (c : Scene) (p : Plain) → MayTell a telling c → TierSafe c p → NotesStand c.notes c.desk
+    → IsRight (note_for telling origin)
+told_right (CopyStarts copy) a origin c p m h n = started_right copy origin (h.copies.each a copy _ m.actor_state).source.copied (n.ids a copy _ m.actor_state)
+told_right (CopyEnds copy) a origin c p m h n = record { is = (λ e. absurd (cc (e)), custom_may copy); id = tt }
+told_right (ExpiryStarts expired_segment) a origin c p m h n = record { is = (λ e. absurd (cc (e)), bare_right DeleteStarted expired_segment.packed); id = tt }
+told_right (ExpiryEnds expired_segment) a origin c p m h n = record { is = (λ e. absurd (cc (e)), bare_right DeleteFinished expired_segment.packed); id = tt }
 
 -- the entries of such notes
 
@@ -97,13 +97,13 @@ right_push : (notes : List Note) (note : Note) → AllByRecursion IsRight notes 
 right_push [] note h k = (k, tt)
 right_push (first ∷ notes) note h k = (h.0, right_push notes note h.1 k)
 
-noted_kept : (es : List Entry) (note : Note) → IsRight note → AreKept es → AreKept (noted es note)
-noted_kept es (Add e) k h = by (is_some (next_state (state_of e.id es) e.state))
+recorded_kept : (es : List Entry) (note : Note) → IsRight note → AreKept es → AreKept (recorded es note)
+recorded_kept es (Add e) k h = by (is_some (next_state (state_of e.id es) e.state))
   where
     by : (t : Bool) → AreKept (cond t (es ++ e ∷ []) es)
     by true = kept_push es e h (record { id = k.id; ordered = k.is.ordered; bounded = k.is.bounded; map = k.is.map })
     by false = h
-noted_kept es (Update id broker event_ts state custom) k h = by (is_some (next_state (state_of id es) state))
+recorded_kept es (Update id broker event_ts state custom) k h = by (is_some (next_state (state_of id es) state))
   where
     by : (t : Bool) → AreKept (cond t (changed id (updated broker event_ts state custom) es) es)
     by true = change_keeps id broker event_ts state custom es h
@@ -111,31 +111,31 @@ noted_kept es (Update id broker event_ts state custom) k h = by (is_some (next_s
 
 folded_kept : (es : List Entry) (notes : List Note) → AllByRecursion IsRight notes → AreKept es → AreKept (folded_from es notes)
 folded_kept es [] k h = h
-folded_kept es (note ∷ notes) k h = folded_kept (noted es note) notes k.1 (noted_kept es note k.0 h)
+folded_kept es (note ∷ notes) k h = folded_kept (recorded es note) notes k.1 (recorded_kept es note k.0 h)
 
 -- the entries of a view keep their rules, and no two have one id
-pub seen_kept : (notes before : List Note) (desk : List Work) → NotesStand notes desk → IsPrefix before notes → AreKept (fold before) × AreDistinct (fold before)
+pub seen_kept : (notes before : List Note) (desk : List TierTask) → NotesStand notes desk → IsPrefix before notes → AreKept (fold before) × AreDistinct (fold before)
 seen_kept notes before desk n p =
     let r = right_prefix notes before p n.right in
     (folded_kept [] before r tt, fold_distinct before (right_note before r))
 
 -- seats
 
-abbrev IdWork : Work → Type 0
-IdWork (Copies copy next) = IsId copy.id
-IdWork other = Unit {0}
+abbrev IdTask : TierTask → Type 0
+IdTask (Copies copy next) = IsId copy.id
+IdTask other = Unit {0}
 
-ids_set : (desk : List Work) (a : ℕ) (w : Work) → IdWork w → ((k : ℕ) (copy : Copied) (next : CopyNext) → slice_get desk k ≡ Some (Copies copy next) → IsId copy.id)
+ids_set : (desk : List TierTask) (a : ℕ) (w : TierTask) → IdTask w → ((k : ℕ) (copy : Copied) (next : CopyNext) → slice_get desk k ≡ Some (Copies copy next) → IsId copy.id)
     → (k : ℕ) (copy : Copied) (next : CopyNext) → slice_get (slice_set desk a w) k ≡ Some (Copies copy next) → IsId copy.id
 ids_set desk a w own h k copy next at = elim (get-set desk a w k (Copies copy next) at) [
-  | inl here ↦ subst IdWork (sym here.1) own
+  | inl here ↦ subst IdTask (sym here.1) own
   | inr there ↦ h k copy next there.1
 ]
 
-moved_id : (move : Move) (a : ℕ) (c : Scene) (p : Plain) → MayMove a move c p → NotesStand c.notes c.desk → IdWork (moved move)
+moved_id : (move : Move) (a : ℕ) (c : Scene) (p : Plain) → MayMove a move c p → NotesStand c.notes c.desk → IdTask (moved move)
 moved_id Leaves a c p m n = tt
-moved_id (Overtakes copy) a c p m n = n.ids a copy _ m.seat
-moved_id (Dooms b doomed) a c p m n = tt
+moved_id (Overtakes copy) a c p m n = n.ids a copy _ m.actor_state
+moved_id (Dooms b expired_segment) a c p m n = tt
 moved_id (Wants rebuild) a c p m n = tt
 moved_id (Refreshes rebuild) a c p m n = tt
 moved_id (Lines rebuild line) a c p m n = tt
@@ -144,31 +144,31 @@ moved_id (Finds sought piece) a c p m n = tt
 moved_id (Skips sought offset) a c p m n = tt
 moved_id (Reads sought from) a c p m n = tt
 
-told_id : (telling : Telling) (a : ℕ) (c : Scene) → MayTell a telling c → NotesStand c.notes c.desk → IdWork (after_telling telling)
-told_id (CopyStarts copy) a c m n = n.ids a copy _ m.seat
-told_id (CopyEnds copy) a c m n = n.ids a copy _ m.seat
-told_id (ExpiryStarts doomed) a c m n = tt
-told_id (ExpiryEnds doomed) a c m n = tt
+told_id : (telling : Telling) (a : ℕ) (c : Scene) → MayTell a telling c → NotesStand c.notes c.desk → IdTask (after_telling telling)
+told_id (CopyStarts copy) a c m n = n.ids a copy _ m.actor_state
+told_id (CopyEnds copy) a c m n = n.ids a copy _ m.actor_state
+told_id (ExpiryStarts expired_segment) a c m n = tt
+told_id (ExpiryEnds expired_segment) a c m n = tt
 
-undone_id : (copy : Copied) (n : ℕ) (next : Option ObjectKey) → IsId copy.id → IdWork (undone copy n next)
+undone_id : (copy : Copied) (n : ℕ) (next : Option ObjectKey) → IsId copy.id → IdTask (undone copy n next)
 undone_id copy n None id = tt
 undone_id copy n (Some key) id = id
 
-stored_id : (storing : Storing) (a : ℕ) (objects : Objects) (c : Scene) → MayStore a storing objects c → NotesStand c.notes c.desk → IdWork (after_storing storing)
-stored_id (Puts copy k key) a objects c m n = n.ids a copy _ m.seat
-stored_id (Undoes copy k key) a objects c m n = undone_id copy (k + 1) (slice_get (copy_keys copy) (k + 1)) (n.ids a copy _ m.seat)
-stored_id (Deletes doomed k key) a objects c m n = tt
+stored_id : (storing : Storing) (a : ℕ) (objects : Objects) (c : Scene) → MayStore a storing objects c → NotesStand c.notes c.desk → IdTask (after_storing storing)
+stored_id (Puts copy k key) a objects c m n = n.ids a copy _ m.actor_state
+stored_id (Undoes copy k key) a objects c m n = undone_id copy (k + 1) (slice_get (copy_keys copy) (k + 1)) (n.ids a copy _ m.actor_state)
+stored_id (Deletes expired_segment k key) a objects c m n = tt
 
 pub notes_kept : (change : Change) (c : Scene) (p : Plain) → MayAlter change c p → TierSafe c p → NotesStand (effect change c).notes (effect change c).desk
-notes_kept (Steps sites) c p m h = absurd m
+notes_kept (Steps tier_views) c p m h = absurd m
 notes_kept (Moves a move) c p m h = record { right = h.notes.right; ids = ids_set c.desk a (moved move) (moved_id move a c p m h.notes) h.notes.ids }
-notes_kept (Chooses a b site copy) c p m h = record { right = h.notes.right; ids = ids_set c.desk a _ m.fits h.notes.ids }
-notes_kept (Tells a telling teller) c p m h = record {
-  right = right_push c.notes (note_for telling teller) h.notes.right (told_right telling a teller c p m h h.notes);
+notes_kept (Chooses a b tier_view copy) c p m h = record { right = h.notes.right; ids = ids_set c.desk a _ m.fits h.notes.ids }
+notes_kept (Tells a telling origin) c p m h = record {
+  right = right_push c.notes (note_for telling origin) h.notes.right (told_right telling a origin c p m h h.notes);
   ids = ids_set c.desk a (after_telling telling) (told_id telling a c m h.notes) h.notes.ids;
 }
 notes_kept (Stores a storing objects) c p m h =
     record { right = h.notes.right; ids = ids_set c.desk a (after_storing storing) (stored_id storing a objects c m h.notes) h.notes.ids }
-notes_kept (Sees b site view) c p m h = h.notes
-notes_kept (Caches b site cache) c p m h = h.notes
-notes_kept (Drops b site start dropping) c p m h = h.notes
+notes_kept (Sees b tier_view view) c p m h = h.notes
+notes_kept (Caches b tier_view cache) c p m h = h.notes
+notes_kept (Drops b tier_view start dropping) c p m h = h.notes

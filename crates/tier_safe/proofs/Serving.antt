@@ -14,8 +14,8 @@ use Rattle.plain_log.specs.declared.state.State.{State as Plain}
 use Rattle.plain_log.specs.Safe.{PlainSafe}
 use Rattle.remote_view.specs.Fold.{Seen, entry_of, fold}
 use Rattle.remote_find.specs.declared.piece.Piece.{Piece}
-use Rattle.tier_safe.specs.Scene.{Site, Sought, Seeks, Scene}
-use Rattle.tier_safe.specs.Lineage.{IsHeld}
+use Rattle.tier_safe.specs.Scene.{BrokerTierView, Sought, Seeks, Scene}
+use Rattle.tier_safe.specs.Lineage.{IsStoredWhole}
 use Rattle.tier_safe.specs.Fetches.{StillLeads, PieceStands}
 use Rattle.tier_safe.specs.Safe.{TierSafe}
 use Rattle.tier_safe.specs.Kept.{Shares, whole_of}
@@ -32,7 +32,7 @@ pub record FetchReads (c : Scene) (p : Plain) (x : Broker) (piece : Piece) : Typ
   pub entry : Entry
   pub there : entry_of piece.id (fold c.notes) ≡ Some entry
   pub finished : entry.state ≡ CopyFinished
-  pub held : IsHeld c.objects p.paths entry
+  pub held : IsStoredWhole c.objects p.paths entry
   pub within : (entry.start ≤ piece.from) × (piece.to ≤ entry.end + 1)
   pub shares : Shares (whole_of held) x.log (piece.to - 1)
 
@@ -60,20 +60,20 @@ piece_reads offset b piece c p x s h x_is k past =
     }
 
 -- so does that of a fetch on the desk
-pub fetch_reads : (a : ℕ) (sought : Sought) (piece : Piece) (c : Scene) (p : Plain) (site : Site) (x : Broker) → PlainSafe p → TierSafe c p
-    → slice_get c.desk a ≡ Some (Seeks sought) → slice_get c.sites sought.broker ≡ Some site → slice_get p.brokers sought.broker ≡ Some x
+pub fetch_reads : (a : ℕ) (sought : Sought) (piece : Piece) (c : Scene) (p : Plain) (tier_view : BrokerTierView) (x : Broker) → PlainSafe p → TierSafe c p
+    → slice_get c.desk a ≡ Some (Seeks sought) → slice_get c.tier_views sought.broker ≡ Some tier_view → slice_get p.brokers sought.broker ≡ Some x
     → sought.piece ≡ Some piece → StillLeads sought x → p.registry.start ≤ sought.offset → FetchReads c p x piece
-fetch_reads a sought piece c p site x s h seat site_is x_is is leads past =
-    piece_reads sought.offset sought.broker piece c p x s h x_is ((h.fetches a sought site x seat site_is x_is).piece piece is leads past) past
+fetch_reads a sought piece c p tier_view x s h actor_state tier_view_is x_is is leads past =
+    piece_reads sought.offset sought.broker piece c p x s h x_is ((h.fetches a sought tier_view x actor_state tier_view_is x_is).piece piece is leads past) past
 
 -- its position is the one that the index of the same batches gives
-pub fetch_from : (a : ℕ) (sought : Sought) (piece : Piece) (from : ℕ) (c : Scene) (p : Plain) (site : Site) (x : Broker) → PlainSafe p → TierSafe c p
-    → slice_get c.desk a ≡ Some (Seeks sought) → slice_get c.sites sought.broker ≡ Some site → slice_get p.brokers sought.broker ≡ Some x
+pub fetch_from : (a : ℕ) (sought : Sought) (piece : Piece) (from : ℕ) (c : Scene) (p : Plain) (tier_view : BrokerTierView) (x : Broker) → PlainSafe p → TierSafe c p
+    → slice_get c.desk a ≡ Some (Seeks sought) → slice_get c.tier_views sought.broker ≡ Some tier_view → slice_get p.brokers sought.broker ≡ Some x
     → sought.piece ≡ Some piece → sought.from ≡ Some from → StillLeads sought x → p.registry.start ≤ sought.offset
     → (r : FetchReads c p x piece)
     → (interval : ℕ) × (from ≡ (find (index_of r.entry.start interval (placed_from 0 r.held.batches)) sought.offset).1)
-fetch_from a sought piece from c p site x s h seat site_is x_is is read leads past r =
-    let i = (h.fetches a sought site x seat site_is x_is).from piece from is read leads past r.entry r.there r.finished in
+fetch_from a sought piece from c p tier_view x s h actor_state tier_view_is x_is is read leads past r =
+    let i = (h.fetches a sought tier_view x actor_state tier_view_is x_is).from piece from is read leads past r.entry r.there r.finished in
     let k = i.1 in
     let one = describes_one p r.entry k.batches r.held.batches k.line r.held.line s k.describes r.held.describes in
     let same = k.is ∙ ap (λ (b : List (List ℕ)). index_of r.entry.start k.interval (placed_from 0 b)) one in
@@ -102,9 +102,9 @@ fetch_next c p x piece offset first batch run rest s r low high is below =
 
 -- what a fetch reads is its log's
 pub fetches_served : FetchesAreServed
-fetches_served c p a sought piece site x both seat site_is x_is is leads past =
-    let r = fetch_reads a sought piece c p site x both.plain both.tier seat site_is x_is is leads past in
-    let k = (both.tier.fetches a sought site x seat site_is x_is).piece piece is leads past in
+fetches_served c p a sought piece tier_view x both actor_state tier_view_is x_is is leads past =
+    let r = fetch_reads a sought piece c p tier_view x both.plain both.tier actor_state tier_view_is x_is is leads past in
+    let k = (both.tier.fetches a sought tier_view x actor_state tier_view_is x_is).piece piece is leads past in
     record {
       entry = r.entry;
       there = r.there;
@@ -112,7 +112,7 @@ fetches_served c p a sought piece site x both seat site_is x_is is leads past =
       finished = r.finished;
       held = r.held;
       runs = λ run pre below. fetch_runs c p x piece sought.offset run both.plain r k.holds.0 k.holds.1 pre below;
-      from = λ from read. fetch_from a sought piece from c p site x both.plain both.tier seat site_is x_is is read leads past r;
+      from = λ from read. fetch_from a sought piece from c p tier_view x both.plain both.tier actor_state tier_view_is x_is is read leads past r;
     }
 
 -- a rebuild
@@ -126,11 +126,11 @@ shares_all whole front n c ends some m =
 
 -- what a rebuild reads is the path's
 pub rebuilds_served : RebuildsAreServed
-rebuilds_served c p a r site id x e both seat site_is below found gives holds =
+rebuilds_served c p a r tier_view id x e both actor_state tier_view_is below found gives holds =
     let s = both.plain in
     let h = both.tier in
-    let k = h.rebuilds a r seat in
-    let v = h.views r.broker site site_is in
+    let k = h.rebuilds a r actor_state in
+    let v = h.views r.broker tier_view tier_view_is in
     let t = covers_is e (r.wanted - 1) x gives in
     let there : entry_of id (fold v.before) ≡ Some x = subst (λ (w : Seen). entry_of id w.entries ≡ Some x) v.is found in
     let y = prefix_goes v.before c.notes id x v.begins there in

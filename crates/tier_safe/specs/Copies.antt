@@ -19,10 +19,10 @@ use Rattle.object_store.specs.Content.{Objects}
 use Rattle.plain_log.specs.declared.state.Path.{Path}
 use Rattle.remote_view.specs.Fold.{entry_of}
 use Rattle.copy_task.specs.Copying.{Copied, keys}
-use Rattle.copy_task.specs.declared.turn.Next.{Next as CopyNext}
-use Rattle.copy_task.specs.declared.turn.Next.TheVariants as copying
-use Rattle.tier_safe.specs.Scene.{Work, Copies}
-use Rattle.tier_safe.specs.Lineage.{IsHeld, IsSource}
+use Rattle.copy_task.specs.declared.turn.CopyStep.{CopyStep as CopyNext}
+use Rattle.copy_task.specs.declared.turn.CopyStep.TheVariants as copying
+use Rattle.tier_safe.specs.Scene.{TierTask, Copies}
+use Rattle.tier_safe.specs.Lineage.{IsStoredWhole, IsSource}
 use Rattle.tier_safe.specs.Views.{IsNamed}
 
 -- finished copies, and objects
@@ -31,7 +31,7 @@ use Rattle.tier_safe.specs.Views.{IsNamed}
 abbrev pub FinishedStand : Objects → List Path → List Entry → Type 0
 FinishedStand objects paths entries =
     (id : SegmentId) (entry : Entry) → entry_of id entries ≡ Some entry → entry.state ≡ CopyFinished
-    → IsHeld objects paths entry
+    → IsStoredWhole objects paths entry
 
 -- each object has an entry
 abbrev pub ObjectsNamed : Objects → List Entry → Type 0
@@ -99,7 +99,8 @@ pub record CopyStands (objects : Objects) (paths : List Path) (entries : List En
   pub key : CopyHasKey copy next
 
 -- each copy on the desk, and no two have one id
-pub record CopiesStand (objects : Objects) (paths : List Path) (entries : List Entry) (desk : List Work) : Type 0 where
+pub record CopiesStand (objects : Objects) (paths : List Path) (entries : List Entry)
+    (desk : List TierTask) : Type 0 where
   pub each : (a : ℕ) (copy : Copied) (next : CopyNext) → slice_get desk a ≡ Some (Copies copy next)
       → CopyStands objects paths entries copy next
   pub apart : (a c : ℕ) (copy other : Copied) (next then : CopyNext) → slice_get desk a ≡ Some (Copies copy next)

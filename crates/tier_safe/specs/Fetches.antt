@@ -24,7 +24,7 @@ use Rattle.plain_log.specs.declared.state.Role.TheVariants.{Leads}
 use Rattle.plain_log.specs.State.{path_of}
 use Rattle.remote_view.specs.Fold.{entry_of, fold}
 use Rattle.remote_find.specs.declared.piece.Piece.{Piece}
-use Rattle.tier_safe.specs.Scene.{Site, Sought, Work, Seeks}
+use Rattle.tier_safe.specs.Scene.{BrokerTierView, Sought, TierTask, Seeks}
 use Rattle.tier_safe.specs.Lineage.{Describes}
 
 -- what is found
@@ -75,24 +75,25 @@ pub record StillLeads (sought : Sought) (x : Broker) : Type 0 where
 -- a fetch on the desk: its broker's view has the entry of its piece, whose copy isn't under way any more; while that
 -- broker leads as it did, its offset is below the local start until it has found a piece, and what it has found
 -- stands
-pub record FetchStands (paths : List Path) (notes : List Note) (start : ℕ) (site : Site) (x : Broker) (sought : Sought)
+pub record FetchStands (paths : List Path) (notes : List Note) (start : ℕ) (tier_view : BrokerTierView) (x : Broker)
+    (sought : Sought)
     : Type 0 where
   pub stops : sought.stops ≤ x.stops
   pub taken : (log : List (List ℕ)) × (path_of paths sought.epoch ≡ Some log)
-  pub below : sought.piece ≡ None → StillLeads sought x → sought.offset < site.start
+  pub below : sought.piece ≡ None → StillLeads sought x → sought.offset < tier_view.start
   pub seen : (piece : Piece) → sought.piece ≡ Some piece
-      → SeesCopy site.view.entries piece.id
+      → SeesCopy tier_view.view.entries piece.id
   pub piece : (piece : Piece) → sought.piece ≡ Some piece → StillLeads sought x → start ≤ sought.offset
       → PieceStands notes x.log sought.offset piece
   pub from : (piece : Piece) (from : ℕ) → sought.piece ≡ Some piece → sought.from ≡ Some from
       → StillLeads sought x → start ≤ sought.offset → PositionStands paths (fold notes) piece.id sought.offset from
 
 -- each fetch on the desk
-abbrev pub FetchesStand : List Path → List Note → ℕ → List Site → List Broker → List Work → Type 0
-FetchesStand paths notes start sites brokers desk =
-    (a : ℕ) (sought : Sought) (site : Site) (x : Broker) → slice_get desk a ≡ Some (Seeks sought)
-    → slice_get sites sought.broker ≡ Some site → slice_get brokers sought.broker ≡ Some x
-    → FetchStands paths notes start site x sought
+abbrev pub FetchesStand : List Path → List Note → ℕ → List BrokerTierView → List Broker → List TierTask → Type 0
+FetchesStand paths notes start tier_views brokers desk =
+    (a : ℕ) (sought : Sought) (tier_view : BrokerTierView) (x : Broker) → slice_get desk a ≡ Some (Seeks sought)
+    → slice_get tier_views sought.broker ≡ Some tier_view → slice_get brokers sought.broker ≡ Some x
+    → FetchStands paths notes start tier_view x sought
 
 -- cached indexes
 
@@ -106,7 +107,7 @@ pub record CachedStands (paths : List Path) (notes : List Note) (id : SegmentId)
   pub is : IndexStands paths (fold notes) id index
 
 -- each index in a broker's cache
-abbrev pub CachesStand : List Path → List Note → List Site → Type 0
-CachesStand paths notes sites =
-    (b : ℕ) (site : Site) → slice_get sites b ≡ Some site → (id : SegmentId) (index : OffsetTable) → In (id, index) site.cache
+abbrev pub CachesStand : List Path → List Note → List BrokerTierView → Type 0
+CachesStand paths notes tier_views =
+    (b : ℕ) (tier_view : BrokerTierView) → slice_get tier_views b ≡ Some tier_view → (id : SegmentId) (index : OffsetTable) → In (id, index) tier_view.cache
     → CachedStands paths notes id index

@@ -10,18 +10,18 @@ use Rattle.plain_log.specs.declared.state.Role.TheVariants.{Leads}
 use Rattle.plain_log.specs.declared.command.Order.{Order}
 use Rattle.plain_log.specs.declared.journal.JournalEntry.{JournalEntry}
 use Rattle.plain_log.specs.Step.{step}
-use Rattle.tier_safe.specs.Scene.{Site, Scene}
+use Rattle.tier_safe.specs.Scene.{BrokerTierView, Scene}
 
 -- the incarnation stays, and that of the next copy where the broker stays up; or the log was opened under a later
 -- incarnation
-abbrev pub IdsGo : Site → Site → Type 0
+abbrev pub IdsGo : BrokerTierView → BrokerTierView → Type 0
 IdsGo old new =
     ((new.incarnation ≡ old.incarnation) × (new.up ≡ true → (old.up ≡ true) × (new.next ≡ old.next)))
     ⊎ (old.incarnation < new.incarnation)
 
 -- a side follows its broker: the local start doesn't rise, and is at or below the log's end; that of one that leads
 -- on stays
-pub record SiteGoes (old new : Site) (x y : Broker) : Type 0 where
+pub record BrokerTierGoes (old new : BrokerTierView) (x y : Broker) : Type 0 where
   pub up : new.up ≡ y.up
   pub start : new.start ≤ old.start
   pub within : new.start ≤ end_of y.log
@@ -31,14 +31,15 @@ pub record SiteGoes (old new : Site) (x y : Broker) : Type 0 where
   pub ids : IdsGo old new
 
 -- each side follows its broker from one state of the plain log to another
-pub record SitesFollow (sites : List Site) (c : Scene) (p q : Plain) : Type 0 where
-  pub count : length sites ≡ length c.sites
-  pub each : (b : ℕ) (old new : Site) (x y : Broker) → slice_get c.sites b ≡ Some old → slice_get sites b ≡ Some new
-      → slice_get p.brokers b ≡ Some x → slice_get q.brokers b ≡ Some y → SiteGoes old new x y
+pub record BrokerTiersFollow (tier_views : List BrokerTierView) (c : Scene) (p q : Plain) : Type 0 where
+  pub count : length tier_views ≡ length c.tier_views
+  pub each : (b : ℕ) (old new : BrokerTierView) (x y : Broker) → slice_get c.tier_views b ≡ Some old
+      → slice_get tier_views b ≡ Some new
+      → slice_get p.brokers b ≡ Some x → slice_get q.brokers b ≡ Some y → BrokerTierGoes old new x y
 
 -- the plain log takes a step, and the brokers' sides follow
-pub record MayStep (sites : List Site) (c : Scene) (p q : Plain) : Type 0 where
+pub record MayStep (tier_views : List BrokerTierView) (c : Scene) (p q : Plain) : Type 0 where
   pub order : Order
   pub entry : JournalEntry
   pub is : step p order entry ≡ Some q
-  pub follow : SitesFollow sites c p q
+  pub follow : BrokerTiersFollow tier_views c p q

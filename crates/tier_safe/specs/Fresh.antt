@@ -2,15 +2,15 @@
 use Rattle.std.specs.Prelude.{◌≡◌, ℕ, true, [], None, replicate}
 use Rattle.tier_base.specs.declared.object_key.ObjectKey.{ObjectKey}
 use Rattle.remote_view.specs.Fold.{view_of}
-use Rattle.tier_safe.specs.Scene.{Site, Free, Scene}
+use Rattle.tier_safe.specs.Scene.{BrokerTierView, Free, Scene}
 
 -- the side of a broker that is up, whose log was opened once
-abbrev pub fresh_site : Site
-fresh_site = record { up = true; start = 0; incarnation = 1; next = 0; view = view_of []; cache = [] }
+abbrev pub fresh_tier_view : BrokerTierView
+fresh_tier_view = record { up = true; start = 0; incarnation = 1; next = 0; view = view_of []; cache = [] }
 
 -- no object, no note, fresh brokers, and free seats
-pub record IsFresh (brokers seats : ℕ) (c : Scene) : Type 0 where
+pub record IsFresh (brokers actor_states : ℕ) (c : Scene) : Type 0 where
   pub objects : (key : ObjectKey) → c.objects key ≡ None
   pub notes : c.notes ≡ []
-  pub sites : c.sites ≡ replicate brokers fresh_site
-  pub desk : c.desk ≡ replicate seats Free
+  pub tier_views : c.tier_views ≡ replicate brokers fresh_tier_view
+  pub desk : c.desk ≡ replicate actor_states Free

@@ -10,7 +10,7 @@ use Rattle.plain_log.specs.declared.state.Path.{Path}
 use Rattle.plain_log.specs.declared.state.State.{State as Plain}
 use Rattle.remote_view.specs.Fold.{entry_of, fold}
 use Rattle.tier_safe.specs.Scene.{Scene}
-use Rattle.tier_safe.specs.Lineage.{IsHeld}
+use Rattle.tier_safe.specs.Lineage.{IsStoredWhole}
 
 -- the batches that two logs begin with go past an offset
 pub record Shares (xs ys : List (List ℕ)) (offset : ℕ) : Type 0 where
@@ -20,7 +20,7 @@ pub record Shares (xs ys : List (List ℕ)) (offset : ℕ) : Type 0 where
   pub past : offset < end_of front
 
 -- the batches that a remote segment holds, behind those of its path
-abbrev pub whole_of : {objects : Objects} {paths : List Path} {entry : Entry} → IsHeld objects paths entry → List (List ℕ)
+abbrev pub whole_of : {objects : Objects} {paths : List Path} {entry : Entry} → IsStoredWhole objects paths entry → List (List ℕ)
 whole_of h = h.describes.part.front ++ h.batches
 
 -- a finished copy, whose objects stand, holds the offset, and is one with the log up to it and past it
@@ -31,5 +31,5 @@ pub record IsKeptAt (c : Scene) (p : Plain) (log : List (List ℕ)) (offset : �
   pub partition : entry.partition ≡ c.partition
   pub finished : entry.state ≡ CopyFinished
   pub holds : (entry.start ≤ offset) × (offset ≤ entry.end)
-  pub held : IsHeld c.objects p.paths entry
+  pub held : IsStoredWhole c.objects p.paths entry
   pub shares : Shares (whole_of held) log offset

@@ -19,9 +19,9 @@ use Rattle.plain_log.specs.Step.{step}
 use Rattle.plain_log.specs.Safe.{PlainSafe}
 use Rattle.plain_log.specs.Fresh.{fresh}
 use Rattle.remote_view.specs.Fold.{entry_of, fold}
-use Rattle.tier_safe.specs.Scene.{Site, Scene}
+use Rattle.tier_safe.specs.Scene.{BrokerTierView, Scene}
 use Rattle.tier_safe.specs.Changes.{Change, effects}
-use Rattle.tier_safe.specs.Lineage.{IsHeld, IsSource}
+use Rattle.tier_safe.specs.Lineage.{IsStoredWhole, IsSource}
 use Rattle.tier_safe.specs.May.{Mays, IsChanged}
 use Rattle.tier_safe.specs.Safe.{BothSafe}
 use Rattle.tier_safe.specs.Fresh.{IsFresh}
@@ -46,13 +46,15 @@ SegmentsAreSources = (p : Plain) (b : ℕ) (x : Broker) (e : ℕ) (copy : Copied
 
 -- the rules hold where nothing has happened yet
 abbrev pub FreshIsSafe : Type 0
-FreshIsSafe = (config : Config) (seats : ℕ) (c : Scene) → 1 ≤ config.brokers → IsFresh config.brokers seats c
+FreshIsSafe =
+    (config : Config) (actor_states : ℕ) (c : Scene) → 1 ≤ config.brokers → IsFresh config.brokers actor_states c
     → BothSafe c (fresh config)
 
 -- what a broker's local log lacks, from the log start on, is kept
 abbrev pub DroppedIsKept : Type 0
-DroppedIsKept = (b : ℕ) (site : Site) (x : Broker) (o : ℕ) (c : Scene) (p : Plain) → BothSafe c p
-    → slice_get c.sites b ≡ Some site → slice_get p.brokers b ≡ Some x → p.registry.start ≤ o → o < site.start
+DroppedIsKept = (b : ℕ) (tier_view : BrokerTierView) (x : Broker) (o : ℕ) (c : Scene) (p : Plain) → BothSafe c p
+    → slice_get c.tier_views b ≡ Some tier_view → slice_get p.brokers b ≡ Some x → p.registry.start ≤ o
+    → o < tier_view.start
     → IsKeptAt c p x.log o
 
 -- what was finished once, after the first so many notes, is finished and stands, unless it ends below the log start
@@ -60,4 +62,4 @@ abbrev pub FinishedIsKept : Type 0
 FinishedIsKept = (c : Scene) (p : Plain) (before : List Note) (id : SegmentId) (then : Entry) → BothSafe c p
     → IsPrefix before c.notes → entry_of id (fold before) ≡ Some then → then.state ≡ CopyFinished
     → p.registry.start ≤ then.end
-    → (now : Entry) × (entry_of id (fold c.notes) ≡ Some now) × (now.state ≡ CopyFinished) × IsHeld c.objects p.paths now
+    → (now : Entry) × (entry_of id (fold c.notes) ≡ Some now) × (now.state ≡ CopyFinished) × IsStoredWhole c.objects p.paths now

@@ -52,7 +52,7 @@ pub record TellsParts (custom : Option (List ℕ)) (parts : Parts) : Type 0 wher
   pub is : custom ≡ Some (layout_bytes (layout_of parts))
 
 -- the objects of a remote segment stand, and are the parts of the batches that its entry tells of
-pub record IsHeld (objects : Objects) (paths : List Path) (entry : Entry) : Type 0 where
+pub record IsStoredWhole (objects : Objects) (paths : List Path) (entry : Entry) : Type 0 where
   pub batches : List (List ℕ)
   pub line : List (ℕ × ℕ)
   pub interval : ℕ

@@ -20,8 +20,8 @@ use Rattle.remote_view.specs.Fold.{Seen, entry_of, fold, view_of, AreKept, AreDi
 use Rattle.remote_view.specs.Lookup.{covers}
 use Rattle.remote_find.specs.declared.piece.Piece.{Piece}
 use Rattle.remote_find.specs.Pieces.{piece_at, covered_to}
-use Rattle.tier_safe.specs.Scene.{Site, Rebuild, Sought, Rebuilds, Seeks, Scene}
-use Rattle.tier_safe.specs.Lineage.{IsHeld, CoversLog}
+use Rattle.tier_safe.specs.Scene.{BrokerTierView, Rebuild, Sought, Rebuilds, Seeks, Scene}
+use Rattle.tier_safe.specs.Lineage.{IsStoredWhole, CoversLog}
 use Rattle.tier_safe.specs.Views.{IsViewOf}
 use Rattle.tier_safe.specs.Fetches.{StillLeads, PieceStands}
 use Rattle.tier_safe.specs.Safe.{TierSafe, BothSafe}
@@ -42,18 +42,20 @@ pub record IsRightView (view : Seen) : Type 0 where
 
 -- each offset from the log start on that a broker's local log lacks is found in its view, where it has seen all notes
 abbrev pub LackingIsFound : Type 0
-LackingIsFound = (c : Scene) (p : Plain) (b : ℕ) (site : Site) (x : Broker) (line : List (ℕ × ℕ)) (offset : ℕ) → TierSafe c p
-    → slice_get c.sites b ≡ Some site → slice_get p.brokers b ≡ Some x → p.registry.start ≤ offset → offset < site.start
-    → site.view ≡ view_of c.notes → TellsEpochs line x.log
-    → (piece : Piece) × (piece_at site.view.entries line (end_of x.log) offset ≡ Some piece)
+LackingIsFound = (c : Scene) (p : Plain) (b : ℕ) (tier_view : BrokerTierView) (x : Broker) (line : List (ℕ × ℕ)) (offset : ℕ) → TierSafe c p
+    → slice_get c.tier_views b ≡ Some tier_view → slice_get p.brokers b ≡ Some x → p.registry.start ≤ offset
+    → offset < tier_view.start
+    → tier_view.view ≡ view_of c.notes → TellsEpochs line x.log
+    → (piece : Piece) × (piece_at tier_view.view.entries line (end_of x.log) offset ≡ Some piece)
 
 -- a fetch that has no piece yet, and whose broker leads on and has seen all notes, finds what it reads from
 abbrev pub AskedIsFound : Type 0
-AskedIsFound = (c : Scene) (p : Plain) (a : ℕ) (sought : Sought) (site : Site) (x : Broker) (line : List (ℕ × ℕ)) → TierSafe c p
-    → slice_get c.desk a ≡ Some (Seeks sought) → sought.piece ≡ None → slice_get c.sites sought.broker ≡ Some site
+AskedIsFound = (c : Scene) (p : Plain) (a : ℕ) (sought : Sought) (tier_view : BrokerTierView) (x : Broker) (line : List (ℕ × ℕ)) → TierSafe c p
+    → slice_get c.desk a ≡ Some (Seeks sought) → sought.piece ≡ None
+    → slice_get c.tier_views sought.broker ≡ Some tier_view
     → slice_get p.brokers sought.broker ≡ Some x → StillLeads sought x → p.registry.start ≤ sought.offset
-    → site.view ≡ view_of c.notes → TellsEpochs line x.log
-    → (piece : Piece) × (piece_at site.view.entries line (end_of x.log) sought.offset ≡ Some piece)
+    → tier_view.view ≡ view_of c.notes → TellsEpochs line x.log
+    → (piece : Piece) × (piece_at tier_view.view.entries line (end_of x.log) sought.offset ≡ Some piece)
 
 -- what is found in a view, by a log's line, stands: a fetch may keep it
 abbrev pub FoundStands : Type 0
@@ -68,11 +70,12 @@ ReachedIsCovered = (view : Seen) (line : List (ℕ × ℕ)) (log : List (List �
 
 -- a rebuild that has refreshed finds the remote segment of the last offset below the wanted one
 abbrev pub WantedIsFound : Type 0
-WantedIsFound = (c : Scene) (p : Plain) (a : ℕ) (rebuild : Rebuild) (site : Site) (line : List (ℕ × ℕ)) → (h : TierSafe c p)
-    → (seat : slice_get c.desk a ≡ Some (Rebuilds rebuild)) → slice_get c.sites rebuild.broker ≡ Some site
+WantedIsFound = (c : Scene) (p : Plain) (a : ℕ) (rebuild : Rebuild) (tier_view : BrokerTierView) (line : List (ℕ × ℕ)) → (h : TierSafe c p)
+    → (actor_state : slice_get c.desk a ≡ Some (Rebuilds rebuild))
+    → slice_get c.tier_views rebuild.broker ≡ Some tier_view
     → rebuild.refreshed ≡ true → p.registry.start < rebuild.wanted
-    → epoch_at line (rebuild.wanted - 1) ≡ epoch_holding (h.rebuilds a rebuild seat).front (rebuild.wanted - 1)
-    → (piece : Piece) × (piece_at site.view.entries line rebuild.wanted (rebuild.wanted - 1) ≡ Some piece)
+    → epoch_at line (rebuild.wanted - 1) ≡ epoch_holding (h.rebuilds a rebuild actor_state).front (rebuild.wanted - 1)
+    → (piece : Piece) × (piece_at tier_view.view.entries line rebuild.wanted (rebuild.wanted - 1) ≡ Some piece)
 
 -- reads
 
@@ -83,7 +86,7 @@ pub record IsServed (c : Scene) (p : Plain) (log : List (List ℕ)) (sought : So
   pub there : entry_of piece.id (fold c.notes) ≡ Some entry
   pub partition : entry.partition ≡ c.partition
   pub finished : entry.state ≡ CopyFinished
-  pub held : IsHeld c.objects p.paths entry
+  pub held : IsStoredWhole c.objects p.paths entry
   pub runs : (run : List (List ℕ)) → IsPrefix run (from_offset sought.offset held.batches) → end_of run ≤ piece.to
       → IsPrefix run (from_offset sought.offset log)
   pub from : (from : ℕ) → sought.from ≡ Some from
@@ -91,8 +94,8 @@ pub record IsServed (c : Scene) (p : Plain) (log : List (List ℕ)) (sought : So
 
 -- what a fetch on the desk reads is its log's, while its broker leads on and the log start isn't above its offset
 abbrev pub FetchesAreServed : Type 0
-FetchesAreServed = (c : Scene) (p : Plain) (a : ℕ) (sought : Sought) (piece : Piece) (site : Site) (x : Broker) → BothSafe c p
-    → slice_get c.desk a ≡ Some (Seeks sought) → slice_get c.sites sought.broker ≡ Some site
+FetchesAreServed = (c : Scene) (p : Plain) (a : ℕ) (sought : Sought) (piece : Piece) (tier_view : BrokerTierView) (x : Broker) → BothSafe c p
+    → slice_get c.desk a ≡ Some (Seeks sought) → slice_get c.tier_views sought.broker ≡ Some tier_view
     → slice_get p.brokers sought.broker ≡ Some x → sought.piece ≡ Some piece → StillLeads sought x
     → p.registry.start ≤ sought.offset → IsServed c p x.log sought piece
 
@@ -101,14 +104,14 @@ pub record RebuildReads (c : Scene) (p : Plain) (front : List (List ℕ)) (wante
   pub entry : Entry
   pub there : entry_of id (fold c.notes) ≡ Some entry
   pub partition : entry.partition ≡ c.partition
-  pub held : IsHeld c.objects p.paths entry
+  pub held : IsStoredWhole c.objects p.paths entry
   pub begins : IsPrefix front (whole_of held)
   pub says : (o : ℕ) → o < wanted → epoch_at (line_of (whole_of held)) o ≡ epoch_holding front o
 
 -- what a rebuild reads at the last offset below the wanted one is the path's
 abbrev pub RebuildsAreServed : Type 0
-RebuildsAreServed = (c : Scene) (p : Plain) (a : ℕ) (rebuild : Rebuild) (site : Site) (id : SegmentId) (entry : Entry) (e : ℕ)
-    → (h : BothSafe c p) → (seat : slice_get c.desk a ≡ Some (Rebuilds rebuild)) → slice_get c.sites rebuild.broker ≡ Some site
-    → p.registry.start < rebuild.wanted → entry_of id site.view.entries ≡ Some entry → covers e (rebuild.wanted - 1) entry ≡ true
-    → epoch_holding (h.tier.rebuilds a rebuild seat).front (rebuild.wanted - 1) ≡ Some e
-    → RebuildReads c p (h.tier.rebuilds a rebuild seat).front rebuild.wanted id
+RebuildsAreServed = (c : Scene) (p : Plain) (a : ℕ) (rebuild : Rebuild) (tier_view : BrokerTierView) (id : SegmentId) (entry : Entry) (e : ℕ)
+    → (h : BothSafe c p) → (actor_state : slice_get c.desk a ≡ Some (Rebuilds rebuild)) → slice_get c.tier_views rebuild.broker ≡ Some tier_view
+    → p.registry.start < rebuild.wanted → entry_of id tier_view.view.entries ≡ Some entry → covers e (rebuild.wanted - 1) entry ≡ true
+    → epoch_holding (h.tier.rebuilds a rebuild actor_state).front (rebuild.wanted - 1) ≡ Some e
+    → RebuildReads c p (h.tier.rebuilds a rebuild actor_state).front rebuild.wanted id

@@ -15,12 +15,12 @@ use Rattle.object_store.specs.Content.{Objects}
 use Rattle.remote_view.specs.Fold.{Seen}
 use Rattle.remote_find.specs.declared.piece.Piece.{Piece}
 use Rattle.copy_task.specs.Copying.{Copied}
-use Rattle.copy_task.specs.declared.turn.Next.{Next as CopyNext}
-use Rattle.expiry_task.specs.declared.turn.Doomed.{Doomed}
-use Rattle.expiry_task.specs.declared.turn.Next.{Next as ExpiryNext}
+use Rattle.copy_task.specs.declared.turn.CopyStep.{CopyStep as CopyNext}
+use Rattle.expiry_task.specs.declared.turn.ExpiredSegment.{ExpiredSegment}
+use Rattle.expiry_task.specs.declared.turn.DeletionStep.{DeletionStep as ExpiryNext}
 
 -- a broker's side of the tier
-pub record Site : Type 0 where
+pub record BrokerTierView : Type 0 where
   pub up : Bool
   -- where its local log starts
   pub start : ℕ
@@ -55,13 +55,13 @@ pub record Sought : Type 0 where
   pub piece : Option Piece
   pub from : Option ℕ
 
--- what a seat of the desk keeps between two turns
-pub data Work : Type 0 where
-  Free : Work
-  Copies : (copy : Copied) → (next : CopyNext) → Work
-  Expires : (doomed : Doomed) → (next : ExpiryNext) → Work
-  Rebuilds : (rebuild : Rebuild) → Work
-  Seeks : (sought : Sought) → Work
+-- what an actor's state of the desk keeps between two turns
+pub data TierTask : Type 0 where
+  Free : TierTask
+  Copies : (copy : Copied) → (next : CopyNext) → TierTask
+  Expires : (expired_segment : ExpiredSegment) → (next : ExpiryNext) → TierTask
+  Rebuilds : (rebuild : Rebuild) → TierTask
+  Seeks : (sought : Sought) → TierTask
 
 -- the tier of a partition: its objects and notes, its brokers, and its desk
 pub record Scene : Type 0 where
@@ -69,5 +69,5 @@ pub record Scene : Type 0 where
   pub objects : Objects
   -- the oldest first
   pub notes : List Note
-  pub sites : List Site
-  pub desk : List Work
+  pub tier_views : List BrokerTierView
+  pub desk : List TierTask

@@ -21,25 +21,26 @@ use Rattle.plain_log.specs.declared.state.Broker.{Broker}
 use Rattle.plain_log.specs.Safe.{Has}
 use Rattle.remote_view.specs.Fold.{entry_of, fold}
 use Rattle.expiry_task.specs.Turns.{keys}
-use Rattle.expiry_task.specs.declared.turn.Doomed.{Doomed}
-use Rattle.expiry_task.specs.declared.turn.Next.{Next as ExpiryNext}
-use Rattle.expiry_task.specs.declared.turn.Next.TheVariants as expiring
-use Rattle.tier_safe.specs.Scene.{Site, Rebuild, Work, Expires, Rebuilds}
+use Rattle.expiry_task.specs.declared.turn.ExpiredSegment.{ExpiredSegment}
+use Rattle.expiry_task.specs.declared.turn.DeletionStep.{DeletionStep as ExpiryNext}
+use Rattle.expiry_task.specs.declared.turn.DeletionStep.TheVariants as expiring
+use Rattle.tier_safe.specs.Scene.{BrokerTierView, Rebuild, TierTask, Expires, Rebuilds}
 use Rattle.tier_safe.specs.Lineage.{CoversLog}
 use Rattle.tier_safe.specs.Copies.{is_deleted}
 
 -- local starts
 
 -- a broker's side is up where the broker is, and its local log starts at or below the log's end
-pub record SiteStands (site : Site) (x : Broker) : Type 0 where
-  pub up : site.up ≡ x.up
-  pub within : site.start ≤ end_of x.log
+pub record BrokerTierMatches (tier_view : BrokerTierView) (x : Broker) : Type 0 where
+  pub up : tier_view.up ≡ x.up
+  pub within : tier_view.start ≤ end_of x.log
 
 -- each broker has a side, and it stands so
-pub record SitesStand (sites : List Site) (brokers : List Broker) : Type 0 where
-  pub count : length sites ≡ length brokers
-  pub each : (b : ℕ) (site : Site) (x : Broker) → slice_get sites b ≡ Some site → slice_get brokers b ≡ Some x
-      → SiteStands site x
+pub record BrokerTiersMatch (tier_views : List BrokerTierView) (brokers : List Broker) : Type 0 where
+  pub count : length tier_views ≡ length brokers
+  pub each : (b : ℕ) (tier_view : BrokerTierView) (x : Broker) → slice_get tier_views b ≡ Some tier_view
+      → slice_get brokers b ≡ Some x
+      → BrokerTierMatches tier_view x
 
 -- deletions
 
@@ -56,47 +57,51 @@ IsBegun (expiring.Delete n) state = is_deleted state ≡ true
 IsBegun expiring.Finish state = is_deleted state ≡ true
 
 -- the object that an expiry takes away next has a key
-abbrev pub ExpiryHasKey : Doomed → ExpiryNext → Type 0
-ExpiryHasKey doomed (expiring.Delete n) = n < length (keys doomed)
-ExpiryHasKey doomed next = Unit {0}
+abbrev pub ExpiryHasKey : ExpiredSegment → ExpiryNext → Type 0
+ExpiryHasKey expired_segment (expiring.Delete n) = n < length (keys expired_segment)
+ExpiryHasKey expired_segment next = Unit {0}
 
 -- what an expiry on the desk deletes ends below the log start
-pub record ExpiryStands (entries : List Entry) (start : ℕ) (doomed : Doomed) (next : ExpiryNext) : Type 0 where
+pub record ExpiryStands (entries : List Entry) (start : ℕ) (expired_segment : ExpiredSegment)
+    (next : ExpiryNext) : Type 0 where
   pub entry : Entry
-  pub there : entry_of doomed.id entries ≡ Some entry
+  pub there : entry_of expired_segment.id entries ≡ Some entry
   pub below : entry.end < start
-  pub begun : IsBegun next entry.state
-  pub key : ExpiryHasKey doomed next
+  pub snapshot : IsBegun next entry.state
+  pub key : ExpiryHasKey expired_segment next
 
 -- what is deleted, and what is about to be
-pub record DeletionsStand (notes : List Note) (start : ℕ) (desk : List Work) : Type 0 where
+pub record DeletionsStand (notes : List Note) (start : ℕ) (desk : List TierTask) : Type 0 where
   pub ended : DeletedEnd notes start
-  pub each : (a : ℕ) (doomed : Doomed) (next : ExpiryNext) → slice_get desk a ≡ Some (Expires doomed next)
-      → ExpiryStands (fold notes) start doomed next
+  pub each : (a : ℕ) (expired_segment : ExpiredSegment) (next : ExpiryNext)
+      → slice_get desk a ≡ Some (Expires expired_segment next)
+      → ExpiryStands (fold notes) start expired_segment next
 
 -- what local logs lack
 
 -- each offset from the log start up to a broker's local start is covered, in the epoch that the broker's log has there
-abbrev pub CoveredStands : List Entry → ℕ → List Site → List Broker → Type 0
-CoveredStands entries start sites brokers =
-    (b : ℕ) (site : Site) (x : Broker) → slice_get sites b ≡ Some site → slice_get brokers b ≡ Some x
-    → (o : ℕ) → start ≤ o → o < site.start → CoversLog entries x.log o
+abbrev pub CoveredStands : List Entry → ℕ → List BrokerTierView → List Broker → Type 0
+CoveredStands entries start tier_views brokers =
+    (b : ℕ) (tier_view : BrokerTierView) (x : Broker) → slice_get tier_views b ≡ Some tier_view
+    → slice_get brokers b ≡ Some x
+    → (o : ℕ) → start ≤ o → o < tier_view.start → CoversLog entries x.log o
 
 -- a rebuild on the desk: the batches below the wanted offset are the path's; from the log start on they are covered,
 -- the last one also in the refreshed view; and the line has their epochs
-pub record RebuildStands (paths : List Path) (notes : List Note) (start : ℕ) (sites : List Site) (rebuild : Rebuild)
+pub record RebuildStands (paths : List Path) (notes : List Note) (start : ℕ) (tier_views : List BrokerTierView)
+    (rebuild : Rebuild)
     : Type 0 where
   pub front : List (List ℕ)
   pub begins : Has paths rebuild.epoch front
   pub ends : end_of front ≡ rebuild.wanted
   pub above : rebuild.end < rebuild.wanted
   pub covered : (o : ℕ) → start ≤ o → o < rebuild.wanted → CoversLog (fold notes) front o
-  pub seen : (site : Site) → slice_get sites rebuild.broker ≡ Some site → rebuild.refreshed ≡ true → start < rebuild.wanted
-      → CoversLog site.view.entries front (rebuild.wanted - 1)
+  pub seen : (tier_view : BrokerTierView) → slice_get tier_views rebuild.broker ≡ Some tier_view → rebuild.refreshed ≡ true → start < rebuild.wanted
+      → CoversLog tier_view.view.entries front (rebuild.wanted - 1)
   pub line : (line : List (ℕ × ℕ)) → rebuild.line ≡ Some line
       → (o : ℕ) → o < rebuild.wanted → epoch_at line o ≡ epoch_holding front o
 
 -- each rebuild on the desk
-abbrev pub RebuildsStand : List Path → List Note → ℕ → List Site → List Work → Type 0
-RebuildsStand paths notes start sites desk =
-    (a : ℕ) (rebuild : Rebuild) → slice_get desk a ≡ Some (Rebuilds rebuild) → RebuildStands paths notes start sites rebuild
+abbrev pub RebuildsStand : List Path → List Note → ℕ → List BrokerTierView → List TierTask → Type 0
+RebuildsStand paths notes start tier_views desk =
+    (a : ℕ) (rebuild : Rebuild) → slice_get desk a ≡ Some (Rebuilds rebuild) → RebuildStands paths notes start tier_views rebuild

@@ -21,10 +21,10 @@ use Rattle.segment_meta.specs.declared.note.Note.TheVariants.{Add, Update}
 use Rattle.object_store.specs.Content.{Objects}
 use Rattle.remote_view.specs.Fold.{Seen, entry_of, view_of}
 use Rattle.copy_task.specs.Copying.{Copied}
-use Rattle.copy_task.specs.declared.turn.Next.{Next as CopyNext}
-use Rattle.expiry_task.specs.declared.turn.Doomed.{Doomed}
-use Rattle.expiry_task.specs.declared.turn.Next.{Next as ExpiryNext}
-use Rattle.tier_safe.specs.Scene.{Site, Work, Copies, Expires}
+use Rattle.copy_task.specs.declared.turn.CopyStep.{CopyStep as CopyNext}
+use Rattle.expiry_task.specs.declared.turn.ExpiredSegment.{ExpiredSegment}
+use Rattle.expiry_task.specs.declared.turn.DeletionStep.{DeletionStep as ExpiryNext}
+use Rattle.tier_safe.specs.Scene.{BrokerTierView, TierTask, Copies, Expires}
 
 -- notes
 
@@ -39,7 +39,7 @@ pub record IsRight (note : Note) : Type 0 where
   pub id : HasId note
 
 -- each note keeps its rules, and so will those of the copies on the desk
-pub record NotesStand (notes : List Note) (desk : List Work) : Type 0 where
+pub record NotesStand (notes : List Note) (desk : List TierTask) : Type 0 where
   pub right : AllByRecursion IsRight notes
   pub ids : (a : ℕ) (copy : Copied) (next : CopyNext) → slice_get desk a ≡ Some (Copies copy next) → IsId copy.id
 
@@ -52,18 +52,20 @@ pub record IsViewOf (notes : List Note) (view : Seen) : Type 0 where
   pub is : view ≡ view_of before
 
 -- each broker's is
-abbrev pub ViewsStand : List Note → List Site → Type 0
-ViewsStand notes sites = (b : ℕ) (site : Site) → slice_get sites b ≡ Some site → IsViewOf notes site.view
+abbrev pub ViewsStand : List Note → List BrokerTierView → Type 0
+ViewsStand notes tier_views =
+    (b : ℕ) (tier_view : BrokerTierView) → slice_get tier_views b ≡ Some tier_view → IsViewOf notes tier_view.view
 
 -- the partition
 
 -- entries, objects, and what is copied or deleted are of this partition
-pub record AreOfPartition (partition : PartitionId) (objects : Objects) (entries : List Entry) (desk : List Work) : Type 0 where
+pub record AreOfPartition (partition : PartitionId) (objects : Objects) (entries : List Entry) (desk : List TierTask) : Type 0 where
   pub told : (id : SegmentId) (entry : Entry) → entry_of id entries ≡ Some entry → entry.partition ≡ partition
   pub stored : (key : ObjectKey) (bytes : List ℕ) → objects key ≡ Some bytes → key.partition ≡ partition
   pub copied : (a : ℕ) (copy : Copied) (next : CopyNext) → slice_get desk a ≡ Some (Copies copy next) → copy.partition ≡ partition
-  pub deleted : (a : ℕ) (doomed : Doomed) (next : ExpiryNext) → slice_get desk a ≡ Some (Expires doomed next)
-      → doomed.partition ≡ partition
+  pub deleted : (a : ℕ) (expired_segment : ExpiredSegment) (next : ExpiryNext)
+      → slice_get desk a ≡ Some (Expires expired_segment next)
+      → expired_segment.partition ≡ partition
 
 -- ids
 
@@ -76,21 +78,22 @@ pub record IsIdOf (id : SegmentId) (partition broker incarnation attempt : ℕ) 
   pub attempt_fits : attempt < 2 ^ 64
 
 -- the broker has chosen it before: of this incarnation, while it is up, only attempts below the next one
-pub record IsChosen (site : Site) (incarnation attempt : ℕ) : Type 0 where
-  pub opened : incarnation ≤ site.incarnation
-  pub below : site.up ≡ true → incarnation ≡ site.incarnation → attempt < site.next
+pub record IsChosen (tier_view : BrokerTierView) (incarnation attempt : ℕ) : Type 0 where
+  pub opened : incarnation ≤ tier_view.incarnation
+  pub below : tier_view.up ≡ true → incarnation ≡ tier_view.incarnation → attempt < tier_view.next
 
 -- the id has an entry
 abbrev pub IsNamed : List Entry → SegmentId → Type 0
 IsNamed entries id = (entry : Entry) × (entry_of id entries ≡ Some entry)
 
 -- it has one, or is that of a copy on the desk
-abbrev pub IsUsed : List Entry → List Work → SegmentId → Type 0
+abbrev pub IsUsed : List Entry → List TierTask → SegmentId → Type 0
 IsUsed entries desk id = IsNamed entries id
     ⊎ ((a : ℕ) × (copy : Copied) × (next : CopyNext) × (slice_get desk a ≡ Some (Copies copy next)) × (copy.id ≡ id))
 
 -- each id that is used was chosen by its broker before
-abbrev pub IdsStand : List Entry → List Site → List Work → Type 0
-IdsStand entries sites desk =
-    (id : SegmentId) (partition b incarnation attempt : ℕ) (site : Site) → IsUsed entries desk id
-    → IsIdOf id partition b incarnation attempt → slice_get sites b ≡ Some site → IsChosen site incarnation attempt
+abbrev pub IdsStand : List Entry → List BrokerTierView → List TierTask → Type 0
+IdsStand entries tier_views desk =
+    (id : SegmentId) (partition b incarnation attempt : ℕ) (tier_view : BrokerTierView) → IsUsed entries desk id
+    → IsIdOf id partition b incarnation attempt → slice_get tier_views b ≡ Some tier_view
+    → IsChosen tier_view incarnation attempt

@@ -4,7 +4,7 @@ use Rattle.segment_meta.specs.declared.note.Note.{Note}
 use Rattle.object_store.specs.Content as store
 use Rattle.meta_log.specs.Content as meta
 use Rattle.remote_view.specs.Fold.{fold}
-use Rattle.tier_sweep.specs.Sweeping.{starts_of, ends_of, Tier, tier_with, tier_of, IsSwept, IsUnderSweep, Starting, Ending, LeavesUnder}
+use Rattle.tier_sweep.specs.Sweeping.{starts_of, ends_of, SweptTier, tier_with, tier_of, IsSwept, IsUnderSweep, Starting, Ending, LeavesUnder}
 
 -- where all that is left is one list, and that is told, it alone is left
 pub told_alone : (new : meta.Content) (notes : List Note) → new.notes ≡ notes → ((l : List Note) → meta.Left new l → l ≡ notes) → meta.LeavesTold new
@@ -16,7 +16,7 @@ none_under s old new k l left =
     (l, k.left l left, Starting (record { notes = record { told = []; rest = starts_of (fold l); are = refl; now = sym (append-nil l) }; objects = λ key. refl }))
 
 -- one that was done has come as far as one may that was refused
-pub swept_under : (old new : Tier) (n : ℕ) → IsSwept old new n → IsUnderSweep old new
+pub swept_under : (old new : SweptTier) (n : ℕ) → IsSwept old new n → IsUnderSweep old new
 swept_under old new n h = Ending (record { notes = record { told = ends_of (fold old.notes); rest = []; are = append-nil (ends_of (fold old.notes)); now = h.notes }; objects = h.objects })
 
 -- and nothing else is left then

@@ -10,12 +10,12 @@ use Rattle.segment_meta.specs.declared.note.Entry.{Entry}
 use Rattle.segment_meta.specs.declared.note.Note.{Note}
 use Rattle.segment_meta.specs.Steps.{next_state}
 use Rattle.segment_meta.specs.Rules.{IsNote, MayTell, bare_custom}
-use Rattle.remote_view.specs.Fold.{entry_of, state_of, changed, updated, noted, folded_from, fold, AreDistinct}
+use Rattle.remote_view.specs.Fold.{entry_of, state_of, changed, updated, recorded, folded_from, fold, AreDistinct}
 use Rattle.remote_view.proofs.Ids.{same_id, bytes_self}
 use Rattle.remote_view.proofs.Folding.{fold_distinct}
 use Rattle.meta_log.specs.Content.{AreNotes}
 use Rattle.tier_sweep.specs.Rest.{is_under_way, stays}
-use Rattle.tier_sweep.specs.Sweeping.{is_copying, note_of, notes_of, starts_of, ends_of, rested, MayTake, Tier, IsUnderSweep, Starting, Taking, Ending}
+use Rattle.tier_sweep.specs.Sweeping.{is_copying, note_of, notes_of, starts_of, ends_of, rested, MayTake, SweptTier, IsUnderSweep, Starting, Taking, Ending}
 use Rattle.tier_sweep.proofs.Rested.{folded_append, by_recursion, notes_distinct, entry_rested}
 
 -- a sweep tells this state
@@ -163,8 +163,8 @@ some_same : {A : Type 0} (a b : A) → Some a ≡ Some b → a ≡ b
 some_same a b e = cc (e)
 
 -- one note
-note_rests : (es xs : List Entry) (note : Note) → IsOf es note → map rested xs ≡ map rested es → map rested (noted xs note) ≡ map rested es
-note_rests es xs note h same = subst (λ (n : Note). map rested (noted xs n) ≡ map rested es) (sym h.is) (by (is_some (next_state (state_of h.entry.id xs) h.state)))
+note_rests : (es xs : List Entry) (note : Note) → IsOf es note → map rested xs ≡ map rested es → map rested (recorded xs note) ≡ map rested es
+note_rests es xs note h same = subst (λ (n : Note). map rested (recorded xs n) ≡ map rested es) (sym h.is) (by (is_some (next_state (state_of h.entry.id xs) h.state)))
   where
     found : (x : Entry) → entry_of h.entry.id xs ≡ Some x → rested x ≡ rested h.entry
     found x here = some_same (rested x) (rested h.entry)
@@ -176,15 +176,15 @@ note_rests es xs note h same = subst (λ (n : Note). map rested (noted xs n) ≡
 
 pub notes_rest : (es xs : List Entry) (notes : List Note) → AllByRecursion (IsOf es) notes → map rested xs ≡ map rested es → map rested (folded_from xs notes) ≡ map rested es
 notes_rest es xs [] h same = same
-notes_rest es xs (note ∷ notes) h same = notes_rest es (noted xs note) notes h.1 (note_rests es xs note h.0 same)
+notes_rest es xs (note ∷ notes) h same = notes_rest es (recorded xs note) notes h.1 (note_rests es xs note h.0 same)
 
 -- what a refused sweep has told
-pub record IsTold (old new : Tier) : Type 0 where
+pub record IsTold (old new : SweptTier) : Type 0 where
   pub notes : List Note
   pub are : AllByRecursion (IsOf (fold old.notes)) notes
   pub now : new.notes ≡ old.notes ++ notes
 
-pub is_told : (old new : Tier) → AreDistinct (fold old.notes) → IsUnderSweep old new → IsTold old new
+pub is_told : (old new : SweptTier) → AreDistinct (fold old.notes) → IsUnderSweep old new → IsTold old new
 is_told old new apart (Starting h) = record {
   notes = h.notes.told;
   are = front (IsOf (fold old.notes)) h.notes.told h.notes.rest (subst (AllByRecursion (IsOf (fold old.notes))) (sym h.notes.are) (starts_are (fold old.notes) apart));
@@ -206,20 +206,20 @@ pub told_rests : (old notes : List Note) → AllByRecursion (IsOf (fold old)) no
 told_rests old notes are = ap (λ (es : List Entry). map rested es) (folded_append [] old notes) ∙ notes_rest (fold old) (fold old) notes are refl
 
 -- the entries come to rest as before
-pub under_rests : (old new : Tier) → AreNotes old.notes → IsUnderSweep old new → map rested (fold new.notes) ≡ map rested (fold old.notes)
+pub under_rests : (old new : SweptTier) → AreNotes old.notes → IsUnderSweep old new → map rested (fold new.notes) ≡ map rested (fold old.notes)
 under_rests old new are h =
     let told = is_told old new (notes_distinct old.notes are) h in
     ap (λ (ns : List Note). map rested (fold ns)) told.now
     ∙ told_rests old.notes told.notes told.are
 
 -- their ids are told apart
-pub under_distinct : (old new : Tier) → AreNotes old.notes → IsUnderSweep old new → AreDistinct (fold new.notes)
+pub under_distinct : (old new : SweptTier) → AreNotes old.notes → IsUnderSweep old new → AreDistinct (fold new.notes)
 under_distinct old new are h =
     let told = is_told old new (notes_distinct old.notes are) h in
     fold_distinct new.notes (subst (AllByRecursion IsNote) (sym told.now) (both IsNote old.notes told.notes (by_recursion IsNote old.notes are) (are_notes (fold old.notes) told.notes told.are)))
 
 -- no object has gone that stays
-pub under_may_take : (old new : Tier) → IsUnderSweep old new → MayTake (fold old.notes) old.objects new.objects
+pub under_may_take : (old new : SweptTier) → IsUnderSweep old new → MayTake (fold old.notes) old.objects new.objects
 under_may_take old new (Starting h) key = inl (h.objects key)
 under_may_take old new (Taking h) key = h.objects key
 under_may_take old new (Ending h) key = by (stays (fold old.notes) key.id) refl (h.objects key)

@@ -11,7 +11,7 @@ use Rattle.segment_meta.specs.declared.note.Note.{Note}
 use Rattle.segment_meta.specs.Steps.{next_state}
 use Rattle.segment_meta.specs.Rules.{IsNote, bare_custom}
 use Rattle.meta_log.specs.Content.{AreNotes}
-use Rattle.remote_view.specs.Fold.{entry_of, state_of, changed, updated, noted, folded_from, fold, AreDistinct}
+use Rattle.remote_view.specs.Fold.{entry_of, state_of, changed, updated, recorded, folded_from, fold, AreDistinct}
 use Rattle.remote_view.proofs.Ids.{same_id, bytes_self}
 use Rattle.remote_view.proofs.Folding.{fold_distinct}
 use Rattle.tier_sweep.specs.Rest.{is_under_way, AllRest}
@@ -34,8 +34,8 @@ misses_first q e es none = by (bytes_eq e.id.0 q.0) none
     by false gone = (refl, gone)
 
 -- a note of another id leaves the first entry
-noted_behind : (x r : Entry) (xs : List Entry) (s : State) → bytes_eq x.id.0 r.id.0 ≡ false → noted (x ∷ xs) (note_of s r) ≡ x ∷ noted xs (note_of s r)
-noted_behind x r xs s other = rw other (by (is_some (next_state (state_of r.id xs) s)))
+recorded_behind : (x r : Entry) (xs : List Entry) (s : State) → bytes_eq x.id.0 r.id.0 ≡ false → recorded (x ∷ xs) (note_of s r) ≡ x ∷ recorded xs (note_of s r)
+recorded_behind x r xs s other = rw other (by (is_some (next_state (state_of r.id xs) s)))
   where
     by : (t : Bool) → cond t (x ∷ changed r.id (updated r.broker r.event_ts s (bare_custom r.packed)) xs) (x ∷ xs) ≡ x ∷ cond t (changed r.id (updated r.broker r.event_ts s (bare_custom r.packed)) xs) xs
     by true = refl
@@ -47,10 +47,10 @@ module _ (passes : State → Bool) (s : State) where
   all_behind x xs [] none = refl
   all_behind x xs (r ∷ es) none =
       let apart = misses_first x.id r es none in
-      by (passes r.state) (noted_behind x r xs s (other_way r.id x.id apart.0)) (all_behind x (noted xs (note_of s r)) es apart.1) (all_behind x xs es apart.1)
+      by (passes r.state) (recorded_behind x r xs s (other_way r.id x.id apart.0)) (all_behind x (recorded xs (note_of s r)) es apart.1) (all_behind x xs es apart.1)
     where
-      by : (t : Bool) → noted (x ∷ xs) (note_of s r) ≡ x ∷ noted xs (note_of s r)
-          → folded_from (x ∷ noted xs (note_of s r)) (notes_of passes s es) ≡ x ∷ folded_from (noted xs (note_of s r)) (notes_of passes s es)
+      by : (t : Bool) → recorded (x ∷ xs) (note_of s r) ≡ x ∷ recorded xs (note_of s r)
+          → folded_from (x ∷ recorded xs (note_of s r)) (notes_of passes s es) ≡ x ∷ folded_from (recorded xs (note_of s r)) (notes_of passes s es)
           → folded_from (x ∷ xs) (notes_of passes s es) ≡ x ∷ folded_from xs (notes_of passes s es)
           → folded_from (x ∷ xs) (map (note_of s) (cond t (r ∷ filter (λ (e : Entry). passes e.state) es) (filter (λ (e : Entry). passes e.state) es)))
           ≡ x ∷ folded_from xs (map (note_of s) (cond t (r ∷ filter (λ (e : Entry). passes e.state) es) (filter (λ (e : Entry). passes e.state) es)))
@@ -61,7 +61,7 @@ module _ (passes : State → Bool) (s : State) where
       (steps : (e : Entry) → passes e.state ≡ true → (is_some (next_state (Some (before e).state) s) ≡ true) × (updated e.broker e.event_ts s (bare_custom e.packed) (before e) ≡ after e))
       (rests : (e : Entry) → passes e.state ≡ false → before e ≡ after e) where
     -- the first entry's note
-    first_step : (e : Entry) (xs : List Entry) → passes e.state ≡ true → noted (before e ∷ xs) (note_of s e) ≡ after e ∷ xs
+    first_step : (e : Entry) (xs : List Entry) → passes e.state ≡ true → recorded (before e ∷ xs) (note_of s e) ≡ after e ∷ xs
     first_step e xs is =
         let here : bytes_eq (before e).id.0 e.id.0 ≡ true = rw (ids e) (bytes_self e.id.0) in
         let step = (steps e is).0 in
@@ -137,7 +137,7 @@ ends_come es apart = all_steps is_under_way DeleteFinished started rested starte
 
 pub folded_append : (es : List Entry) (xs ys : List Note) → folded_from es (xs ++ ys) ≡ folded_from (folded_from es xs) ys
 folded_append es [] ys = refl
-folded_append es (x ∷ xs) ys = folded_append (noted es x) xs ys
+folded_append es (x ∷ xs) ys = folded_append (recorded es x) xs ys
 
 -- all starts, and then all ends
 pub fold_swept : (notes : List Note) → AreDistinct (fold notes) → fold (notes ++ starts_of (fold notes) ++ ends_of (fold notes)) ≡ map rested (fold notes)

@@ -9,7 +9,7 @@ use Rattle.segment_meta.specs.declared.note.Entry.{Entry}
 use Rattle.meta_log.specs.Content.{AreNotes}
 use Rattle.remote_view.specs.Fold.{entry_of, state_of, fold}
 use Rattle.tier_sweep.specs.Rest.{is_under_way, is_finished, stays, AreNamed, NoneIsLeft, AllRest}
-use Rattle.tier_sweep.specs.Sweeping.{starts_of, ends_of, rested, kept_of, Tier, IsSwept, IsUnderSweep}
+use Rattle.tier_sweep.specs.Sweeping.{starts_of, ends_of, rested, kept_of, SweptTier, IsSwept, IsUnderSweep}
 use Rattle.tier_sweep.proofs.Rested.{fold_swept, notes_distinct, entry_rested, all_rest}
 use Rattle.tier_sweep.proofs.Midway.{under_rests, under_distinct, under_may_take}
 
@@ -81,11 +81,11 @@ same_stay : (xs es : List Entry) (q : SegmentId) → map rested xs ≡ map reste
 same_stay xs es q same = sym (stays_rested xs q) ∙ (ap (λ (ys : List Entry). stays ys q) same ∙ stays_rested es q)
 
 -- what a sweep makes of the entries
-pub swept_entries : (old new : Tier) (n : ℕ) → AreNotes old.notes → IsSwept old new n → fold new.notes ≡ map rested (fold old.notes)
+pub swept_entries : (old new : SweptTier) (n : ℕ) → AreNotes old.notes → IsSwept old new n → fold new.notes ≡ map rested (fold old.notes)
 swept_entries old new n are h = ap fold h.notes ∙ fold_swept old.notes (notes_distinct old.notes are)
 
 -- an object that stands has a finished copy
-swept_finished : (old new : Tier) (n : ℕ) → AreNotes old.notes → IsSwept old new n → (key : ObjectKey) → IsSome (new.objects key) → state_of key.id (fold new.notes) ≡ Some CopyFinished
+swept_finished : (old new : SweptTier) (n : ℕ) → AreNotes old.notes → IsSwept old new n → (key : ObjectKey) → IsSome (new.objects key) → state_of key.id (fold new.notes) ≡ Some CopyFinished
 swept_finished old new n are h key held =
     let es = fold old.notes in
     let is : state_of key.id es ≡ Some CopyFinished = finished_stays (state_of key.id es) (by (stays es key.id) refl (h.objects key) held) in
@@ -102,7 +102,7 @@ state_some q es state = by (entry_of q es)
     by None is = absurd (cc (is))
     by (Some x) is = refl
 
-pub swept_rests : (old new : Tier) (n : ℕ) → AreNotes old.notes → IsSwept old new n
+pub swept_rests : (old new : SweptTier) (n : ℕ) → AreNotes old.notes → IsSwept old new n
     → AreNamed new.objects (fold new.notes) × NoneIsLeft new.objects (fold new.notes) × AllRest (fold new.notes)
 swept_rests old new n are h = (
   λ key held. state_some key.id (fold new.notes) CopyFinished (swept_finished old new n are h key held),
@@ -110,14 +110,14 @@ swept_rests old new n are h = (
   subst AllRest (sym (swept_entries old new n are h)) (all_rest (fold old.notes)),
 )
 
-pub swept_keeps : (old new : Tier) (n : ℕ) (id : SegmentId) → AreNotes old.notes → IsSwept old new n → state_of id (fold old.notes) ≡ Some CopyFinished
+pub swept_keeps : (old new : SweptTier) (n : ℕ) (id : SegmentId) → AreNotes old.notes → IsSwept old new n → state_of id (fold old.notes) ≡ Some CopyFinished
     → (entry_of id (fold new.notes) ≡ entry_of id (fold old.notes)) × ((key : ObjectKey) → key.id ≡ id → new.objects key ≡ old.objects key)
 swept_keeps old new n id are h is = (
   ap (entry_of id) (swept_entries old new n are h) ∙ finished_entry id (fold old.notes) is,
   λ key same. h.objects key ∙ (let kept : stays (fold old.notes) key.id ≡ true = ap (λ (q : SegmentId). stays (fold old.notes) q) same ∙ ap is_finished is in rw kept refl),
 )
 
-pub under_keeps : (old new : Tier) (id : SegmentId) → AreNotes old.notes → IsUnderSweep old new → state_of id (fold old.notes) ≡ Some CopyFinished
+pub under_keeps : (old new : SweptTier) (id : SegmentId) → AreNotes old.notes → IsUnderSweep old new → state_of id (fold old.notes) ≡ Some CopyFinished
     → (entry_of id (fold new.notes) ≡ entry_of id (fold old.notes)) × ((key : ObjectKey) → key.id ≡ id → new.objects key ≡ old.objects key)
 under_keeps old new id are h is = (
   by (entry_of id (fold new.notes)) (entry_of id (fold old.notes)) is
@@ -137,7 +137,7 @@ under_keeps old new id are h is = (
         let at : rested y ≡ x = one ∙ finished_rests x finished in
         ap Some (sym (rests_finished y (ap (λ (e : Entry). e.state) at ∙ finished)) ∙ at)
 
-pub under_names : (old new : Tier) → AreNotes old.notes → AreNamed old.objects (fold old.notes) → IsUnderSweep old new → AreNamed new.objects (fold new.notes)
+pub under_names : (old new : SweptTier) → AreNotes old.notes → AreNamed old.objects (fold old.notes) → IsUnderSweep old new → AreNamed new.objects (fold new.notes)
 under_names old new are named h key held = elim (under_may_take old new h key) [
   | inl same ↦ by (entry_of key.id (fold new.notes)) (entry_of key.id (fold old.notes))
       (sym (entry_rested key.id (fold new.notes)) ∙ (ap (entry_of key.id) (under_rests old new are h) ∙ entry_rested key.id (fold old.notes)))
@@ -150,7 +150,7 @@ under_names old new are named h key held = elim (under_may_take old new h key) [
     by None (Some x) same is = absurd (cc (same))
     by (Some y) (Some x) same is = refl
 
-pub further_ends : (old mid new : Tier) (n : ℕ) → AreNotes old.notes → IsUnderSweep old mid → IsSwept mid new n
+pub further_ends : (old mid new : SweptTier) (n : ℕ) → AreNotes old.notes → IsUnderSweep old mid → IsSwept mid new n
     → ((key : ObjectKey) → new.objects key ≡ kept_of (fold old.notes) old.objects key) × (fold new.notes ≡ fold (old.notes ++ starts_of (fold old.notes) ++ ends_of (fold old.notes)))
 further_ends old mid new n are under h = (
   λ key. h.objects key ∙ (ap (λ (t : Bool). cond t (mid.objects key) None) (same_stay (fold mid.notes) (fold old.notes) key.id (under_rests old mid are under))

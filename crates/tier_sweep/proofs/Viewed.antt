@@ -12,7 +12,7 @@ fed_entries view [] = refl
 fed_entries view (note ∷ notes) = fed_entries (fed view note) notes
 
 -- it has the entries of all notes
-pub refreshed_entries : (log : Content) (old new : Seen) → old ≡ record { entries = []; notes = 0 } → IsTrue log.tells → Refreshes log old new → new.entries ≡ fold log.notes
+pub refreshed_entries : (log : Content) (old new : Seen) → old ≡ record { entries = []; notes = 0 } → IsTrue log.is_observable → Refreshes log old new → new.entries ≡ fold log.notes
 refreshed_entries log old new empty told h =
     let all : h.notes ≡ log.notes = h.further told ∙ ap (λ (v : Seen). drop v.notes log.notes) empty in
     ap (λ (v : Seen). v.entries) h.view ∙ (fed_entries old h.notes ∙ (ap (λ (v : Seen). folded_from v.entries h.notes) empty ∙ ap fold all))

@@ -74,20 +74,20 @@ pub record IsTelling (notes old new : List Note) : Type 0 where
   pub now : new ≡ old ++ told
 
 -- a tier: the objects of its store, and the notes of its metadata log
-pub record Tier : Type 0 where
+pub record SweptTier : Type 0 where
   pub objects : store.Objects
   pub notes : List Note
 
 -- the tier of what a store tells and of these notes
-abbrev pub tier_with : store.Content → List Note → Tier
+abbrev pub tier_with : store.Content → List Note → SweptTier
 tier_with store notes = record { objects = store.objects; notes = notes }
 
 -- the tier that a store and a metadata log tell
-abbrev pub tier_of : store.Content → meta.Content → Tier
+abbrev pub tier_of : store.Content → meta.Content → SweptTier
 tier_of store log = tier_with store log.notes
 
 -- a sweep's end
-pub record IsSwept (old new : Tier) (swept : ℕ) : Type 0 where
+pub record IsSwept (old new : SweptTier) (swept : ℕ) : Type 0 where
   pub objects : (key : ObjectKey) → new.objects key ≡ kept_of (fold old.notes) old.objects key
   pub notes : new.notes ≡ old.notes ++ starts_of (fold old.notes) ++ ends_of (fold old.notes)
   pub keys : List ObjectKey
@@ -95,22 +95,22 @@ pub record IsSwept (old new : Tier) (swept : ℕ) : Type 0 where
   pub count : swept ≡ count_swept (fold old.notes) keys
 
 -- some of the starts are told, and no object has gone
-pub record IsStarting (old new : Tier) : Type 0 where
+pub record IsStarting (old new : SweptTier) : Type 0 where
   pub notes : IsTelling (starts_of (fold old.notes)) old.notes new.notes
   pub objects : (key : ObjectKey) → new.objects key ≡ old.objects key
 
 -- all of them are, and some objects have gone
-pub record IsTaking (old new : Tier) : Type 0 where
+pub record IsTaking (old new : SweptTier) : Type 0 where
   pub notes : new.notes ≡ old.notes ++ starts_of (fold old.notes)
   pub objects : MayTake (fold old.notes) old.objects new.objects
 
 -- all objects have gone, and some of the ends are told
-pub record IsEnding (old new : Tier) : Type 0 where
+pub record IsEnding (old new : SweptTier) : Type 0 where
   pub notes : IsTelling (ends_of (fold old.notes)) (old.notes ++ starts_of (fold old.notes)) new.notes
   pub objects : (key : ObjectKey) → new.objects key ≡ kept_of (fold old.notes) old.objects key
 
 -- what a sweep may have come to before it was refused
-pub data IsUnderSweep (old new : Tier) : Type 0 where
+pub data IsUnderSweep (old new : SweptTier) : Type 0 where
   Starting : IsStarting old new → IsUnderSweep old new
   Taking : IsTaking old new → IsUnderSweep old new
   Ending : IsEnding old new → IsUnderSweep old new

@@ -30,20 +30,22 @@ pub fn sweep<S: Store, M: MetaLog>(
     store: &mut S,
     meta: &mut M,
 ) -> Result<u64, SweepRefusal>
-    ensures ok { IsTrue (S.content store.old).tells → IsTrue (M.content meta.old).tells → IfOk result (IsSwept
+    ensures ok { IsTrue (S.content store.old).is_observable → IsTrue (M.content meta.old).is_observable
+        → IfOk result (IsSwept
         (tier_of (S.content store.old) (M.content meta.old)) (tier_of (S.content store.new) (M.content meta.new))) }
-    ensures err { IsTrue (S.content store.old).tells → IsTrue (M.content meta.old).tells → OnErr result (IsUnderSweep
+    ensures err { IsTrue (S.content store.old).is_observable → IsTrue (M.content meta.old).is_observable
+        → OnErr result (IsUnderSweep
         (tier_of (S.content store.old) (M.content meta.old)) (tier_of (S.content store.new) (M.content meta.new))) }
     // What a power cut may leave afterwards, whatever the sweep answers; after one that was done no other notes than are told.
-    ensures left { IsTrue (S.content store.old).tells → IsTrue (M.content meta.old).tells → LeavesUnder
+    ensures left { IsTrue (S.content store.old).is_observable → IsTrue (M.content meta.old).is_observable → LeavesUnder
         (S.content store.old) (M.content meta.old) (S.content store.new) (M.content meta.new) }
-    ensures told { IsTrue (M.content meta.old).tells → OnOk result (notes.LeavesTold (M.content meta.new)) }
+    ensures told { IsTrue (M.content meta.old).is_observable → OnOk result (notes.LeavesTold (M.content meta.new)) }
     ensures cause { HasCause result (S.control store.old).faults (S.control store.new).faults
         (M.control meta.old).faults (M.control meta.new).faults }
 
     // Of each device whether it tells, and its calls: no fault is hidden.
-    ensures store_tells { (S.content store.new).tells ≡ (S.content store.old).tells }
-    ensures meta_tells { (M.content meta.new).tells ≡ (M.content meta.old).tells }
+    ensures store_tells { (S.content store.new).is_observable ≡ (S.content store.old).is_observable }
+    ensures meta_tells { (M.content meta.new).is_observable ≡ (M.content meta.old).is_observable }
     ensures store_calls { Lasts (S.control store.old) (S.control store.new) }
     ensures meta_calls { Lasts (M.control meta.old) (M.control meta.new) }
     ensures quiet { IsQuiet result (S.control store.old).faults (S.control store.new).faults
@@ -66,10 +68,10 @@ pub fn sweep<S: Store, M: MetaLog>(
 
 /// Reads what the metadata log tells.
 fn read_view<M: MetaLog>(alloc: Global, meta: &mut M) -> Result<View, SweepRefusal>
-    ensures entries { IsTrue (M.content meta.old).tells
+    ensures entries { IsTrue (M.content meta.old).is_observable
         → IfOk result (λ view. view.entries ≡ fold (M.content meta.old).notes) }
     ensures content { notes.Keeps (M.content meta.old) (M.content meta.new) }
-    ensures told { IsTrue (M.content meta.old).tells → OnOk result (notes.LeavesTold (M.content meta.new)) }
+    ensures told { IsTrue (M.content meta.old).is_observable → OnOk result (notes.LeavesTold (M.content meta.new)) }
     ensures calls { MetaRuns result (M.control meta.old) (M.control meta.new) }
 {
     let mut view = View::new(alloc);
@@ -82,7 +84,7 @@ fn read_view<M: MetaLog>(alloc: Global, meta: &mut M) -> Result<View, SweepRefus
 
 /// Lists the objects.
 fn list<S: Store>(store: &mut S) -> Result<Row<ObjectKey>, SweepRefusal>
-    ensures keys { IsTrue (S.content store.old).tells
+    ensures keys { IsTrue (S.content store.old).is_observable
         → IfOk result (λ keys. Names (S.content store.old).objects keys) }
     ensures content { objects.Keeps (S.content store.old) (S.content store.new) }
     ensures once { OnOk result (RanQuietly Keys Went (S.control store.old) (S.control store.new)) }

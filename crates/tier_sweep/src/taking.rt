@@ -16,8 +16,8 @@ pub(crate) fn take_all<S: Store>(
     view: &View,
     keys: &[ObjectKey],
 ) -> Result<u64, SweepRefusal>
-    ensures tells { (S.content store.new).tells ≡ (S.content store.old).tells }
-    ensures objects { IsTrue (S.content store.old).tells → TakesEach view.now.entries keys.now result
+    ensures is_observable { (S.content store.new).is_observable ≡ (S.content store.old).is_observable }
+    ensures objects { IsTrue (S.content store.old).is_observable → TakesEach view.now.entries keys.now result
         (S.content store.old).objects (S.content store.new).objects }
     ensures count { IfOk result (λ swept. swept ≡ count_swept view.now.entries keys.now) }
     ensures deletes { Deletes result (S.control store.old) (S.control store.new) }
@@ -35,8 +35,8 @@ pub(crate) fn take_all<S: Store>(
 
 /// Takes an object away.
 fn take<S: Store>(store: &mut S, key: &ObjectKey) -> Result<(), SweepRefusal>
-    ensures tells { (S.content store.new).tells ≡ (S.content store.old).tells }
-    ensures objects { IsTrue (S.content store.old).tells
+    ensures is_observable { (S.content store.new).is_observable ≡ (S.content store.old).is_observable }
+    ensures objects { IsTrue (S.content store.old).is_observable
         → Takes key.now result (S.content store.old).objects (S.content store.new).objects }
     ensures deletes { DeletesOne result (S.control store.old) (S.control store.new) }
     ensures calls { StoreRuns result (S.control store.old) (S.control store.new) }

@@ -21,10 +21,10 @@ pub(crate) fn tell_starts<M: MetaLog>(
     meta: &mut M,
     entries: &[Entry],
 ) -> Result<(), SweepRefusal>
-    ensures tells { (M.content meta.new).tells ≡ (M.content meta.old).tells }
-    ensures notes { IsTrue (M.content meta.old).tells
+    ensures is_observable { (M.content meta.new).is_observable ≡ (M.content meta.old).is_observable }
+    ensures notes { IsTrue (M.content meta.old).is_observable
         → Tells (starts_of entries.now) result (M.content meta.old).notes (M.content meta.new).notes }
-    ensures left { IsTrue (M.content meta.old).tells → LeavesTold (M.content meta.old)
+    ensures left { IsTrue (M.content meta.old).is_observable → LeavesTold (M.content meta.old)
         → LeavesTelling (starts_of entries.now) result (M.content meta.old).notes (M.content meta.new) }
     ensures calls { MetaRuns result (M.control meta.old) (M.control meta.new) }
 {
@@ -42,10 +42,10 @@ pub(crate) fn tell_ends<M: MetaLog>(
     meta: &mut M,
     entries: &[Entry],
 ) -> Result<(), SweepRefusal>
-    ensures tells { (M.content meta.new).tells ≡ (M.content meta.old).tells }
-    ensures notes { IsTrue (M.content meta.old).tells
+    ensures is_observable { (M.content meta.new).is_observable ≡ (M.content meta.old).is_observable }
+    ensures notes { IsTrue (M.content meta.old).is_observable
         → Tells (ends_of entries.now) result (M.content meta.old).notes (M.content meta.new).notes }
-    ensures left { IsTrue (M.content meta.old).tells → LeavesTold (M.content meta.old)
+    ensures left { IsTrue (M.content meta.old).is_observable → LeavesTold (M.content meta.old)
         → LeavesTelling (ends_of entries.now) result (M.content meta.old).notes (M.content meta.new) }
     ensures calls { MetaRuns result (M.control meta.old) (M.control meta.new) }
 {
@@ -65,10 +65,10 @@ fn tell<M: MetaLog>(
     entry: &Entry,
 ) -> Result<(), SweepRefusal>
     requires { state ≢ CopyStarted }
-    ensures tells { (M.content meta.new).tells ≡ (M.content meta.old).tells }
-    ensures notes { IsTrue (M.content meta.old).tells
+    ensures is_observable { (M.content meta.new).is_observable ≡ (M.content meta.old).is_observable }
+    ensures notes { IsTrue (M.content meta.old).is_observable
         → Tells (note_of state entry.now ∷ []) result (M.content meta.old).notes (M.content meta.new).notes }
-    ensures left { IsTrue (M.content meta.old).tells → LeavesTold (M.content meta.old)
+    ensures left { IsTrue (M.content meta.old).is_observable → LeavesTold (M.content meta.old)
         → LeavesTelling (note_of state entry.now ∷ []) result (M.content meta.old).notes (M.content meta.new) }
     ensures calls { MetaRuns result (M.control meta.old) (M.control meta.new) }
 {

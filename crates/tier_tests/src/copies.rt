@@ -8,9 +8,9 @@ use crate::given::{
     failing_store, grows, id, key, tells_with,
 };
 use bytes::Bytes;
-use copy_task::{CopyTurn, Copying, Next, candidate, copy_turn};
+use copy_task::{CopyStep, CopyTurn, Copying, candidate, copy_turn};
 use epoch_line::Line;
-use meta_log::{MemoryLog, MetaCall, MetaLog, Teller};
+use meta_log::{EventOrigin, MemoryLog, MetaCall, MetaLog};
 use object_store::{MemoryStore, ObjectKey, Store, StoreCall, place};
 use plain_log::{Answer, Place};
 use remote_view::View;
@@ -49,7 +49,7 @@ static DELETED: [u8; 29] = [
 ];
 
 /// Broker 0 copies at 5 milliseconds.
-const TELLER: Teller = Teller {
+const TELLER: EventOrigin = EventOrigin {
     broker: BrokerId(0),
     now: 5,
 };
@@ -100,7 +100,7 @@ impl Model for Trial {
 /// What a turn of a copy came to, in short.
 #[derive(Clone, Copy, PartialEq, Eq)]
 enum Came {
-    Goes(Next),
+    Goes(CopyStep),
     Copied(u64, u64),
     Overtaken(State),
     MetaFault,
@@ -164,7 +164,7 @@ impl Trial {
     }
 
     /// Takes a turn.
-    fn turn(&mut self, next: Next) -> Came {
+    fn turn(&mut self, next: CopyStep) -> Came {
         match copy_turn(
             self.alloc,
             &mut self.copying,
@@ -180,7 +180,7 @@ impl Trial {
     }
 
     /// Takes turns until the copy is answered or one comes to an end, ten at most, and counts them.
-    fn run(&mut self, from: Next, end: Next) -> (Came, u32) {
+    fn run(&mut self, from: CopyStep, end: CopyStep) -> (Came, u32) {
         let mut next = from;
         for turns in 1..11 {
             match self.turn(next) {
@@ -216,7 +216,7 @@ impl Trial {
     }
 
     /// Whether the metadata log has the note of these bytes at a place.
-    fn noted(&mut self, at: u64, bytes: &[u8]) -> bool {
+    fn recorded(&mut self, at: u64, bytes: &[u8]) -> bool {
         match self.meta.read(at) {
             Ok(notes) => begin_so(self.alloc, notes.as_slice(), bytes),
             Err(_) => false,
@@ -270,9 +270,9 @@ enum Step {
     /// The copy is of these offsets.
     Spans(u64, u64),
     /// A turn.
-    Turns(Next, Came),
+    Turns(CopyStep, Came),
     /// So many turns, from one on, until the copy is answered or the other one is next.
-    Runs(Next, Next, Came, u32),
+    Runs(CopyStep, CopyStep, Came, u32),
     /// The copy's entry in the view has a state.
     IsIn(State),
     /// The metadata log has the two notes of a whole copy.
@@ -320,15 +320,15 @@ impl Trial {
 
     /// Whether the metadata log has the two notes of a whole copy that is packed.
     fn has_packed_notes(&mut self) -> bool {
-        let started = self.noted(0, PACKED_STARTED.as_slice());
-        let finished = self.noted(1, PACKED_FINISHED.as_slice());
+        let started = self.recorded(0, PACKED_STARTED.as_slice());
+        let finished = self.recorded(1, PACKED_FINISHED.as_slice());
         started & finished
     }
 
     /// Whether the metadata log has the two notes of a whole copy.
     fn has_notes(&mut self) -> bool {
-        let started = self.noted(0, STARTED.as_slice());
-        let finished = self.noted(1, FINISHED.as_slice());
+        let started = self.recorded(0, STARTED.as_slice());
+        let finished = self.recorded(1, FINISHED.as_slice());
         started & finished
     }
 
@@ -395,7 +395,7 @@ static STORIES: [(&str, bool, &[Step]); 7] = [
         false,
         &[
             Step::Spans(0, 1),
-            Step::Runs(Next::Start, Next::Start, Came::Copied(0, 1), 7),
+            Step::Runs(CopyStep::Start, CopyStep::Start, Came::Copied(0, 1), 7),
             Step::IsIn(State::CopyFinished),
             Step::HasNotes,
             Step::HasLog,
@@ -407,12 +407,17 @@ static STORIES: [(&str, bool, &[Step]); 7] = [
         "a copy that was overtaken takes its objects away",
         false,
         &[
-            Step::Runs(Next::Start, Next::Finish, Came::Goes(Next::Finish), 5),
+            Step::Runs(
+                CopyStep::Start,
+                CopyStep::Finish,
+                Came::Goes(CopyStep::Finish),
+                5,
+            ),
             Step::Counts(4),
             Step::Overtaken(false),
             Step::Runs(
-                Next::Finish,
-                Next::Start,
+                CopyStep::Finish,
+                CopyStep::Start,
                 Came::Overtaken(State::DeleteStarted),
                 6,
             ),
@@ -423,26 +428,31 @@ static STORIES: [(&str, bool, &[Step]); 7] = [
         "an overtaken copy tells the state of its last turn",
         false,
         &[
-            Step::Runs(Next::Start, Next::Finish, Came::Goes(Next::Finish), 5),
+            Step::Runs(
+                CopyStep::Start,
+                CopyStep::Finish,
+                Came::Goes(CopyStep::Finish),
+                5,
+            ),
             Step::Overtaken(false),
             Step::Runs(
-                Next::Finish,
-                Next::Delete(3),
-                Came::Goes(Next::Delete(3)),
+                CopyStep::Finish,
+                CopyStep::Delete(3),
+                Came::Goes(CopyStep::Delete(3)),
                 5,
             ),
             Step::Counts(1),
             Step::Overtaken(true),
             Step::Looks,
-            Step::Turns(Next::Delete(3), Came::Overtaken(State::DeleteFinished)),
+            Step::Turns(CopyStep::Delete(3), Came::Overtaken(State::DeleteFinished)),
         ],
     ),
     (
         "behind the last key no call is made",
         false,
         &[
-            Step::Turns(Next::Put(4), Came::Goes(Next::Finish)),
-            Step::Turns(Next::Delete(4), Came::Damaged(0)),
+            Step::Turns(CopyStep::Put(4), Came::Goes(CopyStep::Finish)),
+            Step::Turns(CopyStep::Delete(4), Came::Damaged(0)),
             Step::Counts(0),
         ],
     ),
@@ -450,16 +460,16 @@ static STORIES: [(&str, bool, &[Step]); 7] = [
         "an entry that is missing is damage",
         false,
         &[
-            Step::Turns(Next::Check, Came::Damaged(0)),
-            Step::Turns(Next::Start, Came::Goes(Next::Put(0))),
-            Step::Turns(Next::Check, Came::Damaged(1)),
+            Step::Turns(CopyStep::Check, Came::Damaged(0)),
+            Step::Turns(CopyStep::Start, Came::Goes(CopyStep::Put(0))),
+            Step::Turns(CopyStep::Check, Came::Damaged(1)),
         ],
     ),
     (
         "a packed copy puts one object",
         true,
         &[
-            Step::Runs(Next::Start, Next::Start, Came::Copied(0, 1), 4),
+            Step::Runs(CopyStep::Start, CopyStep::Start, Came::Copied(0, 1), 4),
             Step::HasPackedNotes,
             Step::HasPack,
             Step::Counts(1),
@@ -469,12 +479,17 @@ static STORIES: [(&str, bool, &[Step]); 7] = [
         "a packed copy that was overtaken takes it away",
         true,
         &[
-            Step::Runs(Next::Start, Next::Finish, Came::Goes(Next::Finish), 2),
+            Step::Runs(
+                CopyStep::Start,
+                CopyStep::Finish,
+                Came::Goes(CopyStep::Finish),
+                2,
+            ),
             Step::Counts(1),
             Step::Overtaken(false),
             Step::Runs(
-                Next::Finish,
-                Next::Start,
+                CopyStep::Finish,
+                CopyStep::Start,
                 Came::Overtaken(State::DeleteStarted),
                 3,
             ),
@@ -513,7 +528,7 @@ fn failed(
     after: bool,
     (came, turns): (Came, u32),
 ) -> bool {
-    let ends = Step::Runs(Next::Start, Next::Start, came, turns);
+    let ends = Step::Runs(CopyStep::Start, CopyStep::Start, came, turns);
     told(alloc, false, put, note, after, &[ends]) == Ok(1)
 }
 
@@ -564,7 +579,7 @@ fn chosen(alloc: Global, past: Option<(u64, u64)>, known: u64) -> Option<u64> {
     }
 }
 
-/// The first segment past the copied mark, the known mark, and the base of the one that is copied.
+/// The first segment past the copied mark, the known high watermark, and the base of the one that is copied.
 static CHOSEN: [(Option<(u64, u64)>, u64, Option<u64>); 8] = [
     (Some((0, 2)), 6, Some(0)),
     (Some((0, 2)), 2, Some(0)),
@@ -611,7 +626,7 @@ fn lacks_until_put(alloc: Global, packed: bool) -> Result<(bool, bool), AllocErr
     let meta = failing_log(alloc, None, false)?;
     let mut trial = Trial::over(alloc, copying(alloc, packed)?, store, meta);
     let before = lacks(&trial.copying);
-    let _came = trial.turn(Next::Put(0));
+    let _came = trial.turn(CopyStep::Put(0));
     Ok((before, lacks(&trial.copying)))
 }
 

@@ -5,10 +5,10 @@
 use crate::given::{FINISHED, PARTITION, failing_log, failing_store, feeds, grows, id, puts};
 use epoch_line::Line;
 use expiry_task::{
-    Doomed, ExpiryTurn, Next, end_behind, end_from, expiry_turn, find_uncopied, raised_to,
-    rest_behind,
+    DeletionStep, ExpiredSegment, ExpiryTurn, end_behind, end_from, expiry_turn, find_uncopied,
+    raised_to, rest_behind,
 };
-use meta_log::{MemoryLog, MetaCall, MetaLog, Teller};
+use meta_log::{EventOrigin, MemoryLog, MetaCall, MetaLog};
 use object_store::{MemoryStore, ObjectKey, Store, StoreCall, keys_of};
 use plain_log::Answer;
 use remote_find::{Piece, chain};
@@ -37,14 +37,14 @@ static STARTED: [u8; 75] = [
 ];
 
 /// Broker 1 deletes at 9 milliseconds.
-const TELLER: Teller = Teller {
+const TELLER: EventOrigin = EventOrigin {
     broker: BrokerId(1),
     now: 9,
 };
 
 /// The segment that is to go.
-fn doomed(packed: bool) -> Doomed {
-    Doomed {
+fn expired_segment(packed: bool) -> ExpiredSegment {
+    ExpiredSegment {
         partition: PARTITION,
         id: id(0),
         packed,
@@ -54,7 +54,7 @@ fn doomed(packed: bool) -> Doomed {
 /// What a turn of an expiry came to, in short.
 #[derive(Clone, Copy, PartialEq, Eq)]
 enum Came {
-    Goes(Next),
+    Goes(DeletionStep),
     Deleted,
     MetaFault,
     StoreFault,
@@ -159,9 +159,16 @@ impl Tiers {
     }
 
     /// Takes a turn.
-    fn turn(&mut self, alloc: Global, next: Next) -> Came {
-        let doomed = doomed(self.packed);
-        match expiry_turn(alloc, doomed, next, TELLER, &mut self.store, &mut self.meta) {
+    fn turn(&mut self, alloc: Global, next: DeletionStep) -> Came {
+        let expired_segment = expired_segment(self.packed);
+        match expiry_turn(
+            alloc,
+            expired_segment,
+            next,
+            TELLER,
+            &mut self.store,
+            &mut self.meta,
+        ) {
             Ok(turn) => came_to(&turn),
             Err(_) => Came::Other,
         }
@@ -169,7 +176,7 @@ impl Tiers {
 
     /// Takes turns until the expiry is answered, ten at most, and counts them.
     fn run(&mut self, alloc: Global) -> (Came, u32) {
-        let mut next = Next::Start;
+        let mut next = DeletionStep::Start;
         for turns in 1..11 {
             match self.turn(alloc, next) {
                 Came::Goes(later) => next = later,
@@ -388,7 +395,7 @@ fn raised_by_two(
     }
 }
 
-/// Whether segments are copied, the known mark and the limit of size; where the log start comes to.
+/// Whether segments are copied, the known high watermark and the limit of size; where the log start comes to.
 static UNCOPIED: [(bool, u64, i64, Option<u64>); 5] = [
     (false, 3, 69, Some(2)),
     (false, 3, 70, Some(1)),

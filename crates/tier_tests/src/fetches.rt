@@ -19,7 +19,7 @@ use sparse_index::OffsetIndex;
 use std::alloc::{AllocError, Global};
 use std::marker::Model;
 use tier_base::{Part, Stop};
-use tier_fetch::{FetchTurn, Next, Wanted, fetch_turn, span_of};
+use tier_fetch::{FetchRequest, FetchStep, FetchTurn, fetch_turn, span_of};
 
 /// A copy of offsets 0 to 3 starts, of epoch 0: 276 bytes.
 static STARTED: [u8; 75] = [
@@ -60,7 +60,7 @@ enum Came {
 /// What a turn of a fetch came to, in short.
 #[derive(Clone, Copy)]
 enum Turned {
-    Goes(Next),
+    Goes(FetchStep),
     Ends(Came),
 }
 
@@ -109,21 +109,21 @@ fn came_to(turn: &FetchTurn, held: &[u8]) -> Turned {
 }
 
 /// Whether a turn may be one of a fetch.
-fn may_go(wanted: &Wanted, next: &Next) -> bool
+fn may_go(wanted: &FetchRequest, next: &FetchStep) -> bool
     ensures below { IsTrue result → wanted.now.offset < wanted.now.mark }
     ensures holds { IsTrue result → IsFor wanted.now.offset next.now }
 {
     let holds = match next {
-        Next::Refresh => true,
-        Next::Index(piece) => wanted.offset < piece.to,
-        Next::Log(piece, _) => wanted.offset < piece.to,
+        FetchStep::Refresh => true,
+        FetchStep::Index(piece) => wanted.offset < piece.to,
+        FetchStep::Log(piece, _) => wanted.offset < piece.to,
     };
     holds && wanted.offset < wanted.mark
 }
 
 /// What a fetch asks for.
-fn wanted(offset: u64, limit: u32, mark: u64) -> Wanted {
-    Wanted {
+fn wanted(offset: u64, limit: u32, mark: u64) -> FetchRequest {
+    FetchRequest {
         partition: PARTITION,
         offset,
         limit,
@@ -199,7 +199,7 @@ impl<S: Store> Trial<S> {
     }
 
     /// Takes a turn. The bytes of a run are those that are held.
-    fn turn(&mut self, line: &Line, wanted: &Wanted, next: Next, held: &[u8]) -> Turned {
+    fn turn(&mut self, line: &Line, wanted: &FetchRequest, next: FetchStep, held: &[u8]) -> Turned {
         if !may_go(wanted, &next) {
             return Turned::Ends(Came::Other);
         }
@@ -221,8 +221,8 @@ impl<S: Store> Trial<S> {
     }
 
     /// Takes turns until the fetch is answered, four at most, and counts them.
-    fn run(&mut self, line: &Line, wanted: &Wanted, held: &[u8]) -> (Came, u32) {
-        let mut next = Next::Refresh;
+    fn run(&mut self, line: &Line, wanted: &FetchRequest, held: &[u8]) -> (Came, u32) {
+        let mut next = FetchStep::Refresh;
         for turns in 1..5 {
             match self.turn(line, wanted, next, held) {
                 Turned::Goes(later) => next = later,

@@ -7,7 +7,7 @@ use bytes::Bytes;
 use epoch_line::Line;
 use object_store::{DeafStore, ObjectKey, Store, StoreCall};
 use plain_log::{Answer, Place};
-use rebuild_task::{Next, RebuildTurn, Wanted, rebuild_turn};
+use rebuild_task::{RebuildRequest, RebuildStep, RebuildTurn, rebuild_turn};
 use remote_view::View;
 use std::alloc::{AllocError, Global};
 use tier_base::Part;
@@ -76,8 +76,8 @@ fn answered(answer: &Answer) -> Came {
 /// What a rebuild came to, in short.
 fn came_to(alloc: Global, turn: &RebuildTurn, text: &str) -> Came {
     match turn {
-        RebuildTurn::Goes(Next::Restart(line)) => read_as(alloc, line, text),
-        RebuildTurn::Goes(Next::Epochs) => Came::Other,
+        RebuildTurn::Goes(RebuildStep::Restart(line)) => read_as(alloc, line, text),
+        RebuildTurn::Goes(RebuildStep::Epochs) => Came::Other,
         RebuildTurn::Ends(answer) => answered(answer),
     }
 }
@@ -91,7 +91,7 @@ fn read_by<S: Store>(
     view: &View,
     text: &str,
 ) -> Came {
-    let wanted = Wanted {
+    let wanted = RebuildRequest {
         partition: PARTITION,
         offset,
     };

@@ -14,7 +14,7 @@ use Rattle.plain_log.specs.RowsOfReads.{first_at}
 use Rattle.segment_file.specs.Walk.{size_in}
 use Rattle.segment_file.specs.Gathering.{Tells}
 use Rattle.segment_file.proofs.Standing.{AreBytes, bytes_drop, front_bytes}
-use Rattle.segment_file.proofs.Telling.{tells}
+use Rattle.segment_file.proofs.Telling.{is_observable}
 use Rattle.segment_file.proofs.Tracking.{head_read}
 use Rattle.tier_fetch.specs.Span.{capped}
 use Rattle.time_find.specs.Dates.{AreChecked, IsDated}
@@ -45,7 +45,7 @@ pub record Stands (ts : ℤ) (start offset : ℕ) (batches : List (List ℕ)) (r
   pub clean : AreBytes rest
   pub checked : AreChecked more
   pub parts : rest ≡ batch ++ joined more
-  pub tells : Tells batch head
+  pub is_observable : Tells batch head
   pub same : first_at ts start (batch ∷ more) ≡ first_at ts start batches
   pub ends : end_from (last_of batch + 1) more ≡ end_from offset batches
 
@@ -66,7 +66,7 @@ by_left ts start offset batches rest end (batch ∷ more) clean some ok parts sa
         clean = clean;
         checked = ok.1;
         parts = parts;
-        tells = tells batch clean' ok.0;
+        is_observable = is_observable batch clean' ok.0;
         same = same;
         ends = ends;
       },
@@ -93,9 +93,9 @@ stands_first ts start offset batches rest end head some l e =
 pub dated_at : (ts : ℤ) (start offset : ℕ) (batches : List (List ℕ)) (rest : List ℕ) (head : Head) (base : ℕ) → Stands ts start offset batches rest head
     → ts ≤ℤ head.max_ts → base ≡ cast_unsigned w64 head.base_offset → IsDated ts start offset batches (At (max base start))
 dated_at ts start offset batches rest head base s late base_is =
-    let late' : ts ≤ℤ max_ts_of s.batch = subst (λ (z : ℤ). ts ≤ℤ z) s.tells.max_ts late in
+    let late' : ts ≤ℤ max_ts_of s.batch = subst (λ (z : ℤ). ts ≤ℤ z) s.is_observable.max_ts late in
     let test : int_lt (max_ts_of s.batch) ts ≡ false = not_below (max_ts_of s.batch) ts late' in
-    let is : base ≡ base_of s.batch = base_is ∙ s.tells.base in
+    let is : base ≡ base_of s.batch = base_is ∙ s.is_observable.base in
     let first : first_at ts start (s.batch ∷ s.more) ≡ Some (max base start) = rw (test, is) refl in
     sym s.same ∙ first
   where
@@ -123,17 +123,17 @@ pub goes_by : (ts : ℤ) (start offset : ℕ) (batches : List (List ℕ)) (rest 
     → head.max_ts <ℤ ts → size ≡ size_in head → end ≡ capped (cast_unsigned w64 head.base_offset + cast_unsigned w32 head.last_offset_delta + 1)
     → next ≡ drop (min size (length rest)) rest → IsLeft ts start offset batches next end
 goes_by ts start offset batches rest next head end size s fits early size_is end_is next_is =
-    let early' : max_ts_of s.batch <ℤ ts = subst (λ (z : ℤ). z <ℤ ts) s.tells.max_ts early in
+    let early' : max_ts_of s.batch <ℤ ts = subst (λ (z : ℤ). z <ℤ ts) s.is_observable.max_ts early in
     let test : int_lt (max_ts_of s.batch) ts ≡ true = below (max_ts_of s.batch) ts early' in
     let sum : cast_unsigned w64 head.base_offset + cast_unsigned w32 head.last_offset_delta ≡ last_of s.batch =
-    ap (λ n. n + cast_unsigned w32 head.last_offset_delta) s.tells.base ∙ ap (λ n. base_of s.batch + n) s.tells.delta in
+    ap (λ n. n + cast_unsigned w32 head.last_offset_delta) s.is_observable.base ∙ ap (λ n. base_of s.batch + n) s.is_observable.delta in
     let last : end ≡ capped (last_of s.batch + 1) = end_is ∙ ap (λ n. capped (n + 1)) sum in
     let passed : first_at ts start (s.batch ∷ s.more) ≡ first_at ts start s.more = rw test refl in
     record {
       left = s.more;
       clean = subst AreBytes (sym next_is) (bytes_drop (min size (length rest)) rest s.clean);
       checked = s.checked;
-      bytes_are = next_is ∙ (ap (λ (bytes : List ℕ). drop (min size (length bytes)) bytes) s.parts ∙ behind size s.batch (joined s.more) (size_is ∙ s.tells.size));
+      bytes_are = next_is ∙ (ap (λ (bytes : List ℕ). drop (min size (length bytes)) bytes) s.parts ∙ behind size s.batch (joined s.more) (size_is ∙ s.is_observable.size));
       same = sym passed ∙ s.same;
       ends = ends_by (last_of s.batch) end s.more (subst (λ n. n < 2 ^ 64) (sym s.ends) fits) last ∙ s.ends;
     }

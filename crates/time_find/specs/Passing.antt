@@ -12,7 +12,7 @@ use Rattle.remote_view.specs.Fold.{Seen, entry_of}
 use Rattle.remote_find.specs.declared.piece.Piece.{Piece}
 use Rattle.remote_find.specs.Pieces.{piece_at}
 use Rattle.time_find.specs.declared.turn.Asked.{Asked}
-use Rattle.time_find.specs.declared.turn.Next.TheVariants.{Seek, Times}
+use Rattle.time_find.specs.declared.turn.SearchStep.TheVariants.{Seek, Times}
 use Rattle.time_find.specs.declared.turn.TimeTurn.{TimeTurn}
 use Rattle.time_find.specs.declared.turn.TimeTurn.TheVariants.{Goes, Ends}
 
@@ -34,7 +34,7 @@ abbrev pub is_early : ℤ → Option Entry → Bool
 is_early ts None = false
 is_early ts (Some entry) = int_lt entry.max_ts ts
 
--- up to where remote segments are searched: the local log, or the known mark where that is lower
+-- up to where remote segments are searched: the local log, or the known high watermark where that is lower
 abbrev pub top_in : Asked → ℕ
 top_in asked = min asked.local asked.mark
 

@@ -43,15 +43,15 @@ use Rattle.view_refresh.specs.Refreshing.{Refreshed, Unread, Halted}
 use Rattle.plain_log.specs.declared.answer.Answer.TheVariants.{MetaFault, StoreFault, DiskFault, Damaged, Run, Offset}
 use Rattle.plain_log.specs.declared.answer.Place.TheVariants.{Key, Meta, File}
 use Rattle.plain_log.specs.RowsOfReads.{first_at}
-use Rattle.tier_fetch.specs.declared.turn.Wanted.{Wanted}
+use Rattle.tier_fetch.specs.declared.turn.FetchRequest.{FetchRequest}
 use Rattle.tier_fetch.specs.declared.turn.Span.{Span}
 use Rattle.tier_fetch.specs.declared.turn.FetchTurn.{FetchTurn}
 use Rattle.tier_fetch.specs.declared.turn.FetchTurn.TheVariants as fetch
-use Rattle.tier_fetch.specs.declared.turn.Next.TheVariants as fetching
+use Rattle.tier_fetch.specs.declared.turn.FetchStep.TheVariants as fetching
 use Rattle.tier_fetch.specs.Turns.{Tiers, FetchRow, spot_in}
 use Rattle.time_find.specs.declared.turn.Asked.{Asked}
-use Rattle.time_find.specs.declared.turn.Next.{Next}
-use Rattle.time_find.specs.declared.turn.Next.TheVariants.{Seek, Times as ReadsTimes, Index, Log}
+use Rattle.time_find.specs.declared.turn.SearchStep.{SearchStep}
+use Rattle.time_find.specs.declared.turn.SearchStep.TheVariants.{Seek, Times as ReadsTimes, Index, Log}
 use Rattle.time_find.specs.declared.turn.TimeTurn.{TimeTurn}
 use Rattle.time_find.specs.declared.turn.TimeTurn.TheVariants.{Goes, Ends}
 use Rattle.time_find.specs.declared.run.Dated.TheVariants.{At}
@@ -59,7 +59,7 @@ use Rattle.time_find.specs.Dates.{AreChecked, IsDated}
 use Rattle.time_find.specs.Passing.{top_of, passed_over, Seeks}
 
 -- what a turn needs of the cursor: a piece ends past it, and is searched from it on or later
-abbrev pub IsSet : ℕ → Next → Type 0
+abbrev pub IsSet : ℕ → SearchStep → Type 0
 IsSet cursor Seek = Unit {0}
 IsSet cursor (ReadsTimes piece) = cursor < piece.to
 IsSet cursor (Index piece from) = (cursor ≤ from) × (from < piece.to)
@@ -73,12 +73,12 @@ GoesOn cursor (Goes at next) = (cursor ≤ at) × IsSet at next
 GoesOn cursor (Ends answer) = Unit {0}
 
 -- remote segments are looked for below the local log alone
-abbrev pub IsBelow : Asked → ℕ → Next → Type 0
+abbrev pub IsBelow : Asked → ℕ → SearchStep → Type 0
 IsBelow asked cursor Seek = cursor < asked.local
 IsBelow asked cursor next = Unit {0}
 
--- what a search comes to with a run of batches that was read at an offset, and ends at or below the known mark: it
--- ends past it
+-- what a search comes to with a run of batches that was read at an offset, and ends at or below the known high
+-- watermark: it ends past it
 abbrev pub IsSearched : Asked → ℕ → List ℕ → TimeTurn → Type 0
 IsSearched asked offset run (Ends (Offset n)) =
     (batches : List (List ℕ)) → AreChecked batches → end_from offset batches ≤ asked.mark → run ≡ joined batches
@@ -127,7 +127,7 @@ Times asked cursor piece base spot (Ok (Some bytes)) result =
     TimesBytes (short_of spot bytes) asked cursor piece base spot bytes result
 
 -- what a fetch would ask for at an offset that a search reads from
-abbrev pub wanted_at : Asked → ℕ → Wanted
+abbrev pub wanted_at : Asked → ℕ → FetchRequest
 wanted_at asked offset = record {
   partition = asked.partition;
   offset = offset;
@@ -175,7 +175,7 @@ module _ {S : Type 0} (objects : S → store.Content) (calls : S → Control sto
 
 module _ {S M : Type 0} (objects : S → store.Content) (calls : S → Control store_call.call_code)
     (notes : M → meta.Content) (notings : M → Control meta_call.call_code) where
-  -- the offset index is had as a fetch from this offset has it; none is where the known mark isn't past it
+  -- the offset index is had as a fetch from this offset has it; none is where the known high watermark isn't past it
   abbrev pub IndexRow : Asked → List (ℕ × ℕ) → ℕ → Piece → ℕ → Result TimeTurn AllocError → Tiers S M → Tiers S M → Type 0
   IndexRow asked line cursor piece from result old new =
       ((asked.mark ≤ from) × (result ≡ Ok (Goes (top_of asked piece) Seek)) × (new ≡ old))
@@ -192,7 +192,8 @@ module _ {S M : Type 0} (objects : S → store.Content) (calls : S → Control s
       × Searches asked from turn result))
 
   -- a turn of a search among the remote segments, by what was next: what it came to, or that it wanted memory
-  abbrev pub TimeRow : Asked → List (ℕ × ℕ) → ℕ → Next → Result TimeTurn AllocError → Tiers S M → Tiers S M → Type 0
+  abbrev pub TimeRow : Asked → List (ℕ × ℕ) → ℕ → SearchStep → Result TimeTurn AllocError → Tiers S M → Tiers S M
+      → Type 0
   TimeRow asked line cursor Seek result old new =
       (new ≡ record old { view = new.view; meta = new.meta })
       × SeekRow notes notings asked line cursor result old.view new.view old.meta new.meta
@@ -211,7 +212,7 @@ module _ {D : Type 0} (content : D → disk.Content) (control : D → Control di
     pub quiet : Quiet control old new
     pub searched : IsSearched asked at out.bytes turn
 
-  -- what the disk handed in this turn has no run there, and the log is as it was: where a batch ends at the known mark it was read once
+  -- what the disk handed in this turn has no run there, and the log is as it was: where a batch ends at the known high watermark it was read once
   pub record FindsDamage (old : Kept D) (asked : Asked) (at : ℕ) (name : FileName) (place : ℕ) (new : Kept D) : Type 0 where
     pub misreads : Misreads content control old new at (2 ^ 64 - 1) asked.mark name place
     pub ran : WhileUp old (λ log. is_edge (segment_at log asked.mark) asked.mark ≡ true
@@ -228,7 +229,7 @@ module _ {D : Type 0} (content : D → disk.Content) (control : D → Control di
   ReadRow old asked at (Ends (Damaged (File name) place)) new = FindsDamage old asked at name place new
   ReadRow old asked at turn new = SearchesRun old asked at turn new
 
-  -- a turn of a search in the local log: nothing is read at or past the known mark
+  -- a turn of a search in the local log: nothing is read at or past the known high watermark
   abbrev pub OwnRow : Kept D → Asked → ℕ → TimeTurn → Kept D → Type 0
   OwnRow old asked cursor turn new =
       ((asked.mark ≤ passed_over asked.ts cursor (closed_in old)) × (turn ≡ Goes (passed_over asked.ts cursor (closed_in old)) Seek)

@@ -19,5 +19,5 @@ mod turns;
 
 pub use own::own_turn;
 pub use run::{Dated, date_in};
-pub use turn::{Asked, Next, TimeTurn};
+pub use turn::{Asked, SearchStep, TimeTurn};
 pub use turns::time_turn;

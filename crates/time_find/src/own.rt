@@ -6,14 +6,14 @@ ghost use Rattle.time_find.specs.Turns.{GoesOn, OwnRow};
 
 use crate::passing::passed_over;
 use crate::run::search_run;
-use crate::turn::{Asked, Next, TimeTurn};
+use crate::turn::{Asked, SearchStep, TimeTurn};
 use broker_log::{BrokerLog, ReadRefusal};
 use disk_model::Disk;
 use plain_log::{Answer, Place};
 use std::alloc::AllocError;
 
 /// Takes a turn of a search whose cursor is in the local log: it passes over closed segments, and reads a run where
-/// it comes to. The run has no limit but the known mark, the segment's end and its leader epoch's.
+/// it comes to. The run has no limit but the known high watermark, the segment's end and its leader epoch's.
 pub fn own_turn<D: Disk>(
     log: &mut BrokerLog<D>,
     asked: &Asked,
@@ -29,7 +29,7 @@ pub fn own_turn<D: Disk>(
 {
     let at = passed_over(log.closed(), cursor, asked.ts);
     if at >= asked.mark {
-        return Ok(TimeTurn::Goes(at, Next::Seek));
+        return Ok(TimeTurn::Goes(at, SearchStep::Seek));
     }
     match log.read_run(at, u64::MAX, asked.mark) {
         Ok(run) => Ok(search_run(run.bytes.as_slice(), asked, at)),

@@ -7,7 +7,7 @@ ghost use Rattle.remote_view.specs.Fold.{entry_of};
 ghost use Rattle.time_find.specs.Passing.{is_passed, is_early, passed_over, Seeks};
 ghost use Rattle.time_find.specs.Turns.{GoesOn};
 
-use crate::turn::{Asked, Next, TimeTurn};
+use crate::turn::{Asked, SearchStep, TimeTurn};
 use epoch_line::Line;
 use plain_log::{Answer, Place};
 use remote_find::{Piece, find};
@@ -45,7 +45,7 @@ fn is_early(view: &View, piece: &Piece, ts: i64) -> bool
 }
 
 /// Passes over the pieces of remote segments, from a cursor on, up to the first that may have the timestamp, or up to
-/// the local log or the known mark.
+/// the local log or the known high watermark.
 pub(crate) fn seek(asked: &Asked, line: &Line, view: &View, cursor: u64) -> TimeTurn
     requires local { cursor < asked.now.local }
     requires mark { cursor < asked.now.mark }
@@ -62,9 +62,9 @@ pub(crate) fn seek(asked: &Asked, line: &Line, view: &View, cursor: u64) -> Time
             return TimeTurn::Ends(Answer::Damaged(Place::Meta, view.seen()));
         };
         if !is_early(view, &piece, asked.ts) {
-            return TimeTurn::Goes(at, Next::Times(piece));
+            return TimeTurn::Goes(at, SearchStep::Times(piece));
         }
         at = piece.to;
     }
-    TimeTurn::Goes(at, Next::Seek)
+    TimeTurn::Goes(at, SearchStep::Seek)
 }

@@ -5,7 +5,7 @@ ghost use Rattle.log_terms.specs.Log.{joined, end_from};
 ghost use Rattle.time_find.specs.Dates.{AreChecked, IsDated};
 ghost use Rattle.time_find.specs.Turns.{GoesOn, IsSearched};
 
-use crate::turn::{Asked, Next, TimeTurn};
+use crate::turn::{Asked, SearchStep, TimeTurn};
 use plain_log::Answer;
 use record_batch::read_head;
 
@@ -55,6 +55,6 @@ pub(crate) fn search_run(run: &[u8], asked: &Asked, offset: u64) -> TimeTurn
 {
     match date_in(run, asked.ts, asked.start, offset) {
         Dated::At(offset) => TimeTurn::Ends(Answer::Offset(offset)),
-        Dated::Behind(end) => TimeTurn::Goes(end.max(offset + 1), Next::Seek),
+        Dated::Behind(end) => TimeTurn::Goes(end.max(offset + 1), SearchStep::Seek),
     }
 }

@@ -23,7 +23,7 @@ pub struct Asked {
 
 /// What the next turn of a search does.
 #[derive(Clone, Copy, Debug, PartialEq, Eq)]
-pub enum Next {
+pub enum SearchStep {
     /// Go on at the cursor: below the local log in the remote segments, else in the local log.
     Seek,
     /// Read the time index of the piece's segment.
@@ -38,7 +38,7 @@ pub enum Next {
 #[derive(Debug, Drop)]
 pub enum TimeTurn {
     /// The lookup continues at this cursor, with this turn.
-    Goes(u64, Next),
+    Goes(u64, SearchStep),
     /// The lookup has ended with this answer.
     Ends(Answer),
 }

@@ -11,7 +11,7 @@ ghost use Rattle.time_find.specs.Turns.{IsSet, GoesOn, IsBelow, wanted_at, shown
 
 use crate::passing::seek;
 use crate::run::search_run;
-use crate::turn::{Asked, Next, TimeTurn};
+use crate::turn::{Asked, SearchStep, TimeTurn};
 use bytes::Bytes;
 use epoch_line::Line;
 use index_cache::IndexCache;
@@ -23,7 +23,7 @@ use remote_view::View;
 use sparse_index::{IndexRefusal, TimeIndex};
 use std::alloc::{AllocError, Global};
 use tier_base::{Part, Trouble};
-use tier_fetch::{FetchTurn, Next as Fetch, Span, Wanted, fetch_turn};
+use tier_fetch::{FetchRequest, FetchStep as Fetch, FetchTurn, Span, fetch_turn};
 use view_refresh::refresh;
 
 /// Takes the next turn of a lookup whose cursor is below the local log, or which is in a remote segment. `line` has
@@ -32,7 +32,7 @@ pub fn time_turn<S: Store, M: MetaLog>(
     alloc: Global,
     asked: &Asked,
     cursor: u64,
-    next: Next,
+    next: SearchStep,
     line: &Line,
     view: &mut View,
     cache: &mut IndexCache,
@@ -48,12 +48,12 @@ pub fn time_turn<S: Store, M: MetaLog>(
     ensures goes { IfOk result (GoesOn cursor) }
 {
     match next {
-        Next::Seek => refresh_and_seek(asked, cursor, line, view, meta),
-        Next::Times(piece) => times(alloc, asked, cursor, &piece, view, store),
-        Next::Index(piece, from) => index(
+        SearchStep::Seek => refresh_and_seek(asked, cursor, line, view, meta),
+        SearchStep::Times(piece) => times(alloc, asked, cursor, &piece, view, store),
+        SearchStep::Index(piece, from) => index(
             alloc, asked, cursor, &piece, from, line, view, cache, store, meta,
         ),
-        Next::Log(piece, from, span) => log(
+        SearchStep::Log(piece, from, span) => log(
             alloc, asked, cursor, &piece, from, span, line, view, cache, store, meta,
         ),
     }
@@ -188,17 +188,17 @@ fn shown(asked: &Asked, cursor: u64, piece: &Piece, from: u64) -> TimeTurn
 {
     let top = piece.to.min(asked.mark);
     if from < top {
-        TimeTurn::Goes(cursor, Next::Index(*piece, from))
+        TimeTurn::Goes(cursor, SearchStep::Index(*piece, from))
     } else {
-        TimeTurn::Goes(top, Next::Seek)
+        TimeTurn::Goes(top, SearchStep::Seek)
     }
 }
 
 /// What a fetch would ask for at an offset that a search reads from.
-fn wanted_at(asked: &Asked, offset: u64) -> Wanted
+fn wanted_at(asked: &Asked, offset: u64) -> FetchRequest
     ensures { result ≡ wanted_at asked.now offset }
 {
-    Wanted {
+    FetchRequest {
         partition: asked.partition,
         offset,
         limit: u32::MAX,
@@ -244,7 +244,7 @@ fn index<S: Store, M: MetaLog>(
     )?;
     match turn {
         FetchTurn::Goes(Fetch::Log(piece, span)) => {
-            Ok(TimeTurn::Goes(cursor, Next::Log(piece, from, span)))
+            Ok(TimeTurn::Goes(cursor, SearchStep::Log(piece, from, span)))
         }
         FetchTurn::Ends(answer) => Ok(TimeTurn::Ends(answer)),
         FetchTurn::Goes(_) => unreachable!(),
@@ -274,7 +274,7 @@ fn log<S: Store, M: MetaLog>(
     ensures goes { IfOk result (GoesOn cursor) }
 {
     if from >= asked.mark {
-        return Ok(TimeTurn::Goes(piece.to.min(asked.mark), Next::Seek));
+        return Ok(TimeTurn::Goes(piece.to.min(asked.mark), SearchStep::Seek));
     }
     let wanted = wanted_at(asked, from);
     let turn = fetch_turn(

@@ -13,9 +13,9 @@ use Rattle.plain_log.specs.declared.state.State.{State}
 use Rattle.plain_log.specs.Fresh.{fresh}
 use Rattle.plain_log.specs.Runs.{replay, IsComplete}
 use Rattle.cold_state.specs.Cold.{cold_of}
-use Rattle.plain_machine.specs.Fits.{IsFor, AreFor}
-use Rattle.plain_machine.specs.Traces.{Reaches}
-use Rattle.plain_machine.proofs.Fitting.{IsListFor as IsMachinesList, lists_for}
+use Rattle.plain_executor.specs.Fits.{IsFor, AreFor}
+use Rattle.plain_executor.specs.Traces.{Reaches}
+use Rattle.plain_executor.proofs.Fitting.{IsListFor as IsMachinesList, lists_for}
 use Rattle.script_lang.specs.declared.script.PartScript.{PartScript}
 use Rattle.script_lang.specs.declared.script.Script.{Script}
 use Rattle.script_lang.specs.Fit.{AreNumbered}

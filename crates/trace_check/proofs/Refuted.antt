@@ -5,8 +5,8 @@ use Rattle.std.proofs.lemmas.List.{take_more}
 use Rattle.plain_log.specs.declared.command.ActorList.{ActorList}
 use Rattle.plain_log.specs.declared.journal.JournalEntry.{JournalEntry}
 use Rattle.plain_log.specs.declared.state.State.{State}
-use Rattle.plain_machine.specs.Traces.{IsRefusedAt}
-use Rattle.plain_machine.proofs.Verdicts.{ends}
+use Rattle.plain_executor.specs.Traces.{IsRefusedAt}
+use Rattle.plain_executor.proofs.Verdicts.{ends}
 use Rattle.script_lang.specs.declared.script.Script.{Script}
 use Rattle.trace_text.specs.declared.refusal.TraceRefusal.TheVariants.{Bad}
 use Rattle.trace_text.specs.Laws.{PrintIsRead, OneTextOneTrace}

@@ -8,7 +8,7 @@ use Rattle.plain_log.specs.declared.command.Config.{Config}
 use Rattle.plain_log.specs.declared.journal.JournalEntry.{JournalEntry}
 use Rattle.plain_log.specs.declared.state.State.{State}
 use Rattle.plain_log.specs.Runs.{IsComplete}
-use Rattle.plain_machine.specs.Traces.{IsRefusedAt}
+use Rattle.plain_executor.specs.Traces.{IsRefusedAt}
 use Rattle.script_lang.specs.declared.script.PartScript.{PartScript}
 use Rattle.script_lang.specs.declared.script.Script.{Script}
 use Rattle.script_lang.specs.Script.{script_in}

@@ -8,7 +8,7 @@ ghost use Rattle.trace_check.specs.Verdicts.{IsPairJudged, IsVerdict};
 use crate::judging::judge;
 use crate::pair::Pair;
 use crate::verdict::{Flaw, Verdict};
-use plain_machine::Plain;
+use plain_executor::Plain;
 use script_lang::{ScriptRefusal, parse};
 use std::alloc::{AllocError, Global};
 use tier_base::Row;

@@ -10,8 +10,8 @@ ghost use Rattle.trace_check.specs.Whole.{journal_of};
 ghost use Rattle.trace_check.specs.Verdicts.{line_of as line_in, IsPartJudged, ArePartsJudged, IsFirstBeyond, AreJudged};
 
 use crate::verdict::Flaw;
+use plain_executor::{Plain, is_complete, take_all};
 use plain_log::{Config, JournalEntry};
-use plain_machine::{Plain, is_complete, take_all};
 use script_lang::{PartScript, Script};
 use std::alloc::{AllocError, Global};
 use tier_base::{PartitionId, Row};

@@ -17,7 +17,7 @@
 --   Ok base last epoch               OkSpan           a batch's base offset, last offset and leader epoch
 --   Refused cause                    Refused          the cause's name and its numbers: the module Names
 --   DiskFault n                      DiskFaultAt      the end or start that the log was to have
---   BehindStart stable start         BehindStart      a broker's stable end, the log start offset
+--   BehindStart stable start         BehindStart      a broker's flushed end, the log start offset
 --   Follows epoch                    Follows          a leader epoch; so in NeedsElection, Leads and StaleEpoch
 --   Cut end                          Cut              a log's end; so in Passed and Up
 --   BelowStart start                 BelowStart       the log start offset; so in Raised and NotAbove

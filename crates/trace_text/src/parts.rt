@@ -21,7 +21,7 @@ pub struct Parts {
 impl Parts {
     /// Begins without a part.
     pub fn new(alloc: Global) -> Parts
-        ensures begun { IsBegun result }
+        ensures snapshot { IsBegun result }
         ensures none { parts_of result ≡ [] }
     {
         Parts {

@@ -256,7 +256,7 @@ fn answer(alloc: Global, words: Words) -> Result<Option<Answer>, AllocError>
 }
 
 /// Reads what stands behind `begin`.
-fn begun(words: Words) -> Option<Event>
+fn snapshot(words: Words) -> Option<Event>
     ensures { result ≡ begun_in words.entry }
 {
     let mut words = words;
@@ -293,7 +293,7 @@ fn event(alloc: Global, words: Words) -> Result<Option<Event>, AllocError>
         return Ok(Some(Event::Answers(answer)));
     }
     if is(first, "begin") {
-        return Ok(begun(words));
+        return Ok(snapshot(words));
     }
     Ok(None)
 }

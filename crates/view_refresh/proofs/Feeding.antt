@@ -11,7 +11,7 @@ use Rattle.segment_meta.specs.declared.note.Entry.{Entry}
 use Rattle.segment_meta.specs.declared.note.Note.{Note}
 use Rattle.meta_log.specs.Content.{Content, AreNotes}
 use Rattle.tier_base.specs.Counts.{counted}
-use Rattle.remote_view.specs.Fold.{Seen, fed, view_of, fold, folded_from, noted}
+use Rattle.remote_view.specs.Fold.{Seen, fed, view_of, fold, folded_from, recorded}
 use Rattle.view_refresh.specs.Refreshing.{fed_all, Refreshes, Advances, Takes}
 
 -- entries and count of a view that is fed
@@ -28,7 +28,7 @@ fed_notes view (note ∷ notes) low =
 
 folded_append : (entries : _) (xs ys : List Note) → folded_from entries (xs ++ ys) ≡ folded_from (folded_from entries xs) ys
 folded_append entries [] ys = refl
-folded_append entries (x ∷ xs) ys = folded_append (noted entries x) xs ys
+folded_append entries (x ∷ xs) ys = folded_append (recorded entries x) xs ys
 
 -- a view of the first k notes, fed all others
 fed_rest : (notes : List Note) (k : ℕ) → length notes < 2 ^ 64 → k ≤ length notes → fed_all (view_of (take k notes)) (drop k notes) ≡ view_of notes
@@ -44,12 +44,12 @@ fed_rest notes k low within =
     ap (λ (es : List Entry). (let v : Seen = record { entries = es; notes = (fed_all (view_of (take k notes)) (drop k notes)).notes } in v)) entries
     ∙ ap (λ (n : ℕ). (let v : Seen = record { entries = fold notes; notes = n } in v)) count
 
-pub refreshed : (log : Content) (old new : Seen) (k : ℕ) → IsTrue log.tells → length log.notes < 2 ^ 64 → k ≤ length log.notes
+pub refreshed : (log : Content) (old new : Seen) (k : ℕ) → IsTrue log.is_observable → length log.notes < 2 ^ 64 → k ≤ length log.notes
     → old ≡ view_of (take k log.notes) → Refreshes log old new → new ≡ view_of log.notes
-refreshed log old new k tells low within old_is r =
+refreshed log old new k is_observable low within old_is r =
     let first = length-take-le k log.notes within in
     let seen : old.notes ≡ k = ap (λ (v : Seen). v.notes) old_is ∙ omega (arith, first, low, within) in
-    let further : r.notes ≡ drop k log.notes = r.further tells ∙ ap (λ (n : ℕ). drop n log.notes) seen in
+    let further : r.notes ≡ drop k log.notes = r.further is_observable ∙ ap (λ (n : ℕ). drop n log.notes) seen in
     r.view ∙ ap (λ (ns : List Note). fed_all old ns) further ∙ ap (λ (v : Seen). fed_all v (drop k log.notes)) old_is ∙ fed_rest log.notes k low within
 
 fed_push : (view : Seen) (notes : List Note) (note : Note) → fed_all view (notes ++ note ∷ []) ≡ fed (fed_all view notes) note
@@ -72,7 +72,7 @@ failed_takes T Failed log view = refl
 failed_takes T NoMemory log view = record { notes = []; rest = drop view.notes log.notes; are = All-nil IsNote; further = λ _. refl; view = refl }
 
 -- a feed that finds no memory leaves it with the first of the notes
-pub stopped_advances : (log : Content) (old new : Seen) (notes : List Note) → AreNotes notes → (IsTrue log.tells → notes ≡ drop old.notes log.notes)
+pub stopped_advances : (log : Content) (old new : Seen) (notes : List Note) → AreNotes notes → (IsTrue log.is_observable → notes ≡ drop old.notes log.notes)
     → (k : ℕ) × (new ≡ fed_all old (take k notes)) → Advances log old new
 stopped_advances log old new notes are further (k, is) = record {
   notes = take k notes;

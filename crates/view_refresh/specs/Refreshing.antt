@@ -5,7 +5,7 @@
 --   Refreshes log old new      the view has all notes of the log
 --   Advances log old new       it has taken in some of those that the log has more, in their order
 --
--- Of a log that doesn't tell, any notes may have been read.
+-- Of a log that isn't observable, any notes may have been read.
 use Rattle.std.specs.Prelude.{◌≡◌, ◌⊎◌, List, [], ◌∷◌, ◌++◌, drop, IsTrue, Ok, Err}
 use Rattle.std.specs.declared.result.Result.{Result}
 use Rattle.tier_base.specs.declared.fault.Trouble.{Trouble}
@@ -26,7 +26,7 @@ fed_all view (note ∷ notes) = fed_all (fed view note) notes
 pub record Refreshes (log : Content) (old new : Seen) : Type 0 where
   pub notes : List Note
   pub are : AreNotes notes
-  pub further : IsTrue log.tells → notes ≡ drop old.notes log.notes
+  pub further : IsTrue log.is_observable → notes ≡ drop old.notes log.notes
   pub view : new ≡ fed_all old notes
 
 -- the view has taken in the first of the notes that the log has more than it
@@ -34,7 +34,7 @@ pub record Advances (log : Content) (old new : Seen) : Type 0 where
   pub notes : List Note
   pub rest : List Note
   pub are : AreNotes notes
-  pub further : IsTrue log.tells → notes ++ rest ≡ drop old.notes log.notes
+  pub further : IsTrue log.is_observable → notes ++ rest ≡ drop old.notes log.notes
   pub view : new ≡ fed_all old notes
 
 -- what a refresh makes of a view: a failed one nothing, and one that wants memory may stop between two notes
@@ -46,9 +46,9 @@ Takes (Err NoMemory) log old new = Advances log old new
 -- what a power cut may leave of the log after a refresh: after one that was done what is told, and no other notes.
 -- Where memory was wanting that holds, or the view is as it was
 abbrev pub Leaves : {T : Type 0} → Result T Trouble → Seen → Seen → Content → Content → Type 0
-Leaves (Ok x) before after old new = IsTrue old.tells → LeavesTold new
+Leaves (Ok x) before after old new = IsTrue old.is_observable → LeavesTold new
 Leaves (Err Failed) before after old new = Unit {0}
-Leaves (Err NoMemory) before after old new = (after ≡ before) ⊎ (IsTrue old.tells → LeavesTold new)
+Leaves (Err NoMemory) before after old new = (after ≡ before) ⊎ (IsTrue old.is_observable → LeavesTold new)
 
 -- one call of the log, which reads
 abbrev pub Reads : {T : Type 0} → Result T Trouble → Control call_code → Control call_code → Type 0
@@ -69,7 +69,7 @@ module _ {M : Type 0} (notes : M → Content) (calls : M → Control call_code) 
     pub view : Refreshes (notes old) before after
     pub control : RanQuietly Read Went (calls old) (calls new)
     pub content : Keeps (notes old) (notes new)
-    pub told : IsTrue (notes old).tells → LeavesTold (notes new)
+    pub told : IsTrue (notes old).is_observable → LeavesTold (notes new)
 
   -- the read failed
   pub record Unread (before after : Seen) (old new : M) : Type 0 where
@@ -83,4 +83,4 @@ module _ {M : Type 0} (notes : M → Content) (calls : M → Control call_code) 
     pub control : Lasts (calls old) (calls new)
     pub once : RanQuietly Read Dry (calls old) (calls new) ⊎ RanQuietly Read Went (calls old) (calls new)
     pub content : Keeps (notes old) (notes new)
-    pub moved : (after ≡ before) ⊎ (IsTrue (notes old).tells → LeavesTold (notes new))
+    pub moved : (after ≡ before) ⊎ (IsTrue (notes old).is_observable → LeavesTold (notes new))

@@ -9,7 +9,8 @@ use meta_log::MetaLog;
 
 /// A view of the log's first notes is the view of all of them once it is refreshed.
 pub fn a_refreshed_view_is_the_fold<M: MetaLog>()
-    ensures { (log : M) (old new : Seen) (k : ℕ) → IsTrue (M.content log).tells → length (M.content log).notes < 2 ^ 64
+    ensures { (log : M) (old new : Seen) (k : ℕ) → IsTrue (M.content log).is_observable
+        → length (M.content log).notes < 2 ^ 64
         → k ≤ length (M.content log).notes → old ≡ view_of (take k (M.content log).notes) → Refreshes (M.content log) old new
         → new ≡ view_of (M.content log).notes }
 {}

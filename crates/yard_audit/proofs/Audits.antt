@@ -6,7 +6,7 @@ use Rattle.disk_model.specs.Content as disk
 use Rattle.object_store.specs.Content as store
 use Rattle.meta_log.specs.Content as log
 use Rattle.device_yard.specs.Control.{Control}
-use Rattle.device_yard.specs.Held.{Held}
+use Rattle.device_yard.specs.YardContent.{YardContent}
 use Rattle.tier_audit.specs.declared.verdict.Verdict.{Verdict}
 use Rattle.yard_audit.specs.Lines.{verdict_text, line_of, lines_of, unsound_after, first_unsound_from, first_unsound}
 use Rattle.yard_audit.specs.Rounds.{partitions_of, AreAll, AreAudited, IsAudited}
@@ -37,63 +37,63 @@ unsound_snoc first (found ∷ more) p one = unsound_snoc (unsound_after first fo
 
 module _ {D S M : Type 0} (files : D → disk.Content) (objects : S → store.Content) (notes : M → log.Content) where
   -- the partitions that were audited, and those that are left
-  pub record SoFar (rest : List PartitionId) (h0 h : Held D S M) (c0 c : Control) (text : List ℕ) (unsound : Option PartitionId) : Type 0 where
+  pub record SoFar (rest : List PartitionId) (h0 h : YardContent D S M) (c0 c : Control) (text : List ℕ) (unsound : Option PartitionId) : Type 0 where
     pub found : List (PartitionId × Verdict)
     pub all : AreAll files objects notes h0 (partitions_of found ++ rest)
-    pub right : IsTrue h0.tells → AllByRecursion (IsAudited objects notes h0) found
+    pub right : IsTrue h0.is_observable → AllByRecursion (IsAudited objects notes h0) found
     pub text_is : text ≡ lines_of verdict_text found
     pub unsound_is : unsound ≡ first_unsound found
-    pub rests : IsTrue h0.tells → AllRest files objects notes h0 h
-    pub tells : h.tells ≡ h0.tells
+    pub rests : IsTrue h0.is_observable → AllRest files objects notes h0 h
+    pub is_observable : h.is_observable ≡ h0.is_observable
     pub back : IsBack c0 c
 
-  pub begins : (list rest : List PartitionId) (h0 h : Held D S M) (c0 c : Control) (text : List ℕ) → rest ≡ list → text ≡ [] → AreAll files objects notes h0 list
-      → (IsTrue h0.tells → AllRest files objects notes h0 h) → h.tells ≡ h0.tells → IsBack c0 c → SoFar rest h0 h c0 c text None
-  begins list rest h0 h c0 c text is empty all rests tells back = record {
+  pub begins : (list rest : List PartitionId) (h0 h : YardContent D S M) (c0 c : Control) (text : List ℕ) → rest ≡ list → text ≡ [] → AreAll files objects notes h0 list
+      → (IsTrue h0.is_observable → AllRest files objects notes h0 h) → h.is_observable ≡ h0.is_observable → IsBack c0 c → SoFar rest h0 h c0 c text None
+  begins list rest h0 h c0 c text is empty all rests is_observable back = record {
     found = [];
     all = subst (AreAll files objects notes h0) (sym is) all;
     right = λ t. record {};
     text_is = empty;
     unsound_is = refl;
     rests = rests;
-    tells = tells;
+    is_observable = is_observable;
     back = back;
   }
 
   -- one more was audited
-  module _ (p : PartitionId) (verdict : Verdict) (rest : List PartitionId) (h0 h h' : Held D S M) (c0 c c' : Control) where
+  module _ (p : PartitionId) (verdict : Verdict) (rest : List PartitionId) (h0 h h' : YardContent D S M) (c0 c c' : Control) where
     audited_before : (text : List ℕ) (unsound : Option PartitionId) → SoFar (p ∷ rest) h0 h c0 c text unsound
-        → (IsTrue h.tells → IsAudited objects notes h (p, verdict)) → IsTrue h0.tells → IsAudited objects notes h0 (p, verdict)
-    audited_before text unsound so audited t = let is = audited (subst IsTrue (sym so.tells) t) in record {
+        → (IsTrue h.is_observable → IsAudited objects notes h (p, verdict)) → IsTrue h0.is_observable → IsAudited objects notes h0 (p, verdict)
+    audited_before text unsound so audited t = let is = audited (subst IsTrue (sym so.is_observable) t) in record {
       tier = is.tier;
       held_so = held_before files objects notes h0 h p is.tier ((so.rests t).objects_rest p) ((so.rests t).notes_rest p) is.held_so;
       is = is.is;
     }
 
-    one_more : (text : List ℕ) (unsound : Option PartitionId) → SoFar (p ∷ rest) h0 h c0 c text unsound → (IsTrue h.tells → IsAudited objects notes h (p, verdict))
-        → (IsTrue h.tells → AllRest files objects notes h h') → h'.tells ≡ h.tells → IsBack c c'
+    one_more : (text : List ℕ) (unsound : Option PartitionId) → SoFar (p ∷ rest) h0 h c0 c text unsound → (IsTrue h.is_observable → IsAudited objects notes h (p, verdict))
+        → (IsTrue h.is_observable → AllRest files objects notes h h') → h'.is_observable ≡ h.is_observable → IsBack c c'
         → SoFar rest h0 h' c0 c' (text ++ line_of p (verdict_text verdict)) (unsound_after unsound p verdict)
-    one_more text unsound so audited rests tells back = record {
+    one_more text unsound so audited rests is_observable back = record {
       found = so.found ++ (p, verdict) ∷ [];
       all = subst (AreAll files objects notes h0) (sym (partitions_snoc so.found p verdict rest)) so.all;
       right = λ t. all_snoc (IsAudited objects notes h0) so.found (p, verdict) (so.right t) (audited_before text unsound so audited t);
       text_is = ap (λ (before : List ℕ). before ++ line_of p (verdict_text verdict)) so.text_is ∙ sym (lines_snoc verdict_text so.found p verdict);
       unsound_is = ap (λ (first : Option PartitionId). unsound_after first p verdict) so.unsound_is ∙ sym (unsound_snoc None so.found p verdict);
-      rests = λ t. rests_then files objects notes h0 h h' (so.rests t) (rests (subst IsTrue (sym so.tells) t));
-      tells = tells ∙ so.tells;
+      rests = λ t. rests_then files objects notes h0 h h' (so.rests t) (rests (subst IsTrue (sym so.is_observable) t));
+      is_observable = is_observable ∙ so.is_observable;
       back = back_then c0 c c' so.back back;
     }
 
     pub goes_on : (before : List PartitionId) (text text' : List ℕ) (unsound unsound' : Option PartitionId) → before ≡ p ∷ rest
         → text' ≡ text ++ line_of p (verdict_text verdict) → unsound' ≡ unsound_after unsound p verdict
-        → SoFar before h0 h c0 c text unsound → (IsTrue h.tells → IsAudited objects notes h (p, verdict))
-        → (IsTrue h.tells → AllRest files objects notes h h') → h'.tells ≡ h.tells → IsBack c c' → SoFar rest h0 h' c0 c' text' unsound'
-    goes_on before text text' unsound unsound' steps added noted so audited rests tells back =
+        → SoFar before h0 h c0 c text unsound → (IsTrue h.is_observable → IsAudited objects notes h (p, verdict))
+        → (IsTrue h.is_observable → AllRest files objects notes h h') → h'.is_observable ≡ h.is_observable → IsBack c c' → SoFar rest h0 h' c0 c' text' unsound'
+    goes_on before text text' unsound unsound' steps added recorded so audited rests is_observable back =
         subst (λ (t : List ℕ). SoFar rest h0 h' c0 c' t unsound') (sym added)
-        (subst (λ (u : Option PartitionId). SoFar rest h0 h' c0 c' (text ++ line_of p (verdict_text verdict)) u) (sym noted)
-        (one_more text unsound (subst (λ (l : List PartitionId). SoFar l h0 h c0 c text unsound) steps so) audited rests tells back))
+        (subst (λ (u : Option PartitionId). SoFar rest h0 h' c0 c' (text ++ line_of p (verdict_text verdict)) u) (sym recorded)
+        (one_more text unsound (subst (λ (l : List PartitionId). SoFar l h0 h c0 c text unsound) steps so) audited rests is_observable back))
 
-  pub ends : (h0 h : Held D S M) (c0 c : Control) (text : List ℕ) (unsound : Option PartitionId)
+  pub ends : (h0 h : YardContent D S M) (c0 c : Control) (text : List ℕ) (unsound : Option PartitionId)
       → (so : SoFar [] h0 h c0 c text unsound) → AreAudited files objects notes h0 so.found
   ends h0 h c0 c text unsound so = record {
     all = subst (AreAll files objects notes h0) (append-nil (partitions_of so.found)) so.all;

@@ -10,8 +10,8 @@ use Rattle.object_store.specs.Content as store
 use Rattle.meta_log.specs.Content as log
 use Rattle.remote_view.specs.Fold.{fold}
 use Rattle.device_yard.specs.Control.{Control}
-use Rattle.device_yard.specs.Held.{Held, Rise, HandsStore, HandsLog}
-use Rattle.tier_sweep.specs.Sweeping.{Tier, IsUnderSweep, LeavesUnder, tier_with, starts_of}
+use Rattle.device_yard.specs.YardContent.{YardContent, Rise, HandsStore, HandsLog}
+use Rattle.tier_sweep.specs.Sweeping.{SweptTier, IsUnderSweep, LeavesUnder, tier_with, starts_of}
 use Rattle.tier_sweep.specs.Sweeping.IsUnderSweep.{Starting}
 use Rattle.tier_sweep.proofs.Leaving.{swept_under}
 use Rattle.yard_audit.specs.Lines.{swept_text, line_of, lines_of}
@@ -21,7 +21,7 @@ use Rattle.yard_audit.proofs.Tiers.{is_or_not, below_is_other, held_still, held_
 use Rattle.yard_audit.proofs.Audits.{lines_snoc, partitions_snoc, all_snoc}
 
 -- the first that a sweep may have come to is that it hasn't begun
-pub unbegun : (tier new : Tier) → ((key : ObjectKey) → new.objects key ≡ tier.objects key) → new.notes ≡ tier.notes → IsUnderSweep tier new
+pub unbegun : (tier new : SweptTier) → ((key : ObjectKey) → new.objects key ≡ tier.objects key) → new.notes ≡ tier.notes → IsUnderSweep tier new
 unbegun tier new objects notes = Starting (record {
   notes = record { told = []; rest = starts_of (fold tier.notes); are = refl; now = notes ∙ sym (append-nil tier.notes) };
   objects = objects;
@@ -37,7 +37,7 @@ below_rest (one ∷ found) p rest all = (λ q there. all.0 q (inr there), below_
 
 module _ {D S M : Type 0} (files : D → disk.Content) (objects : S → store.Content) (notes : M → log.Content) where
   -- what was swept stays so while another partition is swept
-  still_swept : (h0 h h' : Held D S M) (p : PartitionId) (rest : List PartitionId) (found : List (PartitionId × ℕ)) → OthersRest files objects notes p h h'
+  still_swept : (h0 h h' : YardContent D S M) (p : PartitionId) (rest : List PartitionId) (found : List (PartitionId × ℕ)) → OthersRest files objects notes p h h'
       → AllByRecursion (Below (p ∷ rest)) found → AllByRecursion (IsSweptIn objects notes h0 h) found → AllByRecursion (IsSweptIn objects notes h0 h') found
   still_swept h0 h h' p rest [] others below swept = record {}
   still_swept h0 h h' p rest (one ∷ found) others below swept =
@@ -54,13 +54,13 @@ module _ {D S M : Type 0} (files : D → disk.Content) (objects : S → store.Co
       )
 
   -- no partition is further than its sweep
-  abbrev pub AreUnder : Held D S M → Held D S M → Type 0
+  abbrev pub AreUnder : YardContent D S M → YardContent D S M → Type 0
   AreUnder h0 h = (q : PartitionId) → IsUnderSweepIn objects notes h0 h q
 
-  pub all_unbegun : (h0 h : Held D S M) → AllRest files objects notes h0 h → AreUnder h0 h
+  pub all_unbegun : (h0 h : YardContent D S M) → AllRest files objects notes h0 h → AreUnder h0 h
   all_unbegun h0 h rests q =
-      let before : Tier = record { objects = object_on objects (h0.stores q); notes = notes_on notes (h0.logs q) } in
-      let after : Tier = record { objects = object_on objects (h.stores q); notes = notes_on notes (h.logs q) } in record {
+      let before : SweptTier = record { objects = object_on objects (h0.stores q); notes = notes_on notes (h0.logs q) } in
+      let after : SweptTier = record { objects = object_on objects (h.stores q); notes = notes_on notes (h.logs q) } in record {
         before = before;
         after = after;
         held_so = record { objects_are = λ key. refl; notes_are = refl };
@@ -69,13 +69,13 @@ module _ {D S M : Type 0} (files : D → disk.Content) (objects : S → store.Co
       }
 
   -- nor is what a power cut may leave of it
-  abbrev pub AreLeft : Held D S M → Held D S M → Type 0
+  abbrev pub AreLeft : YardContent D S M → YardContent D S M → Type 0
   AreLeft h0 h = (q : PartitionId) → LeavesUnderIn objects notes h0 h q
 
-  pub all_left : (h0 h : Held D S M) → AllRest files objects notes h0 h → AreLeft h0 h
+  pub all_left : (h0 h : YardContent D S M) → AllRest files objects notes h0 h → AreLeft h0 h
   all_left h0 h rests q l at =
-      let before : Tier = record { objects = object_on objects (h0.stores q); notes = l } in
-      let after : Tier = record { objects = object_on objects (h.stores q); notes = l } in record {
+      let before : SweptTier = record { objects = object_on objects (h0.stores q); notes = l } in
+      let after : SweptTier = record { objects = object_on objects (h.stores q); notes = l } in record {
         before = before;
         after = after;
         held_so = record { objects_are = λ key. refl; notes_are = rests.left_rests q l at };
@@ -85,7 +85,7 @@ module _ {D S M : Type 0} (files : D → disk.Content) (objects : S → store.Co
       }
 
   -- what a sweep leaves that was handed what is held, once its devices are back
-  pub swept_left : (h0 h1 h : Held D S M) (p : PartitionId) (s s' : S) (m m' : M) → HandsStore objects (h0.stores p) (objects s) → HandsLog notes (h0.logs p) (notes m)
+  pub swept_left : (h0 h1 h : YardContent D S M) (p : PartitionId) (s s' : S) (m m' : M) → HandsStore objects (h0.stores p) (objects s) → HandsLog notes (h0.logs p) (notes m)
       → TierIs p (Some s') (Some m') h1 h → LeavesUnder (objects s) (notes m) (objects s') (notes m') → LeavesUnderIn objects notes h0 h p
   swept_left h0 h1 h p s s' m m' gives says is under l at =
       let u = under l (subst (λ (o : Option M). left_on notes o l) is.log_is at) in record {
@@ -103,17 +103,17 @@ module _ {D S M : Type 0} (files : D → disk.Content) (objects : S → store.Co
       let x = under l (handed_left notes (new.logs p) (notes m') says l at) in
       let was : (key : ObjectKey) → x.before.objects key ≡ (objects s).objects key = λ key. x.held_so.objects_are key ∙ ap (λ (o : Option S). object_on objects o key) store_is in
       let now : (key : ObjectKey) → x.after.objects key ≡ (objects s').objects key = λ key. x.left_so.objects_are key ∙ sym (handed_objects objects (new.stores p) (objects s') gives key) in
-      let before : x.before ≡ tier_with (objects s) x.before.notes = ap (λ (o : store.Objects). (let t : Tier = record { objects = o; notes = x.before.notes } in t)) (λ i key. was key i) in
+      let before : x.before ≡ tier_with (objects s) x.before.notes = ap (λ (o : store.Objects). (let t : SweptTier = record { objects = o; notes = x.before.notes } in t)) (λ i key. was key i) in
       let after : x.after ≡ tier_with (objects s') l =
-      ap (λ (o : store.Objects). (let t : Tier = record { objects = o; notes = x.after.notes } in t)) (λ i key. now key i)
-      ∙ ap (λ (ns : List Note). (let t : Tier = record { objects = (objects s').objects; notes = ns } in t)) x.notes_are in (
+      ap (λ (o : store.Objects). (let t : SweptTier = record { objects = o; notes = x.after.notes } in t)) (λ i key. now key i)
+      ∙ ap (λ (ns : List Note). (let t : SweptTier = record { objects = (objects s').objects; notes = ns } in t)) x.notes_are in (
         x.before.notes,
         subst (λ (o : Option M). left_on notes o x.before.notes) log_is x.held_so.notes_are,
-        subst (λ (t : Tier). IsUnderSweep t (tier_with (objects s') l)) before (subst (IsUnderSweep x.before) after x.is),
+        subst (λ (t : SweptTier). IsUnderSweep t (tier_with (objects s') l)) before (subst (IsUnderSweep x.before) after x.is),
       )
 
   -- what is left of another partition
-  one_left : (h0 h h' : Held D S M) (p : PartitionId) → AreLeft h0 h → OthersRest files objects notes p h h' → LeavesUnderIn objects notes h0 h' p → AreLeft h0 h'
+  one_left : (h0 h h' : YardContent D S M) (p : PartitionId) → AreLeft h0 h → OthersRest files objects notes p h h' → LeavesUnderIn objects notes h0 h' p → AreLeft h0 h'
   one_left h0 h h' p under others this q = by_case (is_or_not p q)
     where
       by_case : (p ≡ q) ⊎ (p ≢ q) → LeavesUnderIn objects notes h0 h' q
@@ -130,7 +130,7 @@ module _ {D S M : Type 0} (files : D → disk.Content) (objects : S → store.Co
           }
 
   -- one partition more has begun
-  pub one_under : (h0 h h' : Held D S M) (p : PartitionId) → AreUnder h0 h → OthersRest files objects notes p h h' → IsUnderSweepIn objects notes h0 h' p → AreUnder h0 h'
+  pub one_under : (h0 h h' : YardContent D S M) (p : PartitionId) → AreUnder h0 h → OthersRest files objects notes p h h' → IsUnderSweepIn objects notes h0 h' p → AreUnder h0 h'
   one_under h0 h h' p under others this q = by_case (is_or_not p q)
     where
       by_case : (p ≡ q) ⊎ (p ≢ q) → IsUnderSweepIn objects notes h0 h' q
@@ -146,29 +146,29 @@ module _ {D S M : Type 0} (files : D → disk.Content) (objects : S → store.Co
           }
 
   -- the partition's tier is still as it was at the beginning
-  pub record Rests (h0 h : Held D S M) (p : PartitionId) : Type 0 where
+  pub record Rests (h0 h : YardContent D S M) (p : PartitionId) : Type 0 where
     pub objects_rest : (key : ObjectKey) → object_on objects (h.stores p) key ≡ object_on objects (h0.stores p) key
     pub notes_rest : notes_on notes (h.logs p) ≡ notes_on notes (h0.logs p)
     pub left_rests : LeavesNoMore notes (h0.logs p) (h.logs p)
 
   -- the partitions that were swept, and those that are left
-  pub record SoFar (rest : List PartitionId) (h0 h : Held D S M) (c0 c : Control) (text : List ℕ) : Type 0 where
+  pub record SoFar (rest : List PartitionId) (h0 h : YardContent D S M) (c0 c : Control) (text : List ℕ) : Type 0 where
     pub found : List (PartitionId × ℕ)
     pub all : AreAll files objects notes h0 (partitions_of found ++ rest)
     pub rise : Rise rest
     pub below : AllByRecursion (Below rest) found
-    pub swept : IsTrue h0.tells → AllByRecursion (IsSweptIn objects notes h0 h) found
-    pub left : IsTrue h0.tells → (q : PartitionId) → In q rest → Rests h0 h q
-    pub under : IsTrue h0.tells → AreUnder h0 h
-    pub lists : IsTrue h0.tells → AreLeft h0 h
-    pub disks : IsTrue h0.tells → DisksRest files h0 h
+    pub swept : IsTrue h0.is_observable → AllByRecursion (IsSweptIn objects notes h0 h) found
+    pub left : IsTrue h0.is_observable → (q : PartitionId) → In q rest → Rests h0 h q
+    pub under : IsTrue h0.is_observable → AreUnder h0 h
+    pub lists : IsTrue h0.is_observable → AreLeft h0 h
+    pub disks : IsTrue h0.is_observable → DisksRest files h0 h
     pub text_is : text ≡ lines_of swept_text found
-    pub tells : h.tells ≡ h0.tells
+    pub is_observable : h.is_observable ≡ h0.is_observable
     pub back : IsBack c0 c
 
-  pub begins : (list rest : List PartitionId) (h0 h : Held D S M) (c0 c : Control) (text : List ℕ) → rest ≡ list → text ≡ [] → AreAll files objects notes h0 list
-      → (IsTrue h0.tells → AllRest files objects notes h0 h) → h.tells ≡ h0.tells → IsBack c0 c → SoFar rest h0 h c0 c text
-  begins list rest h0 h c0 c text is empty all rests tells back = record {
+  pub begins : (list rest : List PartitionId) (h0 h : YardContent D S M) (c0 c : Control) (text : List ℕ) → rest ≡ list → text ≡ [] → AreAll files objects notes h0 list
+      → (IsTrue h0.is_observable → AllRest files objects notes h0 h) → h.is_observable ≡ h0.is_observable → IsBack c0 c → SoFar rest h0 h c0 c text
+  begins list rest h0 h c0 c text is empty all rests is_observable back = record {
     found = [];
     all = subst (AreAll files objects notes h0) (sym is) all;
     rise = subst Rise (sym is) all.rise;
@@ -179,15 +179,15 @@ module _ {D S M : Type 0} (files : D → disk.Content) (objects : S → store.Co
     lists = λ t. all_left h0 h (rests t);
     disks = λ t. (rests t).disks_rest;
     text_is = empty;
-    tells = tells;
+    is_observable = is_observable;
     back = back;
   }
 
   -- a sweep that began at what is held now began at what was held at the beginning
-  begun_before : (h0 h : Held D S M) (p : PartitionId) (tier : Tier) → Rests h0 h p → HoldsTier objects notes h p tier → HoldsTier objects notes h0 p tier
+  begun_before : (h0 h : YardContent D S M) (p : PartitionId) (tier : SweptTier) → Rests h0 h p → HoldsTier objects notes h p tier → HoldsTier objects notes h0 p tier
   begun_before h0 h p tier rests holds = held_before files objects notes h0 h p tier rests.objects_rest rests.notes_rest holds
 
-  pub swept_from_begin : (h0 h h' : Held D S M) (p : PartitionId) (count : ℕ) → Rests h0 h p → IsSweptIn objects notes h h' (p, count) → IsSweptIn objects notes h0 h' (p, count)
+  pub swept_from_begin : (h0 h h' : YardContent D S M) (p : PartitionId) (count : ℕ) → Rests h0 h p → IsSweptIn objects notes h h' (p, count) → IsSweptIn objects notes h0 h' (p, count)
   swept_from_begin h0 h h' p count rests is = record {
     before = is.before;
     after = is.after;
@@ -196,7 +196,7 @@ module _ {D S M : Type 0} (files : D → disk.Content) (objects : S → store.Co
     is = is.is;
   }
 
-  pub under_from_begin : (h0 h h' : Held D S M) (p : PartitionId) → Rests h0 h p → IsUnderSweepIn objects notes h h' p → IsUnderSweepIn objects notes h0 h' p
+  pub under_from_begin : (h0 h h' : YardContent D S M) (p : PartitionId) → Rests h0 h p → IsUnderSweepIn objects notes h h' p → IsUnderSweepIn objects notes h0 h' p
   under_from_begin h0 h h' p rests is = record {
     before = is.before;
     after = is.after;
@@ -205,7 +205,7 @@ module _ {D S M : Type 0} (files : D → disk.Content) (objects : S → store.Co
     is = is.is;
   }
 
-  pub left_from_begin : (h0 h h' : Held D S M) (p : PartitionId) → Rests h0 h p → LeavesUnderIn objects notes h h' p → LeavesUnderIn objects notes h0 h' p
+  pub left_from_begin : (h0 h h' : YardContent D S M) (p : PartitionId) → Rests h0 h p → LeavesUnderIn objects notes h h' p → LeavesUnderIn objects notes h0 h' p
   left_from_begin h0 h h' p rests under l at =
       let is = under l at in record {
         before = is.before;
@@ -216,7 +216,7 @@ module _ {D S M : Type 0} (files : D → disk.Content) (objects : S → store.Co
         is = is.is;
       }
 
-  pub swept_is_under : (h0 h' : Held D S M) (p : PartitionId) (count : ℕ) → IsSweptIn objects notes h0 h' (p, count) → IsUnderSweepIn objects notes h0 h' p
+  pub swept_is_under : (h0 h' : YardContent D S M) (p : PartitionId) (count : ℕ) → IsSweptIn objects notes h0 h' (p, count) → IsUnderSweepIn objects notes h0 h' p
   swept_is_under h0 h' p count is = record {
     before = is.before;
     after = is.after;
@@ -226,31 +226,31 @@ module _ {D S M : Type 0} (files : D → disk.Content) (objects : S → store.Co
   }
 
   -- one partition more was swept, or its sweep was refused
-  module _ (p : PartitionId) (rest : List PartitionId) (h0 h h' : Held D S M) (c0 c : Control) where
+  module _ (p : PartitionId) (rest : List PartitionId) (h0 h h' : YardContent D S M) (c0 c : Control) where
     -- no partition is further than its sweep
     pub under_more : (before : List PartitionId) (text : List ℕ) → before ≡ p ∷ rest → SoFar before h0 h c0 c text
-        → (IsTrue h.tells → IsUnderSweepIn objects notes h h' p) → (IsTrue h.tells → OthersRest files objects notes p h h') → IsTrue h0.tells → AreUnder h0 h'
+        → (IsTrue h.is_observable → IsUnderSweepIn objects notes h h' p) → (IsTrue h.is_observable → OthersRest files objects notes p h h') → IsTrue h0.is_observable → AreUnder h0 h'
     under_more before text steps so under others t =
-        let now = subst IsTrue (sym so.tells) t in
+        let now = subst IsTrue (sym so.is_observable) t in
         let here : In p before = subst (In p) (sym steps) (inl refl) in
         one_under h0 h h' p (so.under t) (others now) (under_from_begin h0 h h' p (so.left t p here) (under now))
 
     -- nor is what a power cut may leave of it
     pub left_more : (before : List PartitionId) (text : List ℕ) → before ≡ p ∷ rest → SoFar before h0 h c0 c text
-        → (IsTrue h.tells → LeavesUnderIn objects notes h h' p) → (IsTrue h.tells → OthersRest files objects notes p h h') → IsTrue h0.tells → AreLeft h0 h'
+        → (IsTrue h.is_observable → LeavesUnderIn objects notes h h' p) → (IsTrue h.is_observable → OthersRest files objects notes p h h') → IsTrue h0.is_observable → AreLeft h0 h'
     left_more before text steps so leaves others t =
-        let now = subst IsTrue (sym so.tells) t in
+        let now = subst IsTrue (sym so.is_observable) t in
         let here : In p before = subst (In p) (sym steps) (inl refl) in
         one_left h0 h h' p (so.lists t) (others now) (left_from_begin h0 h h' p (so.left t p here) (leaves now))
 
     pub swept_more : (before : List PartitionId) (text : List ℕ) (count : ℕ) → before ≡ p ∷ rest → SoFar before h0 h c0 c text
-        → (IsTrue h.tells → IsSweptIn objects notes h h' (p, count)) → (IsTrue h.tells → OthersRest files objects notes p h h') → IsTrue h0.tells → AreUnder h0 h'
+        → (IsTrue h.is_observable → IsSweptIn objects notes h h' (p, count)) → (IsTrue h.is_observable → OthersRest files objects notes p h h') → IsTrue h0.is_observable → AreUnder h0 h'
     swept_more before text count steps so swept others t =
         under_more before text steps so (λ now. swept_is_under h h' p count (swept now)) others t
 
-    one_more : (c' : Control) (text : List ℕ) (count : ℕ) → SoFar (p ∷ rest) h0 h c0 c text → (IsTrue h.tells → IsSweptIn objects notes h h' (p, count))
-        → (IsTrue h.tells → LeavesUnderIn objects notes h h' p) → (IsTrue h.tells → OthersRest files objects notes p h h') → h'.tells ≡ h.tells → IsBack c c' → SoFar rest h0 h' c0 c' (text ++ line_of p (swept_text count))
-    one_more c' text count so swept leaves others tells back = record {
+    one_more : (c' : Control) (text : List ℕ) (count : ℕ) → SoFar (p ∷ rest) h0 h c0 c text → (IsTrue h.is_observable → IsSweptIn objects notes h h' (p, count))
+        → (IsTrue h.is_observable → LeavesUnderIn objects notes h h' p) → (IsTrue h.is_observable → OthersRest files objects notes p h h') → h'.is_observable ≡ h.is_observable → IsBack c c' → SoFar rest h0 h' c0 c' (text ++ line_of p (swept_text count))
+    one_more c' text count so swept leaves others is_observable back = record {
       found = so.found ++ (p, count) ∷ [];
       all = subst (AreAll files objects notes h0) (sym (partitions_snoc so.found p count rest)) so.all;
       rise = so.rise.1;
@@ -267,22 +267,22 @@ module _ {D S M : Type 0} (files : D → disk.Content) (objects : S → store.Co
       lists = left_more (p ∷ rest) text refl so leaves others;
       disks = λ t. disks_then files objects notes h0 h h' (so.disks t) (others (now t)).disks_rest;
       text_is = ap (λ (before : List ℕ). before ++ line_of p (swept_text count)) so.text_is ∙ sym (lines_snoc swept_text so.found p count);
-      tells = tells ∙ so.tells;
+      is_observable = is_observable ∙ so.is_observable;
       back = back_then c0 c c' so.back back;
     }
       where
-        now : IsTrue h0.tells → IsTrue h.tells
-        now t = subst IsTrue (sym so.tells) t
+        now : IsTrue h0.is_observable → IsTrue h.is_observable
+        now t = subst IsTrue (sym so.is_observable) t
 
     pub goes_on : (c' : Control) (before : List PartitionId) (text text' : List ℕ) (count : ℕ) → before ≡ p ∷ rest → text' ≡ text ++ line_of p (swept_text count)
-        → SoFar before h0 h c0 c text → (IsTrue h.tells → IsSweptIn objects notes h h' (p, count)) → (IsTrue h.tells → LeavesUnderIn objects notes h h' p)
-        → (IsTrue h.tells → OthersRest files objects notes p h h')
-        → h'.tells ≡ h.tells → IsBack c c' → SoFar rest h0 h' c0 c' text'
-    goes_on c' before text text' count steps added so swept leaves others tells back =
+        → SoFar before h0 h c0 c text → (IsTrue h.is_observable → IsSweptIn objects notes h h' (p, count)) → (IsTrue h.is_observable → LeavesUnderIn objects notes h h' p)
+        → (IsTrue h.is_observable → OthersRest files objects notes p h h')
+        → h'.is_observable ≡ h.is_observable → IsBack c c' → SoFar rest h0 h' c0 c' text'
+    goes_on c' before text text' count steps added so swept leaves others is_observable back =
         subst (λ (t : List ℕ). SoFar rest h0 h' c0 c' t) (sym added)
-        (one_more c' text count (subst (λ (l : List PartitionId). SoFar l h0 h c0 c text) steps so) swept leaves others tells back)
+        (one_more c' text count (subst (λ (l : List PartitionId). SoFar l h0 h c0 c text) steps so) swept leaves others is_observable back)
 
-  pub ends : (h0 h : Held D S M) (c0 c : Control) (text : List ℕ)
+  pub ends : (h0 h : YardContent D S M) (c0 c : Control) (text : List ℕ)
       → (so : SoFar [] h0 h c0 c text) → AreSwept files objects notes h0 h so.found
   ends h0 h c0 c text so = record {
     all = subst (AreAll files objects notes h0) (append-nil (partitions_of so.found)) so.all;

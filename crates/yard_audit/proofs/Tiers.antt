@@ -12,8 +12,8 @@ use Rattle.disk_model.specs.Content as disk
 use Rattle.segment_meta.specs.declared.note.Note.{Note}
 use Rattle.object_store.specs.Content as store
 use Rattle.meta_log.specs.Content as log
-use Rattle.device_yard.specs.Held.{Held, Same, Both, HandsStore, HandsLog}
-use Rattle.tier_sweep.specs.Sweeping.{Tier, tier_of}
+use Rattle.device_yard.specs.YardContent.{YardContent, Same, Both, HandsStore, HandsLog}
+use Rattle.tier_sweep.specs.Sweeping.{SweptTier, tier_of}
 use Rattle.yard_audit.specs.Tiers.{file_on, object_on, notes_on, left_on, LeavesNoMore, HoldsTier, AllRest, DisksRest, TierIs, IsBack}
 
 -- partitions of one number are one
@@ -90,7 +90,7 @@ module _ {D : Type 0} (files : D → disk.Content) where
 
 module _ {D S M : Type 0} (files : D → disk.Content) (objects : S → store.Content) (notes : M → log.Content) where
   -- a call that changes nothing
-  pub same_rests : (old new : Held D S M) → Same files objects notes old new → AllRest files objects notes old new
+  pub same_rests : (old new : YardContent D S M) → Same files objects notes old new → AllRest files objects notes old new
   same_rests old new same = record {
     objects_rest = λ p. same_objects objects (old.stores p) (new.stores p) (same.stores p);
     notes_rest = λ p. same_notes notes (old.logs p) (new.logs p) (same.logs p);
@@ -101,16 +101,16 @@ module _ {D S M : Type 0} (files : D → disk.Content) (objects : S → store.Co
     };
   }
 
-  pub rests_none : (h : Held D S M) → AllRest files objects notes h h
+  pub rests_none : (h : YardContent D S M) → AllRest files objects notes h h
   rests_none h = record { objects_rest = λ p key. refl; notes_rest = λ p. refl; left_rests = λ p l at. at; disks_rest = record { brokers = λ p b name. refl; registries = λ p name. refl } }
 
-  pub disks_then : (h0 h h' : Held D S M) → DisksRest files h0 h → DisksRest files h h' → DisksRest files h0 h'
+  pub disks_then : (h0 h h' : YardContent D S M) → DisksRest files h0 h → DisksRest files h h' → DisksRest files h0 h'
   disks_then h0 h h' a b = record {
     brokers = λ p k name. b.brokers p k name ∙ a.brokers p k name;
     registries = λ p name. b.registries p name ∙ a.registries p name;
   }
 
-  pub rests_then : (h0 h h' : Held D S M) → AllRest files objects notes h0 h → AllRest files objects notes h h' → AllRest files objects notes h0 h'
+  pub rests_then : (h0 h h' : YardContent D S M) → AllRest files objects notes h0 h → AllRest files objects notes h h' → AllRest files objects notes h0 h'
   rests_then h0 h h' a b = record {
     objects_rest = λ p key. b.objects_rest p key ∙ a.objects_rest p key;
     notes_rest = λ p. b.notes_rest p ∙ a.notes_rest p;
@@ -119,7 +119,7 @@ module _ {D S M : Type 0} (files : D → disk.Content) (objects : S → store.Co
   }
 
   -- the tier that is handed out is the one that is held
-  pub handed_tier : (held : Held D S M) (p : PartitionId) (s : S) (m : M) → HandsStore objects (held.stores p) (objects s) → HandsLog notes (held.logs p) (notes m)
+  pub handed_tier : (held : YardContent D S M) (p : PartitionId) (s : S) (m : M) → HandsStore objects (held.stores p) (objects s) → HandsLog notes (held.logs p) (notes m)
       → HoldsTier objects notes held p (tier_of (objects s) (notes m))
   handed_tier held p s m gives says = record {
     objects_are = handed_objects objects (held.stores p) (objects s) gives;
@@ -127,7 +127,7 @@ module _ {D S M : Type 0} (files : D → disk.Content) (objects : S → store.Co
   }
 
   -- the tier that comes back is the one that is held then
-  pub back_tier : (old new : Held D S M) (p : PartitionId) (s : S) (m : M) → TierIs p (Some s) (Some m) old new
+  pub back_tier : (old new : YardContent D S M) (p : PartitionId) (s : S) (m : M) → TierIs p (Some s) (Some m) old new
       → HoldsTier objects notes new p (tier_of (objects s) (notes m))
   back_tier old new p s m is = record {
     objects_are = λ key. sym (ap (λ (held : Option S). object_on objects held key) is.store_is);
@@ -135,7 +135,7 @@ module _ {D S M : Type 0} (files : D → disk.Content) (objects : S → store.Co
   }
 
   -- a tier that rests is the same one
-  pub held_still : (old new : Held D S M) (p : PartitionId) (tier : Tier)
+  pub held_still : (old new : YardContent D S M) (p : PartitionId) (tier : SweptTier)
       → ((key : ObjectKey) → object_on objects (new.stores p) key ≡ object_on objects (old.stores p) key) → notes_on notes (new.logs p) ≡ notes_on notes (old.logs p)
       → HoldsTier objects notes old p tier → HoldsTier objects notes new p tier
   held_still old new p tier objects_rest notes_rest holds = record {
@@ -144,7 +144,7 @@ module _ {D S M : Type 0} (files : D → disk.Content) (objects : S → store.Co
   }
 
   -- and it was so before
-  pub held_before : (old new : Held D S M) (p : PartitionId) (tier : Tier)
+  pub held_before : (old new : YardContent D S M) (p : PartitionId) (tier : SweptTier)
       → ((key : ObjectKey) → object_on objects (new.stores p) key ≡ object_on objects (old.stores p) key) → notes_on notes (new.logs p) ≡ notes_on notes (old.logs p)
       → HoldsTier objects notes new p tier → HoldsTier objects notes old p tier
   held_before old new p tier objects_rest notes_rest holds = record {
@@ -153,7 +153,7 @@ module _ {D S M : Type 0} (files : D → disk.Content) (objects : S → store.Co
   }
 
   -- what is handed out and comes back with the content that it had rests
-  pub handed_back : (h0 h1 h : Held D S M) (p : PartitionId) (s s' : S) (m m' : M) → HandsStore objects (h0.stores p) (objects s) → HandsLog notes (h0.logs p) (notes m)
+  pub handed_back : (h0 h1 h : YardContent D S M) (p : PartitionId) (s s' : S) (m m' : M) → HandsStore objects (h0.stores p) (objects s) → HandsLog notes (h0.logs p) (notes m)
       → store.Keeps (objects s) (objects s') → log.Keeps (notes m) (notes m') → TierIs p None None h0 h1 → TierIs p (Some s') (Some m') h1 h → AllRest files objects notes h0 h
   handed_back h0 h1 h p s s' m m' gives says kept told out back = record {
     objects_rest = λ q key. elim (is_or_not q p) [

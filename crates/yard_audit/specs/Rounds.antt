@@ -7,10 +7,10 @@ use Rattle.segment_meta.specs.declared.note.Note.{Note}
 use Rattle.object_store.specs.Content as store
 use Rattle.meta_log.specs.Content as log
 use Rattle.remote_view.specs.Fold.{fold}
-use Rattle.device_yard.specs.Held.{Held, AreUsed, Rise, HandsStore, HandsLog}
+use Rattle.device_yard.specs.YardContent.{YardContent, AreUsed, Rise, HandsStore, HandsLog}
 use Rattle.tier_audit.specs.declared.verdict.Verdict.{Verdict}
 use Rattle.tier_audit.specs.Flaws.{IsVerdict}
-use Rattle.tier_sweep.specs.Sweeping.{Tier, IsSwept, IsUnderSweep, LeavesUnder}
+use Rattle.tier_sweep.specs.Sweeping.{SweptTier, IsSwept, IsUnderSweep, LeavesUnder}
 use Rattle.yard_audit.specs.Tiers.{HoldsTier, MayLeave, left_on, DisksRest}
 
 -- the partitions of what was found
@@ -19,61 +19,61 @@ partitions_of found = map (λ one. one.0) found
 
 module _ {D S M : Type 0} (objects : S → store.Content) (notes : M → log.Content) where
   -- the verdict is right of the partition's tier
-  pub record IsAudited (held : Held D S M) (found : PartitionId × Verdict) : Type 0 where
-    pub tier : Tier
+  pub record IsAudited (held : YardContent D S M) (found : PartitionId × Verdict) : Type 0 where
+    pub tier : SweptTier
     pub held_so : HoldsTier objects notes held found.0 tier
     pub is : IsVerdict tier.objects (fold tier.notes) found.1
 
   -- a sweep of the partition's tier took so many objects away
-  pub record IsSweptIn (old new : Held D S M) (found : PartitionId × ℕ) : Type 0 where
-    pub before : Tier
-    pub after : Tier
+  pub record IsSweptIn (old new : YardContent D S M) (found : PartitionId × ℕ) : Type 0 where
+    pub before : SweptTier
+    pub after : SweptTier
     pub held_so : HoldsTier objects notes old found.0 before
     pub left_so : HoldsTier objects notes new found.0 after
     pub is : IsSwept before after found.1
 
   -- a sweep of the partition's tier has come so far, or hasn't begun
-  pub record IsUnderSweepIn (old new : Held D S M) (p : PartitionId) : Type 0 where
-    pub before : Tier
-    pub after : Tier
+  pub record IsUnderSweepIn (old new : YardContent D S M) (p : PartitionId) : Type 0 where
+    pub before : SweptTier
+    pub after : SweptTier
     pub held_so : HoldsTier objects notes old p before
     pub left_so : HoldsTier objects notes new p after
     pub is : IsUnderSweep before after
 
   -- these notes, which a power cut may leave of the partition, have come so far in its sweep from some that it might have left before, or
   -- it hasn't begun
-  pub record IsLeftIn (old new : Held D S M) (p : PartitionId) (left : List Note) : Type 0 where
-    pub before : Tier
-    pub after : Tier
+  pub record IsLeftIn (old new : YardContent D S M) (p : PartitionId) (left : List Note) : Type 0 where
+    pub before : SweptTier
+    pub after : SweptTier
     pub held_so : MayLeave objects notes old p before
     pub left_so : MayLeave objects notes new p after
     pub notes_are : after.notes ≡ left
     pub is : IsUnderSweep before after
 
   -- and so have all that it may leave
-  abbrev pub LeavesUnderIn : Held D S M → Held D S M → PartitionId → Type 0
+  abbrev pub LeavesUnderIn : YardContent D S M → YardContent D S M → PartitionId → Type 0
   LeavesUnderIn old new p = (left : List Note) → left_on notes (new.logs p) left → IsLeftIn old new p left
 
 module _ {D S M : Type 0} (files : D → disk.Content) (objects : S → store.Content) (notes : M → log.Content) where
   -- these are the partitions of which something stands, in rising order
-  pub record AreAll (held : Held D S M) (list : List PartitionId) : Type 0 where
+  pub record AreAll (held : YardContent D S M) (list : List PartitionId) : Type 0 where
     pub rise : Rise list
-    pub used : IsTrue held.tells → AreUsed files objects notes held list
+    pub used : IsTrue held.is_observable → AreUsed files objects notes held list
 
   -- each partition has its verdict, and each verdict is right
-  pub record AreAudited (held : Held D S M) (found : List (PartitionId × Verdict)) : Type 0 where
+  pub record AreAudited (held : YardContent D S M) (found : List (PartitionId × Verdict)) : Type 0 where
     pub all : AreAll held (partitions_of found)
-    pub right : IsTrue held.tells → AllByRecursion (IsAudited objects notes held) found
+    pub right : IsTrue held.is_observable → AllByRecursion (IsAudited objects notes held) found
 
   -- the tier of each partition was swept, and each disk is as it was
-  pub record AreSwept (old new : Held D S M) (found : List (PartitionId × ℕ)) : Type 0 where
+  pub record AreSwept (old new : YardContent D S M) (found : List (PartitionId × ℕ)) : Type 0 where
     pub all : AreAll old (partitions_of found)
-    pub swept : IsTrue old.tells → AllByRecursion (IsSweptIn objects notes old new) found
-    pub disks : IsTrue old.tells → DisksRest files old new
+    pub swept : IsTrue old.is_observable → AllByRecursion (IsSweptIn objects notes old new) found
+    pub disks : IsTrue old.is_observable → DisksRest files old new
 
   -- what a power cut may leave of the store and the metadata log that are handed out then is under a sweep from what it might have left of
   -- those that were held
   abbrev pub HandedLeavesUnder : Type 0
-  HandedLeavesUnder = (old new : Held D S M) (p : PartitionId) (s s' : S) (m m' : M) → old.stores p ≡ Some s → old.logs p ≡ Some m
+  HandedLeavesUnder = (old new : YardContent D S M) (p : PartitionId) (s s' : S) (m m' : M) → old.stores p ≡ Some s → old.logs p ≡ Some m
       → HandsStore objects (new.stores p) (objects s') → HandsLog notes (new.logs p) (notes m') → LeavesUnderIn objects notes old new p
       → LeavesUnder (objects s) (notes m) (objects s') (notes m')

@@ -1,4 +1,4 @@
--- The tiers of partitions as a yard that tells holds them, and what becomes of them while a round is made.
+-- The tiers of partitions as an observable yard holds them, and what becomes of them while a round is made.
 --
 --   form                       says
 --   HoldsTier held p tier      the partition's store and metadata log hold this tier
@@ -16,8 +16,8 @@ use Rattle.disk_model.specs.Content as disk
 use Rattle.object_store.specs.Content as store
 use Rattle.meta_log.specs.Content as log
 use Rattle.device_yard.specs.Control.{Control}
-use Rattle.device_yard.specs.Held.{Held}
-use Rattle.tier_sweep.specs.Sweeping.{Tier}
+use Rattle.device_yard.specs.YardContent.{YardContent}
+use Rattle.tier_sweep.specs.Sweeping.{SweptTier}
 
 -- a file of a disk, none where there is no disk
 abbrev pub file_on : {D : Type 0} → (D → disk.Content) → Option D → FileName → Option (List ℕ)
@@ -45,31 +45,31 @@ LeavesNoMore notes old new = (left : List Note) → left_on notes new left → l
 
 module _ {D S M : Type 0} (objects : S → store.Content) (notes : M → log.Content) where
   -- a power cut may leave this tier of the partition's store and metadata log
-  pub record MayLeave (held : Held D S M) (p : PartitionId) (tier : Tier) : Type 0 where
+  pub record MayLeave (held : YardContent D S M) (p : PartitionId) (tier : SweptTier) : Type 0 where
     pub objects_are : (key : ObjectKey) → tier.objects key ≡ object_on objects (held.stores p) key
     pub notes_are : left_on notes (held.logs p) tier.notes
 
   -- the partition's store and metadata log hold this tier
-  pub record HoldsTier (held : Held D S M) (p : PartitionId) (tier : Tier) : Type 0 where
+  pub record HoldsTier (held : YardContent D S M) (p : PartitionId) (tier : SweptTier) : Type 0 where
     pub objects_are : (key : ObjectKey) → tier.objects key ≡ object_on objects (held.stores p) key
     pub notes_are : tier.notes ≡ notes_on notes (held.logs p)
 
 module _ {D S M : Type 0} (files : D → disk.Content) where
   -- the files of each disk are as they were, of a broker's and of one that keeps a registry
-  pub record DisksRest (old new : Held D S M) : Type 0 where
+  pub record DisksRest (old new : YardContent D S M) : Type 0 where
     pub brokers : (p : PartitionId) (b : BrokerId) (name : FileName) → file_on files (new.disks p b) name ≡ file_on files (old.disks p b) name
     pub registries : (p : PartitionId) (name : FileName) → file_on files (new.registries p) name ≡ file_on files (old.registries p) name
 
 module _ {D S M : Type 0} (files : D → disk.Content) (objects : S → store.Content) (notes : M → log.Content) where
   -- each partition's tier is as it was, and each disk
-  pub record AllRest (old new : Held D S M) : Type 0 where
+  pub record AllRest (old new : YardContent D S M) : Type 0 where
     pub objects_rest : (p : PartitionId) (key : ObjectKey) → object_on objects (new.stores p) key ≡ object_on objects (old.stores p) key
     pub notes_rest : (p : PartitionId) → notes_on notes (new.logs p) ≡ notes_on notes (old.logs p)
     pub left_rests : (p : PartitionId) → LeavesNoMore notes (old.logs p) (new.logs p)
     pub disks_rest : DisksRest files old new
 
   -- each other partition's tier is as it was, and each disk
-  pub record OthersRest (p : PartitionId) (old new : Held D S M) : Type 0 where
+  pub record OthersRest (p : PartitionId) (old new : YardContent D S M) : Type 0 where
     pub objects_rest : (q : PartitionId) → q ≢ p → (key : ObjectKey) → object_on objects (new.stores q) key ≡ object_on objects (old.stores q) key
     pub notes_rest : (q : PartitionId) → q ≢ p → notes_on notes (new.logs q) ≡ notes_on notes (old.logs q)
     pub left_rests : (q : PartitionId) → q ≢ p → LeavesNoMore notes (old.logs q) (new.logs q)
@@ -77,7 +77,7 @@ module _ {D S M : Type 0} (files : D → disk.Content) (objects : S → store.Co
 
 module _ {D S M : Type 0} where
   -- the partition's store and metadata log are these now, or none, and the rest is as it was
-  pub record TierIs (p : PartitionId) (s : Option S) (m : Option M) (old new : Held D S M) : Type 0 where
+  pub record TierIs (p : PartitionId) (s : Option S) (m : Option M) (old new : YardContent D S M) : Type 0 where
     pub store_is : new.stores p ≡ s
     pub log_is : new.logs p ≡ m
     pub stores : (q : PartitionId) → q ≢ p → new.stores q ≡ old.stores q

@@ -29,11 +29,11 @@ fn audit_one<Y: Yard>(
     yard: &mut Y,
     partition: PartitionId,
 ) -> Result<Verdict, RoundRefusal>
-    ensures right { IsTrue (Y.held yard.old).tells → IfOk result (λ verdict.
+    ensures right { IsTrue (Y.held yard.old).is_observable → IfOk result (λ verdict.
         IsAudited Y.S.content Y.M.content (Y.held yard.old) (partition, verdict)) }
-    ensures rest { IsTrue (Y.held yard.old).tells
+    ensures rest { IsTrue (Y.held yard.old).is_observable
         → AllRest Y.D.content Y.S.content Y.M.content (Y.held yard.old) (Y.held yard.new) }
-    ensures tells { (Y.held yard.new).tells ≡ (Y.held yard.old).tells }
+    ensures is_observable { (Y.held yard.new).is_observable ≡ (Y.held yard.old).is_observable }
     ensures back { IsBack (Y.control yard.old) (Y.control yard.new) }
     ensures cause { IsErrOf result Fault → Rose (Y.control yard.old).faults (Y.control yard.new).faults }
 {
@@ -61,9 +61,9 @@ fn note(unsound: &mut Option<PartitionId>, partition: PartitionId, verdict: &Ver
 /// Audits the tier of each partition of which something stands, in rising order.
 pub fn audit_all<Y: Yard>(alloc: Global, yard: &mut Y) -> Result<Audited, RoundRefusal>
     ensures told { IfOk result (TellsAudit Y.D.content Y.S.content Y.M.content (Y.held yard.old)) }
-    ensures rest { IsTrue (Y.held yard.old).tells
+    ensures rest { IsTrue (Y.held yard.old).is_observable
         → AllRest Y.D.content Y.S.content Y.M.content (Y.held yard.old) (Y.held yard.new) }
-    ensures tells { (Y.held yard.new).tells ≡ (Y.held yard.old).tells }
+    ensures is_observable { (Y.held yard.new).is_observable ≡ (Y.held yard.old).is_observable }
     ensures back { IsBack (Y.control yard.old) (Y.control yard.new) }
     ensures cause { IsErrOf result Fault → Rose (Y.control yard.old).faults (Y.control yard.new).faults }
 {

@@ -3,7 +3,7 @@
 ghost use Rattle.std.specs.Prelude.{◌≡◌, ◌≤◌, ◌<◌, None, Some, IfOk, OnOk, OnErr, IsErrOf, IsTrue, false};
 ghost use Rattle.tier_base.specs.Counts.{Rose};
 ghost use Rattle.tier_base.specs.Device.{IsFresh};
-ghost use Rattle.device_yard.specs.Held.{HandsStore, HandsLog};
+ghost use Rattle.device_yard.specs.YardContent.{HandsStore, HandsLog};
 ghost use Rattle.yard_audit.specs.declared.refusal.RoundRefusal.TheVariants.{Fault};
 ghost use Rattle.yard_audit.specs.Rounds.{AreAll};
 ghost use Rattle.yard_audit.specs.Tiers.{AllRest, TierIs, IsBack, AreOut, CameBack};
@@ -24,9 +24,9 @@ pub(crate) struct Tools<S: Store, M: MetaLog> {
 /// Names the partitions of which something stands, in rising order.
 pub(crate) fn list<Y: Yard>(yard: &mut Y) -> Result<Row<PartitionId>, RoundRefusal>
     ensures all { IfOk result (AreAll Y.D.content Y.S.content Y.M.content (Y.held yard.old)) }
-    ensures rest { IsTrue (Y.held yard.old).tells
+    ensures rest { IsTrue (Y.held yard.old).is_observable
         → AllRest Y.D.content Y.S.content Y.M.content (Y.held yard.old) (Y.held yard.new) }
-    ensures tells { (Y.held yard.new).tells ≡ (Y.held yard.old).tells }
+    ensures is_observable { (Y.held yard.new).is_observable ≡ (Y.held yard.old).is_observable }
     ensures back { IsBack (Y.control yard.old) (Y.control yard.new) }
     ensures cause { IsErrOf result Fault → Rose (Y.control yard.old).faults (Y.control yard.new).faults }
 {
@@ -43,17 +43,19 @@ pub(crate) fn hand_out<Y: Yard>(
 ) -> Result<Tools<Y::S, Y::M>, RoundRefusal>
     ensures store { IfOk result (λ tools. IsFresh (Y.S.control tools.store)) }
     ensures meta { IfOk result (λ tools. IsFresh (Y.M.control tools.meta)) }
-    ensures objects_told { IfOk result (λ tools. (Y.S.content tools.store).tells ≡ (Y.held yard.old).tells) }
-    ensures notes_told { IfOk result (λ tools. (Y.M.content tools.meta).tells ≡ (Y.held yard.old).tells) }
-    ensures objects { IsTrue (Y.held yard.old).tells → IfOk result (λ tools.
+    ensures objects_told { IfOk result
+        (λ tools. (Y.S.content tools.store).is_observable ≡ (Y.held yard.old).is_observable) }
+    ensures notes_told { IfOk result
+        (λ tools. (Y.M.content tools.meta).is_observable ≡ (Y.held yard.old).is_observable) }
+    ensures objects { IsTrue (Y.held yard.old).is_observable → IfOk result (λ tools.
         HandsStore Y.S.content ((Y.held yard.old).stores partition) (Y.S.content tools.store)) }
-    ensures notes { IsTrue (Y.held yard.old).tells → IfOk result (λ tools.
+    ensures notes { IsTrue (Y.held yard.old).is_observable → IfOk result (λ tools.
         HandsLog Y.M.content ((Y.held yard.old).logs partition) (Y.M.content tools.meta)) }
-    ensures out { IsTrue (Y.held yard.old).tells → OnOk result
+    ensures out { IsTrue (Y.held yard.old).is_observable → OnOk result
         (TierIs partition None None (Y.held yard.old) (Y.held yard.new)) }
     ensures control { OnOk result (AreOut (Y.control yard.old) (Y.control yard.new)) }
-    ensures tells { (Y.held yard.new).tells ≡ (Y.held yard.old).tells }
-    ensures rest { IsTrue (Y.held yard.old).tells → OnErr result
+    ensures is_observable { (Y.held yard.new).is_observable ≡ (Y.held yard.old).is_observable }
+    ensures rest { IsTrue (Y.held yard.old).is_observable → OnErr result
         (AllRest Y.D.content Y.S.content Y.M.content (Y.held yard.old) (Y.held yard.new)) }
     ensures back { OnErr result (IsBack (Y.control yard.old) (Y.control yard.new)) }
     ensures cause { IsErrOf result Fault → Rose (Y.control yard.old).faults (Y.control yard.new).faults }
@@ -74,9 +76,9 @@ pub(crate) fn hand_out<Y: Yard>(
 /// Gives a partition's store and metadata log back. One that failed since it was handed out is a fault of the yard.
 pub(crate) fn give_back<Y: Yard>(yard: &mut Y, partition: PartitionId, tools: Tools<Y::S, Y::M>)
     requires { 2 ≤ (Y.control yard.old).out }
-    ensures held { IsTrue (Y.held yard.old).tells
+    ensures held { IsTrue (Y.held yard.old).is_observable
         → TierIs partition (Some tools.store) (Some tools.meta) (Y.held yard.old) (Y.held yard.new) }
-    ensures tells { (Y.held yard.new).tells ≡ (Y.held yard.old).tells }
+    ensures is_observable { (Y.held yard.new).is_observable ≡ (Y.held yard.old).is_observable }
     ensures back { CameBack (Y.control yard.old) (Y.control yard.new) }
     ensures store_failed { (Y.S.control tools.store).armed ≡ false → 0 < (Y.S.control tools.store).faults
         → Rose (Y.control yard.old).faults (Y.control yard.new).faults }

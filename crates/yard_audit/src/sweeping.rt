@@ -22,15 +22,15 @@ fn sweep_one<Y: Yard>(
     yard: &mut Y,
     partition: PartitionId,
 ) -> Result<u64, RoundRefusal>
-    ensures swept { IsTrue (Y.held yard.old).tells → IfOk result (λ count.
+    ensures swept { IsTrue (Y.held yard.old).is_observable → IfOk result (λ count.
         IsSweptIn Y.S.content Y.M.content (Y.held yard.old) (Y.held yard.new) (partition, count)) }
-    ensures under { IsTrue (Y.held yard.old).tells → OnErr result
+    ensures under { IsTrue (Y.held yard.old).is_observable → OnErr result
         (IsUnderSweepIn Y.S.content Y.M.content (Y.held yard.old) (Y.held yard.new) partition) }
-    ensures left { IsTrue (Y.held yard.old).tells
+    ensures left { IsTrue (Y.held yard.old).is_observable
         → LeavesUnderIn Y.S.content Y.M.content (Y.held yard.old) (Y.held yard.new) partition }
-    ensures others { IsTrue (Y.held yard.old).tells
+    ensures others { IsTrue (Y.held yard.old).is_observable
         → OthersRest Y.D.content Y.S.content Y.M.content partition (Y.held yard.old) (Y.held yard.new) }
-    ensures tells { (Y.held yard.new).tells ≡ (Y.held yard.old).tells }
+    ensures is_observable { (Y.held yard.new).is_observable ≡ (Y.held yard.old).is_observable }
     ensures back { IsBack (Y.control yard.old) (Y.control yard.new) }
     ensures cause { IsErrOf result Fault → Rose (Y.control yard.old).faults (Y.control yard.new).faults }
 {
@@ -48,12 +48,12 @@ fn sweep_one<Y: Yard>(
 pub fn sweep_all<Y: Yard>(alloc: Global, yard: &mut Y) -> Result<Vec<u8>, RoundRefusal>
     ensures told { IfOk result (λ text. TellsSweep Y.D.content Y.S.content Y.M.content
         (Y.held yard.old) (Y.held yard.new) text.items) }
-    ensures under { IsTrue (Y.held yard.old).tells → (p : Partition)
+    ensures under { IsTrue (Y.held yard.old).is_observable → (p : Partition)
         → IsUnderSweepIn Y.S.content Y.M.content (Y.held yard.old) (Y.held yard.new) p }
-    ensures left { IsTrue (Y.held yard.old).tells → (p : Partition)
+    ensures left { IsTrue (Y.held yard.old).is_observable → (p : Partition)
         → LeavesUnderIn Y.S.content Y.M.content (Y.held yard.old) (Y.held yard.new) p }
-    ensures disks { IsTrue (Y.held yard.old).tells → DisksRest Y.D.content (Y.held yard.old) (Y.held yard.new) }
-    ensures tells { (Y.held yard.new).tells ≡ (Y.held yard.old).tells }
+    ensures disks { IsTrue (Y.held yard.old).is_observable → DisksRest Y.D.content (Y.held yard.old) (Y.held yard.new) }
+    ensures is_observable { (Y.held yard.new).is_observable ≡ (Y.held yard.old).is_observable }
     ensures back { IsBack (Y.control yard.old) (Y.control yard.new) }
     ensures cause { IsErrOf result Fault → Rose (Y.control yard.old).faults (Y.control yard.new).faults }
 {

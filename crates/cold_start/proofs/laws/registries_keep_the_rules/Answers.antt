@@ -1,5 +1,5 @@
-use Rattle.cold_start.proofs.Registries.{registries_ruled}
+use Rattle.cold_start.proofs.Registries.{registries_scripted}
 use Rattle.cold_start.proofs.laws.registries_keep_the_rules.Goals as goal
 
 pub returns : goal.returns
-returns g c = registries_ruled g.D.Disk g.S.Store g.M.MetaLog
+returns g c = registries_scripted g.D.Disk g.S.Store g.M.MetaLog

@@ -7,6 +7,6 @@ use Rattle.cold_start.proofs.opening.clear.Given as goal
 abbrev pub invariant-loop-name : goal.invariant-loop-name
 invariant-loop-name g l = record {
   lasts : Lasts (g.D.Disk.control l.initial.disk) (g.D.Disk.control l.disk);
-  tells : (g.D.Disk.content l.disk).tells ≡ (g.D.Disk.content l.initial.disk).tells;
-  gone : IsTrue (g.D.Disk.content l.initial.disk).tells → GoneTo (take l.name-index l.name-items) (g.D.Disk.content l.initial.disk).files (g.D.Disk.content l.disk).files;
+  is_observable : (g.D.Disk.content l.disk).is_observable ≡ (g.D.Disk.content l.initial.disk).is_observable;
+  gone : IsTrue (g.D.Disk.content l.initial.disk).is_observable → GoneTo (take l.name-index l.name-items) (g.D.Disk.content l.initial.disk).files (g.D.Disk.content l.disk).files;
 }

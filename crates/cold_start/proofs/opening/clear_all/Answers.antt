@@ -10,13 +10,13 @@ loop-at-preserved g c =
     let long = cleared_long g.D.Disk.content g.D.Disk.control c.loop-at.at c.args.disks.now.items c.loop-at.disks.items c.loop-at.invariant in
     let at = got_at c.loop-at.disks.items c.loop-at.at c.index_mut.result.now (omega (arith, long, c.len-at-end.ensures, c.loop-at-test.true, c.args.disks.now.ok.0)) c.index_mut.ensures.value in
     cleared_step g.D.Disk.content g.D.Disk.control c.loop-at.at c.args.disks.now.items c.loop-at.disks.items c.index_mut.result.now c.clear.new.disk c.loop-at.invariant at
-    (record { later = record { lasts = c.in-Ok.ensures.control; tells = c.in-Ok.ensures.tells }; empty = c.in-Ok.ensures.cleared })
+    (record { later = record { lasts = c.in-Ok.ensures.control; is_observable = c.in-Ok.ensures.is_observable }; empty = c.in-Ok.ensures.cleared })
 
 pub returns-in-Err-clause-tell : goal.returns-in-Err-clause-tell
 returns-in-Err-clause-tell g c = λ tell.
     let long = cleared_long g.D.Disk.content g.D.Disk.control c.loop-at.at c.args.disks.now.items c.loop-at.disks.items c.loop-at.invariant in
     let at = got_at c.loop-at.disks.items c.loop-at.at c.index_mut.result.now (omega (arith, long, c.len-at-end.ensures, c.loop-at-test.true, c.args.disks.now.ok.0)) c.index_mut.ensures.value in
-    telling_step g.D.Disk.content g.D.Disk.control c.loop-at.at c.loop-at.disks.items c.index_mut.result.now c.clear.new.disk (cleared_tell g.D.Disk.content g.D.Disk.control c.loop-at.at c.args.disks.now.items c.loop-at.disks.items c.loop-at.invariant tell) at c.in-Err.ensures.tells
+    telling_step g.D.Disk.content g.D.Disk.control c.loop-at.at c.loop-at.disks.items c.index_mut.result.now c.clear.new.disk (cleared_tell g.D.Disk.content g.D.Disk.control c.loop-at.at c.args.disks.now.items c.loop-at.disks.items c.loop-at.invariant tell) at c.in-Err.ensures.is_observable
 
 pub returns-in-Err-clause-control : goal.returns-in-Err-clause-control
 returns-in-Err-clause-control g c =

@@ -17,7 +17,7 @@ loop-pace-preserved g c = record {
       (get_or_default c.args.schedule.now c.loop-pace.pace-index _ _ c.loop-pace-test.true) c.in-Ok.ensures.reaches;
   going = c.in-Ok.ensures.going;
   control = lasts_then (g.D.Disk.control c.args.cold.now.reg) (g.D.Disk.control c.loop-pace.cold.reg) (g.D.Disk.control c.run_pace.new.cold.reg) c.loop-pace.invariant.control c.in-Ok.ensures.control;
-  tells = c.in-Ok.ensures.tells ∙ c.loop-pace.invariant.tells;
+  is_observable = c.in-Ok.ensures.is_observable ∙ c.loop-pace.invariant.is_observable;
   through = through_more g.D.Disk g.S.Store g.M.MetaLog c.args.cold.now c.loop-pace.cold c.run_pace.new.cold c.loop-pace.invariant.through c.in-Ok.ensures.during;
 }
 

@@ -11,6 +11,6 @@ invariant-loop-pace g l = record {
   leads : LeadsTo g.D.Disk g.S.Store g.M.MetaLog l.initial.cold.world (take l.pace-index l.schedule) l.cold.world;
   going : l.cold.ended ≡ false;
   control : Lasts (g.D.Disk.control l.initial.cold.reg) (g.D.Disk.control l.cold.reg);
-  tells : (g.D.Disk.content l.cold.reg).tells ≡ (g.D.Disk.content l.initial.cold.reg).tells;
+  is_observable : (g.D.Disk.content l.cold.reg).is_observable ≡ (g.D.Disk.content l.initial.cold.reg).is_observable;
   through : RunsThrough g.D.Disk g.S.Store g.M.MetaLog l.initial.cold l.cold;
 }

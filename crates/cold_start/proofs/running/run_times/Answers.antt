@@ -1,6 +1,6 @@
 use Rattle.std.proofs.Common.{◌∙◌, subst, arith}
 use Rattle.tier_base.proofs.Lasting.{lasts_then}
-use Rattle.partition_seen.specs.declared.seat.Stepped.{Stepped}
+use Rattle.laws_partition.specs.declared.actor_progress.Stepped.{Stepped}
 use Rattle.partition_world.specs.Turn.{Steps}
 use Rattle.partition_world.proofs.Chains.{step_goes, times_more, times_all, times_end}
 use Rattle.partition_world.proofs.LaterLaw.{later_more}
@@ -23,7 +23,7 @@ loop-i-preserved g c = record {
       (step_goes g.D.Disk g.S.Store g.M.MetaLog c.loop-i.cold.world c.args.actor.0 c.in-Ok.stepped c.turn.new.cold.world c.in-Ok.ensures.steps.0 c.in-Ok.ensures.steps.1);
   going = c.in-Ok.ensures.going;
   control = lasts_then (g.D.Disk.control c.args.cold.now.reg) (g.D.Disk.control c.loop-i.cold.reg) (g.D.Disk.control c.turn.new.cold.reg) c.loop-i.invariant.control c.in-Ok.ensures.control;
-  tells = c.in-Ok.ensures.tells ∙ c.loop-i.invariant.tells;
+  is_observable = c.in-Ok.ensures.is_observable ∙ c.loop-i.invariant.is_observable;
   through = through_more g.D.Disk g.S.Store g.M.MetaLog c.args.cold.now c.loop-i.cold c.turn.new.cold c.loop-i.invariant.through c.in-Ok.ensures.during;
 }
 

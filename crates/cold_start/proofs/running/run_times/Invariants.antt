@@ -11,6 +11,6 @@ invariant-loop-i g l = record {
   adds : AddsTimes g.D.Disk g.S.Store g.M.MetaLog l.initial.cold.world l.actor.0 l._i l.cold.world;
   going : l.cold.ended ≡ false;
   control : Lasts (g.D.Disk.control l.initial.cold.reg) (g.D.Disk.control l.cold.reg);
-  tells : (g.D.Disk.content l.cold.reg).tells ≡ (g.D.Disk.content l.initial.cold.reg).tells;
+  is_observable : (g.D.Disk.content l.cold.reg).is_observable ≡ (g.D.Disk.content l.initial.cold.reg).is_observable;
   through : RunsThrough g.D.Disk g.S.Store g.M.MetaLog l.initial.cold l.cold;
 }

@@ -25,7 +25,7 @@ loop-alloc-preserved g c =
           (step_goes g.D.Disk g.S.Store g.M.MetaLog c.loop-alloc.cold.world c.args.actor.0 c.in-Ok.field-0 c.turn.new.cold.world c.in-Ok.ensures.steps.0 c.in-Ok.ensures.steps.1);
       going = c.in-Ok.ensures.going;
       control = lasts_then (g.D.Disk.control c.args.cold.now.reg) (g.D.Disk.control c.loop-alloc.cold.reg) (g.D.Disk.control c.turn.new.cold.reg) c.loop-alloc.invariant.control c.in-Ok.ensures.control;
-      tells = c.in-Ok.ensures.tells ∙ c.loop-alloc.invariant.tells;
+      is_observable = c.in-Ok.ensures.is_observable ∙ c.loop-alloc.invariant.is_observable;
       through = through_more g.D.Disk g.S.Store g.M.MetaLog c.args.cold.now c.loop-alloc.cold c.turn.new.cold c.loop-alloc.invariant.through c.in-Ok.ensures.during;
     }
 

@@ -1,5 +1,5 @@
 use Rattle.std.proofs.Common.{◌≡◌, ◌<◌, ◌-◌, ◌++◌, ◌∷◌, [], cond, Bool, List, ℕ, ap, subst, sym, refl, ◌∙◌, arith, length, length-take, vec_len, vec_capacity}
-use Rattle.disk_model.specs.declared.pieces.Piece.{Piece}
+use Rattle.disk_model.specs.declared.pieces.Chunk.{Chunk}
 use Rattle.disk_model.specs.Pieces.{joined, AreEnded}
 use Rattle.disk_model.proofs.Joined.{drops_part, drops_whole, ended-append, ended-push}
 use Rattle.disk_model.proofs.pieces.drop_last.Goals as goal
@@ -14,9 +14,9 @@ overflow_sub-last c =
 
 pub returns-then-count-len : goal.returns-then-count-len
 returns-then-count-len c =
-    let front : List Piece = c.pop.new.self.items in
-    let last : Piece = c.in-Some.last in
-    let cut : Piece = record { bytes = c.truncate.new.self; end = last.end - c.loop-last.count } in
+    let front : List Chunk = c.pop.new.self.items in
+    let last : Chunk = c.in-Some.last in
+    let cut : Chunk = record { bytes = c.truncate.new.self; end = last.end - c.loop-last.count } in
     let ends = ended-append 0 front (last ∷ []) (subst (AreEnded 0) c.in-Some.ensures.items c.loop-last.invariant.1) in
     let room : vec_len c.pop.new.self < vec_capacity c.pop.new.self = omega (arith, c.loop-last.pieces.ok.1, c.in-Some.ensures.cases, c.in-Some.ensures.capacity) in
     let pushed : c.push.new.self.items ≡ front ++ cut ∷ [] =

@@ -4,7 +4,7 @@ use Rattle.std.specs.Ordering.{nat_cmp}
 use Rattle.std.specs.BTreeMap.{is_at}
 use Rattle.std.specs.Map.{lookup}
 use Rattle.std.specs.Map.Calls.{RetainsPairs}
-use Rattle.disk_model.specs.Held.{all_of, safe_of}
+use Rattle.disk_model.specs.FileBytes.{all_of, safe_of}
 use Rattle.disk_model.proofs.shelf.crash_all.Goals as goal
 
 both : {X Y : Type 0} (b : Bool) (new old : X → Y) (w v : X) → new w ≡ old v → (o p : Option X) → option_map new o ≡ option_map old p → option_map new (cond b (Some w) o) ≡ option_map old (cond b (Some v) p)

@@ -23,7 +23,7 @@ returns-then-meets-clause-some c =
     let head = c.head_at-head.result in
     let clean : AreBytes run = λ i. let b = c.type_inv.run i in omega (arith, b) in
     let s = checked_at run c.args.spot.at c.requires.inside c.requires.checked head clean c.head_at-head.ensures in
-    subst (GoesOn run c.args.spot) (sym c.spot_after.ensures) (goes_on run c.args.spot head s.batch s.is s.parts s.tells s.inside (c.meets.ensures.0 c.if-meets.true))
+    subst (GoesOn run c.args.spot) (sym c.spot_after.ensures) (goes_on run c.args.spot head s.batch s.is s.parts s.is_observable s.inside (c.meets.ensures.0 c.if-meets.true))
 
 pub returns-then-meets-clause-rest : goal.returns-then-meets-clause-rest
 returns-then-meets-clause-rest c =
@@ -40,5 +40,5 @@ returns-else-meets-clause-none c =
     let head = c.head_at-head.result in
     let clean : AreBytes run = λ i. let b = c.type_inv.run i in omega (arith, b) in
     let s = checked_at run c.args.spot.at c.requires.inside c.requires.checked head clean c.head_at-head.ensures in
-    let sure : c.meets.result ≡ true = c.meets.ensures.1 (meets_first run c.args.spot head s.batch s.is s.parts s.tells a) in
+    let sure : c.meets.result ≡ true = c.meets.ensures.1 (meets_first run c.args.spot head s.batch s.is s.parts s.is_observable a) in
     cc (sure, c.if-meets.false)

@@ -109,9 +109,9 @@ returns-in_err-segments-clause-sound g c =
     let went : fate ≡ Went = ap fate_of c.in_ok-rewrite.was in
     err_on _ _ c.from_residual-in_err-segments.result
     (λ e is t o opens. (
-    let told : IsTrue d.tells = subst IsTrue (sym k0.tells) t in
+    let told : IsTrue d.is_observable = subst IsTrue (sym k0.is_observable) t in
     let s = plan_reads d plan p told names fate went d1 rewrites o (opens_like d.files d0.files o k0.files opens) in
-    subst IsSoundCause (sym is) (c.in_err-segments.ensures.sound (subst IsTrue (sym rewrites.tells) told) s.0 s.1)
+    subst IsSoundCause (sym is) (c.in_err-segments.ensures.sound (subst IsTrue (sym rewrites.is_observable) told) s.0 s.1)
     )) c.from_residual-in_err-segments.ensures.1
 
 pub returns-in_err-segments-clause-place : goal.returns-in_err-segments-clause-place
@@ -129,8 +129,8 @@ returns-in_err-segments-clause-place g c =
     let went : fate ≡ Went = ap fate_of c.in_ok-rewrite.was in
     err_on _ _ c.from_residual-in_err-segments.result
     (λ e is t. (
-    let told : IsTrue d.tells = subst IsTrue (sym k0.tells) t in
-    let told1 : IsTrue d1.tells = subst IsTrue (sym rewrites.tells) told in
+    let told : IsTrue d.is_observable = subst IsTrue (sym k0.is_observable) t in
+    let told1 : IsTrue d1.is_observable = subst IsTrue (sym rewrites.is_observable) told in
     fails_like d.files d0.files e k0.files
     (plan_misses d plan p told names fate went d1 rewrites e (subst (ReadFailsIn d1.files plan.manifest) (sym is) (c.in_err-segments.ensures.place told1))
     (λ batches s. subst IsSoundCause (sym is) (c.in_err-segments.ensures.sound told1 batches s)))

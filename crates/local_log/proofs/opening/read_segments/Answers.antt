@@ -64,12 +64,12 @@ returns-in_err-segment-clause-err g c =
     let m = content c.loop-extent.disk in
     let inv = c.loop-extent.invariant in
     let parts : manifest.segments ≡ take i es ++ get_or es i none ∷ drop (i + 1) es = sym c.as_slice-extents.ensures ∙ split_at es i lt in
-    let before = (g.D.Disk.control c.loop-extent.disk).handed in
-    let handed = (g.D.Disk.control c.read_segment.new.disk).handed in
+    let before = (g.D.Disk.control c.loop-extent.disk).last_read in
+    let last_read = (g.D.Disk.control c.read_segment.new.disk).last_read in
     err_on _ _ c.from_residual-in_err-segment.result
     (λ e is.
-    not_read manifest (take i es) (get_or es i none) (drop (i + 1) es) c.loop-extent.end before handed e c.requires parts inv.last c.read_segment.ensures.early
-    (subst (SegmentFails manifest.line c.loop-extent.end (get_or es i none) handed) (sym is) c.in_err-segment.ensures.err))
+    not_read manifest (take i es) (get_or es i none) (drop (i + 1) es) c.loop-extent.end before last_read e c.requires parts inv.last c.read_segment.ensures.early
+    (subst (SegmentFails manifest.line c.loop-extent.end (get_or es i none) last_read) (sym is) c.in_err-segment.ensures.err))
     c.from_residual-in_err-segment.ensures.1
 
 pub returns-in_err-segment-clause-sound : goal.returns-in_err-segment-clause-sound
@@ -88,7 +88,7 @@ returns-in_err-segment-clause-sound g c =
     let next = next_stands d manifest.line c.args.interval manifest.local_start (take i es) c.loop-extent.segments.items inv.read (get_or es i none) t (drop (i + 1) es) batches
     (subst (λ (l : List Extent). Segments d.files manifest.line manifest.local_start l batches) parts all) in
     subst IsSoundCause (sym is)
-    (c.in_err-segment.ensures.sound (subst IsTrue (sym inv.keeps.tells) t) (next.0 ∙ sym inv.end_is) next.1.0
+    (c.in_err-segment.ensures.sound (subst IsTrue (sym inv.keeps.is_observable) t) (next.0 ∙ sym inv.end_is) next.1.0
     (segment_kept d m inv.keeps manifest.line (get_or es i none) next.1.0 next.1.1))
     )) c.from_residual-in_err-segment.ensures.1
 
@@ -109,7 +109,7 @@ returns-in_err-segment-clause-place g c =
     read_fails_in d manifest.line c.args.interval manifest.local_start (take i es) c.loop-extent.segments.items inv.read e manifest m.files (drop (i + 1) es) why refl refl parts t
     (same_bytes d m inv.keeps e.base)
     (subst (λ (n : ℕ). SegmentFails manifest.line n e (log_at m.files e) why) inv.end_is
-    (subst (SegmentFails manifest.line c.loop-extent.end e (log_at m.files e)) (sym is) (c.in_err-segment.ensures.place (subst IsTrue (sym inv.keeps.tells) t)))))
+    (subst (SegmentFails manifest.line c.loop-extent.end e (log_at m.files e)) (sym is) (c.in_err-segment.ensures.place (subst IsTrue (sym inv.keeps.is_observable) t)))))
     c.from_residual-in_err-segment.ensures.1
 
 pub returns-in_err-segment-clause-quiet : goal.returns-in_err-segment-clause-quiet
@@ -140,7 +140,7 @@ loop-extent-preserved g c =
           (subst (λ (l : List Extent). AreRead d manifest.line c.args.interval manifest.local_start l (c.loop-extent.segments.items ++ segment ∷ [])) (sym (take_more es i none lt))
           (more_read d manifest.line c.args.interval manifest.local_start (take i es) c.loop-extent.segments.items inv.read (get_or es i none) segment one));
       end_is = c.end-end.ensures ∙ sym (ap (chain_end manifest.local_start) items ∙ chain_snoc manifest.local_start c.loop-extent.segments.items segment);
-      last = inr (take i es, get_or es i none, take_more es i none lt, subst (ReadsTo manifest.line (get_or es i none) (g.D.Disk.control c.read_segment.new.disk).handed) (sym c.end-end.ensures) c.in_ok-segment.ensures.handed);
+      last = inr (take i es, get_or es i none, take_more es i none lt, subst (ReadsTo manifest.line (get_or es i none) (g.D.Disk.control c.read_segment.new.disk).last_read) (sym c.end-end.ensures) c.in_ok-segment.ensures.last_read);
       control = lasts_then _ _ _ inv.control c.read_segment.ensures.control;
       quiet = c.read_segment.ensures.quiet (λ fault. cc (fault, c.in_ok-segment.was)) ∙ inv.quiet;
     }

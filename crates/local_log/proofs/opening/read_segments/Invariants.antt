@@ -12,7 +12,7 @@ invariant-loop-extent g l =
       keeps : Keeps (content l.fn.disk) (content l.disk);
       read : AreRead (content l.fn.disk) l.manifest.line l.interval l.manifest.local_start (take l.extent-index l.extents) l.segments.items;
       end_is : l.end ≡ chain_end l.manifest.local_start l.segments.items;
-      last : LastRead l.manifest.line l.manifest.local_start (take l.extent-index l.extents) l.end (g.D.Disk.control l.disk).handed;
+      last : LastRead l.manifest.line l.manifest.local_start (take l.extent-index l.extents) l.end (g.D.Disk.control l.disk).last_read;
       control : Lasts (g.D.Disk.control l.fn.disk) (g.D.Disk.control l.disk);
       quiet : (g.D.Disk.control l.disk).faults ≡ (g.D.Disk.control l.fn.disk).faults;
     }

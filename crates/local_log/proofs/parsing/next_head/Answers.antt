@@ -5,7 +5,7 @@ use Rattle.segment_file.specs.Gathering.{Tells}
 use Rattle.segment_file.specs.declared.walking.Found.TheVariants as found
 use Rattle.segment_file.proofs.Finding.{batch_found}
 use Rattle.segment_file.proofs.Standing.{AreBytes, standing, same_head, bytes_drop, front_bytes}
-use Rattle.segment_file.proofs.Telling.{tells}
+use Rattle.segment_file.proofs.Telling.{is_observable}
 use Rattle.local_log.specs.Parsing.{MayStand}
 use Rattle.local_log.proofs.Parsed.{stands_next, stand_of}
 use Rattle.local_log.proofs.parsing.next_head.Goals as goal
@@ -27,7 +27,7 @@ returns-then-may_stand-clause-some c =
     let s = standing at bytes head clean c.requires.inside (sym c.walk.ensures ∙ c.in-Batch.is) in
     let clean' : AreBytes s.batch = front_bytes s.batch _ (subst AreBytes s.parts (bytes_drop at bytes clean)) in
     stands_next c.args.line.now c.args.base c.args.end bytes at head s.batch s.is s.parts
-    (subst (Tells s.batch) (sym s.head_is) (tells s.batch clean' s.is)) s.inside (c.may_stand.ensures.0 c.if-may_stand.true)
+    (subst (Tells s.batch) (sym s.head_is) (is_observable s.batch clean' s.is)) s.inside (c.may_stand.ensures.0 c.if-may_stand.true)
 
 pub returns-else-may_stand-clause-none : goal.returns-else-may_stand-clause-none
 returns-else-may_stand-clause-none c =
@@ -36,6 +36,6 @@ returns-else-may_stand-clause-none c =
     let clean' : AreBytes batch = front_bytes batch more (subst AreBytes parts (bytes_drop c.args.at c.args.bytes.now clean)) in
     let there : found_at c.args.at (drop c.args.at c.args.bytes.now) ≡ found.Batch (head_of batch) = rw parts (batch_found c.args.at batch more placed.is) in
     let same : head_of batch ≡ c.in-Batch.head = same_head (head_of batch) c.in-Batch.head (sym there ∙ (sym c.walk.ensures ∙ c.in-Batch.is)) in
-    let may = stand_of c.args.line.now c.args.base c.args.end batch (head_of batch) (tells batch clean' placed.is) placed begins in
+    let may = stand_of c.args.line.now c.args.base c.args.end batch (head_of batch) (is_observable batch clean' placed.is) placed begins in
     let sure : c.may_stand.result ≡ true = c.may_stand.ensures.1 (subst (MayStand c.args.line.now c.args.base c.args.end) same may) in
     cc (sure, c.if-may_stand.false)

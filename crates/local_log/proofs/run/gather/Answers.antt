@@ -6,7 +6,7 @@ use Rattle.epoch_line.specs.Line.{last_epoch}
 use Rattle.segment_file.proofs.Standing.{AreBytes}
 use Rattle.segment_file.proofs.Laying.{end_up}
 use Rattle.local_log.specs.Stored.{size_of, end_of}
-use Rattle.local_log.specs.Run.{rolls_before, begun}
+use Rattle.local_log.specs.Run.{rolls_before, snapshot}
 use Rattle.local_log.specs.Taking.{AsksOf, line_or, head_asks, IsGathering}
 use Rattle.local_log.proofs.Gathered.{base_seg, coming, coming_headed, coming_tells, coming_asks, goes_in, may_push, gathered_more, laid_more, low_more, gathered_all, gathered_stop, nothing_gathered}
 use Rattle.local_log.proofs.run.gather.Goals as goal
@@ -83,7 +83,7 @@ loop-at-preserved c =
     let test : (rolls_before c.args.most c.loop-at.segment.base (size_of c.loop-at.segment) (length k.batch) (last_of k.batch) || nat_le (2 ^ 62) (last_of k.batch)) ≡ false =
     rw (← asks.size, ← asks.last) (sym c.stops.ensures ∙ c.if-stops.false) in
     let goes = goes_in c.args.most c.loop-at.segment.base (size_of c.loop-at.segment) (length k.batch) (last_of k.batch) test in
-    let entered : line_or c.args.line.now c.in_ok-newer.newer ≡ begun (line_or c.args.line.now c.loop-at.newer) (epoch_of k.batch) (base_of k.batch) =
+    let entered : line_or c.args.line.now c.in_ok-newer.newer ≡ snapshot (line_or c.args.line.now c.loop-at.newer) (epoch_of k.batch) (base_of k.batch) =
     rw (← asks.epoch, ← asks.base) c.in_ok-newer.ensures in
     record {
       so_far = subst (λ (n : ℕ). IsGathering c.args.segment.now c.args.line.now c.args.run.now c.args.most (c.loop-at.at + n) c.push.new.self c.in_ok-newer.newer) (sym asks.size)

@@ -30,7 +30,7 @@ loop-name-preserved g c =
     let laws : Lawful m = g.met.D.Disk.lawful c.loop-name.disk in
     record {
       content = subst (λ (l : List FileName). Removes es l (content c.args.disk.now) (content c.remove_other.new.disk)) (sym (take_more names i file.Manifest lt))
-          (removed_more es (take i names) (get_or names i file.Manifest) (content c.args.disk.now) m (content c.remove_other.new.disk) laws c.loop-name.invariant.content c.in_ok-remove_other.ensures.ok c.remove_other.ensures.tells);
+          (removed_more es (take i names) (get_or names i file.Manifest) (content c.args.disk.now) m (content c.remove_other.new.disk) laws c.loop-name.invariant.content c.in_ok-remove_other.ensures.ok c.remove_other.ensures.is_observable);
       room = omega (arith, c.loop-name.invariant.room, c.remove_other.ensures.room);
       control = lasts_then _ _ _ c.loop-name.invariant.control c.remove_other.ensures.control.lasts;
       quiet = went_on _ _ _ _ c.in_ok-remove_other.was c.remove_other.ensures.control ∙ c.loop-name.invariant.quiet;

@@ -1,5 +1,5 @@
 use Rattle.std.specs.Prelude.{◌≡◌, ℕ, ◌<◌, slice_get, Some}
-use Rattle.device_yard.specs.Held.{IsFirst}
+use Rattle.device_yard.specs.YardContent.{IsFirst}
 use Rattle.memory_yard.proofs.first.least_of.Given as goal
 
 abbrev pub invariant-loop-name : goal.invariant-loop-name

@@ -1,7 +1,7 @@
 use Rattle.std.proofs.Common.{sym, subst}
 use Rattle.disk_model.specs.Laws.{lawful_at}
 use Rattle.disk_model.specs.contracts.memory_disk.MemoryDiskDisk.TheImpl as disk
-use Rattle.device_yard.specs.Held.{HandsDisk}
+use Rattle.device_yard.specs.YardContent.{HandsDisk}
 use Rattle.memory_yard.proofs.Devices.{keeps_then, empty_kept}
 use Rattle.memory_yard.proofs.handing.hand_disk.Goals as goal
 

@@ -1,8 +1,8 @@
 use Rattle.std.proofs.Common.{sym, subst}
 use Rattle.disk_model.specs.contracts.memory_disk.MemoryDiskDisk.TheImpl as disk
 use Rattle.meta_log.specs.Content as log
-use Rattle.meta_file.specs.Told.{told_of}
-use Rattle.device_yard.specs.Held.{HandsLog}
+use Rattle.meta_log_file.specs.Told.{told_of}
+use Rattle.device_yard.specs.YardContent.{HandsLog}
 use Rattle.memory_yard.specs.Log.{told}
 use Rattle.memory_yard.proofs.Logs.{told_keeps, log_then, reopens_kept, hands_empty, put_back, none_back}
 use Rattle.memory_yard.proofs.handing.hand_log.Goals as goal

@@ -1,7 +1,7 @@
 use Rattle.std.proofs.Common.{sym, subst, refl}
 use Rattle.disk_model.specs.contracts.memory_disk.MemoryDiskDisk.TheImpl as disk
 use Rattle.meta_log.specs.Content as log
-use Rattle.meta_file.specs.Told.{told_of}
+use Rattle.meta_log_file.specs.Told.{told_of}
 use Rattle.memory_yard.specs.Log.{told}
 use Rattle.memory_yard.proofs.Logs.{never_rose, log_then, has_by}
 use Rattle.memory_yard.proofs.log_place.has_notes.Goals as goal
@@ -9,7 +9,7 @@ use Rattle.memory_yard.proofs.log_place.has_notes.Goals as goal
 pub are_some-requires : goal.are_some-requires
 are_some-requires c = λ fault.
     let said = c.read-found.ensures in
-    never_rose _ _ c.in-Ok.ensures.faults (said.told_cause fault refl) (said.lasts.no_fault (c.in-Ok.ensures.stays_calm c.requires.calm))
+    never_rose _ _ c.in-Ok.ensures.faults (said.told_cause fault refl) (said.lasts.no_fault (c.in-Ok.ensures.stays_infallible c.requires.infallible))
 
 pub returns-in-Ok-clause-keeps : goal.returns-in-Ok-clause-keeps
 returns-in-Ok-clause-keeps c =

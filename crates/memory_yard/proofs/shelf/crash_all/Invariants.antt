@@ -1,5 +1,5 @@
 use Rattle.std.specs.Prelude.{◌≡◌, ℕ, ◌<◌, ◌≤◌, slice_get}
-use Rattle.device_yard.specs.Held.{Both}
+use Rattle.device_yard.specs.YardContent.{Both}
 use Rattle.memory_yard.specs.Shelf.{SlotKeeps}
 use Rattle.memory_yard.proofs.shelf.crash_all.Given as goal
 

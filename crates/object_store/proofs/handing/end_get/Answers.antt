@@ -1,4 +1,4 @@
 use Rattle.object_store.proofs.handing.end_get.Goals as goal
 
 pub returns-clause-control : goal.returns-clause-control
-returns-clause-control c = rw c.give.ensures.fate (c.note-outcome.ensures.ran c.args.handed.now c.hand.new.handed)
+returns-clause-control c = rw c.give.ensures.fate (c.note-outcome.ensures.ran c.args.last_read.now c.hand.new.last_read)

@@ -7,7 +7,7 @@ returns g c =
     let spot = c.args.spot.now in
     record {
       control = c.get_part.ensures.control;
-      handed = c.get_part.ensures.handed;
+      last_read = c.get_part.ensures.last_read;
       content = c.get_part.ensures.content;
-      bytes = λ tells. piece_given spot c.args.from c.args.most c.unwrap_or.result c.get_part.result _ (c.unwrap_or.ensures ∙ ap (λ o. unwrap_or o c.args.most) c.owed.ensures) (c.get_part.ensures.bytes tells);
+      bytes = λ is_observable. piece_given spot c.args.from c.args.most c.unwrap_or.result c.get_part.result _ (c.unwrap_or.ensures ∙ ap (λ o. unwrap_or o c.args.most) c.owed.ensures) (c.get_part.ensures.bytes is_observable);
     }

@@ -9,7 +9,7 @@ use Rattle.broker_log.specs.Seen.{Seen, Shows, WhileUp, OnDisk}
 use Rattle.broker_log.specs.Turns.{IsSegmentOf}
 use Rattle.tier_safe.specs.Views.{IsIdOf}
 use Rattle.partition_world.specs.Tier.{next_of, counted}
-use Rattle.partition_turns.proofs.Writes.{never}
+use Rattle.partition_commands.proofs.Writes.{never}
 use Rattle.partition_world.proofs.Counts.{next_low}
 use Rattle.partition_world.proofs.Dispatch.{interval_up, has_read, on_err}
 use Rattle.partition_world.proofs.copies.read_next.Goals as goal
@@ -21,12 +21,12 @@ returns-in_ok-copying-in-Ok-Some-clause-row g c =
     let copy = c.in_ok-copying-in-Ok-Some.ensures in
     let copied = c.in_ok-copying-in-Ok-Some.copying in
     let i = c.in-Some.incarnation in
-    let read = subst (λ (o : Option Whole). WhileUp x.log (λ log. OnDisk kept (λ d. IsClosedFrom log c.args.offset (g.D.Disk.control d).handed o))) c.in-Ok-Some.field-0-is c.in-Ok-Some.ensures.segment in
+    let read = subst (λ (o : Option Whole). WhileUp x.log (λ log. OnDisk kept (λ d. IsClosedFrom log c.args.offset (g.D.Disk.control d).last_read o))) c.in-Ok-Some.field-0-is c.in-Ok-Some.ensures.segment in
     let part = subst (λ (o : Option Whole). (s : Seen) → Shows g.D.Disk.content x.log s → IfSome o (λ w. IsSegmentOf s w)) c.in-Ok-Some.field-0-is c.in-Ok-Some.ensures.part in (
       record {
         reads = record { kept = kept; stays = c.closed_from.ensures.stays; lasts = c.closed_from.ensures.control; after = refl };
         ran = has_read g.D.Disk x.log kept c.args.offset c.closed_from.result (Ok c.in-Ok-Some.field-0) c.requires.next c.requires.up c.in-Ok-Some.is c.closed_from.ensures.ran;
-        handed = subst (λ (w : Whole). WhileUp x.log (λ log. OnDisk kept (λ d. IsClosedFrom log c.args.offset (g.D.Disk.control d).handed (Some w)))) (sym copy.segment) read;
+        last_read = subst (λ (w : Whole). WhileUp x.log (λ log. OnDisk kept (λ d. IsClosedFrom log c.args.offset (g.D.Disk.control d).last_read (Some w)))) (sym copy.segment) read;
         part = λ s shows. subst (λ (w : Whole). IsSegmentOf s w) (sym copy.segment) (part s shows);
         quiet = c.closed_from.ensures.quiet (never c.in-Ok-Some.is (λ no. cc));
       },
@@ -34,13 +34,13 @@ returns-in_ok-copying-in-Ok-Some-clause-row g c =
         is = copy.is;
         segment_is = refl;
         partition_is = copy.partition;
-        id = subst (λ (o : Option ℕ). IsSomeAnd o (λ i. IsIdOf copied.id c.args.partition.0 c.args.broker.0 i (next_of c.args.side.now i))) c.in-Some.ensures
+        id = subst (λ (o : Option ℕ). IsSomeAnd o (λ i. IsIdOf copied.id c.args.partition.0 c.args.broker.0 i (next_of c.args.broker_tier.now i))) c.in-Some.ensures
             (rw copy.id (subst (λ (n : ℕ). IsIdOf c.id_of-id.result c.args.partition.0 c.args.broker.0 i n) c.next-next.ensures c.id_of-id.ensures));
-        few = subst (λ (o : Option ℕ). IsSomeAnd o (λ i. next_of c.args.side.now i < 2 ^ 64 - 1)) c.in-Some.ensures (let low = next_low c.args.side.now i in omega (arith, c.next-next.ensures, low, c.requires.tries));
+        few = subst (λ (o : Option ℕ). IsSomeAnd o (λ i. next_of c.args.broker_tier.now i < 2 ^ 64 - 1)) c.in-Some.ensures (let low = next_low c.args.broker_tier.now i in omega (arith, c.next-next.ensures, low, c.requires.tries));
         line_is = copy.line ∙ ap (λ (o : Option (List (ℕ × ℕ))). unwrap_or o []) c.closed_from.ensures.stays.line;
         interval_is = interval_up x.log copied.interval c.in-Some-settings.settings c.requires.up c.in-Some-settings.ensures copy.interval;
       },
-      subst (λ (o : Option ℕ). IsSomeAnd o (λ i. c.count.new.self ≡ counted c.args.side.now i)) c.in-Some.ensures c.count.ensures,
+      subst (λ (o : Option ℕ). IsSomeAnd o (λ i. c.count.new.self ≡ counted c.args.broker_tier.now i)) c.in-Some.ensures c.count.ensures,
     )
 
 pub returns-in-Err-DiskFault-clause-row : goal.returns-in-Err-DiskFault-clause-row
@@ -57,7 +57,7 @@ returns-in-Err-Damaged-clause-row g c =
     let x = c.args.node.now in
     let e = c.in-Err-Damaged in
     let kept = c.closed_from.new.self in
-    let bad = subst (λ (e : ReadRefusal). WhileUp x.log (λ log. OnDisk kept (λ d. ClosedFails log c.args.offset (g.D.Disk.control d).handed e))) e.field-0-is e.ensures.err in
+    let bad = subst (λ (e : ReadRefusal). WhileUp x.log (λ log. OnDisk kept (λ d. ClosedFails log c.args.offset (g.D.Disk.control d).last_read e))) e.field-0-is e.ensures.err in
     let whole = subst (λ (e : ReadRefusal). (s : Seen) → Shows g.D.Disk.content x.log s → IsOfDevice e) e.field-0-is e.ensures.whole in
     let ran = has_read g.D.Disk x.log kept c.args.offset c.closed_from.result (Err (Damaged e.file e.at)) c.requires.next c.requires.up (e.is ∙ ap (λ (k : ReadRefusal). Err k) e.field-0-is) c.closed_from.ensures.ran in
     rw e.field-0-is (

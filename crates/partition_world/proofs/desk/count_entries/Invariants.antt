@@ -1,5 +1,5 @@
 use Rattle.std.proofs.Common.{◌≡◌, ◌+◌, drop, []}
-use Rattle.partition_seen.specs.Sound.{turns_left}
+use Rattle.laws_partition.specs.Sound.{turns_left}
 use Rattle.partition_world.proofs.desk.count_entries.Given as goal
 
 abbrev pub invariant-loop-list : goal.invariant-loop-list

@@ -1,4 +1,4 @@
-use Rattle.partition_world.proofs.CalmLaw.{fresh_is_unfailing}
+use Rattle.partition_world.proofs.InfallibleLaw.{fresh_is_unfailing}
 use Rattle.partition_world.proofs.laws.fresh_is_unfailing.Goals as goal
 
 pub returns : goal.returns

@@ -1,4 +1,4 @@
-use Rattle.partition_world.proofs.CalmLaw.{reaches_unfailing}
+use Rattle.partition_world.proofs.InfallibleLaw.{reaches_unfailing}
 use Rattle.partition_world.proofs.laws.reaches_unfailing.Goals as goal
 
 pub returns : goal.returns

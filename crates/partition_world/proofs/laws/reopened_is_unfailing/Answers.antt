@@ -1,4 +1,4 @@
-use Rattle.partition_world.proofs.CalmLaw.{reopened_is_unfailing}
+use Rattle.partition_world.proofs.InfallibleLaw.{reopened_is_unfailing}
 use Rattle.partition_world.proofs.laws.reopened_is_unfailing.Goals as goal
 
 pub returns : goal.returns

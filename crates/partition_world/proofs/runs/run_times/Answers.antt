@@ -1,5 +1,5 @@
 use Rattle.std.proofs.Common.{subst, arith}
-use Rattle.partition_seen.specs.declared.seat.Stepped.{Stepped}
+use Rattle.laws_partition.specs.declared.actor_progress.Stepped.{Stepped}
 use Rattle.partition_world.specs.Turn.{Steps}
 use Rattle.partition_world.proofs.LaterLaw.{later_more, step_later}
 use Rattle.partition_world.proofs.Chains.{step_goes, times_more, times_all, times_end}

@@ -1,7 +1,7 @@
 use Rattle.std.proofs.Common.{◌≡◌, ◌∙◌, sym, ap, subst, ◌<◌, List, length, slice_get, Some, arith}
 use Rattle.plain_log.specs.declared.command.ActorList.{ActorList}
 use Rattle.partition_world.specs.Turn.{IsAtEnd}
-use Rattle.partition_seen.proofs.Lists.{got}
+use Rattle.laws_partition.proofs.Lists.{got}
 use Rattle.partition_world.proofs.LaterLaw.{later_more, place_ended, places_ended}
 use Rattle.partition_world.proofs.runs.run_to_end.Goals as goal
 

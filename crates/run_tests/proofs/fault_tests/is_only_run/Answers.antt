@@ -6,8 +6,8 @@ use Rattle.plain_log.specs.declared.command.Command.TheVariants.{Append}
 use Rattle.plain_log.specs.declared.command.Config.{Config}
 use Rattle.plain_log.specs.declared.command.Order.{Order}
 use Rattle.plain_log.specs.Orders.{IsInRange, IsOrderFor, IsListFor, AreListsFor}
-use Rattle.plain_machine.specs.Fits.{IsFor, AreFor}
-use Rattle.plain_machine.proofs.Fitting.{IsListFor as IsMachinesList, lists_for}
+use Rattle.plain_executor.specs.Fits.{IsFor, AreFor}
+use Rattle.plain_executor.proofs.Fitting.{IsListFor as IsMachinesList, lists_for}
 use Rattle.run_tests.proofs.fault_tests.is_only_run.Goals as goal
 
 -- the machine takes what a world takes

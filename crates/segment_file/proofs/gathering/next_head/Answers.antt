@@ -5,7 +5,7 @@ use Rattle.segment_file.specs.Gathering.{MayGoOn, Tells}
 use Rattle.segment_file.specs.declared.walking.Found.TheVariants as found
 use Rattle.segment_file.proofs.Finding.{batch_found}
 use Rattle.segment_file.proofs.Standing.{AreBytes, standing, same_head, bytes_drop, front_bytes}
-use Rattle.segment_file.proofs.Telling.{tells}
+use Rattle.segment_file.proofs.Telling.{is_observable}
 use Rattle.segment_file.proofs.gathering.next_head.Goals as goal
 
 pub returns-in_default : goal.returns-in_default
@@ -27,7 +27,7 @@ returns-then-may_go_on-clause-some c =
       batch = s.batch;
       is = s.is;
       parts = s.parts;
-      tells = subst (Tells s.batch) (sym s.head_is) (tells s.batch clean' s.is);
+      is_observable = subst (Tells s.batch) (sym s.head_is) (is_observable s.batch clean' s.is);
       may = c.may_go_on.ensures.0 c.if-may_go_on.true;
       inside = s.inside;
     }

@@ -1,6 +1,6 @@
 use Rattle.std.specs.Prelude.{All}
 use Rattle.plain_log.specs.declared.command.Order.{Order}
-use Rattle.plain_machine.specs.Fits.{IsFor}
+use Rattle.plain_executor.specs.Fits.{IsFor}
 use Rattle.text_tests.proofs.machines.flushes.Given as goal
 
 abbrev pub invariant-loop : goal.invariant-loop

@@ -1,8 +1,8 @@
 use Rattle.std.proofs.Common.{◌≡◌, ◌∙◌, ap, sym, subst, List, [], ◌∷◌, ◌++◌}
 use Rattle.std.proofs.lemmas.List.Elements.{All-nil, All-cons}
 use Rattle.plain_log.specs.declared.command.ActorList.{ActorList}
-use Rattle.plain_machine.specs.Fits.{AreFor}
-use Rattle.plain_machine.proofs.Fitting.{IsListFor, lists_for}
+use Rattle.plain_executor.specs.Fits.{AreFor}
+use Rattle.plain_executor.proofs.Fitting.{IsListFor, lists_for}
 use Rattle.text_tests.proofs.summaries.lists.Goals as goal
 
 pub returns : goal.returns

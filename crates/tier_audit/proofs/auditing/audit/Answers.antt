@@ -12,13 +12,13 @@ fed_entries view (note ∷ notes) = fed_entries (fed view note) notes
 
 pub returns-in-Ok-audit_store-clause-verdict : goal.returns-in-Ok-audit_store-clause-verdict
 returns-in-Ok-audit_store-clause-verdict g c =
-    λ tells told.
+    λ is_observable told.
     let log = g.M.MetaLog.content c.args.meta.now in
     let old = c.new-view.result in
     let new = c.refresh.new.view in
     let r : Refreshes log old new = c.in-Ok.ensures.view in
-    let begun : old.notes ≡ 0 = ap (λ (v : Seen). v.notes) c.new-view.ensures in
-    let all : r.notes ≡ log.notes = r.further told ∙ ap (λ n. drop n log.notes) begun in
+    let snapshot : old.notes ≡ 0 = ap (λ (v : Seen). v.notes) c.new-view.ensures in
+    let all : r.notes ≡ log.notes = r.further told ∙ ap (λ n. drop n log.notes) snapshot in
     let entries : new.entries ≡ fold log.notes =
     ap (λ (v : Seen). v.entries) r.view ∙ (fed_entries old r.notes ∙ (ap (λ (v : Seen). folded_from v.entries r.notes) c.new-view.ensures ∙ ap fold all)) in
-    subst (λ (es : List Entry). IsVerdict (g.S.Store.content c.args.store.now).objects es c.in-Ok-audit_store.verdict) entries (c.in-Ok-audit_store.ensures.verdict tells)
+    subst (λ (es : List Entry). IsVerdict (g.S.Store.content c.args.store.now).objects es c.in-Ok-audit_store.verdict) entries (c.in-Ok-audit_store.ensures.verdict is_observable)

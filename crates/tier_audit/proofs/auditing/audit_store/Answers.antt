@@ -13,15 +13,15 @@ use Rattle.tier_audit.proofs.auditing.audit_store.Goals as goal
 
 pub returns-in-Some-2-clause-verdict : goal.returns-in-Some-2-clause-verdict
 returns-in-Some-2-clause-verdict g c =
-    λ tells.
+    λ is_observable.
     let entries = c.args.view.now.entries in
     let objects = (g.S.Store.content c.args.store.now).objects in
     let keys = c.as_slice.result.now in
-    let names : Names objects keys = subst (Names objects) (sym c.as_slice.ensures) (c.in_ok-keys.ensures.keys tells) in
+    let names : Names objects keys = subst (Names objects) (sym c.as_slice.ensures) (c.in_ok-keys.ensures.keys is_observable) in
     let none : FindsStray entries keys None = subst (FindsStray entries keys) c.in_default.is c.in_ok-flaw.ensures in
     let keeps = c.in_ok-keys.ensures.content in
     let same = objects_same (g.S.Store.content c.args.store.now) (g.S.Store.content c.keys.new.self) keeps in
-    let on = tells_on (g.S.Store.content c.args.store.now) (g.S.Store.content c.keys.new.self) keeps tells in
+    let on = tells_on (g.S.Store.content c.args.store.now) (g.S.Store.content c.keys.new.self) keeps is_observable in
     let found : FindsCopies objects c.entries.result.now c.in_ok-flaw-2.field-0 = subst (λ (o : Objects). FindsCopies o c.entries.result.now c.in_ok-flaw-2.field-0) same (c.in_ok-flaw-2.ensures.found on) in
     let first : IsFirstUnreadable objects entries c.in-Some-2.flaw = subst (λ (es : List Entry). IsFirstUnreadable objects es c.in-Some-2.flaw) c.entries.ensures.entries (subst (FindsCopies objects c.entries.result.now) c.in-Some-2.is found) in
     copy_is_first objects entries keys names none c.in-Some-2.flaw first

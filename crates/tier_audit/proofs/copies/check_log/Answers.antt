@@ -17,12 +17,12 @@ use Rattle.tier_audit.proofs.copies.check_log.Goals as goal
 
 pub returns-clause-found : goal.returns-clause-found
 returns-clause-found g c =
-    λ tells.
+    λ is_observable.
     let objects = (g.S.Store.content c.args.store.now).objects in
     let entry = c.args.entry.now in
     let spot = c.in-Some.spot in
     let rest = c.as_slice.result.now in
-    let bytes = c.in_ok-rest.ensures.bytes tells in
+    let bytes = c.in_ok-rest.ensures.bytes is_observable in
     let place : place_of entry Log ≡ Some spot = cc in
     let given : Some rest ≡ option_map (drop spot.at) (objects spot.key) = cc (bytes) in
     let reads : ReadsLogSpot entry (short_of spot (capped spot.len rest)) (capped spot.len rest) (log_part.Wrong c.in-Wrong.at) =

@@ -14,13 +14,13 @@ use Rattle.tier_audit.proofs.copies.check_part.Goals as goal
 
 pub returns-in-Some-3-clause-found : goal.returns-in-Some-3-clause-found
 returns-in-Some-3-clause-found g c =
-    λ tells log placed.
+    λ is_observable log placed.
     let objects = (g.S.Store.content c.args.store.now).objects in
     let entry = c.args.entry.now in
     let part = c.args.part in
     let spot = c.in-Some.spot in
     let rest = c.as_slice.result.now in
-    let bytes = c.in_ok-rest.ensures.bytes tells in
+    let bytes = c.in_ok-rest.ensures.bytes is_observable in
     let found : ReadsSpot entry log part (short_of spot (capped spot.len rest)) (capped spot.len rest) c.in_ok-at.field-0 = c.in_ok-at.ensures.reads log placed in
     let place : place_of entry part ≡ Some spot = cc in
     let given : Some rest ≡ option_map (drop spot.at) (objects spot.key) = cc (bytes) in

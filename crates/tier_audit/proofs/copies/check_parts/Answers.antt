@@ -11,32 +11,32 @@ use Rattle.tier_audit.proofs.copies.check_parts.Goals as goal
 
 pub returns-in-Some-clause-found : goal.returns-in-Some-clause-found
 returns-in-Some-clause-found g c =
-    λ tells p.
+    λ is_observable p.
     let objects = (g.S.Store.content c.args.store.now).objects in
-    let found : FindsPart objects c.args.entry.now p.batches Index c.in_ok-flaw.field-0 = c.in_ok-flaw.ensures.found tells p.batches p.found_are in
+    let found : FindsPart objects c.args.entry.now p.batches Index c.in_ok-flaw.field-0 = c.in_ok-flaw.ensures.found is_observable p.batches p.found_are in
     index_flaw objects c.args.entry.now p.batches p.log c.in-Some.flaw (subst (FindsPart objects c.args.entry.now p.batches Index) c.in-Some.is found)
 
 pub returns-in-Some-2-clause-found : goal.returns-in-Some-2-clause-found
 returns-in-Some-2-clause-found g c =
-    λ tells p.
+    λ is_observable p.
     let objects = (g.S.Store.content c.args.store.now).objects in
     let keeps = c.in_ok-flaw.ensures.asks.content in
-    let index : Stands objects c.args.entry.now p.batches Index = subst (FindsPart objects c.args.entry.now p.batches Index) c.in_default.is (c.in_ok-flaw.ensures.found tells p.batches p.found_are) in
+    let index : Stands objects c.args.entry.now p.batches Index = subst (FindsPart objects c.args.entry.now p.batches Index) c.in_default.is (c.in_ok-flaw.ensures.found is_observable p.batches p.found_are) in
     let same = objects_same (g.S.Store.content c.args.store.now) (g.S.Store.content c.check_part.new.store) keeps in
     let found : FindsPart objects c.args.entry.now p.batches TimeIndex c.in_ok-flaw-2.field-0 =
     subst (λ (o : Objects). FindsPart o c.args.entry.now p.batches TimeIndex c.in_ok-flaw-2.field-0) same
-    (c.in_ok-flaw-2.ensures.found (tells_on (g.S.Store.content c.args.store.now) (g.S.Store.content c.check_part.new.store) keeps tells) p.batches p.found_are) in
+    (c.in_ok-flaw-2.ensures.found (tells_on (g.S.Store.content c.args.store.now) (g.S.Store.content c.check_part.new.store) keeps is_observable) p.batches p.found_are) in
     times_flaw objects c.args.entry.now p.batches p.log index c.in-Some-2.flaw (subst (FindsPart objects c.args.entry.now p.batches TimeIndex) c.in-Some-2.is found)
 
 pub returns-clause-found : goal.returns-clause-found
 returns-clause-found g c =
-    λ tells p.
+    λ is_observable p.
     let objects = (g.S.Store.content c.args.store.now).objects in
     let keeps = c.in_ok-flaw.ensures.asks.content in
     let keeps' = c.in_ok-flaw-2.ensures.asks.content in
-    let index : Stands objects c.args.entry.now p.batches Index = subst (FindsPart objects c.args.entry.now p.batches Index) c.in_default.is (c.in_ok-flaw.ensures.found tells p.batches p.found_are) in
+    let index : Stands objects c.args.entry.now p.batches Index = subst (FindsPart objects c.args.entry.now p.batches Index) c.in_default.is (c.in_ok-flaw.ensures.found is_observable p.batches p.found_are) in
     let same = objects_same (g.S.Store.content c.args.store.now) (g.S.Store.content c.check_part.new.store) keeps in
-    let on = tells_on (g.S.Store.content c.args.store.now) (g.S.Store.content c.check_part.new.store) keeps tells in
+    let on = tells_on (g.S.Store.content c.args.store.now) (g.S.Store.content c.check_part.new.store) keeps is_observable in
     let times : Stands objects c.args.entry.now p.batches TimeIndex =
     subst (FindsPart objects c.args.entry.now p.batches TimeIndex) c.in_default-2.is
     (subst (λ (o : Objects). FindsPart o c.args.entry.now p.batches TimeIndex c.in_ok-flaw-2.field-0) same (c.in_ok-flaw-2.ensures.found on p.batches p.found_are)) in

@@ -9,5 +9,5 @@ abbrev pub invariant-loop-entry : goal.invariant-loop-entry
 invariant-loop-entry g l = record {
   reads : Reads Went (g.S.Store.control l.fn.store) (g.S.Store.control l.store);
   asks : Asks g.S.Store.content g.S.Store.control Went l.fn.store l.store;
-  readable : IsTrue (g.S.Store.content l.fn.store).tells → AreReadable (g.S.Store.content l.fn.store).objects (take l.entry-index l.entries);
+  readable : IsTrue (g.S.Store.content l.fn.store).is_observable → AreReadable (g.S.Store.content l.fn.store).objects (take l.entry-index l.entries);
 }

@@ -10,7 +10,7 @@ returns-in_default c = stopped_here c.args.entry.now c.args.bytes.now c.loop-fro
 
 pub loop-front-smaller : goal.loop-front-smaller
 loop-front-smaller c =
-    let n : ComesNext c.args.entry.now c.args.bytes.now c.loop-front.front (c.in-Some.batch, c.in-Some.begun) = c.in-Some.ensures.some in
+    let n : ComesNext c.args.entry.now c.args.bytes.now c.loop-front.front (c.in-Some.batch, c.in-Some.snapshot) = c.in-Some.ensures.some in
     let long = checked_long n.batch n.is in
     let to : c.gain.new.front.at ≡ c.in-Some.batch.to = c.in_ok-gain.ensures.at_is in
     let place = ap (λ (p : Placed). p.to) n.placed_is in
@@ -18,7 +18,7 @@ loop-front-smaller c =
 
 pub loop-front-preserved : goal.loop-front-preserved
 loop-front-preserved c =
-    front_more c.args.entry.now c.args.bytes.now c.loop-front.front c.gain.new.front (c.in-Some.batch, c.in-Some.begun) c.requires c.loop-front.invariant c.in-Some.ensures.some c.in_ok-gain.ensures
+    front_more c.args.entry.now c.args.bytes.now c.loop-front.front c.gain.new.front (c.in-Some.batch, c.in-Some.snapshot) c.requires c.loop-front.invariant c.in-Some.ensures.some c.in_ok-gain.ensures
 
 pub returns : goal.returns
 returns c = stopped_end c.args.entry.now c.args.bytes.now c.loop-front.front c.loop-front.invariant (omega (arith, c.loop-front-test.false))

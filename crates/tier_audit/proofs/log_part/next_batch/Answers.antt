@@ -8,7 +8,7 @@ use Rattle.segment_file.specs.Gathering.{Tells}
 use Rattle.segment_file.specs.declared.walking.Found.TheVariants as found
 use Rattle.segment_file.proofs.Finding.{batch_found}
 use Rattle.segment_file.proofs.Standing.{AreBytes, same_head, bytes_drop, front_bytes}
-use Rattle.segment_file.proofs.Telling.{tells}
+use Rattle.segment_file.proofs.Telling.{is_observable}
 use Rattle.tier_audit.specs.Logs.{BeginsMore}
 use Rattle.tier_audit.proofs.Fronts.{near_by, comes_next}
 use Rattle.tier_audit.proofs.log_part.next_batch.Goals as goal
@@ -30,7 +30,7 @@ returns-then-not-is_near-clause-none c =
     let same : head_of batch ≡ c.in-Batch.head = same_head (head_of batch) c.in-Batch.head (sym there ∙ (sym c.walk.ensures ∙ c.in-Batch.is)) in
     let clean : AreBytes bytes = λ i. let b = c.type_inv.bytes i in omega (arith, b) in
     let clean' : AreBytes batch = front_bytes batch more (subst AreBytes parts (bytes_drop at bytes clean)) in
-    let near = near_by c.args.entry.now c.args.front.now batch c.in-Batch.head (subst (Tells batch) same (tells batch clean' is)) may in
+    let near = near_by c.args.entry.now c.args.front.now batch c.in-Batch.head (subst (Tells batch) same (is_observable batch clean' is)) may in
     let sure : c.is_near.result ≡ true = c.is_near.ensures.1 near in
     cc (sure, c.if-not-is_near.true)
 
@@ -44,10 +44,10 @@ returns-clause-some c =
     let epoch : c.cast_unsigned-epoch.result ≡ cast_unsigned w32 head.leader_epoch = search rules in
     let own : c.has_epoch.result ≡ true = search rules in
     let has : epoch_at map c.args.front.now.end ≡ Some c.cast_unsigned-epoch.result = c.has_epoch.ensures.0 own in
-    let begun = subst (λ (xs : List (ℕ × ℕ)). BeginsMore xs c.args.front.now.begun c.cast_unsigned-epoch.result c.args.front.now.end c.begun_after-begun.result) c.entries.ensures.entries c.begun_after-begun.ensures in
-    comes_next c.args.entry.now bytes c.args.front.now head c.place.result c.begun_after-begun.result clean c.requires.front.inside (sym c.walk.ensures ∙ c.in-Batch.is)
+    let snapshot = subst (λ (xs : List (ℕ × ℕ)). BeginsMore xs c.args.front.now.snapshot c.cast_unsigned-epoch.result c.args.front.now.end c.begun_after-snapshot.result) c.entries.ensures.entries c.begun_after-snapshot.ensures in
+    comes_next c.args.entry.now bytes c.args.front.now head c.place.result c.begun_after-snapshot.result clean c.requires.front.inside (sym c.walk.ensures ∙ c.in-Batch.is)
     (c.is_near.ensures.0 yes) c.place.ensures (has ∙ ap (λ (n : ℕ). Some n) epoch)
-    (subst (λ (n : ℕ). BeginsMore map c.args.front.now.begun n c.args.front.now.end c.begun_after-begun.result) epoch begun)
+    (subst (λ (n : ℕ). BeginsMore map c.args.front.now.snapshot n c.args.front.now.end c.begun_after-snapshot.result) epoch snapshot)
 
 pub returns-then-not-has_epoch-clause-none : goal.returns-then-not-has_epoch-clause-none
 returns-then-not-has_epoch-clause-none c =
@@ -60,7 +60,7 @@ returns-then-not-has_epoch-clause-none c =
     let same : head_of batch ≡ head = same_head (head_of batch) head (sym there ∙ (sym c.walk.ensures ∙ c.in-Batch.is)) in
     let clean : AreBytes bytes = λ i. let b = c.type_inv.bytes i in omega (arith, b) in
     let clean' : AreBytes batch = front_bytes batch more (subst AreBytes parts (bytes_drop at bytes clean)) in
-    let t : Tells batch head = subst (Tells batch) same (tells batch clean' is) in
+    let t : Tells batch head = subst (Tells batch) same (is_observable batch clean' is) in
     let epoch : c.cast_unsigned-epoch.result ≡ cast_unsigned w32 head.leader_epoch = search rules in
     let told : epoch_of batch ≡ c.cast_unsigned-epoch.result = sym t.epoch ∙ sym epoch in
     let own : epoch_at map c.args.front.now.end ≡ Some c.cast_unsigned-epoch.result = ap (epoch_at map) (sym may.begins) ∙ may.epochs ∙ ap (λ (n : ℕ). Some n) told in

@@ -6,7 +6,7 @@ pub pieces-preserved : goal.pieces-preserved
 pieces-preserved g c = record {
   taken = Consumes-piece _ _ _ _ _ _ _ c.pieces.invariant.taken (c.read_at.ensures.front ∙ c.make_room.ensures.front)
       c.in-Ok-read_at.ensures.bytes.0;
-  tells = c.in-Ok-read_at.ensures.tells ∙ c.pieces.invariant.tells;
+  is_observable = c.in-Ok-read_at.ensures.is_observable ∙ c.pieces.invariant.is_observable;
   count = omega (arith, c.in-Ok-read_at.ensures.count, c.pieces.invariant.count);
   within = omega (arith, c.in-Ok-read_at.ensures.fits, c.read_at.ensures.len);
   bound = omega (arith, c.make_room.ensures.bound, c.read_at.ensures.len);

@@ -6,7 +6,7 @@ use Rattle.tier_base.proofs.reading.read_all.Given as goal
 abbrev pub invariant-pieces : goal.invariant-pieces
 invariant-pieces g l = record {
   taken : Consumes (g.R.Source.left l.fn.source) (g.R.Source.left l.source) (take l.read l.bytes.items);
-  tells : is_some (g.R.Source.left l.source) ≡ is_some (g.R.Source.left l.fn.source);
+  is_observable : is_some (g.R.Source.left l.source) ≡ is_some (g.R.Source.left l.fn.source);
   count : g.R.Source.given l.source ≡ counted (g.R.Source.given l.fn.source) l.read;
   within : l.read ≤ vec_len l.bytes;
   bound : vec_len l.bytes ≤ l.limit + 1;

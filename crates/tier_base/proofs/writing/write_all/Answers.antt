@@ -11,6 +11,6 @@ pub loop-done-preserved : goal.loop-done-preserved
 loop-done-preserved g c = record {
   within = omega (arith, c.in-Ok.ensures.bound);
   written = Appends-piece _ _ _ _ _ _ c.loop-done.invariant.written (rw take_rest at c.in-Ok.ensures.bytes);
-  tells = c.in-Ok.ensures.tells ∙ c.loop-done.invariant.tells;
+  is_observable = c.in-Ok.ensures.is_observable ∙ c.loop-done.invariant.is_observable;
   later = omega (arith, c.in-Ok.ensures.cause.later);
 }

@@ -6,7 +6,7 @@ abbrev pub invariant-loop-done : goal.invariant-loop-done
 invariant-loop-done g l = record {
   within : l.done ≤ length l.piece;
   written : Appends (g.W.Sink.written l.fn.sink) (g.W.Sink.written l.sink) (take l.done l.piece);
-  tells : is_some (g.W.Sink.written l.sink) ≡ is_some (g.W.Sink.written l.fn.sink);
+  is_observable : is_some (g.W.Sink.written l.sink) ≡ is_some (g.W.Sink.written l.fn.sink);
   later : g.W.Sink.faults l.fn.sink ≤ g.W.Sink.faults l.sink;
 }
 

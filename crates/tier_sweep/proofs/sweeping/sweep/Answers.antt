@@ -34,6 +34,6 @@ returns-clause-left g c = λ st mt.
     let n = g.S.Store.content c.take_all.new.store in
     let old = g.M.MetaLog.content c.args.meta.now in
     let new = g.M.MetaLog.content c.tell_ends.new.meta in
-    let swept : IsTrue s.tells → IsTrue old.tells → IsSwept (tier_of s old) (tier_of n new) c.in_ok-swept.swept = search rules in
-    let only : IsTrue old.tells → LeavesTold new = search rules in
+    let swept : IsTrue s.is_observable → IsTrue old.is_observable → IsSwept (tier_of s old) (tier_of n new) c.in_ok-swept.swept = search rules in
+    let only : IsTrue old.is_observable → LeavesTold new = search rules in
     whole_under s n old new c.in_ok-swept.swept (swept st mt) (only mt)

@@ -13,7 +13,7 @@ pub returns-in_err-take-clause-objects : goal.returns-in_err-take-clause-objects
 returns-in_err-take-clause-objects g c =
     let goes : stays c.args.view.now.entries c.key-item.result.id ≡ false = cc in
     λ told. takes_some _ _ _ c.key-item.result c.take.result c.from_residual.result _ _ _ goes
-    (c.loop-key.invariant.objects told) (c.take.ensures.objects (c.loop-key.invariant.tells ∙ told)) c.from_residual.ensures.0
+    (c.loop-key.invariant.objects told) (c.take.ensures.objects (c.loop-key.invariant.is_observable ∙ told)) c.from_residual.ensures.0
 
 pub returns-in_err-take-clause-deletes : goal.returns-in_err-take-clause-deletes
 returns-in_err-take-clause-deletes g c =
@@ -31,7 +31,7 @@ overflow_add-swept g c =
 
 pub loop-key-init : goal.loop-key-init
 loop-key-init g c = record {
-  tells = refl;
+  is_observable = refl;
   objects = λ told. takes_none c.args.view.now.entries (g.S.Store.content c.args.store.now).objects;
   count = refl;
   calls = lasts_same (g.S.Store.control c.args.store.now);
@@ -53,8 +53,8 @@ loop-key-preserved g c =
           (let goes : stays entries key.id ≡ false = cc in
           let went : is_ok w.take.result ≡ true = ap is_ok w.in_ok-take.was in
           rw (w.store-is, w.swept-is) (record {
-            tells = w.take.ensures.tells ∙ so_far.tells;
-            objects = λ told. takes_next entries keys i key w.take.result _ _ _ low c.key-item.is goes (so_far.objects told) (w.take.ensures.objects (so_far.tells ∙ told)) went;
+            is_observable = w.take.ensures.is_observable ∙ so_far.is_observable;
+            objects = λ told. takes_next entries keys i key w.take.result _ _ _ low c.key-item.is goes (so_far.objects told) (w.take.ensures.objects (so_far.is_observable ∙ told)) went;
             count = omega (arith, so_far.count, counts_next entries keys i key low c.key-item.is goes);
             calls = lasts_then _ _ _ so_far.calls w.take.ensures.calls.lasts;
             went = went_then _ _ _ so_far.went (w.take.ensures.calls.went went);
@@ -64,7 +64,7 @@ loop-key-preserved g c =
       | else-not-stays w ↦
           (let remains : stays entries key.id ≡ true = cc in
           rw (w.store-is, w.swept-is) (record {
-            tells = so_far.tells;
+            is_observable = so_far.is_observable;
             objects = λ told. takes_over entries keys i key _ _ low c.key-item.is remains (so_far.objects told);
             count = so_far.count ∙ counts_over entries keys i key low c.key-item.is remains;
             calls = so_far.calls;

@@ -9,8 +9,8 @@ abbrev pub invariant-loop-key : goal.invariant-loop-key
 invariant-loop-key g l =
     let content = g.S.Store.content in
     record {
-      tells : (content l.store).tells ≡ (content l.fn.store).tells;
-      objects : IsTrue (content l.fn.store).tells
+      is_observable : (content l.store).is_observable ≡ (content l.fn.store).is_observable;
+      objects : IsTrue (content l.fn.store).is_observable
           → TakesAll l.view.entries (take l.key-index l.keys) (content l.fn.store).objects (content l.store).objects;
       count : l.swept ≡ count_swept l.view.entries (take l.key-index l.keys);
       calls : Lasts (g.S.Store.control l.fn.store) (g.S.Store.control l.store);

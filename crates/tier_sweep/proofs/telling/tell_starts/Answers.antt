@@ -15,7 +15,7 @@ returns-in_err-tell-clause-notes g c =
     let low : i < length c.args.entries.now = omega arith in
     λ told. tells_err _ _ _ c.from_residual.result c.from_residual.ensures.0
     (tells_some is_copying DeleteStarted c.args.entries.now i c.entry-item.result _ _ _ low c.entry-item.is (sym c.is_copying.ensures ∙ c.if-is_copying.true)
-    (c.loop-entry.invariant.notes told) (c.in_err-tell.ensures.notes (c.loop-entry.invariant.tells ∙ told)))
+    (c.loop-entry.invariant.notes told) (c.in_err-tell.ensures.notes (c.loop-entry.invariant.is_observable ∙ told)))
 
 pub returns-in_err-tell-clause-left : goal.returns-in_err-tell-clause-left
 returns-in_err-tell-clause-left g c =
@@ -23,11 +23,11 @@ returns-in_err-tell-clause-left g c =
     let low : i < length c.args.entries.now = omega arith in
     λ told only l left. tells_err _ _ _ c.from_residual.result c.from_residual.ensures.0
     (tells_some is_copying DeleteStarted c.args.entries.now i c.entry-item.result _ _ _ low c.entry-item.is (sym c.is_copying.ensures ∙ c.if-is_copying.true)
-    (c.loop-entry.invariant.notes told) (c.in_err-tell.ensures.left (c.loop-entry.invariant.tells ∙ told) (c.loop-entry.invariant.left told only) l left))
+    (c.loop-entry.invariant.notes told) (c.in_err-tell.ensures.left (c.loop-entry.invariant.is_observable ∙ told) (c.loop-entry.invariant.left told only) l left))
 
 pub loop-entry-init : goal.loop-entry-init
 loop-entry-init g c = record {
-  tells = refl;
+  is_observable = refl;
   notes = λ told. sym (append-nil (g.M.MetaLog.content c.args.meta.now).notes);
   left = λ told only. only;
   calls = lasts_same (g.M.MetaLog.control c.args.meta.now);
@@ -47,9 +47,9 @@ loop-entry-preserved g c =
           (let passes : is_copying entry.state ≡ true = cc in
           let went : is_ok w.tell.result ≡ true = ap is_ok w.in_ok-tell.was in
           rw w.meta-is (record {
-            tells = w.tell.ensures.tells ∙ so_far.tells;
-            notes = λ told. tells_next is_copying DeleteStarted entries i entry _ _ _ low c.entry-item.is passes (so_far.notes told) (w.in_ok-tell.ensures.notes (so_far.tells ∙ told));
-            left = λ told only. (let t = so_far.tells ∙ told in told_alone (g.M.MetaLog.content w.tell.new.meta) ((g.M.MetaLog.content c.loop-entry.meta).notes ++ note_of DeleteStarted entry ∷ []) (w.in_ok-tell.ensures.notes t) (w.in_ok-tell.ensures.left t (so_far.left told only)));
+            is_observable = w.tell.ensures.is_observable ∙ so_far.is_observable;
+            notes = λ told. tells_next is_copying DeleteStarted entries i entry _ _ _ low c.entry-item.is passes (so_far.notes told) (w.in_ok-tell.ensures.notes (so_far.is_observable ∙ told));
+            left = λ told only. (let t = so_far.is_observable ∙ told in told_alone (g.M.MetaLog.content w.tell.new.meta) ((g.M.MetaLog.content c.loop-entry.meta).notes ++ note_of DeleteStarted entry ∷ []) (w.in_ok-tell.ensures.notes t) (w.in_ok-tell.ensures.left t (so_far.left told only)));
             calls = lasts_then _ _ _ so_far.calls w.tell.ensures.calls.lasts;
             went = went_then _ _ _ so_far.went (w.tell.ensures.calls.went went);
             quiet = w.in_ok-tell.ensures.calls.quiet ∙ so_far.quiet;
@@ -57,7 +57,7 @@ loop-entry-preserved g c =
       | else-is_copying w ↦
           (let fails : is_copying entry.state ≡ false = cc in
           rw w.meta-is (record {
-            tells = so_far.tells;
+            is_observable = so_far.is_observable;
             notes = λ told. so_far.notes told ∙ ap (λ ns. (g.M.MetaLog.content c.args.meta.now).notes ++ ns) (passed_over is_copying DeleteStarted entries i entry low c.entry-item.is fails);
             left = so_far.left;
             calls = so_far.calls;

@@ -10,10 +10,10 @@ abbrev pub invariant-loop-entry : goal.invariant-loop-entry
 invariant-loop-entry g l =
     let content = g.M.MetaLog.content in
     record {
-      tells : (content l.meta).tells ≡ (content l.fn.meta).tells;
-      notes : IsTrue (content l.fn.meta).tells
+      is_observable : (content l.meta).is_observable ≡ (content l.fn.meta).is_observable;
+      notes : IsTrue (content l.fn.meta).is_observable
           → (content l.meta).notes ≡ (content l.fn.meta).notes ++ starts_of (take l.entry-index l.entries);
-      left : IsTrue (content l.fn.meta).tells → LeavesTold (content l.fn.meta) → LeavesTold (content l.meta);
+      left : IsTrue (content l.fn.meta).is_observable → LeavesTold (content l.fn.meta) → LeavesTold (content l.meta);
       calls : Lasts (g.M.MetaLog.control l.fn.meta) (g.M.MetaLog.control l.meta);
       went : AllWent (g.M.MetaLog.control l.fn.meta) (g.M.MetaLog.control l.meta);
       quiet : (g.M.MetaLog.control l.meta).faults ≡ (g.M.MetaLog.control l.fn.meta).faults;

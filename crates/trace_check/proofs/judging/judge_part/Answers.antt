@@ -1,5 +1,5 @@
 use Rattle.std.proofs.Common.{◌≡◌, ◌∙◌, refl, sym, subst, length, arith, map}
-use Rattle.plain_machine.specs.Fits.{AreFor}
+use Rattle.plain_executor.specs.Fits.{AreFor}
 use Rattle.trace_text.specs.Read.{told}
 use Rattle.trace_check.specs.Whole.{journal_of}
 use Rattle.trace_check.proofs.Partitions.{fits, unfinished, finished}

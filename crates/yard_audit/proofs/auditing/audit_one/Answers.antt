@@ -18,11 +18,11 @@ returns-in-Ok-clause-rest g c = λ t.
     let told = c.in_ok-tools.ensures in
     handed_back g.Y.D.Disk.content g.Y.S.Store.content g.Y.M.MetaLog.content (g.Y.Yard.held c.args.yard.now) (g.Y.Yard.held c.hand_out.new.yard) (g.Y.Yard.held c.give_back.new.yard) c.args.partition
     c.in_ok-tools.tools.store c.audit-verdict.new.store c.in_ok-tools.tools.meta c.audit-verdict.new.meta (told.objects t) (told.notes t)
-    c.audit-verdict.ensures.store_kept c.audit-verdict.ensures.meta_kept (told.out t) (c.give_back.ensures.held (told.tells ∙ t))
+    c.audit-verdict.ensures.store_kept c.audit-verdict.ensures.meta_kept (told.out t) (c.give_back.ensures.held (told.is_observable ∙ t))
 
 pub returns-in-Err-clause-rest : goal.returns-in-Err-clause-rest
 returns-in-Err-clause-rest g c = λ t.
     let told = c.in_ok-tools.ensures in
     handed_back g.Y.D.Disk.content g.Y.S.Store.content g.Y.M.MetaLog.content (g.Y.Yard.held c.args.yard.now) (g.Y.Yard.held c.hand_out.new.yard) (g.Y.Yard.held c.give_back.new.yard) c.args.partition
     c.in_ok-tools.tools.store c.audit-verdict.new.store c.in_ok-tools.tools.meta c.audit-verdict.new.meta (told.objects t) (told.notes t)
-    c.audit-verdict.ensures.store_kept c.audit-verdict.ensures.meta_kept (told.out t) (c.give_back.ensures.held (told.tells ∙ t))
+    c.audit-verdict.ensures.store_kept c.audit-verdict.ensures.meta_kept (told.out t) (c.give_back.ensures.held (told.is_observable ∙ t))

@@ -17,12 +17,12 @@ pub returns-in-Ok-clause-left : goal.returns-in-Ok-clause-left
 returns-in-Ok-clause-left g c = λ t.
     let told = c.in_ok-tools.ensures in
     swept_left g.Y.D.Disk.content g.Y.S.Store.content g.Y.M.MetaLog.content (g.Y.Yard.held c.args.yard.now) (g.Y.Yard.held c.hand_out.new.yard) (g.Y.Yard.held c.give_back.new.yard) c.args.partition
-    c.in_ok-tools.tools.store c.sweep-swept.new.store c.in_ok-tools.tools.meta c.sweep-swept.new.meta (told.objects t) (told.notes t) (c.give_back.ensures.held (told.tells ∙ t))
+    c.in_ok-tools.tools.store c.sweep-swept.new.store c.in_ok-tools.tools.meta c.sweep-swept.new.meta (told.objects t) (told.notes t) (c.give_back.ensures.held (told.is_observable ∙ t))
     (c.sweep-swept.ensures.left (told.objects_told ∙ t) (told.notes_told ∙ t))
 
 pub returns-in-Err-clause-left : goal.returns-in-Err-clause-left
 returns-in-Err-clause-left g c = λ t.
     let told = c.in_ok-tools.ensures in
     swept_left g.Y.D.Disk.content g.Y.S.Store.content g.Y.M.MetaLog.content (g.Y.Yard.held c.args.yard.now) (g.Y.Yard.held c.hand_out.new.yard) (g.Y.Yard.held c.give_back.new.yard) c.args.partition
-    c.in_ok-tools.tools.store c.sweep-swept.new.store c.in_ok-tools.tools.meta c.sweep-swept.new.meta (told.objects t) (told.notes t) (c.give_back.ensures.held (told.tells ∙ t))
+    c.in_ok-tools.tools.store c.sweep-swept.new.store c.in_ok-tools.tools.meta c.sweep-swept.new.meta (told.objects t) (told.notes t) (c.give_back.ensures.held (told.is_observable ∙ t))
     (c.sweep-swept.ensures.left (told.objects_told ∙ t) (told.notes_told ∙ t))

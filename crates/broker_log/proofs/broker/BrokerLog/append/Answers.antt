@@ -53,4 +53,4 @@ returns-clause-fault g c =
     let now_is : c.args.self.now ≡ Up o = sym c.self.view_is ∙ c.taken-log.ensures in
     λ fault.
     rw (now_is, c.placed.ensures.down (c.is_append_fault.ensures.1 fault), c.settings-settings.ensures.are)
-    (breaks_unsaved content o n (g.met.D.Disk.lawful n.disk) (c.placed.ensures.again (c.is_append_fault.ensures.1 fault)) (c.append-outcome.ensures.broken fault).tells c.append-outcome.ensures.opens)
+    (breaks_unsaved content o n (g.met.D.Disk.lawful n.disk) (c.placed.ensures.again (c.is_append_fault.ensures.1 fault)) (c.append-outcome.ensures.broken fault).is_observable c.append-outcome.ensures.opens)

@@ -57,4 +57,4 @@ returns-clause-fault g c =
     λ failed.
     let fault = ended_fault r c.ended.result c.end-now.result c.ended.ensures.ok c.ended.ensures.err failed in
     rw (now_is, c.placed.ensures.down (c.is_fault.ensures.1 fault), c.settings-settings.ensures.are)
-    (cut_breaks content o c.args.end (c.coheres.ensures well) n c.cut_to-outcome.ensures.tells (g.met.D.Disk.lawful n.disk) (c.placed.ensures.again (c.is_fault.ensures.1 fault)) c.cut_to-outcome.ensures.opens (cut_same o c.args.end).1 (between_by (content o.disk) (content n.disk) c.cut_to-outcome.ensures.either))
+    (cut_breaks content o c.args.end (c.coheres.ensures well) n c.cut_to-outcome.ensures.is_observable (g.met.D.Disk.lawful n.disk) (c.placed.ensures.again (c.is_fault.ensures.1 fault)) c.cut_to-outcome.ensures.opens (cut_same o c.args.end).1 (between_by (content o.disk) (content n.disk) c.cut_to-outcome.ensures.either))

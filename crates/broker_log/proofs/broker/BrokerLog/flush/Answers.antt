@@ -15,7 +15,7 @@ returns-clause-fault g c =
     let now_is : c.args.self.now ≡ Up o = sym c.self.view_is ∙ c.taken-log.ensures in
     λ fault.
     rw (now_is, c.placed.ensures.down (c.is_fault.ensures.1 fault), c.settings-settings.ensures.are)
-    (breaks_settling content o n (g.met.D.Disk.lawful n.disk) (c.placed.ensures.again (c.is_fault.ensures.1 fault)) (λ line k. line) (λ t. (c.coheres.ensures well t).line_within) (c.flush-outcome.ensures.broken fault).tells c.flush-outcome.ensures.opens (between_by (content o.disk) (content n.disk) c.flush-outcome.ensures.either))
+    (breaks_settling content o n (g.met.D.Disk.lawful n.disk) (c.placed.ensures.again (c.is_fault.ensures.1 fault)) (λ line k. line) (λ t. (c.coheres.ensures well t).line_within) (c.flush-outcome.ensures.broken fault).is_observable c.flush-outcome.ensures.opens (between_by (content o.disk) (content n.disk) c.flush-outcome.ensures.either))
 
 pub returns-clause-ok : goal.returns-clause-ok
 returns-clause-ok g c =

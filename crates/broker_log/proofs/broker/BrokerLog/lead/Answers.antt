@@ -29,7 +29,7 @@ returns-clause-fault g c =
     let now_is : c.args.self.now ≡ Up o = sym c.self.view_is ∙ c.taken-log.ensures in
     λ fault.
     rw (now_is, c.placed.ensures.down (c.is_fault.ensures.1 fault), c.settings-settings.ensures.are)
-    (breaks_settling content o n (g.met.D.Disk.lawful n.disk) (c.placed.ensures.again (c.is_fault.ensures.1 fault)) (λ line k. assign line c.args.epoch k) (λ t. assigned_within o.line c.args.epoch o.end) (c.lead-outcome.ensures.broken fault).tells c.lead-outcome.ensures.opens (between_by (content o.disk) (content n.disk) c.lead-outcome.ensures.either))
+    (breaks_settling content o n (g.met.D.Disk.lawful n.disk) (c.placed.ensures.again (c.is_fault.ensures.1 fault)) (λ line k. assign line c.args.epoch k) (λ t. assigned_within o.line c.args.epoch o.end) (c.lead-outcome.ensures.broken fault).is_observable c.lead-outcome.ensures.opens (between_by (content o.disk) (content n.disk) c.lead-outcome.ensures.either))
 
 pub returns-clause-no_memory : goal.returns-clause-no_memory
 returns-clause-no_memory g c =

@@ -41,4 +41,4 @@ returns-clause-fault g c =
     let now_is : c.args.self.now ≡ Up o = sym c.self.view_is ∙ c.taken-log.ensures in
     λ fault.
     rw (now_is, c.placed.ensures.down (c.is_fault.ensures.1 fault), c.settings-settings.ensures.are)
-    (restart_breaks content o c.args.start c.args.line n c.restart_at-outcome.ensures.tells (g.met.D.Disk.lawful n.disk) (c.placed.ensures.again (c.is_fault.ensures.1 fault)) c.restart_at-outcome.ensures.opens (between_by (content o.disk) (content n.disk) c.restart_at-outcome.ensures.either))
+    (restart_breaks content o c.args.start c.args.line n c.restart_at-outcome.ensures.is_observable (g.met.D.Disk.lawful n.disk) (c.placed.ensures.again (c.is_fault.ensures.1 fault)) c.restart_at-outcome.ensures.opens (between_by (content o.disk) (content n.disk) c.restart_at-outcome.ensures.either))

@@ -39,7 +39,7 @@ returns-clause-fault g c =
     let now_is : c.args.self.now ≡ Up o = sym c.self.view_is ∙ c.taken-log.ensures in
     λ fault.
     rw (now_is, c.placed.ensures.down (c.is_roll_fault.ensures.1 fault), c.settings-settings.ensures.are)
-    (breaks_unsaved content o n (g.met.D.Disk.lawful n.disk) (c.placed.ensures.again (c.is_roll_fault.ensures.1 fault)) (c.roll-outcome.ensures.broken fault).tells c.roll-outcome.ensures.opens)
+    (breaks_unsaved content o n (g.met.D.Disk.lawful n.disk) (c.placed.ensures.again (c.is_roll_fault.ensures.1 fault)) (c.roll-outcome.ensures.broken fault).is_observable c.roll-outcome.ensures.opens)
 
 pub returns-clause-may : goal.returns-clause-may
 returns-clause-may g c =

@@ -17,12 +17,12 @@ returns-in-Ok-clause-ok g c =
     let now_is : c.args.self.now ≡ Down settings disk = sym c.self.view_is ∙ c.taken_disk-disk.ensures in
     record {
       end_is = ap Some (sym c.end-end.ensures);
-      stable_is = ap Some (e.log.stable ∙ sym c.end-end.ensures);
+      flushed_end_is = ap Some (e.log.flushed_end ∙ sym c.end-end.ensures);
       settings = rw now_is (ap Some e.log.settings_are);
       intervals = intervals_of settings log e.log;
       layout = rw now_is (λ t. e.segments t);
-      read = rw now_is (read_by content settings disk (g.met.D.Disk.lawful disk) log e.tells e.log.stable e.log.broken e.opened (c.coheres.ensures e.log.broken) e.durable);
-      seen = rw (now_is, c.end-end.ensures) (opens_by content settings disk (g.met.D.Disk.lawful disk) log e.tells e.log.stable e.log.broken e.opened (c.coheres.ensures e.log.broken) e.durable);
+      read = rw now_is (read_by content settings disk (g.met.D.Disk.lawful disk) log e.is_observable e.log.flushed_end e.log.broken e.opened (c.coheres.ensures e.log.broken) e.durable);
+      seen = rw (now_is, c.end-end.ensures) (opens_by content settings disk (g.met.D.Disk.lawful disk) log e.is_observable e.log.flushed_end e.log.broken e.opened (c.coheres.ensures e.log.broken) e.durable);
       between = rw now_is (between_opening (content disk) (content log.disk) (g.met.D.Disk.lawful disk) e.any_moment);
     }
 
@@ -55,6 +55,6 @@ returns-in-Err-clause-last g c is =
     let why_is : c.in-Err.refusal ≡ LastIncarnation = cc is in
     rw now_is (record {
       stays = stays_by_closing content settings disk (g.met.D.Disk.lawful disk) c.in-Err.disk (g.met.D.Disk.lawful c.in-Err.disk) e.tells_err e.any_moment_err e.again;
-      cause = subst (λ (why : OpenRefusal). OpenFails (g.D.Disk.control c.in-Err.disk).handed why) why_is e.err;
+      cause = subst (λ (why : OpenRefusal). OpenFails (g.D.Disk.control c.in-Err.disk).last_read why) why_is e.err;
       holds = e.last why_is;
     })

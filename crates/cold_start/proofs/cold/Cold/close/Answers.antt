@@ -1,7 +1,7 @@
 use Rattle.std.proofs.Common.{◌≡◌, false, subst}
 use Rattle.std.specs.Prelude.{IsTrue}
 use Rattle.plain_log.specs.declared.state.State.{State}
-use Rattle.partition_turns.specs.Cold.{DisksReopen}
+use Rattle.partition_commands.specs.Cold.{DisksReopen}
 use Rattle.partition_world.specs.Left.{IsCentralLeft}
 use Rattle.cold_state.specs.Cold.{cold_of}
 use Rattle.cold_start.specs.ColdWorld.{plain_in}
@@ -12,7 +12,7 @@ use Rattle.cold_start.proofs.cold.Cold.close.Goals as goal
 
 pub returns-clause-cold : goal.returns-clause-cold
 returns-clause-cold g c =
-    let P : Running g.row.D.Denot g.row.S.Denot g.row.M.Denot → Type 0 = λ t. t.ended ≡ false → IsTrue (g.D.Disk.content t.reg).tells → (opening : State) (k : IsCentralLeft g.D.Disk g.S.Store g.M.MetaLog opening t.world)
+    let P : Running g.row.D.Denot g.row.S.Denot g.row.M.Denot → Type 0 = λ t. t.ended ≡ false → IsTrue (g.D.Disk.content t.reg).is_observable → (opening : State) (k : IsCentralLeft g.D.Disk g.S.Store g.M.MetaLog opening t.world)
     → StandsFor g.D.Disk g.S.Store g.M.MetaLog t.world.partition c.close.result.disks.items c.close.result.store c.close.result.meta c.self.inside.reg (cold_of (plain_in g.D.Disk g.S.Store g.M.MetaLog opening t.world k)) in
     subst P c.self.view_is
     (λ going told opening k.

@@ -8,7 +8,7 @@ use Rattle.cold_start.specs.Stands.{StandsFor}
 use Rattle.cold_start.proofs.Causes.{back_last}
 use Rattle.cold_start.proofs.Clearing.{last_same}
 use Rattle.cold_start.proofs.Leaving.{left_cold}
-use Rattle.cold_start.proofs.Opened.{view_is, registry_is, replaced_has, still_stands, cold_noted}
+use Rattle.cold_start.proofs.Opened.{view_is, registry_is, replaced_has, still_stands, cold_recorded}
 use Rattle.cold_start.proofs.cold.Cold.go_on.Goals as goal
 
 pub returns-in-Err-clause-back : goal.returns-in-Err-clause-back
@@ -27,9 +27,9 @@ returns-in_default-clause-stand g c = λ p h.
 pub returns-in-Err-keep_registry-clause-stand : goal.returns-in-Err-keep_registry-clause-stand
 returns-in-Err-keep_registry-clause-stand g c = λ p h.
     let rep = c.keep_registry.ensures.content in
-    let is = view_is (g.D.Disk.content c.args.reg).files (g.D.Disk.control c.args.reg).handed c.args.view p.registry h.file (c.requires.there h.file_tells) c.requires.read in
+    let is = view_is (g.D.Disk.content c.args.reg).files (g.D.Disk.control c.args.reg).last_read c.args.view p.registry h.file (c.requires.there h.file_tells) c.requires.read in
     let file = replaced_has c.file_laws.ensures (g.D.Disk.content c.args.reg) (g.D.Disk.content c.keep_registry.new.disk) c.args.view p.registry c.in-Ok-of.registry c.requires.rules is c.in-Ok-of.ensures.is h.file_tells rep h.file in
-    still_stands g.D.Disk g.S.Store g.M.MetaLog c.args.partition c.args.devices.disks.items c.args.devices.store c.args.devices.meta c.settle_notes.new.meta c.args.reg c.keep_registry.new.disk p h c.settle_notes.ensures.content (subst IsTrue (sym rep.tells) h.file_tells) file
+    still_stands g.D.Disk g.S.Store g.M.MetaLog c.args.partition c.args.devices.disks.items c.args.devices.store c.args.devices.meta c.settle_notes.new.meta c.args.reg c.keep_registry.new.disk p h c.settle_notes.ensures.content (subst IsTrue (sym rep.is_observable) h.file_tells) file
 
 pub invariant_of-result : goal.invariant_of-result
 invariant_of-result g c =
@@ -56,17 +56,17 @@ returns-in-Ok-reopen-clause-cold g c = λ told opening.
 
 pub returns-in-Ok-reopen-clause-central : goal.returns-in-Ok-reopen-clause-central
 returns-in-Ok-reopen-clause-central g c = λ p h.
-    let is = view_is (g.D.Disk.content c.args.reg).files (g.D.Disk.control c.args.reg).handed c.args.view p.registry h.file (c.requires.there h.file_tells) c.requires.read in
+    let is = view_is (g.D.Disk.content c.args.reg).files (g.D.Disk.control c.args.reg).last_read c.args.view p.registry h.file (c.requires.there h.file_tells) c.requires.read in
     c.in-Ok-reopen.ensures.central p
-    (cold_noted g.D.Disk g.S.Store g.M.MetaLog c.args.partition c.args.devices.disks.items c.args.devices.store c.args.devices.meta c.settle_notes.new.meta c.args.reg p c.in-Ok-of.registry h c.settle_notes.ensures.content c.in-Ok.ensures.settled c.in-Ok.ensures.few
+    (cold_recorded g.D.Disk g.S.Store g.M.MetaLog c.args.partition c.args.devices.disks.items c.args.devices.store c.args.devices.meta c.settle_notes.new.meta c.args.reg p c.in-Ok-of.registry h c.settle_notes.ensures.content c.in-Ok.ensures.settled c.in-Ok.ensures.few
     (c.in-Ok-of.ensures.is ∙ registry_is c.file_laws.ensures c.args.view p.registry is))
 
 pub returns-in-Err-reopen-clause-stand : goal.returns-in-Err-reopen-clause-stand
 returns-in-Err-reopen-clause-stand g c = λ p h.
     let rep = c.keep_registry.ensures.content in
-    let is = view_is (g.D.Disk.content c.args.reg).files (g.D.Disk.control c.args.reg).handed c.args.view p.registry h.file (c.requires.there h.file_tells) c.requires.read in
+    let is = view_is (g.D.Disk.content c.args.reg).files (g.D.Disk.control c.args.reg).last_read c.args.view p.registry h.file (c.requires.there h.file_tells) c.requires.read in
     let file = replaced_has c.file_laws.ensures (g.D.Disk.content c.args.reg) (g.D.Disk.content c.keep_registry.new.disk) c.args.view p.registry c.in-Ok-of.registry c.requires.rules is c.in-Ok-of.ensures.is h.file_tells rep h.file in
-    let base = still_stands g.D.Disk g.S.Store g.M.MetaLog c.args.partition c.args.devices.disks.items c.args.devices.store c.args.devices.meta c.settle_notes.new.meta c.args.reg c.keep_registry.new.disk p h c.settle_notes.ensures.content (subst IsTrue (sym rep.tells) h.file_tells) file in
+    let base = still_stands g.D.Disk g.S.Store g.M.MetaLog c.args.partition c.args.devices.disks.items c.args.devices.store c.args.devices.meta c.settle_notes.new.meta c.args.reg c.keep_registry.new.disk p h c.settle_notes.ensures.content (subst IsTrue (sym rep.is_observable) h.file_tells) file in
     let d = c.in-Err-reopen.devices in
     subst (λ (x : List g.row.D.Denot). StandsFor g.D.Disk g.S.Store g.M.MetaLog c.args.partition x d.store d.meta c.keep_registry.new.disk p) (sym c.in-Err-reopen.ensures.disks)
     (subst (λ (x : g.row.S.Denot). StandsFor g.D.Disk g.S.Store g.M.MetaLog c.args.partition c.args.devices.disks.items x d.meta c.keep_registry.new.disk p) (sym c.in-Err-reopen.ensures.store)
@@ -74,13 +74,13 @@ returns-in-Err-reopen-clause-stand g c = λ p h.
 
 pub returns-in-Ok-reopen-clause-opened : goal.returns-in-Ok-reopen-clause-opened
 returns-in-Ok-reopen-clause-opened g c =
-    let handed = c.in-Ok-keep_registry.ensures.handed in
+    let last_read = c.in-Ok-keep_registry.ensures.last_read in
     record {
       view = c.args.view;
-      read = ap view_in handed ∙ c.requires.read;
-      there = λ told. c.requires.there told ∙ ap Some (sym handed);
+      read = ap view_in last_read ∙ c.requires.read;
+      there = λ told. c.requires.there told ∙ ap Some (sym last_read);
       count = grind (arith, c.if-view-config.false);
-      noted = c.settle_notes.new.meta;
+      recorded = c.settle_notes.new.meta;
       notes = c.in-Ok.ensures.content;
       notes_last = c.in-Ok.ensures.control;
       reopened = subst (λ (r : Registry). IsReopened g.D.Disk g.S.Store g.M.MetaLog c.args.partition c.args.config c.args.lists r c.args.devices.disks.items c.args.devices.store c.settle_notes.new.meta c.in-Ok-reopen.world) c.in-Ok-of.ensures.is c.in-Ok-reopen.ensures.reopened;

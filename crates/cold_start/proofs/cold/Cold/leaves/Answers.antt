@@ -19,6 +19,6 @@ returns-clause-unarmed g c =
 
 pub returns-clause-cold : goal.returns-clause-cold
 returns-clause-cold g c =
-    let P : Running g.row.D.Denot g.row.S.Denot g.row.M.Denot → Type 0 = λ t. t.ended ≡ false → IsTrue (g.D.Disk.content t.reg).tells → (opening : State) → LeavesCold g.D.Disk g.S.Store g.M.MetaLog opening t.world t.reg in
+    let P : Running g.row.D.Denot g.row.S.Denot g.row.M.Denot → Type 0 = λ t. t.ended ≡ false → IsTrue (g.D.Disk.content t.reg).is_observable → (opening : State) → LeavesCold g.D.Disk g.S.Store g.M.MetaLog opening t.world t.reg in
     subst P c.self.view_is
     (λ going told opening. left_cold c.file_laws.ensures g.D.Disk g.S.Store g.M.MetaLog g.met.D.Disk.lawful opening c.self.inside.world c.self.inside.reg told (c.self.invariant.file going) c.self.invariant.some c.self.invariant.few)

@@ -17,11 +17,11 @@ pub returns-in-Ok-Some-clause-cause : goal.returns-in-Ok-Some-clause-cause
 returns-in-Ok-Some-clause-cause g c =
     if_err_map c.go_on.result _ _ (λ e k. cause_read g.D.Disk g.M.MetaLog c.args.config c.args.devices.disks.items c.args.devices.meta c.args.reg c.find_registry.new.disk e.0.disks.items e.0.meta e.1 e.2 c.find_registry.ensures.content c.find_registry.ensures.control k) c.go_on.ensures.cause
 
-pub returns-in-Ok-None-clause-tells : goal.returns-in-Ok-None-clause-tells
-returns-in-Ok-None-clause-tells g c = if_ok_map c.start.result _ _ (λ t k. k ∙ c.find_registry.ensures.content.tells) c.start.ensures.tells
+pub returns-in-Ok-None-clause-is_observable : goal.returns-in-Ok-None-clause-is_observable
+returns-in-Ok-None-clause-is_observable g c = if_ok_map c.start.result _ _ (λ t k. k ∙ c.find_registry.ensures.content.is_observable) c.start.ensures.is_observable
 
-pub returns-in-Ok-Some-clause-tells : goal.returns-in-Ok-Some-clause-tells
-returns-in-Ok-Some-clause-tells g c = if_ok_map c.go_on.result _ _ (λ t k. k ∙ c.find_registry.ensures.content.tells) c.go_on.ensures.tells
+pub returns-in-Ok-Some-clause-is_observable : goal.returns-in-Ok-Some-clause-is_observable
+returns-in-Ok-Some-clause-is_observable g c = if_ok_map c.go_on.result _ _ (λ t k. k ∙ c.find_registry.ensures.content.is_observable) c.go_on.ensures.is_observable
 
 pub returns-in-Ok-Some-clause-blank : goal.returns-in-Ok-Some-clause-blank
 returns-in-Ok-Some-clause-blank g c =

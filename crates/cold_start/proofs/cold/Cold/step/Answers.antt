@@ -92,7 +92,7 @@ returns-then-is_of-clause-during g c = λ told opening.
     let same_count = as_many c.self.inside.world c.step-stepped.new.self (c.a_step_changes_the_registry_or_a_device.ensures c.self.inside.world c.args.actor.0 c.step-stepped.result c.step-stepped.new.self c.step-stepped.ensures.steps) in
     let many = some_few c.self.inside.world c.step-stepped.new.self same_count c.self.invariant.some c.self.invariant.few in
     let works = c.a_step_works_on_one_device.ensures c.self.inside.world c.args.actor.0 c.step-stepped.result c.step-stepped.new.self c.step-stepped.ensures.steps in
-    let P : Running g.row.D.Denot g.row.S.Denot g.row.M.Denot → Type 0 = λ t. IsTrue (content t.reg).tells → LeavesDuring g.D.Disk g.S.Store g.M.MetaLog opening t.world t.reg c.step-stepped.new.self c.self.inside.reg in
+    let P : Running g.row.D.Denot g.row.S.Denot g.row.M.Denot → Type 0 = λ t. IsTrue (content t.reg).is_observable → LeavesDuring g.D.Disk g.S.Store g.M.MetaLog opening t.world t.reg c.step-stepped.new.self c.self.inside.reg in
     subst P c.self.view_is
     (λ yes. during_quiet c.file_laws.ensures g.D.Disk g.S.Store g.M.MetaLog g.met.D.Disk.lawful opening c.self.inside.world c.step-stepped.new.self c.self.inside.reg c.self.inside.reg yes later.partition
     c.self.invariant.some c.self.invariant.few many.0 many.1 c.reopens.ensures.disks works same (c.self.invariant.file going) refl)
@@ -109,7 +109,7 @@ returns-in-Ok-clause-during g c = λ told opening.
     let later = step_later g.D.Disk g.S.Store g.M.MetaLog c.self.inside.world c.args.actor.0 c.step-stepped.result c.step-stepped.new.self c.step-stepped.ensures.steps c.step-stepped.ensures.central in
     let same_count = as_many c.self.inside.world c.step-stepped.new.self (c.a_step_changes_the_registry_or_a_device.ensures c.self.inside.world c.args.actor.0 c.step-stepped.result c.step-stepped.new.self c.step-stepped.ensures.steps) in
     let many = some_few c.self.inside.world c.step-stepped.new.self same_count c.self.invariant.some c.self.invariant.few in
-    let P : Running g.row.D.Denot g.row.S.Denot g.row.M.Denot → Type 0 = λ t. IsTrue (content t.reg).tells → LeavesDuring g.D.Disk g.S.Store g.M.MetaLog opening t.world t.reg c.step-stepped.new.self c.keep_registry.new.disk in
+    let P : Running g.row.D.Denot g.row.S.Denot g.row.M.Denot → Type 0 = λ t. IsTrue (content t.reg).is_observable → LeavesDuring g.D.Disk g.S.Store g.M.MetaLog opening t.world t.reg c.step-stepped.new.self c.keep_registry.new.disk in
     subst P c.self.view_is
     (λ yes. during_replaced c.file_laws.ensures g.D.Disk g.S.Store g.M.MetaLog g.met.D.Disk.lawful opening c.self.inside.world c.step-stepped.new.self c.self.inside.reg c.keep_registry.new.disk yes later.partition
     c.self.invariant.some c.self.invariant.few many.0 many.1 devices (c.self.invariant.file going) file c.in-Ok.ensures.since)
@@ -126,7 +126,7 @@ returns-in-Err-clause-during g c = λ told opening.
     let later = step_later g.D.Disk g.S.Store g.M.MetaLog c.self.inside.world c.args.actor.0 c.step-stepped.result c.step-stepped.new.self c.step-stepped.ensures.steps c.step-stepped.ensures.central in
     let same_count = as_many c.self.inside.world c.step-stepped.new.self (c.a_step_changes_the_registry_or_a_device.ensures c.self.inside.world c.args.actor.0 c.step-stepped.result c.step-stepped.new.self c.step-stepped.ensures.steps) in
     let many = some_few c.self.inside.world c.step-stepped.new.self same_count c.self.invariant.some c.self.invariant.few in
-    let P : Running g.row.D.Denot g.row.S.Denot g.row.M.Denot → Type 0 = λ t. IsTrue (content t.reg).tells → LeavesDuring g.D.Disk g.S.Store g.M.MetaLog opening t.world t.reg c.step-stepped.new.self c.keep_registry.new.disk in
+    let P : Running g.row.D.Denot g.row.S.Denot g.row.M.Denot → Type 0 = λ t. IsTrue (content t.reg).is_observable → LeavesDuring g.D.Disk g.S.Store g.M.MetaLog opening t.world t.reg c.step-stepped.new.self c.keep_registry.new.disk in
     subst P c.self.view_is
     (λ yes. during_replaced c.file_laws.ensures g.D.Disk g.S.Store g.M.MetaLog g.met.D.Disk.lawful opening c.self.inside.world c.step-stepped.new.self c.self.inside.reg c.keep_registry.new.disk yes later.partition
     c.self.invariant.some c.self.invariant.few many.0 many.1 devices (c.self.invariant.file going) file c.in-Err.ensures.since)

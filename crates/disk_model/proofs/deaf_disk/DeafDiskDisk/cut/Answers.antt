@@ -5,4 +5,4 @@ use Rattle.disk_model.proofs.deaf_disk.DeafDiskDisk.cut.Goals as goal
 pub returns-clause-control : goal.returns-clause-control
 returns-clause-control c =
     let d = c.args.self.now in
-    quiet call.Cut _ d.faults c.note.new.self d.handed c.note.ensures.ran
+    quiet call.Cut _ d.faults c.note.new.self d.last_read c.note.ensures.ran

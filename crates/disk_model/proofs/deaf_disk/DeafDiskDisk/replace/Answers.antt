@@ -5,4 +5,4 @@ use Rattle.disk_model.proofs.deaf_disk.DeafDiskDisk.replace.Goals as goal
 pub returns-clause-control : goal.returns-clause-control
 returns-clause-control c =
     let d = c.args.self.now in
-    rw c.give.ensures.fate (quiet call.Replace _ d.faults c.note.new.self d.handed c.note.ensures.ran)
+    rw c.give.ensures.fate (quiet call.Replace _ d.faults c.note.new.self d.last_read c.note.ensures.ran)

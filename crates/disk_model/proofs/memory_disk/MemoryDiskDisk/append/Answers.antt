@@ -5,9 +5,9 @@ use Rattle.disk_model.proofs.memory_disk.MemoryDiskDisk.append.Goals as goal
 pub returns-clause-control : goal.returns-clause-control
 returns-clause-control c =
     let m = c.args.self.now in
-    rw c.give.ensures.fate (quiet call.Append _ m.faults c.note.new.self m.handed c.note.ensures.ran)
+    rw c.give.ensures.fate (quiet call.Append _ m.faults c.note.new.self m.last_read c.note.ensures.ran)
 
 pub returns-clause-content : goal.returns-clause-content
 returns-clause-content c =
     let m = c.args.self.now in
-    rw c.give.ensures.fate (append_attempt m.history c.append_if.new.history c.is_done.result _ c.args.name c.args.bytes.now _ c.in_ok-append_if.ensures.ok c.is_done.ensures (c.note.ensures.done m.handed))
+    rw c.give.ensures.fate (append_attempt m.history c.append_if.new.history c.is_done.result _ c.args.name c.args.bytes.now _ c.in_ok-append_if.ensures.ok c.is_done.ensures (c.note.ensures.done m.last_read))

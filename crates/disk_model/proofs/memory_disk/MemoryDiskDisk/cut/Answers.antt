@@ -5,9 +5,9 @@ use Rattle.disk_model.proofs.memory_disk.MemoryDiskDisk.cut.Goals as goal
 pub returns-clause-control : goal.returns-clause-control
 returns-clause-control c =
     let m = c.args.self.now in
-    quiet call.Cut _ m.faults c.note.new.self m.handed c.note.ensures.ran
+    quiet call.Cut _ m.faults c.note.new.self m.last_read c.note.ensures.ran
 
 pub returns-clause-content : goal.returns-clause-content
 returns-clause-content c =
     let m = c.args.self.now in
-    cut_attempt m.history c.cut_if.new.history c.is_done.result _ c.args.name c.args.len _ c.cut_if.ensures c.is_done.ensures (c.note.ensures.done m.handed)
+    cut_attempt m.history c.cut_if.new.history c.is_done.result _ c.args.name c.args.len _ c.cut_if.ensures c.is_done.ensures (c.note.ensures.done m.last_read)

@@ -1,13 +1,13 @@
 use Rattle.std.proofs.Common.{◌≡◌, ◌+◌, ◌++◌, List, ℕ, length, ap, ◌∙◌, arith, length-append}
-use Rattle.disk_model.specs.declared.pieces.Piece.{Piece}
+use Rattle.disk_model.specs.declared.pieces.Chunk.{Chunk}
 use Rattle.disk_model.specs.Pieces.{joined}
 use Rattle.disk_model.proofs.Joined.{joined-push, ended-push}
 use Rattle.disk_model.proofs.pieces.Pieces.push.Goals as goal
 
 pub invariant_of-self-2 : goal.invariant_of-self-2
 invariant_of-self-2 c =
-    let items : List Piece = c.self.inside.items.items in
-    let last : Piece = record { bytes = c.args.bytes; end = c.self.inside.len + c.len.result } in
+    let items : List Chunk = c.self.inside.items.items in
+    let last : Chunk = record { bytes = c.args.bytes; end = c.self.inside.len + c.len.result } in
     let is : joined c.push.new.self.items ≡ joined items ++ c.args.bytes =
     ap joined c.in_ok-push.ensures.items ∙ joined-push items last in
     record {

@@ -5,4 +5,4 @@ use Rattle.folder_yard.proofs.folder_disk.FolderDiskDisk.cut.Goals as goal
 pub returns-clause-control : goal.returns-clause-control
 returns-clause-control g c =
     let d = c.args.self.now in
-    quiet call.Cut _ d.tally c.note.new.self d.handed c.note.ensures.ran
+    quiet call.Cut _ d.tally c.note.new.self d.last_read c.note.ensures.ran

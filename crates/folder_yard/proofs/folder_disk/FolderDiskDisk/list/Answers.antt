@@ -5,4 +5,4 @@ use Rattle.folder_yard.proofs.folder_disk.FolderDiskDisk.list.Goals as goal
 pub returns-clause-control : goal.returns-clause-control
 returns-clause-control g c =
     let d = c.args.self.now in
-    quiet call.List _ d.tally c.note_any.new.self d.handed c.note_any.ensures.ran
+    quiet call.List _ d.tally c.note_any.new.self d.last_read c.note_any.ensures.ran

@@ -5,4 +5,4 @@ use Rattle.folder_yard.proofs.folder_store.FolderStoreStore.delete.Goals as goal
 pub returns-clause-control : goal.returns-clause-control
 returns-clause-control g c =
     let s = c.args.self.now in
-    quiet call.Delete _ s.tally c.note.new.self s.handed c.note.ensures.ran
+    quiet call.Delete _ s.tally c.note.new.self s.last_read c.note.ensures.ran

@@ -5,4 +5,4 @@ use Rattle.folder_yard.proofs.folder_store.FolderStoreStore.keys.Goals as goal
 pub returns-clause-control : goal.returns-clause-control
 returns-clause-control g c =
     let s = c.args.self.now in
-    quiet call.Keys _ s.tally c.note_any.new.self s.handed c.note_any.ensures.ran
+    quiet call.Keys _ s.tally c.note_any.new.self s.last_read c.note_any.ensures.ran

@@ -38,7 +38,7 @@ returns-then-first-ge-OFFSET_LIMIT-clause-any_moment g c =
     let d = g.D.Disk.content s.disk in
     let laws : Lawful d = g.met.D.Disk.lawful s.disk in
     let unbroken : s.broken ≡ false = ap (λ (l : Log g.row.D.Denot). l.broken) c.self.view_is ∙ c.requires.unbroken in
-    rw (← c.self.view_is) (start_since d laws s.incarnation s.local_start s.closed.items s.active s.line s.stable (c.self.invariant.has unbroken))
+    rw (← c.self.view_is) (start_since d laws s.incarnation s.local_start s.closed.items s.active s.line s.flushed_end (c.self.invariant.has unbroken))
 
 pub returns-then-first-ge-OFFSET_LIMIT-clause-opens : goal.returns-then-first-ge-OFFSET_LIMIT-clause-opens
 returns-then-first-ge-OFFSET_LIMIT-clause-opens g c =
@@ -54,7 +54,7 @@ returns-then-len-ge-MOST_SEGMENTS-clause-any_moment g c =
     let d = g.D.Disk.content s.disk in
     let laws : Lawful d = g.met.D.Disk.lawful s.disk in
     let unbroken : s.broken ≡ false = ap (λ (l : Log g.row.D.Denot). l.broken) c.self.view_is ∙ c.requires.unbroken in
-    rw (← c.self.view_is) (start_since d laws s.incarnation s.local_start s.closed.items s.active s.line s.stable (c.self.invariant.has unbroken))
+    rw (← c.self.view_is) (start_since d laws s.incarnation s.local_start s.closed.items s.active s.line s.flushed_end (c.self.invariant.has unbroken))
 
 pub returns-then-len-ge-MOST_SEGMENTS-clause-opens : goal.returns-then-len-ge-MOST_SEGMENTS-clause-opens
 returns-then-len-ge-MOST_SEGMENTS-clause-opens g c =

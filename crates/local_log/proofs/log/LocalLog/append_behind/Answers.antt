@@ -33,7 +33,7 @@ returns-in_err-reserve-clause-any_moment g c =
     let laws : Lawful d = g.met.D.Disk.lawful s.disk in
     let unbroken : s.broken ≡ false = ap (λ (l : Log g.row.D.Denot). l.broken) c.self.view_is ∙ c.requires.unbroken in
     let has = c.self.invariant.has unbroken in
-    rw (← c.self.view_is) (start_since d laws s.incarnation s.local_start s.closed.items s.active s.line s.stable has)
+    rw (← c.self.view_is) (start_since d laws s.incarnation s.local_start s.closed.items s.active s.line s.flushed_end has)
 
 pub returns-in_err-reserve-clause-opens : goal.returns-in_err-reserve-clause-opens
 returns-in_err-reserve-clause-opens g c =
@@ -51,7 +51,7 @@ invariant_of-self-in_err-reserve-2 g c =
     let m = g.D.Disk.content c.reserve-2.new.self in
     let laws-m : Lawful m = g.met.D.Disk.lawful c.reserve-2.new.self in
     let k = c.reserve-2.ensures.content in
-    let has' = has_kept d laws s.incarnation s.local_start s.closed.items s.active s.line s.stable has m laws-m k in
+    let has' = has_kept d laws s.incarnation s.local_start s.closed.items s.active s.line s.flushed_end has m laws-m k in
     record {
       segments = subst (λ (l : List Grown). AreSegmentsOf s.local_start l s.active) (sym c.reserve.ensures.items) c.self.invariant.segments;
       settings = c.self.invariant.settings;
@@ -59,9 +59,9 @@ invariant_of-self-in_err-reserve-2 g c =
       fits = c.self.invariant.fits;
       line = c.self.invariant.line;
       line_within = c.self.invariant.line_within;
-      stable_within = c.self.invariant.stable_within;
-      has = λ whole. subst (λ (l : List Grown). HasLog m s.incarnation s.local_start l s.active s.line s.stable) (sym c.reserve.ensures.items) has';
-      reopens = has_reopens m laws-m s.incarnation s.local_start s.closed.items s.active s.line s.stable has';
+      flushed_end_within = c.self.invariant.flushed_end_within;
+      has = λ whole. subst (λ (l : List Grown). HasLog m s.incarnation s.local_start l s.active s.line s.flushed_end) (sym c.reserve.ensures.items) has';
+      reopens = has_reopens m laws-m s.incarnation s.local_start s.closed.items s.active s.line s.flushed_end has';
     }
 
 pub returns-in_err-reserve-2-clause-any_moment : goal.returns-in_err-reserve-2-clause-any_moment
@@ -74,7 +74,7 @@ returns-in_err-reserve-2-clause-any_moment g c =
     let m = g.D.Disk.content c.reserve-2.new.self in
     let laws-m : Lawful m = g.met.D.Disk.lawful c.reserve-2.new.self in
     let k = c.reserve-2.ensures.content in
-    rw (← c.self.view_is) (kept_since d laws s.incarnation s.local_start s.closed.items s.active s.line s.stable has m laws-m k)
+    rw (← c.self.view_is) (kept_since d laws s.incarnation s.local_start s.closed.items s.active s.line s.flushed_end has m laws-m k)
 
 pub returns-in_err-reserve-2-clause-opens : goal.returns-in_err-reserve-2-clause-opens
 returns-in_err-reserve-2-clause-opens g c =
@@ -97,7 +97,7 @@ returns-in-Err-clause-any_moment g c =
     let m2 = g.D.Disk.content c.sync.new.self in
     let laws2 : Lawful m2 = g.met.D.Disk.lawful c.sync.new.self in
     let k2 = c.sync.ensures.content in
-    rw (← c.self.view_is) (twice_since d m m2 laws laws-m laws2 s.incarnation s.local_start s.closed.items s.active s.line s.stable has k k2)
+    rw (← c.self.view_is) (twice_since d m m2 laws laws-m laws2 s.incarnation s.local_start s.closed.items s.active s.line s.flushed_end has k k2)
 
 pub returns-in-Err-clause-opens : goal.returns-in-Err-clause-opens
 returns-in-Err-clause-opens g c =
@@ -123,7 +123,7 @@ invariant_of-self-in_err-len g c =
     let m2 = g.D.Disk.content c.sync.new.self in
     let laws2 : Lawful m2 = g.met.D.Disk.lawful c.sync.new.self in
     let k2 = c.sync.ensures.content in
-    let has' = still d m m2 laws laws-m laws2 s.incarnation s.local_start s.closed.items s.active s.line s.stable has k k2 in
+    let has' = still d m m2 laws laws-m laws2 s.incarnation s.local_start s.closed.items s.active s.line s.flushed_end has k k2 in
     record {
       segments = subst (λ (l : List Grown). AreSegmentsOf s.local_start l s.active) (sym c.reserve.ensures.items) c.self.invariant.segments;
       settings = c.self.invariant.settings;
@@ -131,9 +131,9 @@ invariant_of-self-in_err-len g c =
       fits = c.self.invariant.fits;
       line = c.self.invariant.line;
       line_within = c.self.invariant.line_within;
-      stable_within = c.self.invariant.stable_within;
-      has = λ whole. subst (λ (l : List Grown). HasLog m2 s.incarnation s.local_start l s.active s.line s.stable) (sym c.reserve.ensures.items) has';
-      reopens = has_reopens m2 laws2 s.incarnation s.local_start s.closed.items s.active s.line s.stable has';
+      flushed_end_within = c.self.invariant.flushed_end_within;
+      has = λ whole. subst (λ (l : List Grown). HasLog m2 s.incarnation s.local_start l s.active s.line s.flushed_end) (sym c.reserve.ensures.items) has';
+      reopens = has_reopens m2 laws2 s.incarnation s.local_start s.closed.items s.active s.line s.flushed_end has';
     }
 
 pub returns-in_err-len-clause-any_moment : goal.returns-in_err-len-clause-any_moment
@@ -149,7 +149,7 @@ returns-in_err-len-clause-any_moment g c =
     let m2 = g.D.Disk.content c.sync.new.self in
     let laws2 : Lawful m2 = g.met.D.Disk.lawful c.sync.new.self in
     let k2 = c.sync.ensures.content in
-    rw (← c.self.view_is) (twice_since d m m2 laws laws-m laws2 s.incarnation s.local_start s.closed.items s.active s.line s.stable has k k2)
+    rw (← c.self.view_is) (twice_since d m m2 laws laws-m laws2 s.incarnation s.local_start s.closed.items s.active s.line s.flushed_end has k k2)
 
 pub returns-in_err-len-clause-opens : goal.returns-in_err-len-clause-opens
 returns-in_err-len-clause-opens g c =
@@ -220,21 +220,21 @@ invariant_of-self-in-Ok-outcome g c =
     ∙ ap (λ (x : Grown). s.closed.items ++ x ∷ []) c.replace-full.ensures.value in
     let active_is : c.replace-full.new.dest ≡ grown_by nx (taken nx c.take_in.new.segment s.line c.args.run.now s.settings.segment_bytes (c.in_ok-len.len, c.in_ok-len.line) t c.self.invariant.line c.self.invariant.line_within) = c.replace-full.ensures.after ∙ t.segment_is in
     let end_is : end_of c.replace-full.new.dest ≡ end_from (end_of s.active) (taken nx c.take_in.new.segment s.line c.args.run.now s.settings.segment_bytes (c.in_ok-len.len, c.in_ok-len.line) t c.self.invariant.line c.self.invariant.line_within) = ap end_of c.replace-full.ensures.after ∙ taken_end nx c.take_in.new.segment s.line c.args.run.now s.settings.segment_bytes (c.in_ok-len.len, c.in_ok-len.line) t c.self.invariant.line c.self.invariant.line_within in
-    let has' = appended_has m2 d' laws2 laws' s.incarnation s.local_start (s.closed.items ++ s.active ∷ []) nx s.line s.stable (rolled_has d m m2 laws laws-m laws2 s.incarnation s.local_start s.closed.items s.active s.line s.stable has k k2 s.settings.index_interval are some c.self.invariant.stable_within synced) c.split_at.result.0.now M change done (taken nx c.take_in.new.segment s.line c.args.run.now s.settings.segment_bytes (c.in_ok-len.len, c.in_ok-len.line) t c.self.invariant.line c.self.invariant.line_within) bytes_is (taken_oks nx c.take_in.new.segment s.line c.args.run.now s.settings.segment_bytes (c.in_ok-len.len, c.in_ok-len.line) t c.self.invariant.line c.self.invariant.line_within) (taken_follow nx c.take_in.new.segment s.line c.args.run.now s.settings.segment_bytes (c.in_ok-len.len, c.in_ok-len.line) t c.self.invariant.line c.self.invariant.line_within) are' c.self.invariant.stable_within c.self.invariant.line (taken_lined nx c.take_in.new.segment s.line c.args.run.now s.settings.segment_bytes (c.in_ok-len.len, c.in_ok-len.line) t c.self.invariant.line c.self.invariant.line_within) laid low in
+    let has' = appended_has m2 d' laws2 laws' s.incarnation s.local_start (s.closed.items ++ s.active ∷ []) nx s.line s.flushed_end (rolled_has d m m2 laws laws-m laws2 s.incarnation s.local_start s.closed.items s.active s.line s.flushed_end has k k2 s.settings.index_interval are some c.self.invariant.flushed_end_within synced) c.split_at.result.0.now M change done (taken nx c.take_in.new.segment s.line c.args.run.now s.settings.segment_bytes (c.in_ok-len.len, c.in_ok-len.line) t c.self.invariant.line c.self.invariant.line_within) bytes_is (taken_oks nx c.take_in.new.segment s.line c.args.run.now s.settings.segment_bytes (c.in_ok-len.len, c.in_ok-len.line) t c.self.invariant.line c.self.invariant.line_within) (taken_follow nx c.take_in.new.segment s.line c.args.run.now s.settings.segment_bytes (c.in_ok-len.len, c.in_ok-len.line) t c.self.invariant.line c.self.invariant.line_within) are' c.self.invariant.flushed_end_within c.self.invariant.line (taken_lined nx c.take_in.new.segment s.line c.args.run.now s.settings.segment_bytes (c.in_ok-len.len, c.in_ok-len.line) t c.self.invariant.line c.self.invariant.line_within) laid low in
     record {
       segments = subst (λ (x : Grown). AreSegmentsOf s.local_start c.push_reserved.new.self.items x) (sym active_is)
-          (subst (λ (l : List Grown). AreSegmentsOf s.local_start l (grown_by nx (taken nx c.take_in.new.segment s.line c.args.run.now s.settings.segment_bytes (c.in_ok-len.len, c.in_ok-len.line) t c.self.invariant.line c.self.invariant.line_within))) (sym items_are) (appended_are m2 d' laws2 laws' s.incarnation s.local_start (s.closed.items ++ s.active ∷ []) nx s.line s.stable (rolled_has d m m2 laws laws-m laws2 s.incarnation s.local_start s.closed.items s.active s.line s.stable has k k2 s.settings.index_interval are some c.self.invariant.stable_within synced) c.split_at.result.0.now M change done (taken nx c.take_in.new.segment s.line c.args.run.now s.settings.segment_bytes (c.in_ok-len.len, c.in_ok-len.line) t c.self.invariant.line c.self.invariant.line_within) bytes_is (taken_oks nx c.take_in.new.segment s.line c.args.run.now s.settings.segment_bytes (c.in_ok-len.len, c.in_ok-len.line) t c.self.invariant.line c.self.invariant.line_within) (taken_follow nx c.take_in.new.segment s.line c.args.run.now s.settings.segment_bytes (c.in_ok-len.len, c.in_ok-len.line) t c.self.invariant.line c.self.invariant.line_within) are' c.self.invariant.stable_within c.self.invariant.line (taken_lined nx c.take_in.new.segment s.line c.args.run.now s.settings.segment_bytes (c.in_ok-len.len, c.in_ok-len.line) t c.self.invariant.line c.self.invariant.line_within) laid low));
+          (subst (λ (l : List Grown). AreSegmentsOf s.local_start l (grown_by nx (taken nx c.take_in.new.segment s.line c.args.run.now s.settings.segment_bytes (c.in_ok-len.len, c.in_ok-len.line) t c.self.invariant.line c.self.invariant.line_within))) (sym items_are) (appended_are m2 d' laws2 laws' s.incarnation s.local_start (s.closed.items ++ s.active ∷ []) nx s.line s.flushed_end (rolled_has d m m2 laws laws-m laws2 s.incarnation s.local_start s.closed.items s.active s.line s.flushed_end has k k2 s.settings.index_interval are some c.self.invariant.flushed_end_within synced) c.split_at.result.0.now M change done (taken nx c.take_in.new.segment s.line c.args.run.now s.settings.segment_bytes (c.in_ok-len.len, c.in_ok-len.line) t c.self.invariant.line c.self.invariant.line_within) bytes_is (taken_oks nx c.take_in.new.segment s.line c.args.run.now s.settings.segment_bytes (c.in_ok-len.len, c.in_ok-len.line) t c.self.invariant.line c.self.invariant.line_within) (taken_follow nx c.take_in.new.segment s.line c.args.run.now s.settings.segment_bytes (c.in_ok-len.len, c.in_ok-len.line) t c.self.invariant.line c.self.invariant.line_within) are' c.self.invariant.flushed_end_within c.self.invariant.line (taken_lined nx c.take_in.new.segment s.line c.args.run.now s.settings.segment_bytes (c.in_ok-len.len, c.in_ok-len.line) t c.self.invariant.line c.self.invariant.line_within) laid low));
       settings = c.self.invariant.settings;
       opened = c.self.invariant.opened;
       fits = c.self.invariant.fits;
       line = subst IsLine (sym line_is) (taken_lined nx c.take_in.new.segment s.line c.args.run.now s.settings.segment_bytes (c.in_ok-len.len, c.in_ok-len.line) t c.self.invariant.line c.self.invariant.line_within).is;
       line_within = subst (λ (n : ℕ). Each (λ (e : ℕ × ℕ). e.1 ≤ n) c.replace_if.new.line) (sym end_is)
           (subst (λ (l : List (ℕ × ℕ)). Each (λ (e : ℕ × ℕ). e.1 ≤ end_from (end_of s.active) (taken nx c.take_in.new.segment s.line c.args.run.now s.settings.segment_bytes (c.in_ok-len.len, c.in_ok-len.line) t c.self.invariant.line c.self.invariant.line_within)) l) (sym line_is) (taken_lined nx c.take_in.new.segment s.line c.args.run.now s.settings.segment_bytes (c.in_ok-len.len, c.in_ok-len.line) t c.self.invariant.line c.self.invariant.line_within).within);
-      stable_within = (let up = taken_up nx c.take_in.new.segment s.line c.args.run.now s.settings.segment_bytes (c.in_ok-len.len, c.in_ok-len.line) t c.self.invariant.line c.self.invariant.line_within in let e = ap end_of c.replace-full.ensures.after in omega (arith, up, e, c.self.invariant.stable_within));
-      has = λ whole. subst (λ (l : List (ℕ × ℕ)). HasLog d' s.incarnation s.local_start c.push_reserved.new.self.items c.replace-full.new.dest l s.stable) (sym line_is)
-          (subst (λ (x : Grown). HasLog d' s.incarnation s.local_start c.push_reserved.new.self.items x (lined s.line (taken nx c.take_in.new.segment s.line c.args.run.now s.settings.segment_bytes (c.in_ok-len.len, c.in_ok-len.line) t c.self.invariant.line c.self.invariant.line_within)) s.stable) (sym active_is)
-          (subst (λ (l : List Grown). HasLog d' s.incarnation s.local_start l (grown_by nx (taken nx c.take_in.new.segment s.line c.args.run.now s.settings.segment_bytes (c.in_ok-len.len, c.in_ok-len.line) t c.self.invariant.line c.self.invariant.line_within)) (lined s.line (taken nx c.take_in.new.segment s.line c.args.run.now s.settings.segment_bytes (c.in_ok-len.len, c.in_ok-len.line) t c.self.invariant.line c.self.invariant.line_within)) s.stable) (sym items_are) has'));
-      reopens = behind_reopens d m m2 laws laws-m laws2 s.incarnation s.local_start s.closed.items s.active s.line s.stable has k k2 s.settings.index_interval are some c.self.invariant.stable_within synced d' laws' c.split_at.result.0.now M change;
+      flushed_end_within = (let up = taken_up nx c.take_in.new.segment s.line c.args.run.now s.settings.segment_bytes (c.in_ok-len.len, c.in_ok-len.line) t c.self.invariant.line c.self.invariant.line_within in let e = ap end_of c.replace-full.ensures.after in omega (arith, up, e, c.self.invariant.flushed_end_within));
+      has = λ whole. subst (λ (l : List (ℕ × ℕ)). HasLog d' s.incarnation s.local_start c.push_reserved.new.self.items c.replace-full.new.dest l s.flushed_end) (sym line_is)
+          (subst (λ (x : Grown). HasLog d' s.incarnation s.local_start c.push_reserved.new.self.items x (lined s.line (taken nx c.take_in.new.segment s.line c.args.run.now s.settings.segment_bytes (c.in_ok-len.len, c.in_ok-len.line) t c.self.invariant.line c.self.invariant.line_within)) s.flushed_end) (sym active_is)
+          (subst (λ (l : List Grown). HasLog d' s.incarnation s.local_start l (grown_by nx (taken nx c.take_in.new.segment s.line c.args.run.now s.settings.segment_bytes (c.in_ok-len.len, c.in_ok-len.line) t c.self.invariant.line c.self.invariant.line_within)) (lined s.line (taken nx c.take_in.new.segment s.line c.args.run.now s.settings.segment_bytes (c.in_ok-len.len, c.in_ok-len.line) t c.self.invariant.line c.self.invariant.line_within)) s.flushed_end) (sym items_are) has'));
+      reopens = behind_reopens d m m2 laws laws-m laws2 s.incarnation s.local_start s.closed.items s.active s.line s.flushed_end has k k2 s.settings.index_interval are some c.self.invariant.flushed_end_within synced d' laws' c.split_at.result.0.now M change;
     }
 
 pub invariant_of-self-in-Err-outcome : goal.invariant_of-self-in-Err-outcome
@@ -267,14 +267,14 @@ invariant_of-self-in-Err-outcome g c =
       fits = c.self.invariant.fits;
       line = subst IsLine (sym line_is) c.self.invariant.line;
       line_within = subst (λ (l : List (ℕ × ℕ)). Each (λ (e : ℕ × ℕ). e.1 ≤ end_of s.active) l) (sym line_is) c.self.invariant.line_within;
-      stable_within = c.self.invariant.stable_within;
+      flushed_end_within = c.self.invariant.flushed_end_within;
       has = λ whole. (
           let dry : fate_of c.append-outcome.result ≡ Dry = ap fate_of c.in-Err-outcome.is ∙ ap fate_of_trouble (not_broken c.in-Err-outcome.trouble c.refused.result c.refused.new.broken c.refused.ensures.fault whole) in
-          let same = behind_dry d m m2 laws laws-m laws2 s.incarnation s.local_start s.closed.items s.active s.line s.stable has k k2 s.settings.index_interval are some c.self.invariant.stable_within synced d' laws' c.split_at.result.0.now M change (λ m. true≢false (m.dry dry)) in
-          subst (λ (l : List (ℕ × ℕ)). HasLog d' s.incarnation s.local_start c.reserve.new.self.items s.active l s.stable) (sym line_is)
-          (subst (λ (l : List Grown). HasLog d' s.incarnation s.local_start l s.active s.line s.stable) (sym items_are) same)
+          let same = behind_dry d m m2 laws laws-m laws2 s.incarnation s.local_start s.closed.items s.active s.line s.flushed_end has k k2 s.settings.index_interval are some c.self.invariant.flushed_end_within synced d' laws' c.split_at.result.0.now M change (λ m. true≢false (m.dry dry)) in
+          subst (λ (l : List (ℕ × ℕ)). HasLog d' s.incarnation s.local_start c.reserve.new.self.items s.active l s.flushed_end) (sym line_is)
+          (subst (λ (l : List Grown). HasLog d' s.incarnation s.local_start l s.active s.line s.flushed_end) (sym items_are) same)
           );
-      reopens = behind_reopens d m m2 laws laws-m laws2 s.incarnation s.local_start s.closed.items s.active s.line s.stable has k k2 s.settings.index_interval are some c.self.invariant.stable_within synced d' laws' c.split_at.result.0.now M change;
+      reopens = behind_reopens d m m2 laws laws-m laws2 s.incarnation s.local_start s.closed.items s.active s.line s.flushed_end has k k2 s.settings.index_interval are some c.self.invariant.flushed_end_within synced d' laws' c.split_at.result.0.now M change;
     }
 
 pub returns-in-Ok-outcome-clause-ok : goal.returns-in-Ok-outcome-clause-ok
@@ -322,9 +322,9 @@ returns-in-Ok-outcome-clause-ok g c =
     ∙ ap (λ (x : Grown). all_batches d'.files ((s.closed.items ++ s.active ∷ []) ++ x ∷ [])) active_is in
     rw (← c.self.view_is) (record {
       is = t.is;
-      becomes = becomes_by g.D.Disk.content _ _ refl refl refl end_is refl line_is items_are active_is refl (behind_tells d m m2 laws laws-m laws2 s.incarnation s.local_start s.closed.items s.active s.line s.stable has k k2 s.settings.index_interval are some c.self.invariant.stable_within synced d' laws' c.split_at.result.0.now M change)
-          (λ told. (let told2 = subst IsTrue (sym (k2.tells ∙ k.tells)) told in
-          batches_are ∙ appended_batches m2 d' laws2 laws' s.incarnation s.local_start (s.closed.items ++ s.active ∷ []) nx s.line s.stable (rolled_has d m m2 laws laws-m laws2 s.incarnation s.local_start s.closed.items s.active s.line s.stable has k k2 s.settings.index_interval are some c.self.invariant.stable_within synced) c.split_at.result.0.now M change done (taken nx c.take_in.new.segment s.line c.args.run.now s.settings.segment_bytes (c.in_ok-len.len, c.in_ok-len.line) t c.self.invariant.line c.self.invariant.line_within) bytes_is (taken_oks nx c.take_in.new.segment s.line c.args.run.now s.settings.segment_bytes (c.in_ok-len.len, c.in_ok-len.line) t c.self.invariant.line c.self.invariant.line_within) (taken_follow nx c.take_in.new.segment s.line c.args.run.now s.settings.segment_bytes (c.in_ok-len.len, c.in_ok-len.line) t c.self.invariant.line c.self.invariant.line_within) are' c.self.invariant.stable_within c.self.invariant.line (taken_lined nx c.take_in.new.segment s.line c.args.run.now s.settings.segment_bytes (c.in_ok-len.len, c.in_ok-len.line) t c.self.invariant.line c.self.invariant.line_within) laid low told2 ∙ ap (λ (l : List (List ℕ)). l ++ taken nx c.take_in.new.segment s.line c.args.run.now s.settings.segment_bytes (c.in_ok-len.len, c.in_ok-len.line) t c.self.invariant.line c.self.invariant.line_within) (roll_batches d m m2 laws laws-m laws2 s.incarnation s.local_start s.closed.items s.active s.line s.stable has k k2 s.settings.index_interval are some c.self.invariant.stable_within synced)));
+      becomes = becomes_by g.D.Disk.content _ _ refl refl refl end_is refl line_is items_are active_is refl (behind_tells d m m2 laws laws-m laws2 s.incarnation s.local_start s.closed.items s.active s.line s.flushed_end has k k2 s.settings.index_interval are some c.self.invariant.flushed_end_within synced d' laws' c.split_at.result.0.now M change)
+          (λ told. (let told2 = subst IsTrue (sym (k2.is_observable ∙ k.is_observable)) told in
+          batches_are ∙ appended_batches m2 d' laws2 laws' s.incarnation s.local_start (s.closed.items ++ s.active ∷ []) nx s.line s.flushed_end (rolled_has d m m2 laws laws-m laws2 s.incarnation s.local_start s.closed.items s.active s.line s.flushed_end has k k2 s.settings.index_interval are some c.self.invariant.flushed_end_within synced) c.split_at.result.0.now M change done (taken nx c.take_in.new.segment s.line c.args.run.now s.settings.segment_bytes (c.in_ok-len.len, c.in_ok-len.line) t c.self.invariant.line c.self.invariant.line_within) bytes_is (taken_oks nx c.take_in.new.segment s.line c.args.run.now s.settings.segment_bytes (c.in_ok-len.len, c.in_ok-len.line) t c.self.invariant.line c.self.invariant.line_within) (taken_follow nx c.take_in.new.segment s.line c.args.run.now s.settings.segment_bytes (c.in_ok-len.len, c.in_ok-len.line) t c.self.invariant.line c.self.invariant.line_within) are' c.self.invariant.flushed_end_within c.self.invariant.line (taken_lined nx c.take_in.new.segment s.line c.args.run.now s.settings.segment_bytes (c.in_ok-len.len, c.in_ok-len.line) t c.self.invariant.line c.self.invariant.line_within) laid low told2 ∙ ap (λ (l : List (List ℕ)). l ++ taken nx c.take_in.new.segment s.line c.args.run.now s.settings.segment_bytes (c.in_ok-len.len, c.in_ok-len.line) t c.self.invariant.line c.self.invariant.line_within) (roll_batches d m m2 laws laws-m laws2 s.incarnation s.local_start s.closed.items s.active s.line s.flushed_end has k k2 s.settings.index_interval are some c.self.invariant.flushed_end_within synced)));
       base_is = c.end-end.ensures;
       last_is = omega (arith, more, c.end.ensures, e);
     })
@@ -349,7 +349,7 @@ returns-in-Ok-outcome-clause-any_moment g c =
     let laws' : Lawful d' = g.met.D.Disk.lawful c.append-outcome.new.self in
     let M = MayBeDone call.Append (fate_of c.append-outcome.result) (g.D.Disk.control c.sync.new.self) in
     let change = subst (λ (b : ℕ). Changes (file.Log b) (appended c.split_at.result.0.now) MayGrow M m2 d') c.end-end.ensures c.append-outcome.ensures.content in
-    rw (← c.self.view_is) (behind_since d m m2 laws laws-m laws2 s.incarnation s.local_start s.closed.items s.active s.line s.stable has k k2 s.settings.index_interval are some c.self.invariant.stable_within synced d' laws' c.split_at.result.0.now M change)
+    rw (← c.self.view_is) (behind_since d m m2 laws laws-m laws2 s.incarnation s.local_start s.closed.items s.active s.line s.flushed_end has k k2 s.settings.index_interval are some c.self.invariant.flushed_end_within synced d' laws' c.split_at.result.0.now M change)
 
 pub returns-in-Ok-outcome-clause-opens : goal.returns-in-Ok-outcome-clause-opens
 returns-in-Ok-outcome-clause-opens g c =
@@ -371,7 +371,7 @@ returns-in-Ok-outcome-clause-opens g c =
     let laws' : Lawful d' = g.met.D.Disk.lawful c.append-outcome.new.self in
     let M = MayBeDone call.Append (fate_of c.append-outcome.result) (g.D.Disk.control c.sync.new.self) in
     let change = subst (λ (b : ℕ). Changes (file.Log b) (appended c.split_at.result.0.now) MayGrow M m2 d') c.end-end.ensures c.append-outcome.ensures.content in
-    rw (← c.self.view_is) (behind_opens d m m2 laws laws-m laws2 s.incarnation s.local_start s.closed.items s.active s.line s.stable has k k2 s.settings.index_interval are some c.self.invariant.stable_within synced d' laws' c.split_at.result.0.now M change)
+    rw (← c.self.view_is) (behind_opens d m m2 laws laws-m laws2 s.incarnation s.local_start s.closed.items s.active s.line s.flushed_end has k k2 s.settings.index_interval are some c.self.invariant.flushed_end_within synced d' laws' c.split_at.result.0.now M change)
 
 pub returns-in-Err-outcome-clause-any_moment : goal.returns-in-Err-outcome-clause-any_moment
 returns-in-Err-outcome-clause-any_moment g c =
@@ -393,7 +393,7 @@ returns-in-Err-outcome-clause-any_moment g c =
     let laws' : Lawful d' = g.met.D.Disk.lawful c.append-outcome.new.self in
     let M = MayBeDone call.Append (fate_of c.append-outcome.result) (g.D.Disk.control c.sync.new.self) in
     let change = subst (λ (b : ℕ). Changes (file.Log b) (appended c.split_at.result.0.now) MayGrow M m2 d') c.end-end.ensures c.append-outcome.ensures.content in
-    rw (← c.self.view_is) (behind_since d m m2 laws laws-m laws2 s.incarnation s.local_start s.closed.items s.active s.line s.stable has k k2 s.settings.index_interval are some c.self.invariant.stable_within synced d' laws' c.split_at.result.0.now M change)
+    rw (← c.self.view_is) (behind_since d m m2 laws laws-m laws2 s.incarnation s.local_start s.closed.items s.active s.line s.flushed_end has k k2 s.settings.index_interval are some c.self.invariant.flushed_end_within synced d' laws' c.split_at.result.0.now M change)
 
 pub returns-in-Err-outcome-clause-opens : goal.returns-in-Err-outcome-clause-opens
 returns-in-Err-outcome-clause-opens g c =
@@ -415,7 +415,7 @@ returns-in-Err-outcome-clause-opens g c =
     let laws' : Lawful d' = g.met.D.Disk.lawful c.append-outcome.new.self in
     let M = MayBeDone call.Append (fate_of c.append-outcome.result) (g.D.Disk.control c.sync.new.self) in
     let change = subst (λ (b : ℕ). Changes (file.Log b) (appended c.split_at.result.0.now) MayGrow M m2 d') c.end-end.ensures c.append-outcome.ensures.content in
-    rw (← c.self.view_is) (behind_opens d m m2 laws laws-m laws2 s.incarnation s.local_start s.closed.items s.active s.line s.stable has k k2 s.settings.index_interval are some c.self.invariant.stable_within synced d' laws' c.split_at.result.0.now M change)
+    rw (← c.self.view_is) (behind_opens d m m2 laws laws-m laws2 s.incarnation s.local_start s.closed.items s.active s.line s.flushed_end has k k2 s.settings.index_interval are some c.self.invariant.flushed_end_within synced d' laws' c.split_at.result.0.now M change)
 
 pub returns-in-Err-outcome-clause-no_memory : goal.returns-in-Err-outcome-clause-no_memory
 returns-in-Err-outcome-clause-no_memory g c =
@@ -443,7 +443,7 @@ returns-in-Err-outcome-clause-no_memory g c =
     let batches_are = ap (λ (l : List Grown). all_batches d'.files (l ++ s.active ∷ [])) items_are in
     λ is.
     let broken_is : c.refused.new.broken ≡ s.broken = stays c.in-Err-outcome.trouble c.refused.result c.refused.new.broken s.broken c.refused.ensures.fault c.refused.ensures.memory (cc is) in
-    rw (← c.self.view_is) (becomes_by g.D.Disk.content _ _ refl refl refl refl refl line_is items_are refl broken_is (behind_tells d m m2 laws laws-m laws2 s.incarnation s.local_start s.closed.items s.active s.line s.stable has k k2 s.settings.index_interval are some c.self.invariant.stable_within synced d' laws' c.split_at.result.0.now M change) (λ told. batches_are ∙ behind_kept d m m2 laws laws-m laws2 s.incarnation s.local_start s.closed.items s.active s.line s.stable has k k2 s.settings.index_interval are some c.self.invariant.stable_within synced d' laws' c.split_at.result.0.now M change told))
+    rw (← c.self.view_is) (becomes_by g.D.Disk.content _ _ refl refl refl refl refl line_is items_are refl broken_is (behind_tells d m m2 laws laws-m laws2 s.incarnation s.local_start s.closed.items s.active s.line s.flushed_end has k k2 s.settings.index_interval are some c.self.invariant.flushed_end_within synced d' laws' c.split_at.result.0.now M change) (λ told. batches_are ∙ behind_kept d m m2 laws laws-m laws2 s.incarnation s.local_start s.closed.items s.active s.line s.flushed_end has k k2 s.settings.index_interval are some c.self.invariant.flushed_end_within synced d' laws' c.split_at.result.0.now M change told))
 
 pub returns-in-Err-outcome-clause-broken : goal.returns-in-Err-outcome-clause-broken
 returns-in-Err-outcome-clause-broken g c =
@@ -471,7 +471,7 @@ returns-in-Err-outcome-clause-broken g c =
     let batches_are = ap (λ (l : List Grown). all_batches d'.files (l ++ s.active ∷ [])) items_are in
     λ is.
     let broken_is : c.refused.new.broken ≡ true = breaks c.in-Err-outcome.trouble c.refused.result c.refused.new.broken s.broken c.refused.ensures.fault c.refused.ensures.memory (cc is) in
-    rw (← c.self.view_is) (becomes_by g.D.Disk.content _ _ refl refl refl refl refl line_is items_are refl broken_is (behind_tells d m m2 laws laws-m laws2 s.incarnation s.local_start s.closed.items s.active s.line s.stable has k k2 s.settings.index_interval are some c.self.invariant.stable_within synced d' laws' c.split_at.result.0.now M change) (λ told. batches_are ∙ behind_kept d m m2 laws laws-m laws2 s.incarnation s.local_start s.closed.items s.active s.line s.stable has k k2 s.settings.index_interval are some c.self.invariant.stable_within synced d' laws' c.split_at.result.0.now M change told))
+    rw (← c.self.view_is) (becomes_by g.D.Disk.content _ _ refl refl refl refl refl line_is items_are refl broken_is (behind_tells d m m2 laws laws-m laws2 s.incarnation s.local_start s.closed.items s.active s.line s.flushed_end has k k2 s.settings.index_interval are some c.self.invariant.flushed_end_within synced d' laws' c.split_at.result.0.now M change) (λ told. batches_are ∙ behind_kept d m m2 laws laws-m laws2 s.incarnation s.local_start s.closed.items s.active s.line s.flushed_end has k k2 s.settings.index_interval are some c.self.invariant.flushed_end_within synced d' laws' c.split_at.result.0.now M change told))
 
 pub returns-in-Ok-outcome-clause-some : goal.returns-in-Ok-outcome-clause-some
 returns-in-Ok-outcome-clause-some g c =

@@ -19,8 +19,8 @@ invariant_of-self g c =
       fits = c.self.invariant.fits;
       line = c.self.invariant.line;
       line_within = c.self.invariant.line_within;
-      stable_within = c.self.invariant.stable_within;
-      has = λ whole. has_kept d laws s.incarnation s.local_start s.closed.items s.active s.line s.stable (c.self.invariant.has whole) m laws-m c.arm.ensures.content;
+      flushed_end_within = c.self.invariant.flushed_end_within;
+      has = λ whole. has_kept d laws s.incarnation s.local_start s.closed.items s.active s.line s.flushed_end (c.self.invariant.has whole) m laws-m c.arm.ensures.content;
       reopens = reopens_kept d m c.arm.ensures.content c.self.invariant.reopens;
     }
 
@@ -32,4 +32,4 @@ returns-clause-any_moment g c whole =
     let laws : Lawful d = g.met.D.Disk.lawful s.disk in
     let laws' : Lawful d' = g.met.D.Disk.lawful c.arm.new.self in
     let unbroken : s.broken ≡ false = ap (λ (l : Log g.row.D.Denot). l.broken) c.self.view_is ∙ whole in
-    rw (← c.self.view_is) (kept_since d laws s.incarnation s.local_start s.closed.items s.active s.line s.stable (c.self.invariant.has unbroken) d' laws' c.arm.ensures.content)
+    rw (← c.self.view_is) (kept_since d laws s.incarnation s.local_start s.closed.items s.active s.line s.flushed_end (c.self.invariant.has unbroken) d' laws' c.arm.ensures.content)

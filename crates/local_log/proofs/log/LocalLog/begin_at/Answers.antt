@@ -38,7 +38,7 @@ invariant_of-self g c =
     let none_is = c.clear.ensures.items in
     let empty = ap (λ (x : Grown). end_of x) interval_is in
     let are = subst (λ (x : Grown). AreSegmentsOf a.base [] x) (sym interval_is) (fresh_are a.base s.settings.index_interval c.requires.low) in
-    let log = subst (λ (x : Grown). HasLog d' s.incarnation a.base [] x L a.base) (sym interval_is) (restart_has d laws s.incarnation s.local_start s.closed.items s.active s.line s.stable has c.self.invariant.opened c.self.invariant.fits a.base s.settings.index_interval c.requires.low L c.requires.line c.requires.within d' laws' (fate_of c.renew.result) change went) in
+    let log = subst (λ (x : Grown). HasLog d' s.incarnation a.base [] x L a.base) (sym interval_is) (restart_has d laws s.incarnation s.local_start s.closed.items s.active s.line s.flushed_end has c.self.invariant.opened c.self.invariant.fits a.base s.settings.index_interval c.requires.low L c.requires.line c.requires.within d' laws' (fate_of c.renew.result) change went) in
     record {
       segments = subst (λ (n : ℕ). AreSegmentsOf n closed a) (sym start_is) (subst (λ (gs : List Grown). AreSegmentsOf a.base gs a) (sym none_is) are);
       settings = c.self.invariant.settings;
@@ -46,9 +46,9 @@ invariant_of-self g c =
       fits = c.self.invariant.fits;
       line = c.requires.line;
       line_within = each_map (λ e le. omega (arith, le, empty)) L c.requires.within;
-      stable_within = omega (arith, start_is, empty);
+      flushed_end_within = omega (arith, start_is, empty);
       has = λ whole. subst (λ (n : ℕ). HasLog d' s.incarnation n closed a L n) (sym start_is) (subst (λ (gs : List Grown). HasLog d' s.incarnation a.base gs a L a.base) (sym none_is) log);
-      reopens = restart_reopens d laws s.incarnation s.local_start s.closed.items s.active s.line s.stable has c.self.invariant.opened c.self.invariant.fits a.base s.settings.index_interval c.requires.low L c.requires.line c.requires.within d' laws' (fate_of c.renew.result) change;
+      reopens = restart_reopens d laws s.incarnation s.local_start s.closed.items s.active s.line s.flushed_end has c.self.invariant.opened c.self.invariant.fits a.base s.settings.index_interval c.requires.low L c.requires.line c.requires.within d' laws' (fate_of c.renew.result) change;
     }
 
 pub invariant_of-self-in-Err-1 : goal.invariant_of-self-in-Err-1
@@ -76,9 +76,9 @@ invariant_of-self-in-Err-1 g c =
       fits = c.self.invariant.fits;
       line = c.self.invariant.line;
       line_within = c.self.invariant.line_within;
-      stable_within = c.self.invariant.stable_within;
-      has = λ whole. restart_dry d laws s.incarnation s.local_start s.closed.items s.active s.line s.stable has c.self.invariant.opened c.self.invariant.fits a.base s.settings.index_interval c.requires.low L line_is c.requires.within d' laws' (fate_of c.renew.result) change (ap fate_of c.in-Err.is ∙ ap fate_of_trouble (not_broken c.in-Err.trouble c.refused.result c.refused.new.broken c.refused.ensures.fault whole));
-      reopens = restart_reopens d laws s.incarnation s.local_start s.closed.items s.active s.line s.stable has c.self.invariant.opened c.self.invariant.fits a.base s.settings.index_interval c.requires.low L line_is c.requires.within d' laws' (fate_of c.renew.result) change;
+      flushed_end_within = c.self.invariant.flushed_end_within;
+      has = λ whole. restart_dry d laws s.incarnation s.local_start s.closed.items s.active s.line s.flushed_end has c.self.invariant.opened c.self.invariant.fits a.base s.settings.index_interval c.requires.low L line_is c.requires.within d' laws' (fate_of c.renew.result) change (ap fate_of c.in-Err.is ∙ ap fate_of_trouble (not_broken c.in-Err.trouble c.refused.result c.refused.new.broken c.refused.ensures.fault whole));
+      reopens = restart_reopens d laws s.incarnation s.local_start s.closed.items s.active s.line s.flushed_end has c.self.invariant.opened c.self.invariant.fits a.base s.settings.index_interval c.requires.low L line_is c.requires.within d' laws' (fate_of c.renew.result) change;
     }
 
 pub returns-in-Ok-clause-durable : goal.returns-in-Ok-clause-durable
@@ -100,7 +100,7 @@ returns-in-Ok-clause-durable g c =
     let change = subst (λ (b : List ℕ). Renews b (names_of (s.closed.items ++ s.active ∷ [])) (fate_of c.renew.result) d d') bytes_are named in
     let went : fate_of c.renew.result ≡ Went = ap fate_of c.in-Ok.is in
     let line_is : IsLine L = c.requires.line in
-    rw (← c.self.view_is) (restart_opens d laws s.incarnation s.local_start s.closed.items s.active s.line s.stable has c.self.invariant.opened c.self.invariant.fits a.base s.settings.index_interval c.requires.low L line_is c.requires.within d' laws' (fate_of c.renew.result) change went)
+    rw (← c.self.view_is) (restart_opens d laws s.incarnation s.local_start s.closed.items s.active s.line s.flushed_end has c.self.invariant.opened c.self.invariant.fits a.base s.settings.index_interval c.requires.low L line_is c.requires.within d' laws' (fate_of c.renew.result) change went)
 
 pub returns-in-Ok-clause-any_moment : goal.returns-in-Ok-clause-any_moment
 returns-in-Ok-clause-any_moment g c =
@@ -120,7 +120,7 @@ returns-in-Ok-clause-any_moment g c =
     let named = subst (λ (gs : List Grown). Renews c.args.bytes.now (names_of (gs ++ s.active ∷ [])) (fate_of c.renew.result) d d') c.deref.ensures.value c.renew.ensures.content in
     let change = subst (λ (b : List ℕ). Renews b (names_of (s.closed.items ++ s.active ∷ [])) (fate_of c.renew.result) d d') bytes_are named in
     let line_is : IsLine L = c.requires.line in
-    rw (← c.self.view_is) (restart_since d laws s.incarnation s.local_start s.closed.items s.active s.line s.stable has c.self.invariant.opened c.self.invariant.fits a.base s.settings.index_interval c.requires.low L line_is c.requires.within d' laws' (fate_of c.renew.result) change)
+    rw (← c.self.view_is) (restart_since d laws s.incarnation s.local_start s.closed.items s.active s.line s.flushed_end has c.self.invariant.opened c.self.invariant.fits a.base s.settings.index_interval c.requires.low L line_is c.requires.within d' laws' (fate_of c.renew.result) change)
 
 pub returns-in-Ok-clause-opens : goal.returns-in-Ok-clause-opens
 returns-in-Ok-clause-opens g c =
@@ -140,10 +140,10 @@ returns-in-Ok-clause-opens g c =
     let named = subst (λ (gs : List Grown). Renews c.args.bytes.now (names_of (gs ++ s.active ∷ [])) (fate_of c.renew.result) d d') c.deref.ensures.value c.renew.ensures.content in
     let change = subst (λ (b : List ℕ). Renews b (names_of (s.closed.items ++ s.active ∷ [])) (fate_of c.renew.result) d d') bytes_are named in
     let line_is : IsLine L = c.requires.line in
-    rw (← c.self.view_is) (restart_as d laws s.incarnation s.local_start s.closed.items s.active s.line s.stable has c.self.invariant.opened c.self.invariant.fits a.base s.settings.index_interval c.requires.low L line_is c.requires.within d' laws' (fate_of c.renew.result) change)
+    rw (← c.self.view_is) (restart_as d laws s.incarnation s.local_start s.closed.items s.active s.line s.flushed_end has c.self.invariant.opened c.self.invariant.fits a.base s.settings.index_interval c.requires.low L line_is c.requires.within d' laws' (fate_of c.renew.result) change)
 
-pub returns-in-Ok-clause-tells : goal.returns-in-Ok-clause-tells
-returns-in-Ok-clause-tells g c = rw (← c.self.view_is) c.renew.ensures.content.tells
+pub returns-in-Ok-clause-is_observable : goal.returns-in-Ok-clause-is_observable
+returns-in-Ok-clause-is_observable g c = rw (← c.self.view_is) c.renew.ensures.content.is_observable
 
 pub returns-in-Err-clause-any_moment : goal.returns-in-Err-clause-any_moment
 returns-in-Err-clause-any_moment g c =
@@ -163,7 +163,7 @@ returns-in-Err-clause-any_moment g c =
     let named = subst (λ (gs : List Grown). Renews c.args.bytes.now (names_of (gs ++ s.active ∷ [])) (fate_of c.renew.result) d d') c.deref.ensures.value c.renew.ensures.content in
     let change = subst (λ (b : List ℕ). Renews b (names_of (s.closed.items ++ s.active ∷ [])) (fate_of c.renew.result) d d') bytes_are named in
     let line_is : IsLine L = c.requires.line in
-    rw (← c.self.view_is) (restart_since d laws s.incarnation s.local_start s.closed.items s.active s.line s.stable has c.self.invariant.opened c.self.invariant.fits a.base s.settings.index_interval c.requires.low L line_is c.requires.within d' laws' (fate_of c.renew.result) change)
+    rw (← c.self.view_is) (restart_since d laws s.incarnation s.local_start s.closed.items s.active s.line s.flushed_end has c.self.invariant.opened c.self.invariant.fits a.base s.settings.index_interval c.requires.low L line_is c.requires.within d' laws' (fate_of c.renew.result) change)
 
 pub returns-in-Err-clause-opens : goal.returns-in-Err-clause-opens
 returns-in-Err-clause-opens g c =
@@ -183,10 +183,10 @@ returns-in-Err-clause-opens g c =
     let named = subst (λ (gs : List Grown). Renews c.args.bytes.now (names_of (gs ++ s.active ∷ [])) (fate_of c.renew.result) d d') c.deref.ensures.value c.renew.ensures.content in
     let change = subst (λ (b : List ℕ). Renews b (names_of (s.closed.items ++ s.active ∷ [])) (fate_of c.renew.result) d d') bytes_are named in
     let line_is : IsLine L = c.requires.line in
-    rw (← c.self.view_is) (restart_as d laws s.incarnation s.local_start s.closed.items s.active s.line s.stable has c.self.invariant.opened c.self.invariant.fits a.base s.settings.index_interval c.requires.low L line_is c.requires.within d' laws' (fate_of c.renew.result) change)
+    rw (← c.self.view_is) (restart_as d laws s.incarnation s.local_start s.closed.items s.active s.line s.flushed_end has c.self.invariant.opened c.self.invariant.fits a.base s.settings.index_interval c.requires.low L line_is c.requires.within d' laws' (fate_of c.renew.result) change)
 
-pub returns-in-Err-clause-tells : goal.returns-in-Err-clause-tells
-returns-in-Err-clause-tells g c = rw (← c.self.view_is) c.renew.ensures.content.tells
+pub returns-in-Err-clause-is_observable : goal.returns-in-Err-clause-is_observable
+returns-in-Err-clause-is_observable g c = rw (← c.self.view_is) c.renew.ensures.content.is_observable
 
 pub returns-in-Ok-clause-either : goal.returns-in-Ok-clause-either
 returns-in-Ok-clause-either g c =
@@ -206,7 +206,7 @@ returns-in-Ok-clause-either g c =
     let named = subst (λ (gs : List Grown). Renews c.args.bytes.now (names_of (gs ++ s.active ∷ [])) (fate_of c.renew.result) d d') c.deref.ensures.value c.renew.ensures.content in
     let change = subst (λ (b : List ℕ). Renews b (names_of (s.closed.items ++ s.active ∷ [])) (fate_of c.renew.result) d d') bytes_are named in
     let line_is : IsLine L = c.requires.line in
-    rw (← c.self.view_is) (restart_either d laws s.incarnation s.local_start s.closed.items s.active s.line s.stable has c.self.invariant.opened c.self.invariant.fits a.base s.settings.index_interval c.requires.low L line_is c.requires.within d' laws' (fate_of c.renew.result) change)
+    rw (← c.self.view_is) (restart_either d laws s.incarnation s.local_start s.closed.items s.active s.line s.flushed_end has c.self.invariant.opened c.self.invariant.fits a.base s.settings.index_interval c.requires.low L line_is c.requires.within d' laws' (fate_of c.renew.result) change)
 
 pub returns-in-Err-clause-either : goal.returns-in-Err-clause-either
 returns-in-Err-clause-either g c =
@@ -226,4 +226,4 @@ returns-in-Err-clause-either g c =
     let named = subst (λ (gs : List Grown). Renews c.args.bytes.now (names_of (gs ++ s.active ∷ [])) (fate_of c.renew.result) d d') c.deref.ensures.value c.renew.ensures.content in
     let change = subst (λ (b : List ℕ). Renews b (names_of (s.closed.items ++ s.active ∷ [])) (fate_of c.renew.result) d d') bytes_are named in
     let line_is : IsLine L = c.requires.line in
-    rw (← c.self.view_is) (restart_either d laws s.incarnation s.local_start s.closed.items s.active s.line s.stable has c.self.invariant.opened c.self.invariant.fits a.base s.settings.index_interval c.requires.low L line_is c.requires.within d' laws' (fate_of c.renew.result) change)
+    rw (← c.self.view_is) (restart_either d laws s.incarnation s.local_start s.closed.items s.active s.line s.flushed_end has c.self.invariant.opened c.self.invariant.fits a.base s.settings.index_interval c.requires.low L line_is c.requires.within d' laws' (fate_of c.renew.result) change)

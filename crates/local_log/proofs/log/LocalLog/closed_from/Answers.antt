@@ -17,7 +17,7 @@ returns-in_default-clause-any_moment g c =
     let d = g.D.Disk.content s.disk in
     let laws : Lawful d = g.met.D.Disk.lawful s.disk in
     let unbroken : s.broken ≡ false = ap (λ (l : Log g.row.D.Denot). l.broken) c.self.view_is ∙ c.requires in
-    rw (← c.self.view_is) (start_since d laws s.incarnation s.local_start s.closed.items s.active s.line s.stable (c.self.invariant.has unbroken))
+    rw (← c.self.view_is) (start_since d laws s.incarnation s.local_start s.closed.items s.active s.line s.flushed_end (c.self.invariant.has unbroken))
 
 pub closed_in-requires-clause-base : goal.closed_in-requires-clause-base
 closed_in-requires-clause-base g c =
@@ -49,7 +49,7 @@ returns-in_err-closed-clause-whole g c =
     let found : first_past c.args.offset s.closed.items ≡ Some c.in-Some.segment.now =
     sym (ap (first_past c.args.offset) c.as_slice.ensures.value) ∙ sym c.first_past.ensures ∙ ap (λ o. option_map (λ x. x.now) o) c.in-Some.is in
     let unbroken : s.broken ≡ false = ap (λ (l : Log g.row.D.Denot). l.broken) c.self.view_is ∙ c.requires in
-    let t : IsTrue (content s.disk).tells = subst (λ (l : Log g.row.D.Denot). IsTrue (content l.disk).tells) (sym c.self.view_is) there in
+    let t : IsTrue (content s.disk).is_observable = subst (λ (l : Log g.row.D.Denot). IsTrue (content l.disk).is_observable) (sym c.self.view_is) there in
     let file_is = subst (λ (l : Log g.row.D.Denot). c.in_ok-part.part ≡ option_map (part_of 0 c.size-size.result) ((content l.disk).files (file.Log c.base-base.result))) (sym c.self.view_is) (c.in_ok-part.ensures.file there) in
     let same : bytes_in c.in_ok-part.part ≡ take (size_of c.in-Some.segment.now) (bytes_of (content s.disk).files c.in-Some.segment.now) =
     ap bytes_in file_is ∙ part_bytes 0 c.size-size.result ((content s.disk).files (file.Log c.base-base.result))
@@ -70,7 +70,7 @@ returns-clause-part g c there =
     let found : first_past c.args.offset s.closed.items ≡ Some c.in-Some.segment.now =
     sym (ap (first_past c.args.offset) c.as_slice.ensures.value) ∙ sym c.first_past.ensures ∙ ap (λ o. option_map (λ x. x.now) o) c.in-Some.is in
     let unbroken : s.broken ≡ false = ap (λ (l : Log g.row.D.Denot). l.broken) c.self.view_is ∙ c.requires in
-    let t : IsTrue (content s.disk).tells = subst (λ (l : Log g.row.D.Denot). IsTrue (content l.disk).tells) (sym c.self.view_is) there in
+    let t : IsTrue (content s.disk).is_observable = subst (λ (l : Log g.row.D.Denot). IsTrue (content l.disk).is_observable) (sym c.self.view_is) there in
     let file_is = subst (λ (l : Log g.row.D.Denot). c.in_ok-part.part ≡ option_map (part_of 0 c.size-size.result) ((content l.disk).files (file.Log c.base-base.result))) (sym c.self.view_is) (c.in_ok-part.ensures.file there) in
     let same : bytes_in c.in_ok-part.part ≡ take (size_of c.in-Some.segment.now) (bytes_of (content s.disk).files c.in-Some.segment.now) =
     ap bytes_in file_is ∙ part_bytes 0 c.size-size.result ((content s.disk).files (file.Log c.base-base.result))

@@ -34,9 +34,9 @@ invariant_of-self g c =
       fits = c.self.invariant.fits;
       line = c.self.invariant.line;
       line_within = c.self.invariant.line_within;
-      stable_within = c.self.invariant.stable_within;
-      has = λ whole. room_has d m laws laws-m s.incarnation s.local_start s.closed.items s.active s.line s.stable has c.reserve.ensures.content;
-      reopens = room_reopens d m laws laws-m s.incarnation s.local_start s.closed.items s.active s.line s.stable has c.reserve.ensures.content;
+      flushed_end_within = c.self.invariant.flushed_end_within;
+      has = λ whole. room_has d m laws laws-m s.incarnation s.local_start s.closed.items s.active s.line s.flushed_end has c.reserve.ensures.content;
+      reopens = room_reopens d m laws laws-m s.incarnation s.local_start s.closed.items s.active s.line s.flushed_end has c.reserve.ensures.content;
     }
 
 pub returns-in_err-reserve-clause-any_moment : goal.returns-in_err-reserve-clause-any_moment
@@ -48,7 +48,7 @@ returns-in_err-reserve-clause-any_moment g c =
     let laws-m : Lawful m = g.met.D.Disk.lawful c.reserve.new.self in
     let unbroken : s.broken ≡ false = ap (λ (l : Log g.row.D.Denot). l.broken) c.self.view_is ∙ c.requires.unbroken in
     let has = c.self.invariant.has unbroken in
-    rw (← c.self.view_is) (room_since d m laws laws-m s.incarnation s.local_start s.closed.items s.active s.line s.stable has c.reserve.ensures.content c.args.line)
+    rw (← c.self.view_is) (room_since d m laws laws-m s.incarnation s.local_start s.closed.items s.active s.line s.flushed_end has c.reserve.ensures.content c.args.line)
 
 pub returns-in_err-reserve-clause-opens : goal.returns-in_err-reserve-clause-opens
 returns-in_err-reserve-clause-opens g c =
@@ -73,9 +73,9 @@ invariant_of-self-in_err-bytes g c =
       fits = c.self.invariant.fits;
       line = c.self.invariant.line;
       line_within = c.self.invariant.line_within;
-      stable_within = c.self.invariant.stable_within;
-      has = λ whole. room_has d m laws laws-m s.incarnation s.local_start s.closed.items s.active s.line s.stable has c.reserve.ensures.content;
-      reopens = room_reopens d m laws laws-m s.incarnation s.local_start s.closed.items s.active s.line s.stable has c.reserve.ensures.content;
+      flushed_end_within = c.self.invariant.flushed_end_within;
+      has = λ whole. room_has d m laws laws-m s.incarnation s.local_start s.closed.items s.active s.line s.flushed_end has c.reserve.ensures.content;
+      reopens = room_reopens d m laws laws-m s.incarnation s.local_start s.closed.items s.active s.line s.flushed_end has c.reserve.ensures.content;
     }
 
 pub returns-in_err-bytes-clause-any_moment : goal.returns-in_err-bytes-clause-any_moment
@@ -87,7 +87,7 @@ returns-in_err-bytes-clause-any_moment g c =
     let laws-m : Lawful m = g.met.D.Disk.lawful c.reserve.new.self in
     let unbroken : s.broken ≡ false = ap (λ (l : Log g.row.D.Denot). l.broken) c.self.view_is ∙ c.requires.unbroken in
     let has = c.self.invariant.has unbroken in
-    rw (← c.self.view_is) (room_since d m laws laws-m s.incarnation s.local_start s.closed.items s.active s.line s.stable has c.reserve.ensures.content c.args.line)
+    rw (← c.self.view_is) (room_since d m laws laws-m s.incarnation s.local_start s.closed.items s.active s.line s.flushed_end has c.reserve.ensures.content c.args.line)
 
 pub returns-in_err-bytes-clause-opens : goal.returns-in_err-bytes-clause-opens
 returns-in_err-bytes-clause-opens g c =
@@ -121,9 +121,9 @@ invariant_of-self-in-Ok-1 g c =
       fits = c.self.invariant.fits;
       line = c.requires.line;
       line_within = subst (λ (n : ℕ). Each (λ (e : ℕ × ℕ). e.1 ≤ n) c.args.line) (sym end_is) c.requires.within;
-      stable_within = omega (arith, c.end-self-inside.ensures);
-      has = λ whole. subst (HasLog d' s.incarnation s.local_start s.closed.items s.active c.args.line) (sym c.end-self-inside.ensures) (commit_has d m laws laws-m s.incarnation s.local_start s.closed.items s.active s.line s.stable has c.reserve.ensures.content d' laws' c.self.invariant.segments c.self.invariant.opened c.self.invariant.fits c.args.line c.self.invariant.line c.requires.line same_line (fate_of c.publish.result) change went);
-      reopens = commit_reopens d m laws laws-m s.incarnation s.local_start s.closed.items s.active s.line s.stable has c.reserve.ensures.content d' laws' c.self.invariant.segments c.self.invariant.opened c.self.invariant.fits c.args.line c.self.invariant.line c.requires.line same_line (fate_of c.publish.result) change;
+      flushed_end_within = omega (arith, c.end-self-inside.ensures);
+      has = λ whole. subst (HasLog d' s.incarnation s.local_start s.closed.items s.active c.args.line) (sym c.end-self-inside.ensures) (commit_has d m laws laws-m s.incarnation s.local_start s.closed.items s.active s.line s.flushed_end has c.reserve.ensures.content d' laws' c.self.invariant.segments c.self.invariant.opened c.self.invariant.fits c.args.line c.self.invariant.line c.requires.line same_line (fate_of c.publish.result) change went);
+      reopens = commit_reopens d m laws laws-m s.incarnation s.local_start s.closed.items s.active s.line s.flushed_end has c.reserve.ensures.content d' laws' c.self.invariant.segments c.self.invariant.opened c.self.invariant.fits c.args.line c.self.invariant.line c.requires.line same_line (fate_of c.publish.result) change;
     }
 
 pub invariant_of-self-in-Err-1 : goal.invariant_of-self-in-Err-1
@@ -150,9 +150,9 @@ invariant_of-self-in-Err-1 g c =
       fits = c.self.invariant.fits;
       line = c.self.invariant.line;
       line_within = c.self.invariant.line_within;
-      stable_within = c.self.invariant.stable_within;
-      has = λ whole. commit_dry d m laws laws-m s.incarnation s.local_start s.closed.items s.active s.line s.stable has c.reserve.ensures.content d' laws' c.self.invariant.segments c.self.invariant.opened c.self.invariant.fits c.args.line c.self.invariant.line c.requires.line same_line (fate_of c.publish.result) change (ap fate_of c.in-Err.is ∙ ap fate_of_trouble (not_broken c.in-Err.trouble c.refused.result c.refused.new.broken c.refused.ensures.fault whole));
-      reopens = commit_reopens d m laws laws-m s.incarnation s.local_start s.closed.items s.active s.line s.stable has c.reserve.ensures.content d' laws' c.self.invariant.segments c.self.invariant.opened c.self.invariant.fits c.args.line c.self.invariant.line c.requires.line same_line (fate_of c.publish.result) change;
+      flushed_end_within = c.self.invariant.flushed_end_within;
+      has = λ whole. commit_dry d m laws laws-m s.incarnation s.local_start s.closed.items s.active s.line s.flushed_end has c.reserve.ensures.content d' laws' c.self.invariant.segments c.self.invariant.opened c.self.invariant.fits c.args.line c.self.invariant.line c.requires.line same_line (fate_of c.publish.result) change (ap fate_of c.in-Err.is ∙ ap fate_of_trouble (not_broken c.in-Err.trouble c.refused.result c.refused.new.broken c.refused.ensures.fault whole));
+      reopens = commit_reopens d m laws laws-m s.incarnation s.local_start s.closed.items s.active s.line s.flushed_end has c.reserve.ensures.content d' laws' c.self.invariant.segments c.self.invariant.opened c.self.invariant.fits c.args.line c.self.invariant.line c.requires.line same_line (fate_of c.publish.result) change;
     }
 
 pub returns-in-Ok-clause-ok : goal.returns-in-Ok-clause-ok
@@ -174,8 +174,8 @@ returns-in-Ok-clause-ok g c =
     let change = subst (λ (b : List ℕ). Publishes (file.Log s.active.base) b (fate_of c.publish.result) m d') bytes_are named in
     rw (← c.self.view_is) (record {
       fields = rw c.end-self-inside.ensures refl;
-      tells = commit_tells d m laws laws-m s.incarnation s.local_start s.closed.items s.active s.line s.stable has c.reserve.ensures.content d' laws' c.self.invariant.segments c.self.invariant.opened c.self.invariant.fits c.args.line c.self.invariant.line c.requires.line same_line (fate_of c.publish.result) change;
-      batches = commit_batches d m laws laws-m s.incarnation s.local_start s.closed.items s.active s.line s.stable has c.reserve.ensures.content d' laws' c.self.invariant.segments c.self.invariant.opened c.self.invariant.fits c.args.line c.self.invariant.line c.requires.line same_line (fate_of c.publish.result) change;
+      is_observable = commit_tells d m laws laws-m s.incarnation s.local_start s.closed.items s.active s.line s.flushed_end has c.reserve.ensures.content d' laws' c.self.invariant.segments c.self.invariant.opened c.self.invariant.fits c.args.line c.self.invariant.line c.requires.line same_line (fate_of c.publish.result) change;
+      batches = commit_batches d m laws laws-m s.incarnation s.local_start s.closed.items s.active s.line s.flushed_end has c.reserve.ensures.content d' laws' c.self.invariant.segments c.self.invariant.opened c.self.invariant.fits c.args.line c.self.invariant.line c.requires.line same_line (fate_of c.publish.result) change;
     })
 
 pub returns-in-Ok-clause-durable : goal.returns-in-Ok-clause-durable
@@ -196,7 +196,7 @@ returns-in-Ok-clause-durable g c =
     let named = subst (λ (b : ℕ). Publishes (file.Log b) c.deref-2.result.now (fate_of c.publish.result) m d') c.base.ensures c.publish.ensures.content in
     let change = subst (λ (b : List ℕ). Publishes (file.Log s.active.base) b (fate_of c.publish.result) m d') bytes_are named in
     let went : fate_of c.publish.result ≡ Went = ap fate_of c.in-Ok.is in
-    λ f now. rw c.end-self-inside.ensures (commit_opens d m laws laws-m s.incarnation s.local_start s.closed.items s.active s.line s.stable has c.reserve.ensures.content d' laws' c.self.invariant.segments c.self.invariant.opened c.self.invariant.fits c.args.line c.self.invariant.line c.requires.line same_line (fate_of c.publish.result) change went f now)
+    λ f now. rw c.end-self-inside.ensures (commit_opens d m laws laws-m s.incarnation s.local_start s.closed.items s.active s.line s.flushed_end has c.reserve.ensures.content d' laws' c.self.invariant.segments c.self.invariant.opened c.self.invariant.fits c.args.line c.self.invariant.line c.requires.line same_line (fate_of c.publish.result) change went f now)
 
 pub returns-in-Ok-clause-any_moment : goal.returns-in-Ok-clause-any_moment
 returns-in-Ok-clause-any_moment g c =
@@ -215,7 +215,7 @@ returns-in-Ok-clause-any_moment g c =
     let bytes_are = c.deref-2.ensures.value ∙ c.in_ok-bytes.ensures ∙ ap (λ (l : List Grown). manifest_bytes (manifest_of s.incarnation s.local_start l s.active c.args.line)) c.deref.ensures.value in
     let named = subst (λ (b : ℕ). Publishes (file.Log b) c.deref-2.result.now (fate_of c.publish.result) m d') c.base.ensures c.publish.ensures.content in
     let change = subst (λ (b : List ℕ). Publishes (file.Log s.active.base) b (fate_of c.publish.result) m d') bytes_are named in
-    rw (← c.self.view_is) (commit_since d m laws laws-m s.incarnation s.local_start s.closed.items s.active s.line s.stable has c.reserve.ensures.content d' laws' c.self.invariant.segments c.self.invariant.opened c.self.invariant.fits c.args.line c.self.invariant.line c.requires.line same_line (fate_of c.publish.result) change)
+    rw (← c.self.view_is) (commit_since d m laws laws-m s.incarnation s.local_start s.closed.items s.active s.line s.flushed_end has c.reserve.ensures.content d' laws' c.self.invariant.segments c.self.invariant.opened c.self.invariant.fits c.args.line c.self.invariant.line c.requires.line same_line (fate_of c.publish.result) change)
 
 pub returns-in-Ok-clause-opens : goal.returns-in-Ok-clause-opens
 returns-in-Ok-clause-opens g c =
@@ -234,7 +234,7 @@ returns-in-Ok-clause-opens g c =
     let bytes_are = c.deref-2.ensures.value ∙ c.in_ok-bytes.ensures ∙ ap (λ (l : List Grown). manifest_bytes (manifest_of s.incarnation s.local_start l s.active c.args.line)) c.deref.ensures.value in
     let named = subst (λ (b : ℕ). Publishes (file.Log b) c.deref-2.result.now (fate_of c.publish.result) m d') c.base.ensures c.publish.ensures.content in
     let change = subst (λ (b : List ℕ). Publishes (file.Log s.active.base) b (fate_of c.publish.result) m d') bytes_are named in
-    rw (← c.self.view_is) (commit_as d m laws laws-m s.incarnation s.local_start s.closed.items s.active s.line s.stable has c.reserve.ensures.content d' laws' c.self.invariant.segments c.self.invariant.opened c.self.invariant.fits c.args.line c.self.invariant.line c.requires.line same_line (fate_of c.publish.result) change)
+    rw (← c.self.view_is) (commit_as d m laws laws-m s.incarnation s.local_start s.closed.items s.active s.line s.flushed_end has c.reserve.ensures.content d' laws' c.self.invariant.segments c.self.invariant.opened c.self.invariant.fits c.args.line c.self.invariant.line c.requires.line same_line (fate_of c.publish.result) change)
 
 pub returns-in-Err-clause-any_moment : goal.returns-in-Err-clause-any_moment
 returns-in-Err-clause-any_moment g c =
@@ -253,7 +253,7 @@ returns-in-Err-clause-any_moment g c =
     let bytes_are = c.deref-2.ensures.value ∙ c.in_ok-bytes.ensures ∙ ap (λ (l : List Grown). manifest_bytes (manifest_of s.incarnation s.local_start l s.active c.args.line)) c.deref.ensures.value in
     let named = subst (λ (b : ℕ). Publishes (file.Log b) c.deref-2.result.now (fate_of c.publish.result) m d') c.base.ensures c.publish.ensures.content in
     let change = subst (λ (b : List ℕ). Publishes (file.Log s.active.base) b (fate_of c.publish.result) m d') bytes_are named in
-    rw (← c.self.view_is) (commit_since d m laws laws-m s.incarnation s.local_start s.closed.items s.active s.line s.stable has c.reserve.ensures.content d' laws' c.self.invariant.segments c.self.invariant.opened c.self.invariant.fits c.args.line c.self.invariant.line c.requires.line same_line (fate_of c.publish.result) change)
+    rw (← c.self.view_is) (commit_since d m laws laws-m s.incarnation s.local_start s.closed.items s.active s.line s.flushed_end has c.reserve.ensures.content d' laws' c.self.invariant.segments c.self.invariant.opened c.self.invariant.fits c.args.line c.self.invariant.line c.requires.line same_line (fate_of c.publish.result) change)
 
 pub returns-in-Err-clause-opens : goal.returns-in-Err-clause-opens
 returns-in-Err-clause-opens g c =
@@ -272,7 +272,7 @@ returns-in-Err-clause-opens g c =
     let bytes_are = c.deref-2.ensures.value ∙ c.in_ok-bytes.ensures ∙ ap (λ (l : List Grown). manifest_bytes (manifest_of s.incarnation s.local_start l s.active c.args.line)) c.deref.ensures.value in
     let named = subst (λ (b : ℕ). Publishes (file.Log b) c.deref-2.result.now (fate_of c.publish.result) m d') c.base.ensures c.publish.ensures.content in
     let change = subst (λ (b : List ℕ). Publishes (file.Log s.active.base) b (fate_of c.publish.result) m d') bytes_are named in
-    rw (← c.self.view_is) (commit_as d m laws laws-m s.incarnation s.local_start s.closed.items s.active s.line s.stable has c.reserve.ensures.content d' laws' c.self.invariant.segments c.self.invariant.opened c.self.invariant.fits c.args.line c.self.invariant.line c.requires.line same_line (fate_of c.publish.result) change)
+    rw (← c.self.view_is) (commit_as d m laws laws-m s.incarnation s.local_start s.closed.items s.active s.line s.flushed_end has c.reserve.ensures.content d' laws' c.self.invariant.segments c.self.invariant.opened c.self.invariant.fits c.args.line c.self.invariant.line c.requires.line same_line (fate_of c.publish.result) change)
 
 pub returns-in-Err-clause-broken : goal.returns-in-Err-clause-broken
 returns-in-Err-clause-broken g c =
@@ -295,8 +295,8 @@ returns-in-Err-clause-broken g c =
     let broken : c.refused.new.broken ≡ true = breaks c.in-Err.trouble c.refused.result c.refused.new.broken s.broken c.refused.ensures.fault c.refused.ensures.memory (cc is) in
     rw (← c.self.view_is) (record {
       fields = rw broken refl;
-      tells = commit_tells d m laws laws-m s.incarnation s.local_start s.closed.items s.active s.line s.stable has c.reserve.ensures.content d' laws' c.self.invariant.segments c.self.invariant.opened c.self.invariant.fits c.args.line c.self.invariant.line c.requires.line same_line (fate_of c.publish.result) change;
-      batches = commit_batches d m laws laws-m s.incarnation s.local_start s.closed.items s.active s.line s.stable has c.reserve.ensures.content d' laws' c.self.invariant.segments c.self.invariant.opened c.self.invariant.fits c.args.line c.self.invariant.line c.requires.line same_line (fate_of c.publish.result) change;
+      is_observable = commit_tells d m laws laws-m s.incarnation s.local_start s.closed.items s.active s.line s.flushed_end has c.reserve.ensures.content d' laws' c.self.invariant.segments c.self.invariant.opened c.self.invariant.fits c.args.line c.self.invariant.line c.requires.line same_line (fate_of c.publish.result) change;
+      batches = commit_batches d m laws laws-m s.incarnation s.local_start s.closed.items s.active s.line s.flushed_end has c.reserve.ensures.content d' laws' c.self.invariant.segments c.self.invariant.opened c.self.invariant.fits c.args.line c.self.invariant.line c.requires.line same_line (fate_of c.publish.result) change;
     })
 
 pub returns-in_err-reserve-clause-either : goal.returns-in_err-reserve-clause-either

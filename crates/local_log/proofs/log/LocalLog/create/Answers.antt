@@ -37,7 +37,7 @@ invariant_of-result g c =
       fits = omega arith;
       line = subst IsLine (sym c.new-line.ensures) tt;
       line_within = subst (Each (λ (e : ℕ × ℕ). e.1 ≤ end_of c.new-active.result)) (sym c.new-line.ensures) tt;
-      stable_within = omega arith;
+      flushed_end_within = omega arith;
       has = λ whole. subst (λ (l : List Grown). HasLog d' 1 0 l c.new-active.result c.new-line.result 0) (sym c.new.ensures.items)
           (subst (λ (x : Grown). HasLog d' 1 0 [] x c.new-line.result 0) (sym active_is)
           (subst (λ (l : List (ℕ × ℕ)). HasLog d' 1 0 [] (first interval) l 0) (sym c.new-line.ensures) has));

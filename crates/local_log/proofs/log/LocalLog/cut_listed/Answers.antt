@@ -8,7 +8,7 @@ returns-in_err-shed-clause-either g c =
     let o = c.args.self.now in
     let m = c.settle.new.self in
     let n = c.shed.new.self in
-    either_settled (content o.disk) (content m.disk) (content n.disk) (opened_to o c.args.end) (g.met.D.Disk.lawful m.disk) (g.met.D.Disk.lawful n.disk) c.shed.ensures.tells c.settle.ensures.either c.in_ok-settle.ensures.durable c.shed.ensures.any_moment
+    either_settled (content o.disk) (content m.disk) (content n.disk) (opened_to o c.args.end) (g.met.D.Disk.lawful m.disk) (g.met.D.Disk.lawful n.disk) c.shed.ensures.is_observable c.settle.ensures.either c.in_ok-settle.ensures.durable c.shed.ensures.any_moment
 
 pub returns-clause-either : goal.returns-clause-either
 returns-clause-either g c =
@@ -16,4 +16,4 @@ returns-clause-either g c =
     let o = c.args.self.now in
     let m = c.settle.new.self in
     let n = c.shed.new.self in
-    either_settled (content o.disk) (content m.disk) (content n.disk) (opened_to o c.args.end) (g.met.D.Disk.lawful m.disk) (g.met.D.Disk.lawful n.disk) c.shed.ensures.tells c.settle.ensures.either c.in_ok-settle.ensures.durable c.shed.ensures.any_moment
+    either_settled (content o.disk) (content m.disk) (content n.disk) (opened_to o c.args.end) (g.met.D.Disk.lawful m.disk) (g.met.D.Disk.lawful n.disk) c.shed.ensures.is_observable c.settle.ensures.either c.in_ok-settle.ensures.durable c.shed.ensures.any_moment

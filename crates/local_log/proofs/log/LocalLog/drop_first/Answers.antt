@@ -1,7 +1,7 @@
 use Rattle.std.proofs.Common.{ap, subst, inl}
 use Rattle.disk_model.specs.Content.{LeavesOnly}
 use Rattle.log_steps.specs.Opens.{Opened}
-use Rattle.local_log.specs.Log.{Log, stable_log}
+use Rattle.local_log.specs.Log.{Log, flushed_log}
 use Rattle.local_log.specs.Cutting.{OpensAsOr}
 use Rattle.local_log.specs.Dropping.{dropped, OpensDropped}
 use Rattle.log_steps.proofs.Moments.{leaves_then}
@@ -15,9 +15,9 @@ returns-clause-opens g c =
     let o = c.args.self.now in
     let m = c.make_room.new.self in
     let n = c.drop_listed.new.self in
-    let same = ap (λ (l : Log g.row.D.Denot). stable_log (dropped l)) c.make_room.ensures.same in
+    let same = ap (λ (l : Log g.row.D.Denot). flushed_log (dropped l)) c.make_room.ensures.same in
     subst (λ (p : Opened). LeavesOnly (content o.disk) (content n.disk) (OpensAsOr (content o.disk) p)) same
-    (or_last (content o.disk) (content m.disk) (content n.disk) (stable_log (dropped m)) (g.met.D.Disk.lawful m.disk) (kept_opens (content o.disk) (content m.disk) c.make_room.ensures.keeps) c.drop_listed.ensures.opens)
+    (or_last (content o.disk) (content m.disk) (content n.disk) (flushed_log (dropped m)) (g.met.D.Disk.lawful m.disk) (kept_opens (content o.disk) (content m.disk) c.make_room.ensures.keeps) c.drop_listed.ensures.opens)
 
 pub returns-clause-either : goal.returns-clause-either
 returns-clause-either g c =

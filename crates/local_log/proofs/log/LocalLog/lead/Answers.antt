@@ -18,7 +18,7 @@ returns-in_err-line-clause-any_moment g c =
     let d = g.D.Disk.content s.disk in
     let laws : Lawful d = g.met.D.Disk.lawful s.disk in
     let unbroken : s.broken ≡ false = ap (λ (l : Log g.row.D.Denot). l.broken) c.self.view_is ∙ c.requires.unbroken in
-    rw (← c.self.view_is) (leaves_weaker d d _ _ (λ f h. inl h) (start_since d laws s.incarnation s.local_start s.closed.items s.active s.line s.stable (c.self.invariant.has unbroken)))
+    rw (← c.self.view_is) (leaves_weaker d d _ _ (λ f h. inl h) (start_since d laws s.incarnation s.local_start s.closed.items s.active s.line s.flushed_end (c.self.invariant.has unbroken)))
 
 pub returns-in_err-line-clause-opens : goal.returns-in_err-line-clause-opens
 returns-in_err-line-clause-opens g c =
@@ -32,7 +32,7 @@ returns-in_err-assign-clause-any_moment g c =
     let d = g.D.Disk.content s.disk in
     let laws : Lawful d = g.met.D.Disk.lawful s.disk in
     let unbroken : s.broken ≡ false = ap (λ (l : Log g.row.D.Denot). l.broken) c.self.view_is ∙ c.requires.unbroken in
-    rw (← c.self.view_is) (leaves_weaker d d _ _ (λ f h. inl h) (start_since d laws s.incarnation s.local_start s.closed.items s.active s.line s.stable (c.self.invariant.has unbroken)))
+    rw (← c.self.view_is) (leaves_weaker d d _ _ (λ f h. inl h) (start_since d laws s.incarnation s.local_start s.closed.items s.active s.line s.flushed_end (c.self.invariant.has unbroken)))
 
 pub returns-in_err-assign-clause-opens : goal.returns-in_err-assign-clause-opens
 returns-in_err-assign-clause-opens g c =

@@ -15,4 +15,4 @@ listing_to-requires-clause-segments g c =
     let from : s.local_start ≤ n = subst (λ (l : Log g.row.D.Denot). l.local_start ≤ n) (sym c.self.view_is) c.requires.from in
     let within : n ≤ end_of s.active = subst (λ (l : Log g.row.D.Denot). n ≤ l.end) (sym c.self.view_is) c.requires.within in
     let exact : cut_point n s.closed.items s.active ≡ n = subst (λ (l : Log g.row.D.Denot). cut_point n l.closed l.active ≡ n) (sym c.self.view_is) c.requires.exact in
-    rw c.deref.ensures.value (short_are d s.incarnation s.local_start s.closed.items s.active s.line s.stable has c.self.invariant.segments c.self.invariant.line n from exact within)
+    rw c.deref.ensures.value (short_are d s.incarnation s.local_start s.closed.items s.active s.line s.flushed_end has c.self.invariant.segments c.self.invariant.line n from exact within)

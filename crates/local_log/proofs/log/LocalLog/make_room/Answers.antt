@@ -12,7 +12,7 @@ invariant_of-self g c =
     let laws : Lawful d = g.met.D.Disk.lawful s.disk in
     let laws-m : Lawful m = g.met.D.Disk.lawful c.reserve.new.self in
     let unbroken : s.broken ≡ false = ap (λ (l : Log g.row.D.Denot). l.broken) c.self.view_is ∙ c.requires in
-    let has = has_kept d laws s.incarnation s.local_start s.closed.items s.active s.line s.stable (c.self.invariant.has unbroken) m laws-m c.reserve.ensures.content in
+    let has = has_kept d laws s.incarnation s.local_start s.closed.items s.active s.line s.flushed_end (c.self.invariant.has unbroken) m laws-m c.reserve.ensures.content in
     record {
       segments = c.self.invariant.segments;
       settings = c.self.invariant.settings;
@@ -20,7 +20,7 @@ invariant_of-self g c =
       fits = c.self.invariant.fits;
       line = c.self.invariant.line;
       line_within = c.self.invariant.line_within;
-      stable_within = c.self.invariant.stable_within;
+      flushed_end_within = c.self.invariant.flushed_end_within;
       has = λ whole. has;
-      reopens = has_reopens m laws-m s.incarnation s.local_start s.closed.items s.active s.line s.stable has;
+      reopens = has_reopens m laws-m s.incarnation s.local_start s.closed.items s.active s.line s.flushed_end has;
     }

@@ -12,4 +12,4 @@ returns-clause-any_moment g c =
     let laws : Lawful d = g.met.D.Disk.lawful s.disk in
     let laws' : Lawful d' = g.met.D.Disk.lawful c.read_part.new.self in
     let unbroken : s.broken ≡ false = ap (λ (l : Log g.row.D.Denot). l.broken) c.self.view_is ∙ c.requires in
-    rw (← c.self.view_is) (kept_since d laws s.incarnation s.local_start s.closed.items s.active s.line s.stable (c.self.invariant.has unbroken) d' laws' c.read_part.ensures.content)
+    rw (← c.self.view_is) (kept_since d laws s.incarnation s.local_start s.closed.items s.active s.line s.flushed_end (c.self.invariant.has unbroken) d' laws' c.read_part.ensures.content)

@@ -20,7 +20,7 @@ returns-then-end-mark-clause-any_moment g c =
     let d = g.D.Disk.content s.disk in
     let laws : Lawful d = g.met.D.Disk.lawful s.disk in
     let unbroken : s.broken ≡ false = ap (λ (l : Log g.row.D.Denot). l.broken) c.self.view_is ∙ c.requires.unbroken in
-    rw (← c.self.view_is) (start_since d laws s.incarnation s.local_start s.closed.items s.active s.line s.stable (c.self.invariant.has unbroken))
+    rw (← c.self.view_is) (start_since d laws s.incarnation s.local_start s.closed.items s.active s.line s.flushed_end (c.self.invariant.has unbroken))
 
 pub returns-then-end-mark-clause-whole : goal.returns-then-end-mark-clause-whole
 returns-then-end-mark-clause-whole g c there edge =
@@ -31,7 +31,7 @@ returns-then-end-mark-clause-whole g c there edge =
     c.segment_at-marked.ensures ∙ ap (λ (l : List Grown). unwrap_or (first_past c.args.mark l) s.active) c.as_slice.ensures.value in
     let unbroken : s.broken ≡ false = ap (λ (l : Log g.row.D.Denot). l.broken) c.self.view_is ∙ c.requires.unbroken in
     let start : s.local_start ≤ c.args.offset = subst (λ (l : Log g.row.D.Denot). l.local_start ≤ c.args.offset) (sym c.self.view_is) c.requires.start in
-    let t : IsTrue (content s.disk).tells = subst (λ (l : Log g.row.D.Denot). IsTrue (content l.disk).tells) (sym c.self.view_is) there in
+    let t : IsTrue (content s.disk).is_observable = subst (λ (l : Log g.row.D.Denot). IsTrue (content l.disk).is_observable) (sym c.self.view_is) there in
     let on = subst (λ (l : Log g.row.D.Denot). IsEdge l c.args.mark) (sym c.self.view_is) edge in
     let is = edge_told content s c.self.invariant unbroken t c.args.mark (omega (arith, start, c.requires.below)) in
     let same : c.place_of-end.result.0 ≡ c.args.mark = c.place_of-end.ensures.offset ∙ ap (λ (x : Grown). begin_of x c.args.mark) marked_is ∙ sym is ∙ on in
@@ -93,7 +93,7 @@ returns-clause-run g c =
     let line_is : c.self-2.inside.line ≡ s.line =
     ap (λ (l : Log g.row.D.Denot). l.line) (c.self-2.view_is ∙ c.read_part.ensures.log.fields) ∙ sym (ap (λ (l : Log g.row.D.Denot). l.line) c.self.view_is) in
     ok_more _ _ c.run_in.result (λ out cut there. (
-    let t : IsTrue (content s.disk).tells = subst (λ (l : Log g.row.D.Denot). IsTrue (content l.disk).tells) (sym c.self.view_is) there in
+    let t : IsTrue (content s.disk).is_observable = subst (λ (l : Log g.row.D.Denot). IsTrue (content l.disk).is_observable) (sym c.self.view_is) there in
     let file_is = subst (λ (l : Log g.row.D.Denot). c.in_ok-part.part ≡ option_map (part_of from most) ((content l.disk).files (file.Log c.piece_at-piece.result.base))) (sym c.self.view_is) (c.in_ok-part.ensures.file there) in
     let bytes_are = ap bytes_in file_is ∙ part_bytes from most ((content s.disk).files (file.Log c.piece_at-piece.result.base)) ∙ ap (λ (b : ℕ). part_of from most (bytes_in ((content s.disk).files (file.Log b)))) (c.piece_at-piece.ensures.base ∙ ap (λ (x : Grown). x.base) seg_is) in
     let whole = subst (λ (l : List (ℕ × ℕ)). IsCut l (bytes_in c.in_ok-part.part) c.args.offset c.args.limit c.args.mark c.piece_at-piece.result.end out) line_is cut in
@@ -131,7 +131,7 @@ returns-clause-whole g c =
     let line_is : c.self-2.inside.line ≡ s.line =
     ap (λ (l : Log g.row.D.Denot). l.line) (c.self-2.view_is ∙ c.read_part.ensures.log.fields) ∙ sym (ap (λ (l : Log g.row.D.Denot). l.line) c.self.view_is) in
     err_more _ _ c.run_in.result (λ e fails there at_edge. (
-    let t : IsTrue (content s.disk).tells = subst (λ (l : Log g.row.D.Denot). IsTrue (content l.disk).tells) (sym c.self.view_is) there in
+    let t : IsTrue (content s.disk).is_observable = subst (λ (l : Log g.row.D.Denot). IsTrue (content l.disk).is_observable) (sym c.self.view_is) there in
     let file_is = subst (λ (l : Log g.row.D.Denot). c.in_ok-part.part ≡ option_map (part_of from most) ((content l.disk).files (file.Log c.piece_at-piece.result.base))) (sym c.self.view_is) (c.in_ok-part.ensures.file there) in
     let bytes_are = ap bytes_in file_is ∙ part_bytes from most ((content s.disk).files (file.Log c.piece_at-piece.result.base)) ∙ ap (λ (b : ℕ). part_of from most (bytes_in ((content s.disk).files (file.Log b)))) (c.piece_at-piece.ensures.base ∙ ap (λ (x : Grown). x.base) seg_is) in
     let whole = subst (λ (l : List (ℕ × ℕ)). CutFails l c.piece_at-piece.result.base from (bytes_in c.in_ok-part.part) c.args.offset c.args.limit c.args.mark c.piece_at-piece.result.end e) line_is fails in

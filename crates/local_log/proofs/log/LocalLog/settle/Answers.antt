@@ -42,9 +42,9 @@ invariant_of-self g c =
       fits = c.self.invariant.fits;
       line = c.self.invariant.line;
       line_within = c.self.invariant.line_within;
-      stable_within = within;
-      has = λ whole. settled_has d laws s.incarnation s.local_start s.closed.items s.active s.line s.stable has c.self.invariant.segments c.self.invariant.line n from exact within c.self.invariant.opened c.self.invariant.fits d' laws' (fate_of c.publish.result) change went;
-      reopens = settle_reopens d laws s.incarnation s.local_start s.closed.items s.active s.line s.stable has c.self.invariant.segments c.self.invariant.line n from exact within c.self.invariant.opened c.self.invariant.fits d' laws' (fate_of c.publish.result) change;
+      flushed_end_within = within;
+      has = λ whole. settled_has d laws s.incarnation s.local_start s.closed.items s.active s.line s.flushed_end has c.self.invariant.segments c.self.invariant.line n from exact within c.self.invariant.opened c.self.invariant.fits d' laws' (fate_of c.publish.result) change went;
+      reopens = settle_reopens d laws s.incarnation s.local_start s.closed.items s.active s.line s.flushed_end has c.self.invariant.segments c.self.invariant.line n from exact within c.self.invariant.opened c.self.invariant.fits d' laws' (fate_of c.publish.result) change;
     }
 
 pub invariant_of-self-in-Err : goal.invariant_of-self-in-Err
@@ -72,9 +72,9 @@ invariant_of-self-in-Err g c =
       fits = c.self.invariant.fits;
       line = c.self.invariant.line;
       line_within = c.self.invariant.line_within;
-      stable_within = c.self.invariant.stable_within;
-      has = λ whole. settle_dry d laws s.incarnation s.local_start s.closed.items s.active s.line s.stable has c.self.invariant.segments c.self.invariant.line n from exact within c.self.invariant.opened c.self.invariant.fits d' laws' (fate_of c.publish.result) change (ap fate_of c.in-Err.is ∙ ap fate_of_trouble (not_broken c.in-Err.trouble c.refused.result c.refused.new.broken c.refused.ensures.fault whole));
-      reopens = settle_reopens d laws s.incarnation s.local_start s.closed.items s.active s.line s.stable has c.self.invariant.segments c.self.invariant.line n from exact within c.self.invariant.opened c.self.invariant.fits d' laws' (fate_of c.publish.result) change;
+      flushed_end_within = c.self.invariant.flushed_end_within;
+      has = λ whole. settle_dry d laws s.incarnation s.local_start s.closed.items s.active s.line s.flushed_end has c.self.invariant.segments c.self.invariant.line n from exact within c.self.invariant.opened c.self.invariant.fits d' laws' (fate_of c.publish.result) change (ap fate_of c.in-Err.is ∙ ap fate_of_trouble (not_broken c.in-Err.trouble c.refused.result c.refused.new.broken c.refused.ensures.fault whole));
+      reopens = settle_reopens d laws s.incarnation s.local_start s.closed.items s.active s.line s.flushed_end has c.self.invariant.segments c.self.invariant.line n from exact within c.self.invariant.opened c.self.invariant.fits d' laws' (fate_of c.publish.result) change;
     }
 
 pub returns-in-Ok-clause-ok : goal.returns-in-Ok-clause-ok
@@ -95,7 +95,7 @@ returns-in-Ok-clause-ok g c =
     let base_is : c.open_front-last.result.base ≡ (open_by n s.closed.items s.active).base = ap (λ (e : Extent). e.base) c.open_front-last.ensures ∙ ap (λ (l : List Grown). (open_by n l s.active).base) c.deref.ensures.value in
     let named = subst (λ (b : ℕ). Publishes (file.Log b) c.args.bytes.now (fate_of c.publish.result) d d') base_is c.publish.ensures.content in
     let change = subst (λ (b : List ℕ). Publishes (file.Log (open_by n s.closed.items s.active).base) b (fate_of c.publish.result) d d') bytes_are named in
-    rw (← c.self.view_is) (record { fields = refl; tells = change.tells; batches = λ t. settle_batches d laws s.incarnation s.local_start s.closed.items s.active s.line s.stable has c.self.invariant.segments c.self.invariant.line n from exact within c.self.invariant.opened c.self.invariant.fits d' laws' (fate_of c.publish.result) change t (s.closed.items ++ s.active ∷ []) })
+    rw (← c.self.view_is) (record { fields = refl; is_observable = change.is_observable; batches = λ t. settle_batches d laws s.incarnation s.local_start s.closed.items s.active s.line s.flushed_end has c.self.invariant.segments c.self.invariant.line n from exact within c.self.invariant.opened c.self.invariant.fits d' laws' (fate_of c.publish.result) change t (s.closed.items ++ s.active ∷ []) })
 
 pub returns-in-Ok-clause-durable : goal.returns-in-Ok-clause-durable
 returns-in-Ok-clause-durable g c =
@@ -116,7 +116,7 @@ returns-in-Ok-clause-durable g c =
     let named = subst (λ (b : ℕ). Publishes (file.Log b) c.args.bytes.now (fate_of c.publish.result) d d') base_is c.publish.ensures.content in
     let change = subst (λ (b : List ℕ). Publishes (file.Log (open_by n s.closed.items s.active).base) b (fate_of c.publish.result) d d') bytes_are named in
     let went : fate_of c.publish.result ≡ Went = ap fate_of c.in-Ok.is in
-    rw (← c.self.view_is) (settled_opens d laws s.incarnation s.local_start s.closed.items s.active s.line s.stable has c.self.invariant.segments c.self.invariant.line n from exact within c.self.invariant.opened c.self.invariant.fits d' laws' (fate_of c.publish.result) change went)
+    rw (← c.self.view_is) (settled_opens d laws s.incarnation s.local_start s.closed.items s.active s.line s.flushed_end has c.self.invariant.segments c.self.invariant.line n from exact within c.self.invariant.opened c.self.invariant.fits d' laws' (fate_of c.publish.result) change went)
 
 pub returns-in-Ok-clause-any_moment : goal.returns-in-Ok-clause-any_moment
 returns-in-Ok-clause-any_moment g c =
@@ -136,7 +136,7 @@ returns-in-Ok-clause-any_moment g c =
     let base_is : c.open_front-last.result.base ≡ (open_by n s.closed.items s.active).base = ap (λ (e : Extent). e.base) c.open_front-last.ensures ∙ ap (λ (l : List Grown). (open_by n l s.active).base) c.deref.ensures.value in
     let named = subst (λ (b : ℕ). Publishes (file.Log b) c.args.bytes.now (fate_of c.publish.result) d d') base_is c.publish.ensures.content in
     let change = subst (λ (b : List ℕ). Publishes (file.Log (open_by n s.closed.items s.active).base) b (fate_of c.publish.result) d d') bytes_are named in
-    rw (← c.self.view_is) (settle_since d laws s.incarnation s.local_start s.closed.items s.active s.line s.stable has c.self.invariant.segments c.self.invariant.line n from exact within c.self.invariant.opened c.self.invariant.fits d' laws' (fate_of c.publish.result) change)
+    rw (← c.self.view_is) (settle_since d laws s.incarnation s.local_start s.closed.items s.active s.line s.flushed_end has c.self.invariant.segments c.self.invariant.line n from exact within c.self.invariant.opened c.self.invariant.fits d' laws' (fate_of c.publish.result) change)
 
 pub returns-in-Ok-clause-opens : goal.returns-in-Ok-clause-opens
 returns-in-Ok-clause-opens g c =
@@ -156,10 +156,10 @@ returns-in-Ok-clause-opens g c =
     let base_is : c.open_front-last.result.base ≡ (open_by n s.closed.items s.active).base = ap (λ (e : Extent). e.base) c.open_front-last.ensures ∙ ap (λ (l : List Grown). (open_by n l s.active).base) c.deref.ensures.value in
     let named = subst (λ (b : ℕ). Publishes (file.Log b) c.args.bytes.now (fate_of c.publish.result) d d') base_is c.publish.ensures.content in
     let change = subst (λ (b : List ℕ). Publishes (file.Log (open_by n s.closed.items s.active).base) b (fate_of c.publish.result) d d') bytes_are named in
-    rw (← c.self.view_is) (settle_as d laws s.incarnation s.local_start s.closed.items s.active s.line s.stable has c.self.invariant.segments c.self.invariant.line n from exact within c.self.invariant.opened c.self.invariant.fits d' laws' (fate_of c.publish.result) change)
+    rw (← c.self.view_is) (settle_as d laws s.incarnation s.local_start s.closed.items s.active s.line s.flushed_end has c.self.invariant.segments c.self.invariant.line n from exact within c.self.invariant.opened c.self.invariant.fits d' laws' (fate_of c.publish.result) change)
 
-pub returns-in-Ok-clause-tells : goal.returns-in-Ok-clause-tells
-returns-in-Ok-clause-tells g c = rw (← c.self.view_is) c.publish.ensures.content.tells
+pub returns-in-Ok-clause-is_observable : goal.returns-in-Ok-clause-is_observable
+returns-in-Ok-clause-is_observable g c = rw (← c.self.view_is) c.publish.ensures.content.is_observable
 
 pub returns-in-Err-clause-any_moment : goal.returns-in-Err-clause-any_moment
 returns-in-Err-clause-any_moment g c =
@@ -179,7 +179,7 @@ returns-in-Err-clause-any_moment g c =
     let base_is : c.open_front-last.result.base ≡ (open_by n s.closed.items s.active).base = ap (λ (e : Extent). e.base) c.open_front-last.ensures ∙ ap (λ (l : List Grown). (open_by n l s.active).base) c.deref.ensures.value in
     let named = subst (λ (b : ℕ). Publishes (file.Log b) c.args.bytes.now (fate_of c.publish.result) d d') base_is c.publish.ensures.content in
     let change = subst (λ (b : List ℕ). Publishes (file.Log (open_by n s.closed.items s.active).base) b (fate_of c.publish.result) d d') bytes_are named in
-    rw (← c.self.view_is) (settle_since d laws s.incarnation s.local_start s.closed.items s.active s.line s.stable has c.self.invariant.segments c.self.invariant.line n from exact within c.self.invariant.opened c.self.invariant.fits d' laws' (fate_of c.publish.result) change)
+    rw (← c.self.view_is) (settle_since d laws s.incarnation s.local_start s.closed.items s.active s.line s.flushed_end has c.self.invariant.segments c.self.invariant.line n from exact within c.self.invariant.opened c.self.invariant.fits d' laws' (fate_of c.publish.result) change)
 
 pub returns-in-Err-clause-opens : goal.returns-in-Err-clause-opens
 returns-in-Err-clause-opens g c =
@@ -199,10 +199,10 @@ returns-in-Err-clause-opens g c =
     let base_is : c.open_front-last.result.base ≡ (open_by n s.closed.items s.active).base = ap (λ (e : Extent). e.base) c.open_front-last.ensures ∙ ap (λ (l : List Grown). (open_by n l s.active).base) c.deref.ensures.value in
     let named = subst (λ (b : ℕ). Publishes (file.Log b) c.args.bytes.now (fate_of c.publish.result) d d') base_is c.publish.ensures.content in
     let change = subst (λ (b : List ℕ). Publishes (file.Log (open_by n s.closed.items s.active).base) b (fate_of c.publish.result) d d') bytes_are named in
-    rw (← c.self.view_is) (settle_as d laws s.incarnation s.local_start s.closed.items s.active s.line s.stable has c.self.invariant.segments c.self.invariant.line n from exact within c.self.invariant.opened c.self.invariant.fits d' laws' (fate_of c.publish.result) change)
+    rw (← c.self.view_is) (settle_as d laws s.incarnation s.local_start s.closed.items s.active s.line s.flushed_end has c.self.invariant.segments c.self.invariant.line n from exact within c.self.invariant.opened c.self.invariant.fits d' laws' (fate_of c.publish.result) change)
 
-pub returns-in-Err-clause-tells : goal.returns-in-Err-clause-tells
-returns-in-Err-clause-tells g c = rw (← c.self.view_is) c.publish.ensures.content.tells
+pub returns-in-Err-clause-is_observable : goal.returns-in-Err-clause-is_observable
+returns-in-Err-clause-is_observable g c = rw (← c.self.view_is) c.publish.ensures.content.is_observable
 
 pub returns-in-Ok-clause-either : goal.returns-in-Ok-clause-either
 returns-in-Ok-clause-either g c = rw (← c.self.view_is) (either_opens (g.D.Disk.content c.self.inside.disk) (g.D.Disk.content c.publish.new.disk) c.publish.ensures.either)

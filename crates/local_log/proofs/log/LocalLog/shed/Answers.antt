@@ -35,7 +35,7 @@ invariant_of-self g c =
     let unbroken : s.broken ≡ false = ap (λ (l : Log g.row.D.Denot). l.broken) c.self.view_is ∙ c.requires.unbroken in
     let has = c.self.invariant.has unbroken in
     let from : s.local_start ≤ n = subst (λ (l : Log g.row.D.Denot). l.local_start ≤ n) (sym c.self.view_is) c.requires.from in
-    let up : s.stable ≤ n = subst (λ (l : Log g.row.D.Denot). l.stable ≤ n) (sym c.self.view_is) c.requires.above in
+    let up : s.flushed_end ≤ n = subst (λ (l : Log g.row.D.Denot). l.flushed_end ≤ n) (sym c.self.view_is) c.requires.above in
     let within : n ≤ end_of s.active = subst (λ (l : Log g.row.D.Denot). n ≤ l.end) (sym c.self.view_is) c.requires.within in
     let exact : cut_point n s.closed.items s.active ≡ n = subst (λ (l : Log g.row.D.Denot). cut_point n l.closed l.active ≡ n) (sym c.self.view_is) c.requires.exact in
     let change = subst (λ (l : List Grown). Trims (names_of (behind n l s.active)) (open_by n l s.active).base (size_of (front_to n (open_by n l s.active))) (failing c.trim.result) d d') c.deref.ensures.value c.trim.ensures.content in
@@ -45,18 +45,18 @@ invariant_of-self g c =
     let end_is : end_of c.cut_segments.new.active ≡ n = ap end_of active_new ∙ exact in
     let went : failing c.trim.result ≡ Went = ap failing c.in-Ok.is in
     record {
-      segments = subst (λ (x : Grown). AreSegmentsOf s.local_start c.cut_segments.new.closed.items x) (sym active_new) (subst (λ (l : List Grown). AreSegmentsOf s.local_start l (front_to n (open_by n s.closed.items s.active))) (sym closed_new) (short_are d s.incarnation s.local_start s.closed.items s.active s.line s.stable has c.self.invariant.segments c.self.invariant.line n from exact within));
+      segments = subst (λ (x : Grown). AreSegmentsOf s.local_start c.cut_segments.new.closed.items x) (sym active_new) (subst (λ (l : List Grown). AreSegmentsOf s.local_start l (front_to n (open_by n s.closed.items s.active))) (sym closed_new) (short_are d s.incarnation s.local_start s.closed.items s.active s.line s.flushed_end has c.self.invariant.segments c.self.invariant.line n from exact within));
       settings = c.self.invariant.settings;
       opened = c.self.invariant.opened;
       fits = c.self.invariant.fits;
-      line = subst IsLine (sym line_new) (short_line d s.incarnation s.local_start s.closed.items s.active s.line s.stable has c.self.invariant.segments c.self.invariant.line n from exact within);
+      line = subst IsLine (sym line_new) (short_line d s.incarnation s.local_start s.closed.items s.active s.line s.flushed_end has c.self.invariant.segments c.self.invariant.line n from exact within);
       line_within = subst (λ (k : ℕ). Each (λ (e : ℕ × ℕ). e.1 ≤ k) c.cut_end.new.self) (sym end_is) (subst (Each (λ (e : ℕ × ℕ). e.1 ≤ n)) (sym line_new) (below_cut s.line n));
-      stable_within = omega (arith, end_is, up);
-      has = λ whole. subst (λ (x : Grown). HasLog d' s.incarnation s.local_start c.cut_segments.new.closed.items x c.cut_end.new.self s.stable) (sym active_new)
-          (subst (λ (l : List Grown). HasLog d' s.incarnation s.local_start l (front_to n (open_by n s.closed.items s.active)) c.cut_end.new.self s.stable) (sym closed_new)
-          (subst (λ (l : List (ℕ × ℕ)). HasLog d' s.incarnation s.local_start (closed_by n s.closed.items) (front_to n (open_by n s.closed.items s.active)) l s.stable) (sym line_new)
-          (shed_has d laws s.incarnation s.local_start s.closed.items s.active s.line s.stable has c.self.invariant.segments c.self.invariant.line n from exact within up d' laws' (failing c.trim.result) change went)));
-      reopens = shed_reopens d laws s.incarnation s.local_start s.closed.items s.active s.line s.stable has c.self.invariant.segments c.self.invariant.line n from exact within up d' laws' (failing c.trim.result) change;
+      flushed_end_within = omega (arith, end_is, up);
+      has = λ whole. subst (λ (x : Grown). HasLog d' s.incarnation s.local_start c.cut_segments.new.closed.items x c.cut_end.new.self s.flushed_end) (sym active_new)
+          (subst (λ (l : List Grown). HasLog d' s.incarnation s.local_start l (front_to n (open_by n s.closed.items s.active)) c.cut_end.new.self s.flushed_end) (sym closed_new)
+          (subst (λ (l : List (ℕ × ℕ)). HasLog d' s.incarnation s.local_start (closed_by n s.closed.items) (front_to n (open_by n s.closed.items s.active)) l s.flushed_end) (sym line_new)
+          (shed_has d laws s.incarnation s.local_start s.closed.items s.active s.line s.flushed_end has c.self.invariant.segments c.self.invariant.line n from exact within up d' laws' (failing c.trim.result) change went)));
+      reopens = shed_reopens d laws s.incarnation s.local_start s.closed.items s.active s.line s.flushed_end has c.self.invariant.segments c.self.invariant.line n from exact within up d' laws' (failing c.trim.result) change;
     }
 
 pub invariant_of-self-in-Err : goal.invariant_of-self-in-Err
@@ -70,7 +70,7 @@ invariant_of-self-in-Err g c =
     let unbroken : s.broken ≡ false = ap (λ (l : Log g.row.D.Denot). l.broken) c.self.view_is ∙ c.requires.unbroken in
     let has = c.self.invariant.has unbroken in
     let from : s.local_start ≤ n = subst (λ (l : Log g.row.D.Denot). l.local_start ≤ n) (sym c.self.view_is) c.requires.from in
-    let up : s.stable ≤ n = subst (λ (l : Log g.row.D.Denot). l.stable ≤ n) (sym c.self.view_is) c.requires.above in
+    let up : s.flushed_end ≤ n = subst (λ (l : Log g.row.D.Denot). l.flushed_end ≤ n) (sym c.self.view_is) c.requires.above in
     let within : n ≤ end_of s.active = subst (λ (l : Log g.row.D.Denot). n ≤ l.end) (sym c.self.view_is) c.requires.within in
     let exact : cut_point n s.closed.items s.active ≡ n = subst (λ (l : Log g.row.D.Denot). cut_point n l.closed l.active ≡ n) (sym c.self.view_is) c.requires.exact in
     let change = subst (λ (l : List Grown). Trims (names_of (behind n l s.active)) (open_by n l s.active).base (size_of (front_to n (open_by n l s.active))) (failing c.trim.result) d d') c.deref.ensures.value c.trim.ensures.content in
@@ -81,9 +81,9 @@ invariant_of-self-in-Err g c =
       fits = c.self.invariant.fits;
       line = c.self.invariant.line;
       line_within = c.self.invariant.line_within;
-      stable_within = c.self.invariant.stable_within;
+      flushed_end_within = c.self.invariant.flushed_end_within;
       has = λ whole. absurd (true≢false whole);
-      reopens = shed_reopens d laws s.incarnation s.local_start s.closed.items s.active s.line s.stable has c.self.invariant.segments c.self.invariant.line n from exact within up d' laws' (failing c.trim.result) change;
+      reopens = shed_reopens d laws s.incarnation s.local_start s.closed.items s.active s.line s.flushed_end has c.self.invariant.segments c.self.invariant.line n from exact within up d' laws' (failing c.trim.result) change;
     }
 
 pub returns-in-Ok-clause-ok : goal.returns-in-Ok-clause-ok
@@ -97,7 +97,7 @@ returns-in-Ok-clause-ok g c =
     let unbroken : s.broken ≡ false = ap (λ (l : Log g.row.D.Denot). l.broken) c.self.view_is ∙ c.requires.unbroken in
     let has = c.self.invariant.has unbroken in
     let from : s.local_start ≤ n = subst (λ (l : Log g.row.D.Denot). l.local_start ≤ n) (sym c.self.view_is) c.requires.from in
-    let up : s.stable ≤ n = subst (λ (l : Log g.row.D.Denot). l.stable ≤ n) (sym c.self.view_is) c.requires.above in
+    let up : s.flushed_end ≤ n = subst (λ (l : Log g.row.D.Denot). l.flushed_end ≤ n) (sym c.self.view_is) c.requires.above in
     let within : n ≤ end_of s.active = subst (λ (l : Log g.row.D.Denot). n ≤ l.end) (sym c.self.view_is) c.requires.within in
     let exact : cut_point n s.closed.items s.active ≡ n = subst (λ (l : Log g.row.D.Denot). cut_point n l.closed l.active ≡ n) (sym c.self.view_is) c.requires.exact in
     let change = subst (λ (l : List Grown). Trims (names_of (behind n l s.active)) (open_by n l s.active).base (size_of (front_to n (open_by n l s.active))) (failing c.trim.result) d d') c.deref.ensures.value c.trim.ensures.content in
@@ -108,7 +108,7 @@ returns-in-Ok-clause-ok g c =
     let went : failing c.trim.result ≡ Went = ap failing c.in-Ok.is in
     let batches_are : all_batches d'.files (c.cut_segments.new.closed.items ++ c.cut_segments.new.active ∷ []) ≡ all_batches d'.files (closed_by n s.closed.items ++ front_to n (open_by n s.closed.items s.active) ∷ []) =
     ap (λ (l : List Grown). all_batches d'.files (l ++ c.cut_segments.new.active ∷ [])) closed_new ∙ ap (λ (x : Grown). all_batches d'.files (closed_by n s.closed.items ++ x ∷ [])) active_new in
-    rw (← c.self.view_is) (becomes_by g.D.Disk.content _ _ refl refl refl end_is refl line_new closed_new active_new refl change.tells (λ t. batches_are ∙ shed_batches d laws s.incarnation s.local_start s.closed.items s.active s.line s.stable has c.self.invariant.segments c.self.invariant.line n from exact within up d' laws' (failing c.trim.result) change went t))
+    rw (← c.self.view_is) (becomes_by g.D.Disk.content _ _ refl refl refl end_is refl line_new closed_new active_new refl change.is_observable (λ t. batches_are ∙ shed_batches d laws s.incarnation s.local_start s.closed.items s.active s.line s.flushed_end has c.self.invariant.segments c.self.invariant.line n from exact within up d' laws' (failing c.trim.result) change went t))
 
 pub returns-in-Ok-clause-any_moment : goal.returns-in-Ok-clause-any_moment
 returns-in-Ok-clause-any_moment g c =
@@ -121,14 +121,14 @@ returns-in-Ok-clause-any_moment g c =
     let unbroken : s.broken ≡ false = ap (λ (l : Log g.row.D.Denot). l.broken) c.self.view_is ∙ c.requires.unbroken in
     let has = c.self.invariant.has unbroken in
     let from : s.local_start ≤ n = subst (λ (l : Log g.row.D.Denot). l.local_start ≤ n) (sym c.self.view_is) c.requires.from in
-    let up : s.stable ≤ n = subst (λ (l : Log g.row.D.Denot). l.stable ≤ n) (sym c.self.view_is) c.requires.above in
+    let up : s.flushed_end ≤ n = subst (λ (l : Log g.row.D.Denot). l.flushed_end ≤ n) (sym c.self.view_is) c.requires.above in
     let within : n ≤ end_of s.active = subst (λ (l : Log g.row.D.Denot). n ≤ l.end) (sym c.self.view_is) c.requires.within in
     let exact : cut_point n s.closed.items s.active ≡ n = subst (λ (l : Log g.row.D.Denot). cut_point n l.closed l.active ≡ n) (sym c.self.view_is) c.requires.exact in
     let change = subst (λ (l : List Grown). Trims (names_of (behind n l s.active)) (open_by n l s.active).base (size_of (front_to n (open_by n l s.active))) (failing c.trim.result) d d') c.deref.ensures.value c.trim.ensures.content in
-    rw (← c.self.view_is) (shed_since d laws s.incarnation s.local_start s.closed.items s.active s.line s.stable has c.self.invariant.segments c.self.invariant.line n from exact within up d' laws' (failing c.trim.result) change)
+    rw (← c.self.view_is) (shed_since d laws s.incarnation s.local_start s.closed.items s.active s.line s.flushed_end has c.self.invariant.segments c.self.invariant.line n from exact within up d' laws' (failing c.trim.result) change)
 
-pub returns-in-Ok-clause-tells : goal.returns-in-Ok-clause-tells
-returns-in-Ok-clause-tells g c = rw (← c.self.view_is) c.trim.ensures.content.tells
+pub returns-in-Ok-clause-is_observable : goal.returns-in-Ok-clause-is_observable
+returns-in-Ok-clause-is_observable g c = rw (← c.self.view_is) c.trim.ensures.content.is_observable
 
 pub returns-in-Err-clause-any_moment : goal.returns-in-Err-clause-any_moment
 returns-in-Err-clause-any_moment g c =
@@ -141,11 +141,11 @@ returns-in-Err-clause-any_moment g c =
     let unbroken : s.broken ≡ false = ap (λ (l : Log g.row.D.Denot). l.broken) c.self.view_is ∙ c.requires.unbroken in
     let has = c.self.invariant.has unbroken in
     let from : s.local_start ≤ n = subst (λ (l : Log g.row.D.Denot). l.local_start ≤ n) (sym c.self.view_is) c.requires.from in
-    let up : s.stable ≤ n = subst (λ (l : Log g.row.D.Denot). l.stable ≤ n) (sym c.self.view_is) c.requires.above in
+    let up : s.flushed_end ≤ n = subst (λ (l : Log g.row.D.Denot). l.flushed_end ≤ n) (sym c.self.view_is) c.requires.above in
     let within : n ≤ end_of s.active = subst (λ (l : Log g.row.D.Denot). n ≤ l.end) (sym c.self.view_is) c.requires.within in
     let exact : cut_point n s.closed.items s.active ≡ n = subst (λ (l : Log g.row.D.Denot). cut_point n l.closed l.active ≡ n) (sym c.self.view_is) c.requires.exact in
     let change = subst (λ (l : List Grown). Trims (names_of (behind n l s.active)) (open_by n l s.active).base (size_of (front_to n (open_by n l s.active))) (failing c.trim.result) d d') c.deref.ensures.value c.trim.ensures.content in
-    rw (← c.self.view_is) (shed_since d laws s.incarnation s.local_start s.closed.items s.active s.line s.stable has c.self.invariant.segments c.self.invariant.line n from exact within up d' laws' (failing c.trim.result) change)
+    rw (← c.self.view_is) (shed_since d laws s.incarnation s.local_start s.closed.items s.active s.line s.flushed_end has c.self.invariant.segments c.self.invariant.line n from exact within up d' laws' (failing c.trim.result) change)
 
-pub returns-in-Err-clause-tells : goal.returns-in-Err-clause-tells
-returns-in-Err-clause-tells g c = rw (← c.self.view_is) c.trim.ensures.content.tells
+pub returns-in-Err-clause-is_observable : goal.returns-in-Err-clause-is_observable
+returns-in-Err-clause-is_observable g c = rw (← c.self.view_is) c.trim.ensures.content.is_observable

@@ -8,4 +8,4 @@ returns g c =
     let s = c.self.inside in
     let d = g.D.Disk.content s.disk in
     let laws : Lawful d = g.met.D.Disk.lawful s.disk in
-    rw (← c.self.view_is) (λ unbroken f now. image_opens d laws s.incarnation s.local_start s.closed.items s.active s.line s.stable (c.self.invariant.has unbroken) f now)
+    rw (← c.self.view_is) (λ unbroken f now. image_opens d laws s.incarnation s.local_start s.closed.items s.active s.line s.flushed_end (c.self.invariant.has unbroken) f now)

@@ -1,7 +1,7 @@
 use Rattle.std.proofs.Common.{◌≢◌, ◌↔◌, ◌∙◌, [], ap, subst, IfOk, IsTrue}
 use Rattle.disk_model.specs.contracts.memory_disk.MemoryDiskDisk.TheImpl as disk
 use Rattle.meta_log.specs.Content as log
-use Rattle.meta_file.specs.Told.{told_of}
+use Rattle.meta_log_file.specs.Told.{told_of}
 use Rattle.memory_yard.specs.Log.{told}
 use Rattle.memory_yard.proofs.Logs.{told_keeps, log_then}
 use Rattle.memory_yard.proofs.log_place.LogPlaceDevice.is_used.Goals as goal

@@ -1,5 +1,5 @@
 use Rattle.std.proofs.Common.{◌≡◌, ◌∙◌, ap, sym, subst, length, arith}
-use Rattle.device_yard.specs.Held.{Both}
+use Rattle.device_yard.specs.YardContent.{Both}
 use Rattle.memory_yard.specs.Shelf.{at}
 use Rattle.memory_yard.proofs.Slots.{still_at}
 use Rattle.memory_yard.proofs.Loops.{whole, still_length}

@@ -5,4 +5,4 @@ use Rattle.object_store.proofs.deaf_store.DeafStoreStore.delete.Goals as goal
 pub returns-clause-control : goal.returns-clause-control
 returns-clause-control c =
     let m = c.args.self.now in
-    quiet call.Delete _ m.faults c.note.new.self m.handed c.note.ensures.ran
+    quiet call.Delete _ m.faults c.note.new.self m.last_read c.note.ensures.ran

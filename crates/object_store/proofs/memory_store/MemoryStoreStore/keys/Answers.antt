@@ -5,4 +5,4 @@ use Rattle.object_store.proofs.memory_store.MemoryStoreStore.keys.Goals as goal
 pub returns-clause-control : goal.returns-clause-control
 returns-clause-control c =
     let m = c.args.self.now in
-    rw c.give.ensures.fate (quiet call.Keys _ m.faults c.note.new.self m.handed c.note.ensures.ran)
+    rw c.give.ensures.fate (quiet call.Keys _ m.faults c.note.new.self m.last_read c.note.ensures.ran)

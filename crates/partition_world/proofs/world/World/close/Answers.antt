@@ -1,6 +1,6 @@
 use Rattle.std.proofs.Common.{◌≡◌, ◌∙◌, ap, refl, suc, List, [], ◌∷◌, length}
-use Rattle.partition_turns.specs.declared.held.Node.{Node}
-use Rattle.partition_turns.specs.Fresh.{AreDisksOf}
+use Rattle.partition_commands.specs.declared.partition_state.Node.{Node}
+use Rattle.partition_commands.specs.Fresh.{AreDisksOf}
 use Rattle.partition_world.specs.Whole.{Whole}
 use Rattle.partition_world.proofs.world.World.close.Goals as goal
 

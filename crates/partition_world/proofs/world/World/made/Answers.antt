@@ -1,21 +1,21 @@
 use Rattle.std.proofs.Common.{◌∙◌, ap, refl, length, List, [], arith}
 use Rattle.plain_log.specs.declared.command.ActorList.{ActorList}
-use Rattle.partition_seen.specs.Sound.{turns_left}
-use Rattle.partition_seen.proofs.FreshSound.{length_replicate}
-use Rattle.partition_turns.proofs.FreshDisks.{refuses_same}
-use Rattle.partition_turns.proofs.FreshSound.{fresh_sound}
-use Rattle.partition_turns.proofs.Unstopped.{fresh_stops}
-use Rattle.partition_world.specs.declared.tier.Side.{Side}
-use Rattle.partition_world.specs.Fresh.{fresh_side}
+use Rattle.laws_partition.specs.Sound.{turns_left}
+use Rattle.laws_partition.proofs.FreshSound.{length_replicate}
+use Rattle.partition_commands.proofs.FreshDisks.{refuses_same}
+use Rattle.partition_commands.proofs.FreshSound.{fresh_sound}
+use Rattle.partition_commands.proofs.Unstopped.{fresh_stops}
+use Rattle.partition_world.specs.declared.tier.BrokerTierState.{BrokerTierState}
+use Rattle.partition_world.specs.Fresh.{fresh_broker_tier}
 use Rattle.partition_world.proofs.Rooms.{few_entries}
-use Rattle.partition_world.proofs.WorldFresh.{fresh_seats, fresh_works, fresh_left, fresh_counted}
+use Rattle.partition_world.proofs.WorldFresh.{fresh_actor_states, fresh_works, fresh_left, fresh_counted}
 use Rattle.partition_world.proofs.world.World.made.Goals as goal
 
 pub returns-in_default-clause-err : goal.returns-in_default-clause-err
 returns-in_default-clause-err g c = refuses_same g.D.Disk.content g.D.Disk.control c.args.devices.disks.items _ refl c.requires.disks
 
-pub returns-in_default-fresh_sides-clause-err : goal.returns-in_default-fresh_sides-clause-err
-returns-in_default-fresh_sides-clause-err g c = refuses_same g.D.Disk.content g.D.Disk.control c.args.devices.disks.items _ refl c.requires.disks
+pub returns-in_default-fresh_broker_tiers-clause-err : goal.returns-in_default-fresh_broker_tiers-clause-err
+returns-in_default-fresh_broker_tiers-clause-err g c = refuses_same g.D.Disk.content g.D.Disk.control c.args.devices.disks.items _ refl c.requires.disks
 
 pub fresh_books-requires : goal.fresh_books-requires
 fresh_books-requires g c = omega (arith, few_entries c.args.config c.args.lists c.requires.fit, ap (λ (k : List ActorList). turns_left k []) c.as_slice.ensures)
@@ -30,14 +30,14 @@ invariant_of-result g c =
         config_fits = c.requires.brokers;
         fit = c.requires.fit;
         held = fresh_sound g.D.Disk.control c.args.config.brokers c.args.devices.disks.items c.in-Ok-fresh.held c.requires.count c.in-Ok-fresh.ensures.held;
-        sided = ap (λ (k : List Side). length k) (c.arm.ensures.sides ∙ c.in-Ok-fresh_sides.ensures) ∙ length_replicate c.args.config.brokers fresh_side;
-        seats = fresh_seats c.args.lists count c.in-Ok.desk (ap (λ (k : List ActorList). length k) same) books.desk_is;
+        sided = ap (λ (k : List BrokerTierState). length k) (c.arm.ensures.broker_tiers ∙ c.in-Ok-fresh_broker_tiers.ensures) ∙ length_replicate c.args.config.brokers fresh_broker_tier;
+        actor_states = fresh_actor_states c.args.lists count c.in-Ok.desk (ap (λ (k : List ActorList). length k) same) books.desk_is;
         works = fresh_works c.args.lists count c.in-Ok.desk books.desk_is;
         room = omega (arith, fresh_left c.args.lists count c.in-Ok.desk books.desk_is, books.room, ap (λ (k : List ActorList). turns_left k []) same);
       },
       c.in-Ok-fresh.ensures.none,
       omega (arith, disks.0, disks.1, c.requires.count, c.fresh.ensures.room),
-      fresh_counted c.args.config c.args.lists c.in-Ok-fresh.held c.arm.new.self.sides c.in-Ok.desk (length c.in-Ok.journal.items) count c.args.config.brokers c.requires.fit
+      fresh_counted c.args.config c.args.lists c.in-Ok-fresh.held c.arm.new.self.broker_tiers c.in-Ok.desk (length c.in-Ok.journal.items) count c.args.config.brokers c.requires.fit
           (fresh_stops g.D.Disk.control c.args.devices.disks.items c.in-Ok-fresh.held c.in-Ok-fresh.ensures.held)
-          (c.arm.ensures.sides ∙ c.in-Ok-fresh_sides.ensures) books.desk_is (ap (λ k. length k) books.empty),
+          (c.arm.ensures.broker_tiers ∙ c.in-Ok-fresh_broker_tiers.ensures) books.desk_is (ap (λ k. length k) books.empty),
     )

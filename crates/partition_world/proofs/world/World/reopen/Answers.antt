@@ -1,4 +1,4 @@
-use Rattle.partition_turns.proofs.Writes.{ok_more}
+use Rattle.partition_commands.proofs.Writes.{ok_more}
 use Rattle.partition_world.proofs.LastingRuns.{reopened_new}
 use Rattle.partition_world.proofs.world.World.reopen.Goals as goal
 

@@ -21,5 +21,5 @@ returns-clause-fresh g c = record {
   faults = ap (λ (n : ℕ). counted 0 n) (met_none g.K.CallKind.code (λ (kind : g.row.K.Denot). get_or no_counts (g.K.CallKind.code kind) 0) c.args.plan.items (λ kind. zeros (g.K.CallKind.code kind)));
   armed = refl;
   made = λ kind. zeros (g.K.CallKind.code kind);
-  handed = refl;
+  last_read = refl;
 }

@@ -19,7 +19,7 @@ invariant_of-self g c =
       armed = c.self.inside.armed;
       counts = c.count_if.new.counts;
       fuse = c.burnt-self-inside.result;
-      ruled = c.self.inside.ruled;
+      scripted = c.self.inside.scripted;
       faults = c.missed-self-inside.result;
     } in
     let kept : AreKept code old = subst (λ (f : Faults K). AreKept code f) c.self.view_is c.self.invariant.1 in
@@ -32,9 +32,9 @@ invariant_of-self g c =
     let faults : new.faults ≡ (if goes_well c.args.ending then old.faults else counted old.faults 1) =
     c.missed-self-inside.ensures.is ∙ ap (λ (f : Faults K). if goes_well c.args.ending then f.faults else counted f.faults 1) c.self.view_is in
     let plan : new.plan ≡ old.plan = ap (λ (f : Faults K). f.plan) c.self.view_is in
-    let ruled : new.ruled ≡ old.ruled = ap (λ (f : Faults K). f.ruled) c.self.view_is in (
+    let scripted : new.scripted ≡ old.scripted = ap (λ (f : Faults K). f.scripted) c.self.view_is in (
       subst (λ (items : List (Planned K)). AreNext code items c.count_if.new.counts c.count_if.new.nexts) c.as_slice.ensures.value c.count_if.ensures.are,
-      kept_after code old new c.args.call c.args.ending kept c.requires plan ruled fuse made faults,
+      kept_after code old new c.args.call c.args.ending kept c.requires plan scripted fuse made faults,
     )
 
 pub returns-clause-faults : goal.returns-clause-faults
@@ -47,7 +47,7 @@ returns-clause-faults g c =
       armed = c.self.inside.armed;
       counts = c.count_if.new.counts;
       fuse = c.burnt-self-inside.result;
-      ruled = c.self.inside.ruled;
+      scripted = c.self.inside.scripted;
       faults = c.missed-self-inside.result;
     } in
     let kept : AreKept code old = subst (λ (f : Faults K). AreKept code f) c.self.view_is c.self.invariant.1 in
@@ -60,8 +60,8 @@ returns-clause-faults g c =
     let faults : new.faults ≡ (if goes_well c.args.ending then old.faults else counted old.faults 1) =
     c.missed-self-inside.ensures.is ∙ ap (λ (f : Faults K). if goes_well c.args.ending then f.faults else counted f.faults 1) c.self.view_is in
     let plan : new.plan ≡ old.plan = ap (λ (f : Faults K). f.plan) c.self.view_is in
-    let ruled : new.ruled ≡ old.ruled = ap (λ (f : Faults K). f.ruled) c.self.view_is in
-    faults_after code old new c.args.call c.args.ending kept c.requires plan ruled fuse made faults
+    let scripted : new.scripted ≡ old.scripted = ap (λ (f : Faults K). f.scripted) c.self.view_is in
+    faults_after code old new c.args.call c.args.ending kept c.requires plan scripted fuse made faults
 
 pub returns-clause-alone : goal.returns-clause-alone
 returns-clause-alone g c = (subst (λ (f : Faults g.row.K.Denot). AreKept g.K.CallKind.code f) c.self.view_is c.self.invariant.1).alone
@@ -76,7 +76,7 @@ returns-clause-later g c =
       armed = c.self.inside.armed;
       counts = c.count_if.new.counts;
       fuse = c.burnt-self-inside.result;
-      ruled = c.self.inside.ruled;
+      scripted = c.self.inside.scripted;
       faults = c.missed-self-inside.result;
     } in
     let kept : AreKept code old = subst (λ (f : Faults K). AreKept code f) c.self.view_is c.self.invariant.1 in
@@ -89,8 +89,8 @@ returns-clause-later g c =
     let faults : new.faults ≡ (if goes_well c.args.ending then old.faults else counted old.faults 1) =
     c.missed-self-inside.ensures.is ∙ ap (λ (f : Faults K). if goes_well c.args.ending then f.faults else counted f.faults 1) c.self.view_is in
     let plan : new.plan ≡ old.plan = ap (λ (f : Faults K). f.plan) c.self.view_is in
-    let ruled : new.ruled ≡ old.ruled = ap (λ (f : Faults K). f.ruled) c.self.view_is in
-    let after : AreKept code new = kept_after code old new c.args.call c.args.ending kept c.requires plan ruled fuse made faults in
+    let scripted : new.scripted ≡ old.scripted = ap (λ (f : Faults K). f.scripted) c.self.view_is in
+    let after : AreKept code new = kept_after code old new c.args.call c.args.ending kept c.requires plan scripted fuse made faults in
     let up : old.faults ≤ new.faults = subst (λ (f : Faults K). f.faults ≤ new.faults) c.self.view_is c.missed-self-inside.ensures.later in
     subst (λ (n : ℕ). n ≤ faults_of code new) kept.exact (subst (λ (n : ℕ). old.faults ≤ n) after.exact up)
 

@@ -1,6 +1,0 @@
-use Rattle.broker_call.specs.Telling.{IsToldSoFar}
-use Rattle.memory_run.proofs.MemoryDevices.{disk, store, meta}
-use Rattle.broker_call.proofs.load.tell_parts.Given as goal
-
-abbrev pub invariant-loop-part : goal.invariant-loop-part
-invariant-loop-part l = IsToldSoFar disk store meta l.fn.config l.fn.parts l.part-iterator.rest.items l.told.items

@@ -1,5 +1,0 @@
-use Rattle.command_answers.proofs.CopiesHaveCauses.{begin_on}
-use Rattle.command_answers.proofs.copy_laws.copies_begin_where_on.Goals as goal
-
-pub returns : goal.returns
-returns g c = begin_on g.D.Disk g.S.Store g.M.MetaLog

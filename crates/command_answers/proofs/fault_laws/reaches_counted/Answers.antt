@@ -1,5 +1,0 @@
-use Rattle.command_answers.proofs.FaultsOfJournals.{reaches_counted}
-use Rattle.command_answers.proofs.fault_laws.reaches_counted.Goals as goal
-
-pub returns : goal.returns
-returns g c = reaches_counted g.D.Disk g.S.Store g.M.MetaLog

@@ -1,5 +1,0 @@
-use Rattle.command_answers.proofs.JoinsHaveCauses.{have_causes}
-use Rattle.command_answers.proofs.join_laws.joins_have_causes.Goals as goal
-
-pub returns : goal.returns
-returns g c = have_causes g.D.Disk g.S.Store g.M.MetaLog

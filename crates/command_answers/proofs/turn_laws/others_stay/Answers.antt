@@ -1,5 +1,0 @@
-use Rattle.command_answers.proofs.Progress.{others_stay}
-use Rattle.command_answers.proofs.turn_laws.others_stay.Goals as goal
-
-pub returns : goal.returns
-returns g c = others_stay g.D.Disk g.S.Store g.M.MetaLog

@@ -1,0 +1,258 @@
+-- What a turn of a search by timestamp finds stands, and its last one finds no damage in what it reads.
+use Rattle.std.proofs.Common.{◌≡◌, inl, inr, sym, ap, subst, refl, ℕ, ◌<◌, Bool, true, false, List, Option, Some, None, Result, Ok, Err}
+use Rattle.std.specs.Prelude.{nat_lt, if◌then◌else◌}
+use Rattle.std.specs.declared.alloc.AllocError.{AllocError}
+use Rattle.tier_base.specs.declared.fault.Trouble.{Trouble}
+use Rattle.tier_base.specs.declared.fault.Trouble.TheVariants.{Failed, NoMemory}
+use Rattle.tier_base.specs.declared.plain.Part.TheVariants as part
+use Rattle.tier_base.specs.Device.{Control}
+use Rattle.log_terms.specs.Log.{end_of, EndsAt}
+use Rattle.log_terms.proofs.Lists.{prefix_self}
+use Rattle.index_cache.specs.Cache.{Cache, found as in_cache}
+use Rattle.segment_meta.specs.declared.note.Entry.{Entry}
+use Rattle.segment_meta.specs.declared.note.Note.{Note}
+use Rattle.object_store.specs.Call as store_call
+use Rattle.object_store.specs.Content as store
+use Rattle.object_store.specs.declared.placing.Spot.{Spot}
+use Rattle.object_store.specs.Place.{short_of}
+use Rattle.meta_log.specs.Call as meta_call
+use Rattle.meta_log.specs.Content as meta
+use Rattle.view_refresh.specs.Refreshing.{Refreshes}
+use Rattle.plain_log.specs.declared.state.Path.{Path}
+use Rattle.plain_log.specs.declared.state.State.{State as Plain}
+use Rattle.plain_log.specs.declared.state.Broker.{Broker}
+use Rattle.plain_log.specs.declared.state.Role.{Role}
+use Rattle.plain_log.specs.declared.answer.Answer.{Answer}
+use Rattle.plain_log.specs.declared.answer.Answer.TheVariants.{Damaged, Run}
+use Rattle.plain_log.specs.declared.answer.Place.{Place}
+use Rattle.plain_log.specs.Safe.{RoleSafe}
+use Rattle.plain_log.specs.State.{path_of}
+use Rattle.remote_view.specs.Fold.{Seen, entry_of, fold}
+use Rattle.remote_find.specs.declared.piece.Piece.{Piece}
+use Rattle.remote_find.specs.Pieces.{piece_at}
+use Rattle.tier_fetch.specs.declared.turn.Span.{Span}
+use Rattle.tier_fetch.specs.declared.turn.FetchTurn.{FetchTurn}
+use Rattle.tier_fetch.specs.declared.turn.FetchTurn.TheVariants as fetch
+use Rattle.tier_fetch.specs.declared.turn.FetchStep.TheVariants as fetching
+use Rattle.tier_fetch.specs.Turns.{Tiers, FetchRow, spot_in}
+use Rattle.tier_safe.specs.Scene.{BrokerTierView, Free, Scene}
+use Rattle.tier_safe.proofs.Rules.{seen_kept}
+use Rattle.tier_safe.proofs.Turning.{sees_all}
+use Rattle.laws_tier_fetch.specs.Seeking.{IsAtTurn}
+use Rattle.laws_tier_fetch.proofs.Turning.{shown}
+use Rattle.time_find.specs.declared.turn.Asked.{Asked}
+use Rattle.time_find.specs.declared.turn.SearchStep.{SearchStep}
+use Rattle.time_find.specs.declared.turn.SearchStep.TheVariants.{Seek, Times, Index, Log}
+use Rattle.time_find.specs.declared.turn.TimeTurn.{TimeTurn}
+use Rattle.time_find.specs.declared.turn.TimeTurn.TheVariants.{Goes, Ends}
+use Rattle.time_find.specs.Passing.{SeeksPiece, top_of}
+use Rattle.time_find.specs.Turns.{IsBelow, IsSet, IsSearched, TimesBytes, Times as Timed, Indexes, Searches, SeekRow, TimesRow, IndexRow, LogRow, TimeRow, wanted_at}
+use Rattle.laws_time_find.specs.Searching.{IsAtSearch}
+use Rattle.laws_time_find.proofs.Damaging.{search_damage}
+use Rattle.laws_time_find.proofs.Turning.{as_turn}
+use Rattle.laws_answers.specs.Found.{PieceEnds, IsFound}
+use Rattle.laws_answers.specs.FoundByTime.{IsFoundByTime}
+use Rattle.laws_answers.proofs.EndsOfPieces.{piece_ends}
+use Rattle.laws_answers.proofs.ReadingOfFetches.{index_found, not_damaged}
+
+-- where a run was searched, and the search goes on, it has no piece
+pub searched_on : (asked : Asked) (offset : ℕ) (run : List ℕ) (at : ℕ) (later : SearchStep) → IsSearched asked offset run (Goes at later)
+    → later ≡ Seek
+searched_on asked offset run at Seek w = refl
+searched_on asked offset run at (Times piece) w = elim w [ ]
+searched_on asked offset run at (Index piece from) w = elim w [ ]
+searched_on asked offset run at (Log piece from span) w = elim w [ ]
+
+module _ (paths : List Path) (notes : List Note) (epoch : ℕ) where
+  -- of what it goes on with
+  none_found : (later : SearchStep) (at to : ℕ) → ◌≡◌ {A = Result TimeTurn AllocError} (Ok (Goes at later)) (Ok (Goes to Seek))
+      → IsFoundByTime paths notes epoch later
+  none_found later at to is = let same : later ≡ Seek = cc (is) in subst (IsFoundByTime paths notes epoch) (sym same) tt
+
+  -- the piece stays, as its time index shows
+  shown_found : (more : Bool) (piece : Piece) (from cursor top at : ℕ) (later : SearchStep)
+      → Goes at later ≡ (if more then Goes cursor (Index piece from) else Goes top Seek)
+      → PieceEnds paths epoch piece → IsFoundByTime paths notes epoch later
+  shown_found true piece from cursor top at later is ends = let same : Index piece from ≡ later = cc (is) in subst
+      (IsFoundByTime paths notes epoch) same ends
+  shown_found false piece from cursor top at later is ends = let same : Seek ≡ later = cc (is) in subst (IsFoundByTime paths notes epoch)
+      same tt
+
+  timed_found : (asked : Asked) (cursor : ℕ) (piece : Piece) (base : ℕ) (spot : Spot) (answer : Result (Option (List ℕ)) Trouble) (at : ℕ)
+      (later : SearchStep)
+      → Timed asked cursor piece base spot answer (Ok (Goes at later)) → PieceEnds paths epoch piece → IsFoundByTime paths notes epoch later
+  timed_found asked cursor piece base spot (Err Failed) at later w ends = absurd (cc (w))
+  timed_found asked cursor piece base spot (Err NoMemory) at later w ends = absurd (let no : false ≡ true = w in cc)
+  timed_found asked cursor piece base spot (Ok None) at later w ends = absurd (cc (w))
+  timed_found asked cursor piece base spot (Ok (Some bytes)) at later w ends = by (short_of spot bytes) w
+    where
+      by : (end : Option ℕ) → TimesBytes end asked cursor piece base spot bytes (Ok (Goes at later)) → IsFoundByTime paths notes epoch later
+      by (Some end) w = absurd (cc (w))
+      by None w = shown_found (nat_lt _ (top_of asked piece)) piece _ cursor (top_of asked piece) at later w.turn_is ends
+
+  module _ {S : Type 0} (objects : S → store.Content) (calls : S → Control store_call.call_code) where
+    times_found : (asked : Asked) (cursor : ℕ) (piece : Piece) (view : Seen) (place : Option (ℕ × Spot)) (at : ℕ) (later : SearchStep)
+        (old new : S)
+        → TimesRow objects calls asked cursor piece view place (Ok (Goes at later)) old new → PieceEnds paths epoch piece
+        → IsFoundByTime paths notes epoch later
+    times_found asked cursor piece view None at later old new w ends = let e = w.0 in absurd (cc (e))
+    times_found asked cursor piece view (Some place) at later old new w ends = timed_found asked cursor piece place.0 place.1 w.answer at
+        later w.times ends
+
+module _ (c : Scene) (p : Plain) (a b : ℕ) (tier_view : BrokerTierView) (x : Broker) (stops epoch : ℕ) (asked : Asked) (line : List (ℕ × ℕ)) (cursor : ℕ)
+  where
+    -- a turn of the search, before which it has this next
+    abbrev At : SearchStep → store.Content → meta.Content → Seen → Cache → Type 0
+    At next s n view cache = IsAtSearch c p a b tier_view x stops epoch asked line cursor next s n view cache
+
+    -- its broker's log is the path of its epoch
+    led : (next : SearchStep) (s : store.Content) (n : meta.Content) (view : Seen) (cache : Cache) → At next s n view cache
+        → path_of p.paths epoch ≡ Some x.log
+    led next s n view cache h = (subst (λ (r : Role). RoleSafe p.paths p.registry.epoch r x.log) h.leads
+        (h.safe.plain.brokers b x h.broker_is).role).1
+
+    -- the mark is an end of it
+    marked : (next : SearchStep) (s : store.Content) (n : meta.Content) (view : Seen) (cache : Cache) → At next s n view cache
+        → EndsAt asked.mark x.log
+    marked next s n view cache h = subst (λ (m : ℕ). EndsAt m x.log) (sym h.mark_is) h.mark_ends
+
+    module _ {S M : Type 0} (objects : S → store.Content) (calls : S → Control store_call.call_code)
+        (notes : M → meta.Content) (notings : M → Control meta_call.call_code) where
+      -- what a refresh finds ends where a batch does
+      piece_found : (s : store.Content) (cache : Cache) (view after : Seen) (old new : M) (at : ℕ) (piece : Piece)
+          → At Seek s (notes old) view cache
+          → SeekRow notes notings asked line cursor (Ok (Goes at (Times piece))) view after old new → PieceEnds p.paths epoch piece
+      piece_found s cache view after old new at piece h row =
+          let r : Refreshes (notes old) tier_view.view after = subst (λ (v : Seen). Refreshes (notes old) v after) (sym h.shows.view_is)
+          row.1.view in
+          let all = sees_all objects calls notes notings c p a b tier_view Free s old after (shown c a b tier_view Free s (notes old) view h.shows)
+          h.few (h.safe.tier.views b tier_view h.shows.tier_view_is) r in
+          let kept = seen_kept c.notes c.notes c.desk h.safe.tier.notes (prefix_self c.notes) in
+          let entries : after.entries ≡ fold c.notes = ap (λ (v : Seen). v.entries) all.0 in
+          let found : SeeksPiece asked line after.entries cursor at piece = row.0 in
+          let made : piece_at after.entries line (end_of x.log) at ≡ Some piece =
+          subst (λ (e : ℕ). piece_at after.entries line e at ≡ Some piece) h.end_is found.found in
+          let e = piece_ends p c.objects (fold c.notes) line x.log at piece h.safe.plain h.safe.tier.finished kept.0 kept.1 h.is_observable
+          (h.safe.plain.brokers b x h.broker_is).log
+          (subst (λ (es : List Entry). piece_at es line (end_of x.log) at ≡ Some piece) entries made) in
+          record { front = e.0; begins = (x.log, led Seek s (notes old) view cache h, e.1); ends = e.2 }
+
+      seek_found : (s : store.Content) (cache : Cache) (view after : Seen) (old new : M) (at : ℕ) (later : SearchStep)
+          → At Seek s (notes old) view cache
+          → SeekRow notes notings asked line cursor (Ok (Goes at later)) view after old new → IsFoundByTime p.paths c.notes epoch later
+      seek_found s cache view after old new at Seek h row = tt
+      seek_found s cache view after old new at (Times piece) h row = piece_found s cache view after old new at piece h row
+      seek_found s cache view after old new at (Index piece from) h row = absurd row.0
+      seek_found s cache view after old new at (Log piece from span) h row = absurd row.0
+
+      -- so does what an offset index shows
+      log_found : (found piece : Piece) (from : ℕ) (span : Span) → found ≡ piece
+          → IsFound p.paths c.notes epoch from 4294967295 (fetching.Log found span)
+          → IsFoundByTime p.paths c.notes epoch (Log piece from span)
+      log_found found piece from span same f = subst (λ (q : Piece). IsFoundByTime p.paths c.notes epoch (Log q from span)) same f
+
+      indexed : (from : ℕ) (piece : Piece) (turn : Result FetchTurn AllocError) (at : ℕ) (later : SearchStep) (old new : Tiers S M)
+          → IsAtTurn c p a b tier_view x stops epoch (wanted_at asked from) line (fetching.Index piece) (objects old.store) (notes old.meta)
+          old.view old.cache
+          → FetchRow objects calls notes notings (wanted_at asked from) line (fetching.Index piece) turn old new
+          → Indexes cursor piece from turn (Ok (Goes at later)) → PieceEnds p.paths epoch piece
+          → IsFoundByTime p.paths c.notes epoch later
+      indexed from piece (Ok (fetch.Goes (fetching.Log found span))) at later old new h row k ends =
+          let f = index_found c p a b tier_view x stops epoch (wanted_at asked from) line objects calls notes notings (notes old.meta) old.view
+          old.cache new.cache old.store new.store piece
+          (in_cache piece.id.0 old.cache.pairs) (fetching.Log found span) h refl row.1 ends in
+          let is = k.1 in
+          let same : Log piece from span ≡ later = cc (is) in
+          subst (IsFoundByTime p.paths c.notes epoch) same (log_found found piece from span k.0 f)
+      indexed from piece (Ok (fetch.Goes fetching.Refresh)) at later old new h row k ends = absurd k
+      indexed from piece (Ok (fetch.Goes (fetching.Index found))) at later old new h row k ends = absurd k
+      indexed from piece (Ok (fetch.Ends answer)) at later old new h row k ends = absurd (cc (k))
+      indexed from piece (Err e) at later old new h row k ends = absurd (let no : false ≡ true = k in cc)
+
+      index_on : (from : ℕ) (piece : Piece) (at : ℕ) (later : SearchStep) (old new : Tiers S M)
+          → IsAtTurn c p a b tier_view x stops epoch (wanted_at asked from) line (fetching.Index piece) (objects old.store) (notes old.meta)
+          old.view old.cache
+          → IndexRow objects calls notes notings asked line cursor piece from (Ok (Goes at later)) old new → PieceEnds p.paths epoch piece
+          → IsFoundByTime p.paths c.notes epoch later
+      index_on from piece at later old new h (inl w) ends = none_found p.paths c.notes epoch later at (top_of asked piece) w.1
+      index_on from piece at later old new h (inr w) ends = indexed from piece w.1.0 at later old new h w.1.1 w.1.2 ends
+
+      -- behind the log there is no piece
+      searched_found : (from : ℕ) (turn : Result FetchTurn AllocError) (at : ℕ) (later : SearchStep)
+          → Searches asked from turn (Ok (Goes at later)) → IsFoundByTime p.paths c.notes epoch later
+      searched_found from (Ok (fetch.Ends (Run tier size stop bytes))) at later k =
+          subst (IsFoundByTime p.paths c.notes epoch) (sym (searched_on asked from bytes at later k)) tt
+      searched_found from (Ok (fetch.Ends answer)) at later k = absurd (cc (k))
+      searched_found from (Ok (fetch.Goes next)) at later k = absurd k
+      searched_found from (Err e) at later k = absurd (let no : false ≡ true = k in cc)
+
+      log_on : (from : ℕ) (piece : Piece) (span : Span) (at : ℕ) (later : SearchStep) (old new : Tiers S M)
+          → LogRow objects calls notes notings asked line piece from span (Ok (Goes at later)) old new
+          → IsFoundByTime p.paths c.notes epoch later
+      log_on from piece span at later old new (inl w) = none_found p.paths c.notes epoch later at (top_of asked piece) w.1
+      log_on from piece span at later old new (inr w) = searched_found from w.1.0 at later w.1.2
+
+      -- a turn finds what stands
+      pub time_found : (next : SearchStep) (at : ℕ) (later : SearchStep) (old new : Tiers S M)
+          → At next (objects old.store) (notes old.meta) old.view old.cache → IsSet cursor next
+          → TimeRow objects calls notes notings asked line cursor next (Ok (Goes at later)) old new
+          → IsFoundByTime p.paths c.notes epoch next → IsFoundByTime p.paths c.notes epoch later
+      time_found Seek at later old new h set row f = seek_found (objects old.store) old.cache old.view new.view old.meta new.meta at later h
+          row.1
+      time_found (Times piece) at later old new h set row f =
+          times_found p.paths c.notes epoch objects calls asked cursor piece old.view
+          (spot_in asked.partition piece.id part.TimeIndex (entry_of piece.id old.view.entries)) at later old.store new.store row.1 f
+      time_found (Index piece from) at later old new h set row f =
+          index_on from piece at later old new
+          (as_turn c p a b tier_view x stops epoch asked line cursor (Index piece from) (objects old.store) (notes old.meta) old.view old.cache
+          from (fetching.Index piece) h refl set.0) row f
+      time_found (Log piece from span) at later old new h set row f = log_on from piece span at later old new row
+
+      -- and meets no damage
+      searched_whole : (from : ℕ) (piece : Piece) (span : Span) (turn : Result FetchTurn AllocError) (place : Place) (at : ℕ)
+          (old new : Tiers S M)
+          → IsAtTurn c p a b tier_view x stops epoch (wanted_at asked from) line (fetching.Log piece span) (objects old.store) (notes old.meta)
+          old.view old.cache
+          → FetchRow objects calls notes notings (wanted_at asked from) line (fetching.Log piece span) turn old new
+          → Searches asked from turn (Ok (Ends (Damaged place at)))
+          → IsFoundByTime p.paths c.notes epoch (Log piece from span) → from < asked.mark → EndsAt asked.mark x.log → ⊥
+      searched_whole from piece span (Ok (fetch.Ends (Run tier size stop bytes))) place at old new h row k f below ends = k
+      searched_whole from piece span (Ok (fetch.Ends answer)) place at old new h row k f below ends =
+          let same : answer ≡ Damaged place at = cc (k) in
+          let told : FetchRow objects calls notes notings (wanted_at asked from) line (fetching.Log piece span)
+          (Ok (fetch.Ends (Damaged place at))) old new =
+          subst (λ (w : Answer). FetchRow objects calls notes notings (wanted_at asked from) line (fetching.Log piece span)
+          (Ok (fetch.Ends w)) old new) same row in
+          not_damaged c p a b tier_view x stops epoch (wanted_at asked from) line objects calls notes notings (fetching.Log piece span) place at
+          old new h told f below ends
+      searched_whole from piece span (Ok (fetch.Goes next)) place at old new h row k f below ends = k
+      searched_whole from piece span (Err e) place at old new h row k f below ends = (let no : false ≡ true = k in cc)
+
+      log_whole : (from : ℕ) (piece : Piece) (span : Span) (place : Place) (at : ℕ) (old new : Tiers S M)
+          → IsAtTurn c p a b tier_view x stops epoch (wanted_at asked from) line (fetching.Log piece span) (objects old.store) (notes old.meta)
+          old.view old.cache
+          → LogRow objects calls notes notings asked line piece from span (Ok (Ends (Damaged place at))) old new
+          → IsFoundByTime p.paths c.notes epoch (Log piece from span)
+          → EndsAt asked.mark x.log → ⊥
+      log_whole from piece span place at old new h (inl w) f ends = let is = w.1 in cc (is)
+      log_whole from piece span place at old new h (inr w) f ends = searched_whole from piece span w.1.0 place at old new h w.1.1 w.1.2 f w.0
+          ends
+
+      pub time_undamaged : (next : SearchStep) (place : Place) (at : ℕ) (old new : Tiers S M)
+          → At next (objects old.store) (notes old.meta) old.view old.cache → IsBelow asked cursor next → IsSet cursor next
+          → TimeRow objects calls notes notings asked line cursor next (Ok (Ends (Damaged place at))) old new
+          → IsFoundByTime p.paths c.notes epoch next → ⊥
+      time_undamaged Seek place at old new h below set row f =
+          let k = search_damage objects calls notes notings asked line cursor at Seek place old new c p a b tier_view x stops epoch row below set
+          h in let e = k.next_is in cc (e)
+      time_undamaged (Times piece) place at old new h below set row f =
+          let k = search_damage objects calls notes notings asked line cursor at (Times piece) place old new c p a b tier_view x stops epoch row
+          below set h in let e = k.next_is in cc (e)
+      time_undamaged (Index piece from) place at old new h below set row f =
+          let k = search_damage objects calls notes notings asked line cursor at (Index piece from) place old new c p a b tier_view x stops epoch
+          row below set h in let e = k.next_is in cc (e)
+      time_undamaged (Log piece from span) place at old new h below set row f =
+          log_whole from piece span place at old new
+          (as_turn c p a b tier_view x stops epoch asked line cursor (Log piece from span) (objects old.store) (notes old.meta) old.view old.cache
+          from (fetching.Log piece span) h refl set.0) row f
+          (marked (Log piece from span) (objects old.store) (notes old.meta) old.view old.cache h)

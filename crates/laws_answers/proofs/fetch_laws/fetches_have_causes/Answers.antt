@@ -1,0 +1,5 @@
+use Rattle.laws_answers.proofs.FetchesHaveCauses.{have_causes}
+use Rattle.laws_answers.proofs.fetch_laws.fetches_have_causes.Goals as goal
+
+pub returns : goal.returns
+returns g c = have_causes g.D.Disk g.S.Store g.M.MetaLog

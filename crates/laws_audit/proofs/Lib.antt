@@ -1,0 +1,4 @@
+pub mod Within
+pub mod Stored
+pub mod Resting
+pub mod Sweeping

@@ -1,0 +1,16 @@
+pub mod Taken
+pub mod Log
+pub mod Seen
+pub mod Partition
+pub mod RowsOfLog
+pub mod RowsOfElections
+pub mod RowsOfFollowers
+pub mod RowsOfTiers
+pub mod RowsOfOffsets
+pub mod Rows
+pub mod Sound
+pub mod Whole
+pub mod Turn
+pub mod Central
+pub mod Fresh
+pub mod Laws

@@ -1,0 +1,4 @@
+pub mod BrokerTiers
+pub mod TierTasks
+pub mod Turns
+pub mod Laws

@@ -1,0 +1,441 @@
+-- Where a search goes on, all before its cursor is too early, and the offset that it answers is the log's.
+use Rattle.std.proofs.Common.{◌≡◌, inl, inr, ◌∙◌, sym, ap, subst, refl, ℕ, ◌+◌, ◌<◌, ◌≤◌, min, max, Bool, true, false, cond, nat_lt, List, Some, None, Option, Ok, Err, arith}
+use Rattle.std.specs.Prelude.{ℤ}
+use Rattle.std.specs.declared.result.Result.{Result}
+use Rattle.std.specs.declared.alloc.AllocError.{AllocError}
+use Rattle.std.proofs.lemmas.Bool.{ltb-true, ltb-false}
+use Rattle.tier_base.specs.declared.fault.Trouble.{Trouble}
+use Rattle.tier_base.specs.declared.fault.Trouble.TheVariants.{Failed, NoMemory}
+use Rattle.tier_base.specs.declared.plain.Part.TheVariants as part
+use Rattle.tier_base.specs.declared.plain.Stop.{Stop}
+use Rattle.tier_base.specs.Device.{Control}
+use Rattle.log_terms.specs.Batch.{last_of}
+use Rattle.log_terms.specs.Log.{up_to, from_offset}
+use Rattle.log_terms.proofs.Lists.{prefix_self}
+use Rattle.sparse_index.specs.Bytes.{bytes_of}
+use Rattle.sparse_index.specs.Offsets.{OffsetTable}
+use Rattle.sparse_index.specs.Times.{TimeTable, moment_bytes, below_time}
+use Rattle.segment_bundle.specs.Parts.{first_offset, parts_of, part_in}
+use Rattle.segment_file.specs.Index.{placed_from, time_index_of}
+use Rattle.object_store.specs.Call as store_call
+use Rattle.object_store.specs.Content as store
+use Rattle.object_store.specs.Calls.{Gets}
+use Rattle.object_store.specs.Place.{all_of, short_of, short_in}
+use Rattle.object_store.specs.declared.placing.Spot.{Spot}
+use Rattle.meta_log.specs.Call as meta_call
+use Rattle.meta_log.specs.Content as meta
+use Rattle.index_cache.specs.Cache.{Cache, found}
+use Rattle.view_refresh.specs.Refreshing.{Refreshes, Refreshed}
+use Rattle.plain_log.specs.declared.state.State.{State as Plain}
+use Rattle.plain_log.specs.declared.state.Broker.{Broker}
+use Rattle.plain_log.specs.declared.answer.Answer.{Answer}
+use Rattle.plain_log.specs.declared.answer.Answer.TheVariants.{Offset, Run}
+use Rattle.plain_log.specs.declared.answer.Tier.{Tier}
+use Rattle.plain_log.specs.RowsOfReads.{first_at, offset_at}
+use Rattle.remote_view.specs.Fold.{Seen, entry_of, view_of}
+use Rattle.remote_find.specs.declared.piece.Piece.{Piece}
+use Rattle.tier_fetch.specs.declared.turn.FetchRequest.{FetchRequest}
+use Rattle.tier_fetch.specs.declared.turn.Span.{Span}
+use Rattle.tier_fetch.specs.declared.turn.FetchTurn.{FetchTurn}
+use Rattle.tier_fetch.specs.declared.turn.FetchTurn.TheVariants as fetch
+use Rattle.tier_fetch.specs.declared.turn.FetchStep.{FetchStep as FetchNext}
+use Rattle.tier_fetch.specs.declared.turn.FetchStep.TheVariants as fetching
+use Rattle.tier_fetch.specs.Turns.{Tiers, FetchRow, spot_in, LoadsBytes, Loads, LoadRow, CutsBytes, Cuts}
+use Rattle.tier_fetch.specs.Turns as rows
+use Rattle.tier_safe.specs.Scene.{BrokerTierView, Free, Seeks, Scene}
+use Rattle.tier_safe.specs.Views.{IsViewOf}
+use Rattle.tier_safe.specs.Reads.{IsRightView}
+use Rattle.tier_safe.specs.Turns.{Shows}
+use Rattle.tier_safe.proofs.Basics.{one_some}
+use Rattle.tier_safe.proofs.Rules.{seen_kept}
+use Rattle.tier_safe.proofs.Serving.{FetchReads}
+use Rattle.tier_safe.proofs.Turning.{sees_all}
+use Rattle.laws_tier_fetch.specs.Seeking.{sought_of, IsAtTurn}
+use Rattle.laws_tier_fetch.proofs.Reading.{copy_of, gives, first_is}
+use Rattle.laws_tier_fetch.proofs.Running.{ServesChecked, runs_are_checked}
+use Rattle.laws_tier_fetch.proofs.Turning.{shown as own_view}
+use Rattle.time_find.specs.declared.turn.Asked.{Asked}
+use Rattle.time_find.specs.declared.turn.SearchStep.{SearchStep}
+use Rattle.time_find.specs.declared.turn.SearchStep.TheVariants.{Seek, Times as ReadsTimes, Index, Log}
+use Rattle.time_find.specs.declared.turn.TimeTurn.TheVariants.{Goes, Ends}
+use Rattle.time_find.specs.Passing.{top_of, Passes, Seeks as SeeksIn}
+use Rattle.time_find.specs.Turns.{IsSet, IsSearched, from_of, shown, IsTimed, TimesBytes, Times, wanted_at, Indexes, Searches, TimesRow, IndexRow, LogRow}
+use Rattle.laws_time_find.specs.Passed.{HasPassed, IsDatedTo, read_from}
+use Rattle.laws_time_find.specs.Searching.{IsAtSearch}
+use Rattle.laws_time_find.specs.Answers.{SearchesGoOn, SearchesAreRight}
+use Rattle.laws_time_find.proofs.Early.{of_piece, piece_within, passed_more, passed_less, over_all}
+use Rattle.laws_time_find.proofs.Moments.{shown_early, times_read}
+use Rattle.laws_time_find.proofs.Searched.{runs_are_searched}
+
+-- a search that has taken up a piece is a fetch there
+at_turn : (c : Scene) (p : Plain) (a b : ℕ) (tier_view : BrokerTierView) (x : Broker) (stops epoch : ℕ) (asked : Asked) (line : List (ℕ × ℕ)) (cursor : ℕ) (next : SearchStep) (s : store.Content) (n : meta.Content)
+    (view : Seen) (cache : Cache) (from : ℕ) (turn : FetchNext) → IsAtSearch c p a b tier_view x stops epoch asked line cursor next s n view cache
+    → Shows c a b tier_view (Seeks (sought_of b stops epoch from turn)) s n view → cursor ≤ from → IsAtTurn c p a b tier_view x stops epoch (wanted_at asked from) line turn s n view cache
+at_turn c p a b tier_view x stops epoch asked line cursor next s n view cache from turn h shows le =
+    let past = h.past in record {
+      safe = h.safe;
+      few = h.few;
+      shows = shows;
+      cache_is = h.cache_is;
+      partition = h.partition;
+      broker_is = h.broker_is;
+      leads = record { stops = h.stopped; role = h.leads };
+      past = omega (arith, past, le);
+      end_is = h.end_is;
+      is_observable = h.is_observable;
+    }
+
+-- what a turn that goes on has: all before the cursor, and before where it reads on, is too early
+abbrev Dated : Plain → Broker → Asked → ℕ → ℕ → SearchStep → Type 0
+Dated p x asked cursor at then = IsDatedTo asked.ts p.registry.start x.log at then × (cursor ≤ at) × (then ≡ Seek → cursor < at)
+
+-- the top of a piece is past the cursor
+over_top : (asked : Asked) (piece : Piece) (cursor : ℕ) → cursor < piece.to → cursor < asked.mark → cursor < top_of asked piece
+over_top asked piece cursor low marked = go piece.to asked.mark low marked
+  where
+    go : (a b : ℕ) → cursor < a → cursor < b → cursor < min a b
+    go a b h k = omega (arith, h, k)
+
+top_below : (asked : Asked) (piece : Piece) → (top_of asked piece ≤ piece.to) × (top_of asked piece ≤ asked.mark)
+top_below asked piece = (left piece.to asked.mark, right piece.to asked.mark)
+  where
+    left : (a b : ℕ) → min a b ≤ a
+    left a b = omega arith
+
+    right : (a b : ℕ) → min a b ≤ b
+    right a b = omega arith
+
+-- what is in front of the batch that the time index shows
+front_of : (asked : Asked) (base interval : ℕ) (cursor end : ℕ) (found : Option (ℤ × ℕ)) → cursor ≤ end → end < from_of cursor found → (moment : ℤ × ℕ) × (found ≡ Some moment) × (end ≤ moment.1)
+front_of asked base interval cursor end None low high = absurd (omega (arith, low, high))
+front_of asked base interval cursor end (Some moment) low high = (moment, refl, go cursor moment.1 low high)
+  where
+    go : (c m : ℕ) → c ≤ end → end < max c (m + 1) → end ≤ m
+    go c m h k = omega (arith, h, k)
+
+cursor_below : (cursor : ℕ) (found : Option (ℤ × ℕ)) → cursor ≤ from_of cursor found
+cursor_below cursor None = omega arith
+cursor_below cursor (Some moment) = go cursor (moment.1 + 1)
+  where
+    go : (a b : ℕ) → a ≤ max a b
+    go a b = omega arith
+
+-- a piece whose time index was read
+timed : (c : Scene) (p : Plain) (a b : ℕ) (tier_view : BrokerTierView) (x : Broker) (stops epoch : ℕ) (asked : Asked) (line : List (ℕ × ℕ)) (cursor at : ℕ) (piece : Piece) (then : SearchStep) (s : store.Content)
+    (n : meta.Content) (view : Seen) (cache : Cache) (index : TimeTable) → IsAtSearch c p a b tier_view x stops epoch asked line cursor (ReadsTimes piece) s n view cache → cursor < piece.to
+    → (r : FetchReads c p x piece) → piece.from ≤ cursor → index ≡ time_index_of r.entry.start r.held.interval (placed_from 0 r.held.batches)
+    → Goes at then ≡ shown asked cursor piece (from_of cursor (below_time index asked.ts)) → Dated p x asked cursor at then
+timed c p a b tier_view x stops epoch asked line cursor at piece then s n view cache index h set r first is turn = by (nat_lt from top) refl turn
+  where
+    from : ℕ
+    from = from_of cursor (below_time index asked.ts)
+
+    top : ℕ
+    top = top_of asked piece
+
+    -- up to there all are too early
+    front : (to : ℕ) → to ≤ from → to ≤ piece.to → HasPassed asked.ts p.registry.start x.log to
+    front to low within =
+        let inside = piece_within c p b x piece h.safe.plain h.broker_is r in
+        passed_more asked.ts p.registry.start cursor to x.log (h.safe.plain.brokers b x h.broker_is).log.consecutive h.dated.cursor (omega (arith, within, inside)) (λ batch there behind before.
+        (let k = front_of asked 0 0 cursor (last_of batch) (below_time index asked.ts) behind (omega (arith, before, low)) in
+        let found : below_time (time_index_of r.entry.start r.held.interval (placed_from 0 r.held.batches)) asked.ts ≡ Some k.0 = ap (λ (t : TimeTable). below_time t asked.ts) (sym is) ∙ k.1 in
+        shown_early asked.ts r.entry.start r.held.interval r.held.batches k.0 r.held.describes.is found batch
+        (of_piece c p b x piece h.safe.plain h.broker_is r batch there (omega (arith, first, behind)) (omega (arith, before, within))) k.2))
+
+    by : (t : Bool) → nat_lt from top ≡ t → Goes at then ≡ cond t (Goes cursor (Index piece from)) (Goes top Seek) → Dated p x asked cursor at then
+    by true low turn =
+        let at_is : at ≡ cursor = cc (turn) in
+        let then_is : then ≡ Index piece from = cc (turn) in
+        let below = ltb-true from top low in
+        let tops = top_below asked piece in
+        let all = front from (omega arith) (omega (arith, below, tops.0)) in
+        subst (λ (m : ℕ). Dated p x asked cursor m then) (sym at_is) (subst (λ (m : SearchStep). Dated p x asked cursor cursor m) (sym then_is)
+        (record { cursor = h.dated.cursor; read = all }, omega arith, λ no. absurd (cc (no))))
+    by false low turn =
+        let at_is : at ≡ top = cc (turn) in
+        let then_is : then ≡ Seek = cc (turn) in
+        let below = ltb-false from top low in
+        let tops = top_below asked piece in
+        let all = front top below tops.0 in
+        let known = h.below in
+        let mark = h.mark_is in
+        let over = over_top asked piece cursor set (omega (arith, known, mark)) in
+        subst (λ (m : ℕ). Dated p x asked cursor m then) (sym at_is) (subst (λ (m : SearchStep). Dated p x asked cursor top m) (sym then_is)
+        (record { cursor = all; read = all }, omega (arith, over), λ yes. over))
+
+-- a piece of which nothing is below the known high watermark any more
+topped : (c : Scene) (p : Plain) (a b : ℕ) (tier_view : BrokerTierView) (x : Broker) (stops epoch : ℕ) (asked : Asked) (line : List (ℕ × ℕ)) (cursor at : ℕ) (next then : SearchStep) (piece : Piece) (from : ℕ)
+    (s : store.Content) (n : meta.Content) (view : Seen) (cache : Cache) → IsAtSearch c p a b tier_view x stops epoch asked line cursor next s n view cache → read_from cursor next ≡ from
+    → cursor < piece.to → asked.mark ≤ from → Goes at then ≡ Goes (top_of asked piece) Seek → Dated p x asked cursor at then
+topped c p a b tier_view x stops epoch asked line cursor at next then piece from s n view cache h reads set marked is =
+    let at_is : at ≡ top_of asked piece = cc (is) in
+    let then_is : then ≡ Seek = cc (is) in
+    let tops = top_below asked piece in
+    let known = h.below in
+    let mark = h.mark_is in
+    let over = over_top asked piece cursor set (omega (arith, known, mark)) in
+    let read : HasPassed asked.ts p.registry.start x.log from = subst (HasPassed asked.ts p.registry.start x.log) reads h.dated.read in
+    let all = passed_less asked.ts p.registry.start from (top_of asked piece) x.log (h.safe.plain.brokers b x h.broker_is).log.consecutive read (omega (arith, tops.1, marked)) in
+    subst (λ (m : ℕ). Dated p x asked cursor m then) (sym at_is) (subst (λ (m : SearchStep). Dated p x asked cursor (top_of asked piece) m) (sym then_is)
+    (record { cursor = all; read = all }, omega (arith, over), λ yes. over))
+
+-- a run that was read and searched
+searched_on : (c : Scene) (p : Plain) (a b : ℕ) (tier_view : BrokerTierView) (x : Broker) (stops epoch : ℕ) (asked : Asked) (line : List (ℕ × ℕ)) (cursor from at size : ℕ) (next then : SearchStep) (turn : FetchNext)
+    (stop : Stop) (bytes : List ℕ) (s : store.Content) (n : meta.Content) (view : Seen) (cache : Cache) (tier : Tier)
+    → IsAtSearch c p a b tier_view x stops epoch asked line cursor next s n view cache → read_from cursor next ≡ from → cursor ≤ from
+    → ServesChecked x.log (wanted_at asked from) turn tier size stop bytes → IsSearched asked from bytes (Goes at then) → Dated p x asked cursor at then
+searched_on c p a b tier_view x stops epoch asked line cursor from at size next Seek turn stop bytes s n view cache tier h reads low served searched =
+    let run = served.0.run in
+    let read : HasPassed asked.ts p.registry.start x.log from = subst (HasPassed asked.ts p.registry.start x.log) reads h.dated.read in
+    let own : HasPassed asked.ts asked.start x.log from = subst (λ (m : ℕ). HasPassed asked.ts m x.log from) (sym h.start_is) read in
+    let past = h.past in
+    let start = h.start_is in
+    let k = (runs_are_searched asked from at (wanted_at asked from).limit x.log run.run stop (h.safe.plain.brokers b x h.broker_is).log.consecutive own (omega (arith, past, start, low)) run.is served.1).1
+    (subst (λ (l : List ℕ). IsSearched asked from l (Goes at Seek)) run.spelled searched) in
+    let up = k.1 in
+    let all : HasPassed asked.ts p.registry.start x.log at = subst (λ (m : ℕ). HasPassed asked.ts m x.log at) h.start_is k.0 in
+    (record { cursor = all; read = all }, omega (arith, up, low), λ yes. omega (arith, up, low))
+searched_on c p a b tier_view x stops epoch asked line cursor from at size next other turn stop bytes s n view cache tier h reads low served searched = absurd searched
+
+-- its first batch that isn't too early
+searched_at : (c : Scene) (p : Plain) (a b : ℕ) (tier_view : BrokerTierView) (x : Broker) (stops epoch : ℕ) (asked : Asked) (line : List (ℕ × ℕ)) (cursor from at size : ℕ) (next : SearchStep) (turn : FetchNext)
+    (stop : Stop) (bytes : List ℕ) (s : store.Content) (n : meta.Content) (view : Seen) (cache : Cache) (tier : Tier)
+    → IsAtSearch c p a b tier_view x stops epoch asked line cursor next s n view cache → read_from cursor next ≡ from → cursor ≤ from
+    → ServesChecked x.log (wanted_at asked from) turn tier size stop bytes → IsSearched asked from bytes (Ends (Offset at)) → offset_at p x asked.ts ≡ Some at
+searched_at c p a b tier_view x stops epoch asked line cursor from at size next turn stop bytes s n view cache tier h reads low served searched =
+    let run = served.0.run in
+    let read : HasPassed asked.ts p.registry.start x.log from = subst (HasPassed asked.ts p.registry.start x.log) reads h.dated.read in
+    let own : HasPassed asked.ts asked.start x.log from = subst (λ (m : ℕ). HasPassed asked.ts m x.log from) (sym h.start_is) read in
+    let past = h.past in
+    let start = h.start_is in
+    let k = (runs_are_searched asked from at (wanted_at asked from).limit x.log run.run stop (h.safe.plain.brokers b x h.broker_is).log.consecutive own (omega (arith, past, start, low)) run.is served.1).0
+    (subst (λ (l : List ℕ). IsSearched asked from l (Ends (Offset at))) run.spelled searched) in
+    ap (λ (m : ℕ). first_at asked.ts p.registry.start (from_offset p.registry.start (up_to m x.log))) (sym h.mark_is)
+    ∙ ap (λ (m : ℕ). first_at asked.ts m (from_offset m (up_to asked.mark x.log))) (sym h.start_is)
+    ∙ k
+
+module _ {S M : Type 0} (objects : S → store.Content) (calls : S → Control store_call.call_code)
+    (notes : M → meta.Content) (notings : M → Control meta_call.call_code) where
+  -- remote segments
+
+  seek_on : (c : Scene) (p : Plain) (a b : ℕ) (tier_view : BrokerTierView) (x : Broker) (stops epoch : ℕ) (asked : Asked) (line : List (ℕ × ℕ)) (cursor at : ℕ) (then : SearchStep) (s : store.Content) (cache : Cache)
+      (before after : Seen) (old new : M) → IsAtSearch c p a b tier_view x stops epoch asked line cursor Seek s (notes old) before cache → cursor < asked.local
+      → SeeksIn asked line after cursor (Goes at then) → Refreshed notes notings before after old new → Dated p x asked cursor at then
+  seek_on c p a b tier_view x stops epoch asked line cursor at then s cache before after old new h local seeks fresh = by then seeks
+    where
+      all : after ≡ view_of c.notes
+      all =
+          let r : Refreshes (notes old) tier_view.view after = subst (λ (v : Seen). Refreshes (notes old) v after) (sym h.shows.view_is) fresh.view in
+          (sees_all objects calls notes notings c p a b tier_view Free s old after (own_view c a b tier_view Free s (notes old) before h.shows) h.few (h.safe.tier.views b tier_view h.shows.tier_view_is) r).0
+
+      over : Passes asked line after.entries cursor at → (cursor ≤ at) × HasPassed asked.ts p.registry.start x.log at
+      over passes =
+          let kept = seen_kept c.notes c.notes c.desk h.safe.tier.notes (prefix_self c.notes) in
+          let right : IsRightView (view_of c.notes) = record { kept = kept.0; distinct = kept.1 } in
+          let of : IsViewOf c.notes after = record { before = c.notes; begins = prefix_self c.notes; is = all } in
+          over_all c p b x after asked line h.safe.plain h.safe.tier h.broker_is of (subst IsRightView (sym all) right) h.is_observable h.end_is cursor at passes h.past h.dated.cursor
+
+      by : (then : SearchStep) → SeeksIn asked line after cursor (Goes at then) → Dated p x asked cursor at then
+      by Seek seeks =
+          let k = over seeks.passes in
+          let known = h.below in
+          let mark = h.mark_is in
+          let far = seeks.far in
+          (record { cursor = k.1; read = k.1 }, k.0, λ yes. past_top asked.local asked.mark local (omega (arith, known, mark)) far)
+        where
+          past_top : (l m : ℕ) → cursor < l → cursor < m → min l m ≤ at → cursor < at
+          past_top l m low marked far = omega (arith, low, marked, far)
+      by (ReadsTimes piece) seeks = (let k = over seeks.passes in (record { cursor = k.1; read = k.1 }, k.0, λ no. absurd (cc (no))))
+      by (Index piece from) seeks = absurd seeks
+      by (Log piece from span) seeks = absurd seeks
+
+  -- time indexes
+
+  -- where a search goes on, none of the bytes are lacking
+  none_lack : (end : Option ℕ) (asked : Asked) (cursor at : ℕ) (piece : Piece) (base : ℕ) (spot : Spot) (bytes : List ℕ) (then : SearchStep)
+      → TimesBytes end asked cursor piece base spot bytes (Ok (Goes at then)) → IsTimed asked cursor piece base bytes (Goes at then)
+  none_lack (Some end) asked cursor at piece base spot bytes then k = absurd (cc (k))
+  none_lack None asked cursor at piece base spot bytes then k = k
+
+  times_on : (c : Scene) (p : Plain) (a b : ℕ) (tier_view : BrokerTierView) (x : Broker) (stops epoch : ℕ) (asked : Asked) (line : List (ℕ × ℕ)) (cursor at : ℕ) (piece : Piece) (then : SearchStep) (ns : meta.Content)
+      (view : Seen) (cache : Cache) (old new : S) (place : Option (ℕ × Spot)) → IsAtSearch c p a b tier_view x stops epoch asked line cursor (ReadsTimes piece) (objects old) ns view cache
+      → cursor < piece.to → spot_in asked.partition piece.id part.TimeIndex (entry_of piece.id view.entries) ≡ place
+      → TimesRow objects calls asked cursor piece view place (Ok (Goes at then)) old new → Dated p x asked cursor at then
+  times_on c p a b tier_view x stops epoch asked line cursor at piece then ns view cache old new None h set there row = absurd (cc (row.0))
+  times_on c p a b tier_view x stops epoch asked line cursor at piece then ns view cache old new (Some place) h set there row = by row.answer row.gets row.times
+    where
+      by : (answer : Result (Option (List ℕ)) Trouble) → Gets objects calls place.1.key (all_of place.1) answer old new
+          → Times asked cursor piece place.0 place.1 answer (Ok (Goes at then)) → Dated p x asked cursor at then
+      by (Err Failed) gets k = absurd (cc (k))
+      by (Err NoMemory) gets k = absurd (cc (k))
+      by (Ok None) gets k = absurd (cc (k))
+      by (Ok (Some bytes)) gets k =
+          let t = none_lack (short_of place.1 bytes) asked cursor at piece place.0 place.1 bytes then k in
+          let turn = at_turn c p a b tier_view x stops epoch asked line cursor (ReadsTimes piece) (objects old) ns view cache cursor (fetching.Index piece) h h.shows (omega arith) in
+          let r = copy_of c p a b tier_view x stops epoch (wanted_at asked cursor) line (fetching.Index piece) (objects old) ns view cache piece turn refl in
+          let g = gives c p a b tier_view x stops epoch (wanted_at asked cursor) line (fetching.Index piece) (objects old) ns view cache piece part.TimeIndex place (λ b. b) (Some bytes)
+          tt turn refl there (gets.bytes h.shows.store_tells) r in
+          let spelled : bytes ≡ part_in (parts_of r.held.batches r.held.line r.held.interval) part.TimeIndex =
+          one_some (Some bytes) bytes (part_in (parts_of r.held.batches r.held.line r.held.interval) part.TimeIndex) refl g.given_is in
+          let first : first_offset r.held.batches ≡ r.entry.start = first_is r.entry.start r.held.batches r.held.describes.some r.held.describes.is.consecutive in
+          let same : bytes_of moment_bytes t.index.entries ≡ bytes_of moment_bytes (time_index_of r.entry.start r.held.interval (placed_from 0 r.held.batches)).entries =
+          sym t.bytes_are ∙ spelled ∙ ap (λ (n : ℕ). bytes_of moment_bytes (time_index_of n r.held.interval (placed_from 0 r.held.batches)).entries) first in
+          let index = times_read t.index r.entry.start r.held.interval r.held.batches r.held.describes.is (t.base_is ∙ g.start_is) t.rises same in
+          let stood = (h.safe.tier.fetches a (sought_of b stops epoch cursor (fetching.Index piece)) tier_view x turn.shows.actor_state turn.shows.tier_view_is turn.broker_is).piece piece refl turn.leads turn.past in
+          timed c p a b tier_view x stops epoch asked line cursor at piece then (objects old) ns view cache t.index h set r stood.holds.0 index t.turn_is
+
+  -- offset indexes
+
+  index_on : (c : Scene) (p : Plain) (a b : ℕ) (tier_view : BrokerTierView) (x : Broker) (stops epoch : ℕ) (asked : Asked) (line : List (ℕ × ℕ)) (cursor at : ℕ) (piece : Piece) (from : ℕ) (then : SearchStep)
+      (old new : Tiers S M) → IsAtSearch c p a b tier_view x stops epoch asked line cursor (Index piece from) (objects old.store) (notes old.meta) old.view old.cache
+      → IsSet cursor (Index piece from) → IndexRow objects calls notes notings asked line cursor piece from (Ok (Goes at then)) old new → Dated p x asked cursor at then
+  index_on c p a b tier_view x stops epoch asked line cursor at piece from then old new h set (inl k) =
+      let low = set.0 in
+      let high = set.1 in
+      topped c p a b tier_view x stops epoch asked line cursor at (Index piece from) then piece from (objects old.store) (notes old.meta) old.view old.cache h refl (omega (arith, low, high)) k.0 (cc (k.1))
+  index_on c p a b tier_view x stops epoch asked line cursor at piece from then old new h set (inr k) = by k.1.0 k.1.2
+    where
+      by : (turn : Result FetchTurn AllocError) → Indexes cursor piece from turn (Ok (Goes at then)) → Dated p x asked cursor at then
+      by (Ok (fetch.Goes (fetching.Log found span))) k =
+          let at_is : at ≡ cursor = cc (k.1) in
+          let then_is : then ≡ Log piece from span = cc (k.1) in
+          subst (λ (m : ℕ). Dated p x asked cursor m then) (sym at_is) (subst (λ (m : SearchStep). Dated p x asked cursor cursor m) (sym then_is)
+          (record { cursor = h.dated.cursor; read = h.dated.read }, omega arith, λ no. absurd (cc (no))))
+      by (Ok (fetch.Goes fetching.Refresh)) k = absurd k
+      by (Ok (fetch.Goes (fetching.Index found))) k = absurd k
+      by (Ok (fetch.Ends answer)) k = absurd (cc (k))
+      by (Err e) k = absurd (cc (k))
+
+  -- logs
+
+  log_on : (c : Scene) (p : Plain) (a b : ℕ) (tier_view : BrokerTierView) (x : Broker) (stops epoch : ℕ) (asked : Asked) (line : List (ℕ × ℕ)) (cursor at : ℕ) (piece : Piece) (from : ℕ) (span : Span) (then : SearchStep)
+      (old new : Tiers S M) → IsAtSearch c p a b tier_view x stops epoch asked line cursor (Log piece from span) (objects old.store) (notes old.meta) old.view old.cache
+      → IsSet cursor (Log piece from span) → LogRow objects calls notes notings asked line piece from span (Ok (Goes at then)) old new → Dated p x asked cursor at then
+  log_on c p a b tier_view x stops epoch asked line cursor at piece from span then old new h set (inl k) =
+      let low = set.0 in
+      let high = set.1 in
+      topped c p a b tier_view x stops epoch asked line cursor at (Log piece from span) then piece from (objects old.store) (notes old.meta) old.view old.cache h refl (omega (arith, low, high)) k.0 (cc (k.1))
+  log_on c p a b tier_view x stops epoch asked line cursor at piece from span then old new h set (inr k) = by k.1.0 k.1.1 k.1.2
+    where
+      by : (turn : Result FetchTurn AllocError) → FetchRow objects calls notes notings (wanted_at asked from) line (fetching.Log piece span) turn old new → Searches asked from turn (Ok (Goes at then))
+          → Dated p x asked cursor at then
+      by (Ok (fetch.Ends (Run tier size stop bytes))) row k =
+          let turn = at_turn c p a b tier_view x stops epoch asked line cursor (Log piece from span) (objects old.store) (notes old.meta) old.view old.cache from (fetching.Log piece span) h h.shows set.0 in
+          searched_on c p a b tier_view x stops epoch asked line cursor from at size (Log piece from span) then (fetching.Log piece span) stop bytes (objects old.store) (notes old.meta) old.view old.cache tier h refl set.0
+          (runs_are_checked objects calls notes notings (wanted_at asked from) line (fetching.Log piece span) tier size stop bytes old new c p a b tier_view x stops epoch row turn) k
+      by (Ok (fetch.Ends other)) row k = absurd (cc (k))
+      by (Ok (fetch.Goes next)) row k = absurd k
+      by (Err e) row k = absurd (cc (k))
+
+  -- where a search goes on, all before its cursor is too early
+  pub searches_go_on : SearchesGoOn objects calls notes notings
+  searches_go_on asked line cursor at Seek then old new c p a b tier_view x stops epoch row below set h =
+      seek_on c p a b tier_view x stops epoch asked line cursor at then (objects old.store) old.cache old.view new.view old.meta new.meta h below row.1.0 row.1.1
+  searches_go_on asked line cursor at (ReadsTimes piece) then old new c p a b tier_view x stops epoch row below set h =
+      times_on c p a b tier_view x stops epoch asked line cursor at piece then (notes old.meta) old.view old.cache old.store new.store
+      (spot_in asked.partition piece.id part.TimeIndex (entry_of piece.id old.view.entries)) h set refl row.1
+  searches_go_on asked line cursor at (Index piece from) then old new c p a b tier_view x stops epoch row below set h =
+      index_on c p a b tier_view x stops epoch asked line cursor at piece from then old new h set row
+  searches_go_on asked line cursor at (Log piece from span) then old new c p a b tier_view x stops epoch row below set h =
+      log_on c p a b tier_view x stops epoch asked line cursor at piece from span then old new h set row
+
+  -- offsets
+
+  -- no turn of a fetch answers one
+
+  no_offset_loaded : (wanted : FetchRequest) (piece : Piece) (base n : ℕ) (spot : Spot) (answer : Result (Option (List ℕ)) Trouble) (cache cache' : Cache)
+      → Loads wanted piece base spot answer (Ok (fetch.Ends (Offset n))) cache cache' → ⊥
+  no_offset_loaded wanted piece base n spot (Err Failed) cache cache' k = cc (k.0)
+  no_offset_loaded wanted piece base n spot (Err NoMemory) cache cache' k = cc (k.0)
+  no_offset_loaded wanted piece base n spot (Ok None) cache cache' k = cc (k.0)
+  no_offset_loaded wanted piece base n spot (Ok (Some given)) cache cache' k = by (short_of spot given) k
+    where
+      by : (end : Option ℕ) → LoadsBytes end wanted piece base spot given (Ok (fetch.Ends (Offset n))) cache cache' → ⊥
+      by (Some end) k = cc (k.0)
+      by None k = cc (k.0)
+
+  no_offset_read : (wanted : FetchRequest) (piece : Piece) (n : ℕ) (view : Seen) (place : Option (ℕ × Spot)) (cache cache' : Cache) (old new : S)
+      → LoadRow objects calls wanted piece view place (Ok (fetch.Ends (Offset n))) cache cache' old new → ⊥
+  no_offset_read wanted piece n view None cache cache' old new row = cc (row.0)
+  no_offset_read wanted piece n view (Some place) cache cache' old new row = no_offset_loaded wanted piece place.0 n place.1 row.answer cache cache' row.loads
+
+  no_offset_found : (wanted : FetchRequest) (piece : Piece) (n : ℕ) (view : Seen) (there : Option OffsetTable) (cache cache' : Cache) (old new : S)
+      → rows.IndexRow objects calls wanted piece view (Ok (fetch.Ends (Offset n))) there cache cache' old new → ⊥
+  no_offset_found wanted piece n view (Some index) cache cache' old new row = cc (row.0)
+  no_offset_found wanted piece n view None cache cache' old new row =
+      no_offset_read wanted piece n view (spot_in wanted.partition piece.id part.Index (entry_of piece.id view.entries)) cache cache' old new row
+
+  no_offset_cut : (wanted : FetchRequest) (piece : Piece) (n : ℕ) (spot : Spot) (span : Span) (answer : Result (Option (List ℕ)) Trouble) → Cuts wanted piece spot span answer (Ok (fetch.Ends (Offset n))) → ⊥
+  no_offset_cut wanted piece n spot span (Err Failed) k = cc (k)
+  no_offset_cut wanted piece n spot span (Err NoMemory) k = cc (k)
+  no_offset_cut wanted piece n spot span (Ok None) k = cc (k)
+  no_offset_cut wanted piece n spot span (Ok (Some given)) k = by (short_in spot span.from span.most given) k
+    where
+      by : (end : Option ℕ) → CutsBytes end wanted piece spot span given (Ok (fetch.Ends (Offset n))) → ⊥
+      by (Some end) k = cc (k)
+      by None k = k
+
+  no_offset_run : (wanted : FetchRequest) (piece : Piece) (n : ℕ) (span : Span) (view : Seen) (place : Option (ℕ × Spot)) (old new : S)
+      → rows.LogRow objects calls wanted piece span view place (Ok (fetch.Ends (Offset n))) old new → ⊥
+  no_offset_run wanted piece n span view None old new row = cc (row.0)
+  no_offset_run wanted piece n span view (Some place) old new row = no_offset_cut wanted piece n place.1 span row.answer row.cuts
+
+  -- nor does that of a time index
+  no_offset_timed : (asked : Asked) (cursor n : ℕ) (piece : Piece) (view : Seen) (place : Option (ℕ × Spot)) (old new : S) → TimesRow objects calls asked cursor piece view place (Ok (Ends (Offset n))) old new → ⊥
+  no_offset_timed asked cursor n piece view None old new row = cc (row.0)
+  no_offset_timed asked cursor n piece view (Some place) old new row = by row.answer row.times
+    where
+      lacks : (bytes : List ℕ) (end : Option ℕ) → TimesBytes end asked cursor piece place.0 place.1 bytes (Ok (Ends (Offset n))) → ⊥
+      lacks bytes (Some end) k = cc (k)
+      lacks bytes None k = cc (k.0)
+
+      by : (answer : Result (Option (List ℕ)) Trouble) → Times asked cursor piece place.0 place.1 answer (Ok (Ends (Offset n))) → ⊥
+      by (Err Failed) k = cc (k)
+      by (Err NoMemory) k = cc (k)
+      by (Ok None) k = cc (k)
+      by (Ok (Some bytes)) k = lacks bytes (short_of place.1 bytes) k
+
+  index_at : (asked : Asked) (line : List (ℕ × ℕ)) (cursor at : ℕ) (piece : Piece) (from : ℕ) (old new : Tiers S M)
+      → IndexRow objects calls notes notings asked line cursor piece from (Ok (Ends (Offset at))) old new → ⊥
+  index_at asked line cursor at piece from old new (inl k) = cc (k.1)
+  index_at asked line cursor at piece from old new (inr k) = by k.1.0 k.1.1 k.1.2
+    where
+      by : (turn : Result FetchTurn AllocError) → FetchRow objects calls notes notings (wanted_at asked from) line (fetching.Index piece) turn old new → Indexes cursor piece from turn (Ok (Ends (Offset at))) → ⊥
+      by (Ok (fetch.Goes (fetching.Log found span))) row k = cc (k.1)
+      by (Ok (fetch.Goes fetching.Refresh)) row k = k
+      by (Ok (fetch.Goes (fetching.Index found))) row k = k
+      by (Ok (fetch.Ends answer)) row k =
+          let same : answer ≡ Offset at = cc (k) in
+          no_offset_found (wanted_at asked from) piece at old.view (found piece.id.0 old.cache.pairs) old.cache new.cache old.store new.store
+          (subst (λ (o : Answer). rows.IndexRow objects calls (wanted_at asked from) piece old.view (Ok (fetch.Ends o)) (found piece.id.0 old.cache.pairs) old.cache new.cache old.store new.store) same row.1)
+      by (Err e) row k = cc (k)
+
+  log_at : (c : Scene) (p : Plain) (a b : ℕ) (tier_view : BrokerTierView) (x : Broker) (stops epoch : ℕ) (asked : Asked) (line : List (ℕ × ℕ)) (cursor at : ℕ) (piece : Piece) (from : ℕ) (span : Span)
+      (old new : Tiers S M) → IsAtSearch c p a b tier_view x stops epoch asked line cursor (Log piece from span) (objects old.store) (notes old.meta) old.view old.cache
+      → IsSet cursor (Log piece from span) → LogRow objects calls notes notings asked line piece from span (Ok (Ends (Offset at))) old new → offset_at p x asked.ts ≡ Some at
+  log_at c p a b tier_view x stops epoch asked line cursor at piece from span old new h set (inl k) = absurd (cc (k.1))
+  log_at c p a b tier_view x stops epoch asked line cursor at piece from span old new h set (inr k) = by k.1.0 k.1.1 k.1.2
+    where
+      none : (answer : Answer) → FetchRow objects calls notes notings (wanted_at asked from) line (fetching.Log piece span) (Ok (fetch.Ends answer)) old new → answer ≡ Offset at → ⊥
+      none answer row same =
+          no_offset_run (wanted_at asked from) piece at span old.view (spot_in asked.partition piece.id part.Log (entry_of piece.id old.view.entries)) old.store new.store
+          (subst (λ (o : Answer). rows.LogRow objects calls (wanted_at asked from) piece span old.view (spot_in asked.partition piece.id part.Log (entry_of piece.id old.view.entries)) (Ok (fetch.Ends o)) old.store new.store) same row.1)
+
+      by : (turn : Result FetchTurn AllocError) → FetchRow objects calls notes notings (wanted_at asked from) line (fetching.Log piece span) turn old new → Searches asked from turn (Ok (Ends (Offset at)))
+          → offset_at p x asked.ts ≡ Some at
+      by (Ok (fetch.Ends (Run tier size stop bytes))) row k =
+          let turn = at_turn c p a b tier_view x stops epoch asked line cursor (Log piece from span) (objects old.store) (notes old.meta) old.view old.cache from (fetching.Log piece span) h h.shows set.0 in
+          searched_at c p a b tier_view x stops epoch asked line cursor from at size (Log piece from span) (fetching.Log piece span) stop bytes (objects old.store) (notes old.meta) old.view old.cache tier h refl set.0
+          (runs_are_checked objects calls notes notings (wanted_at asked from) line (fetching.Log piece span) tier size stop bytes old new c p a b tier_view x stops epoch row turn) k
+      by (Ok (fetch.Ends other)) row k = absurd (none other row (cc (k)))
+      by (Ok (fetch.Goes next)) row k = absurd k
+      by (Err e) row k = absurd (cc (k))
+
+  -- an offset that is answered is the log's
+  pub searches_are_right : SearchesAreRight objects calls notes notings
+  searches_are_right asked line cursor at Seek old new c p a b tier_view x stops epoch row below set h = absurd row.1.0
+  searches_are_right asked line cursor at (ReadsTimes piece) old new c p a b tier_view x stops epoch row below set h =
+      absurd (no_offset_timed asked cursor at piece old.view (spot_in asked.partition piece.id part.TimeIndex (entry_of piece.id old.view.entries)) old.store new.store row.1)
+  searches_are_right asked line cursor at (Index piece from) old new c p a b tier_view x stops epoch row below set h = absurd (index_at asked line cursor at piece from old new row)
+  searches_are_right asked line cursor at (Log piece from span) old new c p a b tier_view x stops epoch row below set h = log_at c p a b tier_view x stops epoch asked line cursor at piece from span old new h set row

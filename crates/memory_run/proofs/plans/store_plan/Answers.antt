@@ -1,6 +1,0 @@
-use Rattle.memory_run.specs.Plans.{store_named}
-use Rattle.memory_run.proofs.Planning.{plan_next}
-use Rattle.memory_run.proofs.plans.store_plan.Goals as goal
-
-pub loop-fault-preserved : goal.loop-fault-preserved
-loop-fault-preserved c = plan_next store_named c.args.faults.now c.loop-fault.fault-index _ c.store_named.result c.loop-fault.plan.items c.add_call.new.plan.items c.loop-fault-test.true c.loop-fault.invariant c.store_named.ensures c.in_ok-add_call.ensures

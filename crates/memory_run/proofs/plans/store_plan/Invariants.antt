@@ -1,6 +1,0 @@
-use Rattle.std.proofs.Common.{◌≡◌, take}
-use Rattle.memory_run.specs.Plans.{store_plan}
-use Rattle.memory_run.proofs.plans.store_plan.Given as goal
-
-abbrev pub invariant-loop-fault : goal.invariant-loop-fault
-invariant-loop-fault l = l.plan.items ≡ store_plan (take l.fault-index l.faults)

@@ -1,0 +1,10 @@
+//! Who tells a note.
+
+use tier_base::BrokerId;
+
+/// The broker that appends a note, and the time in milliseconds.
+#[derive(Clone, Copy, Debug, PartialEq, Eq)]
+pub struct EventOrigin {
+    pub broker: BrokerId,
+    pub now: i64,
+}

@@ -1,0 +1,15 @@
+pub mod Partition
+pub mod TurnsOfLog
+pub mod TurnsOfFetch
+pub mod TurnsOfElections
+pub mod TurnsOfFollowers
+pub mod Turns
+pub mod Sound
+pub mod Stopping
+pub mod Disks
+pub mod Faults
+pub mod Infallible
+pub mod Fresh
+pub mod Shown
+pub mod Laws
+pub mod Cold

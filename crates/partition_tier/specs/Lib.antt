@@ -1,4 +1,0 @@
-pub mod Sites
-pub mod Works
-pub mod Turns
-pub mod Laws

@@ -1,5 +1,0 @@
-use Rattle.partition_turns.proofs.CountingRows.{rows_count}
-use Rattle.partition_turns.proofs.laws.rows_count_faults.Goals as goal
-
-pub returns : goal.returns
-returns g c = rows_count g.D.Disk.content g.D.Disk.control

@@ -1,5 +1,0 @@
-use Rattle.partition_turns.proofs.LastingRows.{rows_last}
-use Rattle.partition_turns.proofs.laws.rows_last.Goals as goal
-
-pub returns : goal.returns
-returns g c = rows_last g.D.Disk.content g.D.Disk.control

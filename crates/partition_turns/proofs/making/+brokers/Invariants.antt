@@ -1,5 +1,0 @@
-use Rattle.std.proofs.Common.{vec_len}
-use Rattle.partition_turns.proofs.making.+brokers.Given as goal
-
-abbrev pub decreases-brokers : goal.decreases-brokers
-decreases-brokers g l = vec_len l.disks.now

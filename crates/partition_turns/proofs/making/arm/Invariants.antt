@@ -1,5 +1,0 @@
-use Rattle.partition_turns.proofs.FreshDisks.{AreArmed}
-use Rattle.partition_turns.proofs.making.arm.Given as goal
-
-abbrev pub invariant-loop-i : goal.invariant-loop-i
-invariant-loop-i g l = AreArmed g.D.Disk.content g.D.Disk.control l.i l.fn.nodes l.nodes

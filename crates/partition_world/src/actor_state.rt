@@ -1,0 +1,201 @@
+//! How far an actor has come, what is kept of its command between two turns, and what a turn came to.
+
+ghost use Rattle.std.specs.Prelude.{◌≡◌};
+ghost use Rattle.partition_world.specs.ActorStates.{chosen, moved, sought, dated, expired_segment, deleting, rebuilding, outcome_of, copy_outcome, fetch_outcome, date_outcome, expiry_outcome, rebuild_outcome};
+
+use copy_task::{CopyStep, CopyTurn, Copying};
+use expiry_task::{DeletionStep as Deletion, ExpiredSegment, ExpiryTurn};
+use laws_partition::{StartSnapshot, Turned};
+use plain_log::Answer;
+use rebuild_task::{RebuildStep as Rebuild, RebuildTurn};
+use tier_fetch::{FetchStep as Search, FetchTurn};
+use time_find::{SearchStep as Dating, TimeTurn};
+
+/// What is kept of a command between its turns.
+#[derive(Drop)]
+pub enum InProgress {
+    /// Nothing: it hasn't begun.
+    Idle,
+    /// What was recorded where it began. A follow has its run there, and a copy or an expiry has yet to choose its segment.
+    Noted(StartSnapshot),
+    /// A copy of a segment, and what it does next.
+    Copies(StartSnapshot, Copying, CopyStep),
+    /// A fetch from the remote tier, and what it does next.
+    Seeks(StartSnapshot, Search),
+    /// A search by timestamp, the offset that it has come to, and what it does next.
+    Dates(StartSnapshot, u64, Dating),
+    /// An expiry of a remote segment, and what it does next.
+    Expires(StartSnapshot, ExpiredSegment, Deletion),
+    /// A join whose broker has refreshed its view to begin its log anew, and what it does next.
+    Rebuilds(StartSnapshot, Rebuild),
+}
+
+/// An actor's place at the desk.
+#[derive(Drop)]
+pub struct ActorState {
+    /// The number of its next order, or of the one that has begun.
+    pub number: u32,
+    /// What is kept of the order.
+    pub work: InProgress,
+}
+
+/// What a turn of a command came to.
+#[derive(Drop)]
+pub enum Outcome {
+    /// The command was answered.
+    Answers(Answer),
+    /// It began.
+    Begins(StartSnapshot),
+    /// A copy has chosen its segment.
+    Chose(Copying),
+    /// A copy goes on with this turn.
+    Goes(CopyStep),
+    /// A fetch from the remote tier goes on with this turn.
+    Seeks(Search),
+    /// A search by timestamp goes on at this offset with this turn.
+    Dates(u64, Dating),
+    /// An expiry has taken up a remote segment.
+    Dooms(ExpiredSegment),
+    /// An expiry goes on with this turn.
+    Deletes(Deletion),
+    /// A join that begins its log anew goes on with this turn.
+    Rebuilds(Rebuild),
+}
+
+impl InProgress {
+    /// The work of a copy that has chosen its segment.
+    pub(crate) fn chosen(self, copying: Copying) -> InProgress
+        ensures { result ≡ chosen self copying }
+    {
+        match self {
+            InProgress::Noted(snapshot) => InProgress::Copies(snapshot, copying, CopyStep::Start),
+            other => other,
+        }
+    }
+
+    /// The work of a copy that goes on.
+    pub(crate) fn moved(self, next: CopyStep) -> InProgress
+        ensures { result ≡ moved self next }
+    {
+        match self {
+            InProgress::Copies(snapshot, copying, _) => InProgress::Copies(snapshot, copying, next),
+            other => other,
+        }
+    }
+
+    /// The work of a fetch that goes on in the remote tier.
+    pub(crate) fn sought(self, next: Search) -> InProgress
+        ensures { result ≡ sought self next }
+    {
+        match self {
+            InProgress::Noted(snapshot) | InProgress::Seeks(snapshot, _) => InProgress::Seeks(
+                snapshot, next,
+            ),
+            other => other,
+        }
+    }
+
+    /// The work of a search by timestamp that goes on.
+    pub(crate) fn dated(self, cursor: u64, next: Dating) -> InProgress
+        ensures { result ≡ dated self cursor next }
+    {
+        match self {
+            InProgress::Noted(snapshot) => InProgress::Dates(snapshot, cursor, next),
+            InProgress::Dates(snapshot, _, _) => InProgress::Dates(snapshot, cursor, next),
+            other => other,
+        }
+    }
+
+    /// The work of an expiry that has taken up a remote segment.
+    pub(crate) fn expired_segment(self, segment: ExpiredSegment) -> InProgress
+        ensures { result ≡ expired_segment self segment }
+    {
+        match self {
+            InProgress::Noted(snapshot) => InProgress::Expires(snapshot, segment, Deletion::Start),
+            other => other,
+        }
+    }
+
+    /// The work of an expiry that goes on.
+    pub(crate) fn deleting(self, next: Deletion) -> InProgress
+        ensures { result ≡ deleting self next }
+    {
+        match self {
+            InProgress::Expires(snapshot, segment, _) => InProgress::Expires(
+                snapshot, segment, next,
+            ),
+            other => other,
+        }
+    }
+
+    /// The work of a join that goes on to begin its log anew.
+    pub(crate) fn rebuilding(self, next: Rebuild) -> InProgress
+        ensures { result ≡ rebuilding self next }
+    {
+        match self {
+            InProgress::Noted(snapshot) => InProgress::Rebuilds(snapshot, next),
+            InProgress::Rebuilds(snapshot, _) => InProgress::Rebuilds(snapshot, next),
+            other => other,
+        }
+    }
+}
+
+/// What a turn came to of a command that the remote tier has no part in.
+pub(crate) fn outcome_of(turned: Turned) -> Outcome
+    ensures { result ≡ outcome_of turned }
+{
+    match turned {
+        Turned::Answers(answer) => Outcome::Answers(answer),
+        Turned::Begins(snapshot) => Outcome::Begins(snapshot),
+    }
+}
+
+/// What a turn of a copy came to.
+pub(crate) fn copy_outcome(turn: CopyTurn) -> Outcome
+    ensures { result ≡ copy_outcome turn }
+{
+    match turn {
+        CopyTurn::Goes(next) => Outcome::Goes(next),
+        CopyTurn::Ends(answer) => Outcome::Answers(answer),
+    }
+}
+
+/// What a turn of a fetch from the remote tier came to.
+pub(crate) fn fetch_outcome(turn: FetchTurn) -> Outcome
+    ensures { result ≡ fetch_outcome turn }
+{
+    match turn {
+        FetchTurn::Goes(next) => Outcome::Seeks(next),
+        FetchTurn::Ends(answer) => Outcome::Answers(answer),
+    }
+}
+
+/// What a turn of a search by timestamp came to.
+pub(crate) fn date_outcome(turn: TimeTurn) -> Outcome
+    ensures { result ≡ date_outcome turn }
+{
+    match turn {
+        TimeTurn::Goes(cursor, next) => Outcome::Dates(cursor, next),
+        TimeTurn::Ends(answer) => Outcome::Answers(answer),
+    }
+}
+
+/// What a turn of an expiry came to.
+pub(crate) fn expiry_outcome(turn: ExpiryTurn) -> Outcome
+    ensures { result ≡ expiry_outcome turn }
+{
+    match turn {
+        ExpiryTurn::Goes(next) => Outcome::Deletes(next),
+        ExpiryTurn::Ends(answer) => Outcome::Answers(answer),
+    }
+}
+
+/// What a turn of a rebuild came to.
+pub(crate) fn rebuild_outcome(turn: RebuildTurn) -> Outcome
+    ensures { result ≡ rebuild_outcome turn }
+{
+    match turn {
+        RebuildTurn::Goes(next) => Outcome::Rebuilds(next),
+        RebuildTurn::Ends(answer) => Outcome::Answers(answer),
+    }
+}

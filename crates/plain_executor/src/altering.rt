@@ -1,0 +1,188 @@
+//! The state after a change.
+
+ghost use Rattle.std.specs.Prelude.{◌≡◌, ◌<◌, ◌≤◌, ◌^◌, ◌-◌, ℕ, min, take, length, OnOk, OnErr};
+ghost use mathlib.Core.List.{IsPrefix};
+ghost use Rattle.plain_log.specs.Safe.{current, Has};
+ghost use Rattle.plain_log.specs.declared.state.Role.TheVariants as role;
+ghost use Rattle.plain_log.specs.State.{breaks, put_broker};
+ghost use Rattle.plain_executor.specs.Change.{AreJoined, AtBroker, CanStop, acked, path_in, changed};
+ghost use Rattle.plain_executor.specs.Fits.{IsFor};
+ghost use Rattle.registry.specs.Registry.{epoch_limit};
+
+use crate::change::Change;
+use crate::ends::end;
+use crate::lists::{bring, shared};
+use crate::making::{batch_at, break_off, cut_off, elect, gain, open, stop};
+use crate::moving::{break_lead, expand, lead, restart, shrink, start};
+use crate::paths::path;
+use crate::replicas::mark_with;
+use bytes::Bytes;
+use plain_log::{Broker, Order, Role, State};
+use std::alloc::{AllocError, Global};
+
+/// Takes a broker's flushed end for an acknowledgement. The first batches of the current path, so many, are committed
+/// then.
+fn acknowledge(p: &mut State, alloc: Global, b: usize, count: usize) -> Result<(), AllocError>
+    requires broker { b < length p.old.brokers }
+    requires replica { b < length p.old.registry.replicas }
+    requires begins { IsPrefix p.old.committed (current p.old.paths p.old.registry.epoch p.old.committed) }
+    ensures ok { OnOk result (AtBroker p.old b (λ x s. p.new ≡ acked p.old b x s count)) }
+    ensures err { OnErr result (p.new ≡ p.old) }
+{
+    let x = p.brokers.get(b);
+    let flushed_end = x.flushed_end;
+    let last = end(x.log.as_slice());
+    let mark = mark_with(p, b, flushed_end);
+    let Some(path) = path(p.paths.as_slice(), p.registry.epoch) else {
+        return Err(AllocError);
+    };
+    bring(alloc, &mut p.committed, path, count.min(path.len()))?;
+    p.registry.mark = mark;
+    p.registry.replicas.at_mut(b).acked = flushed_end;
+    p.brokers.at_mut(b).known_high_watermark = lesser(mark, last);
+    Ok(())
+}
+
+/// The lesser of a number and an end.
+fn lesser(mark: u64, last: u128) -> u64
+    ensures { result ≡ min mark last }
+{
+    if u128::from(mark) <= last {
+        mark
+    } else {
+        last as u64
+    }
+}
+
+/// Brings a log to the first batches, so many, of the path of an epoch, which it begins where the broker has joined.
+fn renew(
+    alloc: Global,
+    x: &mut Broker,
+    epoch: u32,
+    path: &[Bytes],
+    count: usize,
+) -> Result<(), AllocError>
+    requires joined { x.old.role ≡ role.Joined epoch → IsPrefix x.old.log path.now }
+    requires within { count ≤ length path.now }
+    ensures ok { OnOk result (x.new ≡ record x.old { log = take count path.now }) }
+    ensures err { OnErr result (x.new ≡ x.old) }
+{
+    if x.role == Role::Joined(epoch) {
+        bring(alloc, &mut x.log, path, count)?;
+    } else {
+        x.log = shared(alloc, &path[..count])?;
+    }
+    Ok(())
+}
+
+/// Brings a broker's log to the first batches, so many, of the path of an epoch. It is flushed up to here.
+fn extend(
+    p: &mut State,
+    alloc: Global,
+    b: usize,
+    epoch: u32,
+    count: usize,
+    flushed_end: u64,
+) -> Result<(), AllocError>
+    requires broker { b < length p.old.brokers }
+    requires joined { AreJoined p.old }
+    ensures ok { OnOk result (AtBroker p.old b (λ x s.
+        p.new ≡ put_broker p.old b (record x { log = take count (path_in p.old epoch); flushed_end = flushed_end }))) }
+    ensures err { OnErr result (p.new ≡ p.old) }
+{
+    let Some(path) = path(p.paths.as_slice(), epoch) else {
+        return Err(AllocError);
+    };
+    let x = p.brokers.at_mut(b);
+    renew(alloc, x, epoch, path, count.min(path.len()))?;
+    x.flushed_end = flushed_end;
+    Ok(())
+}
+
+/// The same, where the broker stops in the middle of it.
+fn break_longer(
+    p: &mut State,
+    alloc: Global,
+    b: usize,
+    epoch: u32,
+    count: usize,
+) -> Result<(), AllocError>
+    requires broker { b < length p.old.brokers }
+    requires stops { CanStop p.old b }
+    requires joined { AreJoined p.old }
+    ensures ok { OnOk result (AtBroker p.old b (λ x s. p.new ≡ breaks p.old b (record x { log = take count (path_in p.old epoch) }))) }
+    ensures err { OnErr result (p.new ≡ p.old) }
+{
+    let Some(path) = path(p.paths.as_slice(), epoch) else {
+        return Err(AllocError);
+    };
+    let x = p.brokers.at_mut(b);
+    renew(alloc, x, epoch, path, count.min(path.len()))?;
+    let flushed_end = x.flushed_end;
+    break_off(x, flushed_end);
+    Ok(())
+}
+
+/// Changes the state by an answer to an order.
+pub(crate) fn alter(
+    p: &mut State,
+    alloc: Global,
+    order: &Order,
+    change: Change,
+) -> Result<(), AllocError>
+    requires broker { order.now.broker.0 < length p.old.brokers }
+    requires replica { order.now.broker.0 < length p.old.registry.replicas }
+    requires begins { IsPrefix p.old.committed (current p.old.paths p.old.registry.epoch p.old.committed) }
+    requires joined { AreJoined p.old }
+    requires fit { IsFor order.now.command }
+    requires epoch { p.old.registry.epoch ≤ epoch_limit }
+    ensures ok { OnOk result (AtBroker p.old order.now.broker.0 (λ x s.
+        p.new ≡ changed p.old order.now.broker.0 x s order.now.command change)) }
+    ensures err { OnErr result (p.new ≡ p.old) }
+{
+    let b = order.broker.0 as usize;
+    // The model's counts of stops have no bound, the machine's have 64 bits.
+    if p.brokers.get(b).stops == u64::MAX {
+        return Err(AllocError);
+    }
+    match change {
+        Change::Same => Ok(()),
+        Change::Breaks(flushed_end) => Ok(break_off(p.brokers.at_mut(b), flushed_end)),
+        Change::Flushes(end) => {
+            p.brokers.at_mut(b).flushed_end = end;
+            Ok(())
+        }
+        Change::Stops => Ok(stop(p.brokers.at_mut(b))),
+        Change::Opens { count, end } => Ok(open(alloc, p.brokers.at_mut(b), count, end)),
+        Change::Follows(epoch) => {
+            p.brokers.at_mut(b).role = Role::Follows(epoch);
+            Ok(())
+        }
+        Change::Cuts { epoch, count, end } => {
+            Ok(cut_off(alloc, p.brokers.at_mut(b), epoch, count, end))
+        }
+        Change::BreaksLead => break_lead(p, alloc, b),
+        Change::Leads(epoch) => lead(p, alloc, b, epoch),
+        Change::Acks { count } => acknowledge(p, alloc, b, count),
+        Change::Gains { base, epoch } => {
+            gain(
+                p,
+                alloc,
+                b,
+                epoch,
+                batch_at(alloc, base, epoch, &order.command)?,
+            )
+        }
+        Change::Extends {
+            epoch,
+            count,
+            flushed_end,
+        } => extend(p, alloc, b, epoch, count, flushed_end),
+        Change::BreaksLonger { epoch, count } => break_longer(p, alloc, b, epoch, count),
+        Change::Elects => Ok(elect(p, order.broker)),
+        Change::Restarts { count } => restart(p, alloc, order.broker, count),
+        Change::Shrinks => Ok(shrink(p, b)),
+        Change::Expands => Ok(expand(p, b)),
+        Change::Starts(offset) => Ok(start(p, offset)),
+    }
+}

@@ -1,0 +1,59 @@
+//! What an answer changes: the rows of all commands.
+
+ghost use Rattle.std.specs.Prelude.{◌≡◌, ◌<◌, ℕ, List, Some, length, slice_get, option_map};
+ghost use Rattle.std.specs.Option.{option_copied};
+ghost use Rattle.plain_log.specs.Rows.{row};
+ghost use Rattle.plain_log.specs.Safe.{PlainSafe};
+ghost use Rattle.plain_executor.specs.Change.{changed};
+ghost use Rattle.plain_executor.specs.Fits.{IsFor};
+
+use crate::change::{Change, given};
+use crate::{elections, followers, log_rows, reads, replicas, tiers};
+use plain_log::{Answer, Broker, Command, PlainSnapshot, Replica, State};
+
+/// What an answer to a command of a broker changes, or none where the answer isn't allowed.
+pub(crate) fn decide(
+    p: &State,
+    b: usize,
+    x: &Broker,
+    s: &Replica,
+    recorded: Option<&PlainSnapshot>,
+    command: &Command,
+    answer: &Answer,
+) -> Option<Change>
+    requires safe { PlainSafe p.now }
+    requires broker { slice_get p.now.brokers b ≡ Some x.now }
+    requires replica { slice_get p.now.registry.replicas b ≡ Some s.now }
+    requires fit { IsFor command.now }
+    ensures { row p.now b x.now s.now (option_copied recorded.entry) command.now answer.now
+        ≡ option_map (changed p.now b x.now s.now command.now) result }
+{
+    match command {
+        Command::Append(recs) => log_rows::append(x, recs.as_slice(), answer),
+        Command::Raw(bytes) => log_rows::raw(x, bytes.as_slice(), answer),
+        Command::Flush => log_rows::flush(x, answer),
+        Command::Roll => log_rows::roll(x, answer),
+        Command::Elect => elections::elect(p, x, s, answer),
+        Command::Unclean => elections::unclean(p, x, answer),
+        Command::Learn => elections::learn(p, b, x, answer),
+        Command::Join => followers::join(p, b, x, recorded, answer),
+        Command::Follow { limit } => followers::follow(p, x, *limit, recorded, answer),
+        Command::Ack => replicas::ack(p, b, x, answer),
+        Command::Shrink => replicas::shrink(p, b, s, answer),
+        Command::Expand => replicas::expand(p, x, s, answer),
+        Command::Stop => log_rows::stop(x, answer),
+        Command::Up => log_rows::up(x, answer),
+        Command::Trim => tiers::trim(p, b, x, recorded, answer),
+        Command::Expire => tiers::expire(p, x, recorded, answer),
+        Command::Raise { start } => tiers::raise(p, x, *start, answer),
+        Command::Copy => given(tiers::copy(p, x, recorded, answer), Change::Same),
+        Command::Fetch { offset, limit } => given(
+            reads::fetch(p, x, *offset, *limit, recorded, answer),
+            Change::Same,
+        ),
+        Command::Offset(which) => given(reads::offset(p, x, which, recorded, answer), Change::Same),
+        Command::Clock { .. } | Command::Pack(_) | Command::Copying(_) => {
+            given(matches!(answer, Answer::Ok), Change::Same)
+        }
+    }
+}

@@ -1,0 +1,312 @@
+//! The rows of a follower that comes to where its log meets the leader's, and copies from there on.
+
+ghost use Rattle.std.specs.Prelude.{◌≡◌, ◌≤◌, ℕ, List, take, drop, length, option_map, Some, None, IfSome};
+ghost use Rattle.std.specs.Option.{option_copied};
+ghost use Rattle.log_terms.specs.Log.{IsConsecutive, end_of};
+ghost use Rattle.registry.specs.Calls.{when};
+ghost use Rattle.registry.specs.declared.registry.Replica.{Replica};
+ghost use Rattle.plain_log.specs.declared.command.Command.{Command};
+ghost use Rattle.plain_log.specs.Ends.{common};
+ghost use Rattle.plain_log.specs.Fetch.{is_within};
+ghost use Rattle.plain_log.specs.State.{path_of};
+ghost use Rattle.plain_log.specs.RowsOfFollowers.{is_current, may_follow, cut_to, goes_on, extended, was_passed, rebuilt, copied, later_row, join_row, follow_row};
+ghost use Rattle.plain_executor.specs.Change.{AreMatching, MatchesPaths, changed, cut, path_in};
+
+use crate::change::{Change, given};
+use crate::ends::{count_up_to, end, is_stale_in};
+use crate::paths::{is_led, leading_end, path};
+use crate::reads::fits_limit;
+use crate::roles::{followed_in, joined_in};
+use bytes::Bytes;
+use plain_log::{Answer, Broker, PlainSnapshot, State};
+
+/// Whether the broker's role has an epoch of which it is this, and the epoch isn't stale.
+fn is_on_time(p: &State, x: &Broker, epoch: Option<u32>) -> bool
+    ensures { result ≡ is_current p.now x.now epoch }
+{
+    x.up && epoch.is_some() && !is_stale_in(p, epoch)
+}
+
+/// How many batches two logs have in common: those up to the last place where both have the same one.
+fn count_common(log: &[Bytes], other: &[Bytes]) -> usize
+    requires { AreMatching log.now other.now }
+    ensures within { result ≤ length log.now }
+    ensures is { common log.now other.now ≡ take result log.now }
+{
+    let mut count = log.len().min(other.len());
+    while count > 0 && log[count - 1].as_slice() != other[count - 1].as_slice() {
+        count -= 1;
+    }
+    count
+}
+
+/// Where a join cuts the log that is told to end at n.
+pub(crate) fn cut_at(p: &State, x: &Broker, n: u64) -> Option<(u32, usize)>
+    requires { MatchesPaths p.now x.now }
+    ensures { cut_to p.now x.now n ≡ option_map (λ at. cut x.now at.0 at.1 n) result }
+{
+    let epoch = followed_in(x.role)?;
+    let path = path(p.paths.as_slice(), epoch)?;
+    let log = x.log.as_slice();
+    let count = count_common(log, path);
+    let joins = x.up && epoch >= p.registry.epoch && is_led(p);
+    if joins && u128::from(n) == end(&log[..count]) {
+        Some((epoch, count))
+    } else {
+        None
+    }
+}
+
+/// Whether a later turn goes on.
+fn is_going_on(p: &State, x: &Broker, recorded: &PlainSnapshot) -> bool
+    ensures { result ≡ goes_on p.now x.now recorded.now }
+{
+    recorded.stops == x.stops
+        && !is_stale_in(p, followed_in(recorded.role))
+        && end(x.log.as_slice()) == u128::from(recorded.end)
+}
+
+/// How the log becomes longer that ends at n then: as the first batches, so many, of the path of this epoch.
+fn longer_to(p: &State, x: &Broker, n: u64) -> Option<(u32, usize)>
+    requires { (e : ℕ) (path : List (List ℕ)) → path_of p.now.paths e ≡ Some path → IsConsecutive 0 path }
+    ensures within { IfSome result (λ at. at.1 ≤ length (path_in p.now at.0)) }
+    ensures is { extended p.now x.now n ≡ option_map (λ at. record x.now { log = take at.1 (path_in p.now at.0) }) result }
+{
+    let epoch = followed_in(x.role)?;
+    let path = path(p.paths.as_slice(), epoch)?;
+    let count = count_up_to(n, path);
+    if end(&path[..count]) == u128::from(n) && end(x.log.as_slice()) < u128::from(n) {
+        Some((epoch, count))
+    } else {
+        None
+    }
+}
+
+/// Whether the log start has reached n since the command began.
+fn was_passed_by(p: &State, recorded: &PlainSnapshot, n: u64) -> bool
+    ensures { result ≡ was_passed p.now recorded.now n }
+{
+    recorded.start < n && n <= p.registry.start
+}
+
+/// Whether a later turn of either is answered so.
+fn later(p: &State, x: &Broker, recorded: &PlainSnapshot, answer: &Answer) -> bool
+    ensures { later_row p.now x.now recorded.now answer.now ≡ when result p.now }
+{
+    let stays = recorded.stops == x.stops;
+    let stale = is_stale_in(p, followed_in(recorded.role));
+    let last = end(x.log.as_slice());
+    match answer {
+        Answer::Stopped => !stays,
+        Answer::StaleEpoch(n) => stays && stale && *n == u64::from(p.registry.epoch),
+        Answer::Passed(n) => stays && !stale && u128::from(*n) == last && *n != recorded.end,
+        _ => false,
+    }
+}
+
+/// How the log is begun anew at n.
+fn rebuilt_to(p: &State, x: &Broker, recorded: &PlainSnapshot, n: u64) -> Option<(u32, usize)>
+    requires { (e : ℕ) (path : List (List ℕ)) → path_of p.now.paths e ≡ Some path → IsConsecutive 0 path }
+    ensures { rebuilt p.now x.now recorded.now n ≡ option_map (λ at. record x.now { log = take at.1 (path_in p.now at.0) }) result }
+{
+    let at = longer_to(p, x, n)?;
+    if is_going_on(p, x, recorded) && !was_passed_by(p, recorded, n) {
+        Some(at)
+    } else {
+        None
+    }
+}
+
+/// What the first turn of a join changes.
+fn join_first(p: &State, b: usize, x: &Broker, answer: &Answer) -> Option<Change>
+    requires { MatchesPaths p.now x.now }
+    ensures { (s : Replica) (command : Command)
+        → join_row p.now b x.now None answer.now ≡ option_map (changed p.now b x.now s command) result }
+{
+    let followed = followed_in(x.role);
+    match answer {
+        Answer::Down => given(!x.up, Change::Same),
+        Answer::NotFollower => given(x.up && followed.is_none(), Change::Same),
+        Answer::StaleEpoch(n) => given(
+            x.up && is_stale_in(p, followed) && *n == u64::from(p.registry.epoch),
+            Change::Same,
+        ),
+        Answer::NoLeader => given(is_on_time(p, x, followed) && !is_led(p), Change::Same),
+        Answer::DiskFaultAt(n) => match cut_at(p, x, *n) {
+            Some(_) => Some(Change::Breaks(x.flushed_end.min(*n))),
+            None => None,
+        },
+        Answer::Cut(n) => match cut_at(p, x, *n) {
+            Some((epoch, count)) => Some(Change::Cuts {
+                epoch,
+                count,
+                end: *n,
+            }),
+            None => None,
+        },
+        _ => None,
+    }
+}
+
+/// What a later turn of a join changes.
+fn join_later(
+    p: &State,
+    b: usize,
+    x: &Broker,
+    recorded: &PlainSnapshot,
+    answer: &Answer,
+) -> Option<Change>
+    requires { (e : ℕ) (path : List (List ℕ)) → path_of p.now.paths e ≡ Some path → IsConsecutive 0 path }
+    ensures { (s : Replica) (command : Command)
+        → join_row p.now b x.now (Some recorded.now) answer.now ≡ option_map (changed p.now b x.now s command) result }
+{
+    let on = is_going_on(p, x, recorded);
+    match answer {
+        Answer::BelowStart(start) => given(
+            on && *start == p.registry.start && recorded.start < *start,
+            Change::Same,
+        ),
+        Answer::MetaFault | Answer::StoreFault | Answer::Damaged(..) => given(on, Change::Same),
+        Answer::DiskFaultAt(n) => match rebuilt_to(p, x, recorded, *n) {
+            Some((epoch, count)) => Some(Change::BreaksLonger { epoch, count }),
+            None => None,
+        },
+        Answer::Rebuilt(n) => match rebuilt_to(p, x, recorded, *n) {
+            Some((epoch, count)) => Some(Change::Extends {
+                epoch,
+                count,
+                flushed_end: *n,
+            }),
+            None => None,
+        },
+        _ => given(later(p, x, recorded, answer), Change::Same),
+    }
+}
+
+/// What a join changes.
+pub(crate) fn join(
+    p: &State,
+    b: usize,
+    x: &Broker,
+    recorded: Option<&PlainSnapshot>,
+    answer: &Answer,
+) -> Option<Change>
+    requires paths { (e : ℕ) (path : List (List ℕ)) → path_of p.now.paths e ≡ Some path → IsConsecutive 0 path }
+    requires matches { MatchesPaths p.now x.now }
+    ensures { (s : Replica) (command : Command)
+        → join_row p.now b x.now (option_copied recorded.entry) answer.now ≡ option_map (changed p.now b x.now s command) result }
+{
+    match recorded {
+        None => join_first(p, b, x, answer),
+        Some(recorded) => join_later(p, b, x, recorded, answer),
+    }
+}
+
+/// Whether the broker may copy from the leader.
+pub(crate) fn follows(p: &State, x: &Broker) -> bool
+    ensures { result ≡ may_follow p.now x.now }
+{
+    is_on_time(p, x, joined_in(x.role)) && is_led(p)
+}
+
+/// What the first turn of a follow changes: nothing.
+fn follow_first(p: &State, x: &Broker, answer: &Answer) -> bool
+    ensures { (b limit : ℕ) → follow_row p.now b x.now limit None answer.now ≡ when result p.now }
+{
+    let joined = joined_in(x.role);
+    let last = end(x.log.as_slice());
+    let leading = leading_end(p);
+    match answer {
+        Answer::Down => !x.up,
+        Answer::NotJoined => x.up && joined.is_none(),
+        Answer::StaleEpoch(n) => {
+            x.up && is_stale_in(p, joined) && *n == u64::from(p.registry.epoch)
+        }
+        Answer::NoLeader => is_on_time(p, x, joined) && !is_led(p),
+        Answer::Level => follows(p, x) && last == leading,
+        Answer::Moved(n) => {
+            follows(p, x) && last != leading && last < u128::from(*n) && u128::from(*n) <= leading
+        }
+        Answer::DiskFault | Answer::Damaged(..) => follows(p, x) && last != leading,
+        _ => false,
+    }
+}
+
+/// Whether the batches behind the first so many, up to others, are one, or several that fit the limit.
+fn adds_within(limit: u64, path: &[Bytes], from: usize, to: usize) -> bool
+    requires { to ≤ length path.now }
+    ensures { result ≡ is_within limit (drop from (take to path.now)) }
+{
+    if to <= from {
+        return false;
+    }
+    fits_limit(limit, &path[from..to])
+}
+
+/// How a follow's copy makes the log longer, which ends at n then.
+fn copied_to(
+    p: &State,
+    x: &Broker,
+    recorded: &PlainSnapshot,
+    limit: u64,
+    n: u64,
+) -> Option<(u32, usize)>
+    requires { (e : ℕ) (path : List (List ℕ)) → path_of p.now.paths e ≡ Some path → IsConsecutive 0 path }
+    ensures { copied p.now x.now recorded.now limit n ≡ option_map (λ at. record x.now { log = take at.1 (path_in p.now at.0) }) result }
+{
+    let (epoch, count) = longer_to(p, x, n)?;
+    let path = path(p.paths.as_slice(), epoch)?;
+    if is_going_on(p, x, recorded) && adds_within(limit, path, x.log.len(), count) {
+        Some((epoch, count))
+    } else {
+        None
+    }
+}
+
+/// What a follow changes.
+pub(crate) fn follow(
+    p: &State,
+    x: &Broker,
+    limit: u32,
+    recorded: Option<&PlainSnapshot>,
+    answer: &Answer,
+) -> Option<Change>
+    requires { (e : ℕ) (path : List (List ℕ)) → path_of p.now.paths e ≡ Some path → IsConsecutive 0 path }
+    ensures { (b : ℕ) (s : Replica) (command : Command)
+        → follow_row p.now b x.now limit (option_copied recorded.entry) answer.now ≡ option_map (changed p.now b x.now s command) result }
+{
+    match recorded {
+        None => given(follow_first(p, x, answer), Change::Same),
+        Some(recorded) => follow_later(p, x, u64::from(limit), recorded, answer),
+    }
+}
+
+/// What a later turn of a follow changes.
+fn follow_later(
+    p: &State,
+    x: &Broker,
+    limit: u64,
+    recorded: &PlainSnapshot,
+    answer: &Answer,
+) -> Option<Change>
+    requires { (e : ℕ) (path : List (List ℕ)) → path_of p.now.paths e ≡ Some path → IsConsecutive 0 path }
+    ensures { (b : ℕ) (s : Replica) (command : Command)
+        → follow_row p.now b x.now limit (Some recorded.now) answer.now ≡ option_map (changed p.now b x.now s command) result }
+{
+    match answer {
+        Answer::TooManySegments => given(is_going_on(p, x, recorded), Change::Same),
+        Answer::DiskFault => given(
+            is_going_on(p, x, recorded) && x.up,
+            Change::Breaks(x.flushed_end),
+        ),
+        Answer::Copied(n) => match copied_to(p, x, recorded, limit, *n) {
+            Some((epoch, count)) => Some(Change::Extends {
+                epoch,
+                count,
+                flushed_end: x.flushed_end,
+            }),
+            None => None,
+        },
+        _ => given(later(p, x, recorded, answer), Change::Same),
+    }
+}

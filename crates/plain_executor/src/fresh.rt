@@ -1,0 +1,69 @@
+//! The state where nothing has happened yet.
+
+ghost use Rattle.std.specs.Prelude.{◌≡◌, ◌≤◌, ◌-◌, [], ◌∷◌, IfOk, replicate};
+ghost use Rattle.plain_log.specs.Fresh.{fresh, fresh_broker};
+ghost use Rattle.plain_log.specs.declared.state.Role.TheVariants as role;
+
+use plain_log::{Broker, Config, Path, Registry, Role, State};
+use std::alloc::{AllocError, Global};
+use tier_base::Row;
+
+/// A broker that is up, with an empty log.
+fn broker(alloc: Global, role: Role) -> Broker
+    ensures { result ≡ fresh_broker role }
+{
+    Broker {
+        up: true,
+        stops: 0,
+        role,
+        log: Row::new(alloc),
+        flushed_end: 0,
+        loose: false,
+        known_high_watermark: 0,
+    }
+}
+
+/// The leader, and others that have joined it.
+fn brokers(alloc: Global, others: u16) -> Result<Row<Broker>, AllocError>
+    ensures { IfOk result (λ brokers.
+        brokers ≡ fresh_broker (role.Leads 0) ∷ replicate others (fresh_broker (role.Joined 0))) }
+{
+    let mut brokers = Row::new(alloc);
+    brokers.push(broker(alloc, Role::Leads(0)))?;
+    for _ in 0..others {
+        brokers.push(broker(alloc, Role::Joined(0)))?;
+    }
+    Ok(brokers)
+}
+
+/// The path of epoch 0, which has no batch.
+fn paths(alloc: Global) -> Result<Row<Path>, AllocError>
+    ensures { IfOk result (λ paths. paths ≡ record { epoch = 0; log = [] } ∷ []) }
+{
+    let mut paths = Row::new(alloc);
+    paths.push(Path {
+        epoch: 0,
+        log: Row::new(alloc),
+    })?;
+    Ok(paths)
+}
+
+/// The fresh state of a configuration.
+pub(crate) fn state(alloc: Global, config: &Config) -> Result<State, AllocError>
+    requires some { 1 ≤ config.now.brokers }
+    requires few { config.now.brokers ≤ 8 }
+    ensures { IfOk result (λ state. state ≡ fresh config.now) }
+{
+    let registry = Registry::fresh(alloc, config.brokers)?;
+    let brokers = brokers(alloc, config.brokers - 1)?;
+    let paths = paths(alloc)?;
+    Ok(State {
+        registry,
+        committed: Row::new(alloc),
+        paths,
+        broken: Row::new(alloc),
+        unclean: false,
+        brokers,
+        actors: Row::new(alloc),
+    })
+}

@@ -1,0 +1,269 @@
+//! The rows of what a leader is asked for: batches, and offsets.
+
+ghost use Rattle.std.specs.Prelude.{◌≡◌, ◌≤◌, ◌+◌, ◌^◌, ◌<◌, ◌*◌, ℕ, take, drop, length, Some, bytes_eq, if◌then◌else◌};
+ghost use Rattle.std.specs.Option.{option_copied};
+ghost use Rattle.log_terms.specs.Log.{IsConsecutive, joined, from_offset, end_of};
+ghost use Rattle.registry.specs.Calls.{when};
+ghost use Rattle.plain_log.specs.Fetch.{is_on, serves, in_range, gives_run, fitting, run_of, is_within, stops_rightly, is_run};
+ghost use Rattle.plain_executor.specs.Change.{is_timed};
+ghost use Rattle.plain_log.specs.RowsOfReads.{fetch_row, offset_row, offset_at, first_at, is_offset_of, is_long};
+
+use crate::bytes_of::{base_offset, max_ts};
+use crate::ends::{count_up_to, end};
+use crate::roles::{is_leader, is_role};
+use bytes::Bytes;
+use plain_log::{Answer, Broker, PlainSnapshot, State, Which};
+use tier_base::Stop;
+
+/// Whether the broker is up, and has not stopped since the command began.
+fn stays_up(x: &Broker, recorded: Option<&PlainSnapshot>) -> bool
+    ensures { result ≡ is_on x.now (option_copied recorded.entry) }
+{
+    match recorded {
+        None => x.up,
+        Some(recorded) => x.up && recorded.stops == x.stops,
+    }
+}
+
+/// Whether it also leads, and in the epoch in which the command began.
+fn is_serving(x: &Broker, recorded: Option<&PlainSnapshot>) -> bool
+    ensures { result ≡ serves x.now (option_copied recorded.entry) }
+{
+    match recorded {
+        None => x.up && is_leader(x.role),
+        Some(snapshot) => stays_up(x, recorded)
+            && is_leader(x.role)
+            && is_role(snapshot.role, x.role),
+    }
+}
+
+/// Whether the offset isn't below the log start offset nor above the log end offset.
+fn is_in_range(p: &State, x: &Broker, offset: u64) -> bool
+    ensures { result ≡ in_range p.now x.now offset }
+{
+    p.registry.start <= offset && u128::from(offset) <= end(x.log.as_slice())
+}
+
+/// Whether a fetch at the offset is answered by a run.
+pub(crate) fn has_run(p: &State, x: &Broker, offset: u64, recorded: Option<&PlainSnapshot>) -> bool
+    ensures { result ≡ gives_run p.now x.now offset (option_copied recorded.entry) }
+{
+    is_serving(x, recorded) && is_in_range(p, x, offset) && offset < x.known_high_watermark
+}
+
+/// How many of the first batches fit the room.
+fn count_fitting(room: u64, log: &[Bytes]) -> usize
+    ensures within { result ≤ length log.now }
+    ensures is { fitting room log.now ≡ take result log.now }
+{
+    let mut left = room;
+    for (i, batch) in log.iter().enumerate() {
+        let size = batch.len() as u64;
+        if left < size {
+            return i;
+        }
+        left -= size;
+    }
+    log.len()
+}
+
+/// How many bytes batches have.
+fn size_of(log: &[Bytes]) -> u128
+    ensures is { result ≡ length (joined log.now) }
+    ensures small { result ≤ length log.now * 2 ^ 63 }
+{
+    let mut size: u128 = 0;
+    for batch in log {
+        size += batch.len() as u128;
+    }
+    size
+}
+
+/// Whether bytes are those of batches, one after another.
+fn is_joined(log: &[Bytes], bytes: &[u8]) -> bool
+    ensures { result ≡ bytes_eq (joined log.now) bytes.now }
+{
+    let mut rest = bytes;
+    for batch in log {
+        if rest.len() < batch.len() {
+            return false;
+        }
+        let (front, behind) = rest.split_at(batch.len());
+        if batch.as_slice() != front {
+            return false;
+        }
+        rest = behind;
+    }
+    rest.is_empty()
+}
+
+/// Whether there is one batch, or several that fit the limit.
+pub(crate) fn fits_limit(limit: u64, log: &[Bytes]) -> bool
+    ensures { result ≡ is_within limit log.now }
+{
+    match log.len() {
+        0 => false,
+        1 => true,
+        _ => size_of(log) <= u128::from(limit),
+    }
+}
+
+/// Whether the stop says why the run ends that is the first so many batches from the offset on.
+fn is_stop(x: &Broker, log: &[Bytes], count: usize, limit: u64, stop: Stop) -> bool
+    requires { count ≤ length log.now }
+    ensures { (offset size : ℕ) → log.now ≡ from_offset offset x.now.log → take count log.now ≡ run_of x.now offset size
+        → stops_rightly x.now offset limit size stop ≡ result }
+{
+    let whole = end(&log[..count]) == u128::from(x.known_high_watermark);
+    match stop {
+        Stop::Mark => whole,
+        Stop::Piece => !whole,
+        Stop::Limit => {
+            !whole && u128::from(limit) < size_of(&log[..count.saturating_add(1).min(log.len())])
+        }
+    }
+}
+
+/// Whether these bytes are a run, of this size and with this stop.
+fn is_told_run(x: &Broker, offset: u64, limit: u64, size: u64, stop: Stop, bytes: &[u8]) -> bool
+    requires { IsConsecutive 0 x.now.log }
+    ensures { result ≡ is_run x.now offset limit size stop bytes.now }
+{
+    let log = x.log.as_slice();
+    let log = &log[count_up_to(offset, log)..];
+    let count = count_fitting(size, log);
+    let run = &log[..count];
+    size == bytes.len() as u64
+        && is_joined(run, bytes)
+        && fits_limit(limit, run)
+        && end(run) <= u128::from(x.known_high_watermark)
+        && is_stop(x, log, count, limit, stop)
+}
+
+/// Whether a fetch is answered so.
+pub(crate) fn fetch(
+    p: &State,
+    x: &Broker,
+    offset: u64,
+    limit: u32,
+    recorded: Option<&PlainSnapshot>,
+    answer: &Answer,
+) -> bool
+    requires { IsConsecutive 0 x.now.log }
+    ensures { fetch_row p.now x.now offset limit (option_copied recorded.entry) answer.now ≡ when result p.now }
+{
+    match answer {
+        Answer::Down => recorded.is_none() && !x.up,
+        Answer::Stopped => recorded.is_some() && !stays_up(x, recorded),
+        Answer::NotLeader => stays_up(x, recorded) && !is_serving(x, recorded),
+        Answer::OutOfRange(start, last) => {
+            is_serving(x, recorded)
+                && !is_in_range(p, x, offset)
+                && *start == p.registry.start
+                && u128::from(*last) == end(x.log.as_slice())
+        }
+        Answer::Empty => {
+            is_serving(x, recorded) && is_in_range(p, x, offset) && x.known_high_watermark <= offset
+        }
+        Answer::Run {
+            size,
+            stop,
+            bytes,
+            ..
+        } => {
+            has_run(p, x, offset, recorded)
+                && is_told_run(x, offset, u64::from(limit), *size, *stop, bytes.as_slice())
+        }
+        Answer::DiskFault => recorded.is_none() && has_run(p, x, offset, recorded),
+        Answer::MetaFault | Answer::StoreFault => {
+            recorded.is_some() && has_run(p, x, offset, recorded)
+        }
+        Answer::Damaged(..) => has_run(p, x, offset, recorded),
+        _ => false,
+    }
+}
+
+/// Whether the question takes the remote tier.
+pub(crate) fn takes_turns(which: &Which) -> bool
+    ensures { result ≡ is_long which.now }
+{
+    matches!(which, Which::LatestTiered | Which::At(_))
+}
+
+/// The base of the first batch whose greatest timestamp isn't earlier, or the log start where that is greater.
+fn first_offset(ts: i64, start: u64, log: &[Bytes]) -> Option<u64>
+    ensures { result ≡ first_at ts start log.now }
+{
+    for batch in log {
+        if max_ts(batch.as_slice()) >= ts {
+            return Some(base_offset(batch.as_slice()).max(start));
+        }
+    }
+    None
+}
+
+/// The offset of a timestamp.
+fn offset_for(p: &State, x: &Broker, ts: i64) -> Option<u64>
+    requires { IsConsecutive 0 x.now.log }
+    ensures { result ≡ offset_at p.now x.now ts }
+{
+    let log = x.log.as_slice();
+    let start = p.registry.start;
+    let known = &log[..count_up_to(x.known_high_watermark, log)];
+    first_offset(ts, start, &known[count_up_to(start, known)..])
+}
+
+/// Whether this is the offset that was asked for.
+fn is_offset(p: &State, x: &Broker, which: &Which, answer: Option<u64>) -> bool
+    requires { IsConsecutive 0 x.now.log }
+    ensures { result ≡ is_offset_of p.now x.now which.now answer }
+{
+    match which {
+        Which::Earliest => answer == Some(p.registry.start),
+        Which::Latest => answer == Some(x.known_high_watermark),
+        Which::At(ts) => answer == offset_for(p, x, *ts),
+        _ => true,
+    }
+}
+
+/// Whether a question for an offset is answered so.
+pub(crate) fn offset(
+    p: &State,
+    x: &Broker,
+    which: &Which,
+    recorded: Option<&PlainSnapshot>,
+    answer: &Answer,
+) -> bool
+    requires { IsConsecutive 0 x.now.log }
+    ensures { offset_row p.now x.now which.now (option_copied recorded.entry) answer.now ≡ when result p.now }
+{
+    let snapshot = recorded.is_some();
+    let serving = is_serving(x, recorded);
+    match answer {
+        Answer::Down => !snapshot && !x.up,
+        Answer::Stopped => snapshot && !stays_up(x, recorded),
+        Answer::NotLeader => stays_up(x, recorded) && !serving,
+        Answer::Offset(n) => {
+            serving && takes_turns(which) == snapshot && is_offset(p, x, which, Some(*n))
+        }
+        Answer::NoOffset => {
+            snapshot && serving && takes_turns(which) && is_offset(p, x, which, None)
+        }
+        Answer::MetaFault => serving && may_fail(which, snapshot),
+        Answer::StoreFault | Answer::DiskFault | Answer::Damaged(..) => {
+            snapshot && serving && matches!(which, Which::At(_))
+        }
+        _ => false,
+    }
+}
+
+/// Whether the metadata log may fail at this turn of a question.
+fn may_fail(which: &Which, snapshot: bool) -> bool
+    ensures { result ≡ (if snapshot then is_timed which.now else is_long which.now) }
+{
+    match which {
+        Which::At(_) => true,
+        Which::LatestTiered => !snapshot,
+        _ => false,
+    }
+}

@@ -1,5 +1,0 @@
-use Rattle.plain_machine.specs.Change.{NoneBefore}
-use Rattle.plain_machine.proofs.making.find.Given as goal
-
-abbrev pub invariant-loop-i : goal.invariant-loop-i
-invariant-loop-i l = NoneBefore l.paths l.epoch l.i

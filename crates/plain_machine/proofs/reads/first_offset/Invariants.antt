@@ -1,6 +1,0 @@
-use Rattle.std.proofs.Common.{◌≡◌, drop}
-use Rattle.plain_log.specs.RowsOfReads.{first_at}
-use Rattle.plain_machine.proofs.reads.first_offset.Given as goal
-
-abbrev pub invariant-loop-batch : goal.invariant-loop-batch
-invariant-loop-batch l = first_at l.ts l.start l.log ≡ first_at l.ts l.start (drop l.batch-index l.log)

@@ -1,4 +1,0 @@
-use Rattle.plain_machine.proofs.tiers.expire.Goals as goal
-
-pub returns-in-Some : goal.returns-in-Some
-returns-in-Some c = λ b s command. rw c.in-Some.is (c.expire_on.ensures b s command)

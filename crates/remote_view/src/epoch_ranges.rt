@@ -1,0 +1,133 @@
+//! A stair, and a run of it that has no gap: where a long row of copies ends is told from the run.
+//!
+//! A copy that touches the run makes it longer; one that lies further on begins a new one. So in a log that is copied
+//! in its order all treads of an epoch are in the run.
+
+ghost use Rattle.std.specs.Prelude.{◌≡◌, ◌≤◌, ◌<◌, ◌⊎◌, ℕ, [], None, IfOk};
+ghost use Rattle.remote_view.specs.Stairs.{id_at, Rises, IsEndFrom};
+ghost use Rattle.remote_view.specs.Laying.{in_place, IsLaid, IsLifted};
+
+use crate::known::Known;
+use crate::laying::lay;
+use crate::lifting::lifted;
+use crate::seeking::end_from;
+use crate::spans::Span;
+use crate::tread::Tread;
+use segment_meta::Entry;
+use std::alloc::{AllocError, Global};
+use std::marker::Model;
+use tier_base::{Row, SegmentId};
+
+/// A stair, and a range of offsets that all have a tread.
+#[derive(Drop)]
+pub(crate) struct EpochRanges {
+    treads: Row<Tread>,
+    run: Span,
+}
+
+impl Model for EpochRanges {
+    ghost use Rattle.std.specs.Prelude.{List};
+    ghost use Rattle.remote_view.specs.declared.tread.Tread.{Tread};
+    ghost use Rattle.remote_view.specs.Stairs.{HasAll};
+
+    ghost Value = { List Tread };
+
+    ghost view = { λ f. f.treads };
+
+    ghost invariant = { λ f. HasAll f.run.from f.run.to f.treads };
+}
+
+/// A run with a range of offsets more: both, where they touch, and else the one that lies behind the other.
+fn grown(run: Span, span: Span) -> Span
+    ensures { (o : ℕ) → result.from ≤ o → o < result.to
+        → ((run.from ≤ o) × (o < run.to)) ⊎ ((span.from ≤ o) × (o < span.to)) }
+{
+    if span.from > run.to {
+        return span;
+    }
+    if run.from > span.to {
+        return run;
+    }
+    Span {
+        from: run.from.min(span.from),
+        to: run.to.max(span.to),
+    }
+}
+
+/// An offset, or where a run ends that holds it.
+fn past(run: Span, at: u64) -> u64
+    ensures from { at ≤ result }
+    ensures each { (o : ℕ) → at ≤ o → o < result → (run.from ≤ o) × (o < run.to) }
+{
+    if run.from <= at { at.max(run.to) } else { at }
+}
+
+impl EpochRanges {
+    /// A stair without treads.
+    pub fn new(alloc: Global) -> EpochRanges
+        ensures { result ≡ [] }
+    {
+        EpochRanges {
+            treads: Row::new(alloc),
+            run: Span { from: 0, to: 0 },
+        }
+    }
+
+    /// The treads.
+    pub fn treads(&self) -> &[Tread]
+        ensures { result.now ≡ self.now }
+    {
+        self.treads.as_slice()
+    }
+
+    /// A stair of the same treads.
+    pub fn copy(&self, alloc: Global) -> Result<EpochRanges, AllocError>
+        ensures { IfOk result (λ copy. copy ≡ self.now) }
+    {
+        let treads = Vec::from_slice(alloc, self.treads.as_slice())?;
+        Ok(EpochRanges {
+            treads: Row::from_vec(treads),
+            run: self.run,
+        })
+    }
+
+    /// Lays an entry over a range of the stair.
+    pub fn lay(
+        self,
+        alloc: Global,
+        known: &Known,
+        entry: &Entry,
+        span: Span,
+    ) -> Result<EpochRanges, AllocError>
+        requires rises { Rises self }
+        requires ordered { span.from ≤ span.to }
+        ensures { IfOk result (λ laid. IsLaid known.now entry.now span self laid) }
+    {
+        let run = grown(self.run, span);
+        let treads = lay(alloc, known, self.treads, entry, span)?;
+        Ok(EpochRanges { treads, run })
+    }
+
+    /// The stair without the treads of a segment, which end at an offset or before.
+    pub fn lifted(&self, alloc: Global, id: &SegmentId, end: u64) -> Result<EpochRanges, AllocError>
+        requires rises { Rises self.now }
+        requires ends { (o : ℕ) → end ≤ o
+            → in_place id.now None (id_at self.now o) ≡ id_at self.now o }
+        ensures { IfOk result (λ lifted. IsLifted id.now self.now lifted) }
+    {
+        let treads = lifted(alloc, self.treads.as_slice(), id)?;
+        let run = Span {
+            from: self.run.from.max(end),
+            to: self.run.to,
+        };
+        Ok(EpochRanges { treads, run })
+    }
+
+    /// The first offset from one on that has no tread.
+    pub fn end_from(&self, at: u64) -> u64
+        requires { Rises self.now }
+        ensures { IsEndFrom self.now at result }
+    {
+        end_from(self.treads.as_slice(), past(self.run, at))
+    }
+}

@@ -1,0 +1,6 @@
+use Rattle.run_memory.specs.Plans.{disk_named}
+use Rattle.run_memory.proofs.Planning.{plan_next}
+use Rattle.run_memory.proofs.plans.disk_plan.Goals as goal
+
+pub loop-fault-preserved : goal.loop-fault-preserved
+loop-fault-preserved c = plan_next (disk_named c.args.broker) c.args.faults.now c.loop-fault.fault-index _ c.disk_named.result c.loop-fault.plan.items c.add_call.new.plan.items c.loop-fault-test.true c.loop-fault.invariant c.disk_named.ensures c.in_ok-add_call.ensures

@@ -1,5 +1,0 @@
-use Rattle.tier_dates.proofs.GoingOn.{searches_go_on}
-use Rattle.tier_dates.proofs.laws.searches_go_on.Goals as goal
-
-pub returns : goal.returns
-returns g c = searches_go_on g.S.Store.content g.S.Store.control g.M.MetaLog.content g.M.MetaLog.control

@@ -1,5 +1,0 @@
-use Rattle.tier_rebuilds.proofs.Reading.{lines_are_paths}
-use Rattle.tier_rebuilds.proofs.laws.a_rebuild_reads_its_path.Goals as goal
-
-pub returns : goal.returns
-returns g c = lines_are_paths g.S.Store.content g.S.Store.control

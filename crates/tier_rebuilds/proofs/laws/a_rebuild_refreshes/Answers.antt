@@ -1,5 +1,0 @@
-use Rattle.tier_rebuilds.proofs.Refreshing.{rebuild_refreshes}
-use Rattle.tier_rebuilds.proofs.laws.a_rebuild_refreshes.Goals as goal
-
-pub returns : goal.returns
-returns g c = rebuild_refreshes g.S.Store.content g.S.Store.control g.M.MetaLog.content g.M.MetaLog.control

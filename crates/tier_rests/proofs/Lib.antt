@@ -1,4 +1,0 @@
-pub mod Within
-pub mod Held
-pub mod Resting
-pub mod Sweeping

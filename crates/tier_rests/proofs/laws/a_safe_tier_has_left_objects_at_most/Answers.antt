@@ -1,5 +1,0 @@
-use Rattle.tier_rests.proofs.Resting.{safe_left}
-use Rattle.tier_rests.proofs.laws.a_safe_tier_has_left_objects_at_most.Goals as goal
-
-pub returns : goal.returns
-returns c = safe_left

@@ -1,5 +1,0 @@
-use Rattle.tier_rests.proofs.Resting.{swept_whole}
-use Rattle.tier_rests.proofs.laws.a_swept_tier_is_whole.Goals as goal
-
-pub returns : goal.returns
-returns c = swept_whole
