@@ -15,7 +15,7 @@ use Rattle.tier_base.specs.declared.object_key.ObjectKey.{ObjectKey}
 use Rattle.object_store.specs.declared.slot.PartOrder.{PartOrder}
 use Rattle.object_store.specs.declared.slot.PartOrder.TheVariants.{First, Second, Third, Fourth, Fifth}
 use Rattle.object_store.specs.declared.slot.Slot.{Slot}
-use Rattle.object_store.specs.contracts.slot.RankOrd.TheImpl as rank_ord
+use Rattle.object_store.specs.contracts.slot.PartOrderOrd.TheImpl as rank_ord
 use Rattle.object_store.specs.contracts.slot.SlotOrd.TheImpl.Laws as slot_laws
 use Rattle.object_store.specs.Shelf.{slot_cmp, rank_of, part_at, slot_of, key_at}
 
