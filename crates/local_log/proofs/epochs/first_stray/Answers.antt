@@ -8,7 +8,7 @@ use Rattle.local_log.proofs.epochs.first_stray.Goals as goal
 pub loop-at-init : goal.loop-at-init
 loop-at-init c = record {
   passed = nothing_passed c.args.line.now c.args.bytes.now c.requires;
-  known_high_watermark = λ o le lt. absurd (omega (arith, lt));
+  known = λ o le lt. absurd (omega (arith, lt));
   inside = omega arith;
 }
 
@@ -39,7 +39,7 @@ loop-at-preserved c =
     record {
       passed = more_passed c.args.line.now c.args.bytes.now c.loop-at.at p k _ (ap (λ n. c.loop-at.at + n) (c.size_in-at.ensures ∙ size))
           (sym here ∙ c.gives.ensures.0 (cc (c.if-not-gives.false)) ∙ ap (λ n. Some n) t.epoch);
-      known_high_watermark = c.stretch_at-stretch.ensures.gives;
+      known = c.stretch_at-stretch.ensures.gives;
       inside = omega (arith, size, inside, c.size_in-at.ensures);
     }
 
