@@ -161,7 +161,7 @@ impl<D: Disk, S: Store, M: MetaLog> Cold<D, S, M> {
             e.0.disks.items e.0.store e.0.meta e.1 e.2) }
         ensures stand { IfErr result (λ e. (p : State) → StandsFor D.Disk S.Store M.MetaLog partition devices.disks.items
             devices.store devices.meta reg p → StandsFor D.Disk S.Store M.MetaLog partition e.0.disks.items e.0.store e.0.meta e.1 p) }
-        ensures snapshot { IfErr result (λ e. DisksTell D.content devices.disks.items
+        ensures begun { IfErr result (λ e. DisksTell D.content devices.disks.items
             → IsBlank D.Disk S.Store M.MetaLog devices.store devices.meta reg
             → IsBlank D.Disk S.Store M.MetaLog e.0.store e.0.meta e.1
             ⊎ StandsFor D.Disk S.Store M.MetaLog partition e.0.disks.items e.0.store e.0.meta e.1 (cold_of (fresh_plain config))) }
@@ -203,7 +203,7 @@ impl<D: Disk, S: Store, M: MetaLog> Cold<D, S, M> {
             e.0.disks.items e.0.meta e.1 e.2) }
         ensures back { IfErr result (λ e. ComesBack D.Disk M.MetaLog devices.disks.items devices.store devices.meta reg
             e.0.disks.items e.0.store e.0.meta e.1 e.2) }
-        ensures snapshot { IfErr result (λ e. DisksTell D.content devices.disks.items
+        ensures begun { IfErr result (λ e. DisksTell D.content devices.disks.items
             → IsBlank D.Disk S.Store M.MetaLog devices.store devices.meta reg
             → IsBlank D.Disk S.Store M.MetaLog e.0.store e.0.meta e.1
             ⊎ StandsFor D.Disk S.Store M.MetaLog partition e.0.disks.items e.0.store e.0.meta e.1 (cold_of (fresh_plain config))) }
@@ -229,13 +229,13 @@ impl<D: Disk, S: Store, M: MetaLog> Cold<D, S, M> {
             lists,
             Devices { disks, store, meta },
         ) {
-            Ok(world) => Self::snapshot(alloc, world, reg),
+            Ok(world) => Self::begun(alloc, world, reg),
             Err((devices, why)) => Err((devices, reg, world_refusal(why))),
         }
     }
 
     /// Writes the registry of a world that has just begun.
-    fn snapshot(
+    fn begun(
         alloc: Global,
         world: World<D, S, M>,
         reg: D,

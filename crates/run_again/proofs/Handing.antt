@@ -97,5 +97,5 @@ module _ {D S M : Type 0} (disk : DiskGhosts D) (store : StoreGhosts S) (meta : 
   runs_continue config part was held run came is told now = record {
     from = λ q stands. goes_on config part was held run came is now is.is.count q
         (inl (stands is.devices is.registry (given_long part.partition config part.lists is.devices.disks.items is.devices.store is.devices.meta is.registry is.is.first is.is.starts) (is.handed told)));
-    snapshot = λ none. goes_on config part was held run came is now is.is.count (fresh config) (inr (is.snapshot told none));
+    begun = λ none. goes_on config part was held run came is now is.is.count (fresh config) (inr (is.begun told none));
   }

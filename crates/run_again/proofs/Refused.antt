@@ -146,9 +146,9 @@ module _ {D S M : Type 0} (disk : DiskGhosts D) (store : StoreGhosts S) (meta : 
       | inl still ↦ inl (next_stands disk store meta config.brokers part.partition held is.back is.kept q is.count is.holds still)
       | inr led ↦ inr (led_on config part held is.back is.kept q is.count is.holds led)
     ];
-    snapshot = λ unbegun.
-        let opens = is.snapshot unbegun.file in
-        elim (is.stopped.snapshot opens.disks_tell opens.blank) [
+    begun = λ unbegun.
+        let opens = is.begun unbegun.file in
+        elim (is.stopped.begun opens.disks_tell opens.blank) [
           | inl blank ↦ inl (unbegun_back part.partition held is.back is.kept is.holds blank)
           | inr led ↦ inr (led_on config part held is.back is.kept (fresh config) is.count is.holds led)
         ];
@@ -159,6 +159,6 @@ module _ {D S M : Type 0} (disk : DiskGhosts D) (store : StoreGhosts S) (meta : 
     stopped = stopped_on;
     rests = λ config part was held rests. record {
       from = λ q stands. inl (λ devices registry so hands. stands devices registry so (hands_still lawful part.partition devices registry was held rests hands));
-      snapshot = λ unbegun. inl (unbegun_still part.partition was held rests unbegun);
+      begun = λ unbegun. inl (unbegun_still part.partition was held rests unbegun);
     };
   }

@@ -44,7 +44,7 @@ module _ {D S M : Type 0} (disk : DiskGhosts D) (store : StoreGhosts S) (meta : 
   -- each run over an observable yard goes on from each state that what was held stands for, and else from the fresh one
   pub record Continues (config : Config) (part : PartScript) (was held : YardContent D S M) (journal : List JournalEntry) : Type 0 where
     pub from : (q : State) → StandsIn config.brokers was part.partition q → GoesOn config part held journal q
-    pub snapshot : file_in disk.content (was.registries part.partition) ≡ None → GoesOn config part held journal (fresh config)
+    pub begun : file_in disk.content (was.registries part.partition) ≡ None → GoesOn config part held journal (fresh config)
 
   abbrev pub RunsContinue : Type 0
   RunsContinue = (config : Config) (part : PartScript) (was held : YardContent D S M) (run : ℕ × List JournalEntry) (came : List Came)
@@ -67,7 +67,7 @@ module _ {D S M : Type 0} (disk : DiskGhosts D) (store : StoreGhosts S) (meta : 
   pub record StaysOrIsLed (config : Config) (part : PartScript) (was held : YardContent D S M) : Type 0 where
     pub from : (q : State) → StandsIn config.brokers was part.partition q
         → StandsIn config.brokers held part.partition q ⊎ IsLedOn config part held q
-    pub snapshot : IsUnbegun was part.partition
+    pub begun : IsUnbegun was part.partition
         → IsUnbegun held part.partition ⊎ IsLedOn config part held (fresh config)
 
   -- so it is with the partition at which a refused run stopped, and with each of which it left what is held as it was

@@ -102,7 +102,7 @@ module _ {D S M : Type 0} (disk : DiskGhosts D) (store : StoreGhosts S) (meta : 
   -- it is a run of the plain log from each state for which the world had the central fact
   log_of : (p : State) (part : PartScript) (w w' : Whole D S M) → RunsMeetNoDamage disk store meta → PlainSafe p → IsNew part.lists w → IsCentralLeft disk store meta p w → (c : IsCentralLeft disk store meta p w')
       → w'.lists ≡ part.lists → Reaches disk store meta w part.schedule w' → IsLogRun p part.lists w'.journal.items
-  log_of p part w w' undamaged snapshot new was c its reaches =
+  log_of p part w w' undamaged begun new was c its reaches =
       let last = plain_in disk store meta p w' c in
       let leads : replay part.lists p w'.journal.items ≡ Some last =
       subst (λ (k : List ActorList). replay k p w'.journal.items ≡ Some last) its (c (meta.content w'.tier.meta).notes (inl refl)).central.replays in
@@ -110,8 +110,8 @@ module _ {D S M : Type 0} (disk : DiskGhosts D) (store : StoreGhosts S) (meta : 
         last = last;
         replays = leads;
         safe = (c (meta.content w'.tier.meta).notes (inl refl)).central.safe;
-        led = replay_led part.lists p w'.journal.items last leads snapshot;
-        committed = λ clean. replay_runs part.lists p w'.journal.items last leads snapshot clean;
+        led = replay_led part.lists p w'.journal.items last leads begun;
+        committed = λ clean. replay_runs part.lists p w'.journal.items last leads begun clean;
         undamaged = undamaged p part.lists w part.schedule w' new (left_is_central disk store meta p w was) reaches;
       }
 

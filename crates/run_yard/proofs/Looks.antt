@@ -362,8 +362,8 @@ one_risen k k' r a b c fresh lasts out back rose =
     let some : nat_lt 0 k'.faults ≡ true = lt-ltb 0 k'.faults (omega (arith, none, rose)) in
     let is : is_fault (record { faults = k'.faults; armed = k'.armed }) ≡ true = rw unarmed some in
     let risen : c.faults ≡ counted b.faults 1 = subst (λ (t : Bool). c.faults ≡ (if t then counted b.faults 1 else b.faults)) is back.faults in
-    let snapshot = out.faults.went refl in
-    omega (arith, risen, snapshot)
+    let begun = out.faults.went refl in
+    omega (arith, risen, begun)
 
 -- what is said of a refusal
 pub if_err_map : {T E : Type 0} (r : Result T E) (P Q : E → Type 0) → ((e : E) → P e → Q e) → IfErr r P → IfErr r Q

@@ -101,9 +101,9 @@ module _ {D S M : Type 0} (disk : DiskGhosts D) (store : StoreGhosts S) (meta : 
 pub back_again : (came : List Came) (c0 c c' c'' : Control) (fate : Fate) → HandedOut (length came) c0 c → (fate ≡ Went → ⊥) → Hands fate c c' → CameBack came c' c'' → Uses came c0 c''
 back_again came c0 c c' c'' fate so wrong hands back =
     let how = went_wrong fate c c' wrong hands in
-    let snapshot = so.faults in
+    let begun = so.faults in
     record {
-      never_falls = goes_on c0.faults c'.faults c''.faults (let now = how.0 in omega (arith, snapshot, now)) (let end = back.faults in let kept = still came c'.faults in omega (arith, end, kept));
+      never_falls = goes_on c0.faults c'.faults c''.faults (let now = how.0 in omega (arith, begun, now)) (let end = back.faults in let kept = still came c'.faults in omega (arith, end, kept));
       named = back.named ∙ (hands.named ∙ so.named);
       returned = back.returned ∙ ap (λ (l : List Came). l ++ came) (hands.returned ∙ so.returned);
       out = (let a = back.out in let b = how.1 in let e = so.out in omega (arith, a, b, e));
@@ -113,8 +113,8 @@ back_again came c0 c c' c'' fate so wrong hands back =
 pub back_risen : (came : List Came) (c0 c c' c'' : Control) → HandedOut (length came) c0 c → Hands Fault c c' → CameBack came c' c'' → Rose c0.faults c''.faults
 back_risen came c0 c c' c'' so hands back =
     let rise = raised c c' hands in
-    let snapshot = so.faults in
-    rose_before c0.faults c'.faults c''.faults (subst (λ (n : ℕ). Rose n c'.faults) snapshot rise) (let end = back.faults in let kept = still came c'.faults in omega (arith, end, kept))
+    let begun = so.faults in
+    rose_before c0.faults c'.faults c''.faults (subst (λ (n : ℕ). Rose n c'.faults) begun rise) (let end = back.faults in let kept = still came c'.faults in omega (arith, end, kept))
 
 -- devices by their counts
 pub as_many : {A : Type 0} (f : A → Came) (xs : List A) (c0 c : Control) → HandedOut (length xs) c0 c → HandedOut (length (map f xs)) c0 c

@@ -148,7 +148,7 @@ module _ {D S M : Type 0} (disk : DiskGhosts D) (store : StoreGhosts S) (meta : 
   -- so the yard's count rose
   device_risen : (p : PartitionId) (h : YardContent D S M) (given back : Devices D S M) (kept : D) (count n : ℕ) → AreHanded disk store meta p count given h
       → DeviceFailed disk meta given back → Rose n (faults_with (cames_of disk store meta back kept) n)
-  device_risen p h given back kept count n last_read failed = by failed.one
+  device_risen p h given back kept count n handed failed = by failed.one
     where
       front : List Came
       front = map (came_of disk.control) back.disks.items
@@ -157,7 +157,7 @@ module _ {D S M : Type 0} (disk : DiskGhosts D) (store : StoreGhosts S) (meta : 
       by (inl one) =
           let rest = came_of store.control back.store ∷ came_of meta.control back.meta ∷ [] in
           let last = came_of disk.control kept ∷ [] in
-          let rise = failed_risen h given.disks.items back.disks.items n last_read.disks.each failed.disks one in
+          let rise = failed_risen h given.disks.items back.disks.items n handed.disks.each failed.disks one in
           let outer = faults_append (front ++ rest) last n in
           let whole = faults_append front rest n in
           let k = still rest (faults_with front n) in
@@ -165,9 +165,9 @@ module _ {D S M : Type 0} (disk : DiskGhosts D) (store : StoreGhosts S) (meta : 
           omega (arith, rise, outer, whole, k, j)
       by (inr rose) =
           let one = came_of meta.control back.meta in
-          let none = last_read.meta_fresh.faults in
+          let none = handed.meta_fresh.faults in
           let some : 1 ≤ (meta.control back.meta).faults = omega (arith, none, rose) in
-          let is : is_yard_fault one ≡ true = counted_came one (failed.notes.armed ∙ last_read.meta_fresh.armed) some in
+          let is : is_yard_fault one ≡ true = counted_came one (failed.notes.armed ∙ handed.meta_fresh.armed) some in
           let same : (front ++ came_of store.control back.store ∷ one ∷ []) ++ came_of disk.control kept ∷ [] ≡ (front ++ came_of store.control back.store ∷ []) ++ one ∷ came_of disk.control kept ∷ [] =
           append_assoc front (came_of store.control back.store ∷ one ∷ []) (came_of disk.control kept ∷ []) ∙ sym (append_assoc front (came_of store.control back.store ∷ []) (one ∷ came_of disk.control kept ∷ [])) in
           subst (λ (l : List Came). Rose n (faults_with l n)) (sym same) (fault_rises (front ++ came_of store.control back.store ∷ []) (came_of disk.control kept ∷ []) one n is)
@@ -177,12 +177,12 @@ module _ {D S M : Type 0} (disk : DiskGhosts D) (store : StoreGhosts S) (meta : 
       → (IsTrue h.is_observable → IsReady disk.content store.content meta.content asked h p) → AreAllHanded disk store meta p count given reg h → HandedOut n c c1 → CameBack (cames_of disk store meta back kept) c1 c2
       → c1.registries ≡ c.registries → c2.registries ≡ c1.registries ++ record { partition = p; last_read = (disk.control kept).last_read } ∷ [] → (disk.control kept).armed ≡ false
       → IsRefused disk meta asked given reg back kept why → IsRefusedSo disk.content store.content meta.content asked h h2 c c2 (of_cold p why) × (IsTrue h.is_observable → IsOfDevices (of_cold p why))
-  refused_of asked p count n h h2 c c1 c2 given back reg kept why ready last_read out came unread read unarmed is = by why is
+  refused_of asked p count n h h2 c c1 c2 given back reg kept why ready handed out came unread read unarmed is = by why is
     where
       clash : (w : ColdRefusal) → IsTrue h.is_observable → IsOfFile disk asked reg kept w → ⊥
       clash w t k =
           let file : file_in disk.content (h.registries p) ≡ Some (disk.control kept).last_read =
-          sym (file_handed disk.content (h.registries p) reg ((last_read.hands t).file)) ∙ k.file (subst IsTrue (sym last_read.file.is_observable) t) in
+          sym (file_handed disk.content (h.registries p) reg ((handed.hands t).file)) ∙ k.file (subst IsTrue (sym handed.file.is_observable) t) in
           let no : ◌≡◌ {A = Option ColdRefusal} None (Some w) = sym (ready t).suits ∙ (ap (said asked) file ∙ k.says) in
           cc
 
@@ -199,8 +199,8 @@ module _ {D S M : Type 0} (disk : DiskGhosts D) (store : StoreGhosts S) (meta : 
         unchanged = λ t. absurd (clash w t k);
       }
 
-      snapshot : c1.faults ≡ c.faults
-      snapshot = out.faults
+      begun : c1.faults ≡ c.faults
+      begun = out.faults
 
       ended : c2.faults ≡ faults_with (cames_of disk store meta back kept) c1.faults
       ended = came.faults
@@ -212,8 +212,8 @@ module _ {D S M : Type 0} (disk : DiskGhosts D) (store : StoreGhosts S) (meta : 
       by cold.RegistryFault rose =
           let some : 1 ≤ (disk.control kept).faults = omega (arith, rose) in
           let rise = fault_rises (map (came_of disk.control) back.disks.items ++ came_of store.control back.store ∷ came_of meta.control back.meta ∷ []) [] (came_of disk.control kept) c1.faults (counted_came (came_of disk.control kept) unarmed some) in
-          (omega (arith, rise, snapshot, ended), λ t. tt)
-      by cold.DeviceFault failed = let rise = device_risen p h given back kept count c1.faults last_read.others failed in (omega (arith, rise, snapshot, ended), λ t. tt)
+          (omega (arith, rise, begun, ended), λ t. tt)
+      by cold.DeviceFault failed = let rise = device_risen p h given back kept count c1.faults handed.others failed in (omega (arith, rise, begun, ended), λ t. tt)
       by (cold.BadRegistry at) k = (so (cold.BadRegistry at) k, λ t. absurd (clash (cold.BadRegistry at) t k))
       by (cold.Brokers k a) f = ((asks k a f, so (cold.Brokers k a) f), λ t. absurd (clash (cold.Brokers k a) t f))
       by cold.NoMemory none = (tt, λ t. tt)
@@ -250,8 +250,8 @@ module _ {D S M : Type 0} (disk : DiskGhosts D) (store : StoreGhosts S) (meta : 
     kept = is.kept;
     is = is.is;
     came_so = is.came_so;
-    last_read = is.last_read;
-    snapshot = is.snapshot;
+    handed = is.handed;
+    begun = is.begun;
     holds = λ t. let told : IsTrue a.is_observable = subst IsTrue only.is_observable t in holds_on p part.partition is.back is.kept a b told other only (is.holds told);
   }
 
@@ -294,13 +294,13 @@ module _ {D S M : Type 0} (disk : DiskGhosts D) (store : StoreGhosts S) (meta : 
     kept = is.kept;
     is = is.is;
     came_so = is.came_so;
-    last_read = λ t. let now = is.last_read (subst IsTrue (sym is_observable) t) in let kept = same t in record {
+    handed = λ t. let now = is.handed (subst IsTrue (sym is_observable) t) in let kept = same t in record {
       logs = λ k d at. subst (λ (o : Option D). HandsDisk disk.content o (disk.content d)) (kept.disks k) (now.logs k d at);
       objects = subst (λ (o : Option S). HandsStore store.content o (store.content is.devices.store)) kept.store now.objects;
       notes = subst (λ (o : Option M). HandsLog meta.content o (meta.content is.devices.meta)) kept.log now.notes;
       file = subst (λ (o : Option D). HandsDisk disk.content o (disk.content is.registry)) kept.registry now.file;
     };
-    snapshot = λ t none. is.snapshot (subst IsTrue (sym is_observable) t) (ap (file_in disk.content) (same t).registry ∙ none);
+    begun = λ t none. is.begun (subst IsTrue (sym is_observable) t) (ap (file_in disk.content) (same t).registry ∙ none);
     holds = is.holds;
   }
 
@@ -428,7 +428,7 @@ module _ {D S M : Type 0} (disk : DiskGhosts D) (store : StoreGhosts S) (meta : 
       → AreAllHanded disk store meta part.partition config.brokers given reg h0 → HandedOut (config.brokers + 3) c0 c1 → OnlyOf part.partition h0 h1 → length back.disks.items ≡ config.brokers
       → IsTextOf disk store meta config part given reg text back kept → CameBack (cames_of disk store meta back kept) c1 c2 → KeepsAll disk.content part.partition back kept h1 h2
       → RunsIn disk store meta config part h0 h2 text c0 c2
-  ran config part given back reg kept text h0 h1 h2 c0 c1 c2 ready last_read out only many is came keeps = record {
+  ran config part given back reg kept text h0 h1 h2 c0 c1 c2 ready handed out only many is came keeps = record {
     run = (part.partition.0, is.journal);
     came = cames_of disk store meta back kept;
     is = record {
@@ -439,8 +439,8 @@ module _ {D S M : Type 0} (disk : DiskGhosts D) (store : StoreGhosts S) (meta : 
       kept = kept;
       is = is.run;
       came_so = refl;
-      last_read = last_read.hands;
-      snapshot = λ t none. opens_fresh config part.partition config.brokers h0 given reg t (ready t).bare none last_read;
+      handed = handed.hands;
+      begun = λ t none. opens_fresh config part.partition config.brokers h0 given reg t (ready t).bare none handed;
       holds = λ t. keeps.here (subst IsTrue keeps.only.is_observable t);
     };
     spelled = is.spelled;

@@ -115,7 +115,7 @@ module _ {D S M : Type 0} (disk : DiskGhosts D) (store : StoreGhosts S) (meta : 
       let there = opened_there disk store meta part.partition config part.lists devices.disks.items devices.store devices.meta reg t is in
       record {
         from = λ p stands. inr (halted law config part back kept t t' why there new later are again stores notes same closing h (subst IsTrue (sym is_observable) stands.file_tells) p (central p stands));
-        snapshot = λ tell empty. inr (halted law config part back kept t t' why there new later are again stores notes same closing h (subst IsTrue (sym is_observable) empty.file_tells) (fresh config) (blank tell empty));
+        begun = λ tell empty. inr (halted law config part back kept t t' why there new later are again stores notes same closing h (subst IsTrue (sym is_observable) empty.file_tells) (fresh config) (blank tell empty));
       }
 
   -- or that wasn't opened
@@ -124,10 +124,10 @@ module _ {D S M : Type 0} (disk : DiskGhosts D) (store : StoreGhosts S) (meta : 
       → (DisksTell disk.content devices.disks.items → IsBlank disk store meta devices.store devices.meta reg
       → IsBlank disk store meta back.store back.meta kept ⊎ StandsFor disk store meta part.partition back.disks.items back.store back.meta kept (cold_of (fresh config)))
       → IsStopped disk store meta config part devices reg back kept
-  stopped_open safe config part devices back reg kept stand snapshot = record {
+  stopped_open safe config part devices back reg kept stand begun = record {
     from = λ p stands. inl (stand p stands);
-    snapshot = λ tell empty.
-        elim (snapshot tell empty) [
+    begun = λ tell empty.
+        elim (begun tell empty) [
           | inl blank ↦ inl blank
           | inr stands ↦ inr (record { journal = []; last = fresh config; replays = refl; safe = safe config; stand = stands })
         ];
@@ -249,14 +249,14 @@ module _ {D S M : Type 0} (disk : DiskGhosts D) (store : StoreGhosts S) (meta : 
   -- all but the disk of the registry
   pub devices_again : (p : PartitionId) (count : ℕ) (devices : Devices D S M) (h0 h1 h2 h3 : YardContent D S M) → AreHanded disk store meta p count devices h0 → OnlyOf p h0 h1 → (IsTrue h0.is_observable → KeepsFrom p count h0 h1)
       → (IsTrue h0.is_observable → h1.registries p ≡ h0.registries p) → (IsTrue h1.is_observable → Same disk.content store.content meta.content h1 h2) → KeepsDevices p devices h2 h3 → IsTrue h0.is_observable → AllRest disk store meta h0 h3
-  devices_again p count devices h0 h1 h2 h3 last_read only past kept gone back t =
+  devices_again p count devices h0 h1 h2 h3 handed only past kept gone back t =
       let same : Same disk.content store.content meta.content h1 h2 = gone (subst IsTrue (sym only.is_observable) t) in
       let told : IsTrue h2.is_observable = subst IsTrue (sym (same.is_observable ∙ only.is_observable)) t in
       let here = back.here told in
       went_back p h0 h1 h2 h3 t only same back.only (record {
-        disks = disks_back p devices.disks.items h0 h1 h2 h3 (last_read.disks.hands t) (λ b far. past t b (subst (λ (n : ℕ). n ≤ b.0) last_read.disks.count_is far)) (λ b. same.disks p b) here.disks (back.past told);
-        objects = store_handed (h0.stores p) (h3.stores p) devices.store (last_read.objects t) here.store;
-        notes = log_handed (h0.logs p) (h3.logs p) devices.meta (last_read.notes t) here.log;
+        disks = disks_back p devices.disks.items h0 h1 h2 h3 (handed.disks.hands t) (λ b far. past t b (subst (λ (n : ℕ). n ≤ b.0) handed.disks.count_is far)) (λ b. same.disks p b) here.disks (back.past told);
+        objects = store_handed (h0.stores p) (h3.stores p) devices.store (handed.objects t) here.store;
+        notes = log_handed (h0.logs p) (h3.logs p) devices.meta (handed.notes t) here.log;
         file = disk_through (h0.registries p) (h1.registries p) (h2.registries p) (h3.registries p) (kept t) (same.registries p) (back.registry told);
       })
 
@@ -286,15 +286,15 @@ module _ {D S M : Type 0} (disk : DiskGhosts D) (store : StoreGhosts S) (meta : 
       → AreAllHanded disk store meta part.partition config.brokers given reg h0 → OnlyOf part.partition h0 h1 → length back.disks.items ≡ config.brokers
       → IsStopped disk store meta config part given reg back kept → KeepsAll disk.content part.partition back kept h1 h2
       → IsTrue h0.is_observable → AllRest disk store meta h0 h2 ⊎ IsStoppedIn disk store meta config part h0 h2
-  stopped_in config part given back reg kept h0 h1 h2 ready last_read only many stopped keeps t = inr (record {
+  stopped_in config part given back reg kept h0 h1 h2 ready handed only many stopped keeps t = inr (record {
     devices = given;
     registry = reg;
     back = back;
     kept = kept;
-    given = last_read.others.disks.count_is;
+    given = handed.others.disks.count_is;
     count = many;
-    last_read = last_read.hands t;
-    snapshot = λ none. opens_fresh disk store meta config part.partition config.brokers h0 given reg t (ready t).bare none last_read;
+    handed = handed.hands t;
+    begun = λ none. opens_fresh disk store meta config part.partition config.brokers h0 given reg t (ready t).bare none handed;
     stopped = stopped;
     holds = keeps.here (subst IsTrue (sym only.is_observable) t);
     only = only_then part.partition h0 h1 h2 only keeps.only;

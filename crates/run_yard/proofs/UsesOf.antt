@@ -8,7 +8,7 @@ use Rattle.run_yard.proofs.Faults.{goes_on, still}
 -- devices that went out are back
 pub uses_all : (n : ℕ) (came : List Came) (a b c : Control) → length came ≡ n → HandedOut n a b → CameBack came b c → Uses came a c
 uses_all n came a b c many out back = record {
-  never_falls = (let snapshot = out.faults in let end = back.faults in let kept = still came b.faults in omega (arith, snapshot, end, kept));
+  never_falls = (let begun = out.faults in let end = back.faults in let kept = still came b.faults in omega (arith, begun, end, kept));
   named = back.named ∙ out.named;
   returned = back.returned ∙ ap (λ (l : List Came). l ++ came) out.returned;
   out = (let o = out.out in let k = back.out in omega (arith, many, o, k));

@@ -29,8 +29,8 @@ module _ {D S M : Type 0} (disk : DiskGhosts D) (store : StoreGhosts S) (meta : 
     pub kept : D
     pub is : IsRun disk store meta config part devices registry run.1 back kept
     pub came_so : came ≡ cames_of disk store meta back kept
-    pub last_read : IsTrue was.is_observable → HandsDevices disk store meta part.partition devices registry was
-    pub snapshot : IsTrue was.is_observable → file_in disk.content (was.registries part.partition) ≡ None
+    pub handed : IsTrue was.is_observable → HandsDevices disk store meta part.partition devices registry was
+    pub begun : IsTrue was.is_observable → file_in disk.content (was.registries part.partition) ≡ None
         → OpensFresh disk store meta config devices registry (fresh config)
     pub holds : IsTrue held.is_observable → HoldsAll disk.content part.partition back kept held
 

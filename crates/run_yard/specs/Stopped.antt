@@ -81,7 +81,7 @@ module _ {D S M : Type 0} (disk : DiskGhosts D) (store : StoreGhosts S) (meta : 
       (back : Devices D S M) (kept : D) : Type 0 where
     pub from : (p : State) → StandAs part.partition devices registry p
         → StandAs part.partition back kept p ⊎ IsLedFrom part.partition part.lists back kept p
-    pub snapshot : DisksTell disk.content devices.disks.items
+    pub begun : DisksTell disk.content devices.disks.items
         → IsBlank disk store meta devices.store devices.meta registry
         → IsBlank disk store meta back.store back.meta kept
         ⊎ IsLedFrom part.partition part.lists back kept (fresh config)
@@ -106,8 +106,8 @@ module _ {D S M : Type 0} (disk : DiskGhosts D) (store : StoreGhosts S) (meta : 
     pub kept : D
     pub given : length devices.disks.items ≡ config.brokers
     pub count : length back.disks.items ≡ config.brokers
-    pub last_read : HandsDevices disk store meta part.partition devices registry was
-    pub snapshot : file_in disk.content (was.registries part.partition) ≡ None
+    pub handed : HandsDevices disk store meta part.partition devices registry was
+    pub begun : file_in disk.content (was.registries part.partition) ≡ None
         → OpensFresh disk store meta config devices registry (fresh config)
     pub stopped : IsStopped config part devices registry back kept
     pub holds : HoldsAll disk.content part.partition back kept held

@@ -34,7 +34,7 @@ use trace_text::print;
 type Run = Traced<MemoryDisk, MemoryStore, MemoryLog>;
 
 /// Makes the fresh world of the partition that stands at this place of a script.
-fn snapshot(
+fn begun(
     alloc: Global,
     script: Bytes,
     place: usize,
@@ -62,7 +62,7 @@ fn all_begun(alloc: Global, bytes: &Bytes, script: Script) -> Result<Vec<Run>, A
     let mut runs = Vec::new(alloc);
     for part in script.parts.into_vec() {
         let place = runs.len();
-        runs.push(snapshot(alloc, bytes.clone()?, place, script.config, part)?)?;
+        runs.push(begun(alloc, bytes.clone()?, place, script.config, part)?)?;
     }
     Ok(runs)
 }

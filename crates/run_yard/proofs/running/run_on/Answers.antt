@@ -35,4 +35,4 @@ returns-in-Ok-clause-stopped g c =
 
 pub returns-clause-stopped : goal.returns-clause-stopped
 returns-clause-stopped g c =
-    stopped_open g.D.Disk g.S.Store g.M.MetaLog c.fresh_is_safe.ensures c.args.config c.args.part c.args.devices c.in-Err.devices c.args.registry c.in-Err.registry c.in-Err.ensures.stand c.in-Err.ensures.snapshot
+    stopped_open g.D.Disk g.S.Store g.M.MetaLog c.fresh_is_safe.ensures c.args.config c.args.part c.args.devices c.in-Err.devices c.args.registry c.in-Err.registry c.in-Err.ensures.stand c.in-Err.ensures.begun

@@ -4,8 +4,8 @@ use Rattle.std.proofs.lemmas.List.{length-append}
 use Rattle.tiered_call.proofs.Threaded.{part_behind, all_behind}
 use Rattle.tiered_call.proofs.by_threads.all_begun.Goals as goal
 
-pub snapshot-requires : goal.snapshot-requires
-snapshot-requires c =
+pub begun-requires : goal.begun-requires
+begun-requires c =
     let all = c.loop-part.invariant in
     let same : c.in_ok-clone.field-0 ≡ c.args.bytes.now = c.in_ok-clone.ensures.cases in
     let place : c.len-place.result ≡ length all.0 = c.len-place.ensures ∙ sym all.2 in

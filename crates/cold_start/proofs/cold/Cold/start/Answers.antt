@@ -18,18 +18,18 @@ returns-in-Err-clause-back g c =
 
 pub returns-in-Ok-fresh-clause-blank : goal.returns-in-Ok-fresh-clause-blank
 returns-in-Ok-fresh-clause-blank g c =
-    if_ok_map c.snapshot.result _ _
+    if_ok_map c.begun.result _ _
     (λ t k tell blank.
     let held = blank_recorded g.D.Disk g.S.Store g.M.MetaLog c.args.devices.store c.args.devices.meta c.settle_notes.new.meta c.args.reg blank c.settle_notes.ensures.content in
     let fresh = c.in-Ok-fresh.ensures.fresh in
     let seen = seen_empty g.D.Disk g.S.Store g.M.MetaLog c.args.partition c.args.config c.args.lists c.clear_all.new.disks.items c.args.devices.store c.settle_notes.new.meta c.args.reg c.in-Ok-fresh.world held fresh (c.in-Ok-fresh.ensures.told (c.clear_all.ensures.tell tell)) in
     let told = told_alone g.D.Disk g.S.Store g.M.MetaLog c.settle_notes.new.meta c.in-Ok-fresh.world.tier.meta fresh.tier.notes (c.in-Ok.ensures.settled blank.meta_tells) in
     subst (λ (w : Whole g.row.D.Denot g.row.S.Denot g.row.M.Denot). IsCentralLeft g.D.Disk g.S.Store g.M.MetaLog (fresh_plain c.args.config) w) (sym k.0) (c.in-Ok-fresh.ensures.central_left seen told))
-    c.snapshot.ensures.ok
+    c.begun.ensures.ok
 
-pub returns-in-Ok-fresh-clause-snapshot : goal.returns-in-Ok-fresh-clause-snapshot
-returns-in-Ok-fresh-clause-snapshot g c =
-    if_err_map c.snapshot.result _ _
+pub returns-in-Ok-fresh-clause-begun : goal.returns-in-Ok-fresh-clause-begun
+returns-in-Ok-fresh-clause-begun g c =
+    if_err_map c.begun.result _ _
     (λ e k tell blank.
     let held = blank_recorded g.D.Disk g.S.Store g.M.MetaLog c.args.devices.store c.args.devices.meta c.settle_notes.new.meta c.args.reg blank c.settle_notes.ensures.content in
     let fresh = c.in-Ok-fresh.ensures.fresh in
@@ -37,7 +37,7 @@ returns-in-Ok-fresh-clause-snapshot g c =
     let told = told_alone g.D.Disk g.S.Store g.M.MetaLog c.settle_notes.new.meta c.in-Ok-fresh.world.tier.meta fresh.tier.notes (c.in-Ok.ensures.settled blank.meta_tells) in
     begun_stands g.D.Disk g.S.Store g.M.MetaLog c.file_laws.ensures c.args.partition c.args.config c.args.lists c.clear_all.new.disks.items c.args.devices.store c.settle_notes.new.meta c.args.reg c.in-Ok-fresh.world (fresh_plain c.args.config) e.0.disks.items e.0.store e.0.meta e.1 e.2
     held fresh (c.in-Ok-fresh.ensures.central_left seen told) k)
-    c.snapshot.ensures.err
+    c.begun.ensures.err
 
 pub returns-in-Err-fresh-clause-cause : goal.returns-in-Err-fresh-clause-cause
 returns-in-Err-fresh-clause-cause g c =
@@ -56,16 +56,16 @@ returns-in-Err-fresh-clause-back g c =
 
 pub returns-in-Ok-fresh-clause-cause : goal.returns-in-Ok-fresh-clause-cause
 returns-in-Ok-fresh-clause-cause g c =
-    if_err_map c.snapshot.result _ _
+    if_err_map c.begun.result _ _
     (λ e k.
     registry_cause g.D.Disk g.M.MetaLog c.args.config c.args.devices.disks.items c.args.devices.meta c.args.reg e.0.disks.items e.0.meta e.1 e.2 k.only k.cause (none_says g.D.Disk g.M.MetaLog c.args.config c.args.reg c.requires.none))
-    c.snapshot.ensures.err
+    c.begun.ensures.err
 
 pub returns-in-Ok-fresh-clause-back : goal.returns-in-Ok-fresh-clause-back
 returns-in-Ok-fresh-clause-back g c =
     let fresh = c.in-Ok-fresh.ensures.fresh in
-    if_err_map c.snapshot.result _ _
+    if_err_map c.begun.result _ _
     (λ e k.
     back_armed g.D.Disk g.M.MetaLog c.args.devices.disks.items c.args.devices.store c.args.devices.meta c.args.reg e.0.disks.items e.0.store e.0.meta e.1 e.2 k.only
     (k.count ∙ (ap (λ (s : Config). s.brokers) fresh.config_is ∙ sym c.requires.count)) k.control)
-    c.snapshot.ensures.err
+    c.begun.ensures.err

@@ -6,7 +6,7 @@ use Rattle.cold_start.specs.Opening.{GivesBack}
 use Rattle.cold_start.specs.declared.refusal.ColdRefusal.{ColdRefusal}
 use Rattle.cold_start.proofs.Causes.{registry_only, registry_failed}
 use Rattle.cold_start.proofs.Leaving.{left_cold}
-use Rattle.cold_start.proofs.cold.Cold.snapshot.Goals as goal
+use Rattle.cold_start.proofs.cold.Cold.begun.Goals as goal
 
 pub returns-in-Ok-clause-cold : goal.returns-in-Ok-clause-cold
 returns-in-Ok-clause-cold g c = λ told opening.
