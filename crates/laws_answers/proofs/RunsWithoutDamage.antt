@@ -56,7 +56,7 @@ module _ {D S M : Type 0} (disk : DiskGhosts D) (store : StoreGhosts S) (meta : 
 
     answers_well : (w : Whole D S M) (a : ℕ) (answer : Answer) (w' : Whole D S M) → Well w → (t : IsTurn disk store meta w a (Answers answer) w')
         → TellsNoDamage (record { actor = t.list.actor; number = t.actor_state.number; event = event.Answers answer })
-    answers_well w a (Damaged here from) w' h t place at is = none_damaged disk store meta opening w a here from w' h.central h.known_high_watermark h.spans h.searches t
+    answers_well w a (Damaged here from) w' h t place at is = none_damaged disk store meta opening w a here from w' h.central h.known h.spans h.searches t
     answers_well w a other w' h t place at is = cc (is)
 
     turn_tells : (w : Whole D S M) (a : ℕ) (outcome : Outcome) (w' : Whole D S M) → Well w → (t : IsTurn disk store meta w a outcome w')
@@ -68,7 +68,7 @@ module _ {D S M : Type 0} (disk : DiskGhosts D) (store : StoreGhosts S) (meta : 
     turn_well : (w : Whole D S M) (a : ℕ) (outcome : Outcome) (w' : Whole D S M) → IsTurn disk store meta w a outcome w' → Well w → Well w'
     turn_well w a outcome w' t h = record {
       central = turn_central disk store meta opening w a outcome w' t h.central;
-      known_high_watermark = keep_known disk store meta opening w a outcome w' h.central h.known_high_watermark t;
+      known = keep_known disk store meta opening w a outcome w' h.central h.known t;
       spans = keep_spans disk store meta opening w a outcome w' h.central h.spans t;
       searches = keep_searches disk store meta opening w a outcome w' h.central h.searches t;
       meets = subst MeetsNoDamage (sym t.entered)
@@ -101,7 +101,7 @@ module _ {D S M : Type 0} (disk : DiskGhosts D) (store : StoreGhosts S) (meta : 
       (reaches_well opening w schedule w' r
       (record {
         central = c;
-        known_high_watermark = new_known disk store meta lists w f;
+        known = new_known disk store meta lists w f;
         spans = new_spans disk store meta opening lists w f;
         searches = new_searches disk store meta opening lists w f;
         meets = subst MeetsNoDamage (sym f.journal) tt;
