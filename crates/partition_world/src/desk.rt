@@ -87,7 +87,7 @@ pub(crate) fn take_actor_state(desk: &mut Row<ActorState>, place: usize) -> Acto
 }
 
 /// Lets a copy go on with the segment that it has chosen.
-#[tactic(auto, using(crate::proofs::Sides::set_twice))]
+#[tactic(auto, using(crate::proofs::BrokerTierStates::set_twice))]
 fn choose_at(desk: &mut Row<ActorState>, place: usize, copying: Copying)
     requires { place < length desk.old }
     ensures { IsSomeAnd (slice_get desk.old place) (λ actor_state. desk.new ≡ slice_set desk.old place (actor_state_after actor_state (Chose copying))) }
@@ -99,7 +99,7 @@ fn choose_at(desk: &mut Row<ActorState>, place: usize, copying: Copying)
 }
 
 /// Lets a copy go on with a turn.
-#[tactic(auto, using(crate::proofs::Sides::set_twice))]
+#[tactic(auto, using(crate::proofs::BrokerTierStates::set_twice))]
 fn move_at(desk: &mut Row<ActorState>, place: usize, next: CopyStep)
     requires { place < length desk.old }
     ensures { IsSomeAnd (slice_get desk.old place) (λ actor_state. desk.new ≡ slice_set desk.old place (actor_state_after actor_state (Goes next))) }
@@ -111,7 +111,7 @@ fn move_at(desk: &mut Row<ActorState>, place: usize, next: CopyStep)
 }
 
 /// Lets a fetch go on in the remote tier.
-#[tactic(auto, using(crate::proofs::Sides::set_twice))]
+#[tactic(auto, using(crate::proofs::BrokerTierStates::set_twice))]
 fn seek_at(desk: &mut Row<ActorState>, place: usize, next: Search)
     requires { place < length desk.old }
     ensures { IsSomeAnd (slice_get desk.old place) (λ actor_state. desk.new ≡ slice_set desk.old place (actor_state_after actor_state (Seeks next))) }
@@ -123,7 +123,7 @@ fn seek_at(desk: &mut Row<ActorState>, place: usize, next: Search)
 }
 
 /// Lets a search by timestamp go on.
-#[tactic(auto, using(crate::proofs::Sides::set_twice))]
+#[tactic(auto, using(crate::proofs::BrokerTierStates::set_twice))]
 fn date_at(desk: &mut Row<ActorState>, place: usize, cursor: u64, next: Dating)
     requires { place < length desk.old }
     ensures { IsSomeAnd (slice_get desk.old place) (λ actor_state. desk.new ≡ slice_set desk.old place (actor_state_after actor_state (Dates cursor next))) }
@@ -135,7 +135,7 @@ fn date_at(desk: &mut Row<ActorState>, place: usize, cursor: u64, next: Dating)
 }
 
 /// Lets an expiry go on with the remote segment that it has taken up.
-#[tactic(auto, using(crate::proofs::Sides::set_twice))]
+#[tactic(auto, using(crate::proofs::BrokerTierStates::set_twice))]
 fn doom_at(desk: &mut Row<ActorState>, place: usize, segment: ExpiredSegment)
     requires { place < length desk.old }
     ensures { IsSomeAnd (slice_get desk.old place) (λ actor_state. desk.new ≡ slice_set desk.old place (actor_state_after actor_state (Dooms segment))) }
@@ -147,7 +147,7 @@ fn doom_at(desk: &mut Row<ActorState>, place: usize, segment: ExpiredSegment)
 }
 
 /// Lets an expiry go on with a turn.
-#[tactic(auto, using(crate::proofs::Sides::set_twice))]
+#[tactic(auto, using(crate::proofs::BrokerTierStates::set_twice))]
 fn delete_at(desk: &mut Row<ActorState>, place: usize, next: Deletion)
     requires { place < length desk.old }
     ensures { IsSomeAnd (slice_get desk.old place) (λ actor_state. desk.new ≡ slice_set desk.old place (actor_state_after actor_state (Deletes next))) }
@@ -159,7 +159,7 @@ fn delete_at(desk: &mut Row<ActorState>, place: usize, next: Deletion)
 }
 
 /// Lets a join go on that begins its log anew.
-#[tactic(auto, using(crate::proofs::Sides::set_twice))]
+#[tactic(auto, using(crate::proofs::BrokerTierStates::set_twice))]
 fn rebuild_at(desk: &mut Row<ActorState>, place: usize, next: Rebuild)
     requires { place < length desk.old }
     ensures { IsSomeAnd (slice_get desk.old place) (λ actor_state. desk.new ≡ slice_set desk.old place (actor_state_after actor_state (Rebuilds next))) }

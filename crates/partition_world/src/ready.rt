@@ -134,7 +134,7 @@ fn given(work: InProgress, bundle: Bundle) -> InProgress
 
 impl<S: Store, M: MetaLog> RemoteTier<S, M> {
     /// Carries out a turn of a command at its state, which keeps of it what it kept.
-    #[tactic(auto, using(crate::proofs::Sides::set_twice, crate::proofs::Sides::set_same))]
+    #[tactic(auto, using(crate::proofs::BrokerTierStates::set_twice, crate::proofs::BrokerTierStates::set_same))]
     pub(crate) fn turn_at<D: Disk>(
         &mut self,
         alloc: Global,

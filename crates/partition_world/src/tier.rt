@@ -74,7 +74,7 @@ impl<S: Store, M: MetaLog> RemoteTier<S, M> {
     }
 
     /// Lets a broker's view take in what the metadata log has more.
-    #[tactic(auto, using(crate::proofs::Sides::set_same))]
+    #[tactic(auto, using(crate::proofs::BrokerTierStates::set_same))]
     pub(crate) fn refresh(&mut self, b: usize) -> Result<(), Trouble>
         requires { b < length self.old.broker_tiers }
         ensures ok { OnOk result (AtBrokerTier self.old b

@@ -7,5 +7,5 @@ abbrev pub invariant-loop-slot : goal.invariant-loop-slot
 invariant-loop-slot g l = record {
   still : AreStill g.T.Device.keeps l.fn.slots l.slots;
   rest : (k : ℕ) → l.slot-index ≤ k → slice_get l.slots k ≡ slice_get l.fn.slots k;
-  found : Adds (IsPartitionBelow g.K.Place.partition_of g.T.Device.used l.slot-index l.fn.slots) l.fn.found l.found;
+  found : Adds (IsPartitionBelow g.K.DevicePlace.partition_of g.T.Device.used l.slot-index l.fn.slots) l.fn.found l.found;
 }
