@@ -1,5 +1,6 @@
 pub mod Names
 pub mod Trace
+pub mod Shapes
 pub mod Entries
 pub mod Fields
 pub mod Reading

@@ -1,4 +1,4 @@
-//! What a command was answered, as words.
+//! Writing an event of a journal: a command that begins, or its answer.
 
 ghost use Rattle.std.specs.Prelude.{◌≡◌, [], ◌∷◌, ◌++◌, OnOk};
 ghost use Rattle.tier_base.specs.Key.{id_text, key_text};
@@ -7,6 +7,7 @@ ghost use Rattle.trace_text.specs.Trace.{place_text, tier_words, fields_of, even
 
 use crate::names::{answer_name, cause_name, part_ending, state_name, stop_name};
 use crate::page::Page;
+use crate::shapes::{Shape, shape_of};
 use plain_log::{Answer, Event, Place, Tier};
 use record_batch::BatchRefusal;
 use std::alloc::AllocError;
@@ -104,88 +105,44 @@ fn write_tier(page: &mut Page, tier: Tier) -> Result<(), AllocError>
 fn write_fields(page: &mut Page, answer: &Answer) -> Result<(), AllocError>
     ensures { OnOk result (page.new ≡ page.old ++ spaced (fields_of answer.now)) }
 {
-    match answer {
-        Answer::OkAt(n)
-        | Answer::DiskFaultAt(n)
-        | Answer::Follows(n)
-        | Answer::NeedsElection(n)
-        | Answer::Leads(n)
-        | Answer::StaleEpoch(n)
-        | Answer::Cut(n)
-        | Answer::Passed(n)
-        | Answer::BelowStart(n)
-        | Answer::Rebuilt(n)
-        | Answer::Moved(n)
-        | Answer::Copied(n)
-        | Answer::Raised(n)
-        | Answer::NotAbove(n)
-        | Answer::AboveMark(n)
-        | Answer::Up(n)
-        | Answer::Offset(n) => page.then_number(*n),
-        Answer::BehindStart(a, b)
-        | Answer::Behind(a, b)
-        | Answer::Dropped(a, b)
-        | Answer::OutOfRange(a, b) => page.then_numbers(*a, *b),
-        Answer::OkSpan(base, last, epoch) => {
-            page.then_number(*base)?;
-            page.then_numbers(*last, *epoch)
+    match shape_of(answer) {
+        Shape::Bare => Ok(()),
+        Shape::Counted(n) => page.then_number(n),
+        Shape::Paired(a, b) => page.then_numbers(a, b),
+        Shape::Span(base, last, epoch) => {
+            page.then_number(base)?;
+            page.then_numbers(last, epoch)
         }
-        Answer::Refused(cause) => {
-            page.then_word(cause_name(*cause))?;
-            write_numbers(page, *cause)
+        Shape::Cause(cause) => {
+            page.then_word(cause_name(cause))?;
+            write_numbers(page, cause)
         }
-        Answer::Damaged(place, at) => {
+        Shape::Damage(place, at) => {
             page.word(" ")?;
-            write_place(page, *place)?;
-            page.then_number(*at)
+            write_place(page, place)?;
+            page.then_number(at)
         }
-        Answer::CopiedSegment(id, start, last) => {
-            write_then_id(page, *id)?;
-            page.then_numbers(*start, *last)
+        Shape::Segment(id, start, last) => {
+            write_then_id(page, id)?;
+            page.then_numbers(start, last)
         }
-        Answer::Overtaken(state) => page.then_word(state_name(*state)),
-        Answer::Deleted(id) => write_then_id(page, *id),
-        Answer::Run {
+        Shape::State(state) => page.then_word(state_name(state)),
+        Shape::Id(id) => write_then_id(page, id),
+        Shape::Run {
             tier,
             size,
             stop,
             bytes,
         } => {
-            write_tier(page, *tier)?;
-            page.then_number(*size)?;
-            page.then_word(stop_name(*stop))?;
-            page.then_hex(bytes.as_slice())
+            write_tier(page, tier)?;
+            page.then_number(size)?;
+            page.then_word(stop_name(stop))?;
+            page.then_hex(bytes)
         }
-        Answer::Ok
-        | Answer::Down
-        | Answer::NotLeader
-        | Answer::LastOffset
-        | Answer::TooManySegments
-        | Answer::DiskFault
-        | Answer::EmptySegment
-        | Answer::LastEpoch
-        | Answer::NotInSync
-        | Answer::DownBroker
-        | Answer::Known
-        | Answer::NotFollower
-        | Answer::NoLeader
-        | Answer::Stopped
-        | Answer::MetaFault
-        | Answer::StoreFault
-        | Answer::NotJoined
-        | Answer::Level
-        | Answer::IsLeader
-        | Answer::LostLead
-        | Answer::Kept
-        | Answer::IsUp
-        | Answer::LastIncarnation
-        | Answer::Empty
-        | Answer::CopyOff
-        | Answer::NoOffset => Ok(()),
     }
 }
 
-/// Writes what an entry tells, each word behind a space.
+/// Writes what an entry records, each word behind a space.
 pub fn write_event(page: &mut Page, event: &Event) -> Result<(), AllocError>
     ensures { OnOk result (page.new ≡ page.old ++ spaced (event_words event.now)) }
 {

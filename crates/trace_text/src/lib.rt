@@ -19,6 +19,7 @@ mod parts;
 mod reading;
 mod refusal;
 mod room;
+mod shapes;
 mod tables;
 mod trace;
 mod words;

@@ -1,17 +1,19 @@
-//! How long a journal's text is.
+//! The length of a journal's text, for its allocation.
 //!
-//! No sum wraps: what passes the greatest `usize` stays there, and no memory has that much room.
+//! A sum that overflows stays at the greatest `usize`, and then the allocation fails.
 
 ghost use Rattle.std.specs.Prelude.{◌≤◌, ◌+◌, ◌-◌, ◌^◌, min, length, decimal};
 ghost use Rattle.trace_text.specs.Names.{padded, file_name_text, cause_numbers};
-ghost use Rattle.trace_text.specs.Trace.{place_text, tier_words, fields_of, event_words, spaced, entry_line, journal_text};
+ghost use Rattle.trace_text.specs.Trace.{place_text, tier_words, fields_of, event_words};
+ghost use Rattle.trace_text.specs.Trace.{spaced, entry_line, journal_text};
 
 use crate::names::{answer_name, cause_name};
+use crate::shapes::{Shape, shape_of};
 use plain_log::{Answer, Event, JournalEntry, Place, Tier};
 use record_batch::BatchRefusal;
 use tier_base::{FileName, PartitionId};
 
-/// Counts the digits of a number.
+/// Returns the number of decimal digits.
 fn digits(n: u64) -> usize
     ensures enough { length (decimal n) ≤ result }
     ensures few { result ≤ 20 }
@@ -19,7 +21,7 @@ fn digits(n: u64) -> usize
     if n == 0 { 1 } else { n.ilog10() as usize + 1 }
 }
 
-/// Reckons a cause's numbers, each behind a space.
+/// Bounds the length of a refusal's numbers, each after a space.
 #[tactic(auto, using(crate::proofs::Lengths::lengths))]
 fn numbers_room(cause: BatchRefusal) -> usize
     ensures enough { length (spaced (cause_numbers cause)) ≤ result }
@@ -39,7 +41,7 @@ fn numbers_room(cause: BatchRefusal) -> usize
     }
 }
 
-/// Reckons the text of a place.
+/// Bounds the length of a place of damage.
 #[tactic(auto, using(crate::proofs::Lengths::lengths), unfolding(crate::specs::Names::padded, tier_base::specs::Key::key_text))]
 fn place_room(place: Place) -> usize
     ensures enough { length (place_text place) ≤ result }
@@ -53,7 +55,7 @@ fn place_room(place: Place) -> usize
     }
 }
 
-/// Reckons where a run comes from, each word behind a space.
+/// Bounds the length of the words that say where a run comes from, each after a space.
 #[tactic(auto, using(crate::proofs::Lengths::lengths))]
 fn tier_room(tier: Tier) -> usize
     ensures enough { length (spaced (tier_words tier)) ≤ result }
@@ -65,78 +67,34 @@ fn tier_room(tier: Tier) -> usize
     }
 }
 
-/// Reckons an answer's fields, each behind a space, where the bytes of a run aren't among them.
+/// Bounds the length of an answer's fields, each after a space.
 #[tactic(auto, using(crate::proofs::Lengths::lengths))]
 fn fields_room(answer: &Answer) -> usize
     ensures { min (length (spaced (fields_of answer.now))) (2 ^ 64 - 1) ≤ result }
 {
-    match answer {
-        Answer::OkAt(n)
-        | Answer::DiskFaultAt(n)
-        | Answer::Follows(n)
-        | Answer::NeedsElection(n)
-        | Answer::Leads(n)
-        | Answer::StaleEpoch(n)
-        | Answer::Cut(n)
-        | Answer::Passed(n)
-        | Answer::BelowStart(n)
-        | Answer::Rebuilt(n)
-        | Answer::Moved(n)
-        | Answer::Copied(n)
-        | Answer::Raised(n)
-        | Answer::NotAbove(n)
-        | Answer::AboveMark(n)
-        | Answer::Up(n)
-        | Answer::Offset(n) => 1 + digits(*n),
-        Answer::BehindStart(a, b)
-        | Answer::Behind(a, b)
-        | Answer::Dropped(a, b)
-        | Answer::OutOfRange(a, b) => 2 + digits(*a) + digits(*b),
-        Answer::OkSpan(base, last, epoch) => 3 + digits(*base) + digits(*last) + digits(*epoch),
-        Answer::Refused(cause) => 1 + cause_name(*cause).len() + numbers_room(*cause),
-        Answer::Damaged(place, at) => 2 + place_room(*place) + digits(*at),
-        Answer::CopiedSegment(_, start, last) => 39 + digits(*start) + digits(*last),
-        Answer::Overtaken(_) => 15,
-        Answer::Deleted(_) => 37,
-        Answer::Run {
+    match shape_of(answer) {
+        Shape::Bare => 0,
+        Shape::Counted(n) => 1 + digits(n),
+        Shape::Paired(a, b) => 2 + digits(a) + digits(b),
+        Shape::Span(base, last, epoch) => 3 + digits(base) + digits(last) + digits(epoch),
+        Shape::Cause(cause) => 1 + cause_name(cause).len() + numbers_room(cause),
+        Shape::Damage(place, at) => 2 + place_room(place) + digits(at),
+        Shape::Segment(_, start, last) => 39 + digits(start) + digits(last),
+        Shape::State(_) => 15,
+        Shape::Id(_) => 37,
+        Shape::Run {
             tier,
             size,
             bytes,
             ..
         } => {
             let bytes = bytes.len().saturating_mul(2);
-            (8 + tier_room(*tier) + digits(*size)).saturating_add(bytes)
+            (8 + tier_room(tier) + digits(size)).saturating_add(bytes)
         }
-        Answer::Ok
-        | Answer::Down
-        | Answer::NotLeader
-        | Answer::LastOffset
-        | Answer::TooManySegments
-        | Answer::DiskFault
-        | Answer::EmptySegment
-        | Answer::LastEpoch
-        | Answer::NotInSync
-        | Answer::DownBroker
-        | Answer::Known
-        | Answer::NotFollower
-        | Answer::NoLeader
-        | Answer::Stopped
-        | Answer::MetaFault
-        | Answer::StoreFault
-        | Answer::NotJoined
-        | Answer::Level
-        | Answer::IsLeader
-        | Answer::LostLead
-        | Answer::Kept
-        | Answer::IsUp
-        | Answer::LastIncarnation
-        | Answer::Empty
-        | Answer::CopyOff
-        | Answer::NoOffset => 0,
     }
 }
 
-/// Reckons what an entry tells, each word behind a space.
+/// Bounds the length of an event, each word after a space.
 #[tactic(auto, using(crate::proofs::Lengths::lengths))]
 fn event_room(event: &Event) -> usize
     ensures { min (length (spaced (event_words event.now))) (2 ^ 64 - 1) ≤ result }
@@ -148,7 +106,7 @@ fn event_room(event: &Event) -> usize
     }
 }
 
-/// Reckons the bytes of a line.
+/// Bounds the length of a line, in bytes.
 #[tactic(auto, using(crate::proofs::Lengths::lengths), unfolding(crate::specs::Trace::entry_line))]
 fn entry_room(partition: PartitionId, entry: &JournalEntry) -> usize
     ensures { min (length (entry_line partition.0 entry.now)) (2 ^ 64 - 1) ≤ result }
@@ -159,7 +117,7 @@ fn entry_room(partition: PartitionId, entry: &JournalEntry) -> usize
     event_room(&entry.event).saturating_add(partition + actor + number + 3)
 }
 
-/// Reckons the bytes of a journal's text.
+/// Bounds the length of a journal's text, in bytes.
 #[tactic(auto, using(crate::proofs::Lengths::lengths))]
 pub fn room(partition: PartitionId, entries: &[JournalEntry]) -> usize
     ensures { min (length (journal_text partition.0 entries.now)) (2 ^ 64 - 1) ≤ result }
