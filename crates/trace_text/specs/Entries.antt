@@ -81,7 +81,7 @@ IsAnswer (answer.Run tier size stop bytes) = IsTier tier × Fits64 size × AreRu
 IsAnswer (answer.Offset offset) = Fits64 offset
 IsAnswer other = Unit {0}
 
--- what the event tells fits
+-- the numbers of the event fit
 abbrev pub IsEvent : Event → Type 0
 IsEvent (Begins None) = Unit {0}
 IsEvent (Begins (Some end)) = Fits64 end

@@ -1,5 +1,6 @@
--- The words of a trace, one by one: what each is read as. A word has one reading at most, and a value one spelling.
-use Rattle.std.specs.Prelude.{ℕ, ◌-◌, ◌^◌, ◌==◌, ◌&&◌, ◌||◌, nat_le, nat_lt, Bool, if◌then◌else◌, List, [], ◌∷◌, length, take, drop, codes, bytes_eq, Option, Some, None, option_map, Result, Ok, Err}
+-- The words of a trace, one by one: the value of each. A word has at most one value, and a value has one spelling.
+use Rattle.std.specs.Prelude.{ℕ, ◌-◌, ◌^◌, ◌==◌, ◌&&◌, ◌||◌, nat_le, nat_lt, Bool, if◌then◌else◌, List, [], ◌∷◌}
+use Rattle.std.specs.Prelude.{length, take, drop, codes, bytes_eq, Option, Some, None, option_map, Result, Ok, Err}
 use Rattle.std.specs.List.{list_all, slice_split}
 use Rattle.std.specs.Str.{all_ascii_digits}
 use Rattle.hex.specs.declared.error.FromHexError.{FromHexError}
@@ -26,7 +27,7 @@ use Rattle.plain_log.specs.declared.answer.Tier.TheVariants as tier
 use Rattle.trace_text.specs.Names.{file_name_text, state_text, stop_text, cause_name}
 
 infixl 10 ◌>>=◌
--- what has no reading ends it
+-- the rest is read only if the first part is valid
 abbrev pub ◌>>=◌ : {A B : Type 0} → Option A → (A → Option B) → Option B
 (Some x) >>= f = f x
 None >>= f = None
@@ -61,7 +62,7 @@ id_in word = parsed word >>= λ bytes. if is_id_of word bytes then Some (record 
 abbrev pub all_parts : List Part
 all_parts = part.Log ∷ part.Index ∷ part.TimeIndex ∷ part.Epochs ∷ part.Pack ∷ []
 
--- what stands before and behind a key's slash
+-- the words before and after a key's slash
 abbrev pub key_parts_in : List (List ℕ) → Option ObjectKey
 key_parts_in (partition ∷ rest ∷ []) =
     number_in 65535 partition >>= λ n.
@@ -90,12 +91,12 @@ file_in word =
     if length word == 24 then log_name_in (take 20 word) (drop 20 word)
     else named file_name_text word bare_files
 
--- the first reading, or else the second
+-- the first value, or else the second
 abbrev pub or_else : {A : Type 0} → Option A → Option A → Option A
 or_else (Some x) other = Some x
 or_else None other = other
 
--- what was found damaged
+-- the place of damage
 unfoldable pub place_in : List ℕ → Option Place
 place_in word =
     if bytes_eq word (codes "meta") then Some place.Meta
@@ -119,7 +120,8 @@ stop_in word = named stop_text word all_stops
 
 -- the causes that have no numbers
 abbrev pub bare_causes : List BatchRefusal
-bare_causes = cause.Short ∷ cause.BadMagic ∷ cause.BadLength ∷ cause.Compressed ∷ cause.Transactional ∷ cause.Control ∷ []
+bare_causes =
+    cause.Short ∷ cause.BadMagic ∷ cause.BadLength ∷ cause.Compressed ∷ cause.Transactional ∷ cause.Control ∷ []
 
 -- a cause that has no numbers
 unfoldable pub cause_in : List ℕ → Option BatchRefusal

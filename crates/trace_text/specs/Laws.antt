@@ -7,17 +7,17 @@ use Rattle.trace_text.specs.declared.refusal.TraceRefusal.TheVariants.{Bad, NoMe
 use Rattle.trace_text.specs.Trace.{trace_of}
 use Rattle.trace_text.specs.Read.{told, AreParts, Reads}
 
--- these journals were read, where there was memory
+-- these journals were read, unless the reader was out of memory
 abbrev pub ReadsAs : List (ℕ × List JournalEntry) → Result (List PartJournal) TraceRefusal → Type 0
 ReadsAs parts (Ok read) = map told read ≡ parts
 ReadsAs parts (Err (Bad line)) = ⊥
 ReadsAs parts (Err NoMemory) = Unit {0}
 
--- what is printed of the parts of a trace is read as them
+-- reading what was printed returns the journals that were printed
 abbrev pub PrintIsRead : Type 0
 PrintIsRead = (parts : List (ℕ × List JournalEntry)) (result : Result (List PartJournal) TraceRefusal)
     → AreParts parts → Reads (trace_of parts) result → ReadsAs parts result
 
--- two traces of one text are one
+-- two traces with the same text are equal
 abbrev pub OneTextOneTrace : Type 0
 OneTextOneTrace = (a b : List (ℕ × List JournalEntry)) → AreParts a → AreParts b → trace_of a ≡ trace_of b → a ≡ b

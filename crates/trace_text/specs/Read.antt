@@ -1,8 +1,9 @@
--- What reading a trace answers.
+-- What reading a trace returns.
 --
--- A trace has a part for each partition that has entries, and partitions rise. So an entry may stand behind those of
--- its own partition and of lower ones, and nowhere else.
-use Rattle.std.specs.Prelude.{◌≡◌, ◌≢◌, ℕ, ◌+◌, ◌-◌, ◌^◌, ◌<◌, ◌≤◌, min, List, [], ◌∷◌, ◌++◌, length, map, All, Result, Ok, Err}
+-- A trace has a part for each partition that has entries, in ascending order of partitions. So the entries before an
+-- entry are of its own partition or of lower ones.
+use Rattle.std.specs.Prelude.{◌≡◌, ◌≢◌, ℕ, ◌+◌, ◌-◌, ◌^◌, ◌<◌, ◌≤◌, min}
+use Rattle.std.specs.Prelude.{List, [], ◌∷◌, ◌++◌, length, map, All, Result, Ok, Err}
 use Rattle.plain_log.specs.declared.journal.JournalEntry.{JournalEntry}
 use Rattle.trace_text.specs.declared.line.PartJournal.{PartJournal}
 use Rattle.trace_text.specs.declared.refusal.TraceRefusal.{TraceRefusal}
@@ -59,7 +60,7 @@ pub record IsBad (bytes : List ℕ) (line : ℕ) : Type 0 where
       → MayFollow parts partition → rest ≢ entry_line partition entry ++ behind
   pub number : line ≡ min (lines_of parts + 1) (2 ^ 32 - 1)
 
--- what the reader of a trace answers; want of memory alone is free
+-- what the reader of a trace returns; only being out of memory is unspecified
 abbrev pub Reads : List ℕ → Result (List PartJournal) TraceRefusal → Type 0
 Reads bytes (Ok parts) = IsTrace bytes parts
 Reads bytes (Err (Bad line)) = IsBad bytes line

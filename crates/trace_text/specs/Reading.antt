@@ -1,5 +1,6 @@
--- A line of a trace, word by word: what it is read as. The module Trace has the forms; what has none has no reading.
-use Rattle.std.specs.Prelude.{ℕ, ◌-◌, ◌^◌, ◌==◌, if◌then◌else◌, List, [], ◌∷◌, codes, bytes_eq, Option, Some, None, option_map}
+-- A line of a trace, word by word: the entry that it spells. The module Trace has the forms; other lines are invalid.
+use Rattle.std.specs.Prelude.{ℕ, ◌-◌, ◌^◌, ◌==◌, if◌then◌else◌, List, [], ◌∷◌}
+use Rattle.std.specs.Prelude.{codes, bytes_eq, Option, Some, None, option_map}
 use Rattle.std.specs.List.{slice_split}
 use Rattle.record_batch.specs.declared.refusal.BatchRefusal.TheVariants as cause
 use Rattle.plain_log.specs.declared.answer.Answer.{Answer}
@@ -8,7 +9,8 @@ use Rattle.plain_log.specs.declared.journal.Event.{Event}
 use Rattle.plain_log.specs.declared.journal.Event.TheVariants.{Begins, Answers}
 use Rattle.trace_text.specs.declared.line.Line.{Line}
 use Rattle.trace_text.specs.Trace.{name_of}
-use Rattle.trace_text.specs.Fields.{◌>>=◌, named, number_in, count_in, id_in, place_in, state_in, stop_in, cause_in, tier_in, bytes_in}
+use Rattle.trace_text.specs.Fields.{◌>>=◌, named, number_in, count_in, id_in, place_in, state_in, stop_in}
+use Rattle.trace_text.specs.Fields.{cause_in, tier_in, bytes_in}
 
 -- the answers without fields
 abbrev pub bare_answers : List Answer
@@ -50,14 +52,14 @@ one_in name word =
     else if bytes_eq name (codes "Deleted") then option_map answer.Deleted (id_in word)
     else count_in word >>= λ n. counted_in name n
 
--- the cause that the records are wrong
+-- the refusal of a batch whose records are invalid
 unfoldable pub bad_records_in : List ℕ → List ℕ → Option Answer
 bad_records_in name at =
     if bytes_eq name (codes "BadRecords")
     then (number_in (2 ^ 32 - 1) at >>= λ n. Some (answer.Refused (cause.BadRecords n)))
     else None
 
--- the place of a damage
+-- an answer that reports damage
 unfoldable pub damaged_in : List ℕ → List ℕ → Option Answer
 damaged_in place at = place_in place >>= λ p. count_in at >>= λ n. Some (answer.Damaged p n)
 
@@ -68,7 +70,7 @@ two_in name a b =
     else if bytes_eq name (codes "Damaged") then damaged_in a b
     else count_in a >>= λ m. count_in b >>= λ n. paired_in name m n
 
--- the cause that the checksum is wrong
+-- the refusal of a batch whose checksum is wrong
 unfoldable pub bad_crc_in : List ℕ → List ℕ → List ℕ → Option Answer
 bad_crc_in name kept computed =
     if bytes_eq name (codes "BadCrc")
@@ -124,7 +126,7 @@ abbrev pub answer_in : List (List ℕ) → Option Answer
 answer_in [] = None
 answer_in (name ∷ words) = if bytes_eq name (codes "Run") then run_in words else plain_in name words
 
--- what stands behind begin
+-- the words after begin
 abbrev pub begun_in : List (List ℕ) → Option Event
 begun_in [] = Some (Begins None)
 begun_in (cut ∷ end ∷ []) =
@@ -146,7 +148,10 @@ headed_in partition actor number words =
     number_in 65535 actor >>= λ a.
     number_in (2 ^ 32 - 1) number >>= λ n.
     event_in words >>= λ event.
-    Some (record { partition = record { 0 = p }; entry = record { actor = record { 0 = a }; number = n; event = event } })
+    Some (record {
+      partition = record { 0 = p };
+      entry = record { actor = record { 0 = a }; number = n; event = event };
+    })
 
 -- the words of a line
 abbrev pub words_in : List (List ℕ) → Option Line

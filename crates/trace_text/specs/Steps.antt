@@ -1,5 +1,6 @@
 -- The steps of reading a trace: the line at the front, and where its entry goes.
-use Rattle.std.specs.Prelude.{◌≡◌, ℕ, ◌+◌, ◌==◌, Bool, true, false, if◌then◌else◌, List, [], ◌∷◌, ◌++◌, map, All, Option, Some, None, Result, Ok, Err}
+use Rattle.std.specs.Prelude.{◌≡◌, ℕ, ◌+◌, ◌==◌, Bool, true, false, if◌then◌else◌}
+use Rattle.std.specs.Prelude.{List, [], ◌∷◌, ◌++◌, map, All, Option, Some, None, Result, Ok, Err}
 use Rattle.std.specs.declared.alloc.AllocError.{AllocError}
 use Rattle.std.specs.List.{slice_split}
 use Rattle.std.specs.Borrow.{Bor}
@@ -12,7 +13,7 @@ use Rattle.trace_text.specs.Read.{told, MayFollow}
 abbrev pub IsOneLine : List ℕ → Type 0
 IsOneLine text = All (λ b. (b == 10) ≡ false) text
 
--- the line at the front, and what stands behind its LF; or there is no LF
+-- the first line and what follows its LF; or there is no LF
 abbrev pub ReadsFirst : List ℕ → Option (Bor (List ℕ) × Bor (List ℕ)) → Type 0
 ReadsFirst bytes None = IsOneLine bytes
 ReadsFirst bytes (Some found) = IsOneLine found.0.now × (bytes ≡ found.0.now ++ 10 ∷ found.1.now)
@@ -22,7 +23,7 @@ abbrev pub words_left : Option (Bor (List ℕ)) → List (List ℕ)
 words_left None = []
 words_left (Some text) = slice_split (λ b. b == 32) text.now
 
--- how many bytes stand before the first of these
+-- how many bytes are before the first of these
 abbrev pub front_len : (ℕ → Bool) → List ℕ → ℕ
 front_len is [] = 0
 front_len is (b ∷ bytes) = if is b then 0 else front_len is bytes + 1
@@ -44,7 +45,8 @@ is_done (word ∷ words) = false
 
 -- the last partition so far, and its entries
 abbrev pub last_part : Parts → List (ℕ × List JournalEntry)
-last_part parts = elim parts.last as (λ _. List (ℕ × List JournalEntry)) [ None ↦ [] | Some last ↦ (last.0, parts.journal.items) ∷ [] ]
+last_part parts =
+    elim parts.last as (λ _. List (ℕ × List JournalEntry)) [ None ↦ [] | Some last ↦ (last.0, parts.journal.items) ∷ [] ]
 
 -- the parts so far
 abbrev pub parts_of : Parts → List (ℕ × List JournalEntry)
@@ -73,7 +75,7 @@ pub record HasPut (old new : Parts) (line : Line) : Type 0 where
   pub may : MayFollow (parts_of old) line.partition.0
   pub parts : parts_of new ≡ added (parts_of old) line.partition.0 line.entry
 
--- what putting an entry answers
+-- what putting an entry returns
 abbrev pub Puts : Parts → Parts → Line → Result Bool AllocError → Type 0
 Puts old new line (Ok true) = HasPut old new line
 Puts old new line (Ok false) = MayFollow (parts_of old) line.partition.0 → ⊥

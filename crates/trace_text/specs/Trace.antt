@@ -1,5 +1,5 @@
--- A trace: what a run answered, as text. The partitions' journals come one after another, and a journal has a line for
--- each of its entries. SP is a space and LF a line feed; one space stands between two words, and LF ends every line.
+-- A trace: the answers of a run, as text. The partitions' journals come one after another, and a journal has a line for
+-- each of its entries. SP is a space and LF a line feed; one space separates two words, and LF ends every line.
 --
 --   line    = partition SP actor SP number SP event LF    number: the command's place in its actor's list, from 0
 --   event   = begin                                       the command has begun, and its first turn left it unanswered
@@ -51,7 +51,7 @@ use Rattle.plain_log.specs.declared.journal.Event.TheVariants.{Begins, Answers}
 use Rattle.plain_log.specs.declared.journal.JournalEntry.{JournalEntry}
 use Rattle.trace_text.specs.Names.{file_name_text, state_text, stop_text, cause_name, cause_numbers}
 
--- what was found damaged
+-- the place of damage
 abbrev pub place_text : Place → List ℕ
 place_text (place.Key key) = key_text key
 place_text (place.File name) = file_name_text name

@@ -1,11 +1,11 @@
-//! Numbers among the words of a line, each in its one spelling.
+//! Reading the numbers of a line. A number has one valid spelling: decimal, without a leading zero.
 
 ghost use Rattle.std.specs.Prelude.{◌≡◌, ◌≤◌, ◌<◌, ◌-◌, ◌^◌, IfSome};
 ghost use Rattle.std.specs.Str.{all_ascii_digits};
 ghost use Rattle.tier_base.specs.Number.{is_shortest, value_of};
 ghost use Rattle.trace_text.specs.Fields.{up_to, number_in, count_in};
 
-/// Answers whether all bytes are digits.
+/// Returns whether all bytes are decimal digits.
 pub fn all_digits(word: &[u8]) -> bool
     ensures { result ≡ all_ascii_digits word.now }
 {
@@ -17,7 +17,7 @@ pub fn all_digits(word: &[u8]) -> bool
     true
 }
 
-/// Answers whether these digits begin with no zero, but for the number 0.
+/// Returns whether the digits have no leading zero; a single `0` is valid.
 fn is_shortest(digits: &[u8]) -> bool
     ensures { result ≡ is_shortest digits.now }
 {
@@ -28,7 +28,7 @@ fn is_shortest(digits: &[u8]) -> bool
     }
 }
 
-/// Reckons the number of digits, where it fits.
+/// Returns the number that the digits spell, or `None` if it overflows a `u64`.
 pub fn value(digits: &[u8]) -> Option<u64>
     ensures { result ≡ up_to (2 ^ 64 - 1) (value_of 0 digits.now) }
 {
@@ -45,7 +45,7 @@ pub fn value(digits: &[u8]) -> Option<u64>
     Some(number)
 }
 
-/// Reads a number that is no greater than this.
+/// Reads a number of at most `high`.
 #[tactic(auto, unfolding(crate::specs::Fields::number_in))]
 pub fn number(word: &[u8], high: u64) -> Option<u64>
     ensures value { result ≡ number_in high word.now }

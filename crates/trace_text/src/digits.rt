@@ -1,7 +1,7 @@
-//! Bytes as text, eight at a time.
+//! Writing bytes as hexadecimal digits, eight bytes at a time.
 //!
-//! Each byte's two digits stand side by side in one table, so a byte is one look-up, and the text grows once for
-//! eight bytes. What is left behind the last eight is written a digit at a time.
+//! The two digits of a byte are neighbours in one table, so a byte costs one look-up, and the text grows once per
+//! eight bytes. The last one to seven bytes are written a digit at a time.
 
 ghost use Rattle.std.specs.Prelude.{◌≡◌, ◌++◌, ◌/◌, ◌%◌, OnOk, length, slice_index};
 ghost use Rattle.hex.specs.Hex.{lower_digits, encode_lower};
@@ -64,7 +64,7 @@ fn digits(bytes: &[u8]) -> [u8; 16]
     ]
 }
 
-/// Puts bytes at the end of a text, each as two digits.
+/// Appends bytes to a text, each as two digits.
 pub fn push_hex(text: &mut Vec<u8>, bytes: &[u8]) -> Result<(), AllocError>
     ensures { OnOk result (text.new.items ≡ text.old.items ++ encode_lower bytes.now) }
 {
@@ -77,7 +77,7 @@ pub fn push_hex(text: &mut Vec<u8>, bytes: &[u8]) -> Result<(), AllocError>
     push_digits(text, rest)
 }
 
-/// Puts bytes at the end of a text, a digit at a time.
+/// Appends bytes to a text, a digit at a time.
 #[tactic(auto, unfolding(hex::specs::Hex::encode_with))]
 fn push_digits(text: &mut Vec<u8>, bytes: &[u8]) -> Result<(), AllocError>
     ensures { OnOk result (text.new.items ≡ text.old.items ++ encode_lower bytes.now) }

@@ -1,8 +1,9 @@
-//! The fields of an answer, word by word. `specs/Fields.antt` says what each word is read as.
+//! Reading the fields of an answer, word by word. `specs/Fields.antt` defines the valid words.
 
 ghost use Rattle.std.specs.Prelude.{◌≡◌, IfOk, option_map};
 ghost use Rattle.std.specs.List.{list_all};
-ghost use Rattle.trace_text.specs.Fields.{key_in, log_name_in, file_in, place_in, id_in, state_in, stop_in, cause_in, tier_in, is_lower_digit, bytes_in};
+ghost use Rattle.trace_text.specs.Fields.{key_in, log_name_in, file_in, place_in, id_in, state_in, stop_in, cause_in};
+ghost use Rattle.trace_text.specs.Fields.{tier_in, is_lower_digit, bytes_in};
 
 use crate::counts::{all_digits, count, value};
 use crate::words::is;
@@ -68,7 +69,7 @@ fn file(word: &[u8]) -> Option<FileName>
     None
 }
 
-/// Reads what was found damaged.
+/// Reads the place of damage: an object, a file, or the remote log metadata.
 #[tactic(auto, unfolding(crate::specs::Fields::place_in))]
 pub fn place(word: &[u8]) -> Option<Place>
     ensures { result ≡ place_in word.now }
@@ -168,21 +169,21 @@ pub fn tier(name: &[u8], segment: &[u8]) -> Option<Tier>
     None
 }
 
-/// Answers whether a byte is a hex digit, and no upper case letter.
+/// Returns whether a byte is a hexadecimal digit in lower case.
 fn is_lower_digit(byte: u8) -> bool
     ensures { result ≡ is_lower_digit byte }
 {
     (48 <= byte && byte <= 57) || (97 <= byte && byte <= 102)
 }
 
-/// Answers whether all bytes are hex digits, and no upper case letters.
+/// Returns whether all bytes are hexadecimal digits in lower case.
 fn are_lower_digits(word: &[u8]) -> bool
     ensures { result ≡ list_all is_lower_digit word.now }
 {
     word.iter().all(|byte| is_lower_digit(*byte))
 }
 
-/// Reads a run's bytes.
+/// Reads a run's bytes, which are at least one.
 #[tactic(auto, unfolding(crate::specs::Fields::bytes_in))]
 pub fn run_bytes(alloc: Global, word: &[u8]) -> Result<Option<Bytes>, AllocError>
     ensures { IfOk result (λ found. found ≡ bytes_in word.now) }

@@ -1,13 +1,13 @@
-//! Laws of traces. Each is the contract of a function that does nothing: calling it cites the law.
+//! Laws of traces. Each is the contract of a function without a body: a proof uses the law by calling it.
 
 ghost use Rattle.trace_text.specs.Laws.{PrintIsRead, OneTextOneTrace};
 
-/// What is printed of the parts of a trace is read as them.
+/// Reading what `print` wrote returns the journals that were written.
 pub fn print_is_read()
     ensures { PrintIsRead }
 {}
 
-/// Two traces of one text are one.
+/// Two traces with the same text are equal.
 pub fn one_text_one_trace()
     ensures { OneTextOneTrace }
 {}

@@ -12,7 +12,7 @@ use crate::words::front_len;
 use std::alloc::Global;
 use tier_base::Row;
 
-/// Gives the line at the front, and what stands behind its LF.
+/// Returns the first line and what follows its LF, or `None` if there is no LF.
 fn first_line(bytes: &[u8]) -> Option<(&[u8], &[u8])>
     ensures { ReadsFirst bytes.now result }
 {
@@ -23,7 +23,8 @@ fn first_line(bytes: &[u8]) -> Option<(&[u8], &[u8])>
     Some((&bytes[..end], &bytes[end + 1..]))
 }
 
-/// Reads a trace. It goes over the bytes once, line by line, and copies nothing but runs.
+/// Reads a trace, and returns the partitions' journals in order. It goes over the bytes once and copies only the
+/// bytes of runs. Fails at the first invalid line, or if it is out of memory.
 pub fn read(alloc: Global, bytes: &[u8]) -> Result<Row<PartJournal>, TraceRefusal>
     ensures { Reads bytes.now result }
 {

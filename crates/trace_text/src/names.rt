@@ -1,4 +1,4 @@
-//! The names of answers, and of what they carry.
+//! The names that a trace uses for answers and for what they carry.
 
 ghost use Rattle.std.specs.Prelude.{◌≡◌, ◌≤◌, length};
 ghost use Rattle.tier_base.specs.Key.{part_text};
@@ -9,7 +9,7 @@ use plain_log::Answer;
 use record_batch::BatchRefusal;
 use tier_base::{Part, State, Stop};
 
-/// Names why a run ends.
+/// Returns the name of the reason why a run ends.
 pub fn stop_name(stop: Stop) -> &'static str
     ensures { result.now ≡ stop_text stop }
 {
@@ -20,7 +20,7 @@ pub fn stop_name(stop: Stop) -> &'static str
     }
 }
 
-/// Names a remote segment's state.
+/// Returns the name of a remote segment's state.
 pub fn state_name(state: State) -> &'static str
     ensures { result.now ≡ state_text state }
 {
@@ -32,7 +32,7 @@ pub fn state_name(state: State) -> &'static str
     }
 }
 
-/// Names the cause for which bytes are no batch.
+/// Returns the name of the reason why bytes are not a valid batch.
 pub fn cause_name(cause: BatchRefusal) -> &'static str
     ensures value { result.now ≡ cause_name cause }
     ensures short { length result.now ≤ 13 }
@@ -49,7 +49,7 @@ pub fn cause_name(cause: BatchRefusal) -> &'static str
     }
 }
 
-/// How the keys of a part's objects end.
+/// Returns the suffix of the object keys of a part.
 pub fn part_ending(part: Part) -> &'static str
     ensures { result.now ≡ part_text part }
 {
@@ -62,7 +62,7 @@ pub fn part_ending(part: Part) -> &'static str
     }
 }
 
-/// Names an answer as a trace does.
+/// Returns the name of an answer, without its fields. Answers that differ in their fields alone share a name.
 pub fn answer_name(answer: &Answer) -> &'static str
     ensures value { result.now ≡ name_of answer.now }
     ensures short { length result.now ≤ 15 }

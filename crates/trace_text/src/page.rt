@@ -1,4 +1,4 @@
-//! A text that grows by words, numbers and bytes.
+//! The text of a trace while it is written: words, numbers and bytes are appended.
 
 ghost use Rattle.std.specs.Prelude.{◌≡◌, [], ◌∷◌, ◌++◌, OnOk, IfOk, replicate, decimal};
 ghost use Rattle.hex.specs.Hex.{encode_lower};
@@ -10,11 +10,11 @@ use std::alloc::{AllocError, Global};
 use std::fmt::Write;
 use std::marker::Model;
 
-/// A text, to whose end more is written. After want of memory a part of a piece may stand there.
+/// A text that grows at its end. After a call that was out of memory, part of what it writes may be there.
 #[derive(Drop)]
 pub struct Page {
     text: Vec<u8>,
-    /// The number that is written last.
+    /// The digits of the last number, kept so that a number needs no allocation of its own.
     number: String,
 }
 
@@ -27,7 +27,7 @@ impl Model for Page {
 }
 
 impl Page {
-    /// Begins a text, with room for so many bytes.
+    /// Returns an empty text with room for this many bytes.
     pub fn with_room(alloc: Global, room: usize) -> Result<Page, AllocError>
         ensures { IfOk result (λ page. page ≡ []) }
     {
@@ -97,7 +97,7 @@ impl Page {
         push_hex(&mut self.text, bytes)
     }
 
-    /// Gives the text, without memory.
+    /// Returns the text. It does not allocate.
     pub fn into_text(self) -> Vec<u8>
         ensures { result.items ≡ self }
     {
@@ -105,7 +105,7 @@ impl Page {
     }
 }
 
-/// Puts so many zeros at the end of a text.
+/// Appends this many zeros.
 fn push_zeros(text: &mut Vec<u8>, zeros: usize) -> Result<(), AllocError>
     ensures { OnOk result (text.new.items ≡ text.old.items ++ replicate zeros 48) }
 {

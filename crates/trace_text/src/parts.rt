@@ -1,4 +1,4 @@
-//! The parts of a trace, as its lines come.
+//! The journals of a trace while its lines are read.
 
 ghost use Rattle.std.specs.Prelude.{◌≡◌, [], map, IfOk, OnOk};
 ghost use Rattle.trace_text.specs.Read.{told};
@@ -10,7 +10,7 @@ use std::alloc::{AllocError, Global};
 use std::mem;
 use tier_base::{PartitionId, Roll, Row};
 
-/// The parts so far: those that are whole, and the last one, where there is one.
+/// The journals so far: the complete ones, and the one that the next line may extend.
 #[derive(Drop)]
 pub struct Parts {
     pub done: Row<PartJournal>,
@@ -19,7 +19,7 @@ pub struct Parts {
 }
 
 impl Parts {
-    /// Begins without a part.
+    /// Returns no journal.
     pub fn new(alloc: Global) -> Parts
         ensures snapshot { IsBegun result }
         ensures none { parts_of result ≡ [] }
@@ -31,7 +31,7 @@ impl Parts {
         }
     }
 
-    /// Begins the part of a line's partition.
+    /// Starts the journal of a line's partition.
     fn begin(&mut self, alloc: Global, line: Line) -> Result<(), AllocError>
         ensures { OnOk result (HasBegun self.old self.new line) }
     {
@@ -42,7 +42,7 @@ impl Parts {
         Ok(())
     }
 
-    /// Puts an entry behind the others, or answers that it can't stand there.
+    /// Appends an entry, or returns `false` if its partition is below the last one.
     pub fn put(&mut self, alloc: Global, line: Line) -> Result<bool, AllocError>
         requires { IsBegun self.old }
         ensures { Puts self.old self.new line result }
@@ -68,7 +68,7 @@ impl Parts {
         Ok(true)
     }
 
-    /// Gives the parts.
+    /// Returns the journals.
     pub fn finish(self) -> Result<Row<PartJournal>, AllocError>
         ensures { IfOk result (λ parts. map told parts ≡ parts_of self) }
     {

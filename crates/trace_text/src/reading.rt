@@ -1,7 +1,9 @@
-//! Reading a line of a trace, word by word. `specs/Reading.antt` says what a line is read as.
+//! Reading a line of a trace, word by word. `specs/Reading.antt` defines the valid lines.
 
 ghost use Rattle.std.specs.Prelude.{◌≡◌, IfOk};
-ghost use Rattle.trace_text.specs.Reading.{bare_in, counted_in, paired_in, one_in, bad_records_in, damaged_in, two_in, bad_crc_in, copied_in, span_in, three_in, plain_in, run_of, run_in, answer_in, begun_in, event_in, headed_in, words_in, line_in};
+ghost use Rattle.trace_text.specs.Reading.{bare_in, counted_in, paired_in, one_in, bad_records_in, damaged_in};
+ghost use Rattle.trace_text.specs.Reading.{two_in, bad_crc_in, copied_in, span_in, three_in, plain_in, run_of, run_in};
+ghost use Rattle.trace_text.specs.Reading.{answer_in, begun_in, event_in, headed_in, words_in, line_in};
 
 use crate::counts::{count, number};
 use crate::fields::{cause, id, place, run_bytes, state, stop, tier};
@@ -42,7 +44,7 @@ fn one(name: &[u8], word: &[u8]) -> Option<Answer>
     counted(name, n)
 }
 
-/// Reads the cause that the records are wrong.
+/// Reads the refusal of a batch whose records are invalid.
 #[tactic(auto, unfolding(crate::specs::Reading::bad_records_in))]
 fn bad_records(name: &[u8], at: &[u8]) -> Option<Answer>
     ensures { result ≡ bad_records_in name.now at.now }
@@ -56,7 +58,7 @@ fn bad_records(name: &[u8], at: &[u8]) -> Option<Answer>
     Some(Answer::Refused(BatchRefusal::BadRecords { at: at as u32 }))
 }
 
-/// Reads the place of a damage.
+/// Reads an answer that reports damage.
 #[tactic(auto, unfolding(crate::specs::Reading::damaged_in))]
 fn damaged(word: &[u8], at: &[u8]) -> Option<Answer>
     ensures { result ≡ damaged_in word.now at.now }
@@ -90,7 +92,7 @@ fn two(name: &[u8], first: &[u8], second: &[u8]) -> Option<Answer>
     paired(name, a, b)
 }
 
-/// Reads the cause that the checksum is wrong.
+/// Reads the refusal of a batch whose checksum is wrong.
 #[tactic(auto, unfolding(crate::specs::Reading::bad_crc_in))]
 fn bad_crc(name: &[u8], kept: &[u8], computed: &[u8]) -> Option<Answer>
     ensures { result ≡ bad_crc_in name.now kept.now computed.now }
@@ -255,7 +257,7 @@ fn answer(alloc: Global, words: Words) -> Result<Option<Answer>, AllocError>
     Ok(plain(name, words))
 }
 
-/// Reads what stands behind `begin`.
+/// Reads the words after `begin`.
 fn snapshot(words: Words) -> Option<Event>
     ensures { result ≡ begun_in words.entry }
 {

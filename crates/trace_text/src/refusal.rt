@@ -1,4 +1,4 @@
-//! Why a trace is refused.
+//! Why a text is not a trace.
 
 ghost use Rattle.std.specs.Prelude.{◌≡◌};
 ghost use Rattle.trace_text.specs.declared.refusal.TraceRefusal.{TraceRefusal};
@@ -6,14 +6,14 @@ ghost use Rattle.trace_text.specs.declared.refusal.TraceRefusal.{TraceRefusal};
 use std::alloc::AllocError;
 use thiserror::Error;
 
-/// Why bytes are no trace. Of several bad lines the first is told.
+/// Why bytes are not a trace. Of several invalid lines the first is reported.
 #[derive(Clone, Copy, Debug, PartialEq, Eq, Error)]
 pub enum TraceRefusal {
-    /// The line of this number, from 1 on, is that of no entry, or of one that can't stand there: its
-    /// partition is below the one before. Of lines past 4,294,967,295 that number is told.
+    /// The line with this number, counted from 1, is invalid, or its partition is below that of the line
+    /// before. The number stays at 4,294,967,295 for all later lines.
     #[error("line {line} is no line of a trace")]
     Bad { line: u32 },
-    /// There is no memory for what the trace says.
+    /// Out of memory.
     #[error("no memory")]
     NoMemory,
 }

@@ -1,4 +1,4 @@
-//! The names of answers, read. An answer is told by its name and by how many fields follow.
+//! Reading the names of answers. The name and the number of fields after it determine the answer.
 
 ghost use Rattle.std.specs.Prelude.{◌≡◌, drop};
 ghost use Rattle.trace_text.specs.Fields.{named};
@@ -37,7 +37,7 @@ pub fn bare(name: &[u8]) -> Option<Answer>
     bare_of_brokers(name)
 }
 
-/// Goes on with those to elections, joins and followers.
+/// Continues with the answers to elections, joins and followers.
 fn bare_of_brokers(name: &[u8]) -> Option<Answer>
     ensures { result ≡ named name_of name.now (drop 7 bare_answers) }
 {
@@ -65,7 +65,7 @@ fn bare_of_brokers(name: &[u8]) -> Option<Answer>
     bare_of_tier(name)
 }
 
-/// Goes on with those of devices, and of a partition's remote tier.
+/// Continues with the answers that report devices and the remote tier.
 fn bare_of_tier(name: &[u8]) -> Option<Answer>
     ensures { result ≡ named name_of name.now (drop 14 bare_answers) }
 {
@@ -90,7 +90,7 @@ fn bare_of_tier(name: &[u8]) -> Option<Answer>
     bare_of_reads(name)
 }
 
-/// Goes on with those to trims, brokers that come up, and reads.
+/// Continues with the answers to trims, starts of brokers, and reads.
 fn bare_of_reads(name: &[u8]) -> Option<Answer>
     ensures { result ≡ named name_of name.now (drop 20 bare_answers) }
 {
@@ -141,7 +141,7 @@ pub fn counted(name: &[u8], n: u64) -> Option<Answer>
     counted_of_followers(name, n)
 }
 
-/// Goes on with those of followers.
+/// Continues with the answers to followers.
 fn counted_of_followers(name: &[u8], n: u64) -> Option<Answer>
     ensures { result ≡ named name_of name.now (drop 6 (counted_answers n)) }
 {
@@ -163,7 +163,7 @@ fn counted_of_followers(name: &[u8], n: u64) -> Option<Answer>
     counted_of_tier(name, n)
 }
 
-/// Goes on with those of the remote tier, of starts and of reads.
+/// Continues with the answers of the remote tier, of starts and of reads.
 fn counted_of_tier(name: &[u8], n: u64) -> Option<Answer>
     ensures { result ≡ named name_of name.now (drop 11 (counted_answers n)) }
 {

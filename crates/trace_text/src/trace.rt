@@ -1,4 +1,4 @@
-//! The text of a partition's journal.
+//! Writing a partition's journal as text.
 
 ghost use Rattle.std.specs.Prelude.{◌≡◌, ◌++◌, OnOk, IfOk};
 ghost use Rattle.trace_text.specs.Trace.{entry_line, journal_text};
@@ -26,8 +26,8 @@ fn write_entry(
     page.word("\n")
 }
 
-/// Writes the lines of a partition's journal. A run without bytes has no spelling of its own: its
-/// line ends with the space before them, and no reader takes it.
+/// Returns the text of a partition's journal, a line for each entry. Fails only if it is out of memory. An empty run
+/// has no valid spelling: its line ends with a space, and `read` refuses it.
 pub fn print(
     alloc: Global,
     partition: PartitionId,

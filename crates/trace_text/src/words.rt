@@ -1,4 +1,4 @@
-//! The words of a line, which one space parts.
+//! The words of a line, separated by single spaces.
 
 ghost use Rattle.std.specs.Prelude.{◌≡◌, ◌≤◌, ◌==◌, ℕ, length, bytes_eq};
 ghost use Rattle.std.specs.List.{slice_split};
@@ -22,7 +22,7 @@ impl<'a> Model for Words<'a> {
 }
 
 impl<'a> Words<'a> {
-    /// Begins with all words.
+    /// Returns all words of a line.
     pub fn of(line: &'a [u8]) -> Words<'a>
         ensures { result ≡ slice_split (λ b. b == 32) line.now }
     {
@@ -41,7 +41,7 @@ impl<'a> Words<'a> {
         Some(word)
     }
 
-    /// Answers whether no word is left.
+    /// Returns whether no word is left.
     pub fn is_done(&self) -> bool
         ensures { result ≡ is_done self.now }
     {
@@ -52,14 +52,14 @@ impl<'a> Words<'a> {
     }
 }
 
-/// Answers whether a word is this one.
+/// Returns whether a word is this one.
 pub fn is(word: &[u8], text: &str) -> bool
     ensures { result ≡ bytes_eq word.now text.now }
 {
     word == text.as_bytes()
 }
 
-/// Counts the bytes before the first of this kind.
+/// Returns the number of bytes before the first byte `end`, or of all bytes if there is none.
 pub fn front_len(text: &[u8], end: u8) -> usize
     ensures value { result ≡ front_len (λ b. b == end) text.now }
     ensures within { result ≤ length text.now }
@@ -72,7 +72,7 @@ pub fn front_len(text: &[u8], end: u8) -> usize
     text.len()
 }
 
-/// Gives what stands behind the space that a text begins with, where it isn't at its end.
+/// Returns what follows the first byte, a space, or `None` at the end of the line.
 fn behind(text: &[u8]) -> Option<&[u8]>
     ensures { words_left result ≡ words_behind text.now }
 {
