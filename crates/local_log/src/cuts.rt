@@ -18,7 +18,8 @@ ghost use Rattle.local_log.specs.Log.{Becomes};
 ghost use Rattle.local_log.specs.Cutting.{closed_by, open_by, cut_point, shortened, settled, cut, restarted, cut_at, IsLeftUpTo, all_of, opened_to, Cutting, OpensEither, Breaks, OpensAs, OpensAsOr, LeavesBeforeOrNow};
 
 use crate::log::{LocalLog, refused};
-use crate::trimming::{cut_point, cut_segments, listing_to, open_front, trim};
+use crate::seeking::end_by;
+use crate::trimming::{cut_segments, listing_to, open_front, trim};
 use disk_model::{Disk, FileName};
 use log_steps::publish;
 use std::alloc::AllocError;
@@ -132,7 +133,7 @@ impl<D: Disk> LocalLog<D> {
         ensures once { IsErrOf result fault.Failed
             → (D.control self.new.disk).faults ≡ counted (D.control self.old.disk).faults 1 }
     {
-        let point = cut_point(&self.closed, &self.active, end);
+        let point = end_by(self.local_start, &self.closed, &self.active, end);
         self.cut_within(point)
     }
 
@@ -184,7 +185,7 @@ impl<D: Disk> LocalLog<D> {
         ensures once { IsErrOf result fault.Failed
             → (D.control self.new.disk).faults ≡ counted (D.control self.old.disk).faults 1 }
     {
-        let last = open_front(&self.closed, &self.active, end);
+        let last = open_front(self.local_start, &self.closed, &self.active, end);
         match publish(&mut self.disk, FileName::Log(last.base), bytes) {
             Ok(()) => {
                 self.flushed_end = end;
@@ -212,9 +213,15 @@ impl<D: Disk> LocalLog<D> {
         ensures quiet { OnOk result ((D.control self.new.disk).faults ≡ (D.control self.old.disk).faults) }
         ensures once { OnErr result ((D.control self.new.disk).faults ≡ counted (D.control self.old.disk).faults 1) }
     {
-        match trim(&mut self.disk, &self.closed, &self.active, end) {
+        match trim(
+            &mut self.disk,
+            self.local_start,
+            &self.closed,
+            &self.active,
+            end,
+        ) {
             Ok(()) => {
-                cut_segments(&mut self.closed, &mut self.active, end);
+                cut_segments(self.local_start, &mut self.closed, &mut self.active, end);
                 self.line.cut_end(end);
                 Ok(())
             }

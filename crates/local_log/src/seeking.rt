@@ -48,7 +48,7 @@ pub(crate) fn count_ended(local_start: u64, closed: &[Growing], active: &Growing
 }
 
 /// Where the last batch of segments ends that ends at or below an offset.
-fn end_by(local_start: u64, closed: &[Growing], active: &Growing, offset: u64) -> u64
+pub(crate) fn end_by(local_start: u64, closed: &[Growing], active: &Growing, offset: u64) -> u64
     requires { AreSegmentsOf local_start closed.now active.now }
     ensures { result ≡ cut_point offset closed.now active.now }
 {

@@ -11,29 +11,16 @@ ghost use Rattle.log_steps.specs.Fronts.{Each};
 ghost use Rattle.log_steps.specs.Runs.{Runs};
 ghost use Rattle.local_log.specs.Stored.{extent_of, size_of, end_of};
 ghost use Rattle.local_log.specs.Listing.{AreSegmentsOf, IsLaidOut, front_to, manifest_of};
-ghost use Rattle.local_log.specs.Cutting.{closed_by, open_by, behind, cut_point, names_of, RemovesAll, Trims};
+ghost use Rattle.local_log.specs.Cutting.{closed_by, open_by, behind, names_of, RemovesAll, Trims};
 
 use crate::listing::extent_of;
+use crate::seeking::count_ended;
 use disk_model::{Disk, FileName};
 use epoch_line::Line;
 use log_manifest::{Extent, Manifest, SegmentList, encode};
 use segment_file::Growing;
 use std::alloc::{AllocError, Global};
 use tier_base::{Failed, Row};
-
-/// How many segments end at or below an offset, of those in front.
-fn count_closed(closed: &[Growing], end: u64) -> usize
-    ensures { result ≡ length (closed_by end closed.now) }
-{
-    let mut kept = 0;
-    for segment in closed {
-        if segment.end() > end {
-            return kept;
-        }
-        kept += 1;
-    }
-    kept
-}
 
 /// What stands of a segment up to an offset.
 fn front_of(segment: &Growing, end: u64) -> Extent
@@ -46,26 +33,15 @@ fn front_of(segment: &Growing, end: u64) -> Extent
 }
 
 /// What stands then of the segment that is the open one after a cut.
-pub(crate) fn open_front(closed: &[Growing], active: &Growing, end: u64) -> Extent
+pub(crate) fn open_front(local_start: u64, closed: &[Growing], active: &Growing, end: u64) -> Extent
+    requires { AreSegmentsOf local_start closed.now active.now }
     ensures { result ≡ extent_of (front_to end (open_by end closed.now active.now)) }
 {
-    let kept = count_closed(closed, end);
+    let kept = count_ended(local_start, closed, active, end);
     if kept < closed.len() {
         front_of(&closed[kept], end)
     } else {
         front_of(active, end)
-    }
-}
-
-/// Where the log ends that is cut to an offset.
-pub(crate) fn cut_point(closed: &[Growing], active: &Growing, end: u64) -> u64
-    ensures { result ≡ cut_point end closed.now active.now }
-{
-    let kept = count_closed(closed, end);
-    if kept < closed.len() {
-        closed[kept].place_of(end).0
-    } else {
-        active.place_of(end).0
     }
 }
 
@@ -84,17 +60,18 @@ fn extents_of(alloc: Global, segments: &[Growing]) -> Result<SegmentList, AllocE
 /// The extents of the log that is cut to an offset.
 fn extents_to(
     alloc: Global,
+    local_start: u64,
     closed: &[Growing],
     active: &Growing,
     end: u64,
 ) -> Result<SegmentList, AllocError>
-    requires { Each IsLaidOut closed.now }
+    requires { AreSegmentsOf local_start closed.now active.now }
     ensures { IfOk result (λ list. list
         ≡ map extent_of (closed_by end closed.now ++ front_to end (open_by end closed.now active.now) ∷ [])) }
 {
-    let (front, _) = closed.split_at(count_closed(closed, end));
+    let (front, _) = closed.split_at(count_ended(local_start, closed, active, end));
     let mut list = extents_of(alloc, front)?;
-    list.push(open_front(closed, active, end))?;
+    list.push(open_front(local_start, closed, active, end))?;
     Ok(list)
 }
 
@@ -109,7 +86,7 @@ pub(crate) fn listing_to(
     line: &Line,
 ) -> Result<Vec<u8>, AllocError>
     requires opened { 1 ≤ incarnation }
-    requires laid { Each IsLaidOut closed.now }
+    requires whole { AreSegmentsOf local_start closed.now active.now }
     requires segments { AreSegmentsOf local_start (closed_by end closed.now)
         (front_to end (open_by end closed.now active.now)) }
     requires line { IsLine line.now }
@@ -120,7 +97,7 @@ pub(crate) fn listing_to(
     let manifest = Manifest {
         incarnation,
         local_start,
-        segments: extents_to(alloc, closed, active, end)?,
+        segments: extents_to(alloc, local_start, closed, active, end)?,
         line: line.copy(alloc)?,
     };
     encode(alloc, &manifest)
@@ -160,17 +137,19 @@ pub(crate) fn remove_segments<D: Disk>(
 /// Removes the files of the segments behind a cut.
 fn remove_behind<D: Disk>(
     disk: &mut D,
+    local_start: u64,
     closed: &[Growing],
     active: &Growing,
     end: u64,
 ) -> Result<(), Failed>
-    requires { length closed.now ≤ D.spare disk.old }
+    requires segments { AreSegmentsOf local_start closed.now active.now }
+    requires room { length closed.now ≤ D.spare disk.old }
     ensures content { RemovesAll (names_of (behind end closed.now active.now)) (failing result) (D.content disk.old)
         (D.content disk.new) }
     ensures control { Runs (failing result) (D.control disk.old) (D.control disk.new) }
     ensures room { OnOk result (D.spare disk.old ≤ D.spare disk.new + length closed.now) }
 {
-    let kept = count_closed(closed, end);
+    let kept = count_ended(local_start, closed, active, end);
     if kept >= closed.len() {
         return Ok(());
     }
@@ -181,10 +160,12 @@ fn remove_behind<D: Disk>(
 /// Removes the files of the segments behind a cut, and cuts the file of the last one.
 pub(crate) fn trim<D: Disk>(
     disk: &mut D,
+    local_start: u64,
     closed: &[Growing],
     active: &Growing,
     end: u64,
 ) -> Result<(), Failed>
+    requires segments { AreSegmentsOf local_start closed.now active.now }
     requires room { length closed.now + 1 ≤ D.spare disk.old }
     requires apart { In (file.Log (open_by end closed.now active.now).base)
         (names_of (behind end closed.now active.now)) → ⊥ }
@@ -193,17 +174,18 @@ pub(crate) fn trim<D: Disk>(
         (D.content disk.new) }
     ensures control { Runs (failing result) (D.control disk.old) (D.control disk.new) }
 {
-    let last = open_front(closed, active, end);
-    remove_behind(disk, closed, active, end)?;
+    let last = open_front(local_start, closed, active, end);
+    remove_behind(disk, local_start, closed, active, end)?;
     disk.cut(FileName::Log(last.base), last.len as u64)
 }
 
 /// Opens the last segment that isn't behind a cut.
-fn reopen(closed: &mut Vec<Growing>, active: &mut Growing, end: u64)
+fn reopen(local_start: u64, closed: &mut Vec<Growing>, active: &mut Growing, end: u64)
+    requires { AreSegmentsOf local_start closed.old.items active.old }
     ensures closed { closed.new.items ≡ closed_by end closed.old.items }
     ensures active { active.new ≡ open_by end closed.old.items active.old }
 {
-    let kept = count_closed(closed, end);
+    let kept = count_ended(local_start, closed, active, end);
     if kept < closed.len() {
         closed.truncate(kept + 1);
         if let Some(last) = closed.pop() {
@@ -213,10 +195,16 @@ fn reopen(closed: &mut Vec<Growing>, active: &mut Growing, end: u64)
 }
 
 /// Cuts segments to an offset. It takes no memory.
-pub(crate) fn cut_segments(closed: &mut Vec<Growing>, active: &mut Growing, end: u64)
+pub(crate) fn cut_segments(
+    local_start: u64,
+    closed: &mut Vec<Growing>,
+    active: &mut Growing,
+    end: u64,
+)
+    requires { AreSegmentsOf local_start closed.old.items active.old }
     ensures closed { closed.new.items ≡ closed_by end closed.old.items }
     ensures active { active.new ≡ front_to end (open_by end closed.old.items active.old) }
 {
-    reopen(closed, active, end);
+    reopen(local_start, closed, active, end);
     active.cut_to(end);
 }

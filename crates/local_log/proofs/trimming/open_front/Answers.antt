@@ -10,12 +10,12 @@ pub returns-then-kept-closed : goal.returns-then-kept-closed
 returns-then-kept-closed c =
     let closed = c.args.closed.now in
     let x = c.index-closed-kept.result in
-    let k = c.count_closed-kept.ensures in
+    let k = c.count_ended-kept.ensures in
     let lt : length (closed_by c.args.end closed) < length closed = omega (arith, k, c.if-kept-closed.true) in
     let is : x ≡ get_or closed (length (closed_by c.args.end closed)) x = subst (λ (i : ℕ). x ≡ get_or closed i x) k c.index-closed-kept.is in
     c.front_of.ensures ∙ ap (λ (g : Grown). extent_of (front_to c.args.end g)) (sym (open_at c.args.end closed c.args.active.now x lt is))
 
 pub returns-else-kept-closed : goal.returns-else-kept-closed
 returns-else-kept-closed c =
-    let all = all_closed c.args.end c.args.closed.now c.args.active.now (omega (arith, c.count_closed-kept.ensures, c.if-kept-closed.false)) in
+    let all = all_closed c.args.end c.args.closed.now c.args.active.now (omega (arith, c.count_ended-kept.ensures, c.if-kept-closed.false)) in
     c.front_of-else-kept-closed.ensures ∙ ap (λ (g : Grown). extent_of (front_to c.args.end g)) (sym all.1)

@@ -9,7 +9,7 @@ use Rattle.local_log.proofs.trimming.remove_behind.Goals as goal
 pub returns-then-kept-closed-clause-content : goal.returns-then-kept-closed-clause-content
 returns-then-kept-closed-clause-content g c =
     let d = g.D.Disk.content c.args.disk.now in
-    let all = all_closed c.args.end c.args.closed.now c.args.active.now (omega (arith, c.count_closed-kept.ensures, c.if-kept-closed.true)) in
+    let all = all_closed c.args.end c.args.closed.now c.args.active.now (omega (arith, c.count_ended-kept.ensures, c.if-kept-closed.true)) in
     subst (λ (l : List Grown). RemovesAll (names_of l) Went d d) (sym all.2) (removes_none d)
 
 pub returns-clause-content : goal.returns-clause-content
@@ -18,7 +18,7 @@ returns-clause-content g c =
     let active = c.args.active.now in
     let d = g.D.Disk.content c.args.disk.now in
     let d' = g.D.Disk.content c.remove_segments.new.disk in
-    let k = c.count_closed-kept.ensures in
+    let k = c.count_ended-kept.ensures in
     let lt : length (closed_by c.args.end closed) < length closed = omega (arith, k, c.if-kept-closed.false) in
     let is = c.split_at.ensures.back ∙ ap (λ (i : ℕ). drop (i + 1) closed) k in
     let names = ap (λ (l : List Grown). l ++ active ∷ []) is ∙ sym (some_behind c.args.end closed active lt).1 in
