@@ -1,26 +1,22 @@
 -- The disk of a log after an append to its open segment, done or not.
-use Rattle.std.proofs.Common.{◌≡◌, ◌≢◌, ◌^◌, ◌∙◌, ap, sym, subst, refl, inl, inr, ℕ, ◌+◌, ◌-◌, ◌≤◌, ◌<◌, Bool, true, false, cond, List, [], ◌∷◌, ◌++◌, length, take, drop, map, Option, Some, None, IsOk, IsTrue, arith, append_assoc, length-append, lt-ltb, le-ltb}
-use Rattle.std.specs.Prelude.{nat_lt, unwrap_or}
+use Rattle.std.proofs.Common.{◌≡◌, ◌≢◌, ◌^◌, ◌∙◌, ap, sym, subst, refl, inl, inr, ℕ, ◌+◌, ◌≤◌, Bool, true, cond, List, [], ◌∷◌, ◌++◌, length, map, Some, IsOk, IsTrue, arith, append_assoc, lt-ltb, le-ltb}
 use Rattle.std.proofs.lemmas.List.{take_all, append-nil}
 use Rattle.std.proofs.lemmas.Bool.{cases_lt}
-use Rattle.tier_base.specs.declared.plain.FileName.{FileName}
 use Rattle.tier_base.specs.declared.plain.FileName.TheVariants as file
-use Rattle.tier_base.specs.Told.{OnlyAt, bytes_in}
-use Rattle.disk_model.specs.Content.{Content, Lawful, Files, Image, Changes, LeavesOnly, appended, Grown as MayGrow}
+use Rattle.tier_base.specs.Told.{bytes_in}
+use Rattle.disk_model.specs.Content.{Content, Lawful, Changes, LeavesOnly, appended, Grown as MayGrow}
 use Rattle.log_terms.specs.Batch.{base_of, last_of, epoch_of}
 use Rattle.log_terms.specs.Log.{joined, IsConsecutive, end_from, up_to}
 use Rattle.log_terms.specs.Line.{epoch_at}
 use Rattle.log_terms.proofs.Logs.{end_above}
 use Rattle.record_batch.specs.Check.{checked}
-use Rattle.epoch_line.specs.Line.{IsLine, last_epoch, cut_end}
-use Rattle.log_manifest.specs.declared.manifest.Extent.{Extent}
+use Rattle.epoch_line.specs.Line.{IsLine, cut_end}
 use Rattle.log_manifest.specs.Spelling.{manifest_bytes}
 use Rattle.segment_file.specs.declared.placed.Placed.{Placed}
 use Rattle.segment_file.specs.Index.{placed_from}
 use Rattle.segment_file.specs.Growing.{Grown, size_after}
 use Rattle.segment_file.proofs.Laying.{end_append}
-use Rattle.segment_file.specs.Segment.{EpochsRise}
-use Rattle.log_steps.specs.Fronts.{Each, Agrees, log_at, front}
+use Rattle.log_steps.specs.Fronts.{Each}
 use Rattle.log_steps.specs.Opens.{IsPlaced, IsRead}
 use Rattle.log_steps.specs.Reopens.{Reopens}
 use Rattle.log_steps.specs.Stands.{Stands}
@@ -30,7 +26,7 @@ use Rattle.log_steps.proofs.Restored.{manifest_other, log_differs}
 use Rattle.log_steps.proofs.Published.{undone_files}
 use Rattle.log_steps.proofs.Standing.{append_stands, append_since, files_grown, grown_kept}
 use Rattle.log_steps.proofs.Reading.{read_moved, segments_whole, stands_reopens}
-use Rattle.local_log.specs.Stored.{bytes_of, pieces, batches_of, all_batches, size_of, end_of, extent_of, AreChained, chain_end, IsStored}
+use Rattle.local_log.specs.Stored.{bytes_of, pieces, batches_of, all_batches, size_of, end_of, extent_of, IsStored}
 use Rattle.local_log.specs.Listing.{IsLaidOut, AreSegmentsOf}
 use Rattle.local_log.specs.Inside.{HasLog}
 use Rattle.local_log.specs.Run.{lined}

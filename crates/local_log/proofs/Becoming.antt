@@ -1,8 +1,6 @@
 -- A log by its fields.
-use Rattle.std.proofs.Common.{◌≡◌, ℕ, Bool, List, refl, IsTrue}
-use Rattle.tier_base.specs.declared.plain.Settings.{Settings}
+use Rattle.std.proofs.Common.{◌≡◌, refl, IsTrue}
 use Rattle.disk_model.specs.Content.{Content}
-use Rattle.segment_file.specs.Growing.{Grown}
 use Rattle.local_log.specs.Log.{Log, Becomes}
 
 module _ {D : Type 0} where

@@ -1,19 +1,17 @@
 -- An open log's batches follow one another up to its end, and a cut ends with one of them.
-use Rattle.std.proofs.Common.{◌≡◌, ◌∙◌, ap, sym, subst, refl, ℕ, ◌+◌, ◌≤◌, ◌<◌, Bool, true, false, List, [], ◌∷◌, ◌++◌, map, inl, inr, IsTrue, lt-ltb, le-ltb, le-leb}
-use Rattle.std.specs.Prelude.{nat_lt, nat_le}
+use Rattle.std.proofs.Common.{◌≡◌, ◌∙◌, ap, sym, subst, refl, ℕ, false, List, [], ◌∷◌, ◌++◌, map, inl, inr, IsTrue, lt-ltb, le-ltb, le-leb}
 use Rattle.std.proofs.lemmas.Bool.{cases_lt, lt-leb}
 use Rattle.disk_model.specs.Content.{Content, Files}
-use Rattle.log_terms.specs.Log.{IsConsecutive, end_from, up_to}
+use Rattle.log_terms.specs.Log.{end_from, up_to}
 use Rattle.segment_file.specs.Growing.{Grown}
 use Rattle.log_steps.specs.Fronts.{Each}
 use Rattle.local_log.specs.declared.log.LocalLog.TheInside.{Inside}
 use mathlib.Core.List.{IsPrefix}
 use Rattle.log_terms.proofs.Logs.{up_to_is}
 use Rattle.local_log.specs.Stored.{all_batches, end_of, extent_of, AreChained, IsStored}
-use Rattle.local_log.specs.Log.{Log}
 use Rattle.local_log.specs.Inside.{log_in, IsSound}
 use Rattle.local_log.specs.Reading.{begin_of}
-use Rattle.local_log.specs.Cutting.{open_by, cut_point}
+use Rattle.local_log.specs.Cutting.{open_by}
 use Rattle.local_log.specs.Coheres.{Coheres, Hold}
 use Rattle.local_log.proofs.Pieces.{all_end, chain_snoc, consecutive_segments, stored_batches, stored_end, stored_segments}
 use Rattle.local_log.proofs.Lines.{cut_within}

@@ -1,27 +1,25 @@
 -- A log that is made over a disk without files.
-use Rattle.std.proofs.Common.{◌≡◌, ◌≢◌, ◌⊎◌, ℕ, ◌+◌, ◌^◌, ◌≤◌, ◌<◌, Bool, List, [], ◌∷◌, ◌++◌, length, take, map, Option, Some, None, Ok, refl, sym, ◌∙◌, ap, subst, inl, inr, ⊎_elim, arith, IsTrue}
+use Rattle.std.proofs.Common.{◌≡◌, ◌⊎◌, ℕ, Bool, List, [], length, take, Option, Some, None, Ok, refl, sym, ◌∙◌, ap, subst, inl, inr, ⊎_elim, arith, IsTrue}
 use Rattle.tier_base.specs.declared.plain.FileName.{FileName}
 use Rattle.tier_base.specs.declared.plain.FileName.TheVariants as file
 use Rattle.disk_model.proofs.Names.{cases_name}
 use Rattle.tier_base.specs.Told.{replaced, bytes_in}
 use Rattle.disk_model.specs.Content.{Content, Lawful, Files, Image, Changes, LeavesOnly, Swapped}
-use Rattle.log_manifest.specs.declared.manifest.Extent.{Extent}
 use Rattle.log_manifest.specs.declared.manifest.Manifest.{Manifest}
 use Rattle.log_manifest.specs.Reading.{manifest_in}
 use Rattle.log_manifest.specs.Spelling.{manifest_bytes}
 use Rattle.log_manifest.specs.Rules.{IsManifest}
 use Rattle.log_manifest.proofs.Again.{manifest_again}
 use Rattle.segment_file.specs.Growing.{Grown}
-use Rattle.log_steps.specs.Fronts.{Each, Agrees, log_at}
-use Rattle.log_steps.specs.Opens.{Opened, IsRead, Opens}
-use Rattle.log_steps.specs.Reopens.{Says, Reopens}
+use Rattle.log_steps.specs.Fronts.{Each, Agrees}
+use Rattle.log_steps.specs.Opens.{IsRead, Opens}
+use Rattle.log_steps.specs.Reopens.{Reopens}
 use Rattle.log_steps.specs.Publishes.{IsLike}
 use Rattle.log_steps.proofs.Lists.{each_map}
 use Rattle.log_steps.proofs.Moments.{started, goes_on}
 use Rattle.log_steps.proofs.Rewritten.{log_no_manifest}
 use Rattle.log_steps.proofs.Standing.{agrees_then, agrees_read, same_kept}
 use Rattle.log_steps.proofs.Reading.{opens_by, opens_like, says_is}
-use Rattle.local_log.specs.Stored.{bytes_of, IsStored}
 use Rattle.local_log.specs.Log.{first_log, Creating}
 use Rattle.local_log.specs.Listing.{AreSegmentsOf, manifest_of}
 use Rattle.local_log.specs.Inside.{HasLog}

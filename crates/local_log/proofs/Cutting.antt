@@ -1,10 +1,7 @@
 -- A cut back to where a segment ended before.
-use Rattle.std.proofs.Common.{◌≡◌, ◌∙◌, ap, sym, subst, refl, ℕ, ◌+◌, ◌≤◌, ◌<◌, Bool, true, false, cond, List, [], ◌∷◌, ◌++◌, arith, lt-ltb, le-ltb}
-use Rattle.std.proofs.lemmas.List.{append-nil}
-use Rattle.std.specs.Prelude.{nat_lt}
+use Rattle.std.proofs.Common.{◌≡◌, ◌∙◌, ap, refl, ℕ, ◌+◌, ◌≤◌, List, [], ◌∷◌, ◌++◌, arith, lt-ltb, le-ltb}
 use Rattle.segment_file.specs.declared.placed.Placed.{Placed}
 use Rattle.segment_file.specs.Growing.{Grown, end_after, ending_by, AreLaid}
-use Rattle.segment_file.proofs.Laying.{end_up}
 use Rattle.local_log.specs.Stored.{end_of}
 use Rattle.local_log.specs.Taking.{HasFront}
 

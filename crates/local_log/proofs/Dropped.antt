@@ -1,6 +1,5 @@
 -- A log whose first closed segment is dropped.
-use Rattle.std.proofs.Common.{◌≡◌, ◌≢◌, ◌⊎◌, ℕ, ◌+◌, ◌^◌, ◌≤◌, ◌<◌, nat_lt, true, List, [], ◌∷◌, ◌++◌, length, map, drop, get_or, Option, None, Ok, refl, sym, ◌∙◌, ap, subst, inl, inr, ⊎_elim, arith, lt-ltb, le-ltb, IsTrue}
-use Rattle.std.proofs.lemmas.Bool.{cases_lt, lt-leb}
+use Rattle.std.proofs.Common.{◌≡◌, ◌≢◌, ◌⊎◌, ℕ, ◌+◌, ◌^◌, ◌≤◌, ◌<◌, nat_lt, List, [], ◌∷◌, ◌++◌, length, map, drop, get_or, Option, None, Ok, refl, sym, ◌∙◌, ap, subst, inr, ⊎_elim, arith, IsTrue}
 use Rattle.std.proofs.lemmas.List.{map-append}
 use Rattle.tier_base.specs.declared.plain.FileName.TheVariants as file
 use Rattle.tier_base.specs.Device.{Fate, Went, Dry}

@@ -1,21 +1,20 @@
 -- Where the batches of a log begin and end, as memory and the disk's files have them.
-use Rattle.std.proofs.Common.{◌≡◌, ◌≢◌, ◌⊎◌, ℕ, ◌+◌, ◌≤◌, ◌<◌, ◌==◌, min, nat_lt, Bool, true, false, List, [], ◌∷◌, ◌++◌, length, Option, Some, None, refl, sym, ◌∙◌, ap, subst, inl, inr, arith, append_assoc, eq-eqb}
+use Rattle.std.proofs.Common.{◌≡◌, ◌⊎◌, ℕ, ◌+◌, ◌≤◌, ◌<◌, min, nat_lt, Bool, true, false, List, [], ◌∷◌, ◌++◌, refl, sym, ◌∙◌, ap, subst, inl, inr, arith}
 use Rattle.std.specs.Prelude.{◌&&◌, unwrap_or}
 use Rattle.std.proofs.lemmas.Bool.{cases_lt, ltb-true, ltb-false, eqb-true}
 use Rattle.std.proofs.lemmas.List.{append-nil}
 use mathlib.Core.List.{IsPrefix}
 use Rattle.disk_model.specs.Content.{Files}
-use Rattle.log_terms.specs.Batch.{base_of, last_of}
+use Rattle.log_terms.specs.Batch.{last_of}
 use Rattle.log_terms.specs.Log.{IsConsecutive, end_from, up_to, from_offset}
 use Rattle.log_terms.proofs.Logs.{lt_true, lt_false, end_append, end_above, up_to_prefix}
 use Rattle.log_terms.proofs.Lists.{prefix_self}
 use Rattle.segment_file.specs.declared.placed.Placed.{Placed}
 use Rattle.segment_file.specs.Growing.{Grown, end_after, ending_by, AreLaid}
-use Rattle.segment_file.specs.Index.{placed_from}
 use Rattle.segment_file.proofs.Laying.{end_up}
 use Rattle.segment_file.proofs.Placing.{placed_up_to}
 use Rattle.log_steps.specs.Fronts.{Each}
-use Rattle.local_log.specs.Stored.{bytes_of, batches_of, all_batches, end_of, AreChained, IsStored}
+use Rattle.local_log.specs.Stored.{batches_of, all_batches, end_of, AreChained, IsStored}
 use Rattle.local_log.specs.Listing.{IsLaidOut}
 use Rattle.local_log.specs.Reading.{first_past, begin_of, is_edge, piece_end}
 use Rattle.local_log.proofs.Pieces.{stored_batches, stored_end, end_placed}

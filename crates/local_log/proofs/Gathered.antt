@@ -1,15 +1,15 @@
 -- A run goes into a segment, batch by batch.
-use Rattle.std.proofs.Common.{◌≡◌, ◌≢◌, ◌⊎◌, ◌^◌, ◌∙◌, ap, sym, subst, refl, inl, inr, ℕ, ◌+◌, ◌-◌, ◌≤◌, ◌<◌, Bool, true, false, cond, List, [], ◌∷◌, ◌++◌, length, take, drop, Option, Some, None, Result, Ok, IsOk, arith, append_assoc, length-append, lt-ltb, le-ltb}
+use Rattle.std.proofs.Common.{◌≡◌, ◌^◌, ◌∙◌, ap, sym, subst, refl, inl, inr, ℕ, ◌+◌, ◌-◌, ◌≤◌, ◌<◌, Bool, true, false, cond, List, [], ◌∷◌, ◌++◌, length, drop, Option, Some, None, Ok, IsOk, arith, append_assoc, length-append, lt-ltb}
 use Rattle.std.specs.Prelude.{nat_lt, nat_le, ◌&&◌, ◌||◌, unwrap_or}
-use Rattle.std.proofs.lemmas.Bool.{cases_Bool, ltb-false, false_from_ne_true, cases_lt, le-leb}
+use Rattle.std.proofs.lemmas.Bool.{ltb-false, cases_lt, le-leb}
 use Rattle.std.proofs.lemmas.Bool.Decides.{nat_tests}
 use Rattle.std.proofs.lemmas.List.{append-nil}
-use Rattle.log_terms.specs.Batch.{base_of, last_of, epoch_of, last_offset_delta_of}
+use Rattle.log_terms.specs.Batch.{base_of, last_of, epoch_of}
 use Rattle.log_terms.specs.Log.{joined, IsConsecutive, end_from}
 use Rattle.record_batch.specs.declared.head.Head.{Head}
 use Rattle.record_batch.specs.Check.{checked, headed}
 use Rattle.record_batch.specs.Head.{head_of}
-use Rattle.epoch_line.specs.Line.{last_entry, last_epoch, assign, cut_end}
+use Rattle.epoch_line.specs.Line.{last_epoch, assign, cut_end}
 use Rattle.segment_file.specs.declared.placed.Placed.{Placed}
 use Rattle.segment_file.specs.Gathering.{Tells}
 use Rattle.segment_file.specs.Segment.{EpochsRise}
@@ -25,7 +25,6 @@ use Rattle.local_log.specs.Stored.{size_of, end_of}
 use Rattle.local_log.specs.Listing.{IsLaidOut}
 use Rattle.local_log.specs.Run.{IsRun, rolls_before, taking, snapshot, lined, is_last}
 use Rattle.local_log.specs.Taking.{head_asks, AsksOf, line_or, grown_by, IsGathering, IsTakenIn}
-use Rattle.local_log.specs.declared.run.Asked.{Asked}
 use Rattle.local_log.proofs.Pieces.{joined_append, size_placed, end_placed, placed_append}
 use Rattle.local_log.proofs.Heads.{headed_batch, front_tells, short_batch, long_batch, asks}
 

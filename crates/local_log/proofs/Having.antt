@@ -1,5 +1,5 @@
 -- What the disk of a log has, call by call.
-use Rattle.std.proofs.Common.{◌≡◌, ◌≢◌, ◌⊎◌, ℕ, ◌+◌, ◌^◌, ◌≤◌, ◌<◌, Bool, List, [], ◌∷◌, ◌++◌, length, take, map, Option, Some, None, Ok, refl, sym, ◌∙◌, ap, subst, inl, inr, ⊎_elim, arith, IsTrue}
+use Rattle.std.proofs.Common.{◌≡◌, ◌≢◌, ◌⊎◌, ℕ, ◌+◌, ◌^◌, ◌≤◌, ◌<◌, List, [], ◌∷◌, ◌++◌, length, map, Option, Some, Ok, refl, sym, ◌∙◌, ap, subst, inl, inr, ⊎_elim, arith, IsTrue}
 use Rattle.std.proofs.lemmas.List.{map-append, append-nil}
 use Rattle.tier_base.specs.declared.plain.FileName.{FileName}
 use Rattle.tier_base.specs.declared.plain.FileName.TheVariants as file
@@ -8,23 +8,22 @@ use Rattle.tier_base.specs.Told.{bytes_in}
 use Rattle.disk_model.specs.Content.{Content, Lawful, Files, Image, Keeps, LeavesOnly, Begins}
 use Rattle.log_terms.specs.Log.{up_to, end_from}
 use Rattle.epoch_line.specs.Line.{IsLine, cut_end}
-use Rattle.log_manifest.specs.declared.manifest.Extent.{Extent}
 use Rattle.log_manifest.specs.declared.manifest.Manifest.{Manifest}
 use Rattle.log_manifest.specs.Reading.{manifest_in}
 use Rattle.log_manifest.specs.Spelling.{manifest_bytes}
 use Rattle.log_manifest.proofs.Again.{manifest_again}
 use Rattle.segment_file.specs.Growing.{Grown}
-use Rattle.log_steps.specs.Fronts.{Each, Agrees, log_at, front}
-use Rattle.log_steps.specs.Opens.{Opened, IsRead, Opens, Segments}
+use Rattle.log_steps.specs.Fronts.{Each, Agrees}
+use Rattle.log_steps.specs.Opens.{Opened, IsRead, Opens}
 use Rattle.log_steps.specs.Reopens.{Reopens}
 use Rattle.log_steps.specs.Stands.{Holds, Stands}
 use Rattle.log_steps.specs.Publishes.{IsLike, Publishes}
-use Rattle.log_steps.proofs.Lists.{each_map, each_both, each_join, each_left, each_right}
-use Rattle.log_steps.proofs.Moments.{leaves_weaker, leaves_then}
+use Rattle.log_steps.proofs.Lists.{each_map, each_both, each_join, each_left}
+use Rattle.log_steps.proofs.Moments.{leaves_weaker}
 use Rattle.log_steps.proofs.Rewritten.{log_no_manifest}
-use Rattle.log_steps.proofs.Standing.{stands_since, same_stands, keeps_stands, keeps_since, sync_stands, publish_since, publish_whole, publish_dry, publish_stands, like_fronts}
+use Rattle.log_steps.proofs.Standing.{stands_since, same_stands, keeps_since, sync_stands, publish_since, publish_whole, publish_stands, like_fronts}
 use Rattle.log_steps.proofs.Reading.{held_opens, opens_as, opened_by, segments_like, reopens_two, stands_reopens}
-use Rattle.local_log.specs.Stored.{bytes_of, all_batches, size_of, end_of, extent_of, AreChained, IsStored}
+use Rattle.local_log.specs.Stored.{bytes_of, all_batches, size_of, end_of, extent_of, IsStored}
 use Rattle.local_log.specs.Log.{IsUpTo}
 use Rattle.local_log.specs.Listing.{IsLaidOut, AreSegmentsOf, AreListed, manifest_of}
 use Rattle.local_log.specs.Inside.{HasLog}

@@ -1,6 +1,6 @@
 -- The head at the front of bytes is that of the batch that stands there.
-use Rattle.std.proofs.Common.{◌≡◌, ◌≢◌, ◌^◌, ◌∙◌, ap, sym, subst, refl, ℕ, zero, suc, ◌+◌, ◌-◌, ◌≤◌, ◌<◌, List, [], ◌∷◌, ◌++◌, length, take, drop, slice_index, Result, Ok, Err, IsOk, arith}
-use Rattle.std.specs.Int.{Width, w8, w16, w32, w64, byte_len, cast_signed}
+use Rattle.std.proofs.Common.{◌≡◌, ◌≢◌, ◌^◌, ◌∙◌, ap, sym, subst, refl, ℕ, zero, suc, ◌+◌, ◌-◌, ◌≤◌, ◌<◌, List, [], ◌∷◌, ◌++◌, length, drop, slice_index, Result, Ok, Err, IsOk, arith}
+use Rattle.std.specs.Int.{Width, w16, w32, w64, byte_len}
 use Rattle.std.proofs.lemmas.List.{take-append-le}
 use Rattle.log_terms.specs.Batch.{field_at, base_of, last_of, last_offset_delta_of}
 use Rattle.record_batch.specs.declared.head.Head.{Head}

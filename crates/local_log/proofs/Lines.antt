@@ -1,8 +1,8 @@
 -- Lines that say the same of what is flushed.
-use Rattle.std.proofs.Common.{◌≡◌, ℕ, ◌+◌, ◌≤◌, ◌<◌, Bool, true, false, cond, List, [], ◌∷◌, ◌++◌, Option, Some, None, refl, sym, ◌∙◌, ap, subst, inl, inr, arith, lt-ltb, le-ltb, le-leb}
-use Rattle.std.specs.Prelude.{filter, nat_lt, nat_le, IsOk}
+use Rattle.std.proofs.Common.{◌≡◌, ℕ, ◌+◌, ◌≤◌, ◌<◌, Bool, true, false, cond, List, [], ◌∷◌, ◌++◌, refl, sym, ◌∙◌, ap, subst, inl, inr, arith, lt-ltb, le-ltb, le-leb}
+use Rattle.std.specs.Prelude.{nat_lt}
 use Rattle.std.proofs.lemmas.Bool.{cases_lt, lt-leb}
-use Rattle.log_terms.specs.Batch.{base_of, epoch_of, last_of}
+use Rattle.log_terms.specs.Batch.{base_of, last_of}
 use Rattle.log_terms.specs.Log.{IsConsecutive, end_from}
 use Rattle.log_terms.specs.Line.{epoch_at}
 use Rattle.log_terms.proofs.Logs.{end_above}

@@ -7,7 +7,7 @@ use Rattle.segment_file.specs.Growing.{Grown, end_after, ending_by, AreLaid}
 use Rattle.segment_file.proofs.Laying.{end_up}
 use Rattle.log_steps.specs.Fronts.{Each}
 use Rattle.log_steps.proofs.Lists.{each_join, each_map}
-use Rattle.local_log.specs.Stored.{size_of, end_of, extent_of, AreChained}
+use Rattle.local_log.specs.Stored.{size_of, end_of, extent_of}
 use Rattle.local_log.specs.Listing.{IsLaidOut, AreSegmentsOf, front_to, AreListed}
 use Rattle.local_log.proofs.Listed.{base_below, bases_below}
 

@@ -1,22 +1,20 @@
 -- The segments of a log before and behind a cut.
-use Rattle.std.proofs.Common.{◌≡◌, ◌≢◌, ◌∙◌, ap, sym, subst, refl, inl, inr, ℕ, suc, ◌+◌, ◌^◌, ◌≤◌, ◌<◌, Bool, true, false, cond, List, [], ◌∷◌, ◌++◌, length, map, drop, take, get_or, arith, lt-ltb, le-ltb, Some, None, append_assoc, length-append}
+use Rattle.std.proofs.Common.{◌≡◌, ◌∙◌, ap, subst, refl, inl, inr, ℕ, suc, ◌+◌, ◌^◌, ◌≤◌, ◌<◌, Bool, true, false, cond, List, [], ◌∷◌, ◌++◌, length, drop, take, get_or, arith, lt-ltb, le-ltb, Some, None, length-append}
 use Rattle.std.specs.Prelude.{nat_le}
 use Rattle.std.specs.List.{slice_get}
 use Rattle.std.proofs.lemmas.Bool.{cases_lt}
 use Rattle.std.proofs.lemmas.Bool.Decides.{nat_tests}
 use Rattle.std.proofs.lemmas.Option.{same_Some, slice_get_read}
-use Rattle.log_manifest.specs.declared.manifest.Extent.{Extent}
 use Rattle.segment_file.specs.declared.placed.Placed.{Placed}
 use Rattle.segment_file.specs.Growing.{Grown, end_after, size_after, ending_by, AreLaid}
-use Rattle.segment_file.proofs.Laying.{end_up, laid_parts}
+use Rattle.segment_file.proofs.Laying.{end_up}
 use Rattle.segment_file.proofs.Searching.{ending_kept}
 use Rattle.log_steps.specs.Fronts.{Each}
 use Rattle.log_steps.proofs.Lists.{each_join, each_map, each_left, each_right}
-use Rattle.local_log.specs.Stored.{size_of, end_of, extent_of, AreChained, chain_end}
-use Rattle.local_log.specs.Listing.{IsLaidOut, AreSegmentsOf, front_to, AreListed}
-use Rattle.local_log.specs.Cutting.{closed_by, open_by, behind, cut_point}
-use Rattle.local_log.proofs.Listed.{base_below, bases_below, chained_last}
-use Rattle.local_log.proofs.Listings.{ending_none, ending_all}
+use Rattle.local_log.specs.Stored.{size_of, end_of, AreChained}
+use Rattle.local_log.specs.Listing.{IsLaidOut, AreSegmentsOf, front_to}
+use Rattle.local_log.specs.Cutting.{closed_by, open_by, behind}
+use Rattle.local_log.proofs.Listed.{bases_below, chained_last}
 
 pub le_of : (a b : ℕ) → nat_le a b ≡ true → a ≤ b
 le_of a b h = grind (arith, nat_tests, h)

@@ -1,6 +1,6 @@
 -- No epoch that starts at a batch's end starts within a piece; and the batches of an open log are checked.
-use Rattle.std.proofs.Common.{◌≡◌, ◌∙◌, ap, sym, subst, refl, ℕ, ◌<◌, ◌≤◌, Bool, true, false, List, [], ◌∷◌, ◌++◌, inl, inr, arith, lt-ltb, ltb-true, ltb-false}
-use Rattle.std.specs.Prelude.{nat_lt, ◌&&◌, ◌==◌, IsOk, IsTrue}
+use Rattle.std.proofs.Common.{◌≡◌, ◌∙◌, ap, sym, subst, refl, ℕ, ◌<◌, ◌≤◌, Bool, true, false, List, [], ◌∷◌, ◌++◌, inl, inr, arith, lt-ltb, ltb-true}
+use Rattle.std.specs.Prelude.{nat_lt, ◌&&◌, IsOk, IsTrue}
 use Rattle.std.proofs.lemmas.Bool.{cases_lt}
 use Rattle.std.proofs.lemmas.Bool.Decides.{nat_tests}
 use Rattle.disk_model.specs.Content.{Content, Files}

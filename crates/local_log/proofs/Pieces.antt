@@ -1,11 +1,8 @@
 -- The batches of segments, as memory and the disk's files have them.
-use Rattle.std.proofs.Common.{◌≡◌, ◌≢◌, ℕ, ◌+◌, ◌-◌, ◌≤◌, ◌<◌, List, [], ◌∷◌, ◌++◌, length, take, drop, map, Option, Some, None, refl, sym, ◌∙◌, ap, subst, arith, append_assoc, length-append}
-use Rattle.std.proofs.lemmas.List.{take_at, append-nil, take-append-drop, take-append-le}
-use Rattle.tier_base.specs.declared.plain.FileName.{FileName}
-use Rattle.tier_base.specs.declared.plain.FileName.TheVariants as file
-use Rattle.tier_base.specs.Told.{bytes_in}
+use Rattle.std.proofs.Common.{◌≡◌, ℕ, ◌+◌, ◌-◌, ◌≤◌, List, [], ◌∷◌, ◌++◌, length, take, drop, map, refl, sym, ◌∙◌, ap, subst, arith, append_assoc, length-append}
+use Rattle.std.proofs.lemmas.List.{take_at, take-append-drop}
 use Rattle.disk_model.specs.Content.{Files}
-use Rattle.log_terms.specs.Batch.{base_of, last_of}
+use Rattle.log_terms.specs.Batch.{last_of}
 use Rattle.log_terms.specs.Log.{joined, IsConsecutive, end_from, up_to}
 use Rattle.log_terms.proofs.Logs.{end_append, up_to_is}
 use Rattle.log_terms.proofs.Lists.{prefix_self}
@@ -13,9 +10,8 @@ use Rattle.segment_file.specs.declared.placed.Placed.{Placed}
 use Rattle.segment_file.specs.Index.{placed, placed_from}
 use Rattle.segment_file.specs.Growing.{Grown, end_after, size_after}
 use Rattle.log_manifest.specs.declared.manifest.Extent.{Extent}
-use Rattle.log_steps.specs.Fronts.{Each, Kept, log_at, front}
-use Rattle.log_steps.specs.Opens.{IsPlaced, Segment, Segments}
-use Rattle.log_steps.proofs.Lists.{each_map}
+use Rattle.log_steps.specs.Fronts.{Each, Kept}
+use Rattle.log_steps.specs.Opens.{Segments}
 use Rattle.local_log.specs.Stored.{bytes_of, pieces, batches_of, all_batches, size_of, end_of, extent_of, AreChained, chain_end, IsStored}
 
 drop_at : (xs ys : List ℕ) → drop (length xs) (xs ++ ys) ≡ ys

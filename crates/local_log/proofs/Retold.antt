@@ -3,7 +3,7 @@ use Rattle.std.proofs.Common.{ℕ, ◌<◌, ◌≤◌, Bool, List, [], ◌∷◌
 use Rattle.tier_base.specs.declared.plain.FileName.TheVariants as file
 use Rattle.disk_model.specs.Content.{Content, Lawful, Files, Image, Keeps, LeavesOnly, Changes, Begins, appended, Grown as MayGrow}
 use Rattle.segment_file.specs.Growing.{Grown}
-use Rattle.log_steps.specs.Opens.{Opened, Opens}
+use Rattle.log_steps.specs.Opens.{Opened}
 use Rattle.log_manifest.specs.Spelling.{manifest_bytes}
 use Rattle.log_steps.proofs.Moments.{started, goes_on, leaves_weaker, leaves_then}
 use Rattle.log_steps.proofs.Restored.{manifest_other}

@@ -15,7 +15,7 @@ use Rattle.log_steps.proofs.Lists.{each_join}
 use Rattle.local_log.specs.declared.refusal.OpenRefusal.{OpenRefusal}
 use Rattle.local_log.specs.declared.refusal.OpenRefusal.TheVariants.{DiskFault, Damaged, LastIncarnation, NoMemory}
 use Rattle.local_log.specs.Refusing.{IsSoundCause}
-use Rattle.local_log.specs.Stored.{end_of, extent_of, all_batches, AreChained, chain_end, IsStored}
+use Rattle.local_log.specs.Stored.{end_of, extent_of, all_batches, chain_end, IsStored}
 use Rattle.local_log.specs.Listing.{IsLaidOut}
 use Rattle.local_log.specs.Parsing.{IsParsed, ParseFails}
 use Rattle.local_log.specs.Opening.{SegmentFails, ReadsTo, ReadFails, ReadFailsIn}

@@ -1,6 +1,6 @@
 -- The files behind an end of a log at or past the flushed one are removed, and the last one is cut to it. No image opens
 -- otherwise than before.
-use Rattle.std.proofs.Common.{◌≡◌, ◌≢◌, ◌⊎◌, ℕ, ◌+◌, ◌^◌, ◌≤◌, ◌<◌, List, [], ◌∷◌, ◌++◌, length, take, map, Option, Some, None, refl, sym, ◌∙◌, ap, subst, inl, inr, ⊎_elim, arith, IsTrue}
+use Rattle.std.proofs.Common.{◌≡◌, ◌≢◌, ◌⊎◌, ℕ, ◌≤◌, ◌<◌, List, [], ◌∷◌, ◌++◌, length, take, map, Option, Some, None, refl, sym, ◌∙◌, ap, subst, inl, inr, ⊎_elim, arith, IsTrue}
 use Rattle.std.proofs.lemmas.List.{map-append, take-take, take_all, length-take-le}
 use Rattle.tier_base.specs.declared.plain.FileName.{FileName}
 use Rattle.tier_base.specs.declared.plain.FileName.TheVariants as file
@@ -8,13 +8,12 @@ use Rattle.tier_base.specs.Device.{Fate, Went}
 use Rattle.disk_model.proofs.Names.{cases_name}
 use Rattle.tier_base.specs.Told.{In, bytes_in}
 use Rattle.disk_model.specs.Content.{Content, Lawful, Files, Image, LeavesOnly, CutBack, cut_to}
-use Rattle.log_terms.specs.Log.{up_to, end_from}
+use Rattle.log_terms.specs.Log.{up_to}
 use Rattle.epoch_line.specs.Line.{IsLine, cut_end}
 use Rattle.log_manifest.specs.declared.manifest.Extent.{Extent}
 use Rattle.log_manifest.specs.Spelling.{manifest_bytes}
 use Rattle.segment_file.specs.Growing.{Grown, AreLaid}
-use Rattle.log_steps.specs.Fronts.{Each, Agrees, Kept, log_at}
-use Rattle.log_steps.specs.Opens.{Opened, Opens}
+use Rattle.log_steps.specs.Fronts.{Each, Agrees, Kept}
 use Rattle.log_steps.specs.Reopens.{Reopens}
 use Rattle.log_steps.proofs.Lists.{each_map, each_both, each_join, each_left, each_right}
 use Rattle.log_steps.proofs.Moments.{leaves_weaker}

@@ -1,5 +1,5 @@
 -- The segments of a log that is cut, and their batches on its disk.
-use Rattle.std.proofs.Common.{◌≡◌, ℕ, ◌+◌, ◌^◌, ◌≤◌, ◌<◌, Bool, true, false, cond, List, [], ◌∷◌, ◌++◌, length, take, map, Ok, refl, sym, ◌∙◌, ap, subst, inl, inr, lt-ltb, le-ltb, arith, IsTrue, append_assoc, length-append}
+use Rattle.std.proofs.Common.{◌≡◌, ℕ, ◌+◌, ◌^◌, ◌≤◌, ◌<◌, Bool, true, false, cond, List, [], ◌∷◌, ◌++◌, length, take, map, Ok, refl, sym, ◌∙◌, ap, subst, inl, inr, lt-ltb, le-ltb, arith, IsTrue, append_assoc}
 use Rattle.std.specs.Prelude.{nat_lt}
 use Rattle.std.proofs.lemmas.Bool.{cases_lt}
 use Rattle.std.proofs.lemmas.List.{take_at, take-take, append-nil}
@@ -19,9 +19,9 @@ use Rattle.segment_file.specs.Growing.{Grown, end_after, size_after, ending_by, 
 use Rattle.segment_file.proofs.Searching.{ending_kept}
 use Rattle.log_steps.specs.Fronts.{Each}
 use Rattle.log_steps.specs.Opens.{Opened, IsPlaced, IsRead, Segments}
-use Rattle.log_steps.proofs.Lists.{each_map, each_both, each_join, each_left, each_right}
-use Rattle.local_log.specs.Stored.{bytes_of, batches_of, all_batches, size_of, end_of, extent_of, AreChained, IsStored}
-use Rattle.local_log.specs.Listing.{IsLaidOut, AreSegmentsOf, front_to, manifest_of}
+use Rattle.log_steps.proofs.Lists.{each_both, each_join, each_left, each_right}
+use Rattle.local_log.specs.Stored.{bytes_of, batches_of, all_batches, size_of, end_of, extent_of, IsStored}
+use Rattle.local_log.specs.Listing.{AreSegmentsOf, front_to, manifest_of}
 use Rattle.local_log.specs.Inside.{HasLog}
 use Rattle.local_log.specs.Cutting.{closed_by, open_by, behind, cut_point}
 use Rattle.local_log.proofs.Pieces.{joined_append, size_placed, end_placed, stored_batches, stored_segments, stored_end, consecutive_segments, all_append, all_end, chain_snoc}

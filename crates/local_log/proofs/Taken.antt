@@ -1,9 +1,9 @@
 -- What of a run was taken into a segment.
-use Rattle.std.proofs.Common.{◌≡◌, ◌≢◌, ◌^◌, ◌∙◌, ap, sym, subst, refl, ℕ, ◌+◌, ◌≤◌, ◌<◌, Bool, true, false, cond, List, [], ◌∷◌, ◌++◌, length, take, Option, Some, None, IsOk, arith, append_assoc, length-append}
-use Rattle.std.specs.Prelude.{nat_lt, nat_le, ◌||◌, unwrap_or}
+use Rattle.std.proofs.Common.{◌≡◌, ◌≢◌, ◌^◌, ◌∙◌, ap, sym, subst, refl, ℕ, ◌+◌, ◌≤◌, ◌<◌, Bool, true, false, cond, List, [], ◌∷◌, ◌++◌, length, take, Option, IsOk, arith, length-append}
+use Rattle.std.specs.Prelude.{nat_le, ◌||◌, unwrap_or}
 use Rattle.std.proofs.lemmas.List.{take_at}
 use Rattle.std.proofs.lemmas.Bool.{lt-leb}
-use Rattle.log_terms.specs.Batch.{base_of, last_of, epoch_of}
+use Rattle.log_terms.specs.Batch.{last_of, epoch_of}
 use Rattle.log_terms.specs.Log.{joined, IsConsecutive, end_from}
 use Rattle.log_terms.proofs.Logs.{end_above}
 use Rattle.record_batch.specs.Check.{checked}
@@ -16,11 +16,11 @@ use Rattle.segment_file.proofs.Laying.{end_append}
 use Rattle.log_steps.specs.Fronts.{Each}
 use Rattle.log_steps.proofs.Lists.{each_left}
 use Rattle.local_log.specs.Stored.{size_of, end_of}
-use Rattle.local_log.specs.Run.{IsRun, rolls_before, taking, lined, first_size}
-use Rattle.local_log.specs.Taking.{grown_by, HasFront, IsTakenIn}
+use Rattle.local_log.specs.Run.{rolls_before, taking, lined, first_size}
+use Rattle.local_log.specs.Taking.{HasFront, IsTakenIn}
 use Rattle.local_log.specs.Listing.{IsLaidOut}
 use Rattle.local_log.proofs.Pieces.{joined_append, end_placed}
-use Rattle.local_log.proofs.Heads.{First, first_of, first_last, first_len}
+use Rattle.local_log.proofs.Heads.{First, first_last, first_len}
 use Rattle.local_log.proofs.Lined.{IsLined, is_lined}
 
 -- what is taken is a front

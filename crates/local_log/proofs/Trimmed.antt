@@ -1,12 +1,12 @@
 -- Files of a log are removed, and one is cut.
-use Rattle.std.proofs.Common.{◌≡◌, ◌≢◌, ◌⊎◌, ℕ, Bool, true, false, cond, List, [], ◌∷◌, ◌++◌, Option, None, refl, sym, ◌∙◌, ap, subst, inl, inr, ⊎_elim, IsTrue, Result, Ok, Err, IsErr}
+use Rattle.std.proofs.Common.{◌≡◌, ◌⊎◌, ℕ, Bool, true, false, cond, List, [], ◌∷◌, ◌++◌, Option, None, refl, sym, ◌∙◌, ap, subst, inl, inr, ⊎_elim, IsTrue, Result, Ok, Err, IsErr}
 use Rattle.tier_base.specs.declared.plain.FileName.{FileName}
 use Rattle.tier_base.specs.declared.plain.FileName.TheVariants.{Log}
 use Rattle.tier_base.specs.declared.fault.Failed.{Failed}
 use Rattle.tier_base.specs.Device.{Fate, Went, failing}
 use Rattle.disk_model.proofs.Names.{cases_name}
 use Rattle.tier_base.specs.Told.{OnlyAt, In, removed}
-use Rattle.disk_model.specs.Content.{Content, Lawful, Files, Image, Changes, LeavesOnly, Gone, CutBack, cut_to}
+use Rattle.disk_model.specs.Content.{Content, Lawful, Files, Image, Changes, Gone, CutBack, cut_to}
 use Rattle.log_steps.proofs.Moments.{started, goes_on, leaves_weaker, leaves_then}
 use Rattle.local_log.specs.Cutting.{Without, RemovesAll, Trimmed, Trims}
 

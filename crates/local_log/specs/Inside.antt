@@ -1,7 +1,7 @@
 -- What the fields of a log mean, and what they keep.
-use Rattle.std.specs.Prelude.{◌≡◌, ◌≢◌, ℕ, ◌+◌, ◌^◌, ◌≤◌, ◌<◌, false, List, [], ◌∷◌, ◌++◌, length, map, None, IsTrue}
+use Rattle.std.specs.Prelude.{◌≡◌, ◌≢◌, ℕ, ◌^◌, ◌≤◌, ◌<◌, false, List, [], ◌∷◌, ◌++◌, length, map, None, IsTrue}
 use Rattle.tier_base.specs.declared.plain.FileName.TheVariants as file
-use Rattle.disk_model.specs.Content.{Content, Files}
+use Rattle.disk_model.specs.Content.{Content}
 use Rattle.log_terms.specs.Log.{up_to, end_from}
 use Rattle.epoch_line.specs.Line.{IsLine, cut_end}
 use Rattle.log_manifest.specs.declared.manifest.Manifest.{Manifest}
@@ -14,7 +14,7 @@ use Rattle.log_steps.specs.Reopens.{Reopens}
 use Rattle.log_steps.specs.Stands.{Stands}
 use Rattle.local_log.specs.declared.log.LocalLog.TheInside.{Inside}
 use Rattle.local_log.specs.Stored.{bytes_of, all_batches, size_of, end_of, extent_of, IsStored}
-use Rattle.local_log.specs.Log.{Log, AreSettings, IsFlushed}
+use Rattle.local_log.specs.Log.{Log, AreSettings}
 use Rattle.local_log.specs.Listing.{AreSegmentsOf, AreListed}
 
 -- the disk has the log: its images the flushed log, and its files all of it

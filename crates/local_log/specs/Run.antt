@@ -3,7 +3,7 @@
 -- The log rolls before an append where the open segment isn't empty and would pass the settings' segment_bytes, or
 -- where the batch's last offset less the segment's base would pass 2,147,483,647. A batch larger than segment_bytes
 -- stands alone in a segment.
-use Rattle.std.specs.Prelude.{◌≡◌, ◌≢◌, ℕ, ◌+◌, ◌-◌, ◌^◌, ◌≤◌, ◌<◌, ◌==◌, ◌&&◌, ◌||◌, nat_lt, nat_le, Bool, false, if◌then◌else◌, List, [], ◌∷◌, ◌++◌, length, Option, Some, None, unwrap_or, IsOk, IsTrue}
+use Rattle.std.specs.Prelude.{◌≡◌, ◌≢◌, ℕ, ◌+◌, ◌-◌, ◌^◌, ◌==◌, ◌&&◌, ◌||◌, nat_lt, nat_le, Bool, false, if◌then◌else◌, List, [], ◌∷◌, ◌++◌, length, Option, Some, None, unwrap_or, IsOk}
 use Rattle.std.specs.Int.{w32}
 use Rattle.log_terms.specs.Batch.{field_at, base_of, last_of, epoch_of}
 use Rattle.log_terms.specs.Log.{joined, IsConsecutive, end_from}
@@ -11,7 +11,6 @@ use Rattle.record_batch.specs.Check.{checked}
 use Rattle.epoch_line.specs.Line.{last_epoch, assign}
 use Rattle.disk_model.specs.Content.{Content}
 use Rattle.segment_file.specs.Index.{placed_from}
-use Rattle.segment_file.specs.Growing.{Grown}
 use Rattle.segment_file.specs.Segment.{EpochsRise}
 use Rattle.log_steps.specs.Fronts.{Each}
 use Rattle.local_log.specs.Stored.{size_of}

@@ -1,7 +1,7 @@
 -- The segments of a log in memory, and their batches on the disk.
 --
 -- Memory keeps where each batch ends; its bytes stand in the segment's file.
-use Rattle.std.specs.Prelude.{◌≡◌, ℕ, ◌+◌, ◌-◌, ◌≤◌, ◌<◌, List, [], ◌∷◌, ◌++◌, length, take, drop, map}
+use Rattle.std.specs.Prelude.{◌≡◌, ℕ, ◌-◌, List, [], ◌∷◌, ◌++◌, take, drop}
 use Rattle.tier_base.specs.declared.plain.FileName.TheVariants as file
 use Rattle.tier_base.specs.Told.{bytes_in}
 use Rattle.disk_model.specs.Content.{Files}

@@ -1,5 +1,5 @@
 -- A run on its way into a segment.
-use Rattle.std.specs.Prelude.{◌≡◌, ◌⊎◌, ℕ, ◌+◌, ◌^◌, ◌≤◌, ◌<◌, List, [], ◌∷◌, ◌++◌, length, Option, Some, None}
+use Rattle.std.specs.Prelude.{◌≡◌, ℕ, ◌+◌, ◌^◌, ◌≤◌, List, ◌++◌, length, Option, Some, None}
 use Rattle.std.specs.Int.{w32, w64, cast_unsigned}
 use Rattle.log_terms.specs.Batch.{base_of, last_of, epoch_of}
 use Rattle.log_terms.specs.Log.{joined}

@@ -1,4 +1,4 @@
-use Rattle.std.proofs.Common.{◌≡◌, ◌∙◌, ◌+◌, sym, subst, ap, drop, length, arith, true}
+use Rattle.std.proofs.Common.{◌≡◌, ◌∙◌, ◌+◌, sym, subst, ap, drop, arith, true}
 use Rattle.record_batch.specs.Head.{head_of}
 use Rattle.segment_file.specs.Walk.{found_at}
 use Rattle.segment_file.specs.Gathering.{Tells}

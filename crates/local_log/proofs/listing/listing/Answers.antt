@@ -1,4 +1,3 @@
-use Rattle.std.proofs.Common.{◌≡◌}
 use Rattle.local_log.proofs.Listed.{rules_of}
 use Rattle.local_log.proofs.listing.listing.Goals as goal
 

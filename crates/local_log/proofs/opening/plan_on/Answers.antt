@@ -1,4 +1,3 @@
-use Rattle.std.proofs.Common.{◌≡◌, IsTrue}
 use Rattle.std.proofs.lemmas.Result.{IfErr-weaker}
 use Rattle.tier_base.specs.declared.plain.FileName.TheVariants as file
 use Rattle.local_log.proofs.Planned.{plan_fails, whole_held}

@@ -1,10 +1,6 @@
-use Rattle.std.proofs.Common.{◌≡◌, ◌∙◌, ◌<◌, ◌≤◌, ◌+◌, ◌^◌, ℕ, sym, ap, subst, refl, arith, Ok, Result, IsOk, List}
-use Rattle.log_terms.specs.Batch.{base_of, last_of, last_offset_delta_of}
-use Rattle.record_batch.specs.declared.head.Head.{Head}
-use Rattle.record_batch.specs.declared.refusal.HeadRefusal.{HeadRefusal}
+use Rattle.std.proofs.Common.{◌∙◌, sym, ap, subst, refl, arith}
 use Rattle.record_batch.specs.Check.{headed}
 use Rattle.segment_file.proofs.Standing.{AreBytes}
-use Rattle.local_log.specs.Taking.{head_asks}
 use Rattle.local_log.proofs.Heads.{first_of, first_last, first_len, front_tells, asks, headed_batch, short_batch}
 use Rattle.local_log.proofs.run.first_asked.Goals as goal
 

@@ -1,13 +1,11 @@
-use Rattle.std.proofs.Common.{◌≡◌, ◌∙◌, ◌<◌, ◌≤◌, ◌+◌, ◌^◌, ℕ, sym, ap, subst, refl, arith, Ok, Some, Option, IsOk, List, length, drop, [], ◌++◌, Bool, true, false}
+use Rattle.std.proofs.Common.{◌≡◌, ◌∙◌, ◌≤◌, ◌+◌, ◌^◌, ℕ, sym, subst, refl, arith, Option, length, true, false}
 use Rattle.std.specs.Prelude.{◌||◌, nat_le, unwrap_or}
 use Rattle.log_terms.specs.Batch.{base_of, last_of, epoch_of}
-use Rattle.record_batch.specs.Check.{headed}
-use Rattle.epoch_line.specs.Line.{last_epoch}
 use Rattle.segment_file.proofs.Standing.{AreBytes}
 use Rattle.segment_file.proofs.Laying.{end_up}
-use Rattle.local_log.specs.Stored.{size_of, end_of}
+use Rattle.local_log.specs.Stored.{size_of}
 use Rattle.local_log.specs.Run.{rolls_before, snapshot}
-use Rattle.local_log.specs.Taking.{AsksOf, line_or, head_asks, IsGathering}
+use Rattle.local_log.specs.Taking.{AsksOf, line_or, IsGathering}
 use Rattle.local_log.proofs.Gathered.{base_seg, coming, coming_headed, coming_tells, coming_asks, goes_in, may_push, gathered_more, laid_more, low_more, gathered_all, gathered_stop, nothing_gathered}
 use Rattle.local_log.proofs.run.gather.Goals as goal
 use Rattle.local_log.proofs.run.gather.Goals.{else-loop-at-test, then-loop-at-test+then-stops}

@@ -1,4 +1,4 @@
-use Rattle.std.proofs.Common.{◌≡◌, ◌-◌, ◌≤◌, ◌^◌, length}
+use Rattle.std.proofs.Common.{◌-◌, ◌≤◌, ◌^◌, length}
 use Rattle.local_log.specs.Stored.{end_of}
 use Rattle.local_log.specs.Listing.{IsLaidOut}
 use Rattle.local_log.specs.Taking.{IsGathering}

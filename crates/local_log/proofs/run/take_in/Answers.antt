@@ -1,4 +1,4 @@
-use Rattle.std.proofs.Common.{◌≡◌, ◌∙◌, ap, sym}
+use Rattle.std.proofs.Common.{◌∙◌}
 use Rattle.local_log.proofs.Cutting.{cut_back}
 use Rattle.local_log.proofs.run.take_in.Goals as goal
 

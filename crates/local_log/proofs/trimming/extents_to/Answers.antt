@@ -1,4 +1,4 @@
-use Rattle.std.proofs.Common.{◌≡◌, ◌≤◌, ◌∙◌, ◌++◌, ◌∷◌, List, [], length, map, take, ℕ, sym, ap, arith, length-append}
+use Rattle.std.proofs.Common.{◌∙◌, ◌++◌, ◌∷◌, List, [], length, map, take, ℕ, sym, ap, arith, length-append}
 use Rattle.std.proofs.lemmas.List.{map-append}
 use Rattle.log_manifest.specs.declared.manifest.Extent.{Extent}
 use Rattle.segment_file.specs.Growing.{Grown}

@@ -1,4 +1,3 @@
-use Rattle.std.proofs.Common.{◌≡◌}
 use Rattle.local_log.specs.Listing.{front_to}
 use Rattle.local_log.specs.Cutting.{closed_by, open_by}
 use Rattle.local_log.proofs.Listed.{rules_of}

@@ -1,10 +1,9 @@
-use Rattle.std.proofs.Common.{◌≡◌, ◌∙◌, ◌+◌, ◌-◌, ◌<◌, ◌++◌, ◌∷◌, ℕ, List, [], length, map, take, drop, get_or, sym, ap, subst, arith, Bool}
+use Rattle.std.proofs.Common.{◌≡◌, ◌∙◌, ◌+◌, ◌-◌, ◌<◌, ◌++◌, ◌∷◌, ℕ, List, [], length, take, drop, sym, ap, subst, arith}
 use Rattle.std.proofs.lemmas.List.{drop_more, take-append-drop, map-append}
 use Rattle.tier_base.specs.declared.plain.FileName.{FileName}
 use Rattle.tier_base.specs.declared.plain.FileName.TheVariants as file
 use Rattle.tier_base.specs.Device.{failing, Went, Fate}
-use Rattle.tier_base.specs.Told.{removed}
-use Rattle.disk_model.specs.Content.{Lawful, Changes, Gone}
+use Rattle.disk_model.specs.Content.{Lawful}
 use Rattle.segment_file.specs.Growing.{Grown}
 use Rattle.tier_base.proofs.Lasting.{ran_lasts}
 use Rattle.log_steps.proofs.Lasting.{lasts_then}

@@ -1,7 +1,7 @@
-use Rattle.std.proofs.Common.{◌≡◌, ◌<◌, ◌+◌, ◌∙◌, ◌++◌, ◌∷◌, List, [], length, drop, ℕ, sym, ap, subst, arith}
+use Rattle.std.proofs.Common.{◌<◌, ◌+◌, ◌∙◌, ◌++◌, ◌∷◌, List, [], length, drop, ℕ, sym, ap, subst, arith}
 use Rattle.tier_base.specs.Device.{failing, Went}
 use Rattle.segment_file.specs.Growing.{Grown}
-use Rattle.local_log.specs.Cutting.{closed_by, behind, names_of, RemovesAll}
+use Rattle.local_log.specs.Cutting.{closed_by, names_of, RemovesAll}
 use Rattle.local_log.proofs.Parting.{all_closed, some_behind}
 use Rattle.local_log.proofs.Trimmed.{removes_none}
 use Rattle.local_log.proofs.trimming.remove_behind.Goals as goal

@@ -1,4 +1,4 @@
-use Rattle.std.proofs.Common.{◌≡◌, ◌∙◌, ◌++◌, ◌∷◌, List, [], sym, ap, subst}
+use Rattle.std.proofs.Common.{◌≡◌, ◌∷◌, List, [], sym, ap, subst}
 use Rattle.std.proofs.lemmas.List.{map-append}
 use Rattle.tier_base.specs.declared.plain.FileName.{FileName}
 use Rattle.tier_base.specs.declared.plain.FileName.TheVariants as file

@@ -1,4 +1,4 @@
-use Rattle.std.proofs.Common.{◌≡◌, ◌<◌, ◌+◌, ◌∙◌, ◌++◌, ◌∷◌, List, [], length, take, ℕ, sym, ap, subst, arith}
+use Rattle.std.proofs.Common.{◌≡◌, ◌<◌, ◌+◌, ◌∙◌, ◌++◌, ◌∷◌, List, [], length, take, ℕ, sym, ap, arith}
 use Rattle.segment_file.specs.Growing.{Grown}
 use Rattle.local_log.specs.Cutting.{closed_by, open_by}
 use Rattle.local_log.proofs.Parting.{all_closed, some_behind, snoc_same}

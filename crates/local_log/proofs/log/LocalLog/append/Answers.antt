@@ -1,8 +1,8 @@
-use Rattle.std.proofs.Common.{◌≡◌, ◌∙◌, ◌<◌, ◌≤◌, ◌+◌, ◌^◌, ℕ, Bool, false, sym, ap, arith}
-use Rattle.disk_model.specs.Content.{Content, Lawful}
+use Rattle.std.proofs.Common.{◌≡◌, ◌∙◌, false, ap, arith}
+use Rattle.disk_model.specs.Content.{Lawful}
 use Rattle.segment_file.proofs.Laying.{end_up}
 use Rattle.local_log.specs.Log.{Log}
-use Rattle.local_log.specs.Stored.{end_of, size_of}
+use Rattle.local_log.specs.Stored.{end_of}
 use Rattle.local_log.proofs.Having.{start_since}
 use Rattle.local_log.proofs.Heads.{first_of, first_last, first_len, short_batch}
 use Rattle.local_log.proofs.Retold.{start_opens}

@@ -1,10 +1,10 @@
-use Rattle.std.proofs.Common.{◌≡◌, ◌∙◌, ◌<◌, ◌≤◌, ◌+◌, ◌-◌, ◌^◌, ℕ, List, [], ◌∷◌, ◌++◌, length, Bool, true, false, refl, sym, ap, subst, arith, IsTrue, IsFalse, Ok, Err}
+use Rattle.std.proofs.Common.{◌≡◌, ◌∙◌, ◌<◌, ◌≤◌, ◌+◌, ◌^◌, ℕ, List, [], ◌∷◌, ◌++◌, length, Bool, true, false, refl, sym, ap, subst, arith, IsTrue, IsFalse}
 use Rattle.std.specs.Prelude.{is_ok}
 use Rattle.std.proofs.lemmas.Bool.{true≢false}
 use Rattle.tier_base.specs.declared.plain.FileName.TheVariants as file
-use Rattle.tier_base.specs.Device.{fate_of, fate_of_trouble, MayBeDone, Went, Dry}
+use Rattle.tier_base.specs.Device.{fate_of, fate_of_trouble, MayBeDone, Dry}
 use Rattle.disk_model.specs.declared.call.DiskCall.TheVariants as call
-use Rattle.disk_model.specs.Content.{Content, Lawful, Files, Image, Begins, Changes, appended, Grown as MayGrow}
+use Rattle.disk_model.specs.Content.{Lawful, Files, Image, Begins, Changes, appended, Grown as MayGrow}
 use Rattle.log_terms.specs.Log.{joined, end_from}
 use Rattle.segment_file.specs.Growing.{Grown}
 use Rattle.epoch_line.specs.Line.{IsLine}

@@ -1,25 +1,24 @@
-use Rattle.std.proofs.Common.{◌≡◌, ◌∙◌, ◌<◌, ◌≤◌, ◌+◌, ◌-◌, ◌^◌, ℕ, List, [], ◌∷◌, ◌++◌, length, Bool, true, false, refl, sym, ap, subst, arith, IsTrue, Ok, Err, IsFalse}
+use Rattle.std.proofs.Common.{◌≡◌, ◌∙◌, ◌≤◌, ◌^◌, ℕ, List, [], ◌∷◌, ◌++◌, Bool, true, false, refl, sym, ap, subst, arith, IsTrue, IsFalse}
 use Rattle.std.proofs.lemmas.Bool.{true≢false}
 use Rattle.std.specs.Prelude.{is_ok}
 use Rattle.tier_base.specs.declared.plain.FileName.TheVariants as file
-use Rattle.tier_base.specs.declared.fault.Trouble.TheVariants as fault
-use Rattle.tier_base.specs.Device.{fate_of, fate_of_trouble, MayBeDone, Went, Dry}
+use Rattle.tier_base.specs.Device.{fate_of, fate_of_trouble, MayBeDone, Dry}
 use Rattle.disk_model.specs.declared.call.DiskCall.TheVariants as call
-use Rattle.disk_model.specs.Content.{Content, Lawful, Changes, appended, Grown as MayGrow}
-use Rattle.log_terms.specs.Log.{joined, end_from}
+use Rattle.disk_model.specs.Content.{Lawful, Changes, appended, Grown as MayGrow}
+use Rattle.log_terms.specs.Log.{joined}
 use Rattle.segment_file.specs.Growing.{Grown}
 use Rattle.epoch_line.specs.Line.{IsLine}
 use Rattle.log_steps.specs.Fronts.{Each}
 use Rattle.local_log.specs.Log.{Log}
 use Rattle.local_log.specs.Listing.{IsLaidOut, AreSegmentsOf}
 use Rattle.local_log.specs.Inside.{HasLog}
-use Rattle.local_log.specs.Stored.{end_of, size_of, all_batches}
+use Rattle.local_log.specs.Stored.{end_of, all_batches}
 use Rattle.local_log.specs.Run.{lined, is_due}
 use Rattle.local_log.specs.Taking.{IsTakenIn, grown_by}
 use Rattle.local_log.proofs.Becoming.{becomes_by}
 use Rattle.local_log.proofs.Cutting.{cut_back}
 use Rattle.local_log.proofs.Refused.{not_broken, breaks, stays}
-use Rattle.local_log.proofs.Having.{start_since, has_reopens}
+use Rattle.local_log.proofs.Having.{start_since}
 use Rattle.local_log.proofs.Appended.{appended_since, appended_reopens, appended_dry, appended_kept, appended_has, appended_batches, appended_are}
 use Rattle.local_log.proofs.Taken.{taken, taken_fits, taken_bytes, taken_oks, taken_follow, taken_end, taken_lined, taken_grows, taken_up, taken_front}
 use Rattle.local_log.proofs.Retold.{start_opens, appended_opens}

@@ -1,4 +1,3 @@
-use Rattle.std.proofs.Common.{◌≡◌}
 use Rattle.local_log.proofs.Cohering.{log_coheres}
 use Rattle.local_log.proofs.log.LocalLog.coheres.Goals as goal
 

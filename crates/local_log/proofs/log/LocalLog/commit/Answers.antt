@@ -1,8 +1,7 @@
-use Rattle.std.proofs.Common.{◌≡◌, ◌∙◌, ◌<◌, ◌≤◌, ◌+◌, ◌^◌, ℕ, List, [], ◌∷◌, ◌++◌, length, Bool, true, false, refl, sym, ap, subst, arith, IsTrue, Ok, Err}
+use Rattle.std.proofs.Common.{◌≡◌, ◌∙◌, ◌≤◌, ℕ, List, true, false, refl, sym, ap, subst, arith}
 use Rattle.tier_base.specs.declared.plain.FileName.TheVariants as file
-use Rattle.tier_base.specs.declared.fault.Trouble.TheVariants as fault
-use Rattle.tier_base.specs.Device.{fate_of, fate_of_trouble, Went, Dry}
-use Rattle.disk_model.specs.Content.{Content, Lawful}
+use Rattle.tier_base.specs.Device.{fate_of, fate_of_trouble, Went}
+use Rattle.disk_model.specs.Content.{Lawful}
 use Rattle.log_manifest.specs.Spelling.{manifest_bytes}
 use Rattle.log_steps.specs.Publishes.{Publishes}
 use Rattle.epoch_line.specs.Line.{cut_end}

@@ -1,9 +1,9 @@
-use Rattle.std.proofs.Common.{◌≡◌, ◌≤◌, ◌<◌, ◌^◌, ℕ, List, [], ◌∷◌, ◌++◌, Some, Bool, refl, sym, ap, subst, arith, ◌∙◌, IsTrue}
+use Rattle.std.proofs.Common.{◌≡◌, ◌≤◌, ℕ, List, [], Some, sym, ap, subst, arith, ◌∙◌}
 use Rattle.tier_base.specs.declared.plain.FileName.TheVariants as file
 use Rattle.tier_base.specs.Device.{MayBeDone, fate_of}
 use Rattle.disk_model.specs.declared.call.DiskCall.TheVariants as call
 use Rattle.tier_base.specs.Told.{replaced}
-use Rattle.disk_model.specs.Content.{Content, Lawful, Changes, Swapped, Files, Image}
+use Rattle.disk_model.specs.Content.{Lawful, Changes, Swapped, Files, Image}
 use Rattle.epoch_line.specs.Line.{IsLine}
 use Rattle.log_manifest.specs.Spelling.{manifest_bytes}
 use Rattle.segment_file.specs.Growing.{Grown}

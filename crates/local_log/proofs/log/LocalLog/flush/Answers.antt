@@ -1,5 +1,5 @@
-use Rattle.std.proofs.Common.{◌≡◌, ◌∙◌, ◌≤◌, ℕ, List, Bool, false, sym, ap, subst, inl}
-use Rattle.disk_model.specs.Content.{Content, Lawful}
+use Rattle.std.proofs.Common.{◌≡◌, ◌∙◌, ◌≤◌, ℕ, List, false, sym, ap, subst, inl}
+use Rattle.disk_model.specs.Content.{Lawful}
 use Rattle.epoch_line.specs.Line.{IsLine}
 use Rattle.log_steps.specs.Fronts.{Each}
 use Rattle.log_steps.proofs.Moments.{leaves_weaker}

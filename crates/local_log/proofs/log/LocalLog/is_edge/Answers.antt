@@ -1,4 +1,4 @@
-use Rattle.std.proofs.Common.{◌≡◌, ◌∙◌, ◌≤◌, ℕ, Bool, true, false, List, sym, ap, subst, eq-eqb, IsTrue}
+use Rattle.std.proofs.Common.{◌≡◌, ◌∙◌, ◌≤◌, false, List, sym, ap, subst, eq-eqb, IsTrue}
 use Rattle.std.specs.Prelude.{unwrap_or}
 use Rattle.segment_file.specs.Growing.{Grown}
 use Rattle.local_log.specs.Log.{Log}

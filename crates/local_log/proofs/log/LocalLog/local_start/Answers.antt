@@ -1,4 +1,4 @@
-use Rattle.std.proofs.Common.{◌∷◌, ◌≤◌, [], ◌++◌, arith}
+use Rattle.std.proofs.Common.{◌∷◌, [], ◌++◌, arith}
 use Rattle.log_steps.proofs.Lists.{each_join}
 use Rattle.local_log.specs.Listing.{IsLaidOut}
 use Rattle.local_log.proofs.Listed.{chain_le}

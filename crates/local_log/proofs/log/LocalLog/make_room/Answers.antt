@@ -1,5 +1,5 @@
-use Rattle.std.proofs.Common.{◌≡◌, ◌∙◌, ap, Bool, false}
-use Rattle.disk_model.specs.Content.{Content, Lawful}
+use Rattle.std.proofs.Common.{◌≡◌, ◌∙◌, ap, false}
+use Rattle.disk_model.specs.Content.{Lawful}
 use Rattle.local_log.specs.Log.{Log}
 use Rattle.local_log.proofs.Having.{has_kept, has_reopens}
 use Rattle.local_log.proofs.log.LocalLog.make_room.Goals as goal

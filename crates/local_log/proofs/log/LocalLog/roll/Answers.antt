@@ -1,6 +1,6 @@
-use Rattle.std.proofs.Common.{◌≡◌, ◌∙◌, ◌<◌, ◌+◌, ℕ, List, [], ◌∷◌, ◌++◌, length, Bool, false, refl, sym, ap, subst, arith, ◌≤◌}
+use Rattle.std.proofs.Common.{◌≡◌, ◌∙◌, ◌<◌, ◌+◌, ℕ, List, [], ◌∷◌, ◌++◌, length, false, refl, sym, ap, subst, arith, ◌≤◌}
 use Rattle.tier_base.specs.declared.plain.FileName.TheVariants as file
-use Rattle.disk_model.specs.Content.{Content, Lawful, Files, Image, Begins}
+use Rattle.disk_model.specs.Content.{Lawful, Files, Image, Begins}
 use Rattle.segment_file.specs.Growing.{Grown}
 use Rattle.local_log.specs.Log.{Log}
 use Rattle.log_steps.specs.Fronts.{Each}

@@ -1,7 +1,7 @@
-use Rattle.std.proofs.Common.{◌≡◌, ◌∙◌, ◌≤◌, ℕ, List, Bool, true, false, refl, sym, ap, subst, arith, ◌++◌, ◌∷◌, []}
+use Rattle.std.proofs.Common.{◌≡◌, ◌∙◌, ◌≤◌, ℕ, List, false, refl, sym, ap, subst, arith, ◌++◌, ◌∷◌, []}
 use Rattle.std.proofs.lemmas.Bool.{true≢false}
 use Rattle.tier_base.specs.Device.{failing, Went}
-use Rattle.disk_model.specs.Content.{Content, Lawful}
+use Rattle.disk_model.specs.Content.{Lawful}
 use Rattle.epoch_line.specs.Line.{cut_end, IsLine}
 use Rattle.segment_file.specs.Growing.{Grown}
 use Rattle.log_steps.specs.Fronts.{Each}

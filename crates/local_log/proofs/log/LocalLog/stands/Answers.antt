@@ -1,5 +1,4 @@
-use Rattle.std.proofs.Common.{◌≡◌}
-use Rattle.disk_model.specs.Content.{Content, Lawful}
+use Rattle.disk_model.specs.Content.{Lawful}
 use Rattle.local_log.proofs.Having.{image_opens}
 use Rattle.local_log.proofs.log.LocalLog.stands.Goals as goal
 

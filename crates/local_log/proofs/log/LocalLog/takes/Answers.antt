@@ -1,6 +1,6 @@
-use Rattle.std.proofs.Common.{◌≡◌, ◌∙◌, ◌<◌, ◌+◌, ℕ, length, arith, ap, sym}
+use Rattle.std.proofs.Common.{length, arith}
 use Rattle.std.proofs.lemmas.Bool.{ltb-true}
-use Rattle.local_log.proofs.Admitted.{run_taken, taken_run}
+use Rattle.local_log.proofs.Admitted.{run_taken}
 use Rattle.local_log.proofs.log.LocalLog.takes.Goals as goal
 
 pub returns-else-run-gt0 : goal.returns-else-run-gt0
