@@ -9,7 +9,8 @@ ghost use Rattle.std.specs.Prelude.{◌≡◌, ◌⊎◌, ◌+◌, ◌≤◌, �
 ghost use Rattle.disk_model.specs.Content.{LeavesOnly, Image, Files, Keeps};
 ghost use Rattle.tier_base.specs.declared.fault.Trouble.TheVariants as fault;
 ghost use Rattle.tier_base.specs.Counts.{counted, Rose};
-ghost use Rattle.tier_base.specs.Device.{Lasts};
+ghost use Rattle.tier_base.specs.Device.{Lasts, fate_of};
+ghost use Rattle.log_steps.specs.Runs.{Runs};
 ghost use Rattle.epoch_line.specs.Line.{cut_end};
 ghost use Rattle.log_manifest.specs.Spelling.{manifest_bytes};
 ghost use Rattle.log_steps.specs.Opens.{Opens};
@@ -87,13 +88,7 @@ impl<D: Disk> LocalLog<D> {
             → Image (D.content self.old.disk) c }
         ensures broken { IsErrOf result fault.Failed → self.new.broken ≡ true }
         ensures is_observable { (D.content self.new.disk).is_observable ≡ (D.content self.old.disk).is_observable }
-        ensures control { Lasts (D.control self.old.disk) (D.control self.new.disk) }
-        ensures cause { IsErrOf result fault.Failed
-            → Rose (D.control self.old.disk).faults (D.control self.new.disk).faults }
-        ensures quiet { (IsErrOf result fault.Failed → ⊥)
-            → (D.control self.new.disk).faults ≡ (D.control self.old.disk).faults }
-        ensures once { IsErrOf result fault.Failed
-            → (D.control self.new.disk).faults ≡ counted (D.control self.old.disk).faults 1 }
+        ensures control { Runs (fate_of result) (D.control self.old.disk) (D.control self.new.disk) }
     {
         self.stands();
         let mut line = self.line.copy(self.alloc)?;
@@ -125,13 +120,7 @@ impl<D: Disk> LocalLog<D> {
             → Image (D.content self.old.disk) c }
         ensures broken { IsErrOf result fault.Failed → self.new.broken ≡ true }
         ensures is_observable { (D.content self.new.disk).is_observable ≡ (D.content self.old.disk).is_observable }
-        ensures control { Lasts (D.control self.old.disk) (D.control self.new.disk) }
-        ensures cause { IsErrOf result fault.Failed
-            → Rose (D.control self.old.disk).faults (D.control self.new.disk).faults }
-        ensures quiet { (IsErrOf result fault.Failed → ⊥)
-            → (D.control self.new.disk).faults ≡ (D.control self.old.disk).faults }
-        ensures once { IsErrOf result fault.Failed
-            → (D.control self.new.disk).faults ≡ counted (D.control self.old.disk).faults 1 }
+        ensures control { Runs (fate_of result) (D.control self.old.disk) (D.control self.new.disk) }
     {
         let point = end_by(self.local_start, &self.closed, &self.active, end);
         self.cut_within(point)
@@ -177,13 +166,7 @@ impl<D: Disk> LocalLog<D> {
         ensures broken { IsErrOf result fault.Failed → Breaks D.content self.old self.new }
         ensures room { OnOk result (D.spare self.new.disk + 1 ≡ D.spare self.old.disk) }
         ensures is_observable { (D.content self.new.disk).is_observable ≡ (D.content self.old.disk).is_observable }
-        ensures control { Lasts (D.control self.old.disk) (D.control self.new.disk) }
-        ensures cause { IsErrOf result fault.Failed
-            → Rose (D.control self.old.disk).faults (D.control self.new.disk).faults }
-        ensures quiet { (IsErrOf result fault.Failed → ⊥)
-            → (D.control self.new.disk).faults ≡ (D.control self.old.disk).faults }
-        ensures once { IsErrOf result fault.Failed
-            → (D.control self.new.disk).faults ≡ counted (D.control self.old.disk).faults 1 }
+        ensures control { Runs (fate_of result) (D.control self.old.disk) (D.control self.new.disk) }
     {
         let last = open_front(self.local_start, &self.closed, &self.active, end);
         match publish(&mut self.disk, FileName::Log(last.base), bytes) {
@@ -257,13 +240,7 @@ impl<D: Disk> LocalLog<D> {
             → Image (D.content self.old.disk) c }
         ensures broken { IsErrOf result fault.Failed → self.new.broken ≡ true }
         ensures is_observable { (D.content self.new.disk).is_observable ≡ (D.content self.old.disk).is_observable }
-        ensures control { Lasts (D.control self.old.disk) (D.control self.new.disk) }
-        ensures cause { IsErrOf result fault.Failed
-            → Rose (D.control self.old.disk).faults (D.control self.new.disk).faults }
-        ensures quiet { (IsErrOf result fault.Failed → ⊥)
-            → (D.control self.new.disk).faults ≡ (D.control self.old.disk).faults }
-        ensures once { IsErrOf result fault.Failed
-            → (D.control self.new.disk).faults ≡ counted (D.control self.old.disk).faults 1 }
+        ensures control { Runs (fate_of result) (D.control self.old.disk) (D.control self.new.disk) }
     {
         self.settle(bytes, end)?;
         Ok(self.shed(end)?)
@@ -290,13 +267,7 @@ impl<D: Disk> LocalLog<D> {
             → Image (D.content self.old.disk) c }
         ensures broken { IsErrOf result fault.Failed → self.new.broken ≡ true }
         ensures is_observable { (D.content self.new.disk).is_observable ≡ (D.content self.old.disk).is_observable }
-        ensures control { Lasts (D.control self.old.disk) (D.control self.new.disk) }
-        ensures cause { IsErrOf result fault.Failed
-            → Rose (D.control self.old.disk).faults (D.control self.new.disk).faults }
-        ensures quiet { (IsErrOf result fault.Failed → ⊥)
-            → (D.control self.new.disk).faults ≡ (D.control self.old.disk).faults }
-        ensures once { IsErrOf result fault.Failed
-            → (D.control self.new.disk).faults ≡ counted (D.control self.old.disk).faults 1 }
+        ensures control { Runs (fate_of result) (D.control self.old.disk) (D.control self.new.disk) }
     {
         self.stands();
         let bytes = self.listing_cut(end)?;
