@@ -3,9 +3,11 @@
 -- Where a batch holds the offset the log ends at that batch's base. A cut to the base of a segment leaves it as the
 -- empty open one, and the segment before it closed. A cut below the local start leaves an empty log at the offset
 -- itself.
-use Rattle.std.specs.Prelude.{◌≡◌, ◌≢◌, ◌⊎◌, ℕ, ◌+◌, nat_le, nat_lt, if◌then◌else◌, List, [], ◌∷◌, ◌++◌, map, None, IsTrue, true}
+use Rattle.std.specs.Prelude.{◌≡◌, ◌≢◌, ◌⊎◌, ℕ, ◌+◌, nat_le, nat_lt, if◌then◌else◌, List, [], ◌∷◌, ◌++◌, map, None, IsTrue, true, Result, OnErr, IsErrOf}
 use Rattle.tier_base.specs.declared.plain.FileName.{FileName}
 use Rattle.tier_base.specs.declared.plain.FileName.TheVariants as file
+use Rattle.tier_base.specs.declared.fault.Trouble.{Trouble}
+use Rattle.tier_base.specs.declared.fault.Trouble.TheVariants as fault
 use Rattle.tier_base.specs.Device.{Fate, Went}
 use Rattle.tier_base.specs.Told.{In}
 use Rattle.disk_model.specs.Content.{Content, Files, Image, LeavesOnly, CutBack, cut_to}
@@ -15,7 +17,7 @@ use Rattle.segment_file.specs.Growing.{Grown}
 use Rattle.log_steps.specs.Opens.{Opened, Opens}
 use Rattle.local_log.specs.Stored.{end_of}
 use Rattle.local_log.specs.Listing.{front_to}
-use Rattle.local_log.specs.Log.{Log, OpensFlushed}
+use Rattle.local_log.specs.Log.{Log, Becomes, OpensFlushed}
 
 -- the segments that end at or below an offset: they stay closed
 abbrev pub closed_by : ℕ → List Grown → List Grown
@@ -122,6 +124,13 @@ module _ {D : Type 0} where
   pub record Breaks (content : D → Content) (before new : Log D) : Type 0 where
     pub fields : new ≡ record before { disk = new.disk; batches = new.batches; broken = true }
     pub is_observable : (content new.disk).is_observable ≡ (content before.disk).is_observable
+
+-- an error leaves the log and its images as they were where memory is out, and a broken log where the disk failed
+pub record StaysOrBreaks {D T : Type 0} (content : D → Content) (old new : Log D) (result : Result T Trouble) : Type 0 where
+  pub others : OnErr result (IsErrOf result fault.NoMemory ⊎ IsErrOf result fault.Failed)
+  pub no_memory : IsErrOf result fault.NoMemory → Becomes content old new
+  pub no_image : IsErrOf result fault.NoMemory → (c : Files) → Image (content new.disk) c → Image (content old.disk) c
+  pub broken : IsErrOf result fault.Failed → new.broken ≡ true
 
 -- it opens as an image of before does
 abbrev pub OpensAs : Content → Files → Type 0

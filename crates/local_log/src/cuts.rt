@@ -9,14 +9,14 @@ ghost use Rattle.std.specs.Prelude.{◌≡◌, ◌⊎◌, ◌+◌, ◌≤◌, �
 ghost use Rattle.disk_model.specs.Content.{LeavesOnly, Image, Files, Keeps};
 ghost use Rattle.tier_base.specs.declared.fault.Trouble.TheVariants as fault;
 ghost use Rattle.tier_base.specs.Counts.{counted, Rose};
-ghost use Rattle.tier_base.specs.Device.{Lasts, fate_of};
+ghost use Rattle.tier_base.specs.Device.{Lasts, fate_of, failing};
 ghost use Rattle.log_steps.specs.Runs.{Runs};
 ghost use Rattle.epoch_line.specs.Line.{cut_end};
 ghost use Rattle.log_manifest.specs.Spelling.{manifest_bytes};
 ghost use Rattle.log_steps.specs.Opens.{Opens};
 ghost use Rattle.local_log.specs.Listing.{front_to, manifest_of};
 ghost use Rattle.local_log.specs.Log.{Becomes};
-ghost use Rattle.local_log.specs.Cutting.{closed_by, open_by, cut_point, shortened, settled, cut, restarted, cut_at, IsLeftUpTo, all_of, opened_to, Cutting, OpensEither, Breaks, OpensAs, OpensAsOr, LeavesBeforeOrNow};
+ghost use Rattle.local_log.specs.Cutting.{closed_by, open_by, cut_point, shortened, settled, cut, restarted, cut_at, IsLeftUpTo, all_of, opened_to, Cutting, OpensEither, Breaks, OpensAs, OpensAsOr, LeavesBeforeOrNow, StaysOrBreaks};
 
 use crate::log::{LocalLog, refused};
 use crate::seeking::end_by;
@@ -82,11 +82,7 @@ impl<D: Disk> LocalLog<D> {
             (OpensAsOr (D.content self.old.disk) (all_of (restarted self.old end (cut_end self.old.line end)))) }
         // So it opens as before the call, or as after it, whatever the answer is.
         ensures either { LeavesBeforeOrNow (D.content self.old.disk) (D.content self.new.disk) }
-        ensures others { OnErr result (IsErrOf result fault.NoMemory ⊎ IsErrOf result fault.Failed) }
-        ensures no_memory { IsErrOf result fault.NoMemory → Becomes D.content self.old self.new }
-        ensures no_image { IsErrOf result fault.NoMemory → (c : Files) → Image (D.content self.new.disk) c
-            → Image (D.content self.old.disk) c }
-        ensures broken { IsErrOf result fault.Failed → self.new.broken ≡ true }
+        ensures err { StaysOrBreaks D.content self.old self.new result }
         ensures is_observable { (D.content self.new.disk).is_observable ≡ (D.content self.old.disk).is_observable }
         ensures control { Runs (fate_of result) (D.control self.old.disk) (D.control self.new.disk) }
     {
@@ -114,11 +110,7 @@ impl<D: Disk> LocalLog<D> {
             (all_of (cut self.old (cut_point end self.old.closed self.old.active)))) }
         // So it opens as before the call, or as after it, whatever the answer is.
         ensures either { LeavesBeforeOrNow (D.content self.old.disk) (D.content self.new.disk) }
-        ensures others { OnErr result (IsErrOf result fault.NoMemory ⊎ IsErrOf result fault.Failed) }
-        ensures no_memory { IsErrOf result fault.NoMemory → Becomes D.content self.old self.new }
-        ensures no_image { IsErrOf result fault.NoMemory → (c : Files) → Image (D.content self.new.disk) c
-            → Image (D.content self.old.disk) c }
-        ensures broken { IsErrOf result fault.Failed → self.new.broken ≡ true }
+        ensures err { StaysOrBreaks D.content self.old self.new result }
         ensures is_observable { (D.content self.new.disk).is_observable ≡ (D.content self.old.disk).is_observable }
         ensures control { Runs (fate_of result) (D.control self.old.disk) (D.control self.new.disk) }
     {
@@ -191,10 +183,7 @@ impl<D: Disk> LocalLog<D> {
             (OpensAs (D.content self.old.disk)) }
         ensures broken { OnErr result (Breaks D.content self.old self.new) }
         ensures is_observable { (D.content self.new.disk).is_observable ≡ (D.content self.old.disk).is_observable }
-        ensures control { Lasts (D.control self.old.disk) (D.control self.new.disk) }
-        ensures cause { OnErr result (Rose (D.control self.old.disk).faults (D.control self.new.disk).faults) }
-        ensures quiet { OnOk result ((D.control self.new.disk).faults ≡ (D.control self.old.disk).faults) }
-        ensures once { OnErr result ((D.control self.new.disk).faults ≡ counted (D.control self.old.disk).faults 1) }
+        ensures control { Runs (failing result) (D.control self.old.disk) (D.control self.new.disk) }
     {
         match trim(
             &mut self.disk,
@@ -234,11 +223,7 @@ impl<D: Disk> LocalLog<D> {
             (OpensAsOr (D.content self.old.disk) (opened_to self.old end)) }
         // So it opens as before the call, or as after it, whatever the answer is.
         ensures either { LeavesBeforeOrNow (D.content self.old.disk) (D.content self.new.disk) }
-        ensures others { OnErr result (IsErrOf result fault.NoMemory ⊎ IsErrOf result fault.Failed) }
-        ensures no_memory { IsErrOf result fault.NoMemory → Becomes D.content self.old self.new }
-        ensures no_image { IsErrOf result fault.NoMemory → (c : Files) → Image (D.content self.new.disk) c
-            → Image (D.content self.old.disk) c }
-        ensures broken { IsErrOf result fault.Failed → self.new.broken ≡ true }
+        ensures err { StaysOrBreaks D.content self.old self.new result }
         ensures is_observable { (D.content self.new.disk).is_observable ≡ (D.content self.old.disk).is_observable }
         ensures control { Runs (fate_of result) (D.control self.old.disk) (D.control self.new.disk) }
     {
@@ -261,11 +246,7 @@ impl<D: Disk> LocalLog<D> {
             (OpensAsOr (D.content self.old.disk) (opened_to self.old end)) }
         // So it opens as before the call, or as after it, whatever the answer is.
         ensures either { LeavesBeforeOrNow (D.content self.old.disk) (D.content self.new.disk) }
-        ensures others { OnErr result (IsErrOf result fault.NoMemory ⊎ IsErrOf result fault.Failed) }
-        ensures no_memory { IsErrOf result fault.NoMemory → Becomes D.content self.old self.new }
-        ensures no_image { IsErrOf result fault.NoMemory → (c : Files) → Image (D.content self.new.disk) c
-            → Image (D.content self.old.disk) c }
-        ensures broken { IsErrOf result fault.Failed → self.new.broken ≡ true }
+        ensures err { StaysOrBreaks D.content self.old self.new result }
         ensures is_observable { (D.content self.new.disk).is_observable ≡ (D.content self.old.disk).is_observable }
         ensures control { Runs (fate_of result) (D.control self.old.disk) (D.control self.new.disk) }
     {

@@ -7,13 +7,14 @@ ghost use Rattle.std.specs.Prelude.{◌≡◌, ◌⊎◌, ◌+◌, ◌≤◌, �
 ghost use Rattle.disk_model.specs.Content.{LeavesOnly, Image, Files};
 ghost use Rattle.tier_base.specs.declared.fault.Trouble.TheVariants as fault;
 ghost use Rattle.tier_base.specs.Counts.{counted, Rose};
-ghost use Rattle.tier_base.specs.Device.{Lasts};
+ghost use Rattle.tier_base.specs.Device.{Lasts, fate_of};
+ghost use Rattle.log_steps.specs.Runs.{Runs};
 ghost use Rattle.epoch_line.specs.Line.{cut_end};
 ghost use Rattle.log_manifest.specs.Spelling.{manifest_bytes};
 ghost use Rattle.log_steps.specs.Opens.{Opens};
 ghost use Rattle.local_log.specs.Listing.{front_to, manifest_of};
 ghost use Rattle.local_log.specs.Log.{Becomes, flushed_log};
-ghost use Rattle.local_log.specs.Cutting.{closed_by, open_by, OpensAsOr, LeavesBeforeOrNow};
+ghost use Rattle.local_log.specs.Cutting.{closed_by, open_by, OpensAsOr, LeavesBeforeOrNow, StaysOrBreaks};
 ghost use Rattle.local_log.specs.Dropping.{rest_of, start_behind, IsFirstFlushed, SpansFirst, dropped, OpensDropped};
 
 use crate::log::{LocalLog, refused};
@@ -107,19 +108,9 @@ impl<D: Disk> LocalLog<D> {
             (OpensAsOr (D.content self.old.disk) (flushed_log (dropped self.old))) }
         // So it opens as before the call, or as after it, whatever the answer is.
         ensures either { LeavesBeforeOrNow (D.content self.old.disk) (D.content self.new.disk) }
-        ensures others { OnErr result (IsErrOf result fault.NoMemory ⊎ IsErrOf result fault.Failed) }
-        ensures no_memory { IsErrOf result fault.NoMemory → Becomes D.content self.old self.new }
-        ensures no_image { IsErrOf result fault.NoMemory → (c : Files) → Image (D.content self.new.disk) c
-            → Image (D.content self.old.disk) c }
-        ensures broken { IsErrOf result fault.Failed → self.new.broken ≡ true }
+        ensures err { StaysOrBreaks D.content self.old self.new result }
         ensures is_observable { (D.content self.new.disk).is_observable ≡ (D.content self.old.disk).is_observable }
-        ensures control { Lasts (D.control self.old.disk) (D.control self.new.disk) }
-        ensures cause { IsErrOf result fault.Failed
-            → Rose (D.control self.old.disk).faults (D.control self.new.disk).faults }
-        ensures quiet { (IsErrOf result fault.Failed → ⊥)
-            → (D.control self.new.disk).faults ≡ (D.control self.old.disk).faults }
-        ensures once { IsErrOf result fault.Failed
-            → (D.control self.new.disk).faults ≡ counted (D.control self.old.disk).faults 1 }
+        ensures control { Runs (fate_of result) (D.control self.old.disk) (D.control self.new.disk) }
     {
         let first = &self.closed[0];
         let base = first.base();

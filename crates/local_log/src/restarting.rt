@@ -15,7 +15,7 @@ ghost use Rattle.log_steps.specs.Opens.{Opens};
 ghost use Rattle.log_steps.specs.Runs.{Runs};
 ghost use Rattle.local_log.specs.Listing.{manifest_of};
 ghost use Rattle.local_log.specs.Log.{Becomes};
-ghost use Rattle.local_log.specs.Cutting.{names_of, restarted, all_of, OpensEither, OpensAsOr, LeavesBeforeOrNow};
+ghost use Rattle.local_log.specs.Cutting.{names_of, restarted, all_of, OpensEither, OpensAsOr, LeavesBeforeOrNow, StaysOrBreaks};
 ghost use Rattle.local_log.specs.Renewing.{Renews};
 
 use crate::listing::listing;
@@ -103,19 +103,9 @@ impl<D: Disk> LocalLog<D> {
             (OpensAsOr (D.content self.old.disk) (all_of (restarted self.old active.base line))) }
         // So it opens as before the call, or as after it, whatever the answer is.
         ensures either { LeavesBeforeOrNow (D.content self.old.disk) (D.content self.new.disk) }
-        ensures others { OnErr result (IsErrOf result fault.NoMemory ⊎ IsErrOf result fault.Failed) }
-        ensures no_memory { IsErrOf result fault.NoMemory → Becomes D.content self.old self.new }
-        ensures no_image { IsErrOf result fault.NoMemory → (c : Files) → Image (D.content self.new.disk) c
-            → Image (D.content self.old.disk) c }
-        ensures broken { IsErrOf result fault.Failed → self.new.broken ≡ true }
+        ensures err { StaysOrBreaks D.content self.old self.new result }
         ensures is_observable { (D.content self.new.disk).is_observable ≡ (D.content self.old.disk).is_observable }
-        ensures control { Lasts (D.control self.old.disk) (D.control self.new.disk) }
-        ensures cause { IsErrOf result fault.Failed
-            → Rose (D.control self.old.disk).faults (D.control self.new.disk).faults }
-        ensures quiet { (IsErrOf result fault.Failed → ⊥)
-            → (D.control self.new.disk).faults ≡ (D.control self.old.disk).faults }
-        ensures once { IsErrOf result fault.Failed
-            → (D.control self.new.disk).faults ≡ counted (D.control self.old.disk).faults 1 }
+        ensures control { Runs (fate_of result) (D.control self.old.disk) (D.control self.new.disk) }
     {
         match renew(&mut self.disk, bytes, &self.closed, &self.active) {
             Ok(()) => {
