@@ -7,7 +7,8 @@
 ghost use Rattle.std.specs.Prelude.{◌≡◌, ◌⊎◌, ◌↔◌, ◌+◌, ◌≤◌, ◌<◌, ◌^◌, ◌++◌, ◌∷◌, List, [], ℕ, length, false, true, None, IfOk, IfErr, OnOk, OnErr, IsTrue, IsFalse, IsErrOf};
 ghost use Rattle.disk_model.specs.Content.{LeavesOnly, Image, Files, Keeps};
 ghost use Rattle.tier_base.specs.Counts.{counted, Rose};
-ghost use Rattle.tier_base.specs.Device.{Lasts, Arms};
+ghost use Rattle.tier_base.specs.Device.{Lasts, Arms, fate_of};
+ghost use Rattle.log_steps.specs.Runs.{Runs};
 ghost use Rattle.log_terms.specs.Batch.{last_of};
 ghost use Rattle.epoch_line.specs.Line.{IsLine, last_epoch, assign, cut_end};
 ghost use Rattle.log_steps.specs.Opens.{Opened, Opens};
@@ -302,13 +303,7 @@ impl<D: Disk> LocalLog<D> {
 
         ensures no_memory { IsErrOf result fault.NoMemory → Becomes D.content self.old self.new }
         ensures broken { IsErrOf result fault.Failed → Becomes D.content (record self.old { broken = true }) self.new }
-        ensures control { Lasts (D.control self.old.disk) (D.control self.new.disk) }
-        ensures cause { IsErrOf result fault.Failed
-            → Rose (D.control self.old.disk).faults (D.control self.new.disk).faults }
-        ensures quiet { (IsErrOf result fault.Failed → ⊥)
-            → (D.control self.new.disk).faults ≡ (D.control self.old.disk).faults }
-        ensures once { IsErrOf result fault.Failed
-            → (D.control self.new.disk).faults ≡ counted (D.control self.old.disk).faults 1 }
+        ensures control { Runs (fate_of result) (D.control self.old.disk) (D.control self.new.disk) }
     {
         let end = self.active.end();
         let most = self.settings.segment_bytes;
@@ -345,13 +340,7 @@ impl<D: Disk> LocalLog<D> {
 
         ensures no_memory { IsErrOf result fault.NoMemory → Becomes D.content self.old self.new }
         ensures broken { IsErrOf result fault.Failed → Becomes D.content (record self.old { broken = true }) self.new }
-        ensures control { Lasts (D.control self.old.disk) (D.control self.new.disk) }
-        ensures cause { IsErrOf result fault.Failed
-            → Rose (D.control self.old.disk).faults (D.control self.new.disk).faults }
-        ensures quiet { (IsErrOf result fault.Failed → ⊥)
-            → (D.control self.new.disk).faults ≡ (D.control self.old.disk).faults }
-        ensures once { IsErrOf result fault.Failed
-            → (D.control self.new.disk).faults ≡ counted (D.control self.old.disk).faults 1 }
+        ensures control { Runs (fate_of result) (D.control self.old.disk) (D.control self.new.disk) }
     {
         self.closed.reserve(1)?;
         self.disk.reserve(1)?;
@@ -532,13 +521,7 @@ impl<D: Disk> LocalLog<D> {
         ensures no_image { IsErrOf result fault.NoMemory → (c : Files) → Image (D.content self.new.disk) c
             → Image (D.content self.old.disk) c }
         ensures broken { IsErrOf result fault.Failed → Becomes D.content (record self.old { broken = true }) self.new }
-        ensures control { Lasts (D.control self.old.disk) (D.control self.new.disk) }
-        ensures cause { IsErrOf result fault.Failed
-            → Rose (D.control self.old.disk).faults (D.control self.new.disk).faults }
-        ensures quiet { (IsErrOf result fault.Failed → ⊥)
-            → (D.control self.new.disk).faults ≡ (D.control self.old.disk).faults }
-        ensures once { IsErrOf result fault.Failed
-            → (D.control self.new.disk).faults ≡ counted (D.control self.old.disk).faults 1 }
+        ensures control { Runs (fate_of result) (D.control self.old.disk) (D.control self.new.disk) }
     {
         self.disk.reserve(1)?;
         let bytes = listing(
