@@ -15,9 +15,10 @@ use Rattle.remote_view.specs.declared.stairs.Stair.{Stair}
 use Rattle.remote_view.specs.declared.stairs.Stairs.{Stairs}
 use Rattle.remote_view.specs.Fold.{entry_of, changed, updated, recorded, IsKept, AreKept, AreDistinct}
 use Rattle.remote_view.specs.Lookup.{is_readable}
+use Rattle.remote_view.specs.Laying.{IsLaidIn}
 use Rattle.remote_view.specs.Storing.{stair_on, replaced, IsFresh, IsViewed}
 use Rattle.remote_view.proofs.Ids.{same_id, bytes_self}
-use Rattle.remote_view.proofs.Keeping.{skip_right}
+use Rattle.remote_view.proofs.Keeping.{skip_right, finish_right, finishing}
 use Rattle.remote_view.proofs.Renewing.{all_right}
 
 -- an update leaves the id, the offsets and the map
@@ -145,6 +146,17 @@ viewed_update es new old stairs left fresh id x broker event_ts state custom h o
   kept = change_keeps id broker event_ts state custom es h.kept;
   distinct = change_distinct id broker event_ts state custom es h.distinct;
   right = λ epoch. rw one at (all_right (changed x.id (updated broker event_ts state custom) es) stairs left fresh made replaced' epoch);
+})
+
+-- an entry that can be read from now on was laid over all stairs
+pub viewed_laid : (es new : List Entry) (old left : Stairs) (id : SegmentId) (x : Entry) (broker : BrokerId) (event_ts : ℤ) (state : State) (custom : Option (List ℕ))
+    → IsViewed es old → entry_of id es ≡ Some x → x.id ≡ id → new ≡ changed id (updated broker event_ts state custom) es → is_some (next_state (Some x.state) state) ≡ true
+    → (is_readable state ≡ true) × ((entries : List Entry) (epoch : ℕ) → IsLaidIn entries x epoch (stair_on old epoch) (stair_on left epoch)) → IsViewed new left
+viewed_laid es new old left id x broker event_ts state custom h there one is step laid = rw is (record {
+  kept = change_keeps id broker event_ts state custom es h.kept;
+  distinct = change_distinct id broker event_ts state custom es h.distinct;
+  right = λ epoch. rw one at (finish_right broker event_ts state custom es x epoch (stair_on old epoch) (stair_on left epoch) h.distinct h.kept (rw (← one) at there)
+  (finishing x.state state step laid.0) laid.0 (h.right epoch) (laid.1 es epoch));
 })
 
 -- the same stairs

@@ -6,6 +6,7 @@ pub mod Folding
 pub mod Gone
 pub mod Halving
 pub mod Ids
+pub mod InPlace
 pub mod Keeping
 pub mod Lifted
 pub mod Lying

@@ -1,6 +1,7 @@
 -- A stair with an entry laid over it, tread by tread.
-use Rattle.std.proofs.Common.{suc, ◌≡◌, ◌∙◌, refl, sym, ap, ℕ, ◌-◌, ◌<◌, ◌≤◌, Bool, true, false, cond, List, [], ◌∷◌, Option, Some, None, length, get_or, arith, inl, inr}
-use Rattle.std.specs.Prelude.{slice_get, min, max}
+use Rattle.std.proofs.Common.{suc, ◌≡◌, ◌∙◌, refl, sym, ap, ℕ, ◌-◌, ◌<◌, ◌≤◌, Bool, true, false, cond, List, [], ◌∷◌, ◌++◌, Option, Some, None, length, get_or, arith, inl, inr}
+use Rattle.std.specs.Prelude.{slice_get, min, max, not}
+use Rattle.std.specs.Str.{bytes_eq}
 use Rattle.std.proofs.lemmas.Bool.{cases_lt}
 use Rattle.std.proofs.lemmas.Option.{slice_get_within, get_or_from_slice_get}
 use Rattle.std.proofs.lemmas.List.Elements.{All-from_recursion}
@@ -11,9 +12,9 @@ use Rattle.remote_view.specs.declared.tread.Tread.{Tread}
 use Rattle.remote_view.specs.Fold.{entry_of}
 use Rattle.remote_view.specs.Lookup.{better_of}
 use Rattle.remote_view.specs.Stairs.{is_within, id_at, IsUnder, Rises}
-use Rattle.remote_view.specs.Laying.{EndsBy, IsPut, split_at, IsSplit, overlaid, IsLaid}
+use Rattle.remote_view.specs.Laying.{EndsBy, Fits, IsPut, split_at, IsSplit, overlaid, IsLaid}
 use Rattle.remote_view.proofs.Lying.{within_true, within_below, within_past}
-use Rattle.remote_view.proofs.Treads.{nothing_past, nothing_below, ends_weaker}
+use Rattle.remote_view.proofs.Treads.{nothing_past, nothing_below, ends_weaker, behind_says}
 
 -- the first tread starts at an offset or behind it
 abbrev pub StartsFrom : ℕ → List Tread → Type 0
@@ -162,3 +163,39 @@ last_within stair last k at ends is =
     let there = slice_get_within stair k last is in
     let found : get_or stair k last ≡ last = get_or_from_slice_get stair k last last is in
     rw found at (All-from_recursion (λ t. t.to ≤ at) stair ends k last there)
+
+-- one tread more behind the last one, of another segment
+rises_more : (x : Tread) (stair : List Tread) (last tread : Tread) → Rises (x ∷ stair) → slice_get (x ∷ stair) (length (x ∷ stair) - 1) ≡ Some last → last.to ≤ tread.from
+    → bytes_eq last.id.0 tread.id.0 ≡ false → tread.from < tread.to → Rises ((x ∷ stair) ++ tread ∷ [])
+rises_more x [] last tread rises is up other some = let same : x ≡ last = cc in rw same (rw same at rises.0, (up, λ touch. other), (some, tt, tt))
+rises_more x (y ∷ stair) last tread rises is up other some =
+    let same : suc (suc (length stair)) - 1 ≡ suc (length stair) = omega arith in
+    let less : suc (length stair) - 1 ≡ length stair = omega arith in
+    let there : slice_get (y ∷ stair) (suc (length stair) - 1) ≡ Some last = rw less (rw same at is) in
+    (rises.0, rises.1, rises_more y stair last tread rises.2 there up other some)
+
+-- a tread fits behind a stair that ends below it with another segment
+pub fits_behind : (stair : List Tread) (last : Tread) (from : ℕ) (id : SegmentId) → Rises stair → slice_get stair (length stair - 1) ≡ Some last → last.to ≤ from → bytes_eq last.id.0 id.0 ≡ false → Fits from id stair
+fits_behind [] last from id rises is up other = record { ends = tt; rises = λ to some. (some, tt, tt) }
+fits_behind (x ∷ stair) last from id rises is up other = record {
+  ends = ends_with_last (x ∷ stair) last from rises is up;
+  rises = λ to some. rises_more x stair last (record { from = from; to = to; id = id }) rises is up other some;
+}
+
+pub fits_nothing : (stair : List Tread) (from : ℕ) (id : SegmentId) → stair ≡ [] → Fits from id stair
+fits_nothing stair from id none = rw none (record { ends = tt; rises = λ to some. (some, tt, tt) })
+
+-- so it lays an entry there
+pub fit_laid : (entries : List Entry) (entry : Entry) (span : Span) (stair : List Tread) → Fits span.from entry.id stair → span.from < span.to
+    → IsLaid entries entry span stair (stair ++ (record { from = span.from; to = span.to; id = entry.id }) ∷ [])
+fit_laid entries entry span stair fits some = record {
+  rises = fits.rises span.to some;
+  says = λ o. behind_says stair (record { from = span.from; to = span.to; id = entry.id }) o fits.ends ∙ elim (cases_lt o span.from) [
+    | inl low ↦ rw (within_below span.from span.to o low) refl
+    | inr high ↦ rw (nothing_past stair span.from o fits.ends high) refl
+  ];
+}
+
+pub negated : (t : Bool) → not t ≡ true → t ≡ false
+negated true h = absurd (cc)
+negated false h = refl

@@ -104,7 +104,7 @@ put_first from to id old none some = rw none (record {
 })
 
 -- what a tread behind the others gives
-behind_says : (stair : List Tread) (tread : Tread) (o : ℕ) → EndsBy tread.from stair
+pub behind_says : (stair : List Tread) (tread : Tread) (o : ℕ) → EndsBy tread.from stair
     → id_at (stair ++ tread ∷ []) o ≡ cond (is_within tread.from tread.to o) (Some tread.id) (id_at stair o)
 behind_says stair tread o ends = elim (cases_lt o tread.from) [
   | inl low ↦ id_at-append stair (tread ∷ []) o ∙ (rw (within_below tread.from tread.to o low) (at_end (id_at stair o)))

@@ -1,5 +1,5 @@
 -- How a stair is made of another, from its front to its end.
-use Rattle.std.specs.Prelude.{◌≡◌, ℕ, ◌≤◌, ◌&&◌, nat_le, not, Bool, if◌then◌else◌, List, Option, Some, None}
+use Rattle.std.specs.Prelude.{◌≡◌, ℕ, ◌<◌, ◌≤◌, ◌&&◌, nat_le, not, Bool, if◌then◌else◌, List, [], ◌∷◌, ◌++◌, Option, Some, None}
 use Rattle.std.specs.List.{AllByRecursion}
 use Rattle.std.specs.Str.{bytes_eq}
 use Rattle.log_terms.specs.Line.{epoch_at}
@@ -20,6 +20,11 @@ pub record IsPut (from to : ℕ) (id : SegmentId) (old new : List Tread) : Type 
   pub rises : Rises new
   pub ends : (at : ℕ) → EndsBy at old → to ≤ at → EndsBy at new
   pub says : (offset : ℕ) → id_at new offset ≡ (if is_within from to offset then Some id else id_at old offset)
+
+-- a tread of a segment from an offset on can be put behind a stair
+pub record Fits (from : ℕ) (id : SegmentId) (stair : List Tread) : Type 0 where
+  pub ends : EndsBy from stair
+  pub rises : (to : ℕ) → from < to → Rises (stair ++ (record { from = from; to = to; id = id }) ∷ [])
 
 -- what a tread gives, with another segment in a range of it
 abbrev pub split_at : Tread → Span → SegmentId → ℕ → SegmentId

@@ -3,12 +3,15 @@ use Rattle.std.specs.Prelude.{◌≡◌, ℕ, ◌==◌, ◌||◌, Bool, true, fa
 use Rattle.std.specs.List.{AllByRecursion}
 use Rattle.std.specs.Ordering.{nat_cmp}
 use Rattle.std.specs.BTreeMap.{get}
+use Rattle.tier_base.specs.declared.plain.State.{State}
 use Rattle.segment_meta.specs.declared.note.Entry.{Entry}
 use Rattle.remote_view.specs.declared.tread.Tread.{Tread}
 use Rattle.remote_view.specs.declared.stairs.Stair.{Stair}
 use Rattle.remote_view.specs.declared.stairs.Stairs.{Stairs}
 use Rattle.remote_view.specs.Fold.{AreKept, AreDistinct}
+use Rattle.remote_view.specs.Lookup.{is_readable}
 use Rattle.remote_view.specs.Stairs.{IsStair}
+use Rattle.remote_view.specs.Laying.{IsLaidIn}
 
 -- the stair of an epoch; one that was never made is empty
 abbrev pub stair_on : Stairs → ℕ → List Tread
@@ -37,6 +40,13 @@ pub record IsFresh (entries : List Entry) (stairs : Stairs) (fresh : List Stair)
   pub each : AllByRecursion (λ stair. IsStair entries stair.epoch stair.treads) fresh
   pub room : HaveRoom stairs fresh
   pub kept : (epoch : ℕ) → names epoch fresh ≡ false → IsStair entries epoch (stair_on stairs epoch)
+
+-- an entry that can be read from now on was laid over all stairs, or nothing was changed
+abbrev pub IsLaidBehind : Bool → State → Entry → Stairs → Stairs → Type 0
+IsLaidBehind true state entry old new =
+    (is_readable state ≡ true)
+    × ((entries : List Entry) (epoch : ℕ) → IsLaidIn entries entry epoch (stair_on old epoch) (stair_on new epoch))
+IsLaidBehind false state entry old new = (epoch : ℕ) → stair_on new epoch ≡ stair_on old epoch
 
 -- what holds of a view's entries and stairs
 pub record IsViewed (entries : List Entry) (stairs : Stairs) : Type 0 where

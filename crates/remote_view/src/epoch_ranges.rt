@@ -3,7 +3,7 @@
 //! A copy that touches the run makes it longer; one that lies further on begins a new one. So in a log that is copied
 //! in its order all treads of an epoch are in the run.
 
-ghost use Rattle.std.specs.Prelude.{◌≡◌, ◌≤◌, ◌<◌, ◌⊎◌, ℕ, [], None, IfOk};
+ghost use Rattle.std.specs.Prelude.{◌≡◌, ◌≤◌, ◌<◌, ◌⊎◌, ◌++◌, ◌∷◌, ℕ, [], None, OnOk, OnErr, IfOk};
 ghost use Rattle.remote_view.specs.Stairs.{id_at, Rises, IsEndFrom};
 ghost use Rattle.remote_view.specs.Laying.{in_place, IsLaid, IsLifted};
 
@@ -106,6 +106,21 @@ impl EpochRanges {
         let run = grown(self.run, span);
         let treads = lay(alloc, known, self.treads, entry, span)?;
         Ok(EpochRanges { treads, run })
+    }
+
+    /// Puts a tread behind the others. After an `Err` they are as before.
+    pub fn push(&mut self, tread: Tread) -> Result<(), AllocError>
+        ensures ok { OnOk result (self.new ≡ self.old ++ tread ∷ []) }
+        ensures err { OnErr result (self.new ≡ self.old) }
+    {
+        let run = self.run;
+        let span = Span {
+            from: tread.from,
+            to: tread.to,
+        };
+        self.treads.push(tread)?;
+        self.run = grown(run, span);
+        Ok(())
     }
 
     /// The stair without the treads of a segment, which end at an offset or before.

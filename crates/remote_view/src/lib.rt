@@ -11,6 +11,7 @@
 
 mod changing;
 mod epoch_ranges;
+mod in_place;
 mod known;
 mod laws;
 mod laying;

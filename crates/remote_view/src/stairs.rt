@@ -3,7 +3,7 @@
 //! What replaces a stair is put where room was made for it before, which takes no memory. So all the stairs that a note
 //! changes are made first, and then they replace the old ones together.
 
-ghost use Rattle.std.specs.Prelude.{◌≡◌, ◌≤◌, ℕ, [], true, None, OnOk, IfOk, if◌then◌else◌, ◌==◌};
+ghost use Rattle.std.specs.Prelude.{◌≡◌, ◌≢◌, ◌≤◌, ◌++◌, ◌∷◌, ℕ, [], true, None, OnOk, OnErr, IfOk, if◌then◌else◌, ◌==◌};
 ghost use Rattle.remote_view.specs.Stairs.{id_at, Rises, IsEndFrom};
 ghost use Rattle.remote_view.specs.Laying.{in_place, IsLifted};
 ghost use Rattle.remote_view.specs.Storing.{stair_on, has_room, replaced, HaveRoom};
@@ -84,6 +84,23 @@ impl Stairs {
         match self.treads.get(&epoch) {
             Some(stair) => stair.end_from(at),
             None => at,
+        }
+    }
+
+    /// Puts a tread behind those of an epoch's stair. After an `Err` the stairs are as before.
+    pub fn push(&mut self, alloc: Global, epoch: u32, tread: Tread) -> Result<(), AllocError>
+        ensures there { OnOk result (stair_on self.new epoch ≡ stair_on self.old epoch ++ tread ∷ []) }
+        ensures others { (e : ℕ) → e ≢ epoch → stair_on self.new e ≡ stair_on self.old e }
+        ensures err { OnErr result ((e : ℕ) → stair_on self.new e ≡ stair_on self.old e) }
+    {
+        match self.treads.get_mut(&epoch) {
+            Some(stair) => stair.push(tread),
+            None => {
+                let mut stair = EpochRanges::new(alloc);
+                stair.push(tread)?;
+                self.treads.insert(epoch, stair)?;
+                Ok(())
+            }
         }
     }
 

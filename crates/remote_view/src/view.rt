@@ -14,6 +14,7 @@ ghost use Rattle.remote_view.specs.Lookup.{finished, due, IsReach};
 ghost use Rattle.remote_view.specs.Stairs.{IsStair};
 
 use crate::changing::has_id;
+use crate::in_place::lay_behind;
 use crate::known::Known;
 use crate::seeking::id_at;
 use crate::stairs::Stairs;
@@ -178,6 +179,10 @@ impl View {
             return Ok(());
         }
         let custom = copied_custom(self.alloc, custom)?;
+        if lay_behind(self.alloc, &mut self.stairs, entry, state)? {
+            self.known.change(id, broker, event_ts, state, custom);
+            return Ok(());
+        }
         let fresh = fresh(self.alloc, &self.known, &mut self.stairs, entry, state)?;
         self.known.change(id, broker, event_ts, state, custom);
         self.stairs.replace_all(fresh);
