@@ -1,7 +1,8 @@
 -- A stair after a segment was lifted off it, and what lay under that laid in its place.
-use Rattle.std.proofs.Common.{zero, suc, ◌≡◌, ◌∙◌, refl, sym, ap, ℕ, ◌+◌, ◌<◌, ◌≤◌, Bool, true, false, cond, List, [], ◌∷◌, ◌++◌, Option, Some, None, length, take, get_or, arith, inl, inr}
+use Rattle.std.proofs.Common.{zero, suc, ◌≡◌, ◌∙◌, refl, sym, ap, ℕ, ◌+◌, ◌<◌, ◌≤◌, Bool, true, false, cond, List, [], ◌∷◌, ◌++◌, Option, Some, None, length, take, get_or, arith, add-one, inl, inr}
 use Rattle.std.specs.Prelude.{filter, option_map, not, nat_le, IsSome, ◌&&◌}
 use Rattle.std.specs.Str.{bytes_eq}
+use Rattle.std.proofs.lemmas.List.{take_all}
 use Rattle.std.proofs.lemmas.Bool.{both_ways, and_parts, leb-true, le-leb}
 use Rattle.log_terms.specs.Line.{epoch_at}
 use Rattle.tier_base.specs.declared.names.SegmentId.{SegmentId}
@@ -238,3 +239,22 @@ all_bared es x q old new distinct kept here right h = record { rises = h.rises; 
         chosen : (t : Bool) → bytes_eq b.id.0 x.id.0 ≡ t → cond t (option_map (λ e. e.id) (finished q o (others x.id es))) (Some b.id) ≡ option_map (λ e. e.id) (finished q o (others x.id es))
         chosen true own = refl
         chosen false own = rw (other_stays es x q o distinct kept here b found own) refl
+
+-- which default stands behind a list's end doesn't matter within it
+default_free : (es : List Entry) (i : ℕ) (d e : Entry) → i < length es → get_or es i d ≡ get_or es i e
+default_free [] i d e low = absurd (omega (arith, low))
+default_free (x ∷ es) zero d e low = refl
+default_free (x ∷ es) (suc i) d e low = default_free es i d e (omega (arith, low))
+
+-- where no other lies under a segment, its stair without it is the stair over the others
+pub alone_right : (es : List Entry) (x : Entry) (q : ℕ) (old new : List Tread) → AreDistinct es → AreKept es → entry_of x.id es ≡ Some x → IsStair es q old
+    → ((e : Entry) → Among e es → lies_under x e ≡ false) → IsLifted x.id old new → IsStair (others x.id es) q new
+alone_right es x q old new distinct kept here right apart lifted =
+    all_bared es x q old new distinct kept here right (rw (take_all (length es) es (omega arith)) at (walk (length es) (omega arith)))
+  where
+    walk : (n : ℕ) → n ≤ length es → IsBared (others x.id (take n es)) x.id q old new
+    walk zero low = bared_first x.id es q old new lifted
+    walk (suc n) low =
+        let below : n < length es = omega (arith, low) in
+        let next = bared_same es x (get_or es n x) n q old new distinct kept here below (default_free es n x (get_or es n x) below) right (walk n (omega (arith, low))) (apart (get_or es n x) (among_at es n x below)) in
+        rw (add-one n) at next

@@ -1,5 +1,5 @@
 -- The entries after one is changed, or one more is added.
-use Rattle.std.proofs.Common.{◌≡◌, sym, refl, ap, ℕ, Bool, true, false, cond, List, [], ◌∷◌, ◌++◌, Option, Some, None, Result, Ok, Err, Bor, subst}
+use Rattle.std.proofs.Common.{◌≡◌, sym, refl, ap, ℕ, Bool, true, false, cond, List, [], ◌∷◌, ◌++◌, Option, Some, None, Result, Ok, Err, Bor, subst, inl, inr}
 use Rattle.std.specs.Prelude.{ℤ, is_some, option_map, ◌≢◌, OnOk, OnErr}
 use Rattle.std.specs.Str.{bytes_eq}
 use Rattle.tier_base.specs.declared.names.BrokerId.{BrokerId}
@@ -15,11 +15,16 @@ use Rattle.remote_view.specs.declared.stairs.Stair.{Stair}
 use Rattle.remote_view.specs.declared.stairs.Stairs.{Stairs}
 use Rattle.remote_view.specs.Fold.{entry_of, changed, updated, recorded, IsKept, AreKept, AreDistinct}
 use Rattle.remote_view.specs.Lookup.{is_readable}
+use Rattle.remote_view.specs.Stairs.{IsStair}
 use Rattle.remote_view.specs.Laying.{IsLaidIn}
-use Rattle.remote_view.specs.Storing.{stair_on, replaced, IsFresh, IsViewed}
+use Rattle.remote_view.specs.Storing.{stair_on, replaced, IsFresh, IsTakenFirst, IsViewed}
+use Rattle.remote_view.specs.declared.spread.Spread.{Spread}
+use Rattle.remote_view.specs.Spread.{AreSpread}
 use Rattle.remote_view.proofs.Ids.{same_id, bytes_self}
-use Rattle.remote_view.proofs.Keeping.{skip_right, finish_right, finishing}
-use Rattle.remote_view.proofs.Renewing.{all_right}
+use Rattle.remote_view.proofs.Keeping.{skip_right, finish_right, finishing, gone_right, given_nowhere, kept_found}
+use Rattle.remote_view.proofs.Baring.{alone_right}
+use Rattle.remote_view.proofs.Spreading.{found_in, among_in}
+use Rattle.remote_view.proofs.Renewing.{all_right, nowhere}
 
 -- an update leaves the id, the offsets and the map
 pub change_keeps : (id : SegmentId) (broker : BrokerId) (event_ts : ℤ) (state : State) (custom : Option (List ℕ)) (es : List Entry) → AreKept es
@@ -156,8 +161,30 @@ viewed_laid es new old left id x broker event_ts state custom h there one is ste
   kept = change_keeps id broker event_ts state custom es h.kept;
   distinct = change_distinct id broker event_ts state custom es h.distinct;
   right = λ epoch. rw one at (finish_right broker event_ts state custom es x epoch (stair_on old epoch) (stair_on left epoch) h.distinct h.kept (rw (← one) at there)
-  (finishing x.state state step laid.0) laid.0 (h.right epoch) (laid.1 es epoch));
+      (finishing x.state state step laid.0) laid.0 (h.right epoch) (laid.1 es epoch));
 })
+
+-- an entry that can't be read from now on, and shares no offset, was taken off all stairs
+pub viewed_taken : (es new : List Entry) (old left : Stairs) (spread : Spread) (id : SegmentId) (x : Entry) (broker : BrokerId) (event_ts : ℤ) (state : State) (custom : Option (List ℕ))
+    → IsViewed es old → AreSpread spread es → entry_of id es ≡ Some x → x.id ≡ id → new ≡ changed id (updated broker event_ts state custom) es
+    → IsTakenFirst true spread.alone state x old left → IsViewed new left
+viewed_taken es new old left spread id x broker event_ts state custom h spreads there one is taken = rw is (record {
+  kept = change_keeps id broker event_ts state custom es h.kept;
+  distinct = change_distinct id broker event_ts state custom es h.distinct;
+  right = λ epoch. rw one at (right epoch);
+})
+  where
+    here : entry_of x.id es ≡ Some x
+    here = rw (← one) at there
+
+    right : (q : ℕ) → IsStair (changed x.id (updated broker event_ts state custom) es) q (stair_on left q)
+    right q = elim (taken.3 q) [
+      | inl lifted ↦
+          gone_right broker event_ts state custom es x.id q (stair_on left q) h.distinct taken.0
+          (alone_right es x q (stair_on old q) (stair_on left q) h.distinct h.kept here (h.right q)
+          (λ e among. spreads.alone x e (found_in es x.id x here) (among_in es e among) taken.1 taken.2) lifted)
+      | inr none ↦ rw none.1 (nowhere broker event_ts state custom es x q (stair_on old q) here (λ o. given_nowhere x q o (kept_found x.id es x h.kept here) none.0) (h.right q))
+    ]
 
 -- the same stairs
 pub viewed_same : (es : List Entry) (old new : Stairs) → IsViewed es old → ((e : ℕ) → stair_on new e ≡ stair_on old e) → IsViewed es new

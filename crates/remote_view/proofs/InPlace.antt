@@ -1,8 +1,7 @@
 -- Stairs that are changed at one end, in place.
-use Rattle.std.proofs.Common.{◌≡◌, ◌≢◌, refl, ℕ, ◌+◌, ◌<◌, List, [], ◌∷◌, ◌++◌, Some, None, inl, inr}
+use Rattle.std.proofs.Common.{◌≡◌, ◌≢◌, refl, ℕ, ◌+◌, List, [], ◌∷◌, ◌++◌, Some, None, inl, inr}
 use Rattle.std.proofs.lemmas.Bool.{cases_eq, eq-eqb, ne_eqb}
 use Rattle.segment_meta.specs.declared.note.Entry.{Entry}
-use Rattle.remote_view.specs.declared.spans.Span.{Span}
 use Rattle.remote_view.specs.declared.stairs.Stairs.{Stairs}
 use Rattle.remote_view.specs.Fold.{IsKept}
 use Rattle.remote_view.specs.Stairs.{span_of, Rises}

@@ -15,4 +15,5 @@ pub mod Placing
 pub mod Reaching
 pub mod Renewing
 pub mod Running
+pub mod Spreading
 pub mod Treads

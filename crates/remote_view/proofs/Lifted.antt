@@ -1,13 +1,15 @@
 -- A stair without the treads of one segment.
-use Rattle.std.proofs.Common.{◌≡◌, ◌∙◌, refl, ℕ, ◌<◌, ◌≤◌, Bool, true, false, cond, List, [], ◌∷◌, Some, None, arith}
-use Rattle.std.specs.Prelude.{filter, not, max}
+use Rattle.std.proofs.Common.{◌≡◌, ◌∙◌, refl, sym, ℕ, ◌+◌, ◌<◌, ◌≤◌, Bool, true, false, cond, List, [], ◌∷◌, Some, None, length, drop, arith, inl, inr}
+use Rattle.std.specs.Prelude.{filter, not, max, nat_le}
 use Rattle.std.specs.List.{AllByRecursion}
 use Rattle.std.specs.Str.{bytes_eq}
+use Rattle.std.proofs.lemmas.Bool.{and_parts, leb-true, cases_lt}
+use Rattle.std.proofs.lemmas.List.{drop_more}
 use Rattle.tier_base.specs.declared.names.SegmentId.{SegmentId}
 use Rattle.remote_view.specs.declared.tread.Tread.{Tread}
-use Rattle.remote_view.specs.Stairs.{is_within, id_at, IsUnder, Rises, HasAll}
+use Rattle.remote_view.specs.Stairs.{is_within, id_at, IsUnder, Rises, HasAll, begins_with}
 use Rattle.remote_view.specs.Laying.{in_place, of_others, IsLifted}
-use Rattle.remote_view.proofs.Lying.{within_says, within_below}
+use Rattle.remote_view.proofs.Lying.{within_says, within_below, within_past}
 
 -- each tread starts at an offset or behind it
 abbrev Behind : ℕ → List Tread → Type 0
@@ -78,11 +80,39 @@ module _ (id : SegmentId) where
   pub is_lifted : (stair new : List Tread) → Rises stair → new ≡ filter (of_others id) stair → IsLifted id stair new
   is_lifted stair new rises is = rw is (record { rises = lifted_rises stair rises; says = lifted_says stair rises })
 
+-- without its first tread a stair gives nothing in the segment's place, where no other is of the segment
+taken_front : (id : SegmentId) (end : ℕ) (t : Tread) (rest : List Tread) → Rises (t ∷ rest) → begins_with id end (t ∷ rest) ≡ true
+    → ((o : ℕ) → end ≤ o → in_place id None (id_at (t ∷ rest) o) ≡ id_at (t ∷ rest) o) → IsLifted id (t ∷ rest) rest
+taken_front id end t rest rises first own = record { rises = rises.2; says = says }
+  where
+    both : (nat_le end t.to ≡ true) × (bytes_eq t.id.0 id.0 ≡ true)
+    both = and_parts (nat_le end t.to) (bytes_eq t.id.0 id.0) first
+
+    before : (u : Bool) → None ≡ in_place id None (cond u (Some t.id) None)
+    before true = rw both.1 refl
+    before false = refl
+
+    says : (o : ℕ) → id_at rest o ≡ in_place id None (id_at (t ∷ rest) o)
+    says o = elim (cases_lt o t.to) [
+      | inl low ↦ rw (nothing_before rest t.to o (rises_behind t rest rises) low) (before (is_within t.from t.to o))
+      | inr past ↦
+          let ends = leb-true end t.to both.0 in
+          let same : in_place id None (id_at rest o) ≡ id_at rest o = rw (within_past t.from t.to o past) at (own o (omega (arith, ends, past))) in
+          rw (within_past t.from t.to o past) (sym same)
+    ]
+
+pub taken_first : (id : SegmentId) (end gone : ℕ) (treads : List Tread) → gone < length treads → Rises (drop gone treads) → begins_with id end (drop gone treads) ≡ true
+    → ((o : ℕ) → end ≤ o → in_place id None (id_at (drop gone treads) o) ≡ id_at (drop gone treads) o) → IsLifted id (drop gone treads) (drop (gone + 1) treads)
+taken_first id end gone [] low rises first own = absurd (omega (arith, low))
+taken_first id end gone (x ∷ treads) low rises first own =
+    let here = drop_more (x ∷ treads) gone x low in
+    rw here (taken_front id end _ _ (rw here at rises) (rw here at first) (rw here at own))
+
 -- a run behind the segment keeps its treads
-pub lifted_run : (id : SegmentId) (stair new : List Tread) (from to later end : ℕ) → Rises stair → new ≡ filter (of_others id) stair → later ≡ max from end
+pub lifted_run : (id : SegmentId) (stair new : List Tread) (from to later end : ℕ) → IsLifted id stair new → later ≡ max from end
     → ((o : ℕ) → end ≤ o → in_place id None (id_at stair o) ≡ id_at stair o) → HasAll from to stair → HasAll later to new
-lifted_run id stair new from to later end rises is start own all o low high =
-    let says : id_at new o ≡ id_at stair o = (is_lifted id stair new rises is).says o ∙ own o (omega (arith, start, low)) in
+lifted_run id stair new from to later end lifted start own all o low high =
+    let says : id_at new o ≡ id_at stair o = lifted.says o ∙ own o (omega (arith, start, low)) in
     rw says (all o (omega (arith, start, low)) high)
 
 pub none_lifted : (id : SegmentId) (stair new : List Tread) → stair ≡ [] → new ≡ [] → IsLifted id stair new

@@ -1,10 +1,8 @@
 -- A stair with an entry laid over it, tread by tread.
-use Rattle.std.proofs.Common.{suc, ◌≡◌, ◌∙◌, refl, sym, ap, ℕ, ◌-◌, ◌<◌, ◌≤◌, Bool, true, false, cond, List, [], ◌∷◌, ◌++◌, Option, Some, None, length, get_or, arith, inl, inr}
+use Rattle.std.proofs.Common.{suc, ◌≡◌, ◌∙◌, refl, sym, ap, ℕ, ◌-◌, ◌<◌, ◌≤◌, Bool, true, false, cond, List, [], ◌∷◌, ◌++◌, Option, Some, None, length, arith, inl, inr}
 use Rattle.std.specs.Prelude.{slice_get, min, max, not}
 use Rattle.std.specs.Str.{bytes_eq}
 use Rattle.std.proofs.lemmas.Bool.{cases_lt}
-use Rattle.std.proofs.lemmas.Option.{slice_get_within, get_or_from_slice_get}
-use Rattle.std.proofs.lemmas.List.Elements.{All-from_recursion}
 use Rattle.tier_base.specs.declared.names.SegmentId.{SegmentId}
 use Rattle.segment_meta.specs.declared.note.Entry.{Entry}
 use Rattle.remote_view.specs.declared.spans.Span.{Span}
@@ -132,17 +130,6 @@ at_last entries entry span stair laid new at from so is_from put = record {
   ];
 }
 
--- an entry that lies behind the whole stair
-pub all_behind : (entries : List Entry) (entry : Entry) (span : Span) (stair new : List Tread) → EndsBy span.from stair → IsPut span.from span.to entry.id stair new
-    → IsLaid entries entry span stair new
-all_behind entries entry span stair new ends put = record {
-  rises = put.rises;
-  says = λ o. put.says o ∙ elim (cases_lt o span.from) [
-    | inl low ↦ rw (within_below span.from span.to o low) refl
-    | inr high ↦ rw (nothing_past stair span.from o ends high) refl
-  ];
-}
-
 -- a stair ends where its last tread does
 pub ends_with : (x : Tread) (stair : List Tread) (last : Tread) → Rises (x ∷ stair) → slice_get (x ∷ stair) (length (x ∷ stair) - 1) ≡ Some last → EndsBy last.to (x ∷ stair)
 ends_with x [] last rises is = let same : x ≡ last = cc in rw same (omega arith, tt)
@@ -156,13 +143,6 @@ ends_with x (y ∷ stair) last rises is =
 pub ends_with_last : (stair : List Tread) (last : Tread) (at : ℕ) → Rises stair → slice_get stair (length stair - 1) ≡ Some last → last.to ≤ at → EndsBy at stair
 ends_with_last [] last at rises is up = tt
 ends_with_last (x ∷ stair) last at rises is up = ends_weaker (x ∷ stair) last.to at (ends_with x stair last rises is) up
-
--- and no tread of it goes further
-pub last_within : (stair : List Tread) (last : Tread) (k at : ℕ) → EndsBy at stair → slice_get stair k ≡ Some last → last.to ≤ at
-last_within stair last k at ends is =
-    let there = slice_get_within stair k last is in
-    let found : get_or stair k last ≡ last = get_or_from_slice_get stair k last last is in
-    rw found at (All-from_recursion (λ t. t.to ≤ at) stair ends k last there)
 
 -- one tread more behind the last one, of another segment
 rises_more : (x : Tread) (stair : List Tread) (last tread : Tread) → Rises (x ∷ stair) → slice_get (x ∷ stair) (length (x ∷ stair) - 1) ≡ Some last → last.to ≤ tread.from
@@ -196,6 +176,7 @@ fit_laid entries entry span stair fits some = record {
   ];
 }
 
+-- what isn't true is false
 pub negated : (t : Bool) → not t ≡ true → t ≡ false
 negated true h = absurd (cc)
 negated false h = refl

@@ -59,7 +59,7 @@ unnamed (s ∷ fresh) (p ∷ ps) q end same none =
     rw (← first, parts.0) (unnamed fresh ps q end rest parts.1)
 
 -- what a step makes of an entry that gives an epoch nowhere
-nowhere : (broker : BrokerId) (event_ts : ℤ) (state : State) (custom : Option (List ℕ)) (es : List Entry) (x : Entry) (q : ℕ) (stair : List Tread) → entry_of x.id es ≡ Some x → ((o : ℕ) → gives q o x ≡ false)
+pub nowhere : (broker : BrokerId) (event_ts : ℤ) (state : State) (custom : Option (List ℕ)) (es : List Entry) (x : Entry) (q : ℕ) (stair : List Tread) → entry_of x.id es ≡ Some x → ((o : ℕ) → gives q o x ≡ false)
     → IsStair es q stair → IsStair (changed x.id (updated broker event_ts state custom) es) q stair
 nowhere broker event_ts state custom es x q stair here none right =
     untouched broker event_ts state custom es x q stair here (λ o. out (is_readable x.state) x o refl (none o)) (λ o. out (is_readable state) (updated broker event_ts state custom x) o refl (none o)) right

@@ -1,5 +1,5 @@
 -- A run of offsets that all have a tread, as a stair is laid over.
-use Rattle.std.proofs.Common.{refl, ℕ, ◌<◌, ◌≤◌, Bool, true, false, cond, List, [], ◌∷◌, ◌++◌, Option, Some, None, ◌∙◌, ap, inl, inr}
+use Rattle.std.proofs.Common.{refl, ℕ, ◌<◌, ◌≤◌, Bool, true, false, cond, List, [], ◌∷◌, ◌++◌, Option, Some, None, inl, inr}
 use Rattle.std.specs.Prelude.{IsSome, ◌⊎◌}
 use Rattle.tier_base.specs.declared.names.SegmentId.{SegmentId}
 use Rattle.segment_meta.specs.declared.note.Entry.{Entry}

@@ -1,5 +1,5 @@
 -- How a stair is made of another, from its front to its end.
-use Rattle.std.specs.Prelude.{◌≡◌, ℕ, ◌<◌, ◌≤◌, ◌&&◌, nat_le, not, Bool, if◌then◌else◌, List, [], ◌∷◌, ◌++◌, Option, Some, None}
+use Rattle.std.specs.Prelude.{◌≡◌, ℕ, ◌<◌, ◌≤◌, ◌&&◌, nat_le, not, Bool, true, false, if◌then◌else◌, List, [], ◌∷◌, ◌++◌, Option, Some, None}
 use Rattle.std.specs.List.{AllByRecursion}
 use Rattle.std.specs.Str.{bytes_eq}
 use Rattle.log_terms.specs.Line.{epoch_at}
@@ -66,6 +66,11 @@ in_place id other (Some given) = if bytes_eq given.0 id.0 then other else Some g
 pub record IsLifted (id : SegmentId) (old new : List Tread) : Type 0 where
   pub rises : Rises new
   pub says : (offset : ℕ) → id_at new offset ≡ in_place id None (id_at old offset)
+
+-- they were taken out, or the stair is as before
+abbrev pub IsTaken : Bool → SegmentId → List Tread → List Tread → Type 0
+IsTaken true id old new = IsLifted id old new
+IsTaken false id old new = new ≡ old
 
 -- another entry can be read, and shares an offset with one
 abbrev pub lies_under : Entry → Entry → Bool

@@ -3,7 +3,7 @@
 -- An epoch's stair is a list of treads, which rise. What it gives at an offset is the best copy there, so that one
 -- search in it answers what a pass over all entries would.
 use Rattle.std.specs.Prelude.{◌≡◌, ℕ, ◌<◌, ◌≤◌, ◌==◌, ◌&&◌, nat_lt, nat_le, Bool, false, if◌then◌else◌, List, [], ◌∷◌}
-use Rattle.std.specs.Prelude.{Option, Some, None, IsSome, option_map}
+use Rattle.std.specs.Prelude.{length, drop, Option, Some, None, IsSome, option_map}
 use Rattle.std.specs.Str.{bytes_eq}
 use Rattle.epoch_line.specs.Line.{start_or}
 use Rattle.tier_base.specs.declared.names.SegmentId.{SegmentId}
@@ -41,6 +41,16 @@ Rises (tread ∷ stair) = (tread.from < tread.to) × IsUnder tread stair × Rise
 -- each offset of a range has a tread
 abbrev pub HasAll : ℕ → ℕ → List Tread → Type 0
 HasAll from to stair = (offset : ℕ) → from ≤ offset → offset < to → IsSome (id_at stair offset)
+
+-- so many treads in front are gone, and each offset of a run has one of the others
+pub record AreLive (run : Span) (gone : ℕ) (treads : List Tread) : Type 0 where
+  pub within : gone ≤ length treads
+  pub all : HasAll run.from run.to (drop gone treads)
+
+-- the first tread is a segment's, and ends at an offset or behind it
+abbrev pub begins_with : SegmentId → ℕ → List Tread → Bool
+begins_with id end [] = false
+begins_with id end (tread ∷ stair) = nat_le end tread.to && bytes_eq tread.id.0 id.0
 
 -- each offset from one on up to an end has a tread, and the end has none
 pub record IsEndFrom (stair : List Tread) (at end : ℕ) : Type 0 where

@@ -1,5 +1,5 @@
 -- The stairs of all epochs, as they are kept.
-use Rattle.std.specs.Prelude.{◌≡◌, ℕ, ◌==◌, ◌||◌, Bool, true, false, if◌then◌else◌, List, [], ◌∷◌, is_some, unwrap_or}
+use Rattle.std.specs.Prelude.{◌≡◌, ◌≤◌, ◌+◌, ◌⊎◌, None, ℕ, ◌==◌, ◌||◌, Bool, true, false, if◌then◌else◌, List, [], ◌∷◌, is_some, unwrap_or}
 use Rattle.std.specs.List.{AllByRecursion}
 use Rattle.std.specs.Ordering.{nat_cmp}
 use Rattle.std.specs.BTreeMap.{get}
@@ -10,8 +10,8 @@ use Rattle.remote_view.specs.declared.stairs.Stair.{Stair}
 use Rattle.remote_view.specs.declared.stairs.Stairs.{Stairs}
 use Rattle.remote_view.specs.Fold.{AreKept, AreDistinct}
 use Rattle.remote_view.specs.Lookup.{is_readable}
-use Rattle.remote_view.specs.Stairs.{IsStair}
-use Rattle.remote_view.specs.Laying.{IsLaidIn}
+use Rattle.remote_view.specs.Stairs.{span_of, IsStair}
+use Rattle.remote_view.specs.Laying.{IsLaidIn, IsLifted}
 
 -- the stair of an epoch; one that was never made is empty
 abbrev pub stair_on : Stairs → ℕ → List Tread
@@ -47,6 +47,15 @@ IsLaidBehind true state entry old new =
     (is_readable state ≡ true)
     × ((entries : List Entry) (epoch : ℕ) → IsLaidIn entries entry epoch (stair_on old epoch) (stair_on new epoch))
 IsLaidBehind false state entry old new = (epoch : ℕ) → stair_on new epoch ≡ stair_on old epoch
+
+-- an entry that can't be read from now on, and that no other lies under, was taken off the front of the only stair
+-- that it lies in, or nothing was changed
+abbrev pub IsTakenFirst : Bool → ℕ → State → Entry → Stairs → Stairs → Type 0
+IsTakenFirst true alone state entry old new =
+    (is_readable state ≡ false) × (is_readable entry.state ≡ true) × (alone ≤ entry.start)
+    × ((epoch : ℕ) → IsLifted entry.id (stair_on old epoch) (stair_on new epoch)
+    ⊎ ((span_of entry.map epoch (entry.end + 1) ≡ None) × (stair_on new epoch ≡ stair_on old epoch)))
+IsTakenFirst false alone state entry old new = (epoch : ℕ) → stair_on new epoch ≡ stair_on old epoch
 
 -- what holds of a view's entries and stairs
 pub record IsViewed (entries : List Entry) (stairs : Stairs) : Type 0 where

@@ -4,9 +4,10 @@
 //! in its order all treads of an epoch are in the run.
 
 ghost use Rattle.std.specs.Prelude.{◌≡◌, ◌≤◌, ◌<◌, ◌⊎◌, ◌++◌, ◌∷◌, ℕ, [], None, OnOk, OnErr, IfOk};
-ghost use Rattle.remote_view.specs.Stairs.{id_at, Rises, IsEndFrom};
-ghost use Rattle.remote_view.specs.Laying.{in_place, IsLaid, IsLifted};
+ghost use Rattle.remote_view.specs.Stairs.{id_at, Rises, begins_with, IsEndFrom};
+ghost use Rattle.remote_view.specs.Laying.{in_place, IsLaid, IsLifted, IsTaken};
 
+use crate::changing::is_same;
 use crate::known::Known;
 use crate::laying::lay;
 use crate::lifting::lifted;
@@ -18,23 +19,24 @@ use std::alloc::{AllocError, Global};
 use std::marker::Model;
 use tier_base::{Row, SegmentId};
 
-/// A stair, and a range of offsets that all have a tread.
+/// A stair, and a range of offsets that all have a tread. Treads that were taken off its front stay in the list.
 #[derive(Drop)]
 pub(crate) struct EpochRanges {
     treads: Row<Tread>,
+    gone: usize,
     run: Span,
 }
 
 impl Model for EpochRanges {
-    ghost use Rattle.std.specs.Prelude.{List};
+    ghost use Rattle.std.specs.Prelude.{List, drop};
     ghost use Rattle.remote_view.specs.declared.tread.Tread.{Tread};
-    ghost use Rattle.remote_view.specs.Stairs.{HasAll};
+    ghost use Rattle.remote_view.specs.Stairs.{AreLive};
 
     ghost Value = { List Tread };
 
-    ghost view = { λ f. f.treads };
+    ghost view = { λ f. drop f.gone f.treads };
 
-    ghost invariant = { λ f. HasAll f.run.from f.run.to f.treads };
+    ghost invariant = { λ f. AreLive f.run f.gone f.treads };
 }
 
 /// A run with a range of offsets more: both, where they touch, and else the one that lies behind the other.
@@ -62,6 +64,16 @@ fn past(run: Span, at: u64) -> u64
     if run.from <= at { at.max(run.to) } else { at }
 }
 
+/// Whether the first tread is a segment's, and ends at an offset or behind it.
+fn begins_with(stair: &[Tread], id: &SegmentId, end: u64) -> bool
+    ensures { result ≡ begins_with id.now end stair.now }
+{
+    match stair {
+        [first, ..] => end <= first.to && is_same(&first.id, id),
+        [] => false,
+    }
+}
+
 impl EpochRanges {
     /// A stair without treads.
     pub fn new(alloc: Global) -> EpochRanges
@@ -69,6 +81,7 @@ impl EpochRanges {
     {
         EpochRanges {
             treads: Row::new(alloc),
+            gone: 0,
             run: Span { from: 0, to: 0 },
         }
     }
@@ -77,16 +90,17 @@ impl EpochRanges {
     pub fn treads(&self) -> &[Tread]
         ensures { result.now ≡ self.now }
     {
-        self.treads.as_slice()
+        self.treads.as_slice().split_at(self.gone).1
     }
 
     /// A stair of the same treads.
     pub fn copy(&self, alloc: Global) -> Result<EpochRanges, AllocError>
         ensures { IfOk result (λ copy. copy ≡ self.now) }
     {
-        let treads = Vec::from_slice(alloc, self.treads.as_slice())?;
+        let treads = Vec::from_slice(alloc, self.treads())?;
         Ok(EpochRanges {
             treads: Row::from_vec(treads),
+            gone: 0,
             run: self.run,
         })
     }
@@ -104,8 +118,12 @@ impl EpochRanges {
         ensures { IfOk result (λ laid. IsLaid known.now entry.now span self laid) }
     {
         let run = grown(self.run, span);
-        let treads = lay(alloc, known, self.treads, entry, span)?;
-        Ok(EpochRanges { treads, run })
+        let treads = lay(alloc, known, self.treads(), entry, span)?;
+        Ok(EpochRanges {
+            treads,
+            gone: 0,
+            run,
+        })
     }
 
     /// Puts a tread behind the others. After an `Err` they are as before.
@@ -130,12 +148,33 @@ impl EpochRanges {
             → in_place id.now None (id_at self.now o) ≡ id_at self.now o }
         ensures { IfOk result (λ lifted. IsLifted id.now self.now lifted) }
     {
-        let treads = lifted(alloc, self.treads.as_slice(), id)?;
+        let treads = lifted(alloc, self.treads(), id)?;
         let run = Span {
             from: self.run.from.max(end),
             to: self.run.to,
         };
-        Ok(EpochRanges { treads, run })
+        Ok(EpochRanges {
+            treads,
+            gone: 0,
+            run,
+        })
+    }
+
+    /// Takes the first tread off, where it is a segment's and ends where the segment's treads do, and returns whether
+    /// it did.
+    pub fn take_first(&mut self, id: &SegmentId, end: u64) -> bool
+        requires rises { Rises self.old }
+        requires ends { (o : ℕ) → end ≤ o
+            → in_place id.now None (id_at self.old o) ≡ id_at self.old o }
+        ensures { IsTaken result id.now self.old self.new }
+    {
+        if self.gone >= self.treads.len() || !begins_with(self.treads(), id, end) {
+            return false;
+        }
+        let from = self.run.from.max(end);
+        self.gone += 1;
+        self.run.from = from;
+        true
     }
 
     /// The first offset from one on that has no tread.
@@ -143,6 +182,6 @@ impl EpochRanges {
         requires { Rises self.now }
         ensures { IsEndFrom self.now at result }
     {
-        end_from(self.treads.as_slice(), past(self.run, at))
+        end_from(self.treads(), past(self.run, at))
     }
 }

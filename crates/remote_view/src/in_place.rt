@@ -2,14 +2,15 @@
 //!
 //! In a log that is copied in its order, and whose copies are deleted in it, almost all steps are of these.
 
-ghost use Rattle.std.specs.Prelude.{◌≡◌, ℕ, ◌∷◌, [], IsTrue, OnErr, IfOk, IfSome};
+ghost use Rattle.std.specs.Prelude.{◌≡◌, ◌≤◌, ◌+◌, ℕ, ◌∷◌, [], None, IsTrue, OnErr, IfOk, IfSome};
 ghost use Rattle.remote_view.specs.Fold.{IsKept};
-ghost use Rattle.remote_view.specs.Stairs.{Rises};
-ghost use Rattle.remote_view.specs.Laying.{Fits};
-ghost use Rattle.remote_view.specs.Storing.{stair_on, IsLaidBehind};
+ghost use Rattle.remote_view.specs.Stairs.{id_at, Rises};
+ghost use Rattle.remote_view.specs.Laying.{in_place, Fits};
+ghost use Rattle.remote_view.specs.Storing.{stair_on, IsLaidBehind, IsTakenFirst};
 
 use crate::changing::is_same;
 use crate::lookup::is_readable;
+use crate::spread::Spread;
 use crate::stairs::Stairs;
 use crate::tread::Tread;
 use segment_meta::Entry;
@@ -63,4 +64,22 @@ pub(crate) fn lay_behind(
     };
     stairs.push(alloc, epoch, tread)?;
     Ok(true)
+}
+
+/// Takes an entry's tread off the front of the stair of its only epoch, where it can't be read from now on and no other
+/// lies under it, and returns whether it did.
+pub(crate) fn take_first(stairs: &mut Stairs, spread: Spread, entry: &Entry, state: State) -> bool
+    requires kept { IsKept entry.now }
+    requires rises { (epoch : ℕ) → Rises (stair_on stairs.old epoch) }
+    requires ends { (epoch o : ℕ) → entry.now.end + 1 ≤ o → in_place entry.now.id None (id_at (stair_on stairs.old epoch) o)
+        ≡ id_at (stair_on stairs.old epoch) o }
+    ensures { IsTakenFirst result spread.alone state entry.now stairs.old stairs.new }
+{
+    if is_readable(state) || !is_readable(entry.state) || entry.start < spread.alone {
+        return false;
+    }
+    match only(entry.map.entries()) {
+        Some((epoch, _)) => stairs.take_first(epoch, &entry.id, entry.end + 1),
+        None => false,
+    }
 }

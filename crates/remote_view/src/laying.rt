@@ -3,7 +3,7 @@
 //! A stair is made anew from its front to its end. What is put behind it joins the last tread, where both touch and are
 //! of one segment, so that treads which touch are of different ones.
 
-ghost use Rattle.std.specs.Prelude.{◌≡◌, ◌<◌, ◌≤◌, ◌==◌, ◌&&◌, ◌↔◌, OnOk, IfOk, IsTrue};
+ghost use Rattle.std.specs.Prelude.{◌≡◌, ◌<◌, ◌≤◌, ◌==◌, ◌&&◌, OnOk, IfOk};
 ghost use Rattle.std.specs.Str.{bytes_eq};
 ghost use Rattle.remote_view.specs.Fold.{entry_of};
 ghost use Rattle.remote_view.specs.Lookup.{better_of};
@@ -77,7 +77,7 @@ fn winner(known: &Known, id: SegmentId, entry: &Entry) -> SegmentId
 }
 
 /// A stair with an entry laid over a range of it, made anew by one pass.
-fn laid_over(
+pub(crate) fn lay(
     alloc: Global,
     known: &Known,
     stair: &[Tread],
@@ -98,36 +98,5 @@ fn laid_over(
         at = tread.to;
     }
     put(&mut laid, span.from.max(at), span.to, entry.id)?;
-    Ok(laid)
-}
-
-/// Whether a stair ends at an offset or before.
-fn ends_by(stair: &[Tread], at: u64) -> bool
-    requires { Rises stair.now }
-    ensures { IsTrue result ↔ EndsBy at stair.now }
-{
-    match stair.last() {
-        Some(last) => last.to <= at,
-        None => true,
-    }
-}
-
-/// Lays an entry over a range of a stair. Behind the stair's end that is one tread more.
-pub(crate) fn lay(
-    alloc: Global,
-    known: &Known,
-    stair: Row<Tread>,
-    entry: &Entry,
-    span: Span,
-) -> Result<Row<Tread>, AllocError>
-    requires rises { Rises stair }
-    requires ordered { span.from ≤ span.to }
-    ensures { IfOk result (λ laid. IsLaid known.now entry.now span stair laid) }
-{
-    if !ends_by(stair.as_slice(), span.from) {
-        return laid_over(alloc, known, stair.as_slice(), entry, span);
-    }
-    let mut laid = stair;
-    put(&mut laid, span.from, span.to, entry.id)?;
     Ok(laid)
 }

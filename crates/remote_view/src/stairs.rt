@@ -5,7 +5,7 @@
 
 ghost use Rattle.std.specs.Prelude.{◌≡◌, ◌≢◌, ◌≤◌, ◌++◌, ◌∷◌, ℕ, [], true, None, OnOk, OnErr, IfOk, if◌then◌else◌, ◌==◌};
 ghost use Rattle.remote_view.specs.Stairs.{id_at, Rises, IsEndFrom};
-ghost use Rattle.remote_view.specs.Laying.{in_place, IsLifted};
+ghost use Rattle.remote_view.specs.Laying.{in_place, IsLifted, IsTaken};
 ghost use Rattle.remote_view.specs.Storing.{stair_on, has_room, replaced, HaveRoom};
 
 use crate::epoch_ranges::EpochRanges;
@@ -101,6 +101,21 @@ impl Stairs {
                 self.treads.insert(epoch, stair)?;
                 Ok(())
             }
+        }
+    }
+
+    /// Takes the first tread off an epoch's stair, where it is a segment's and ends where the segment's treads do, and
+    /// returns whether it did.
+    pub fn take_first(&mut self, epoch: u32, id: &SegmentId, end: u64) -> bool
+        requires rises { Rises (stair_on self.old epoch) }
+        requires ends { (o : ℕ) → end ≤ o
+            → in_place id.now None (id_at (stair_on self.old epoch) o) ≡ id_at (stair_on self.old epoch) o }
+        ensures there { IsTaken result id.now (stair_on self.old epoch) (stair_on self.new epoch) }
+        ensures others { (e : ℕ) → e ≢ epoch → stair_on self.new e ≡ stair_on self.old e }
+    {
+        match self.treads.get_mut(&epoch) {
+            Some(stair) => stair.take_first(id, end),
+            None => false,
         }
     }
 

@@ -14,9 +14,10 @@ ghost use Rattle.remote_view.specs.Lookup.{finished, due, IsReach};
 ghost use Rattle.remote_view.specs.Stairs.{IsStair};
 
 use crate::changing::has_id;
-use crate::in_place::lay_behind;
+use crate::in_place::{lay_behind, take_first};
 use crate::known::Known;
 use crate::seeking::id_at;
+use crate::spread::Spread;
 use crate::stairs::Stairs;
 use crate::stepping::fresh;
 use crate::tread::Tread;
@@ -31,18 +32,20 @@ pub struct View {
     alloc: Global,
     known: Known,
     stairs: Stairs,
+    spread: Spread,
     notes: u64,
 }
 
 impl Model for View {
     ghost use Rattle.remote_view.specs.Fold.{Seen};
     ghost use Rattle.remote_view.specs.Storing.{IsViewed};
+    ghost use Rattle.remote_view.specs.Spread.{AreSpread};
 
     ghost Value = { Seen };
 
     ghost view = { λ v. record { entries = v.known; notes = v.notes } };
 
-    ghost invariant = { λ v. IsViewed v.known v.stairs };
+    ghost invariant = { λ v. IsViewed v.known v.stairs × AreSpread v.spread v.known };
 }
 
 impl View {
@@ -54,6 +57,7 @@ impl View {
             alloc,
             known: Known::new(alloc),
             stairs: Stairs::new(alloc),
+            spread: Spread { past: 0, alone: 0 },
             notes: 0,
         }
     }
@@ -179,13 +183,21 @@ impl View {
             return Ok(());
         }
         let custom = copied_custom(self.alloc, custom)?;
+        let spread = self.spread.after(entry, state);
         if lay_behind(self.alloc, &mut self.stairs, entry, state)? {
             self.known.change(id, broker, event_ts, state, custom);
+            self.spread = spread;
+            return Ok(());
+        }
+        if take_first(&mut self.stairs, self.spread, entry, state) {
+            self.known.change(id, broker, event_ts, state, custom);
+            self.spread = spread;
             return Ok(());
         }
         let fresh = fresh(self.alloc, &self.known, &mut self.stairs, entry, state)?;
         self.known.change(id, broker, event_ts, state, custom);
         self.stairs.replace_all(fresh);
+        self.spread = spread;
         Ok(())
     }
 }

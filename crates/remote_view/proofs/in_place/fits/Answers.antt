@@ -1,4 +1,4 @@
-use Rattle.std.proofs.Common.{sym, ◌∙◌, ◌≡◌, Bool, true, false}
+use Rattle.std.proofs.Common.{sym, ◌∙◌}
 use Rattle.remote_view.proofs.Overlay.{fits_behind, negated}
 use Rattle.remote_view.proofs.in_place.fits.Goals as goal
 
