@@ -109,7 +109,7 @@ order-for options order said fits = record { broker = said.broker; command = in-
 -- with an order
 pub sound-order : (t self : Told) (counts : Counts) (actor : ActorId) (partition : PartitionId) (order : Order) (at_once : Bool) (number : ℕ) → t ≡ self → IsSound t
     → IsFormInRange self.options (Placed actor partition order at_once) → AreCountsWith self.sums (Placed actor partition order at_once) counts → FitsBatch (Placed actor partition order at_once)
-    → IsSound (record { options = t.options; snapshot = true; sums = counts; actors = with_order t.actors actor.0 partition order; parts = parts_stepped t.parts at_once actor number partition.0 })
+    → IsSound (record { options = t.options; begun = true; sums = counts; actors = with_order t.actors actor.0 partition order; parts = parts_stepped t.parts at_once actor number partition.0 })
 sound-order t self counts actor partition order at_once number is h range with fits =
     let said : IsSaidTo (brokers_of t.options) order = rw is (range.1) in
     let count : counts.commands ≡ t.sums.commands + 1 = rw is (with.commands) in
@@ -128,7 +128,7 @@ sound-order t self counts actor partition order at_once number is h range with f
 
 -- with turns
 pub sound-turns : (t self : Told) (counts : Counts) (actor : ActorId) (turns partition : ℕ) → t ≡ self → IsSound t → AreCountsWith self.sums (Turn actor turns) counts
-    → IsSound (record { options = t.options; snapshot = true; sums = counts; actors = t.actors; parts = with_pace t.parts partition (Times actor turns) })
+    → IsSound (record { options = t.options; begun = true; sums = counts; actors = t.actors; parts = with_pace t.parts partition (Times actor turns) })
 sound-turns t self counts actor turns partition is h with =
     let count : counts.commands ≡ t.sums.commands + 0 = rw is (with.commands) in
     let empty = pace-empty t.parts partition (Times actor turns) (empty-of t h) in
@@ -146,7 +146,7 @@ sound-turns t self counts actor turns partition is h with =
 
 -- with a fault
 pub sound-fault : (t : Told) (partition : ℕ) (fault : Fault) → IsSound t
-    → IsSound (record { options = t.options; snapshot = true; sums = t.sums; actors = t.actors; parts = with_fault t.parts partition fault })
+    → IsSound (record { options = t.options; begun = true; sums = t.sums; actors = t.actors; parts = with_fault t.parts partition fault })
 sound-fault t partition fault h =
     let empty = fault-empty t.parts partition fault (empty-of t h) in
     record {

@@ -1,4 +1,4 @@
--- The commands, as they stand behind actor, partition and broker.
+-- The commands, which follow actor, partition and broker.
 --
 --   append record {record}                    records in the module Records
 --   raw hex                                   an even number of hexadecimal digits; else Hex
@@ -8,14 +8,17 @@
 --   offset which                              which: earliest, latest, earliest_local, latest_tiered, or at time
 --   flush, roll, elect, unclean, learn, join, ack, shrink, expand, copy, trim, expire, stop, up    without arguments
 --
--- Where - stands for the broker:
+-- With - for the broker:
 --
 --   clock time                                time: 0 to 2^63 - 1
 --   pack flag, copying flag                   flag: 0 or 1
 use Rattle.std.specs.Prelude.{ℕ, ◌-◌, ◌^◌, ◌==◌, Bool, List, [], ◌∷◌, Result, Ok, Err, pos}
 use Rattle.record_batch.specs.declared.rec.Rec.{Rec}
 use Rattle.plain_log.specs.declared.command.Command.{Command}
-use Rattle.plain_log.specs.declared.command.Command.TheVariants.{Append, Raw, Flush, Roll, Elect, Unclean, Learn, Join, Follow, Ack, Shrink, Expand, Copy, Trim, Expire, Raise, Clock, Stop, Up, Fetch, Pack, Copying, Offset}
+use Rattle.plain_log.specs.declared.command.Command.TheVariants.{Append, Raw, Flush, Roll, Elect, Unclean, Learn}
+use Rattle.plain_log.specs.declared.command.Command.TheVariants.{Join, Follow, Ack, Shrink, Expand, Copy, Trim}
+use Rattle.plain_log.specs.declared.command.Command.TheVariants.{Expire, Raise, Clock, Stop, Up, Fetch, Pack, Copying}
+use Rattle.plain_log.specs.declared.command.Command.TheVariants.{Offset}
 use Rattle.plain_log.specs.declared.command.Which.{Which}
 use Rattle.plain_log.specs.declared.command.Which.TheVariants.{Earliest, Latest, EarliestLocal, LatestTiered, At}
 use Rattle.script_lang.specs.declared.refusal.Why.{Why}
@@ -28,7 +31,7 @@ use Rattle.script_lang.specs.Words.{◌>>=◌, number_first, only_number, first_
 use Rattle.script_lang.specs.Names.{offset_of}
 use Rattle.script_lang.specs.Records.{records_in, hex_in}
 
--- no word behind what was read
+-- no word follows
 abbrev pub alone : {A : Type 0} → A → List (List ℕ) → Result A Why
 alone x words = end_of words Word >>= λ end. Ok x
 

@@ -1,4 +1,4 @@
--- What a script that was read meets: a world can be made of it, and can run its lists.
+-- What holds of every parsed script: a world can be made of it, and can run its lists.
 use Rattle.std.specs.Prelude.{◌≡◌, ℕ, ◌<◌, ◌≤◌, ◌≤ℤ◌, ◌<ℤ◌, pos, ◌^◌, ◌+◌, false, List, [], ◌∷◌, ◌++◌, length, All}
 use Rattle.tier_base.specs.declared.names.ActorId.{ActorId}
 use Rattle.plain_log.specs.declared.command.ActorList.{ActorList}
@@ -13,7 +13,8 @@ use Rattle.script_lang.specs.declared.form.Form.{Form}
 use Rattle.script_lang.specs.declared.form.Form.TheVariants.{Blank, Given, Placed, Turn, Faulty}
 use Rattle.script_lang.specs.declared.options.Options.{Options}
 use Rattle.script_lang.specs.declared.options.OptionLine.{OptionLine}
-use Rattle.script_lang.specs.declared.options.OptionLine.TheVariants.{Brokers, Partitions, SegmentBytes, IndexIntervalBytes}
+use Rattle.script_lang.specs.declared.options.OptionLine.TheVariants.{Brokers, Partitions, SegmentBytes}
+use Rattle.script_lang.specs.declared.options.OptionLine.TheVariants.{IndexIntervalBytes}
 use Rattle.script_lang.specs.declared.script.PartScript.{PartScript}
 use Rattle.script_lang.specs.declared.script.Script.{Script}
 use Rattle.script_lang.specs.Forms.{brokers_of, partitions_of}
@@ -102,7 +103,7 @@ pub record IsSound (t : Told) : Type 0 where
   pub small : AreSmall t.sums
   pub few : (a : ℕ) → length (slot_at t.actors a).orders ≤ t.sums.commands
   pub orders : (a : ℕ) → All (IsOrderFor (config_of t.options)) (slot_at t.actors a).orders
-  pub unbegun : t.snapshot ≡ false → (a : ℕ) → (slot_at t.actors a).orders ≡ []
+  pub unbegun : t.begun ≡ false → (a : ℕ) → (slot_at t.actors a).orders ≡ []
   pub actors : length t.actors ≡ 64
   pub numbered : AreNumbered 0 t.parts
   pub empty : All (λ (part : PartScript). part.lists ≡ []) t.parts

@@ -24,7 +24,8 @@
 --   local_retention_bytes    -2 to 2^63 - 1       -2
 --
 -- A first word that begins with a digit is an actor's number; one that begins no form is Word.
-use Rattle.std.specs.Prelude.{ℕ, ◌-◌, ◌^◌, Bool, true, false, if◌then◌else◌, List, [], ◌∷◌, codes, bytes_eq, Option, Some, None, Result, Ok, Err}
+use Rattle.std.specs.Prelude.{ℕ, ◌-◌, ◌^◌, Bool, true, false, if◌then◌else◌, List, [], ◌∷◌, codes, bytes_eq, Option}
+use Rattle.std.specs.Prelude.{Some, None, Result, Ok, Err}
 use Rattle.std.specs.Option.{unwrap_or}
 use Rattle.plain_log.specs.declared.command.Command.{Command}
 use Rattle.plain_log.specs.declared.command.Order.{Order}
@@ -42,7 +43,9 @@ use Rattle.script_lang.specs.declared.names.Lead.{Lead}
 use Rattle.script_lang.specs.declared.names.Lead.TheVariants as lead
 use Rattle.script_lang.specs.declared.options.Options.{Options}
 use Rattle.script_lang.specs.declared.options.OptionLine.{OptionLine}
-use Rattle.script_lang.specs.declared.options.OptionLine.TheVariants.{Brokers, Partitions, SegmentBytes, IndexIntervalBytes, RetentionMs, RetentionBytes, LocalRetentionMs, LocalRetentionBytes}
+use Rattle.script_lang.specs.declared.options.OptionLine.TheVariants.{Brokers, Partitions, SegmentBytes}
+use Rattle.script_lang.specs.declared.options.OptionLine.TheVariants.{IndexIntervalBytes, RetentionMs, RetentionBytes}
+use Rattle.script_lang.specs.declared.options.OptionLine.TheVariants.{LocalRetentionMs, LocalRetentionBytes}
 use Rattle.script_lang.specs.Words.{◌>>=◌, number_in, number_first, only_number, only_signed, first_of, end_of}
 use Rattle.script_lang.specs.Names.{lead_of, verb_of, device_of, call_of}
 use Rattle.script_lang.specs.Commands.{command_led, common_led}
@@ -76,7 +79,9 @@ addressed_in brokers word words = do
 
 -- broker command
 unfoldable pub order_in : ℕ → List (List ℕ) → Result Order Why
-order_in brokers words = first_of words Word >>= λ word. if bytes_eq word.0 (codes "-") then common_in word.1 else addressed_in brokers word.0 word.1
+order_in brokers words =
+    first_of words Word >>= λ word.
+    if bytes_eq word.0 (codes "-") then common_in word.1 else addressed_in brokers word.0 word.1
 
 -- partition broker command
 unfoldable pub placed_in : Options → Bool → ℕ → List (List ℕ) → Result Form Why
@@ -96,11 +101,12 @@ turn_in words = do
   turns ← only_number 1 (2 ^ 20) actor.1
   Ok (Turn (record { 0 = actor.0 }) turns)
 
--- the device of this kind, and the words behind it
+-- the device of this kind, and the words after it
 abbrev pub device_behind : ℕ → DeviceName → List (List ℕ) → Result (FaultDevice × List (List ℕ)) Why
 device_behind brokers device.Store words = Ok (Store, words)
 device_behind brokers device.Meta words = Ok (Meta, words)
-device_behind brokers device.Disk words = number_first 0 (brokers - 1) words >>= λ broker. Ok (Disk (record { 0 = broker.0 }), broker.1)
+device_behind brokers device.Disk words =
+    number_first 0 (brokers - 1) words >>= λ broker. Ok (Disk (record { 0 = broker.0 }), broker.1)
 device_behind brokers device.Unknown words = Err Word
 
 -- store, meta or disk broker
@@ -135,7 +141,8 @@ call_first device words = do
 
 -- before or after, which is true
 abbrev pub side_named : List ℕ → Result Bool Why
-side_named word = if bytes_eq word (codes "after") then Ok true else if bytes_eq word (codes "before") then Ok false else Err Word
+side_named word =
+    if bytes_eq word (codes "after") then Ok true else if bytes_eq word (codes "before") then Ok false else Err Word
 
 -- side
 unfoldable pub side_in : List (List ℕ) → Result Bool Why
@@ -153,13 +160,16 @@ fault_in options words = do
   call ← call_first device.0 device.1
   number ← number_first 1 (2 ^ 32 - 1) call.1
   after ← side_in number.1
-  Ok (Faulty (record { 0 = partition.0 }) (record { device = device.0; call = call.0; number = number.0; after = after }))
+  Ok (
+      Faulty
+      (record { 0 = partition.0 })
+      (record { device = device.0; call = call.0; number = number.0; after = after }))
 
 -- an option that was read
 abbrev pub given_in : {T : Type 0} → (T → OptionLine) → Result T Why → Result Form Why
 given_in name reading = reading >>= λ value. Ok (Given (name value))
 
--- the words behind a first word
+-- the words after the first one
 abbrev pub form_led : Options → Lead → List ℕ → List (List ℕ) → Result Form Why
 form_led options lead.Comment word words = Ok Blank
 form_led options lead.Brokers word words = given_in Brokers (only_number 1 8 words)

@@ -1,4 +1,4 @@
--- What the commands and turns of the lines so far come to, and the limits of it.
+-- The totals of the commands and turns of the lines so far, and their limits.
 --
 --   commands                                                     at most 65,536      TooMany
 --   the bytes of a batch                                         at most 2^20        BatchTooLarge

@@ -3,18 +3,19 @@
 --   script  = *(text [CR] LF) [text]
 --   text    = any number of spaces, tabs and printable ASCII bytes, 32 to 126
 --
--- A CR has a reading right before an LF alone. A line with another byte is NotText, also where it is a comment.
-use Rattle.std.specs.Prelude.{ℕ, ◌-◌, ◌==◌, ◌&&◌, ◌||◌, nat_le, Bool, if◌then◌else◌, List, [], ◌∷◌, length, take, drop, codes, bytes_eq, Result, Ok, Err}
+-- A CR is valid only right before an LF. A line with another byte is NotText, also if it is a comment.
+use Rattle.std.specs.Prelude.{ℕ, ◌-◌, ◌==◌, ◌&&◌, ◌||◌, nat_le, Bool, if◌then◌else◌, List, [], ◌∷◌, length, take}
+use Rattle.std.specs.Prelude.{drop, codes, bytes_eq, Result, Ok, Err}
 use Rattle.std.specs.List.{list_all}
 use Rattle.script_lang.specs.declared.refusal.Why.{Why}
 use Rattle.script_lang.specs.declared.refusal.Why.TheVariants.{NotText}
 
--- the byte stands at the front of the first line
+-- the byte is put at the front of the first line
 abbrev pub before_first : ℕ → List (List ℕ) → List (List ℕ)
 before_first b [] = (b ∷ []) ∷ []
 before_first b (line ∷ lines) = (b ∷ line) ∷ lines
 
--- each line with its line feed, and what stands behind the last line feed, if anything does
+-- each line with its line feed, and what follows the last line feed, if anything does
 abbrev pub lines_of : List ℕ → List (List ℕ)
 lines_of [] = []
 lines_of (b ∷ bytes) = if b == 10 then (b ∷ []) ∷ lines_of bytes else before_first b (lines_of bytes)
@@ -23,7 +24,7 @@ lines_of (b ∷ bytes) = if b == 10 then (b ∷ []) ∷ lines_of bytes else befo
 abbrev pub ends_with : List ℕ → List ℕ → Bool
 ends_with line end = nat_le (length end) (length line) && bytes_eq (drop (length line - length end) line) end
 
--- what stands before CR LF, or before LF
+-- what precedes CR LF, or LF
 unfoldable pub text_of : List ℕ → List ℕ
 text_of line =
     if ends_with line (codes "\r\n") then take (length line - 2) line

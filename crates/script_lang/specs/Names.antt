@@ -1,4 +1,4 @@
--- The names of a script: what a line's first word announces, the commands, and the words of offset and fault.
+-- The names of the language: the first words of lines, the commands, and the words of offset and fault.
 use Rattle.std.specs.Prelude.{ℕ, ◌==◌, Bool, false, if◌then◌else◌, List, [], ◌∷◌, codes, bytes_eq, Option, Some, None}
 use Rattle.script_lang.specs.declared.fault.FaultCall.{FaultCall}
 use Rattle.script_lang.specs.declared.fault.FaultCall.TheVariants as call
@@ -17,7 +17,7 @@ abbrev pub begins_with : (ℕ → Bool) → List ℕ → Bool
 begins_with is [] = false
 begins_with is (b ∷ bytes) = is b
 
--- what a line's first word announces: a comment, an option, another line's name, or the number of an actor
+-- the kind of a line, by its first word: a comment, an option, another name, or the number of an actor
 unfoldable pub lead_of : List ℕ → Lead
 lead_of word =
     if begins_with (λ b. b == 35) word then lead.Comment

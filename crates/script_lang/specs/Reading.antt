@@ -1,5 +1,6 @@
--- What the readers of a line, a word or a part answer, and how they go over a text from its front.
-use Rattle.std.specs.Prelude.{◌≡◌, ℕ, ◌+◌, ◌==◌, Bool, if◌then◌else◌, List, [], ◌∷◌, Option, Some, None, Result, Ok, Err}
+-- What the readers of a line, a word or a part return, and how they go over a text from its front.
+use Rattle.std.specs.Prelude.{◌≡◌, ℕ, ◌+◌, ◌==◌, Bool, if◌then◌else◌, List, [], ◌∷◌, Option, Some, None, Result, Ok}
+use Rattle.std.specs.Prelude.{Err}
 use Rattle.std.specs.List.{slice_split}
 use Rattle.std.specs.Borrow.{Bor}
 use Rattle.script_lang.specs.declared.refusal.Why.{Why}
@@ -9,13 +10,13 @@ use Rattle.script_lang.specs.declared.refusal.ScriptRefusal.{ScriptRefusal}
 use Rattle.script_lang.specs.declared.refusal.ScriptRefusal.TheVariants.{Bad, NoMemory as NoRoom}
 use Rattle.script_lang.specs.Words.{parts_of}
 
--- what is answered for this reading. Want of memory alone is free
+-- what is returned for this result. Only being out of memory is unspecified
 abbrev pub Reads : {A : Type 0} → Result A LineRefusal → Result A Why → Type 0
 Reads (Ok x) reading = reading ≡ Ok x
 Reads (Err (Because why)) reading = reading ≡ Err why
 Reads (Err NoMemory) reading = Unit {0}
 
--- the same of the line of this number, as a script's refusal tells it
+-- the same of the line with this number, as a script's refusal reports it
 abbrev pub ReadsLine : {A : Type 0} → ℕ → Result A ScriptRefusal → Result A Why → Type 0
 ReadsLine number (Ok x) reading = reading ≡ Ok x
 ReadsLine number (Err (Bad line why)) reading = (line ≡ number) × (reading ≡ Err why)
@@ -41,12 +42,12 @@ abbrev pub line_len : List ℕ → ℕ
 line_len [] = 0
 line_len (b ∷ bytes) = if b == 10 then 1 else line_len bytes + 1
 
--- how many bytes stand before the first of these
+-- how many bytes are before the first of these
 abbrev pub front_len : (ℕ → Bool) → List ℕ → ℕ
 front_len is [] = 0
 front_len is (b ∷ bytes) = if is b then 0 else front_len is bytes + 1
 
--- the parts behind a separator
+-- the parts after a separator
 abbrev pub behind : (ℕ → Bool) → List ℕ → List (List ℕ)
 behind is [] = []
 behind is (b ∷ bytes) = slice_split is bytes

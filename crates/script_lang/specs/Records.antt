@@ -1,4 +1,4 @@
--- A record of an append: one word, whose parts stand between commas.
+-- A record of an append: one word, whose parts are separated by commas.
 --
 --   record  = time , field , field {, header}     time: 0 to 2^63 - 1; then key and value
 --   header  = value = field                       the header's key, which isn't none, and its value
@@ -7,8 +7,9 @@
 --   name    = any number of letters, digits, _ and .
 --   hex     = an even number of hexadecimal digits of either case
 --
--- A record without such a reading is Field.
-use Rattle.std.specs.Prelude.{ℕ, ◌-◌, ◌^◌, ◌==◌, ◌||◌, ◌&&◌, nat_le, Bool, if◌then◌else◌, List, [], ◌∷◌, ◌++◌, codes, bytes_eq, Option, Some, None, Result, Ok, Err, pos}
+-- Any other word is Field.
+use Rattle.std.specs.Prelude.{ℕ, ◌-◌, ◌^◌, ◌==◌, ◌||◌, ◌&&◌, nat_le, Bool, if◌then◌else◌, List, [], ◌∷◌, ◌++◌, codes}
+use Rattle.std.specs.Prelude.{bytes_eq, Option, Some, None, Result, Ok, Err, pos}
 use Rattle.std.specs.List.{list_all}
 use Rattle.hex.specs.Hex.{decode_of}
 use Rattle.hex.specs.declared.error.FromHexError.{FromHexError}
@@ -58,7 +59,7 @@ header_in word = do
   end ← end_of second.1 Field
   Ok (record { key = key; value = value })
 
--- the headers behind those that were read
+-- the headers after those that were read
 abbrev pub headers_in : List Header → List (List ℕ) → Result (List Header) Why
 headers_in headers [] = Ok headers
 headers_in headers (part ∷ parts) = header_in part >>= λ header. headers_in (headers ++ header ∷ []) parts
@@ -75,7 +76,7 @@ record_in word = do
   headers ← headers_in [] third.1
   Ok (record { ts = pos ts; key = key; value = value; headers = headers })
 
--- the records behind those that were read
+-- the records after those that were read
 abbrev pub records_in : List Rec → List (List ℕ) → Result (List Rec) Why
 records_in recs [] = Ok recs
 records_in recs (word ∷ words) = record_in word >>= λ rec. records_in (recs ++ rec ∷ []) words

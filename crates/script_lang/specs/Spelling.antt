@@ -1,13 +1,17 @@
 -- The shortest spelling of a line that gives a command, which a program may write and this language reads back.
 --
--- One space stands between two words, numbers have no zeros in front, and bytes are x and digits in lower case.
-use Rattle.std.specs.Prelude.{◌≡◌, ℕ, ◌-◌, ◌<◌, ◌≤◌, ◌++◌, Bool, true, false, if◌then◌else◌, ℤ, pos, negsuc, nat_abs, List, [], ◌∷◌, length, map, codes, All, Option, Some, None, Ok}
+-- One space separates two words, numbers have no leading zeros, and bytes are x and digits in lower case.
+use Rattle.std.specs.Prelude.{◌≡◌, ℕ, ◌-◌, ◌<◌, ◌≤◌, ◌++◌, Bool, true, false, if◌then◌else◌, ℤ, pos, negsuc, nat_abs}
+use Rattle.std.specs.Prelude.{List, [], ◌∷◌, length, map, codes, All, Option, Some, None, Ok}
 use Rattle.std.specs.Fmt.{decimal}
 use Rattle.hex.specs.Hex.{encode_lower, IsBytes}
 use Rattle.record_batch.specs.declared.rec.Header.{Header}
 use Rattle.record_batch.specs.declared.rec.Rec.{Rec}
 use Rattle.plain_log.specs.declared.command.Command.{Command}
-use Rattle.plain_log.specs.declared.command.Command.TheVariants.{Append, Raw, Flush, Roll, Elect, Unclean, Learn, Join, Follow, Ack, Shrink, Expand, Copy, Trim, Expire, Raise, Clock, Stop, Up, Fetch, Pack, Copying, Offset}
+use Rattle.plain_log.specs.declared.command.Command.TheVariants.{Append, Raw, Flush, Roll, Elect, Unclean, Learn}
+use Rattle.plain_log.specs.declared.command.Command.TheVariants.{Join, Follow, Ack, Shrink, Expand, Copy, Trim}
+use Rattle.plain_log.specs.declared.command.Command.TheVariants.{Expire, Raise, Clock, Stop, Up, Fetch, Pack, Copying}
+use Rattle.plain_log.specs.declared.command.Command.TheVariants.{Offset}
 use Rattle.plain_log.specs.declared.command.Order.{Order}
 use Rattle.plain_log.specs.declared.command.Which.{Which}
 use Rattle.plain_log.specs.declared.command.Which.TheVariants.{Earliest, Latest, EarliestLocal, LatestTiered, At}
@@ -37,9 +41,10 @@ header_word header = joined 61 (value_word header.key ∷ field_word header.valu
 
 -- time , key , value {, header}
 abbrev pub record_word : Rec → List ℕ
-record_word rec = joined 44 (decimal (nat_abs rec.ts) ∷ field_word rec.key ∷ field_word rec.value ∷ map header_word rec.headers)
+record_word rec =
+    joined 44 (decimal (nat_abs rec.ts) ∷ field_word rec.key ∷ field_word rec.value ∷ map header_word rec.headers)
 
--- the words behind offset
+-- the words after offset
 abbrev pub which_words : Which → List (List ℕ)
 which_words Earliest = codes "earliest" ∷ []
 which_words Latest = codes "latest" ∷ []
@@ -51,7 +56,7 @@ which_words (At ms) = codes "at" ∷ decimal (nat_abs ms) ∷ []
 abbrev pub flag_word : Bool → List ℕ
 flag_word on = if on then codes "1" else codes "0"
 
--- a command's name and the words behind it
+-- a command's name and the words after it
 abbrev pub command_words : Command → List (List ℕ)
 command_words (Append recs) = codes "append" ∷ map record_word recs
 command_words (Raw bytes) = codes "raw" ∷ encode_lower bytes ∷ []
@@ -90,7 +95,8 @@ broker_word order = if is_common order.command then codes "-" else decimal order
 
 -- actor partition broker command
 abbrev pub line_of : ℕ → ℕ → Order → List ℕ
-line_of actor partition order = joined 32 (decimal actor ∷ decimal partition ∷ broker_word order ∷ command_words order.command)
+line_of actor partition order =
+    joined 32 (decimal actor ∷ decimal partition ∷ broker_word order ∷ command_words order.command)
 
 -- a time from 0 on
 abbrev pub IsTime : ℤ → Type 0
@@ -137,6 +143,8 @@ IsBroker brokers false broker = (broker ≤ brokers - 1) × (broker < 65536)
 
 -- the shortest spelling of each command is read back
 abbrev pub LinesAreReadBack : Type 0
-LinesAreReadBack = (options : Options) (actor partition : ℕ) (order : Order) → actor ≤ 63 → partition ≤ partitions_of options - 1 → partition < 65536
+LinesAreReadBack = (options : Options) (actor partition : ℕ) (order : Order)
+    → actor ≤ 63 → partition ≤ partitions_of options - 1 → partition < 65536
     → IsBroker (brokers_of options) (is_common order.command) order.broker.0 → IsSpellable order.command
-    → form_in options (words_of (line_of actor partition order)) ≡ Ok (Placed (record { 0 = actor }) (record { 0 = partition }) order true)
+    → form_in options (words_of (line_of actor partition order))
+    ≡ Ok (Placed (record { 0 = actor }) (record { 0 = partition }) order true)

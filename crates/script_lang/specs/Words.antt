@@ -4,15 +4,16 @@
 --   number  = one or more decimal digits, which may lead with zeros, and each place has its range
 --   signed  = number | -1 | -2                    where an option's range has them, and spelled so alone
 --
--- The first cause from left to right is told: each `do` reads word by word. A word that is missing, or one too many,
+-- The leftmost cause is reported: each `do` reads word by word. A word that is missing, or one too many,
 -- is Word; a number that isn't decimal or is out of its range is Number.
-use Rattle.std.specs.Prelude.{ℤ, pos, negsuc, codes, bytes_eq, ℕ, ◌+◌, ◌-◌, ◌*◌, ◌==◌, ◌&&◌, ◌||◌, nat_le, Bool, true, false, if◌then◌else◌, List, [], ◌∷◌, filter, Result, Ok, Err}
+use Rattle.std.specs.Prelude.{ℤ, pos, negsuc, codes, bytes_eq, ℕ, ◌+◌, ◌-◌, ◌*◌, ◌==◌, ◌&&◌, ◌||◌, nat_le, Bool, true}
+use Rattle.std.specs.Prelude.{false, if◌then◌else◌, List, [], ◌∷◌, filter, Result, Ok, Err}
 use Rattle.std.specs.List.{list_all, slice_split}
 use Rattle.script_lang.specs.declared.refusal.Why.{Why}
 use Rattle.script_lang.specs.declared.refusal.Why.TheVariants.{Word, Number}
 
 infixl 10 ◌>>=◌
--- the second reading, where the first has one
+-- the second result, if the first is valid
 abbrev pub ◌>>=◌ : {A B : Type 0} → Result A Why → (A → Result B Why) → Result B Why
 Ok x >>= f = f x
 Err why >>= f = Err why
@@ -34,7 +35,7 @@ words_of text = filter is_some_text (slice_split is_blank text)
 unfoldable pub parts_of : ℕ → List ℕ → List (List ℕ)
 parts_of separator word = slice_split (λ b. b == separator) word
 
--- the first, and those behind it
+-- the first, and those after it
 abbrev pub first_of : List (List ℕ) → Why → Result (List ℕ × List (List ℕ)) Why
 first_of [] why = Err why
 first_of (word ∷ words) why = Ok (word, words)
@@ -60,7 +61,9 @@ is_number word = is_some_text word && list_all is_digit word
 -- a number from low to high
 unfoldable pub number_in : ℕ → ℕ → List ℕ → Why → Result ℕ Why
 number_in low high word why =
-    if is_number word && nat_le low (value_of 0 word) && nat_le (value_of 0 word) high then Ok (value_of 0 word) else Err why
+    if is_number word && nat_le low (value_of 0 word) && nat_le (value_of 0 word) high
+    then Ok (value_of 0 word)
+    else Err why
 
 -- a number from 0 to high, or one of so many below 0: -1, or -1 and -2
 unfoldable pub signed_in : ℕ → ℕ → List ℕ → Why → Result ℤ Why

@@ -1,4 +1,4 @@
-//! What each actor is told: its partition, and its orders so far.
+//! What the lines so far give each actor: its partition and its list of orders.
 
 ghost use Rattle.std.specs.Prelude.{◌≡◌, ◌<◌, replicate, length, IfOk, OnOk, OnErr};
 ghost use Rattle.script_lang.specs.Script.{idle, slot_at, with_order};
@@ -8,14 +8,14 @@ use std::alloc::{AllocError, Global};
 use std::marker::Model;
 use tier_base::{ActorId, PartitionId, Row};
 
-/// What an actor is told.
+/// The partition and the orders of an actor.
 #[derive(Debug, Drop)]
 pub struct Slot {
     pub partition: Option<PartitionId>,
     pub orders: Row<Order>,
 }
 
-/// What the 64 actors are told, which contracts see as a list.
+/// The 64 actors, which contracts see as a list.
 #[derive(Drop)]
 pub struct Actors {
     slots: Vec<Slot>,
@@ -33,7 +33,7 @@ impl Model for Actors {
 }
 
 impl Actors {
-    /// Makes actors without orders.
+    /// Returns actors without orders.
     pub fn new(alloc: Global) -> Result<Actors, AllocError>
         ensures { IfOk result (λ actors. actors ≡ replicate 64 idle) }
     {
@@ -63,7 +63,7 @@ impl Actors {
         self.slots[actor.0 as usize].orders.len()
     }
 
-    /// Puts an order on an actor's list.
+    /// Appends an order to an actor's list.
     pub fn put(
         &mut self,
         actor: ActorId,
@@ -80,7 +80,7 @@ impl Actors {
         Ok(())
     }
 
-    /// Gives what each actor is told, in the order of the actors.
+    /// Returns the actors in order.
     pub fn into_slots(self) -> Vec<Slot>
         ensures slots { result.items ≡ self }
         ensures all { length result.items ≡ 64 }

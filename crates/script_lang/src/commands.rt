@@ -1,8 +1,9 @@
-//! The commands, each by its name and the words behind it.
+//! Reading a command: its name and its arguments.
 
 ghost use Rattle.std.specs.Prelude.{◌≡◌, ◌≢◌, ◌<◌, length, IfOk};
 ghost use Rattle.script_lang.specs.Reading.{Reads};
-ghost use Rattle.script_lang.specs.Commands.{alone, append_in, raw_in, fetch_in, follow_in, raise_in, which_behind, offset_in, clock_in, flag_in, command_led, common_led};
+ghost use Rattle.script_lang.specs.Commands.{alone, append_in, raw_in, fetch_in, follow_in, raise_in, which_behind};
+ghost use Rattle.script_lang.specs.Commands.{offset_in, clock_in, flag_in, command_led, common_led};
 ghost use Rattle.script_lang.specs.Fit.{IsSaid};
 
 use crate::names::{OffsetName, Verb, find_offset};
@@ -78,7 +79,7 @@ fn raise(words: Words) -> Result<Command, Why>
     Ok(Command::Raise { start })
 }
 
-/// Reads an offset's name that stands alone.
+/// Reads the name of an offset that has no argument.
 fn alone_which(which: Which, words: Words) -> Result<Which, Why>
     ensures { result ≡ alone which words.entry }
 {
@@ -86,7 +87,7 @@ fn alone_which(which: Which, words: Words) -> Result<Which, Why>
     Ok(which)
 }
 
-/// Reads the words behind an offset's name.
+/// Reads the words after an offset's name.
 fn which(name: OffsetName, words: Words) -> Result<Which, Why>
     ensures { result ≡ which_behind name words.entry }
 {
@@ -129,7 +130,7 @@ fn flag(words: Words) -> Result<bool, Why>
     Ok(words.only_number(0, 1)? == 1)
 }
 
-/// Reads a command that stands alone.
+/// Reads a command without arguments.
 fn alone(command: Command, words: Words) -> Result<Command, Why>
     requires { IsSaid command }
     ensures value { result ≡ alone command words.entry }

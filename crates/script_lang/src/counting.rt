@@ -1,14 +1,15 @@
-//! What the lines so far come to, and the limits of it.
+//! The totals of the lines so far, and their limits.
 
 ghost use Rattle.std.specs.Prelude.{◌≡◌, ◌+◌, ◌≤◌, OnOk, IfOk};
 ghost use Rattle.record_batch.specs.Size.{IsSize};
-ghost use Rattle.script_lang.specs.Limits.{size_of, fetches_of, limit_of, copies_of, none_so_far, within, turns_within, with_command, with_turns, AreSmall};
+ghost use Rattle.script_lang.specs.Limits.{size_of, fetches_of, limit_of, copies_of, none_so_far, within};
+ghost use Rattle.script_lang.specs.Limits.{turns_within, with_command, with_turns, AreSmall};
 
 use crate::refusal::Why;
 use plain_log::Command;
 use record_batch::built_size;
 
-/// Reckons the bytes of the batch that a command appends, where a batch may have so many.
+/// Returns the size in bytes of the batch that a command appends, 0 without a batch, or `None` over the limit.
 fn batch_size(command: &Command) -> Option<usize>
     ensures { IsSize result (size_of command.now) }
 {
@@ -54,7 +55,7 @@ fn copies_of(command: &Command) -> u64
     }
 }
 
-/// What the lines so far come to.
+/// The totals of the lines so far.
 #[derive(Clone, Copy)]
 pub struct Counts {
     pub commands: u64,
@@ -69,7 +70,7 @@ pub struct Counts {
 }
 
 impl Counts {
-    /// Begins with no line.
+    /// Returns the totals of no lines.
     pub fn new() -> Counts
         ensures value { result ≡ none_so_far }
         ensures small { AreSmall result }
@@ -84,7 +85,7 @@ impl Counts {
         }
     }
 
-    /// Counts one command more.
+    /// Adds a command.
     #[tactic(auto, unfolding(crate::specs::Limits::within))]
     pub fn with_command(self, segment_bytes: u32, command: &Command) -> Result<Counts, Why>
         requires { AreSmall self }
@@ -120,7 +121,7 @@ impl Counts {
         })
     }
 
-    /// Counts turns more.
+    /// Adds the turns of a `turn` line.
     pub fn with_turns(self, turns: u32) -> Result<Counts, Why>
         requires { AreSmall self }
         ensures value { result ≡ turns_within (with_turns self turns) }

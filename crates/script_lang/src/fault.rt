@@ -28,13 +28,13 @@ pub enum FaultCall {
     Delete,
 }
 
-/// A call that fails.
+/// A device call that is to fail.
 #[derive(Clone, Copy, Debug, PartialEq, Eq)]
 pub struct Fault {
     pub device: FaultDevice,
     pub call: FaultCall,
-    /// Which of the calls of this kind, from 1 on.
+    /// Which of the calls of this kind fails, counted from 1.
     pub number: u32,
-    /// Whether it fails after it was done.
+    /// Whether the call takes effect before it fails.
     pub after: bool,
 }

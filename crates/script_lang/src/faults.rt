@@ -1,8 +1,9 @@
-//! The words of a fault line.
+//! Reading a `fault` line.
 
 ghost use Rattle.std.specs.Prelude.{◌≡◌, IfOk};
 ghost use Rattle.script_lang.specs.Reading.{with_rest};
-ghost use Rattle.script_lang.specs.Forms.{device_behind, device_first, has_call, call_for, call_first, side_named, side_in, fault_in};
+ghost use Rattle.script_lang.specs.Forms.{device_behind, device_first, has_call, call_for, call_first, side_named};
+ghost use Rattle.script_lang.specs.Forms.{side_in, fault_in};
 ghost use Rattle.script_lang.specs.Fit.{IsFormInRange};
 
 use crate::fault::{Fault, FaultCall, FaultDevice};
@@ -29,7 +30,7 @@ fn device(brokers: u16, words: &mut Words) -> Result<FaultDevice, Why>
     }
 }
 
-/// Answers whether a device has such a call.
+/// Returns whether a device has this call.
 fn has_call(device: FaultDevice, call: FaultCall) -> bool
     ensures { result ≡ has_call device call }
 {
@@ -57,7 +58,7 @@ fn call(device: FaultDevice, words: &mut Words) -> Result<FaultCall, Why>
     Ok(call)
 }
 
-/// Reads whether a call fails after it was done.
+/// Reads `before` or `after`: whether the call takes effect before it fails.
 fn side(word: &[u8]) -> Result<bool, Why>
     ensures { result ≡ side_named word.now }
 {
@@ -81,7 +82,7 @@ fn last_side(words: Words) -> Result<bool, Why>
     Ok(after)
 }
 
-/// Reads the words behind `fault`.
+/// Reads the words after `fault`.
 #[tactic(auto, unfolding(crate::specs::Forms::fault_in))]
 pub fn fault(options: Options, words: Words) -> Result<Form, Why>
     ensures value { result ≡ fault_in options words.entry }

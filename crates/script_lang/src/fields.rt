@@ -7,7 +7,7 @@ ghost use Rattle.script_lang.specs.Reading.{front_len, word_with_rest, behind, p
 use crate::refusal::Why;
 use std::marker::Model;
 
-/// Counts the bytes of the first part.
+/// Returns the length of the first part in bytes.
 fn part_len(bytes: &[u8], separator: u8) -> usize
     ensures value { result ≡ front_len (λ b. b == separator) bytes.now }
     ensures within { result ≤ length bytes.now }
@@ -20,7 +20,7 @@ fn part_len(bytes: &[u8], separator: u8) -> usize
     bytes.len()
 }
 
-/// Gives what stands behind the separator that a text begins with, where it isn't at its end.
+/// Returns what follows the separator at the front, or `None` at the end of the text.
 #[tactic(auto, unfolding(crate::specs::Words::parts_of))]
 fn behind(bytes: &[u8]) -> Option<&[u8]>
     ensures { (separator : ℕ) → parts_left separator result ≡ behind (λ b. b == separator) bytes.now }
@@ -31,7 +31,7 @@ fn behind(bytes: &[u8]) -> Option<&[u8]>
     }
 }
 
-/// The parts that are left of a word, which contracts see as a list.
+/// The parts of a word that are left, which contracts see as a list.
 #[derive(Drop)]
 pub struct Fields<'a> {
     rest: Option<&'a [u8]>,
@@ -48,7 +48,7 @@ impl<'a> Model for Fields<'a> {
 }
 
 impl<'a> Fields<'a> {
-    /// Begins with all parts.
+    /// Returns all parts of a word.
     pub fn of(word: &'a [u8], separator: u8) -> Fields<'a>
         ensures { result ≡ parts_of separator word.now }
     {
@@ -70,7 +70,7 @@ impl<'a> Fields<'a> {
         Ok(part)
     }
 
-    /// Answers whether no part is left.
+    /// Returns whether no part is left.
     pub fn end(&self, why: Why) -> Result<(), Why>
         ensures { result ≡ end_of self.now why }
     {

@@ -1,18 +1,19 @@
-//! What a line says.
+//! A parsed line.
 
 use crate::fault::Fault;
 use crate::options::OptionLine;
 use plain_log::Order;
 use tier_base::{ActorId, PartitionId};
 
-/// What a line says.
+/// A parsed line.
 #[derive(Drop)]
 pub enum Form {
-    /// Nothing.
+    /// A blank line or a comment.
     Blank,
-    /// An option is given.
+    /// An option.
     Given(OptionLine),
-    /// An order is put on an actor's list. The schedule steps the actor at once, or later alone.
+    /// A command of an actor. With `at_once` the schedule steps the actor until the command is answered; without, only
+    /// later lines step it.
     Placed {
         actor: ActorId,
         partition: PartitionId,
@@ -24,7 +25,7 @@ pub enum Form {
         actor: ActorId,
         turns: u32,
     },
-    /// A device call of a partition fails.
+    /// A device call that is to fail.
     Faulty {
         partition: PartitionId,
         fault: Fault,

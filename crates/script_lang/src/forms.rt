@@ -1,8 +1,9 @@
-//! The forms of a line, each by its first word and the words behind it.
+//! Reading a line: its first word decides which form the others have.
 
 ghost use Rattle.std.specs.Prelude.{◌≡◌, ◌-◌, ◌<◌, ◌≤◌, Ok, IfOk};
 ghost use Rattle.script_lang.specs.Reading.{Reads};
-ghost use Rattle.script_lang.specs.Forms.{brokers_of, partitions_of, common_in, addressed_in, order_in, placed_in, later_in, turn_in, form_led, form_in};
+ghost use Rattle.script_lang.specs.Forms.{brokers_of, partitions_of, common_in, addressed_in, order_in, placed_in};
+ghost use Rattle.script_lang.specs.Forms.{later_in, turn_in, form_led, form_in};
 ghost use Rattle.script_lang.specs.Fit.{IsSaidTo, IsFormInRange};
 
 use crate::commands::{command, common};
@@ -32,7 +33,7 @@ fn common_order(brokers: u16, words: Words) -> Result<Order, Why>
     })
 }
 
-/// Reads a broker, whose word is given, and a command that goes to it.
+/// Reads the command to the broker that a word names.
 #[tactic(auto, unfolding(crate::specs::Forms::addressed_in))]
 fn addressed_order(
     alloc: Global,
@@ -94,7 +95,7 @@ fn placed(
     })
 }
 
-/// Reads the words behind `later`.
+/// Reads the words after `later`.
 #[tactic(auto, unfolding(crate::specs::Forms::later_in))]
 fn later(alloc: Global, options: Options, words: Words) -> Result<Form, LineRefusal>
     requires { 1 ≤ brokers_of options }
@@ -106,7 +107,7 @@ fn later(alloc: Global, options: Options, words: Words) -> Result<Form, LineRefu
     placed(alloc, options, false, actor, words)
 }
 
-/// Reads the words behind `turn`.
+/// Reads the words after `turn`.
 #[tactic(auto, unfolding(crate::specs::Forms::turn_in))]
 fn turn(options: Options, words: Words) -> Result<Form, Why>
     ensures value { result ≡ turn_in words.entry }
@@ -118,7 +119,7 @@ fn turn(options: Options, words: Words) -> Result<Form, Why>
     Ok(Form::Turn { actor, turns })
 }
 
-/// Reads the words behind a first word.
+/// Reads the words after the first one.
 fn form_behind(
     alloc: Global,
     options: Options,

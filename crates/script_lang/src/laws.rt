@@ -1,8 +1,8 @@
-//! Laws of the language. Each is the contract of a function that does nothing: calling it cites the law.
+//! Laws of the language. Each is the contract of a function without a body: a proof uses the law by calling it.
 
 ghost use Rattle.script_lang.specs.Spelling.{LinesAreReadBack};
 
-/// A line that spells a command in the shortest way is read back as that command.
+/// Reading the shortest spelling of a command returns that command.
 pub fn lines_are_read_back()
     ensures { LinesAreReadBack }
 {}

@@ -1,4 +1,4 @@
-//! The lines of a script: where the first one ends, and the text that it has.
+//! Splitting a script into lines, and the text of each.
 
 ghost use Rattle.std.specs.Prelude.{◌≡◌, ◌<◌, ◌≤◌, length, take, drop, IsTrue};
 ghost use Rattle.std.specs.List.{list_all};
@@ -7,7 +7,7 @@ ghost use Rattle.script_lang.specs.Reading.{line_len, text_shown};
 
 use crate::refusal::Why;
 
-/// Counts the bytes of the first line, its line feed included.
+/// Returns the length of the first line in bytes, including its line feed.
 fn first_len(bytes: &[u8]) -> usize
     ensures value { result ≡ line_len bytes.now }
     ensures within { result ≤ length bytes.now }
@@ -21,7 +21,7 @@ fn first_len(bytes: &[u8]) -> usize
     bytes.len()
 }
 
-/// Cuts the first line from those behind it.
+/// Returns the first line and the rest of the script.
 pub fn cut_line(bytes: &[u8]) -> (&[u8], &[u8])
     ensures line { result.0.now ≡ take (line_len bytes.now) bytes.now }
     ensures rest { result.1.now ≡ drop (line_len bytes.now) bytes.now }
@@ -37,7 +37,7 @@ fn ends_with(line: &[u8], end: &[u8]) -> bool
     end.len() <= line.len() && line.split_at(line.len() - end.len()).1 == end
 }
 
-/// Drops the line's end.
+/// Returns a line without its LF or CR LF.
 #[tactic(auto, unfolding(crate::specs::Lines::text_of))]
 fn before_end(line: &[u8]) -> &[u8]
     ensures { result.now ≡ text_of line.now }
@@ -63,7 +63,7 @@ fn is_text(bytes: &[u8]) -> bool
     bytes.iter().all(|byte| is_text_byte(*byte))
 }
 
-/// Gives the text of a line.
+/// Returns the text of a line. Fails if a byte is not allowed in a script.
 pub fn text(line: &[u8]) -> Result<&[u8], Why>
     ensures { text_shown result ≡ text_in line.now }
 {

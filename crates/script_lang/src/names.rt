@@ -1,4 +1,4 @@
-//! The names of a script, each table an enum and a function. What begins no name is `Unknown`.
+//! The names of the language: first words, commands, offsets, devices and device calls. Other words are `Unknown`.
 
 ghost use Rattle.std.specs.Prelude.{◌≡◌, ◌==◌};
 ghost use Rattle.script_lang.specs.Names.{begins_with, lead_of, verb_of, offset_of, device_of, call_of};
@@ -7,7 +7,7 @@ ghost use Rattle.script_lang.specs.Words.{is_digit};
 use crate::fault::FaultCall;
 use crate::numbers::is_digit;
 
-/// What a line's first word announces.
+/// The kind of a line, by its first word.
 #[derive(Clone, Copy)]
 pub enum Lead {
     Comment,
@@ -93,7 +93,7 @@ fn begins_with_digit(word: &[u8]) -> bool
     }
 }
 
-/// What the names that begin a line announce.
+/// The kinds of lines by their first words.
 static LEADS: [(&str, Lead); 11] = [
     ("brokers", Lead::Brokers),
     ("partitions", Lead::Partitions),
@@ -108,7 +108,7 @@ static LEADS: [(&str, Lead); 11] = [
     ("fault", Lead::Fault),
 ];
 
-/// Finds what a first word announces.
+/// Returns the kind of the line with this first word.
 #[tactic(auto, unfolding(crate::specs::Names::lead_of))]
 pub fn find_lead(word: &[u8]) -> Lead
     ensures { result ≡ lead_of word.now }
@@ -154,7 +154,7 @@ static VERBS: [(&str, Verb); 23] = [
     ("offset", Verb::Offset),
 ];
 
-/// Finds a command by its name.
+/// Returns the command of this name.
 #[tactic(auto, unfolding(crate::specs::Names::verb_of))]
 pub fn find_verb(word: &[u8]) -> Verb
     ensures { result ≡ verb_of word.now }
@@ -176,7 +176,7 @@ static OFFSETS: [(&str, OffsetName); 5] = [
     ("at", OffsetName::At),
 ];
 
-/// Finds which offset is asked for.
+/// Returns which offset a word asks for.
 #[tactic(auto, unfolding(crate::specs::Names::offset_of))]
 pub fn find_offset(word: &[u8]) -> OffsetName
     ensures { result ≡ offset_of word.now }
@@ -196,7 +196,7 @@ static DEVICES: [(&str, DeviceName); 3] = [
     ("meta", DeviceName::Meta),
 ];
 
-/// Finds a kind of device by its name.
+/// Returns the kind of device of this name.
 #[tactic(auto, unfolding(crate::specs::Names::device_of))]
 pub fn find_device(word: &[u8]) -> DeviceName
     ensures { result ≡ device_of word.now }
@@ -223,7 +223,7 @@ static CALLS: [(&str, FaultCall); 10] = [
     ("delete", FaultCall::Delete),
 ];
 
-/// Finds a device call by its name.
+/// Returns the device call of this name.
 #[tactic(auto, unfolding(crate::specs::Names::call_of))]
 pub fn find_call(word: &[u8]) -> Option<FaultCall>
     ensures { result ≡ call_of word.now }

@@ -1,4 +1,4 @@
-//! Words of decimal digits.
+//! Reading decimal numbers.
 
 ghost use Rattle.std.specs.Prelude.{◌≡◌, ◌-◌, ◌<◌, ◌≤◌, ◌^◌, min, IfOk};
 ghost use Rattle.std.specs.List.{list_all};
@@ -7,7 +7,7 @@ ghost use Rattle.script_lang.specs.Words.{is_digit, is_number, value_of, number_
 use crate::refusal::Why;
 use crate::words::is;
 
-/// Answers whether a byte is a digit.
+/// Returns whether a byte is a decimal digit.
 pub fn is_digit(byte: u8) -> bool
     ensures { result ≡ is_digit byte }
 {
@@ -20,7 +20,7 @@ fn all_digits(word: &[u8]) -> bool
     word.iter().all(|byte| is_digit(*byte))
 }
 
-/// Answers whether a word is one or more digits.
+/// Returns whether a word is one or more decimal digits.
 #[tactic(auto, unfolding(crate::specs::Words::is_number))]
 fn is_number(word: &[u8]) -> bool
     ensures { result ≡ is_number word.now }
@@ -28,7 +28,7 @@ fn is_number(word: &[u8]) -> bool
     !word.is_empty() && all_digits(word)
 }
 
-/// Reckons the number of digits. It stops at the greatest `u64`.
+/// Returns the number that the digits spell, or the greatest `u64` if it overflows.
 fn value_of(digits: &[u8]) -> u64
     ensures { result ≡ min (value_of 0 digits.now) (2 ^ 64 - 1) }
 {
@@ -58,7 +58,7 @@ pub fn number(word: &[u8], low: u64, high: u64, why: Why) -> Result<u64, Why>
     Ok(number)
 }
 
-/// Reads a number up to `high`, or one of `below` numbers below 0.
+/// Reads a number from 0 to `high`, or a negative one from `-below` to -1.
 #[tactic(auto, unfolding(crate::specs::Words::signed_in))]
 pub fn signed(word: &[u8], below: u64, high: u64, why: Why) -> Result<i64, Why>
     requires { high < 2 ^ 63 }

@@ -1,13 +1,14 @@
-//! The options of a script, and the configuration that they make.
+//! The options of a script, and the configuration that they and the defaults give.
 
 ghost use Rattle.std.specs.Prelude.{◌≡◌};
-ghost use Rattle.script_lang.specs.Script.{nothing_told, is_given, option_place, options_with, segment_bytes_of, local_or_whole, keep_of, local_keep_of, config_of};
+ghost use Rattle.script_lang.specs.Script.{nothing_told, is_given, option_place, options_with, segment_bytes_of};
+ghost use Rattle.script_lang.specs.Script.{local_or_whole, keep_of, local_keep_of, config_of};
 
 use crate::refusal::Why;
 use plain_log::Config;
 use tier_base::{Keep, Settings};
 
-/// An option as a line gives it.
+/// An option line.
 #[derive(Clone, Copy)]
 pub enum OptionLine {
     Brokers(u16),
@@ -33,7 +34,7 @@ pub struct Options {
     pub local_retention_bytes: Option<i64>,
 }
 
-/// Gives the bound of the local log: its own, or the whole log's.
+/// Returns the bound of the local log: its own, or that of the whole log if its own is -2.
 fn local_or_whole(local: i64, whole: i64) -> i64
     ensures { result ≡ local_or_whole local whole }
 {
@@ -41,7 +42,7 @@ fn local_or_whole(local: i64, whole: i64) -> i64
 }
 
 impl Options {
-    /// Begins with no option.
+    /// Returns no options.
     pub fn new() -> Options
         ensures { result ≡ nothing_told.options }
     {
@@ -57,7 +58,7 @@ impl Options {
         }
     }
 
-    /// Answers whether an option was given.
+    /// Returns whether an option was given before.
     fn is_given(&self, option: OptionLine) -> bool
         ensures { result ≡ is_given self.now option }
     {
@@ -73,11 +74,11 @@ impl Options {
         }
     }
 
-    /// Answers whether an option may be given, where lines that aren't options may have begun.
-    pub fn allow(&self, snapshot: bool, option: OptionLine) -> Result<(), Why>
-        ensures { result ≡ option_place snapshot (is_given self.now option) }
+    /// Fails if an option is given twice, or after a line of the schedule.
+    pub fn allow(&self, begun: bool, option: OptionLine) -> Result<(), Why>
+        ensures { result ≡ option_place begun (is_given self.now option) }
     {
-        if snapshot {
+        if begun {
             return Err(Why::TooLate);
         }
         if self.is_given(option) {
@@ -86,7 +87,7 @@ impl Options {
         Ok(())
     }
 
-    /// Gives an option.
+    /// Sets an option.
     pub fn give(&mut self, option: OptionLine)
         ensures { self.new ≡ options_with self.old option }
     {
@@ -102,7 +103,7 @@ impl Options {
         }
     }
 
-    /// Gives the size at which a segment rolls.
+    /// Returns the size in bytes at which a segment is closed.
     pub fn segment_bytes(&self) -> u32
         ensures { result ≡ segment_bytes_of self.now }
     {
@@ -128,7 +129,7 @@ impl Options {
         }
     }
 
-    /// Makes the configuration, of what was given and of defaults.
+    /// Returns the configuration. Options that were not given have their defaults.
     pub fn config(&self) -> Config
         ensures { result ≡ config_of self.now }
     {

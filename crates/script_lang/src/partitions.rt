@@ -1,7 +1,8 @@
-//! What is asked of each partition: its schedule and its faults line by line, and at the end its lists.
+//! The partitions of a script: schedules and faults are added line by line, the lists of actors at the end.
 
 ghost use Rattle.std.specs.Prelude.{◌≡◌, ℕ, ◌≤◌, length, take, IfOk, OnOk};
-ghost use Rattle.script_lang.specs.Script.{empty_part, empty_parts, slot_at, with_pace, parts_stepped, with_fault, part_with, parts_with_list, parts_with_lists};
+ghost use Rattle.script_lang.specs.Script.{empty_part, empty_parts, slot_at, with_pace, parts_stepped, with_fault};
+ghost use Rattle.script_lang.specs.Script.{part_with, parts_with_list, parts_with_lists};
 
 use crate::actors::{Actors, Slot};
 use crate::fault::Fault;
@@ -11,7 +12,7 @@ use std::alloc::{AllocError, Global};
 use std::marker::Model;
 use tier_base::{ActorId, PartitionId, Row};
 
-/// What is asked of the 64 partitions, which contracts see as a list.
+/// The 64 partitions, which contracts see as a list.
 #[derive(Drop)]
 pub struct Partitions {
     parts: Vec<PartScript>,
@@ -26,7 +27,7 @@ impl Model for Partitions {
     ghost view = { λ p. p.parts.items };
 }
 
-/// Makes a partition of which nothing is asked.
+/// Returns a partition without lists, schedule and faults.
 fn empty(alloc: Global, partition: u16) -> PartScript
     ensures { result ≡ empty_part partition }
 {
@@ -39,7 +40,7 @@ fn empty(alloc: Global, partition: u16) -> PartScript
 }
 
 impl PartScript {
-    /// Puts an actor's list behind those of the actors before it, and steps the actor to its end.
+    /// Appends an actor's list, and lets the schedule step the actor to its end.
     fn put_list(&mut self, actor: ActorId, orders: Row<Order>) -> Result<(), AllocError>
         requires { length orders ≤ 65536 }
         ensures { OnOk result (self.new ≡ part_with self.old actor.0 orders) }
@@ -51,7 +52,7 @@ impl PartScript {
 }
 
 impl Partitions {
-    /// Makes partitions of which nothing is asked.
+    /// Returns partitions without lists, schedules and faults.
     pub fn new(alloc: Global) -> Result<Partitions, AllocError>
         ensures { IfOk result (λ parts. parts ≡ empty_parts 0 64) }
     {
@@ -62,7 +63,7 @@ impl Partitions {
         Ok(Partitions { parts })
     }
 
-    /// Puts a pace behind a partition's schedule.
+    /// Appends a pace to a partition's schedule.
     pub fn put_pace(&mut self, partition: PartitionId, pace: Pace) -> Result<(), AllocError>
         ensures { OnOk result (self.new ≡ with_pace self.old partition.0 pace) }
     {
@@ -72,7 +73,7 @@ impl Partitions {
         }
     }
 
-    /// Steps an actor until it has answered so many orders, where the last of these is put at once.
+    /// Steps an actor until it has answered this many orders, unless the last one is a `later` line.
     pub fn step(
         &mut self,
         at_once: bool,
@@ -88,7 +89,7 @@ impl Partitions {
         Ok(())
     }
 
-    /// Puts a fault behind those of a partition.
+    /// Appends a fault to a partition's faults.
     pub fn put_fault(&mut self, partition: PartitionId, fault: Fault) -> Result<(), AllocError>
         ensures { OnOk result (self.new ≡ with_fault self.old partition.0 fault) }
     {
@@ -98,7 +99,7 @@ impl Partitions {
         }
     }
 
-    /// Puts an actor's list into its partition.
+    /// Adds an actor's list to its partition.
     fn put_list(&mut self, actor: ActorId, slot: Slot) -> Result<(), AllocError>
         requires { length slot.orders ≤ 65536 }
         ensures { OnOk result (self.new ≡ parts_with_list self.old actor.0 slot.partition slot.orders) }
@@ -112,7 +113,7 @@ impl Partitions {
         }
     }
 
-    /// Puts each actor's list into its partition, and gives the first `count` partitions.
+    /// Adds each actor's list to its partition, and returns the first `count` partitions.
     pub fn with_lists(self, actors: Actors, count: u16) -> Result<Row<PartScript>, AllocError>
         requires { (a : ℕ) → length (slot_at actors a).orders ≤ 65536 }
         ensures { IfOk result (λ parts. parts ≡ take count (parts_with_lists self 0 actors)) }

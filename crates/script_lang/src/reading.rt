@@ -1,5 +1,5 @@
-//! Reading a script, line by line. It goes over the bytes from the front, and copies nothing but keys, values and the
-//! bytes of `raw`.
+//! Reading a script line by line. It goes over the bytes once, and copies only keys, values, headers and the bytes of
+//! `raw`.
 
 ghost use Rattle.std.specs.Prelude.{◌≡◌, ◌-◌, ◌<◌, ◌^◌, length, IfOk};
 ghost use Rattle.script_lang.specs.Lines.{lines_of};
@@ -13,7 +13,7 @@ use crate::script::Script;
 use crate::told::Told;
 use std::alloc::Global;
 
-/// Reads the line of this number.
+/// Reads the line with this number.
 fn read_line(alloc: Global, told: Told, number: u32, line: &[u8]) -> Result<Told, ScriptRefusal>
     ensures { ReadsLine number result (line_behind told line.now) }
 {
@@ -44,7 +44,7 @@ fn read(alloc: Global, bytes: &[u8]) -> Result<Told, ScriptRefusal>
     Ok(told)
 }
 
-/// Reads a script.
+/// Reads a script. Fails at the first invalid line, or if it is out of memory.
 #[tactic(auto, unfolding(crate::specs::Script::script_in))]
 pub fn parse(alloc: Global, bytes: &[u8]) -> Result<Script, ScriptRefusal>
     requires { length bytes.now < 2 ^ 32 - 1 }

@@ -1,9 +1,10 @@
-//! The records of an append, and hexadecimal digits.
+//! Reading the records of an append, and hexadecimal digits.
 
 ghost use Rattle.std.specs.Prelude.{◌≡◌, ◌||◌, ◌==◌, [], IfOk};
 ghost use Rattle.std.specs.List.{list_all};
 ghost use Rattle.script_lang.specs.Reading.{Reads};
-ghost use Rattle.script_lang.specs.Records.{is_letter, is_name_byte, hex_in, value_in, field_in, header_in, headers_in, record_in, records_in};
+ghost use Rattle.script_lang.specs.Records.{is_letter, is_name_byte, hex_in, value_in, field_in, header_in};
+ghost use Rattle.script_lang.specs.Records.{headers_in, record_in, records_in};
 
 use crate::fields::Fields;
 use crate::numbers::{is_digit, number};
@@ -61,7 +62,7 @@ fn value(alloc: Global, word: &[u8]) -> Result<Blob, LineRefusal>
     }
 }
 
-/// Reads a value, or none.
+/// Reads a value, or `-` for none.
 #[tactic(auto, unfolding(crate::specs::Records::field_in))]
 fn field(alloc: Global, word: &[u8]) -> Result<Option<Blob>, LineRefusal>
     ensures { Reads result (field_in word.now) }

@@ -1,4 +1,4 @@
-//! Why a script is refused.
+//! Why a script is invalid.
 
 ghost use Rattle.std.specs.Prelude.{◌≡◌};
 ghost use Rattle.script_lang.specs.declared.refusal.LineRefusal.{LineRefusal};
@@ -8,42 +8,42 @@ use std::alloc::AllocError;
 use std::{error, fmt};
 use thiserror::Error;
 
-/// Why a line has no reading. The first cause in this order is told, but that of the line's words, from `Word` to
-/// `Hex`, the one that stands leftmost is.
+/// Why a line is invalid. Of several causes the first in this order is reported. Of `Word`, `Number`, `Field` and `Hex`
+/// it is the leftmost one in the line.
 #[derive(Clone, Copy, Debug, PartialEq, Eq)]
 pub enum Why {
-    /// A byte can't stand in a line.
+    /// A byte is not allowed in a line.
     NotText,
     /// A word is unknown, missing, or one too many.
     Word,
     /// A number isn't decimal, or is out of its range.
     Number,
-    /// A record, a key or a value has no reading.
+    /// A record, a key, a value or a header is invalid.
     Field,
-    /// The bytes of `raw` aren't hexadecimal.
+    /// The bytes of `raw` aren't pairs of hexadecimal digits.
     Hex,
-    /// An option stands behind a command, or behind a `later`, `turn` or `fault` line.
+    /// An option comes after a command, or after a `later`, `turn` or `fault` line.
     TooLate,
-    /// An option was given before.
+    /// An option is given twice.
     Twice,
     /// The actor has commands of another partition.
     ActorPartition,
-    /// The actor that is to be stepped has no command yet.
+    /// A `turn` line names an actor that has no command before it.
     NoActor,
     /// There are more than 65,536 commands.
     TooMany,
-    /// A batch would pass 1,048,576 bytes.
+    /// A batch has more than 1,048,576 bytes.
     BatchTooLarge,
-    /// The sum over fetches of the limit and the largest batch passes 2^28.
+    /// The sum over all fetches of the limit plus the largest batch is greater than 2^28 bytes.
     FetchSum,
-    /// The number of copies, times the greater of a segment's size and the largest batch, passes 2^31.
+    /// The number of copies, times the greater of `segment_bytes` and the largest batch, is greater than 2^31 bytes.
     CopySum,
-    /// The `turn` lines step more than 1,048,576 times.
+    /// The `turn` lines have more than 1,048,576 turns together.
     TurnSum,
 }
 
 impl Why {
-    /// Names the cause.
+    /// Returns the name of the cause.
     fn name(self) -> &'static str {
         match self {
             Why::NotText => "NotText",
@@ -72,13 +72,13 @@ impl fmt::Display for Why {
 
 impl error::Error for Why {}
 
-/// Why a line isn't read.
+/// Why a line is not read.
 #[derive(Clone, Copy, Debug, PartialEq, Eq, Error)]
 pub enum LineRefusal {
-    /// It has no reading.
+    /// It is invalid.
     #[error("{0}")]
     Because(Why),
-    /// There is no memory for what it says.
+    /// Out of memory.
     #[error("no memory")]
     NoMemory,
 }
@@ -99,13 +99,13 @@ impl From<AllocError> for LineRefusal {
     }
 }
 
-/// Why a script is refused. Of several lines the first is told.
+/// Why a script is not read. Of several invalid lines the first is reported.
 #[derive(Clone, Copy, Debug, PartialEq, Eq, Error)]
 pub enum ScriptRefusal {
-    /// The line of this number, from 1 on, has no reading.
+    /// The line with this number, counted from 1, is invalid.
     #[error("line {line}: {why}")]
     Bad { line: u32, why: Why },
-    /// There is no memory for what the script says.
+    /// Out of memory.
     #[error("no memory")]
     NoMemory,
 }

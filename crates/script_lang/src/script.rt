@@ -1,22 +1,22 @@
-//! A script as it is run.
+//! A parsed script, as it is run.
 
 use crate::fault::Fault;
 use plain_log::{ActorList, Config, Pace};
 use tier_base::{PartitionId, Row};
 
-/// What a script asks of one partition.
+/// The part of a script that one partition runs.
 #[derive(Debug, Drop)]
 pub struct PartScript {
     pub partition: PartitionId,
-    /// The lists of the actors that have commands here, in rising order of the actors.
+    /// The commands of each actor of this partition, in ascending order of actors.
     pub lists: Row<ActorList>,
-    /// How the actors are stepped, up to the ends of their lists.
+    /// In which order the actors are stepped, until all their commands are answered.
     pub schedule: Row<Pace>,
-    /// The device calls that fail. Of several faults of one call the first counts.
+    /// The device calls that are to fail. If a call has several faults, the first one counts.
     pub faults: Row<Fault>,
 }
 
-/// What a script asks for: its options, and a part for each partition, in rising order.
+/// A parsed script: its options, and a part for each partition, in ascending order.
 #[derive(Debug, Drop)]
 pub struct Script {
     pub config: Config,

@@ -1,12 +1,13 @@
-//! What the lines so far say, and which line may stand behind them.
+//! The script so far, and which line may follow.
 //!
-//! A line is read in steps: its text, its form, whether the form may stand here, what the counts come to with
-//! it; and then it is put behind the lines so far. Each step tells causes that come before the next step's.
+//! A line is read in steps: its text, its form, whether the form may follow, the totals with it; then it is added. So
+//! the causes of a step are reported before those of the next.
 
 ghost use Rattle.std.specs.Prelude.{◌≡◌, ◌<◌, false, Ok, IfOk, OnOk};
 ghost use Rattle.script_lang.specs.Reading.{Reads};
 ghost use Rattle.script_lang.specs.declared.form.Form.{Form};
-ghost use Rattle.script_lang.specs.Script.{nothing_told, same_partition, known_actor, may_stand, sums_with, told_with, form_behind, line_behind, script_of, segment_bytes_of, slot_at};
+ghost use Rattle.script_lang.specs.Script.{nothing_told, same_partition, known_actor, may_stand, sums_with};
+ghost use Rattle.script_lang.specs.Script.{told_with, form_behind, line_behind, script_of, segment_bytes_of, slot_at};
 ghost use Rattle.script_lang.specs.Fit.{IsOptionInRange, IsFormInRange, FitsBatch, AreCountsWith, IsFit};
 
 use crate::actors::Actors;
@@ -25,11 +26,11 @@ use std::alloc::{AllocError, Global};
 use std::marker::Model;
 use tier_base::{ActorId, PartitionId};
 
-/// What the lines so far say.
+/// The script so far.
 #[derive(Drop)]
 pub struct Told {
     options: Options,
-    snapshot: bool,
+    begun: bool,
     counts: Counts,
     actors: Actors,
     partitions: Partitions,
@@ -43,7 +44,7 @@ impl Model for Told {
 
     ghost view = { λ t. record {
       options = t.options;
-      snapshot = t.snapshot;
+      begun = t.begun;
       sums = t.counts;
       actors = t.actors;
       parts = t.partitions;
@@ -51,14 +52,14 @@ impl Model for Told {
 
     ghost invariant = { λ t. IsSound (record {
       options = t.options;
-      snapshot = t.snapshot;
+      begun = t.begun;
       sums = t.counts;
       actors = t.actors;
       parts = t.partitions;
     }) };
 }
 
-/// Answers whether an actor of this partition may have a command of another.
+/// Fails if an actor of one partition has a command of another.
 fn same_partition(own: Option<PartitionId>, partition: PartitionId) -> Result<(), Why>
     ensures { result ≡ same_partition own partition }
 {
@@ -68,7 +69,7 @@ fn same_partition(own: Option<PartitionId>, partition: PartitionId) -> Result<()
     }
 }
 
-/// Answers whether an actor of this partition may be stepped.
+/// Fails if an actor has no command yet.
 fn known_actor(own: Option<PartitionId>) -> Result<(), Why>
     ensures { result ≡ known_actor own }
 {
@@ -79,27 +80,27 @@ fn known_actor(own: Option<PartitionId>) -> Result<(), Why>
 }
 
 impl Told {
-    /// Begins with no line.
+    /// Returns a script without lines.
     pub fn new(alloc: Global) -> Result<Told, AllocError>
         ensures { IfOk result (λ told. told ≡ nothing_told) }
     {
         Ok(Told {
             options: Options::new(),
-            snapshot: false,
+            begun: false,
             counts: Counts::new(),
             actors: Actors::new(alloc)?,
             partitions: Partitions::new(alloc)?,
         })
     }
 
-    /// Answers whether a form may stand here.
+    /// Fails if a form may not follow.
     fn allow(&self, form: &Form) -> Result<(), Why>
         requires { IsFormInRange self.now.options form.now }
         ensures { result ≡ may_stand self.now form.now }
     {
         match form {
             Form::Blank => Ok(()),
-            Form::Given(option) => self.options.allow(self.snapshot, *option),
+            Form::Given(option) => self.options.allow(self.begun, *option),
             Form::Placed {
                 actor,
                 partition,
@@ -110,7 +111,7 @@ impl Told {
         }
     }
 
-    /// Reckons the counts with a form.
+    /// Returns the totals with a form added.
     fn count(&self, form: &Form) -> Result<Counts, Why>
         ensures value { result ≡ sums_with (segment_bytes_of self.now.options) self.now.sums form.now }
         ensures counts { IfOk result (AreCountsWith self.now.sums form.now) }
@@ -125,10 +126,10 @@ impl Told {
         }
     }
 
-    /// Gives an option.
+    /// Sets an option.
     fn with_option(self, option: OptionLine) -> Told
         requires range { IsOptionInRange option }
-        requires unbegun { self.snapshot ≡ false }
+        requires unbegun { self.begun ≡ false }
         ensures { result ≡ told_with self self.sums (Form.Given option) }
     {
         let mut told = self;
@@ -136,7 +137,7 @@ impl Told {
         told
     }
 
-    /// Puts an order on its actor's list.
+    /// Appends an order to its actor's list.
     fn with_order(
         self,
         counts: Counts,
@@ -154,7 +155,7 @@ impl Told {
         let number = told.actors.len(actor) as u32 + 1;
         told.partitions.step(at_once, actor, number, partition)?;
         told.actors.put(actor, partition, order)?;
-        told.snapshot = true;
+        told.begun = true;
         told.counts = counts;
         Ok(told)
     }
@@ -169,12 +170,12 @@ impl Told {
         let partition = told.actors.partition(actor).unwrap_or(PartitionId(0));
         told.partitions
             .put_pace(partition, Pace::Times { actor, turns })?;
-        told.snapshot = true;
+        told.begun = true;
         told.counts = counts;
         Ok(told)
     }
 
-    /// Puts a fault behind those of its partition.
+    /// Appends a fault to those of its partition.
     fn with_fault(
         self,
         counts: Counts,
@@ -185,11 +186,11 @@ impl Told {
     {
         let mut told = self;
         told.partitions.put_fault(partition, fault)?;
-        told.snapshot = true;
+        told.begun = true;
         Ok(told)
     }
 
-    /// Puts a form behind the lines so far.
+    /// Adds a form.
     fn with_form(self, counts: Counts, form: Form) -> Result<Told, AllocError>
         requires range { IsFormInRange self.options form }
         requires stands { may_stand self form ≡ Ok tt }
@@ -211,7 +212,7 @@ impl Told {
         }
     }
 
-    /// Puts a form behind the lines so far, where it may stand there.
+    /// Adds a form, or fails if it may not follow.
     #[tactic(auto, unfolding(crate::specs::Script::form_behind))]
     fn try_form(self, form: Form) -> Result<Told, LineRefusal>
         requires { IsFormInRange self.options form }
@@ -231,7 +232,7 @@ impl Told {
         self.try_form(form)
     }
 
-    /// Makes the script of all lines.
+    /// Returns the script, after its last line.
     pub fn into_script(self) -> Result<Script, AllocError>
         ensures value { IfOk result (λ script. script ≡ script_of self) }
         ensures fit { IfOk result IsFit }

@@ -1,4 +1,4 @@
-//! The words of a line, one after another.
+//! The words of a line, separated by blanks.
 
 ghost use Rattle.std.specs.Prelude.{◌≡◌, ◌-◌, ◌^◌, ◌≤◌, ◌<◌, length, bytes_eq, IfOk};
 ghost use Rattle.script_lang.specs.Words.{is_blank, words_of, first_of, end_of, number_first, only_number, only_signed};
@@ -8,7 +8,7 @@ use crate::numbers::{number, signed};
 use crate::refusal::Why;
 use std::marker::Model;
 
-/// Answers whether a word is this one.
+/// Returns whether a word is this one.
 pub fn is(word: &[u8], text: &str) -> bool
     ensures { result ≡ bytes_eq word.now text.now }
 {
@@ -34,7 +34,7 @@ fn skip_blanks(bytes: &[u8]) -> &[u8]
     bytes.split_at(bytes.len()).1
 }
 
-/// Counts the bytes of the first word.
+/// Returns the length of the first word in bytes.
 fn word_len(bytes: &[u8]) -> usize
     ensures value { result ≡ front_len is_blank bytes.now }
     ensures within { result ≤ length bytes.now }
@@ -47,7 +47,7 @@ fn word_len(bytes: &[u8]) -> usize
     bytes.len()
 }
 
-/// The words that are left of a line, which contracts see as a list.
+/// The words of a line that are left, which contracts see as a list.
 #[derive(Drop)]
 pub struct Words<'a> {
     rest: &'a [u8],
@@ -63,7 +63,7 @@ impl<'a> Model for Words<'a> {
 }
 
 impl<'a> Words<'a> {
-    /// Begins with all words.
+    /// Returns all words of a line.
     pub fn of(text: &'a [u8]) -> Words<'a>
         ensures { result ≡ words_of text.now }
     {
@@ -93,7 +93,7 @@ impl<'a> Words<'a> {
         number(self.first(Why::Word)?, low, high, Why::Number)
     }
 
-    /// Answers whether no word is left.
+    /// Returns whether no word is left.
     pub fn end(&self, why: Why) -> Result<(), Why>
         ensures { result ≡ end_of self.now why }
     {
@@ -114,7 +114,7 @@ impl<'a> Words<'a> {
         Ok(number)
     }
 
-    /// Reads the only word, a number of which `below` may be below 0.
+    /// Reads the only word, a number that may be as low as `-below`.
     #[tactic(auto, unfolding(crate::specs::Words::only_signed))]
     pub fn only_signed(self, below: u64, high: u64) -> Result<i64, Why>
         requires { high < 2 ^ 63 }

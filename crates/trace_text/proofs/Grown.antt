@@ -122,8 +122,8 @@ added-new (a ∷ b ∷ front) part p entry h = ap (λ (t : List (ℕ × List Jou
 with-last : (parts : Parts) (last : PartitionId) → parts.last ≡ Some last → parts_of parts ≡ map told parts.done ++ (last.0, parts.journal.items) ∷ []
 with-last parts last is = rw is refl
 
-some-snapshot : (parts : Parts) (last : PartitionId) → parts.last ≡ Some last → IsBegun parts
-some-snapshot parts last is none = let no : ◌≡◌ {A = Option PartitionId} None (Some last) = sym none ∙ is in cc no
+some-begun : (parts : Parts) (last : PartitionId) → parts.last ≡ Some last → IsBegun parts
+some-begun parts last is none = let no : ◌≡◌ {A = Option PartitionId} None (Some last) = sym none ∙ is in cc no
 
 -- an entry of the last partition
 pub put-same : (old new : Parts) (line : Line) (last : PartitionId) → old.last ≡ Some last → line.partition.0 ≡ last.0 → new.done ≡ old.done → new.last ≡ old.last
@@ -131,7 +131,7 @@ pub put-same : (old new : Parts) (line : Line) (last : PartitionId) → old.last
 put-same old new line last is equal done kept items =
     let same : (last.0 == line.partition.0) ≡ true = (Decides-eqb last.0 line.partition.0).1 (sym equal) in
     record {
-      snapshot = some-snapshot new last (kept ∙ is);
+      begun = some-begun new last (kept ∙ is);
       may = rw (with-last old last is) (may-last (map told old.done) (last.0, old.journal.items) line.partition.0 (omega (arith, equal)));
       parts = with-last new last (kept ∙ is) ∙ (rw (done, items) refl ∙ sym (ap (λ (t : List (ℕ × List JournalEntry)). added t line.partition.0 line.entry) (with-last old last is) ∙ added-same (map told old.done) (last.0, old.journal.items) line.partition.0 line.entry same));
     }
@@ -139,14 +139,14 @@ put-same old new line last is equal done kept items =
 -- an entry of a later one
 pub put-new : (old new : Parts) (line : Line) (last : PartitionId) (moved : PartJournal) → old.last ≡ Some last → last.0 < line.partition.0 → told moved ≡ (last.0, old.journal.items)
     → new.done ≡ old.done ++ moved ∷ [] → new.last ≡ Some line.partition → new.journal.items ≡ line.entry ∷ [] → HasPut old new line
-put-new old new line last moved is above was done snapshot items =
+put-new old new line last moved is above was done begun items =
     let other : (last.0 == line.partition.0) ≡ false = ne_eqb last.0 line.partition.0 (λ e. omega (arith, e, above)) in
     let front : map told new.done ≡ map told old.done ++ (last.0, old.journal.items) ∷ []
     = ap (map told) done ∙ (map-append told old.done (moved ∷ []) ∙ ap (λ (q : ℕ × List JournalEntry). map told old.done ++ q ∷ []) was) in
     record {
-      snapshot = some-snapshot new line.partition snapshot;
+      begun = some-begun new line.partition begun;
       may = rw (with-last old last is) (may-last (map told old.done) (last.0, old.journal.items) line.partition.0 (omega (arith, above)));
-      parts = with-last new line.partition snapshot ∙ (rw (front, items) refl ∙ sym (ap (λ (t : List (ℕ × List JournalEntry)). added t line.partition.0 line.entry) (with-last old last is) ∙ added-new (map told old.done) (last.0, old.journal.items) line.partition.0 line.entry other));
+      parts = with-last new line.partition begun ∙ (rw (front, items) refl ∙ sym (ap (λ (t : List (ℕ × List JournalEntry)). added t line.partition.0 line.entry) (with-last old last is) ∙ added-new (map told old.done) (last.0, old.journal.items) line.partition.0 line.entry other));
     }
 
 -- an entry of an earlier one

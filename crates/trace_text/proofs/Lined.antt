@@ -209,16 +209,16 @@ record IsEventOf (words : List (List ℕ)) (event : Event) : Type 0 where
   is : IsEvent event
   same : event_words event ≡ words
 
-snapshot-sound : (words : List (List ℕ)) (event : Event) → begun_in words ≡ Some event → IsEventOf (codes "begin" ∷ words) event
-snapshot-sound [] event h = let same : Begins None ≡ event = cc h in rw (← same) (record { is = tt; same = refl })
-snapshot-sound (a ∷ []) event h = cc h
-snapshot-sound (a ∷ b ∷ []) event h =
+begun-sound : (words : List (List ℕ)) (event : Event) → begun_in words ≡ Some event → IsEventOf (codes "begin" ∷ words) event
+begun-sound [] event h = let same : Begins None ≡ event = cc h in rw (← same) (record { is = tt; same = refl })
+begun-sound (a ∷ []) event h = cc h
+begun-sound (a ∷ b ∷ []) event h =
     let tested = if-some (bytes_eq a (codes "cut")) (count_in b >>= λ n. Some (Begins (Some n))) event h in
     let n = bind-some (count_in b) (λ m. Some (Begins (Some m))) event tested.1 in
     let sound = counts.sound b n.0 n.1 in
     let same : Begins (Some n.0) ≡ event = cc n.2 in
     rw (← same) (record { is = sound.0; same = rw (sound.1, text-is a (codes "cut") tested.0) refl })
-snapshot-sound (a ∷ b ∷ c ∷ words) event h = cc h
+begun-sound (a ∷ b ∷ c ∷ words) event h = cc h
 
 event-sound : (words : List (List ℕ)) (event : Event) → event_in words ≡ Some event → IsEventOf words event
 event-sound [] event h = cc h
@@ -230,7 +230,7 @@ event-sound (first ∷ words) event h =
           rw (← a.2) (record { is = sound.is; same = rw (sound.same, text-is first (codes "=") answered.0) refl })
       | inr other ↦
           let begins = if-some (bytes_eq first (codes "begin")) (begun_in words) event other in
-          rw (text-is first (codes "begin") begins.0) (snapshot-sound words event begins.1)
+          rw (text-is first (codes "begin") begins.0) (begun-sound words event begins.1)
     ]
 
 -- the text is the line of this entry

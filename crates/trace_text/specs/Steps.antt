@@ -71,7 +71,7 @@ added (part ∷ next ∷ parts) partition entry = part ∷ added (next ∷ parts
 
 -- the entry was put
 pub record HasPut (old new : Parts) (line : Line) : Type 0 where
-  pub snapshot : IsBegun new
+  pub begun : IsBegun new
   pub may : MayFollow (parts_of old) line.partition.0
   pub parts : parts_of new ≡ added (parts_of old) line.partition.0 line.entry
 

@@ -21,7 +21,7 @@ pub struct Parts {
 impl Parts {
     /// Returns no journal.
     pub fn new(alloc: Global) -> Parts
-        ensures snapshot { IsBegun result }
+        ensures begun { IsBegun result }
         ensures none { parts_of result ≡ [] }
     {
         Parts {

@@ -258,7 +258,7 @@ fn answer(alloc: Global, words: Words) -> Result<Option<Answer>, AllocError>
 }
 
 /// Reads the words after `begin`.
-fn snapshot(words: Words) -> Option<Event>
+fn begun(words: Words) -> Option<Event>
     ensures { result ≡ begun_in words.entry }
 {
     let mut words = words;
@@ -295,7 +295,7 @@ fn event(alloc: Global, words: Words) -> Result<Option<Event>, AllocError>
         return Ok(Some(Event::Answers(answer)));
     }
     if is(first, "begin") {
-        return Ok(snapshot(words));
+        return Ok(begun(words));
     }
     Ok(None)
 }

@@ -28,4 +28,4 @@ loop-rest-preserved c =
     let put = was-put c.loop-rest.parts c.put.new.self c.in-Some-2.line c.in_ok-put.field-0 c.if-not-branch.false c.in_ok-put.ensures in
     let next = one-more c.args.bytes.now c.loop-rest.rest.now c.loop-rest.number c.saturating_add-number.result c.loop-rest.parts c.put.new.self c.in-Some.text.now c.in-Some.behind.now c.in-Some-2.line
     (record { are = i.are; text = i.text; count = i.number }) c.in-Some.ensures.1 (sym c.in_ok-line.ensures ∙ c.in-Some-2.is) put c.saturating_add-number.ensures in
-    record { snapshot = put.snapshot; are = next.are; text = next.text; number = next.count }
+    record { begun = put.begun; are = next.are; text = next.text; number = next.count }

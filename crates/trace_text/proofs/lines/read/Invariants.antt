@@ -6,7 +6,7 @@ use Rattle.trace_text.proofs.lines.read.Given as goal
 
 abbrev pub invariant-loop-rest : goal.invariant-loop-rest
 invariant-loop-rest l = record {
-  snapshot : IsBegun l.parts;
+  begun : IsBegun l.parts;
   are : AreParts (parts_of l.parts);
   text : l.bytes ≡ trace_of (parts_of l.parts) ++ l.rest;
   number : l.number ≡ min (lines_of (parts_of l.parts) + 1) (2 ^ 32 - 1);
