@@ -148,7 +148,7 @@ pub fn feed(rt: &HostRuntime, view: &mut View, bytes: &[u8], name: &str) -> io::
         match next_note(rt.alloc(), rest)? {
             NextNote::End => return Ok(0),
             NextNote::Event(note, behind) => {
-                view.feed(&note)?;
+                view.feed(note)?;
                 rest = behind;
             }
             NextNote::Cut => return complain(rt, name, "an event is cut short"),

@@ -81,8 +81,8 @@ fn comes_to(number: u32, state: State) -> Note
 pub fn view_of(alloc: Global, copies: u32) -> Result<View, AllocError> {
     let mut view = View::new(alloc);
     for number in 0..copies {
-        view.feed(&started(alloc, number)?)?;
-        view.feed(&comes_to(number, State::CopyFinished))?;
+        view.feed(started(alloc, number)?)?;
+        view.feed(comes_to(number, State::CopyFinished))?;
     }
     Ok(view)
 }
@@ -90,8 +90,8 @@ pub fn view_of(alloc: Global, copies: u32) -> Result<View, AllocError> {
 /// Deletes so many copies, the first ones first.
 pub fn delete(view: &mut View, copies: u32) -> Result<(), AllocError> {
     for number in 0..copies {
-        view.feed(&comes_to(number, State::DeleteStarted))?;
-        view.feed(&comes_to(number, State::DeleteFinished))?;
+        view.feed(comes_to(number, State::DeleteStarted))?;
+        view.feed(comes_to(number, State::DeleteFinished))?;
     }
     Ok(())
 }

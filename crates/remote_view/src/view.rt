@@ -21,7 +21,7 @@ use crate::spread::Spread;
 use crate::stairs::Stairs;
 use crate::stepping::fresh;
 use crate::tread::Tread;
-use segment_meta::{Entry, Note, copied_custom, next_state};
+use segment_meta::{Entry, Note, next_state};
 use std::alloc::{AllocError, Global};
 use std::marker::Model;
 use tier_base::{Blob, BrokerId, SegmentId, State};
@@ -64,9 +64,9 @@ impl View {
 
     /// Adds the next event of the metadata log. An event that is no step from its segment's state is counted, and
     /// changes nothing else. After an `Err` the view is as before.
-    pub fn feed(&mut self, note: &Note) -> Result<(), AllocError>
-        requires { IsNote note.now }
-        ensures ok { OnOk result (self.new ≡ fed self.old note.now) }
+    pub fn feed(&mut self, note: Note) -> Result<(), AllocError>
+        requires { IsNote note }
+        ensures ok { OnOk result (self.new ≡ fed self.old note) }
         ensures err { OnErr result (self.new ≡ self.old) }
     {
         match note {
@@ -77,7 +77,7 @@ impl View {
                 event_ts,
                 state,
                 custom,
-            } => self.update(id, *broker, *event_ts, *state, custom)?,
+            } => self.update(&id, broker, event_ts, state, custom)?,
         }
         self.notes = self.notes.saturating_add(1);
         Ok(())
@@ -150,16 +150,16 @@ impl View {
     }
 
     /// Adds an entry, where its id is new.
-    fn add(&mut self, entry: &Entry) -> Result<(), AllocError>
-        requires { IsAdded entry.now }
-        ensures ok { OnOk result (self.new ≡ record self.old { entries = recorded self.old.entries (Add entry.now) }) }
+    fn add(&mut self, entry: Entry) -> Result<(), AllocError>
+        requires { IsAdded entry }
+        ensures ok { OnOk result (self.new ≡ record self.old { entries = recorded self.old.entries (Add entry) }) }
         ensures err { OnErr result (self.new ≡ self.old) }
     {
         if self.known.get(&entry.id).is_some() {
             return Ok(());
         }
-        has_id(entry);
-        self.known.add(entry.copy(self.alloc)?)
+        has_id(&entry);
+        self.known.add(entry)
     }
 
     /// Updates an entry, where that is a step.
@@ -169,11 +169,11 @@ impl View {
         broker: BrokerId,
         event_ts: i64,
         state: State,
-        custom: &Option<Blob>,
+        custom: Option<Blob>,
     ) -> Result<(), AllocError>
         requires { state ≢ CopyStarted }
         ensures ok { OnOk result (self.new
-            ≡ record self.old { entries = recorded self.old.entries (Update id.now broker event_ts state custom.now) }) }
+            ≡ record self.old { entries = recorded self.old.entries (Update id.now broker event_ts state custom) }) }
         ensures err { OnErr result (self.new ≡ self.old) }
     {
         let Some(entry) = self.known.get(id) else {
@@ -182,7 +182,6 @@ impl View {
         if next_state(Some(entry.state), state).is_none() {
             return Ok(());
         }
-        let custom = copied_custom(self.alloc, custom)?;
         let spread = self.spread.after(entry, state);
         if lay_behind(self.alloc, &mut self.stairs, entry, state)? {
             self.known.change(id, broker, event_ts, state, custom);

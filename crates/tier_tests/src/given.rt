@@ -148,7 +148,7 @@ pub(crate) fn key(part: Part) -> ObjectKey {
 /// Whether a view is fed a note of these bytes.
 pub(crate) fn feeds(alloc: Global, view: &mut View, note: &[u8]) -> bool {
     match decode(alloc, note) {
-        Ok(note) => view.feed(&note).is_ok(),
+        Ok(note) => view.feed(note).is_ok(),
         Err(_) => false,
     }
 }

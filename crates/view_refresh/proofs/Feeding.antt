@@ -1,9 +1,9 @@
 -- Views that take in further notes.
-use Rattle.std.proofs.Common.{◌≡◌, ◌∙◌, refl, sym, ap, ℕ, ◌+◌, ◌<◌, ◌≤◌, List, [], ◌∷◌, ◌++◌, length, take, drop, Err, arith}
-use Rattle.std.specs.Prelude.{IsTrue, ◌^◌}
-use Rattle.std.proofs.Math.ListN.{get_or}
-use Rattle.std.proofs.lemmas.List.{take-append-drop, length-take-le, length-append, take_more, drop_more}
-use Rattle.std.proofs.lemmas.List.Elements.{All-nil, All-take}
+use Rattle.std.proofs.Common.{◌≡◌, ◌∙◌, refl, sym, ap, ℕ, ◌+◌, ◌<◌, ◌≤◌, List, [], ◌∷◌, ◌++◌, length, take, drop, Result, Ok, Err, arith}
+use Rattle.std.specs.Prelude.{IsTrue, ◌^◌, OnErr}
+use Rattle.std.proofs.Math.Seq.{take-append_seam}
+use Rattle.std.proofs.lemmas.List.{append_assoc, append-nil, take-append-drop, length-take-le, length-append}
+use Rattle.std.proofs.lemmas.List.Elements.{All-nil, All-head, All-tail, All-take}
 use Rattle.tier_base.specs.declared.fault.Trouble.{Trouble}
 use Rattle.tier_base.specs.declared.fault.Trouble.TheVariants.{Failed, NoMemory}
 use Rattle.segment_meta.specs.Rules.{IsNote}
@@ -56,15 +56,40 @@ fed_push : (view : Seen) (notes : List Note) (note : Note) → fed_all view (not
 fed_push view [] note = refl
 fed_push view (first ∷ notes) note = fed_push (fed view first) notes note
 
+-- a view has the first of some notes, and others are left
+pub record IsFed (old : Seen) (notes : List Note) (new : Seen) (rest : List Note) : Type 0 where
+  pub front : List Note
+  pub parts : front ++ rest ≡ notes
+  pub are : AreNotes rest
+  pub view : new ≡ fed_all old front
+
+-- none yet
+pub fed_none : (old new : Seen) (notes rest : List Note) → new ≡ old → rest ≡ notes → AreNotes notes → IsFed old notes new rest
+fed_none old new notes rest same all are = rw (same, all) (record { front = []; parts = refl; are = are; view = refl })
+
 -- one note more
-pub feed_next : (view : Seen) (notes : List Note) (i : ℕ) (none : Note) (old new : Seen) → i < length notes
-    → (old ≡ fed_all view (take i notes)) × (fed_all old (drop i notes) ≡ fed_all view notes) → new ≡ fed old (get_or notes i none)
-    → (new ≡ fed_all view (take (i + 1) notes)) × (fed_all new (drop (i + 1) notes) ≡ fed_all view notes)
-feed_next view notes i none old new within was next = (
-  next ∙ ap (λ (v : Seen). fed v (get_or notes i none)) was.0 ∙ sym (fed_push view (take i notes) (get_or notes i none))
-      ∙ ap (fed_all view) (sym (take_more notes i none within)),
-  ap (λ (v : Seen). fed_all v (drop (i + 1) notes)) next ∙ sym (ap (fed_all old) (drop_more notes i none within)) ∙ was.1,
-)
+pub fed_one : (old mid new : Seen) (notes all rest : List Note) (note : Note) → all ≡ note ∷ rest → new ≡ fed mid note → IsFed old notes mid all → IsFed old notes new rest
+fed_one old mid new notes all rest note is next h = record {
+  front = h.front ++ note ∷ [];
+  parts = append_assoc h.front (note ∷ []) rest ∙ (ap (λ (more : List Note). h.front ++ more) (sym is) ∙ h.parts);
+  are = All-tail IsNote note rest (rw is at h.are);
+  view = next ∙ (ap (λ (v : Seen). fed v note) h.view ∙ sym (fed_push old h.front note));
+}
+
+-- the next one keeps the rules
+pub fed_rules : (old mid : Seen) (notes all rest : List Note) (note : Note) → all ≡ note ∷ rest → IsFed old notes mid all → IsNote note
+fed_rules old mid notes all rest note is h = All-head IsNote note rest (rw is at h.are)
+
+-- all of them, or the first of them
+pub fed_whole : (old new : Seen) (notes rest : List Note) → rest ≡ [] → IsFed old notes new rest → new ≡ fed_all old notes
+fed_whole old new notes rest none h = h.view ∙ ap (fed_all old) (sym (append-nil h.front) ∙ (ap (λ (more : List Note). h.front ++ more) (sym none) ∙ h.parts))
+
+pub fed_some : (old new : Seen) (notes rest : List Note) → IsFed old notes new rest → (k : ℕ) × (new ≡ fed_all old (take k notes))
+fed_some old new notes rest h = (length h.front, h.view ∙ ap (fed_all old) (sym (ap (take (length h.front)) (sym h.parts) ∙ take-append_seam h.front rest)))
+
+pub on_err : {A E P : Type 0} (answer : Result A E) → P → OnErr answer P
+on_err (Ok x) p = tt
+on_err (Err e) p = p
 
 -- a read that failed, or that found no memory, leaves the view
 pub failed_takes : (T : Type 0) (why : Trouble) (log : Content) (view : Seen) → Takes {T = T} (Err why) log view view

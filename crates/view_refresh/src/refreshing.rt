@@ -8,7 +8,7 @@ use meta_log::MetaLog;
 use remote_view::View;
 use segment_meta::Note;
 use std::alloc::AllocError;
-use tier_base::Trouble;
+use tier_base::{Row, Trouble};
 
 /// Reads on in the metadata log: adds all events to the view that it hasn't read yet. After `NoMemory` it may have
 /// added some of them.
@@ -21,19 +21,19 @@ pub fn refresh<M: MetaLog>(view: &mut View, meta: &mut M) -> Result<(), Trouble>
     ensures left { Leaves result view.old view.new (M.content meta.old) (M.content meta.new) }
 {
     let notes = meta.read(view.seen())?;
-    match feed_all(view, notes.as_slice()) {
+    match feed_all(view, notes) {
         Ok(()) => Ok(()),
         Err(_) => Err(Trouble::NoMemory),
     }
 }
 
 /// Feeds a view these notes. Where memory is wanted it has some of them.
-fn feed_all(view: &mut View, notes: &[Note]) -> Result<(), AllocError>
-    requires { AreNotes notes.now }
-    ensures ok { OnOk result (view.new ≡ fed_all view.old notes.now) }
-    ensures err { OnErr result ((k : ℕ) × (view.new ≡ fed_all view.old (take k notes.now))) }
+fn feed_all(view: &mut View, notes: Row<Note>) -> Result<(), AllocError>
+    requires { AreNotes notes }
+    ensures ok { OnOk result (view.new ≡ fed_all view.old notes) }
+    ensures err { OnErr result ((k : ℕ) × (view.new ≡ fed_all view.old (take k notes))) }
 {
-    for note in notes {
+    for note in notes.into_vec() {
         view.feed(note)?;
     }
     Ok(())

@@ -22,7 +22,7 @@ change-requires-2 c =
     found_stands (entry_of c.args.id.now c.self.inside.known) c.in-Some.entry.now c.args.state (sym c.in-Some.ensures) step
 
 pub replace_all-requires : goal.replace_all-requires
-replace_all-requires c = (c.in_ok-fresh.ensures.ok c.args.broker c.args.event_ts c.args.custom.now).room
+replace_all-requires c = (c.in_ok-fresh.ensures.ok c.args.broker c.args.event_ts c.args.custom).room
 
 pub invariant_of-self-2 : goal.invariant_of-self-2
 invariant_of-self-2 c =
@@ -31,10 +31,10 @@ invariant_of-self-2 c =
     let x = c.in-Some.entry.now in
     let one = found_id c.args.id.now es x (sym c.in-Some.ensures) in
     let kept = kept_found c.args.id.now es x c.self.invariant.0.kept (sym c.in-Some.ensures) in
-    let new = rw (ts, c.in_ok-custom.ensures) at c.change-2.ensures in (
-      viewed_update es c.change-2.new.self c.self.inside.stairs c.fresh.new.stairs c.replace_all.new.self c.in_ok-fresh.fresh c.args.id.now x c.args.broker c.args.event_ts c.args.state c.args.custom.now
-          c.self.invariant.0 one new (c.in_ok-fresh.ensures.ok c.args.broker c.args.event_ts c.args.custom.now) c.replace_all.ensures,
-      rw (new, c.after-spread.ensures) (spread_changed c.self.inside.spread es c.args.id.now x c.args.broker c.args.event_ts c.args.state c.args.custom.now (sym c.in-Some.ensures) c.self.invariant.0.kept c.self.invariant.1 kept.ordered),
+    let new = rw ts at c.change-2.ensures in (
+      viewed_update es c.change-2.new.self c.self.inside.stairs c.fresh.new.stairs c.replace_all.new.self c.in_ok-fresh.fresh c.args.id.now x c.args.broker c.args.event_ts c.args.state c.args.custom
+          c.self.invariant.0 one new (c.in_ok-fresh.ensures.ok c.args.broker c.args.event_ts c.args.custom) c.replace_all.ensures,
+      rw (new, c.after-spread.ensures) (spread_changed c.self.inside.spread es c.args.id.now x c.args.broker c.args.event_ts c.args.state c.args.custom (sym c.in-Some.ensures) c.self.invariant.0.kept c.self.invariant.1 kept.ordered),
     )
 
 pub lay_behind-requires-clause-kept : goal.lay_behind-requires-clause-kept
@@ -54,10 +54,10 @@ invariant_of-self-then-branch c =
     let one = found_id c.args.id.now es x (sym c.in-Some.ensures) in
     let kept = kept_found c.args.id.now es x c.self.invariant.0.kept (sym c.in-Some.ensures) in
     let step : is_some (next_state (Some x.state) c.args.state) ≡ true = search rules in
-    let new = rw (ts, c.in_ok-custom.ensures) at c.change.ensures in (
-      viewed_laid es c.change.new.self c.self.inside.stairs c.lay_behind.new.stairs c.args.id.now x c.args.broker c.args.event_ts c.args.state c.args.custom.now
+    let new = rw ts at c.change.ensures in (
+      viewed_laid es c.change.new.self c.self.inside.stairs c.lay_behind.new.stairs c.args.id.now x c.args.broker c.args.event_ts c.args.state c.args.custom
           c.self.invariant.0 (sym c.in-Some.ensures) one new step (rw c.if-branch.true at c.in_ok-lay_behind.ensures.ok),
-      rw (new, c.after-spread.ensures) (spread_changed c.self.inside.spread es c.args.id.now x c.args.broker c.args.event_ts c.args.state c.args.custom.now (sym c.in-Some.ensures) c.self.invariant.0.kept c.self.invariant.1 kept.ordered),
+      rw (new, c.after-spread.ensures) (spread_changed c.self.inside.spread es c.args.id.now x c.args.broker c.args.event_ts c.args.state c.args.custom (sym c.in-Some.ensures) c.self.invariant.0.kept c.self.invariant.1 kept.ordered),
     )
 
 pub take_first-requires-clause-ends : goal.take_first-requires-clause-ends
@@ -75,9 +75,9 @@ invariant_of-self-then-take_first c =
     let x = c.in-Some.entry.now in
     let one = found_id c.args.id.now es x (sym c.in-Some.ensures) in
     let kept = kept_found c.args.id.now es x c.self.invariant.0.kept (sym c.in-Some.ensures) in
-    let new = rw (ts, c.in_ok-custom.ensures) at c.change-then-take_first.ensures in
+    let new = rw ts at c.change-then-take_first.ensures in
     let same = rw c.if-branch.false at c.in_ok-lay_behind.ensures.ok in (
-      viewed_taken es c.change-then-take_first.new.self c.lay_behind.new.stairs c.take_first.new.stairs c.self.inside.spread c.args.id.now x c.args.broker c.args.event_ts c.args.state c.args.custom.now
+      viewed_taken es c.change-then-take_first.new.self c.lay_behind.new.stairs c.take_first.new.stairs c.self.inside.spread c.args.id.now x c.args.broker c.args.event_ts c.args.state c.args.custom
           (viewed_same es c.self.inside.stairs c.lay_behind.new.stairs c.self.invariant.0 same) c.self.invariant.1 (sym c.in-Some.ensures) one new (rw c.if-take_first.true at c.take_first.ensures),
-      rw (new, c.after-spread.ensures) (spread_changed c.self.inside.spread es c.args.id.now x c.args.broker c.args.event_ts c.args.state c.args.custom.now (sym c.in-Some.ensures) c.self.invariant.0.kept c.self.invariant.1 kept.ordered),
+      rw (new, c.after-spread.ensures) (spread_changed c.self.inside.spread es c.args.id.now x c.args.broker c.args.event_ts c.args.state c.args.custom (sym c.in-Some.ensures) c.self.invariant.0.kept c.self.invariant.1 kept.ordered),
     )
