@@ -13,7 +13,7 @@ use disk_model::Disk;
 use local_log::LocalLog;
 use meta_log::{EventOrigin, MetaLog};
 use meta_log_file::DiskLog;
-use object_store::{Store, get_spot, place};
+use object_store::{ObjectKey, Store, get_spot, place};
 use remote_find::{Piece, covered_to, find};
 use remote_view::View;
 use segment_bundle::Bundle;
@@ -81,31 +81,40 @@ impl<S: Store, M: MetaLog> Remote<S, M> {
         closed: Closed,
         bundle: Bundle,
     ) -> Result<()> {
-        let interval = log.settings().index_interval;
-        let copying = Copying::of(
-            self.alloc,
-            PARTITION,
-            id,
-            closed,
-            log.line(),
-            interval,
-            false,
-        )?;
-        let mut copying = copying.give(bundle);
-        self.meta.append(&copying.start_note(self.alloc, TELLER)?)?;
+        let mut copying = copying_of(self.alloc, log, id, closed, bundle)?;
+        self.start(&copying)?;
         for number in 0..4 {
             self.put(&mut copying, number)?;
         }
-        self.meta.append(&copying.finish_note(self.alloc, TELLER)?)?;
+        self.finish(&mut copying)
+    }
+
+    /// Appends the *started* event.
+    fn start(&mut self, copying: &Copying) -> Result<()> {
+        let note = copying.start_note(self.alloc, TELLER)?;
+        self.meta.append(&note)?;
+        Ok(())
+    }
+
+    /// Appends the *finished* event.
+    fn finish(&mut self, copying: &mut Copying) -> Result<()> {
+        let note = copying.finish_note(self.alloc, TELLER)?;
+        self.meta.append(&note)?;
         Ok(())
     }
 
     /// Puts one of a segment's objects: batches, offset index, time index, leader epochs.
     fn put(&mut self, copying: &mut Copying, number: u8) -> Result<()> {
-        if let Some(key) = copying.key(number) {
-            let bytes = copying.part(self.alloc, key.part)?;
-            self.store.put(&key, &bytes)?;
+        match copying.key(number) {
+            Some(key) => self.put_part(copying, &key),
+            None => Ok(()),
         }
+    }
+
+    /// Puts the part of a segment that belongs under a key.
+    fn put_part(&mut self, copying: &mut Copying, key: &ObjectKey) -> Result<()> {
+        let bytes = copying.part(self.alloc, key.part)?;
+        self.store.put(key, &bytes)?;
         Ok(())
     }
 
@@ -149,6 +158,22 @@ impl<S: Store, M: MetaLog> Remote<S, M> {
         let bytes = get_spot(&mut self.store, &spot)?.context("no such object")?;
         run_of(&bytes, offset, LIMIT, log.stable(), piece.to)
     }
+}
+
+/// A segment under its remote id, with its parts.
+fn copying_of<L: Disk>(
+    alloc: Global,
+    log: &LocalLog<L>,
+    id: SegmentId,
+    closed: Closed,
+    bundle: Bundle,
+) -> Result<Copying>
+    ensures id { IfOk result (λ copying. copying.id ≡ id) }
+    ensures segment { IfOk result (λ copying. copying.segment ≡ closed) }
+{
+    let interval = log.settings().index_interval;
+    let copying = Copying::of(alloc, PARTITION, id, closed, log.line(), interval, false)?;
+    Ok(copying.give(bundle))
 }
 
 /// Makes the parts of a segment in one pass over its batches.
