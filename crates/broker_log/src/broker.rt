@@ -7,7 +7,8 @@ ghost use Rattle.tier_base.specs.Counts.{counted, Rose};
 ghost use Rattle.tier_base.specs.Device.{Lasts, Arms};
 ghost use Rattle.log_steps.specs.Reopens.{Reopens};
 ghost use Rattle.log_terms.specs.Log.{up_to, end_of, EndsAt};
-ghost use Rattle.local_log.specs.Log.{AreSettings};
+ghost use Rattle.disk_model.specs.Content.{LeavesOnly};
+ghost use Rattle.local_log.specs.Log.{AreSettings, Creating};
 ghost use Rattle.local_log.specs.Cutting.{cut_point};
 ghost use Rattle.local_log.specs.Reading.{RunFails, IsOfDevice, ReadOnce, first_past, segment_at, is_edge};
 ghost use Rattle.local_log.specs.declared.refusal.CreateRefusal.TheVariants as create;
@@ -70,6 +71,14 @@ impl<D: Disk> BrokerLog<D> {
         requires settings { AreSettings settings }
         requires empty { IsTrue (D.content disk).is_observable → (n : FileName) → (D.content disk).files n ≡ None }
         ensures ok { IfOk result (λ broker. IsFirst D.content disk settings broker) }
+
+        // A crash at any moment of the call leaves what it might have left before, or the new log.
+        ensures any_moment { IfOk result (λ broker. OnDisk broker (λ d.
+            LeavesOnly (D.content disk) (D.content d) (Creating (D.content disk)))) }
+        ensures any_moment_err { IfErr result
+            (λ e. LeavesOnly (D.content disk) (D.content e.0) (Creating (D.content disk))) }
+        ensures again { IfErr result (λ e. Reopens (D.content disk) → Reopens (D.content e.0)) }
+
         ensures control { IfOk result (λ broker. OnDisk broker (λ d. Lasts (D.control disk) (D.control d))) }
         ensures control_err { IfErr result (λ e. Lasts (D.control disk) (D.control e.0)) }
         ensures cause { IfErr result (λ e. e.1 ≡ create.DiskFault
