@@ -1,4 +1,4 @@
-//! Worked rows, by hand. An index is told by its segment's base offset.
+//! Worked rows, by hand. An index is recognised by its segment's base offset.
 
 use index_cache::IndexCache;
 use sparse_index::OffsetIndex;

@@ -1,4 +1,4 @@
-//! Vectors from outside. The checksums stand in RFC 3720, appendix B.4; the spellings were worked by hand.
+//! Vectors from outside. The checksums are those of RFC 3720, appendix B.4; the spellings were worked by hand.
 
 use crate::plain;
 use batch_prims::{

@@ -1,4 +1,4 @@
-//! Why a number of variable length has no reading.
+//! Why bytes aren't a valid varint.
 
 use thiserror::Error;
 

@@ -1,7 +1,7 @@
 //! Numbers in groups of seven bits, the lowest group first, as `specs/Varint.antt` has them.
 //!
-//! Most numbers in a batch have one byte or two, so both directions are loops that end with the last group.
-//! A number's groups are laid out first and appended at once, so want of memory leaves none of them behind.
+//! Most numbers in a batch have one byte or two, so both directions are loops that end with the last group. A number's
+//! groups are laid out first and appended at once, so running out of memory leaves none of them behind.
 
 ghost use Rattle.std.specs.Prelude.{◌≡◌, ◌<◌, ◌≤◌, ◌^◌, ◌++◌, length, take, drop, IfOk, OnOk, OnErr, IsErrOf, ◌↔◌};
 ghost use Rattle.batch_prims.specs.Varint.{seen, low_bits, groups_at, EndsInside, HasNoLast, shortest, varint_at, varlong_at, varint_bytes, varlong_bytes};

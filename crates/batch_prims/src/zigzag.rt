@@ -1,4 +1,4 @@
-//! Signed numbers as unsigned ones: 0, -1, 1, -2 and so on stand as 0, 1, 2, 3.
+//! Signed numbers as unsigned ones: 0, -1, 1, -2 and so on become 0, 1, 2, 3.
 
 ghost use Rattle.std.specs.Prelude.{◌≡◌};
 ghost use Rattle.batch_prims.specs.Varint.{from_zigzag, to_zigzag};

@@ -1,9 +1,9 @@
-//! The program: runs a script of log commands, and writes what each was answered; or runs a load and sums it up; or audits or
-//! sweeps the remote tiers in a folder.
+//! The program `tiered`: runs a script of log commands and prints the answers, runs a generated load and prints a
+//! summary, or audits or sweeps the remote tiers in a directory.
 //!
-//! `tiered_call` has the call with the headline. What stands here hands it the words, standard input, a yard over the folder
-//! that the words name, standard output and a gate that holds nobody, prints the status's line to standard error and what
-//! explains it behind that, and ends with the status's number.
+//! `tiered_call` has the call with the guarantees. Here it gets the arguments, standard input and output, an
+//! environment over the directory that the arguments name, and a gate that holds no thread back. The status's line and
+//! its explanation go to standard error, and the program exits with the status's number.
 #![tactic(auto)]
 
 use folder_yard::FolderYard;

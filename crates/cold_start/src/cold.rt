@@ -1,7 +1,7 @@
 //! An open partition: a world whose registry is kept on a disk of its own.
 //!
-//! The registry's file is replaced before a step that changed the registry returns. So a power cut never leaves a registry
-//! that nobody was told of, nor one without what somebody was told.
+//! The registry's file is replaced before a step that changed the registry returns. So a power cut never leaves a
+//! registry that no answer reported, nor one that lacks what an answer reported.
 
 ghost use Rattle.std.specs.Prelude.{◌≡◌, ◌≤◌, ◌⊎◌, ◌↔◌, false, IfOk, IfErr, OnOk, OnErr, IsTrue, length};
 ghost use Rattle.tier_base.specs.Device.{Lasts};

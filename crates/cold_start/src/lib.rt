@@ -1,7 +1,7 @@
-//! The cold start of a partition: a run goes on over the devices that another one, or a power cut of everything, left.
+//! The cold start of a partition: opening it over the devices that an earlier run, or a power cut of everything, left.
 //!
-//! `Cold` is a world whose registry is kept in a file. The laws say what a power cut leaves of an open partition, and that
-//! devices which stand for a state of the plain log are gone on from.
+//! `Cold` is a world whose registry is kept in a file. The laws say what a power cut leaves of an open partition, and
+//! that a run can continue over devices that represent a state of the plain log.
 #![tactic(auto)]
 
 mod cold;

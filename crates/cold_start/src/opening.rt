@@ -1,11 +1,11 @@
-//! Opening a partition over devices that a run before may have left.
+//! Opening a partition over devices that an earlier run may have left.
 //!
-//! The registry's file is read first. Where there is none nothing was ever answered, so the partition begins at the beginning:
-//! what stands on the brokers' disks is removed, and the registry is written last. Where there is one the world begins anew
-//! with what it says, once the file was replaced by what was read: then no power cut brings back an older one.
+//! The registry's file is read first. If there is none, no command was ever answered, so the partition starts fresh:
+//! what is on the brokers' disks is removed, and the registry is written last. If there is one, it is first replaced by
+//! what was read, so that no power cut brings back an older one; then the world starts with what it says.
 //!
-//! Before that the metadata log is read past the most notes that a log has. That it answers at all makes the notes that it
-//! reads the only ones that a power cut leaves.
+//! Before that the metadata log is read past the greatest number of events that a log can have. If that read succeeds,
+//! the events that it finds are the only ones that a power cut can leave.
 
 ghost use Rattle.std.specs.Prelude.{◌≡◌, ◌⊎◌, ◌≤◌, ◌^◌, ℕ, false, Ok, Some, None, IsTrue, IsErrOf, OnOk, IfOk, IfErr, length};
 ghost use Rattle.tier_base.specs.Counts.{Rose};

@@ -1,4 +1,4 @@
-//! Why a partition wasn't opened, or can't go on.
+//! Why a partition wasn't opened, or can't continue.
 
 ghost use Rattle.std.specs.Prelude.{◌≡◌};
 

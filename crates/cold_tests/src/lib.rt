@@ -1,6 +1,6 @@
-//! Tests of partitions that go on over the devices that a run, or a power cut, left.
+//! Tests of partitions that continue over the devices that a run, or a power cut, left.
 //!
-//! They stand apart from the crate that they test, since a crate is proved anew where its tests are built.
+//! They are in a crate of their own because a crate is proved again where its tests are built.
 #![tactic(auto)]
 
 #[cfg(test)]

@@ -1,4 +1,4 @@
-//! Metadata logs of which one byte is another: each opens, or is told damaged at the first place without a reading. Values
+//! Metadata logs with one changed byte: each opens, or is reported as damaged at the first invalid position. Values
 //! worked by hand.
 
 use crate::disk_logs::{STARTED, UPDATE, disk_of};

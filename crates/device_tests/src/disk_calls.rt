@@ -1,6 +1,6 @@
-//! Calls of a disk, each with what it is to give.
+//! Calls of a disk, each with what it is to return.
 //!
-//! Each kind of call is a function of its own, without a contract, that tells how the call ended.
+//! Each kind of call is a function of its own, without a contract, that returns how the call ended.
 
 use crate::ends::{End, done, ended, gave, right, troubled};
 use disk_model::{Disk, FileName};

@@ -1,4 +1,4 @@
-//! How calls of devices end, told by a small enum.
+//! How calls of devices end, as a small enum.
 
 use bytes::Bytes;
 use tier_base::{Failed, Trouble};

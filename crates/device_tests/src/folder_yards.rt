@@ -1,7 +1,7 @@
-//! Stores, metadata logs and yards over folders that a test makes. Values worked by hand.
+//! Stores, metadata logs and environments over folders that a test makes. Values worked by hand.
 //!
-//! Each kind of call is a function of its own, without a contract, that tells whether it went as it should, and is generic
-//! over the device. A test never holds one.
+//! Each kind of call is a function of its own, without a contract, that returns whether it went as it should, and is
+//! generic over the device. A test never holds one.
 
 use crate::yard_calls::{
     are_used, disk_fails, disk_goes, disk_grows, is_named, log_grows, log_reads, name_fails,

@@ -1,8 +1,8 @@
-//! Stores on trial: lists of calls, each with what it is to give; and where a segment's parts stand.
-//! Values worked by hand.
+//! Stores under test: lists of calls, each with what it is to return; and where a segment's parts are. Values worked by
+//! hand.
 //!
-//! Each kind of call is a function of its own, without a contract, that tells how the call ended. A
-//! test is a table of such lists and never holds a store.
+//! Each kind of call is a function of its own, without a contract, that returns how the call ended. A test is a table
+//! of such lists and never holds a store.
 
 use crate::ends::{End, done, ended, gave, right, troubled};
 use bytes::Bytes;

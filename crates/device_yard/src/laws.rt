@@ -1,7 +1,7 @@
-//! Laws of yards. Each is the contract of a function that does nothing: calling it cites the law.
+//! Laws of environments. Each is the contract of a function that does nothing: calling it cites the law.
 //!
-//! They serve whoever begins a partition anew over a yard without names: where it has no registry, nothing was ever answered
-//! for it, and what is handed out has no object and no note.
+//! They serve whoever starts a partition fresh over an environment without names: if it has no registry, no command was
+//! ever answered for it, and what the environment provides has no object and no metadata event.
 
 ghost use Rattle.device_yard.specs.Laws.{NamelessHasNoTier, TierlessIsEmpty, RegistryIsAbsent};
 

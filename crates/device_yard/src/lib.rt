@@ -1,8 +1,10 @@
-//! A yard: where the devices of partitions are handed out from, and come back to.
+//! The environment of a run as a trait: it provides the disks, stores and metadata logs of partitions, and takes them
+//! back.
 //!
-//! `Yard` is the trait that a run stands on. A yard may tell the devices that it holds and the names that stand in it, and
-//! always tells its faults, the last first name that it answered, and the counts with which devices came back. So whoever
-//! runs over one can say why the run failed, and that each device was given back.
+//! Runs over a directory and runs in tests are written against `Yard`. The devices in an environment, and the names in
+//! it, may be observable. What can always be observed are its faults, the last name that it returned for what isn't its
+//! own, and the counts with which devices came back. So whoever runs over one can say why the run failed, and that each
+//! device was returned.
 #![tactic(auto)]
 
 mod came;

@@ -1,7 +1,7 @@
-//! What a yard's calls hand out and take back.
+//! What the calls of an environment provide and take back.
 //!
-//! A device is handed out unarmed and with no fault, and tells what it holds exactly where its yard is observable. What is handed out
-//! comes back by one of the four `keep` calls, which can't be refused: the call that handed the device out made the room.
+//! A device is provided unarmed and without faults, and is observable exactly if its environment is. It comes back by
+//! one of the four `keep` calls, which can't be refused: the call that provided the device reserved the room.
 
 ghost use Rattle.std.specs.Prelude.{◌≡◌, ◌≤◌, Option, Some, None, IfOk, OnOk, OnErr, IsTrue};
 ghost use Rattle.tier_base.specs.Device.{fate_of, IsFresh};

@@ -1,7 +1,7 @@
-//! A file that stands in the place of another one, as what differs.
+//! A file that replaced another one, as the difference between them.
 //!
-//! A manifest is replaced at each flush, and is as long as the log has segments, but only its head and its end
-//! change. So what was replaced is kept in a few bytes.
+//! A manifest is replaced at each flush, and is as long as the log has segments, but only its head and its end change.
+//! So what was replaced is kept in a few bytes.
 
 ghost use Rattle.std.specs.Prelude.{◌≡◌, ◌≤◌, ◌+◌, ◌++◌, ℕ, List, length, take, drop, IfOk};
 ghost use Rattle.disk_model.specs.Patch.{patched};

@@ -1,7 +1,7 @@
-//! The point up to which two lines agree, by a merge from their last entries on.
+//! The point up to which the leader epochs of two logs agree, by a merge from their last entries on.
 //!
-//! Each turn drops a last entry and lowers the limit: an entry that starts at or past the limit says nothing, and
-//! an epoch above the other line's last one stands nowhere in it.
+//! Each turn drops a last entry and lowers the limit: an entry that starts at or past the limit doesn't matter, and an
+//! epoch above the other log's last one isn't in that log.
 
 ghost use Rattle.epoch_line.specs.Line.{IsLine};
 ghost use Rattle.epoch_line.specs.Meet.{IsMeetBelow};

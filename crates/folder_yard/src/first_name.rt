@@ -1,7 +1,7 @@
-//! The first of the names in a yard's folder.
+//! The first of the names in a run's directory that are no partition's.
 //!
-//! A partition's folder is a name only where it has an object or a note and no registry. Whatever else stands in the yard's
-//! folder is a name, a stranger's empty folder too.
+//! A partition's folder counts as such a name only if it has an object or a metadata event and no registry. Everything
+//! else in the directory does, an empty folder too.
 
 use crate::partition_folder::{is_bare, partition_of};
 use std::alloc::Global;

@@ -1,9 +1,9 @@
 //! The files of a broker's partition in a folder, through the calls of the system.
 //!
 //! The files that were used last stay open, so that a log appends to and reads its segments without opening them again.
-//! A new name stays only once its folder is synced, so a sync of a file syncs the folder too where a name is new. After
-//! a sync that failed the system may have dropped what was written, and a later sync wouldn't tell of it: so from then on
-//! none succeeds.
+//! A new name stays only once its folder is synced, so a sync of a file also syncs the folder if a name is new. After a
+//! failed sync the system may have dropped what was written, and a later sync wouldn't report it: so from then on none
+//! succeeds.
 
 ghost use Rattle.std.specs.Prelude.{◌≡◌, ◌↔◌, Ok, Err, Some, IfOk, IfErr, IsOk, IsErr, IsTrue, IsFalse};
 ghost use Rattle.folder_yard.specs.Kept.{IsClosed};

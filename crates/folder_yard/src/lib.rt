@@ -1,10 +1,9 @@
-//! The devices of partitions over a folder of the operating system: the trusted edge where a broker's log, the remote store
-//! and the metadata log become files.
+//! Disks, object stores and metadata logs over a directory: the trusted edge to the operating system.
 //!
 //! `FolderDisk` keeps each file of a broker's partition as one file of a folder, and `FolderStore` each object of a
-//! partition. `FolderYard` hands them out, and metadata logs over such disks. What the files hold stands outside the program,
-//! so none of them tells content. They count their faults and calls as every device, and the paths that they hand to the
-//! system are those of their folder and of a file's one name. Of the files that stand there only those of their own names are
+//! partition. `FolderYard` provides them, and metadata logs over such disks. What the files contain is outside the
+//! program, so none of them is observable. They count their calls and faults as every device does, and the paths that
+//! they give to the system are those of their folder and of a file's one name. Only files with names of their own are
 //! removed.
 #![tactic(auto)]
 

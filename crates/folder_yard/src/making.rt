@@ -1,4 +1,4 @@
-//! Making a folder so that it stays: each folder above it that is new is synced where its name stands.
+//! Making a folder so that it stays: each new folder above it is synced into its parent.
 
 use std::fs::{self, File, OpenFile};
 use std::io;

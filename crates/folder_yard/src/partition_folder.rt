@@ -1,8 +1,8 @@
-//! A partition's folder in a yard's: which partition it is, whether something stands in it, and whether it has an object or a
-//! note without a registry.
+//! A partition's folder: which partition it is, whether it has a file, and whether it has an object or a metadata event
+//! without a registry.
 //!
-//! A yard that handed devices out leaves empty folders of them behind, so in those, and in files that were never put in their
-//! place, nothing stands.
+//! An environment that provided devices leaves their empty folders behind. So empty folders, and files that were never
+//! put in their place, don't count.
 
 use crate::listing::{is_unfinished, readable};
 use std::alloc::{AllocError, Global};

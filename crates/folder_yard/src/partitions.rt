@@ -1,4 +1,4 @@
-//! The partitions of a yard's folder in whose folders something stands.
+//! The partitions of a directory whose folders have a file.
 
 ghost use Rattle.std.specs.Prelude.{IfOk};
 ghost use Rattle.device_yard.specs.YardContent.{Rise};

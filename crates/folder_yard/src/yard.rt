@@ -1,10 +1,10 @@
-//! A yard over a folder of the operating system.
+//! An environment over a directory of the operating system.
 //!
-//! Under the folder `pP/bB` is the disk of broker B of partition P, `pP/store` holds the partition's objects, `pP/meta` is the
-//! disk of its metadata log, and `pP/reg` the one that keeps its registry. The numbers are decimal.
+//! The folder `pP/bB` is the disk of broker B of partition P, `pP/store` has the partition's objects, `pP/meta` is the
+//! disk of its metadata log, and `pP/reg` the one with its registry. The numbers are decimal.
 //!
-//! While the yard is in use it holds the folder's lock, so that a second program over the same folder is answered a fault.
-//! Where the folder's file system has no such locks nothing guards against it.
+//! While the environment is in use it holds the directory's lock, so that a second program over the same directory gets
+//! a fault. If the file system has no such locks, nothing guards against that.
 
 ghost use Rattle.std.specs.Prelude.{◌≡◌, None, IfOk};
 ghost use Rattle.tier_base.specs.Device.{IsFresh};

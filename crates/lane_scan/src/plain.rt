@@ -1,5 +1,5 @@
-//! The counts item by item. They count what is left behind the last whole vector, and stand as the
-//! reference for the counts by vectors.
+//! The counts item by item. They count what is left after the last whole vector, and are the reference for the counts
+//! by vectors.
 
 ghost use Rattle.std.specs.Prelude.{◌≡◌};
 ghost use Rattle.lane_scan.specs.Count.{count_le, count_lt};

@@ -1,5 +1,4 @@
-//! Laws of what a copy is answered. Each is the contract of a function that does nothing: calling
-//! it cites the law.
+//! Laws of what a copy returns. Each is the contract of a function that does nothing: calling it cites the law.
 
 ghost use Rattle.laws_answers.specs.LawsOfCopies.{CopiesHaveCauses, CopiesBeginWhereOn};
 ghost use Rattle.laws_answers.specs.LawsOfCopies.{UnhinderedAreCopied};

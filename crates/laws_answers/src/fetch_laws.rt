@@ -1,5 +1,4 @@
-//! Laws of what a fetch is answered. Each is the contract of a function that does nothing: calling
-//! it cites the law.
+//! Laws of what a fetch returns. Each is the contract of a function that does nothing: calling it cites the law.
 
 ghost use Rattle.laws_answers.specs.LawsOfFetches.{PiecesEnd, FetchesHaveCauses, NoFetchIsDamaged};
 ghost use Rattle.laws_answers.specs.LawsOfFetches.{UnhinderedAreServed, UnfailingAreServed};

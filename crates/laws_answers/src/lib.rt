@@ -1,16 +1,18 @@
-//! What commands are answered, and in how many turns, as laws over definitions.
+//! Laws of answers: what commands return, why, and within how many turns.
 //!
-//! They stand over the rows of a world's turns. Over any devices a command is answered in so many turns of its actor,
-//! and what an answer to a question for an offset says is so; over devices that tell what they hold, what an answer to
-//! a copy, a fetch, a join or a search by timestamp says is so, one that nothing hinders is answered by what was asked
-//! for, and none is answered `Damaged`. Each fault of a device that a journal tells of is one that the device has
-//! counted, over any devices, also over those that don't tell what they hold, and whatever their counts of faults were
-//! at the start: no turn lowers a count, and a turn that is answered a fault of a device raises that device's. Where
-//! the devices' plans alone decide which calls fail, as many are counted as the plans name of those that were made.
+//! They are statements over the rows of a world's turns. Over any devices, a command is answered within a bounded
+//! number of turns of its actor, and what `offset` returns is true. Over observable devices, an answer to a copy, a
+//! fetch, a join or a timestamp lookup has its stated cause, one that nothing hinders returns what was asked for, and
+//! none returns `Damaged`.
+//!
+//! Each device fault in a journal is one that the device counted, over any devices and whatever their counts were at
+//! the start: no turn lowers a count, and a turn whose command returns a fault of a device raises that device's count.
+//! If the devices' plans alone decide which calls fail, as many are counted as the plans name of the calls that were
+//! made.
 //!
 //! `specs/Turns.antt` has how many turns are left of a command; `specs/CausesOfCopies.antt`, `CausesOfFetches.antt`,
-//! `CausesOfJoins.antt` and `CausesOfOffsets.antt` why an answer is given, and `specs/Damage.antt` what a journal tells where
-//! nothing is damaged; `specs/Counted.antt` which device each fault is of, and `specs/ByPlan.antt` which call.
+//! `CausesOfJoins.antt` and `CausesOfOffsets.antt` why an answer is given, and `specs/Damage.antt` what a journal says
+//! if nothing is damaged; `specs/Counted.antt` which device each fault is of, and `specs/ByPlan.antt` which call.
 #![tactic(auto)]
 
 mod copy_laws;

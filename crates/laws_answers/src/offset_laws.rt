@@ -1,5 +1,4 @@
-//! The law of what a question for an offset is answered, as the contract of a function that does
-//! nothing: calling it cites the law.
+//! The law of what `offset` returns, as the contract of a function that does nothing: calling it cites the law.
 
 ghost use Rattle.laws_answers.specs.LawsOfOffsets.{OffsetsHaveCauses};
 

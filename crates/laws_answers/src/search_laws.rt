@@ -1,5 +1,5 @@
-//! Laws of what a question for the offset of a timestamp is answered. Each is the contract of a
-//! function that does nothing: calling it cites the law.
+//! Laws of what a timestamp lookup returns. Each is the contract of a function that does nothing: calling it cites the
+//! law.
 
 ghost use Rattle.laws_answers.specs.LawsOfSearches.{SearchesTellDates, NoSearchIsDamaged};
 ghost use Rattle.laws_answers.specs.LawsOfSearches.{UnhinderedAreFound, UnfailingAreFound, MarkedAreFound};

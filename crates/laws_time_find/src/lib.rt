@@ -1,4 +1,4 @@
-//! Laws of timestamp lookups over both tiers: each turn of one keeps the tier's safety rules, goes on through its log
+//! Laws of timestamp lookups over both tiers: each turn of one keeps the tier's safety rules, continues through its log
 //! batch by batch, and the offset that it returns is right for the log.
 //!
 //! `time_find` says what a turn of a lookup does depending on what the devices return, `tier_safe` what may change in

@@ -1,5 +1,5 @@
-//! Whether bytes are a run that a log may take: each batch passes every test, and goes on where the one before it ends.
-//! Of batches that were checked before, the heads alone are read.
+//! Whether bytes are a run that a log may take: each batch passes every test, and begins where the one before it ends.
+//! Of batches that were checked before, only the heads are read.
 
 ghost use Rattle.std.specs.Prelude.{◌≡◌, ◌↔◌, ◌+◌, ◌<◌, ◌≤◌, ◌^◌, None, length, drop, IsTrue, IfSome};
 ghost use Rattle.record_batch.specs.Check.{AreChecked};

@@ -1,7 +1,7 @@
 //! Opening a log: what is read of it, what is written again, and the parts that memory keeps.
 //!
-//! The manifest is written again as it was read before a file is cut or removed, so that no crash brings an older one
-//! back that lists more than stands. Then the segments are read and checked, and the manifest is written under the
+//! The manifest is written again as it was read before a file is cut or removed, so that no crash brings back an older
+//! one that lists more than there is. Then the segments are read and checked, and the manifest is written under the
 //! next incarnation. What was read was synced before, so each image then opens as it, whatever the disk held.
 
 ghost use Rattle.std.specs.Prelude.{◌≡◌, ◌≢◌, ◌+◌, ◌*◌, ◌<◌, ◌≤◌, ◌^◌, ◌++◌, ◌∷◌, ℕ, List, [], length, Some, None, Ok, IfOk, IfErr, OnOk, IsErrOf, IsTrue};

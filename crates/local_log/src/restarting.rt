@@ -1,4 +1,4 @@
-//! Starting a log anew at an offset, empty and durable.
+//! Restarting a log at an offset, empty and durable.
 //!
 //! The manifest with the one empty segment is written first: from then on no crash brings back the old log. Only then
 //! are the old segments' files removed, the open one's too, so that the new open segment begins without bytes.

@@ -1,5 +1,5 @@
 //! Making a manifest the present one: what it lists is synced first, so that no crash leaves a manifest that lists more
-//! than stands.
+//! than there is.
 
 ghost use Rattle.std.specs.Prelude.{◌≡◌, ◌≢◌, ◌+◌, ◌≤◌, OnOk};
 ghost use Rattle.tier_base.specs.declared.plain.FileName.TheVariants as file;

@@ -1,5 +1,5 @@
-//! A broker's log over a disk in memory: stories, each a list of turns with what they come to. Worked by hand. A
-//! batch of one record of a letter has 69 bytes, and two of them don't stand in a segment of 100.
+//! A broker's log over a disk in memory: stories, each a list of turns with their results. Worked by hand. A batch of
+//! one record of a letter has 69 bytes, and two of them don't fit a segment of 100.
 //!
 //! Each call is a function without a contract that asks first whether the call may be made. A test never holds a log.
 

@@ -1,7 +1,7 @@
 //! Worked rows, by hand. A batch of one record without key and value has 68 bytes.
 //!
-//! A segment on trial is a type of its own whose methods have no contracts, so a test knows nothing of it but what it
-//! is told.
+//! A segment under test is a type of its own whose methods have no contracts, so a test knows nothing of it but what
+//! they return.
 
 use crate::checks::put;
 use bytes::Bytes;

@@ -1,5 +1,5 @@
-//! A log on trial, over a disk in memory. Each call is a method without a contract: it asks first whether the call
-//! may be made, and tells what it answered. A test is a table of turns, and never holds a log.
+//! A log under test, over a disk in memory. Each call is a method without a contract: it asks first whether the call
+//! may be made, and returns the result. A test is a table of turns, and never holds a log.
 
 ghost use Rattle.std.specs.Prelude.{◌≡◌, ◌≤◌, None, IsTrue};
 ghost use Rattle.tier_base.specs.declared.plain.FileName.{FileName};

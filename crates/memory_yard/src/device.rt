@@ -1,4 +1,4 @@
-//! A device that came back: whether anything stands on it.
+//! A device that came back: whether it has any content.
 
 ghost use Rattle.std.specs.Prelude.{◌≡◌, ◌↔◌, IfOk, IsTrue, IsSome};
 ghost use Rattle.tier_base.specs.declared.plain.FileName.{FileName};

@@ -1,7 +1,7 @@
-//! A yard in memory: the devices of partitions are handed out from it and come back to it with what they hold.
+//! An environment in memory: it provides the devices of partitions, and takes them back with their content.
 //!
-//! `MemoryYard` tells all that it holds and is proved to be such a yard: its calls fail by a plan. So it stands for a folder
-//! where a run is to be proved or tried whole.
+//! `MemoryYard` is observable and proved to be such an environment: its calls fail by a plan. It takes the place of a
+//! directory where a run is to be proved or tested whole.
 #![tactic(auto)]
 
 mod call_plan;

@@ -1,4 +1,4 @@
-//! Where a device stands: a disk by its partition and broker, a store and a metadata log by their partition.
+//! Which device it is: a disk by its partition and broker, a store and a metadata log by their partition.
 
 ghost use Rattle.std.specs.Prelude.{◌≡◌, Bool};
 ghost use Rattle.std.proofs.Common.{Decides};

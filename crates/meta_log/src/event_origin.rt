@@ -1,4 +1,4 @@
-//! Who tells a note.
+//! Who wrote a metadata event, and when.
 
 use tier_base::BrokerId;
 

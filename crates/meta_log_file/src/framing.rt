@@ -1,4 +1,4 @@
-//! A note as it stands in the file, both ways. The module Notes of specs/ has the table.
+//! A metadata event as it is in the file, both ways. The module Notes of specs/ has the table.
 
 ghost use Rattle.std.specs.Prelude.{◌≡◌, ◌<◌, ◌≤◌, ◌↔◌, length, IfOk, IsTrue};
 ghost use Rattle.std.specs.List.{All};

@@ -1,11 +1,12 @@
-//! A metadata log kept in two files of a disk: the notes, and a gate that says how far they count.
+//! A metadata log kept in two files of a disk: the events (`notes`), and a gate that says up to where they count.
 //!
-//! An append writes the note behind the others, syncs it, and only then moves the gate, in one replacement. So a crash
-//! leaves the notes of before or those with the new one, and never a part of it. What an append left that didn't come to
-//! its end stands behind the gate, and the next append cuts it off.
+//! An append writes the event after the others, syncs it, and only then moves the gate, in one replacement. So a crash
+//! leaves the events from before the append or those with the new one, and never a part of it. What a broken-off append
+//! left is behind the gate, and the next append cuts it off.
 //!
-//! Where an append failed, the gate may stand before its note or behind it, and a crash may leave it at either. Each call
-//! then first replaces the gate by what it reads, until that went well once: so the log never goes back on what it told.
+//! After a failed append the gate may be before its event or behind it, and a crash may leave it at either. Each call
+//! then first replaces the gate by what it reads, until that has succeeded once: so the log never takes back an event
+//! that it returned.
 #![tactic(auto)]
 
 mod disk_log;

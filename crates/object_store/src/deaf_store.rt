@@ -1,4 +1,4 @@
-//! A store that works and tells no content: code above it is proved without knowing what it reads.
+//! A store that works but isn't observable: code above it is proved without knowing what it reads.
 //!
 //! It begins with the objects that it is made of, whatever bytes they have. No call of it fails.
 

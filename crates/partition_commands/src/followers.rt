@@ -1,8 +1,8 @@
-//! Commands of a follower: it joins where its log meets the leader's, and copies from there on.
+//! Commands of a follower: it truncates its log to where it agrees with the leader's, and copies from there on.
 //!
-//! A follow reads a run of the leader's log at its first turn, and puts of it at the end of its own log at the second
-//! what stands in one segment, where nothing has come between. The batches are checked once, when they are read: that
-//! they were is kept with them between the turns, and the second turn reads their heads alone.
+//! A follow reads a run of the leader's log at its first turn. At the second it appends to its own log what fits one
+//! segment, if nothing has come between. The batches are checked once, when they are read: that they were is kept with
+//! them between the turns, and the second turn reads only their heads.
 
 ghost use Rattle.std.specs.Prelude.{◌≡◌, ◌<◌, ◌≤◌, true, false, length, IfOk, OnErr, IsSomeAnd, IsTrue, ◌↔◌, option_copied};
 ghost use Rattle.partition_commands.specs.Partition.{AtNode, CanStop, KeepsPartition, the_leader, is_up};

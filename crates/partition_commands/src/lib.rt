@@ -1,13 +1,14 @@
-//! The turns of commands on a partition's registry and on its brokers' logs, over their disks.
+//! The commands of a partition on its registry and on its brokers' local logs, turn by turn, over any disks.
 //!
-//! `specs/Turns.antt` says for each command which answer it is given and what that does; the code proves its row and nothing
-//! else. Where the disks are observable, each row is one of the partition as it is seen (the crate `laws_partition`): that is a law
-//! over the rows, as are that each keeps what later turns need, that over each the disks' plans last, and that over disks of
-//! which no call can fail none is answered a fault.
+//! `specs/Turns.antt` says for each command what it returns and what that changes, its row; the code proves its row and
+//! nothing else. If the disks are observable, each row is one of the partition as it is seen (the crate
+//! `laws_partition`): that is a law over the rows. So are that each row keeps what later turns need, that the disks'
+//! plans last, and that over disks of which no call can fail no command returns a fault.
 //!
-//! A partition has 1 to 8 brokers: one leads, others follow, and elections, stops and starts change which. A broker that
-//! stops closes its log, and one that comes up opens it again from its disk. A follow takes two turns, and whatever comes
-//! between them may stop it. What the remote tier has a part in is begun here, or done in parts, and led by the crate above.
+//! A partition has 1 to 8 brokers: one leads, others follow, and elections, stops and starts change which. A broker
+//! that stops closes its log, and one that starts opens it again from its disk. A follow takes two turns, and anything
+//! may come between them and end it. A command on the remote tier is begun here, or done in parts; the crate above
+//! leads it.
 #![tactic(auto)]
 
 mod elections;

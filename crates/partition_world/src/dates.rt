@@ -1,8 +1,8 @@
-//! The turns of a search by timestamp, behind its first one.
+//! The turns of a timestamp lookup, after its first one.
 //!
-//! Each makes its tests anew, since a stop, an election or a raise of the log start may have come between: the broker hasn't
-//! stopped and leads the epoch that it led, the cursor isn't below the log start, and it is below the known high
-//! watermark.
+//! Each repeats its tests, since a stop, an election or a raise of the log start offset may have come between: the
+//! broker hasn't stopped and leads the epoch that it led, the cursor isn't below the log start offset, and it is below
+//! the broker's high watermark.
 
 ghost use Rattle.std.specs.Prelude.{◌≡◌, ◌<◌, ◌≤◌, ◌^◌, length, true, false, None, IfOk, IfSome, OnErr};
 ghost use Rattle.broker_log.specs.Seen.{line_in};

@@ -1,4 +1,4 @@
-//! The desk: an actor's state for each list, at the list's place.
+//! The commands in progress: an actor's state for each list, in the order of the lists.
 
 ghost use Rattle.std.specs.Prelude.{◌≡◌, ◌≢◌, ◌<◌, ◌-◌, ◌^◌, ◌++◌, ℕ, length, replicate, slice_get, slice_set, Some, None, IfSome, IfOk, IsSomeAnd, []};
 ghost use Rattle.plain_log.specs.declared.command.ActorList.{ActorList};

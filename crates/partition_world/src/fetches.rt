@@ -1,8 +1,8 @@
-//! The turns of a fetch from the remote tier, behind its first one.
+//! The turns of a fetch from the remote tier, after its first one.
 //!
-//! Each makes its tests anew, since a stop, an election or a raise of the log start may have come between: the broker
-//! hasn't stopped and leads the epoch that it led, and the offset is in the log's range and below the known high
-//! watermark.
+//! Each repeats its tests, since a stop, an election or a raise of the log start offset may have come between: the
+//! broker hasn't stopped and leads the epoch that it led, and the offset is in the log's range and below the broker's
+//! high watermark.
 
 ghost use Rattle.std.specs.Prelude.{◌≡◌, ◌<◌, length, None, IfOk, IfSome, OnErr};
 ghost use Rattle.tier_fetch.specs.Turns.{IsFor};

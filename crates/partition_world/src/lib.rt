@@ -1,17 +1,17 @@
-//! A partition's world: its brokers with their disks, the remote tier, the lists of commands and the journal of what they
-//! came to.
+//! A whole partition at work: its brokers with their disks, its remote tier, the lists of commands, and the journal of
+//! their answers.
 //!
-//! A turn of an actor carries out its next command, or goes on with one that has begun, and enters what it came to; a turn
-//! that neither begins a command nor answers it is entered nowhere. `specs/Turns.antt` says for each command which answer it
-//! is given and what that does: those on brokers' logs and the registry by the rows of the crate `partition_commands`. The code
-//! proves its row and nothing else.
+//! A turn of an actor carries out its next command, or continues one that has begun, and enters the answer into the
+//! journal; a turn that neither begins a command nor answers it enters nothing. `specs/Turns.antt` says for each
+//! command what it returns and what that changes: for those on brokers' logs and the registry by the rows of the crate
+//! `partition_commands`. The code proves its row and nothing else.
 //!
-//! `specs/Central.antt` has the central fact, for observable devices: the world is the plain log after the world's own journal,
-//! with the plain log's safety rules, and the remote tier beside it keeps its own (the crate `tier_safe`). That each turn
-//! keeps it is a law over the rows, and a clause of `World::step`.
+//! `specs/Central.antt` has the central fact, for observable devices: the world is the plain log after the world's own
+//! journal, with the plain log's safety rules, and the remote tier beside it keeps its own (the crate `tier_safe`).
+//! That each turn keeps it is a law over the rows, and a clause of `World::step`.
 //!
-//! Stops, elections and other actors' commands may come between any two turns of a command, and each call of a device may
-//! fail, done or not.
+//! Stops, elections and other actors' commands may come between any two turns of a command, and each call of a device
+//! may fail, done or not.
 #![tactic(auto)]
 
 mod actor_state;

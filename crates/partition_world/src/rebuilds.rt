@@ -1,9 +1,10 @@
-//! The turns of a join behind its first one: the follower's log begins anew, where its leader's local log began.
+//! The turns of a join that rebuilds, after its first one: the follower's local log restarts, empty, where its leader's
+//! local log started.
 //!
-//! Where the log start had come up to there when the join began, the second turn does so at once, with the leader's line. Else
-//! the second turn refreshes the follower's view, the third reads the line out of the remote tier, and the fourth begins the
-//! log anew with it. Each makes its tests anew, since a stop, an election, another join or a raise of the log start may have
-//! come between. The leader may be down by then.
+//! If the log start offset had reached that point when the join began, the second turn does so at once, with the
+//! leader's epochs. Otherwise the second turn refreshes the follower's view, the third reads the leader epochs from the
+//! remote tier, and the fourth restarts the log with them. Each repeats its tests, since a stop, an election, another
+//! join or a raise of the log start offset may have come between. The leader may be down by then.
 
 ghost use Rattle.std.specs.Prelude.{◌≡◌, ◌<◌, length, None, IfOk, IfSome, OnErr};
 ghost use Rattle.plain_log.specs.declared.command.Command.TheVariants.{Join};

@@ -1,4 +1,4 @@
-//! What commands are answered.
+//! What commands return.
 
 use bytes::Bytes;
 use record_batch::BatchRefusal;

@@ -1,4 +1,5 @@
-//! The head of a batch: the fields before its records, whose places the module `Head` of the definitions tells.
+//! The head of a batch: the fields before its records, at the positions that the module `Head` of the definitions
+//! gives.
 
 ghost use Rattle.std.specs.Prelude.{◌≡◌, ◌+◌, ◌≤◌, length};
 ghost use Rattle.std.specs.Int.{w16, w32, w64};

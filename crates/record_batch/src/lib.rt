@@ -1,11 +1,11 @@
-//! Record batches, Kafka's magic 2: how they are built of records, stamped with a base offset and a leader epoch,
+//! Kafka's record batches, magic 2: how they are built of records, stamped with a base offset and a leader epoch,
 //! checked, and read.
 //!
-//! The crates above keep a batch as its bytes. `build` makes one of records, `stamp` places it in a log, `check` tells
-//! whether bytes from outside are one, `Checked` keeps them with what it found, `read_head` looks at the head alone, and `records` copies the records out.
-//! The format stands in the definitions: `Head` and `Record` are its grammar, `Build` says what is written, and `Check`
-//! what is accepted. `laws` ties them together: what was built is accepted, wherever it is placed, with the records
-//! that it was built of.
+//! The crates above keep a batch as its bytes. `build` makes one of records, `stamp` writes base offset and leader
+//! epoch into it, `check` tests whether bytes from outside are one, `Checked` keeps them with what it found,
+//! `read_head` reads only the head, and `records` copies the records out. The format is in the definitions: `Head` and
+//! `Record` are its grammar, `Build` says what is written, and `Check` what is accepted. `laws` ties them together:
+//! what was built is accepted, with any stamp, and has the records that it was built of.
 #![tactic(auto)]
 
 mod building;

@@ -1,4 +1,4 @@
-//! The parts of a record, each a slice of its bytes and what stands behind it.
+//! The parts of a record, each a slice of its bytes and the bytes after it.
 //!
 //! Nothing is copied, so whether bytes are records is found out without memory.
 

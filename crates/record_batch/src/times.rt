@@ -1,4 +1,4 @@
-//! The timestamps that a batch's head tells of its records.
+//! The timestamps of records that a batch's head has.
 
 ghost use Rattle.std.specs.Prelude.{◌≡◌, All, FitsSigned};
 ghost use Rattle.std.specs.Int.{w64};

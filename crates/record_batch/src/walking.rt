@@ -1,4 +1,4 @@
-//! A walk over records that only looks whether they have a reading, and which number each has.
+//! A walk over records that only tests whether they are valid and which offset delta each has.
 
 ghost use Rattle.std.specs.Prelude.{◌≡◌, ◌≤◌, length, IfSome};
 ghost use Rattle.std.specs.Option.{option_map};

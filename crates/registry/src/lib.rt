@@ -1,5 +1,5 @@
-//! The registry of a partition, which stands for Kafka's controller quorum: the leader and its epoch, the ISR and
-//! what its brokers acknowledged, the high watermark, and the log start offset.
+//! The registry of a partition, in the place of Kafka's controller quorum: the leader and its epoch, the ISR and what
+//! its brokers acknowledged, the high watermark, and the log start offset.
 //!
 //! It never stops, and no call of it allocates. A call that can be refused tests its causes in a fixed order and
 //! changes the registry only if none of them holds. `specs/Calls.antt` says what each call returns and changes; the

@@ -1,7 +1,7 @@
 //! A partition's registry on a disk of its own, in one file that is replaced as a whole.
 //!
-//! After a call that went well a power cut leaves the registry that was kept last. After one that failed it leaves that
-//! one or the one before.
+//! After a call that succeeded a power cut leaves the registry that was stored last. After one that failed it leaves
+//! that one or the one before.
 #![tactic(auto)]
 
 mod keeping;

@@ -1,6 +1,7 @@
-//! A registry's view out of its file. The module Reading of specs/ says what bytes say, and Spelling has the table.
+//! A registry's view read from its file. The module Reading of specs/ says which bytes are valid, and Spelling has the
+//! table.
 //!
-//! The fields are read from left to right, so the first fault is told. It takes no memory.
+//! The fields are read from left to right, so the first fault is reported. It takes no memory.
 
 ghost use Rattle.std.specs.Prelude.{◌≡◌, ◌≤◌, ◌<◌, ◌^◌, IfOk};
 ghost use Rattle.registry.specs.View.{IsView};

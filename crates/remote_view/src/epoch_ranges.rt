@@ -1,7 +1,7 @@
-//! A stair, and a run of it that has no gap: where a long row of copies ends is told from the run.
+//! The ranges of an epoch (`stair`), and one range that has no gap: how far copies reach is read from it.
 //!
-//! A copy that touches the run makes it longer; one that lies further on begins a new one. So in a log that is copied
-//! in its order all treads of an epoch are in the run.
+//! A copy that touches the gapless range extends it; one that begins further on starts a new one. So in a log that is
+//! copied in its order, all offsets of an epoch are in that range.
 
 ghost use Rattle.std.specs.Prelude.{◌≡◌, ◌≤◌, ◌<◌, ◌⊎◌, ◌++◌, ◌∷◌, ℕ, [], None, OnOk, OnErr, IfOk};
 ghost use Rattle.remote_view.specs.Stairs.{id_at, Rises, begins_with, IsEndFrom};

@@ -1,7 +1,7 @@
-//! Laying a segment over a stair, where it is better than what lies there.
+//! Laying a segment over the ranges of an epoch, where it is better than what is there.
 //!
-//! A stair is made anew from its front to its end. What is put behind it joins the last tread, where both touch and are
-//! of one segment, so that treads which touch are of different ones.
+//! The ranges are rebuilt from their front to their end. A range that is added joins the last one if both touch and are
+//! of one segment, so ranges that touch are of different segments.
 
 ghost use Rattle.std.specs.Prelude.{◌≡◌, ◌<◌, ◌≤◌, ◌==◌, ◌&&◌, OnOk, IfOk};
 ghost use Rattle.std.specs.Str.{bytes_eq};

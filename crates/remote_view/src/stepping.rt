@@ -1,7 +1,7 @@
-//! The stairs after a note: those that an entry's step changes are made anew, and nothing else changes.
+//! The ranges after a metadata event: those that an entry's step changes are rebuilt, and nothing else changes.
 //!
-//! A copy that finishes is laid over the stairs of its epochs. One whose deletion starts leaves them, and what lay
-//! under it shows again: its treads go, and the other entries are laid where it lay.
+//! A copy that finishes is laid over the ranges of its epochs. One whose deletion starts leaves them, and what was
+//! under it shows again: its ranges go, and the other entries are laid over the same offsets.
 
 ghost use Rattle.std.specs.Prelude.{◌≡◌, ℕ, ℤ, true, List, Option, Some, is_some, OnOk, IfOk};
 ghost use Rattle.tier_base.specs.declared.names.BrokerId.{BrokerId};

@@ -1,4 +1,4 @@
-//! What a summary tells of: answers by their words, and ends of partitions.
+//! What a summary counts: answers by their words, and ends of partitions.
 
 ghost use Rattle.std.specs.Prelude.{◌≡◌};
 

@@ -1,4 +1,4 @@
-//! What is told of a partition's journal.
+//! What a summary says of a partition's journal.
 
 ghost use Rattle.std.specs.Prelude.{◌≡◌, ◌≤◌, IfOk};
 ghost use Rattle.std.specs.Option.{option_copied, option_to_list};

@@ -1,8 +1,8 @@
-//! Runs in which one call of a device fails: each call of a disk, of the store and of the metadata log that four scripts
-//! make, one call a run, once not done and once done.
+//! Runs in which one call of a device fails: each call of a disk, of the store and of the metadata log that four
+//! scripts make, one call a run, once not done and once done.
 //!
-//! What such a run writes is proved to be a run of the plain log, if it writes. That it meets its fault and goes on to status
-//! 0 is seen here, and the plain log's machine is asked of each trace.
+//! What such a run writes, if it writes, is proved to be a run of the plain log. That it meets its fault and continues
+//! to status 0 is tested here, and the executable model checks each trace.
 
 ghost use Rattle.plain_log.specs.Orders.{AreListsFor, IsConfig};
 

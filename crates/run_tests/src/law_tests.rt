@@ -1,4 +1,4 @@
-//! Laws of what fetches and searches by timestamp are answered, called once each over devices in memory.
+//! Laws of what fetches and timestamp lookups return, called once each over devices in memory.
 
 use disk_model::MemoryDisk;
 use laws_answers::{

@@ -1,7 +1,8 @@
-//! Tests of the program's call: scripts and their traces, what the documents show, statuses, faults of the source and the
-//! sink, runs by threads and over a yard, audits and sweeps of a folder, and laws that are generic over the devices.
+//! Tests of the program's call: scripts and their traces, what the documents show, statuses, faults of the source and
+//! the sink, runs by threads and over an environment, audits and sweeps of a directory, and laws that are generic over
+//! the devices.
 //!
-//! They stand apart from the crates that they test, since a crate is proved anew where its tests are built.
+//! They are in a crate of their own because a crate is proved again where its tests are built.
 #![tactic(auto)]
 
 #[cfg(test)]

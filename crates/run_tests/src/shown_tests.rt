@@ -1,5 +1,5 @@
-//! What the documents and the examples show: each script gives the trace that stands with it, each line that is shown as
-//! refused is, for its cause, and a shell's commands end as they are shown.
+//! What the documents and the examples show: each script gives the trace that is shown with it, each line that is shown
+//! as refused is refused for its cause, and a shell's commands end as they are shown.
 
 use crate::shown::{REFUSED, SHELL};
 use crate::shown_runs::{COUNT, PARTS, text};

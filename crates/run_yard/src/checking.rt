@@ -1,6 +1,6 @@
 //! Reading the registries of a script's partitions before the first of them is run.
 //!
-//! So a registry that no run with the script's brokers can go on from is told while nothing has changed.
+//! So a registry from which no run with the script's brokers can continue is reported while nothing has changed.
 
 ghost use Rattle.std.specs.Prelude.{◌≡◌, ◌<◌, All, IfErr, OnOk, IsTrue};
 ghost use Rattle.tier_base.specs.declared.names.PartitionId.{PartitionId as Id};

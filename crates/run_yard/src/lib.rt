@@ -1,13 +1,13 @@
-//! Runs of a script over devices of any kind, and over a yard's.
+//! Runs of a script over devices of any kind, and over an environment that provides them.
 //!
-//! A partition's run is that of its lists on a fresh world, by its schedule; whatever happens its devices come back. Over any
-//! devices each command is answered once and in order, and a fault that is told is one that its device has counted; over
-//! devices that tell what they hold, and hold nothing at the beginning, the journal is a run of the plain log
+//! A partition's run is that of its lists on a fresh world, by its schedule; whatever happens, its devices are
+//! returned. Over any devices each command is answered once and in order, and a fault that is reported is one that its
+//! device counted. Over observable devices that are empty at the beginning, the journal is a run of the plain log
 //! (`specs/Run.antt`).
 //!
-//! Over a yard each partition's devices are handed out, run on, and given back. Where it tells what it holds, and no partition
-//! of it is used, each journal is a run of the plain log, and the yard holds the devices with what the run left on them
-//! (`specs/Runs.antt`).
+//! Over an environment each partition's devices are taken out, run on, and returned. If the environment is observable
+//! and had none of the partitions, each journal is a run of the plain log, and the environment has the devices with
+//! what the run left on them (`specs/Runs.antt`).
 #![tactic(auto)]
 
 mod checking;

@@ -1,4 +1,4 @@
-//! Asking the reader of scripts whether a line may go on.
+//! Asking the parser whether a line can continue with a word.
 
 ghost use Rattle.std.specs.Prelude.{◌≡◌, ◌++◌, true, IfOk, IfSome};
 ghost use Rattle.script_help.specs.Asked.{is_later_cause, HasWords, GoesOn, then_word};

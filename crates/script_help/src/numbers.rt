@@ -1,4 +1,4 @@
-//! The numbers by which a line can go on. The greatest is found by halving.
+//! The numbers with which a line can continue. The greatest is found by halving.
 
 ghost use Rattle.std.specs.Prelude.{◌≡◌, ◌++◌, ◌<◌, ◌^◌, true, IfOk, IfSome, decimal, string_bytes};
 ghost use Rattle.script_help.specs.Asked.{HasWords, GoesOn, then_word};

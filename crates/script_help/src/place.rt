@@ -1,4 +1,4 @@
-//! The place in a refused line that the caret stands under.
+//! The position in a refused line that the caret is under.
 
 ghost use Rattle.std.specs.Prelude.{◌≡◌, ◌≢◌, ◌≤◌, ◌<◌, ◌-◌, ◌++◌, true, length, All, IfOk};
 ghost use Rattle.std.specs.List.{HoldsAt};

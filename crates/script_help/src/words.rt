@@ -1,4 +1,4 @@
-//! The words that are worth asking for, and what may stand behind one.
+//! The words that are worth asking for, and what may follow one.
 
 /// The options.
 pub static OPTIONS: [&str; 8] = [

@@ -1,4 +1,4 @@
-//! What the lines so far give each actor: its partition and its list of orders.
+//! What the lines so far give each actor: its partition, and its orders.
 
 ghost use Rattle.std.specs.Prelude.{◌≡◌, ◌<◌, replicate, length, IfOk, OnOk, OnErr};
 ghost use Rattle.script_lang.specs.Script.{idle, slot_at, with_order};

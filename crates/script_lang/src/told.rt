@@ -1,7 +1,7 @@
-//! The script so far, and which line may follow.
+//! What the lines so far say, and which line may follow them.
 //!
-//! A line is read in steps: its text, its form, whether the form may follow, the totals with it; then it is added. So
-//! the causes of a step are reported before those of the next.
+//! A line is read in steps: its text, its form, whether the form is allowed here, and whether its counts stay within
+//! the limits; then it is added to the lines so far. The causes of each step come before those of the next.
 
 ghost use Rattle.std.specs.Prelude.{◌≡◌, ◌<◌, false, Ok, IfOk, OnOk};
 ghost use Rattle.script_lang.specs.Reading.{Reads};

@@ -1,8 +1,8 @@
-//! A log segment's bytes, seen as the batches that stand in them one after another.
+//! A log segment's bytes as record batches, one after another.
 //!
-//! `walk` tells what stands at a place, and `take_run` cuts out the run of batches that a fetch is given. `Growing` is
-//! what memory keeps of the segment that batches are appended to, its offset index among it. `Closed` is a segment that
-//! is whole: its bytes are read once, and its indexes are made of them.
+//! `walk` says what is at a position, and `take_run` cuts out the run of batches that a fetch returns. `Growing` is
+//! what memory keeps of the open segment, to which batches are appended, its offset index included. `Closed` is a
+//! segment that is whole: its bytes are read once, and its indexes are made of them.
 #![tactic(auto)]
 
 mod closed;

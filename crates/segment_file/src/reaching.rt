@@ -1,7 +1,7 @@
 //! How far a reader of a run needs a segment's bytes, by where its batches end.
 //!
-//! The run's last batch is found by halving. Where the limit ends the run, the next batch's head is needed too, since it
-//! tells that the batch would pass the limit.
+//! The run's last batch is found by halving. If the limit ends the run, the next batch's head is needed too, since it
+//! shows that the batch would exceed the limit.
 
 ghost use Rattle.std.specs.Prelude.{◌≡◌, ◌<◌, ◌≤◌, ◌^◌, ◌+◌, length, take};
 ghost use Rattle.segment_file.specs.Growing.{AreLaid, end_after, size_after};

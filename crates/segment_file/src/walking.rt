@@ -1,4 +1,4 @@
-//! What stands at a place of a segment's bytes. The module Walk of specs/ has the cases.
+//! What is at a position of a segment's bytes. The module Walk of specs/ has the cases.
 
 ghost use Rattle.std.specs.Prelude.{◌≡◌, ◌≤◌, length, drop};
 ghost use Rattle.record_batch.specs.Check.{head_in, checked};

@@ -1,4 +1,4 @@
-//! Custom metadata as notes tell it (KIP-917, CustomMetadata).
+//! Custom metadata of a segment, as its events store it (KIP-917, CustomMetadata).
 
 ghost use Rattle.std.specs.Prelude.{◌≡◌, IfOk};
 ghost use Rattle.segment_meta.specs.Rules.{bare_custom};

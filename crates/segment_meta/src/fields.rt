@@ -1,4 +1,4 @@
-//! The fields of a note at the front of bytes, each with what stands behind it.
+//! The fields of a metadata event at the front of bytes, each with the bytes after it.
 
 ghost use Rattle.std.specs.Prelude.{◌≡◌, length, IfOk};
 ghost use Rattle.std.specs.Int.{w16, w32, w64};

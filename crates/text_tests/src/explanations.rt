@@ -1,4 +1,4 @@
-//! Refused lines, and what is told of them. The places and the ranges are worked by hand from the language's page.
+//! Refused lines, and their explanations. The positions and the ranges are worked by hand from docs/SCRIPT.md.
 
 use script_help::{KeptSource, explanation};
 use script_lang::{ScriptRefusal, Why, parse};

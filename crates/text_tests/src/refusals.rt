@@ -1,6 +1,5 @@
-//! Scripts with a reading, and scripts with none, by what a reader is told. The expected values are worked by hand
-//! from the grammar; the bytes of `raw` come from a writer of record batches that was made apart from this
-//! repository.
+//! Valid scripts, and invalid ones with the cause that is reported. The expected values are worked by hand from the
+//! grammar; the bytes of `raw` come from a writer of record batches that was made apart from this repository.
 
 use crate::scripts::is_told;
 

@@ -1,5 +1,5 @@
-//! Each form of line once, both ways; worked journals; and what has no reading. The expected texts are worked by
-//! hand; the batches' bytes are those of Kafka's record batch, magic 2.
+//! Each form of line once, both ways; worked journals; and invalid texts. The expected texts are worked by hand; the
+//! batches' bytes are those of Kafka's record batch, magic 2.
 
 use std::alloc::{AllocError, Global};
 use trace_text::{PartJournal, print, read};

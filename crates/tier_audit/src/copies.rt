@@ -1,6 +1,6 @@
 //! The first flaw of finished copies, whose parts are read one by one.
 //!
-//! A part is read from where it stands to its object's end, so that this end can be told.
+//! A part is read from its position to its object's end, so that this end can be reported.
 
 ghost use Rattle.std.specs.Prelude.{◌≡◌, ◌≢◌, ◌<◌, ◌≤◌, ◌^◌, List, ℕ, length, IfOk, IfSome, IsTrue};
 ghost use Rattle.tier_base.specs.declared.plain.Part.TheVariants.{Log, Pack};

@@ -1,9 +1,9 @@
 //! A copy's log, read batch by batch beside its entry.
 //!
-//! The batches go on as long as they may begin the log of the copy: they are consecutive from its first offset on, end
-//! within it, each has the epoch of the copy's map at its base offset, and none is past the copy's greatest
-//! timestamp. The log is right where they come to all that the entry says, at the end of the bytes: also where each
-//! entry of the map begins with one of them.
+//! The walk continues as long as the batches may begin the log of the copy: they are consecutive from its first offset
+//! on, end within it, each has the epoch of the copy's leader epochs at its base offset, and none is past the copy's
+//! greatest timestamp. The log is right if at the end of the bytes they have reached all that the entry says, and each
+//! of its leader epochs begins with one of them.
 
 ghost use Rattle.std.specs.Prelude.{◌≡◌, ◌↔◌, ◌+◌, ◌≤◌, ◌<◌, ◌^◌, ℕ, List, IfOk, OnOk, IfSome, Some, None, IsTrue, length, take};
 ghost use Rattle.std.specs.Option.{ForSome};

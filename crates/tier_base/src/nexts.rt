@@ -1,5 +1,5 @@
-//! Where the next planned call of each kind stands in a plan. It goes forward as calls are made, so that all of them
-//! together pass over the plan once a kind.
+//! Where the next planned fault of each kind of call is in a plan. It moves forward as calls are made, so that all of
+//! them together pass over the plan once for each kind.
 
 ghost use Rattle.std.specs.Prelude.{◌≡◌, ◌^◌, ◌≤◌, ◌<◌, ◌&&◌, ◌==◌, if◌then◌else◌, ℕ, None, drop};
 ghost use Rattle.std.proofs.Math.ListN.{get_or, set};

@@ -1,8 +1,7 @@
 //! Sources and sinks of bytes: the ends through which all input comes and all output goes.
 //!
-//! A stream may tell its bytes to contracts, as those in memory do, and no call changes whether it
-//! does. It always tells its count of faults, which generic code can't raise by itself, so an answer
-//! of a fault has its cause there.
+//! A stream's bytes may be observable, as those in memory are, and no call changes whether they are. Its count of
+//! faults always is. Generic code can't raise the count by itself, so a returned fault has its cause there.
 
 ghost use Rattle.std.specs.Prelude.{◌≡◌, ℕ, ◌+◌, ◌-◌, ◌^◌, ◌<◌, ◌≤◌, List, length, is_some, IfOk};
 ghost use Rattle.std.specs.declared.option.Option.{Option};

@@ -1,14 +1,13 @@
 //! A leader's fetch of an offset below its local log, from the remote tier, turn by turn.
 //!
-//! Such a fetch takes three turns after its first one, so that stops, elections and other commands may come between
-//! any two of them. First the broker's view is refreshed, and the remote segment that has the offset is chosen. Then
-//! the segment's offset index is taken from the broker's cache, or read. Then the part of its log that the index
-//! selects is read, and the run is cut out of it.
+//! Such a fetch takes three turns after its first one, so that stops, elections and other commands may come between any
+//! two of them. First the broker's view is refreshed, and the remote segment that has the offset is chosen. Then the
+//! segment's offset index is taken from the broker's cache, or read. Then the part of its log that the index selects is
+//! read, and the run is cut out of it.
 //!
 //! Before each turn the caller tests that the broker hasn't stopped since the fetch began and still leads in that
-//! epoch, that the offset is in the log's range, and that it is below the broker's high watermark. The turns don't
-//! test this again.
-//! offset is in the log's range, and that it is below the known high watermark. The turns test none of it again.
+//! epoch, that the offset is in the log's range, and that it is below the broker's high watermark. The turns don't test
+//! this again.
 #![tactic(auto)]
 
 mod spanning;

@@ -1,9 +1,10 @@
-//! How a remote tier at rest is swept: what copies and deletions left that were never finished goes away.
+//! The sweep of a remote tier at rest: it deletes what unfinished copies and deletions left.
 //!
-//! A tier is at rest where no command is under way and nobody else writes to it. Brokers that stopped may have left copies and
-//! deletions under way there, with any of their objects. An expiry takes those up once the log start has passed them; an object
-//! whose id has no entry nothing takes up. The module Rest of specs/ says what holds of a tier at rest, Sweeping what a sweep tells,
-//! takes away and counts, and Parts what each part of it does to its device.
+//! A tier is at rest if no command is in progress and nobody else writes to it. Brokers that stopped may have left
+//! copies and deletions in progress there, with any of their objects. An expiry deletes those once the log start offset
+//! is past them; an object whose id has no entry is deleted by a sweep alone. The module Rest of specs/ says what holds
+//! of a tier at rest, Sweeping what a sweep appends, deletes and counts, and Parts what each part of it does to its
+//! device.
 #![tactic(auto)]
 
 mod laws;

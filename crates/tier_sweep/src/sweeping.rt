@@ -1,7 +1,8 @@
 //! A sweep of a tier at rest.
 //!
-//! The metadata log is told of all deletions before the first object goes, so nobody reads a segment whose objects are going; and
-//! told that they are finished once none of their objects stands. A sweep that was refused leaves what a further one ends.
+//! The events that all deletions start are appended before the first object is deleted, so nobody reads a segment whose
+//! objects are going. The events that they are finished are appended once none of their objects is left. After a
+//! refused sweep a further one finishes the work.
 
 ghost use Rattle.std.specs.Prelude.{◌≡◌, ◌⊎◌, IfOk, OnOk, OnErr, IsTrue};
 ghost use Rattle.tier_base.specs.Told.{Names};

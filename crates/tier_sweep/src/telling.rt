@@ -1,6 +1,6 @@
-//! Telling the metadata log that deletions start and that they are finished.
+//! Appending to the metadata log that deletions start and that they are finished.
 //!
-//! A note has its entry's broker and time: no broker sweeps, and a step changes nothing but the state then.
+//! An event has its entry's broker and time: no broker sweeps, and the step changes nothing but the state.
 
 ghost use Rattle.std.specs.Prelude.{◌≡◌, ◌≢◌, ◌∷◌, [], IsTrue};
 ghost use Rattle.tier_base.specs.declared.plain.State.TheVariants.{CopyStarted};

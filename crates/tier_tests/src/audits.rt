@@ -1,6 +1,6 @@
 //! An audit of one finished copy: two batches of a letter each, and their other three parts. Values worked by hand.
 //!
-//! No test holds a device: each row says how one object stands, and what the audit comes to then.
+//! No test holds a device: each row has how one object is, and what the audit then returns.
 
 use crate::given::{
     CUSTOM, FINISHED, PACKED_FINISHED, PACKED_STARTED, STATE, batches, failing_log, failing_store,

@@ -1,6 +1,6 @@
-//! An expiry turn by turn, and how far retention lets a log start rise. Values worked by hand.
+//! An expiry turn by turn, and how far retention raises the log start offset. Values worked by hand.
 //!
-//! No test holds devices, a view or pieces: each helper makes them, and tells how the calls ended.
+//! No test holds devices, a view or pieces: each helper makes them, and returns how the calls ended.
 
 use crate::given::{FINISHED, PARTITION, failing_log, failing_store, feeds, grows, id, puts};
 use epoch_line::Line;

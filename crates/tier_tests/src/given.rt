@@ -1,7 +1,7 @@
-//! What the tests of several files are given: notes by their bytes, batches of a letter each, and devices of which a
-//! call fails. Values worked by hand.
+//! What the tests of several files use: metadata events by their bytes, batches of a letter each, and devices of which
+//! a call fails. Values worked by hand.
 //!
-//! Each function has no contract: it makes a value, or borrows one and tells how a call of it ended.
+//! Each function has no contract: it makes a value, or borrows one and returns how a call of it ended.
 
 use bytes::Bytes;
 use meta_log::{MemoryLog, MetaCall, MetaLog};

@@ -1,7 +1,7 @@
-//! Views on trial: notes that are fed, and what is found then. Worked rows, by hand.
+//! Views under test: metadata events that are fed, and what is found then. Worked rows, by hand.
 //!
-//! Each kind of call is a method without a contract that tells whether it answered as it should, and the plain
-//! look-up with it; a test is a table of calls and never holds a view.
+//! Each kind of call is a method without a contract that returns whether it answered as it should, and the plain lookup
+//! with it; a test is a table of calls and never holds a view.
 
 use crate::given::{END, ONE_EPOCH, STATE, TWO_EPOCHS, UPDATE, id, takes};
 use remote_view::View;

@@ -1,8 +1,10 @@
 //! The call that the program makes: for the words `sim`, `sim --threads`, `run`, `gen`, `audit` and `sweep`.
 //!
-//! `tiered` has the headline as its clauses. A script is read (`script_lang`), each of its partitions is run in a world of its
-//! own, over devices in memory (`run_memory`) or over a yard's (`run`), and the trace of the journals is written (`sim`); the
-//! script of a number is run so too, and summed up (`load`). The remote tiers of a yard are audited and swept (`rounds`). Words, statuses and what explains a refused line stand beside it.
+//! `tiered` has the program's guarantees as its clauses. A script is read (`script_lang`), each of its partitions is
+//! run in a world of its own, over devices in memory (`run_memory`) or over those of an environment (`run`), and the
+//! trace of the journals is written (`sim`). The script of a load number is run in the same way and summed up (`load`).
+//! The remote tiers of an environment are audited and swept (`rounds`). The arguments, the statuses and the explanation
+//! of a refused line have modules of their own.
 #![tactic(auto)]
 
 mod by_threads;

@@ -1,7 +1,7 @@
-//! What `gen` does: a number in, the summary of its script's run out.
+//! What `gen` does: from a number to the summary of its script's run.
 //!
-//! The script of the number is made, read and run as any other. Each partition's journal is carried out once more by the
-//! plain log's machine, which tells how the partition ended. The summary is made whole before its first byte is written.
+//! The script of the number is made, parsed and run as any other. The executable model replays each partition's journal
+//! and so has its final state. The summary is complete before its first byte is written.
 
 ghost use Rattle.std.specs.Prelude.{◌≡◌, ℕ, All, Err, IfOk, IsErrOf};
 ghost use Rattle.plain_log.specs.Orders.{AreListsFor, IsConfig};

@@ -1,6 +1,6 @@
-//! What `audit` and `sweep` do: over the remote tiers of a yard's partitions, and a line for each out.
+//! What `audit` and `sweep` do: over the remote tiers of an environment's partitions, with a line for each.
 //!
-//! All is told before the first byte is written, so that nothing is written where a call fails.
+//! The report is complete before its first byte is written, so nothing is written if a call fails.
 
 ghost use Rattle.std.specs.Prelude.{◌≡◌};
 ghost use Rattle.tiered_call.specs.Rounds.{AuditsYard, SweepsYard, refused, status_of};

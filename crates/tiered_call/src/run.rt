@@ -1,8 +1,8 @@
-//! What `run` does: a script's bytes in, the trace's bytes out, and the devices those of a yard.
+//! What `run` does: from a script's bytes to the trace's bytes, over the devices of an environment.
 //!
-//! The script is read before the yard is asked for its first name, and that before the first device is handed out: so the yard
-//! is as it was where the script has no reading, and holds what it held where it answers a name. The trace is made whole before
-//! its first byte is written.
+//! The script is read before the environment is asked for its first name, and that before the first device is provided.
+//! So the environment is unchanged if the script is invalid, and keeps its content if it returns a name. The trace is
+//! complete before its first byte is written.
 
 ghost use Rattle.std.specs.Prelude.{◌≡◌, ◌<◌, ◌-◌, ◌^◌, ℕ, Ok, None, length, IfOk, IfErr, OnOk, IsTrue};
 ghost use Rattle.script_lang.specs.Fit.{IsFit};

@@ -1,7 +1,7 @@
-//! What `sim` does: a script's bytes in, the trace's bytes out.
+//! What `sim` does: from a script's bytes to the trace's bytes.
 //!
-//! The trace is made whole before its first byte is written, so that nothing is written where the script has no reading
-//! or memory runs out.
+//! The trace is complete before its first byte is written, so nothing is written if the script is invalid or memory
+//! runs out.
 
 ghost use Rattle.std.specs.Prelude.{◌≡◌, ℕ, ◌-◌, ◌<◌, ◌^◌, All, Err, length, IfOk, IsErrOf};
 ghost use Rattle.plain_log.specs.Orders.{AreListsFor, IsConfig};

@@ -1,4 +1,4 @@
-//! What a search passes over, and where it then goes on.
+//! What a timestamp lookup passes over, and where it then continues.
 
 ghost use Rattle.std.specs.Prelude.{◌≡◌, ◌<◌};
 ghost use Rattle.plain_log.specs.declared.answer.Answer.TheVariants.{Damaged};

@@ -1,9 +1,9 @@
-//! A checker of traces for everyone: whether traces are whole runs of the plain log of their scripts, one after another.
+//! A checker of traces: whether traces are complete runs of the plain log over their scripts, one after another.
 //!
-//! `trace_check SCRIPT TRACE [SCRIPT TRACE ..]` reads the files, and prints a line: that each trace is one from where the run
-//! before it ended, or which is the first that is none, and why. Its status is 0 where all are, 1 where one isn't, and 2
-//! where nothing could be told. `specs/Whole.antt` says what a whole run is, `specs/Chain.antt` how one follows another;
-//! nothing of the program that wrote the traces is asked for.
+//! `trace_check SCRIPT TRACE [SCRIPT TRACE ..]` reads the files and prints a line: that each trace is a run from where
+//! the one before it ended, or which is the first that isn't, and why. Its status is 0 if all are, 1 if one isn't, and
+//! 2 if nothing could be checked. `specs/Whole.antt` says what a complete run is, `specs/Chain.antt` how one follows
+//! another. It doesn't use the code that runs scripts.
 #![tactic(auto)]
 
 ghost use Rattle.std.specs.Prelude.{◌≡◌, ◌↔◌, IfOk, IsTrue};

@@ -1,4 +1,4 @@
-//! Scripts, traces, and what is told of them: a row each, worked by hand.
+//! Scripts, traces, and what is reported of them: a row each, worked by hand.
 
 use crate::{Pair, Report, check};
 use std::alloc::{AllocError, Global};

@@ -1,4 +1,4 @@
-//! What is told of scripts and traces.
+//! What is reported of scripts and traces.
 
 use script_lang::Why;
 use std::fmt;

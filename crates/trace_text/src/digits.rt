@@ -1,7 +1,7 @@
-//! Writing bytes as hexadecimal digits, eight bytes at a time.
+//! Bytes as text, eight at a time.
 //!
-//! The two digits of a byte are neighbours in one table, so a byte costs one look-up, and the text grows once per
-//! eight bytes. The last one to seven bytes are written a digit at a time.
+//! Each byte's two digits are side by side in one table, so a byte is one lookup, and the text grows once for eight
+//! bytes. What is left after the last eight is written a digit at a time.
 
 ghost use Rattle.std.specs.Prelude.{◌≡◌, ◌++◌, ◌/◌, ◌%◌, OnOk, length, slice_index};
 ghost use Rattle.hex.specs.Hex.{lower_digits, encode_lower};

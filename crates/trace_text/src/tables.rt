@@ -1,4 +1,4 @@
-//! Reading the names of answers. The name and the number of fields after it determine the answer.
+//! The names of answers, read. An answer is identified by its name and by how many fields follow.
 
 ghost use Rattle.std.specs.Prelude.{◌≡◌, drop};
 ghost use Rattle.trace_text.specs.Fields.{named};

@@ -1,9 +1,10 @@
-//! The remote tiers of all partitions of a yard at rest: audited, or swept.
+//! Audits and sweeps of the remote tiers of all partitions of an environment.
 //!
-//! Each partition of which something stands has its store and its metadata log handed out, audited or swept, and given back, in
-//! rising order, and a line is told of it (`specs/Lines.antt`). Disks stay where they are. Where the yard tells what it holds,
-//! what is told is so of what it holds, an audit changes nothing, and a sweep leaves of each tier what a sweep of it does
-//! (`specs/Tiers.antt`). A call that fails ends the round; what was swept by then stays swept.
+//! The tiers are at rest. For each partition that has any content, in rising order, its store and its metadata log are
+//! taken out, audited or swept, and returned, and a line is reported (`specs/Lines.antt`). Disks stay where they are.
+//! If the environment is observable, the lines are true of its content, an audit changes nothing, and a sweep leaves of
+//! each tier what a sweep of it does (`specs/Tiers.antt`). A call that fails ends the round; what was swept by then
+//! stays swept.
 #![tactic(auto)]
 
 mod auditing;

@@ -1,4 +1,4 @@
-//! The lines that are told of partitions. The module Lines of specs/ has the grammar.
+//! The lines that are reported of partitions. The module Lines of specs/ has the grammar.
 
 ghost use Rattle.std.specs.Prelude.{◌≡◌, ◌++◌, codes, decimal, IfOk, OnOk};
 ghost use Rattle.tier_base.specs.Key.{key_text};
