@@ -121,7 +121,7 @@ def shell_text(row):
 
 def table(refused, shell):
     """The tables of the gate."""
-    text = "//! What the documents show as refused, and of a shell. Made by docs/snippets.py, which tells where it is another.\n"
+    text = "//! What the documents show as refused, and of a shell. Made by docs/snippets.py, which also reports a difference.\n"
     text += static("Words, texts of the input, each with how often it comes, the status, what standard error has, and the end of what is written.",
                    "SHELL", "(&[&str], &[(u32, &str)], u8, &str, &str)", [shell_text(row) for row in shell])
     text += static("The lines of a script, each with how often it stands there, and what is told of it.", "REFUSED",
@@ -146,7 +146,7 @@ def runs(cases):
     """The scripts of the gate, with their traces: the name of each file, and its text."""
     parts = parted(cases)
     names = [f"part_{number}" for number in range(1, len(parts) + 1)]
-    head = "//! What the documents and the examples show as run{}. Made by docs/snippets.py, which tells where it is another.\n"
+    head = "//! What the documents and the examples show as run{}. Made by docs/snippets.py, which also reports a difference.\n"
     top = head.format("") + "\n" + "".join(f"mod {name};\n" for name in names)
     top += f"\n/// How many scripts there are.\npub(crate) static COUNT: u32 = {len(cases)};\n"
     top += f"\n/// How many parts they stand in.\npub(crate) static PARTS: usize = {len(parts)};\n"

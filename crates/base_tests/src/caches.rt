@@ -35,7 +35,7 @@ fn get(cache: &mut IndexCache, number: u32) -> Option<u64> {
     }
 }
 
-/// Makes a call, and tells whether it went as the row says.
+/// Makes a call, and returns whether it went as the row says.
 fn call(alloc: Global, cache: &mut IndexCache, step: Step) -> bool {
     match step {
         Step::Keep(number, base) => keep(alloc, cache, number, base),
@@ -44,7 +44,7 @@ fn call(alloc: Global, cache: &mut IndexCache, step: Step) -> bool {
     }
 }
 
-/// Makes calls, and tells how many went well at first.
+/// Makes calls, and returns how many went well at first.
 fn run(alloc: Global, cache: &mut IndexCache, calls: &[Step]) -> usize {
     for (i, step) in calls.iter().enumerate() {
         if !call(alloc, cache, *step) {

@@ -1,5 +1,5 @@
-//! Worked rows, and look-ups beside a plain search. The bytes are of a segment of 150 batches of 69
-//! bytes each from offset 0 on, timestamp 1000, with an entry after more than 4096 bytes: by hand.
+//! Worked rows, and lookups beside a plain search. The bytes are of a segment of 150 batches of 69 bytes each from
+//! offset 0 on, timestamp 1000, with an entry after more than 4096 bytes: by hand.
 
 ghost use Rattle.std.specs.Prelude.{◌≡◌, []};
 
@@ -121,17 +121,17 @@ fn time_indexes_answer_as_the_rows_say(rt: HostRuntime) {
     assert_eq!(rt; first_mistimed(rt.alloc()), None);
 }
 
-/// What is told of bytes that are no offset index.
+/// What is reported of bytes that are no offset index.
 fn refusal(alloc: Global, bytes: &[u8]) -> Option<IndexRefusal> {
     OffsetIndex::from_bytes(alloc, 0, bytes).err()
 }
 
-/// What is told of bytes that are no time index.
+/// What is reported of bytes that are no time index.
 fn time_refusal(alloc: Global, bytes: &[u8]) -> Option<IndexRefusal> {
     TimeIndex::from_bytes(alloc, 0, bytes).err()
 }
 
-/// Bytes that are no offset index, and what is told.
+/// Bytes that are no offset index, and what is reported.
 static BAD: [(&[u8], IndexRefusal); 4] = [
     (
         &[0, 0, 0, 0x3c, 0, 0, 0x10, 0x2c, 0],
@@ -157,7 +157,7 @@ static BAD: [(&[u8], IndexRefusal); 4] = [
 /// An entry of a negative timestamp.
 static NEGATIVE: [u8; 12] = [0xff, 0xff, 0xff, 0xff, 0xff, 0xff, 0xff, 0xff, 0, 0, 0, 0];
 
-/// The number of the first row of which something else is told.
+/// The number of the first row of which something else is reported.
 fn first_untold(alloc: Global) -> Option<usize> {
     for (i, (bytes, wanted)) in BAD.iter().enumerate() {
         if refusal(alloc, bytes) != Some(*wanted) {

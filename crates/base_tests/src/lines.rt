@@ -106,7 +106,7 @@ enum Call {
     Assign(&'static str),
 }
 
-/// Whether a call is answered so.
+/// Whether a call gets this answer.
 fn is_answered(alloc: Global, call: Call) -> bool {
     match call {
         Call::Meet(end, at) => met(alloc, end) == Some(at),

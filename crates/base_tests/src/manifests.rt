@@ -12,7 +12,7 @@ static FRESH: [u8; 48] = [
     0, 0, 0, 0, 0, 0, 0, 0, // local start
     0, 0, 0, 1, // count of segments
     0, 0, 0, 0, 0, 0, 0, 0, // base
-    0, 0, 0, 0, // stable length
+    0, 0, 0, 0, // flushed length
     0, 0, 0, 1, // count of line entries
     0, 0, 0, 0, // epoch
     0, 0, 0, 0, 0, 0, 0, 0, // its start
@@ -25,9 +25,9 @@ static TWO: [u8; 72] = [
     0, 0, 0, 0, 0, 0, 0, 5, // local start
     0, 0, 0, 2, // count of segments
     0, 0, 0, 0, 0, 0, 0, 5, // base
-    0, 0, 1, 0x14, // stable length
+    0, 0, 1, 0x14, // flushed length
     0, 0, 0, 0, 0, 0, 0, 9, // base
-    0, 0, 0, 0, // stable length
+    0, 0, 0, 0, // flushed length
     0, 0, 0, 2, // count of line entries
     0, 0, 0, 1, // epoch
     0, 0, 0, 0, 0, 0, 0, 0, // its start
@@ -134,7 +134,7 @@ fn each_byte_of_ff_is_told_at_its_field(rt: HostRuntime) -> Result<(), Fail> {
     Ok(())
 }
 
-/// Bytes of their own at a place of the second row, and where that is told.
+/// Bytes of their own at a place of the second row, and where that is reported.
 static BAD: [(usize, &[u8], Option<u32>); 18] = [
     (3, &[0x32], Some(0)),
     (7, &[0], Some(4)),

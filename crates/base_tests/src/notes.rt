@@ -23,7 +23,7 @@ static STARTED: [u8; 75] = [
     0, 0, 0, 0, 0, 0, 0, 0, // its start
 ];
 
-/// Its end, told by broker 2 a millisecond before the epoch.
+/// Its end, recorded by broker 2 a millisecond before the epoch.
 static FINISHED: [u8; 29] = [
     0, 1, // version, kind
     0, 0, 0, 0, 0, 0, 0, 1, 0, 0, 0, 0, 0, 0, 0, 0, // id
@@ -61,7 +61,7 @@ static PACKED_FINISHED: [u8; 48] = [
     1, 0, 0, 0, 0x8a, 0, 0, 0, 8, 0, 0, 0, 12, 0, 0, 0, 16, // custom metadata
 ];
 
-/// The custom metadata that stands there.
+/// The custom metadata that is there.
 static LAYOUT: [u8; 17] = [1, 0, 0, 0, 0x8a, 0, 0, 0, 8, 0, 0, 0, 12, 0, 0, 0, 16];
 
 /// Two epochs, from offset 5 to 9: the first starts at 5, the second at 7.
@@ -83,7 +83,7 @@ static TWO_EPOCHS: [u8; 87] = [
     0, 0, 0, 0, 0, 0, 0, 7, // its start
 ];
 
-/// Whether bytes are read as a note that is written so.
+/// Whether bytes are read as a metadata event that is written so.
 fn is_written_again(alloc: Global, bytes: &[u8]) -> bool {
     match decode(alloc, bytes) {
         Ok(note) => plain::is(encode(alloc, &note), bytes),
@@ -125,7 +125,7 @@ fn reads_first(alloc: Global) -> bool {
     }
 }
 
-/// Whether the custom metadata of the packed copy's end is read as it stands there.
+/// Whether the custom metadata of the packed copy's end is read as it is there.
 fn reads_custom(alloc: Global) -> bool {
     match decode(alloc, PACKED_FINISHED.as_slice()) {
         Ok(
@@ -168,7 +168,7 @@ fn notes_of_a_packed_copy_are_spelled_field_by_field(rt: HostRuntime) {
     );
 }
 
-/// The first number of bytes of a note that aren't short.
+/// The first number of bytes of a metadata event that aren't short.
 fn first_not_short(alloc: Global, note: &[u8]) -> Option<usize> {
     for len in 0..note.len() {
         if decode(alloc, &note[..len]).err() != Some(NoteRefusal::Short) {
@@ -188,7 +188,7 @@ fn a_note_cut_anywhere_is_short(rt: HostRuntime) {
     assert!(rt; (finished, added) == (None, None), "of a packed copy");
 }
 
-/// Reads a note with bytes of its own at a place.
+/// Reads a metadata event with bytes of its own at a place.
 fn with(
     alloc: Global,
     note: &[u8],
@@ -208,7 +208,7 @@ enum Row {
     PackedFinished,
 }
 
-/// What is told of a row with bytes of their own at a place.
+/// What is reported of a row with bytes of their own at a place.
 fn told(
     alloc: Global,
     row: Row,
@@ -223,7 +223,7 @@ fn told(
     }
 }
 
-/// A row, bytes of their own at a place of it, and what is told.
+/// A row, bytes of their own at a place of it, and what is reported.
 static BAD: [(Row, usize, &[u8], Option<NoteRefusal>); 33] = [
     (Row::TwoEpochs, 0, &[2], Some(NoteRefusal::BadVersion)),
     (Row::TwoEpochs, 1, &[2], Some(NoteRefusal::Bad { at: 1 })),
@@ -318,7 +318,7 @@ fn each_broken_rule_is_told_at_its_place(rt: HostRuntime) {
     }
 }
 
-/// First bytes, and what is told.
+/// First bytes, and what is reported.
 static FRONTS: [(&[u8], NoteRefusal); 6] = [
     (&[], NoteRefusal::Short),
     (&[2], NoteRefusal::BadVersion),

@@ -33,7 +33,7 @@ pub(crate) fn is(written: Result<Vec<u8>, AllocError>, bytes: &[u8]) -> bool {
     }
 }
 
-/// A byte of a row, or of the bytes that stand in its place from a place on.
+/// A byte of a row, or of the bytes that replace it from a place on.
 fn byte_at(row: &[u8], at: usize, field: &[u8], i: usize) -> u8 {
     match field.get(i.wrapping_sub(at)) {
         Some(byte) => *byte,

@@ -23,7 +23,7 @@ impl CallKind for Call {
     }
 }
 
-/// Makes a call, and tells how it ended.
+/// Makes a call, and returns how it ended.
 fn make(faults: &mut FaultPlan<Call>, kind: Call) -> Ending {
     let ending = faults.ending(kind);
     match faults.note(kind, ending) {
@@ -53,7 +53,7 @@ fn tell(faults: &FaultPlan<Call>) -> (bool, bool, u64) {
     (faults.is_armed(), faults.is_fused(), faults.faults())
 }
 
-/// Takes a step, and tells whether it comes to what it says.
+/// Takes a step, and returns whether it comes to what it says.
 fn take(faults: &mut FaultPlan<Call>, step: Step) -> bool {
     match step {
         Step::Arm => {
@@ -70,7 +70,7 @@ fn take(faults: &mut FaultPlan<Call>, step: Step) -> bool {
     }
 }
 
-/// Takes steps, and tells how many come to what they say at first.
+/// Takes steps, and returns how many come to what they say at first.
 fn run(faults: &mut FaultPlan<Call>, steps: &[Step]) -> usize {
     for (i, step) in steps.iter().enumerate() {
         if !take(faults, *step) {

@@ -60,7 +60,7 @@ static SPELLINGS: [(i32, &[u8]); 5] = [
     (i32::MIN, b"\xff\xff\xff\xff\x0f"),
 ];
 
-/// A number as a varint, and as a varlong behind it.
+/// A number as a varint, and as a varlong after it.
 fn written(alloc: Global, value: i32) -> Result<Vec<u8>, AllocError> {
     let mut out = Vec::new(alloc);
     write_varint(&mut out, value)?;
@@ -78,7 +78,7 @@ fn goes_both_ways(alloc: Global, value: i32, twice: &[u8], spelling: &[u8]) -> (
     )
 }
 
-/// Whether a number is spelled so as a varint, and as a varlong behind it.
+/// Whether a number is spelled so as a varint, and as a varlong after it.
 fn is_spelled(alloc: Global, value: i32, spelling: &[u8]) -> bool {
     match plain::changed(alloc, spelling, spelling.len(), spelling) {
         Ok(twice) => {

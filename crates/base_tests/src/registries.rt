@@ -82,7 +82,7 @@ fn tell(registry: &Registry) -> (u32, u16, u64) {
     (registry.epoch, registry.leader.0, registry.mark)
 }
 
-/// Makes a call, and tells whether it is answered so.
+/// Makes a call, and returns whether it gets this answer.
 fn call(registry: &mut Registry, step: Step) -> bool {
     match step {
         Step::Ack(broker, epoch, end, answer) => {
@@ -106,7 +106,7 @@ fn call(registry: &mut Registry, step: Step) -> bool {
     }
 }
 
-/// Makes calls, and tells how many are answered so at first.
+/// Makes calls, and returns how many get this answer at first.
 fn run(registry: &mut Registry, calls: &[Step]) -> usize {
     for (i, step) in calls.iter().enumerate() {
         if !call(registry, *step) {
@@ -116,7 +116,7 @@ fn run(registry: &mut Registry, calls: &[Step]) -> usize {
     calls.len()
 }
 
-/// How many calls of a fresh registry are answered so at first.
+/// How many calls of a fresh registry get this answer at first.
 fn row(alloc: Global, brokers: u16, calls: &[Step]) -> usize {
     if brokers == 0 || brokers > 8 {
         return 0;

@@ -47,7 +47,7 @@ fn is_row(row: &Row<u64>, items: &[u64]) -> bool {
     counted & (row.as_slice() == items)
 }
 
-/// Makes a call, and tells whether it went as the row says.
+/// Makes a call, and returns whether it went as the row says.
 fn call(row: &mut Row<u64>, step: Step) -> bool {
     match step {
         Step::Push(item) => row.push(item).is_ok(),
@@ -59,7 +59,7 @@ fn call(row: &mut Row<u64>, step: Step) -> bool {
     }
 }
 
-/// Makes calls, and tells how many went well at first.
+/// Makes calls, and returns how many went well at first.
 fn run(row: &mut Row<u64>, steps: &[Step]) -> usize {
     for (i, step) in steps.iter().enumerate() {
         if !call(row, *step) {
@@ -69,8 +69,7 @@ fn run(row: &mut Row<u64>, steps: &[Step]) -> usize {
     steps.len()
 }
 
-/// Makes calls of a new list, and tells how many went well at first, and how many items are handed
-/// on.
+/// Makes calls of a new list, and returns how many went well at first, and how many items are passed on.
 fn run_new(alloc: Global, steps: &[Step]) -> (usize, usize) {
     let mut row = Row::new(alloc);
     let well = run(&mut row, steps);
@@ -120,7 +119,7 @@ fn a_roll_takes_what_it_has_room_for(rt: HostRuntime) {
     assert_eq!(rt; takes_two(rt.alloc()), (true, 2, true));
 }
 
-/// Whether a blob's bytes are these, also when it is handed on.
+/// Whether a blob's bytes are these, also when it is passed on.
 fn is_blob(blob: Blob, bytes: &[u8]) -> (usize, bool, bool, bool) {
     let told = (blob.len(), blob.is_empty(), blob.as_slice() == bytes);
     let again = Blob::from_vec(blob.into_vec());
@@ -243,7 +242,7 @@ fn give(sink: &mut MemorySink, piece: Piece) -> bool {
     }
 }
 
-/// Makes calls, and tells how many went well at first.
+/// Makes calls, and returns how many went well at first.
 fn give_each(sink: &mut MemorySink, pieces: &[Piece]) -> usize {
     for (i, piece) in pieces.iter().enumerate() {
         if !give(sink, *piece) {

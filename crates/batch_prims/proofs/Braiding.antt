@@ -1,4 +1,4 @@
--- Four registers side by side, each moved on by a whole block, stand for the one that takes in all bytes in turn.
+-- Four registers side by side, each moved on by a whole block, represent the one that takes all bytes in turn.
 use Rattle.std.proofs.Common.{◌≡◌, ◌∙◌, sym, ap, refl, ℕ, zero, suc, ◌+◌, ◌*◌, ◌/◌, ◌%◌, ◌^◌, ◌<◌, ◌≤◌, bit_xor, List, [], ◌∷◌, length, take, drop, get_or, arith}
 use Rattle.std.specs.Int.{w32, from_le_bytes}
 use Rattle.std.specs.Int.Bits.{xor_assoc, xor_zero_r}
@@ -43,7 +43,7 @@ first-four (s ∷ []) m h p e crc = absurd (omega arith)
 first-four (s ∷ t ∷ []) m h p e crc = absurd (omega arith)
 first-four (s ∷ t ∷ u ∷ []) m h p e crc = absurd (omega arith)
 
--- a word, and n bytes behind it
+-- a word, and n bytes after it
 word-first : (n c m : ℕ) (bytes next : List ℕ) → TakesIn m bytes → next ≡ drop 4 bytes
     → register c (take (4 + n) bytes) ≡ register (steps 32 (bit_xor c m)) (take n next)
 word-first n c m bytes next first behind =
@@ -51,7 +51,7 @@ word-first n c m bytes next first behind =
     ∙ ap (λ (x : ℕ). register x (take n (drop 4 bytes))) (first c)
     ∙ ap (λ (xs : List ℕ). register (steps 32 (bit_xor c m)) (take n xs)) (sym behind)
 
--- a register that is a word behind another
+-- a register that is a word after another
 apart : (k x y : ℕ) → steps k (bit_xor (steps 32 x) y) ≡ bit_xor (steps (32 + k) x) (steps k y)
 apart k x y =
     steps-xor k (steps 32 x) y ∙ ap (λ (z : ℕ). bit_xor z (steps k y)) (sym (steps-add 32 k x))
@@ -100,7 +100,7 @@ into-first crc k l m n =
     (sym (xor_assoc (steps 128 crc) (steps 128 k) (steps 96 l))
     ∙ ap (λ (x : ℕ). bit_xor x (steps 96 l)) (sym (steps-xor 128 crc k))))
 
--- the words of a block in registers that stand for one
+-- the words of a block in registers that represent one
 pub block-joined : (a b c d crc k l m n : ℕ) (first second third fourth : List ℕ)
     → StandFor a b c d crc
     → TakesIn k first

@@ -1,4 +1,4 @@
--- Why no number stands at the front of the bytes.
+-- Why no number is at the front of the bytes.
 use Rattle.std.proofs.Common.{◌≡◌, refl, ℕ, zero, suc, ◌<◌, ◌≤◌, ◌↔◌, nat_lt, true, false, List, [], ◌∷◌, take, Result, Ok, Err, inl, inr, arith}
 use Rattle.std.proofs.lemmas.Bool.{le-ltb, lt-ltb, cases_lt}
 use Rattle.std.proofs.lemmas.List.Elements.{All-nil, All-cons, All-head, All-tail}
@@ -11,7 +11,7 @@ seen_err : {A B E : Type 0} (f : A → B) (r : Result A E) (d : E) → (seen f r
 seen_err f (Ok x) d = (λ h. cc, λ h. cc)
 seen_err f (Err e) d = (λ h. cc, λ h. cc)
 
--- where the first byte is followed, what is behind it has the cause
+-- where the first byte is followed, what is after it has the cause
 behind_first : (most b : ℕ) (bytes : List ℕ) (why : VarRefusal) → 128 ≤ b
     → (groups_at (suc most) (b ∷ bytes) ≡ Err why) ↔ (groups_at most bytes ≡ Err why)
 behind_first most b bytes why high =

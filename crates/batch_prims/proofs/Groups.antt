@@ -28,7 +28,7 @@ ends_short most i number bytes r more end so_far =
     let none : drop i bytes ≡ [] = drop_all i bytes end in
     rw (left, none) at so_far
 
--- the byte at i, and those behind it
+-- the byte at i, and those after it
 front : (most i b : ℕ) (bytes : List ℕ) → i < most → i < length bytes → get_or bytes i 0 ≡ b
     → groups_at (most - i) (drop i bytes) ≡ groups_at (suc (most - (i + 1))) (b ∷ drop (i + 1) bytes)
 front most i b bytes more inside e =
@@ -49,7 +49,7 @@ ends_last most i number b bytes r more inside e last so_far =
     let same : (number + b * 2 ^ (7 * i) % 2 ^ 64) % 2 ^ 64 ≡ (number + b * 2 ^ (7 * i)) % 2 ^ 64 = omega arith in
     rw (whole, same) (rw (front most i b bytes more inside e, t) at so_far)
 
--- a group at its place p, and what was read behind it at the place q
+-- a group at its place p, and what was read after it at the place q
 at_places : (number g h p q : ℕ) → q ≡ p * 128
     → (number + (g + 128 * h) * p) % 2 ^ 64 ≡ ((number + g * p % 2 ^ 64) % 2 ^ 64 + h * q) % 2 ^ 64
 at_places number g h p q e =

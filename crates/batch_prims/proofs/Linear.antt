@@ -1,4 +1,4 @@
--- Steps of the register are linear over xor, and what stands above the lowest n bits is what is left after n steps.
+-- Steps of the register are linear over xor, and what is above the lowest n bits is what is left after n steps.
 use Rattle.std.proofs.Common.{◌≡◌, ◌∙◌, sym, ap, refl, ℕ, zero, suc, ◌+◌, ◌*◌, ◌/◌, ◌%◌, ◌^◌, ◌==◌, ◌<◌, cond, bit_xor, arith, zero-add, suc-add}
 use Rattle.std.specs.Int.Bits.{xor_assoc, xor_self, xor_zero_r, xor_shifted, shifted_even, shifted_half}
 use Rattle.std.proofs.lemmas.Nat.{xor_comm, xor_shr, xor_mod, mod_below, shr_split, pow_pos}

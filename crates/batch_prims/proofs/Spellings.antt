@@ -51,7 +51,7 @@ varlong_again value rest small =
     let same : to_zigzag value % 2 ^ 64 ≡ to_zigzag value = omega arith in
     rw (groups_again 9 9 (to_zigzag value) rest (omega arith) (omega arith), same, zigzag_again value) refl
 
--- the place of the number that stands at n
+-- the place of the number that is at n
 there_again : (n : ℕ) → to_zigzag (from_zigzag n) ≡ n
 unfolding from_zigzag
 there_again n = elim (cases_lt (n % 2) 1) [
@@ -64,7 +64,7 @@ seen_ok : {A B E : Type 0} (f : A → B) (r : Result A E) (y : B) → seen f r �
 seen_ok f (Ok x) y e = (x, refl, cc)
 seen_ok f (Err d) y e = cc
 
--- a group more, where what was read behind it is not shorter
+-- a group more, where what was read after it is not shorter
 above : (k m n b : ℕ) (bytes rest : List ℕ) (x : ℕ × List ℕ) → above_group b x ≡ (n, rest) → m ≤ n
     → ((l : ℕ) → l ≤ x.0 → length (groups_of k l) + length x.1 ≤ length bytes)
     → length (groups_of (suc k) m) + length rest ≤ suc (length bytes)

@@ -51,7 +51,7 @@ word-by-shares n w a b c d e f g h pa pb pc pd pe pf pg ph =
     ∙ share (bits_before 1 n) 40 w _
     ∙ share n 48 w _))
 
--- a byte that was taken in, and r behind it
+-- a byte that was taken in, and r after it
 pub taken : (n c b r : ℕ) → b < 256 → steps n (bit_xor (steps 8 (bit_xor c b)) r) ≡ steps (8 + n) (bit_xor c (r * 256 + b))
 taken n c b r h =
     ap (λ (x : ℕ). steps n (bit_xor (steps 8 (bit_xor c b)) x)) (sym (steps-shifted 8 r))
@@ -89,7 +89,7 @@ first-eight (s ∷ t ∷ u ∷ v ∷ w ∷ []) m c h p e = absurd (omega arith)
 first-eight (s ∷ t ∷ u ∷ v ∷ w ∷ x ∷ []) m c h p e = absurd (omega arith)
 first-eight (s ∷ t ∷ u ∷ v ∷ w ∷ x ∷ y ∷ []) m c h p e = absurd (omega arith)
 
--- k bytes, and n behind them
+-- k bytes, and n after them
 pub register-take : (k n c : ℕ) (bytes : List ℕ)
     → register c (take (k + n) bytes) ≡ register (register c (take k bytes)) (take n (drop k bytes))
 register-take zero n c bytes = ap (λ (m : ℕ). register c (take m bytes)) (omega arith)

@@ -5,7 +5,7 @@ use Rattle.std.proofs.lemmas.List.{take_more_set}
 use Rattle.std.proofs.Math.Nat.{pow-suc}
 use Rattle.batch_prims.specs.Varint.{groups_of, shortest}
 
--- count groups of the number stand there, and the rest has at most 10 - count more
+-- count groups of the number are there, and the rest has at most 10 - count more
 pub record SoFar (groups : List ℕ) (count rest number : ℕ) : Type 0 where
   pub size : length groups ≡ 10
   pub room : count < 10

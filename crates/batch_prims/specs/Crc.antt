@@ -1,5 +1,4 @@
--- CRC-32C (Castagnoli), reflected: a register of 32 bits that takes in bytes from the low end, and gives up a bit a
--- step.
+-- CRC-32C (Castagnoli), reflected: a register of 32 bits that takes bytes from the low end, and gives up a bit a step.
 --
 -- The register begins as 32 ones, and the checksum is its complement after the last byte.
 -- A step is a function on all numbers and not on 32 bits alone, so a longer word may be taken in at once.

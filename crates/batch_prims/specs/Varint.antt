@@ -4,9 +4,9 @@
 --    0-6  group: seven bits of the number, the lowest group in the first byte
 --      7  more: 1 where another group follows
 --
--- The number is zigzag: 0, -1, 1, -2 and so on stand as 0, 1, 2, 3. A varint has at most 5 bytes and a varlong 10.
--- A spelling that is longer than it need be is read. Bits past the 32nd or the 64th are dropped.
--- Bytes that end before a last group are too short; 5 or 10 bytes with no last group are too long.
+-- The number is zigzag: 0, -1, 1, -2 and so on are as 0, 1, 2, 3. A varint has at most 5 bytes and a varlong 10. A
+-- spelling that is longer than it need be is read. Bits past the 32nd or the 64th are dropped. Bytes that end before a
+-- last group are too short; 5 or 10 bytes with no last group are too long.
 --
 -- Source: Kafka's ByteUtils, after the varints of Protocol Buffers.
 use Rattle.std.specs.Prelude.{ℕ, zero, suc, ◌+◌, ◌*◌, ◌/◌, ◌%◌, ◌^◌, ◌==◌, ◌<◌, ◌≤◌, nat_lt, if◌then◌else◌, ℤ, pos, negsuc, List, [], ◌∷◌, length, take, All, Result, Ok, Err}
@@ -18,11 +18,11 @@ abbrev pub seen : {A B E : Type 0} → (A → B) → Result A E → Result B E
 seen f (Ok x) = Ok (f x)
 seen f (Err e) = Err e
 
--- the group of a byte below what was read behind it
+-- the group of a byte below what was read after it
 abbrev pub above_group : ℕ → ℕ × List ℕ → ℕ × List ℕ
 above_group b x = (b % 128 + 128 * x.0, x.1)
 
--- the number in the groups at the front, so many at most, and the bytes behind them
+-- the number in the groups at the front, so many at most, and the bytes after them
 abbrev pub groups_at : ℕ → List ℕ → Result (ℕ × List ℕ) VarRefusal
 groups_at zero bytes = Err TooLong
 groups_at (suc most) [] = Err Short
@@ -42,15 +42,15 @@ to_zigzag (negsuc n) = 2 * n + 1
 abbrev pub low_bits : ℕ → ℕ × List ℕ → ℕ × List ℕ
 low_bits bits x = (x.0 % 2 ^ bits, x.1)
 
--- the signed number that stands for one that was read
+-- the signed number that represents one that was read
 abbrev pub signed : ℕ × List ℕ → ℤ × List ℕ
 signed x = (from_zigzag x.0, x.1)
 
--- the varint at the front, and the bytes behind it
+-- the varint at the front, and the bytes after it
 unfoldable pub varint_at : List ℕ → Result (ℤ × List ℕ) VarRefusal
 varint_at bytes = seen (λ x. signed (low_bits 32 x)) (groups_at 5 bytes)
 
--- the varlong at the front, and the bytes behind it
+-- the varlong at the front, and the bytes after it
 unfoldable pub varlong_at : List ℕ → Result (ℤ × List ℕ) VarRefusal
 varlong_at bytes = seen (λ x. signed (low_bits 64 x)) (groups_at 10 bytes)
 
@@ -63,7 +63,7 @@ pub record EndsInside (most : ℕ) (bytes : List ℕ) : Type 0 where
   pub fewer : length bytes < most
   pub followed : All IsFollowed bytes
 
--- as many bytes as a number may have stand there, and none is its last
+-- as many bytes as a number may have are there, and none is its last
 pub record HasNoLast (most : ℕ) (bytes : List ℕ) : Type 0 where
   pub enough : most ≤ length bytes
   pub followed : All IsFollowed (take most bytes)

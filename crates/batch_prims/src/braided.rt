@@ -1,8 +1,8 @@
 //! CRC-32C by four registers side by side, sixteen bytes a step.
 //!
-//! Each register takes in one word of four bytes of each block, and moves on by a whole block at once. A body
-//! with one register waits for its last look-up before it begins the next step; here four look-ups are under
-//! way at any time. They are joined in the last whole block, where each word is moved to the block's end alone.
+//! Each register takes one word of four bytes of each block, and moves on by a whole block at once. A body with one
+//! register waits for its last lookup before it begins the next step; here four lookups are in progress at any time.
+//! They are joined in the last whole block, where each word is moved to the block's end alone.
 
 ghost use Rattle.std.specs.Prelude.{◌≡◌, ◌≤◌, ℕ, take, length, bit_xor};
 ghost use Rattle.batch_prims.specs.Crc.{steps, register, crc32c as crc_of};
@@ -14,7 +14,7 @@ use crate::far_tables::{
 };
 use crate::near_tables::{AFTER_1, AFTER_2, AFTER_3, AFTER_4, AFTER_5, AFTER_6, AFTER_7, AFTER_8};
 
-/// How many bytes a step takes in.
+/// How many bytes a step takes.
 const BLOCK: usize = 16;
 
 /// The registers, in the order of a block's words.
@@ -98,7 +98,7 @@ fn with_words(braid: Braid, block: &[u8]) -> Braid
     }
 }
 
-/// Takes in a block.
+/// Takes a block.
 #[inline(always)]
 fn after_block(braid: Braid, block: &[u8]) -> Braid
     requires { 16 ≤ length block.now }
@@ -115,7 +115,7 @@ fn after_block(braid: Braid, block: &[u8]) -> Braid
     }
 }
 
-/// Takes in a last block, and joins the registers.
+/// Takes a last block, and joins the registers.
 #[inline(always)]
 fn join_block(braid: Braid, block: &[u8]) -> u32
     requires { 16 ≤ length block.now }

@@ -2,7 +2,7 @@
 
 use thiserror::Error;
 
-/// Why no number stands at the front of the bytes. At most one of the two holds.
+/// Why no number is at the front of the bytes. At most one of the two holds.
 #[derive(Clone, Copy, Debug, PartialEq, Eq, Error)]
 pub enum VarRefusal {
     /// Each byte says that another follows, and the bytes end before that.

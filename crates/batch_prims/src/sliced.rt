@@ -1,8 +1,8 @@
 //! CRC-32C sixteen bytes a step, by sixteen tables.
 //!
-//! A step is linear over xor, so each byte's share of the register is looked up by itself, in the table for
-//! as many bytes as follow it in the step. The register goes in with the first eight bytes, its own share
-//! being theirs. No look-up waits for another one of its step.
+//! A step is linear over xor, so each byte's share of the register is looked up by itself, in the table for as many
+//! bytes as follow it in the step. The register goes in with the first eight bytes, its own share being theirs. No
+//! lookup waits for another one of its step.
 
 ghost use Rattle.std.specs.Prelude.{◌≡◌, ◌≤◌, ℕ, take, length, bit_xor};
 ghost use Rattle.batch_prims.specs.Crc.{steps, register, crc32c};

@@ -3,7 +3,7 @@
 ghost use Rattle.std.specs.Prelude.{◌≡◌};
 ghost use Rattle.batch_prims.specs.Varint.{from_zigzag, to_zigzag};
 
-/// The number of 32 bits that stands for this one.
+/// The number of 32 bits that represents this one.
 #[tactic(auto, unfolding(crate::specs::Varint::from_zigzag))]
 pub(crate) fn decoded_32(number: u32) -> i32
     ensures { result ≡ from_zigzag number }
@@ -15,7 +15,7 @@ pub(crate) fn decoded_32(number: u32) -> i32
     }
 }
 
-/// The number of 64 bits that stands for this one.
+/// The number of 64 bits that represents this one.
 #[tactic(auto, unfolding(crate::specs::Varint::from_zigzag))]
 pub(crate) fn decoded_64(number: u64) -> i64
     ensures { result ≡ from_zigzag number }
@@ -27,7 +27,7 @@ pub(crate) fn decoded_64(number: u64) -> i64
     }
 }
 
-/// What stands for the number.
+/// What represents the number.
 pub(crate) fn encoded(value: i64) -> u64
     ensures { result ≡ to_zigzag value }
 {

@@ -1,4 +1,4 @@
--- How a log is seen that was begun anew: whatever batches lead up to there.
+-- How a log is seen that was restarted: whatever batches lead up to there.
 use Rattle.std.proofs.Common.{◌≡◌, ◌∙◌, ap, sym, subst, refl, inl, inr, ⊎_elim, ℕ, false, List, ◌++◌, Some, IsTrue, arith, append-nil}
 use Rattle.disk_model.specs.Content.{Content, Files, Image, Lawful, LeavesOnly}
 use Rattle.log_terms.specs.Log.{EndsAt, up_to, from_offset, end_of}

@@ -45,7 +45,7 @@ module _ {D : Type 0} (content : D → Content) (settings : Settings) (disk : D)
   module _ (log : Log D) (is_observable : (content log.disk).is_observable ≡ (content disk).is_observable) (flushed_end : log.flushed_end ≡ log.end) (unbroken : log.broken ≡ false)
       (is_of : IsTrue (content disk).is_observable → (o : Opened) × Opens (content disk).files o × IsOf o log) (coheres : IsTrue (content log.disk).is_observable → Coheres log)
       (durable : (c : Files) → Image (content log.disk) c → Opens c (whole_log log)) where
-    -- what was read is seen, behind whatever leads up to it
+    -- what was read is seen, after whatever leads up to it
     module _ (told : IsTrue (content log.disk).is_observable) (o : Opened) (is : IsOf o log) (below : List (List ℕ)) (leads : LeadsTo below o.local_start) where
       c : Coheres log
       c = coheres told
@@ -168,7 +168,7 @@ module _ {D : Type 0} (content : D → Content) (settings : Settings) (disk : D)
     pub stays_by_closing : Stays content (Down settings disk) (Down settings disk')
     stays_by_closing = record { up = refl; end = refl; flushed_end = refl; line = refl; local = refl; layout = refl; settings = refl; seen = stays_closed; between = between_opening (content disk) (content disk') laws leaves }
 
-    -- what was handed has no reading, so nothing was seen of the log
+    -- what was returned is invalid, so nothing was seen of the log
     pub unopened : (control : D → Control call_code) (why : OpenRefusal) (name : FileName) (at : ℕ) → why ≡ Damaged name at → OpenFails (control disk').last_read why
         → (IsTrue (content disk).is_observable → OpenFailsIn (content disk).files why) → (IsTrue (content disk).is_observable → (o : Opened) → Opens (content disk).files o → IsSoundCause why) → Unopened content control (Down settings disk) (Down settings disk') name at
     unopened control why name at is fails place sound = record {

@@ -113,7 +113,7 @@ pub ran_ok : {T : Type 0} (P : Type 0) (r : Result T ReadRefusal) (old new : Con
 ran_ok P (Ok x) old new ok ran = ran (ok refl)
 ran_ok P (Err e) old new ok ran = tt
 
--- what a refusal tells
+-- what a refusal reports
 pub err_told : {T : Type 0} (P Q : ReadRefusal → Type 0) (r : Result T ReadRefusal) (cause : ReadRefusal) → IfErr r P → IfErr r Q → IsErrOf r cause → P cause × Q cause
 err_told P Q (Ok x) cause p q is = absurd (cc is)
 err_told P Q (Err e) cause p q is = let same : e ≡ cause = cc is in (subst P same p, subst Q same q)

@@ -172,7 +172,7 @@ module _ {D : Type 0} (content : D → Content) (old new : Log D) where
           (ap (λ (n : ℕ). up_to n new.batches) (flushed_end ∙ sym h.ends) ∙ ap (up_to (end_of s.batches)) (b.batches h.told) ∙ sym (up_local content old s h (end_of s.batches) (local_low content old s h)))
           (ap (λ (n : ℕ). cut_end new.line (n + 1)) flushed_end ∙ ap (λ (l : List (ℕ × ℕ)). cut_end l (old.end + 1)) line ∙ within h.told ∙ sym line ∙ sym (line_told s h))
 
--- what was taken of a run stands at the end
+-- what was taken of a run is at the end
 module _ {D : Type 0} (content : D → Content) where
   -- what is seen of a log in which a new segment was perhaps begun
   pub record SameSeen (old base : Log D) : Type 0 where

@@ -1,8 +1,8 @@
--- A broker's log as it is seen: its batches and its line, and what comes back of them after a stop.
+-- A broker's log as it is seen: its batches and its leader epochs, and what comes back of them after a stop.
 --
--- The batches are seen from offset 0 on, also where the local log begins later: those below the local start stand on no
--- disk, and whatever batches lead up to it may be seen there. A write that failed may have been done or not, so one
--- of two ends comes back after it, each with its line and its local start.
+-- The batches are seen from offset 0 on, also where the local log begins later: those below the local start are on no
+-- disk, and whatever batches lead up to it may be seen there. A write that failed may have been done or not, so one of
+-- two ends comes back after it, each with its leader epochs and its local start.
 --
 --   form                      says
 --   Shows content kept s      the log, or its disk, is seen so
@@ -10,8 +10,8 @@
 --   Stays content old new     a call leaves what is seen, and the plain facts
 --   LeavesBetween .. old new  whatever a crash in the course of a call leaves is opened as before the call or as after it
 --
--- Of a disk that doesn't tell nothing is seen. A log that is up also has its end, its flushed end and its line, and its
--- layout: how it stands in segments, whose batches it has. Its settings last as long as the broker.
+-- Of a disk that isn't observable nothing is seen. A log that is up also has its end, its flushed end and its leader
+-- epochs, and its layout: how it is in segments, whose batches it has. Its settings last as long as the broker.
 use Rattle.std.specs.Prelude.{◌≡◌, ◌⊎◌, ◌≤◌, [], ◌∷◌, ℕ, Bool, true, false, List, ◌++◌, Option, Some, None, IsTrue, IsSomeAnd}
 use Rattle.tier_base.specs.declared.plain.Settings.{Settings}
 use Rattle.tier_base.specs.Device.{Control, Lasts}
@@ -25,7 +25,7 @@ use Rattle.log_steps.specs.Reopens.{Reopens}
 use Rattle.local_log.specs.Log.{Log}
 use Rattle.local_log.specs.Coheres.{Hold}
 
--- what comes back of a log after a stop: its end, its line and its local start
+-- what comes back of a log after a stop: its end, its leader epochs and its local start
 abbrev pub Back : Type 0
 Back = ℕ × List (ℕ × ℕ) × ℕ
 
@@ -35,7 +35,7 @@ pub record Seen : Type 0 where
   pub batches : List (List ℕ)
   pub line : List (ℕ × ℕ)
   pub flushed_end : ℕ
-  -- the line that comes back after a stop
+  -- the leader epochs that comes back after a stop
   pub saved : List (ℕ × ℕ)
   -- where the local log begins
   pub local : ℕ
@@ -111,7 +111,7 @@ pub record ShowsClosed {D : Type 0} (content : D → Content) (disk : D) (s : Se
   -- a log can be opened from it, also after a crash in the course of an opening
   pub again : Reopens (content disk)
 
--- how a log that is up stands in segments: the closed ones, and the open one
+-- how a log that is up is in segments: the closed ones, and the open one
 pub record Layout : Type 0 where
   pub settings : Settings
   -- how often it was opened

@@ -32,7 +32,7 @@ use Rattle.broker_log.specs.Seen.{Back, Seen, Kept, Layout, back_of, Shows, Goes
 abbrev pub with_batches : Seen → List (List ℕ) → Seen
 with_batches s front = record s { batches = s.batches ++ front; line = lined s.line front }
 
--- all of the log is flushed, with this line
+-- all of the log is flushed, with these leader epochs
 abbrev pub settled : Seen → List (ℕ × ℕ) → Seen
 settled s line = record s { line = line; flushed_end = end_of s.batches; saved = line }
 
@@ -40,7 +40,7 @@ settled s line = record s { line = line; flushed_end = end_of s.batches; saved =
 abbrev pub led : Seen → ℕ → Seen
 led s epoch = settled s (assign s.line epoch (end_of s.batches))
 
--- the log up to an offset, all of it stable
+-- the log up to an offset, all of it flushed
 abbrev pub cut_to : Seen → ℕ → Seen
 cut_to s end = record s {
   batches = up_to end s.batches;
@@ -66,7 +66,7 @@ kept_line s = cut_end s.line (s.flushed_end + 1)
 abbrev pub dropped : Seen → ℕ → Seen
 dropped s start = record s { local = start; saved = kept_line s }
 
--- these batches, which end at n, with this line; nothing of them is in the local log
+-- these batches, which end at n, with these leader epochs; nothing of them is in the local log
 abbrev pub restarted : Seen → List (List ℕ) → List (ℕ × ℕ) → ℕ → Seen
 restarted s whole line n = record s { batches = whole; line = line; flushed_end = n; saved = line; local = n }
 
@@ -129,12 +129,12 @@ pub record BreaksIf {D : Type 0} (content : D → Content) (old new : Kept D) (P
 abbrev pub BreaksUnsaved : {D : Type 0} → (D → Content) → Kept D → Kept D → Type 0
 BreaksUnsaved content old new = Breaks content old new (λ s. loosened s (back_of s))
 
--- the first of these batches that stand in the log's open segment, behind what it holds
+-- the first of these batches that are in the log's open segment, after what it holds
 abbrev pub first_in : {D : Type 0} → Log D → List (List ℕ) → List (List ℕ)
 first_in log batches = taking log.settings.segment_bytes log.active.base (size_of log.active) batches
 
--- the first batches of a run stand at the log's end: at least one, and as many as one segment takes, a new one where
--- it is due
+-- the first batches of a run are at the log's end: at least one, and as many as one segment takes, a new one where it
+-- is due
 pub record Appends {D : Type 0} (content : D → Content) (old new : Kept D) (run : List ℕ)
     (answer : ℕ × ℕ) : Type 0 where
   pub front : List (List ℕ)
@@ -156,7 +156,7 @@ pub record Appends {D : Type 0} (content : D → Content) (old new : Kept D) (ru
   pub seen : Goes content old new (λ s s'. s' ≡ with_batches s front)
   pub between : LeavesBetween content old new
 
--- all of the log is flushed, with this line, and this is its end
+-- all of the log is flushed, with these leader epochs, and this is its end
 pub record Settles {D : Type 0} (content : D → Content) (old new : Kept D) (line : List (ℕ × ℕ) → ℕ → List (ℕ × ℕ))
     (end : ℕ) : Type 0 where
   pub base_is : end_in old ≡ Some end
@@ -181,7 +181,7 @@ pub record Rolls {D : Type 0} (content : D → Content) (old new : Kept D) : Typ
 abbrev pub first_seen : Seen
 first_seen = record { batches = []; line = []; flushed_end = 0; saved = []; local = 0; loose = None; incarnation = 1 }
 
--- how it stands in segments
+-- how it is in segments
 abbrev pub first_layout : Settings → Layout
 first_layout settings = record {
   settings = settings;
@@ -203,7 +203,8 @@ pub record IsFirst {D : Type 0} (content : D → Content) (disk : D) (settings :
 abbrev pub cut_end_at : {D : Type 0} → Log D → ℕ → ℕ
 cut_end_at log end = if nat_lt end log.local_start then end else cut_point end log.closed log.active
 
--- the log ends at the last batch's end at or below an offset, all of it stable; below the local start it is empty there
+-- the log ends at the last batch's end at or below an offset, all of it flushed; below the local start it is empty
+-- there
 pub record Cuts {D : Type 0} (content : D → Content) (old new : Kept D) (end now : ℕ) : Type 0 where
   pub end_is : end_in new ≡ Some now
   pub flushed_end_is : flushed_end_in new ≡ Some now
@@ -244,7 +245,7 @@ pub record LeadsTo (whole : List (List ℕ)) (n : ℕ) : Type 0 where
   pub consecutive : IsConsecutive 0 whole
   pub ends : end_of whole ≡ n
 
--- the local log is empty at an offset, with this line; whatever batches lead up to there are seen
+-- the local log is empty at an offset, with these leader epochs; whatever batches lead up to there are seen
 pub record Restarts {D : Type 0} (content : D → Content) (old new : Kept D) (n : ℕ) (line : List (ℕ × ℕ)) : Type 0 where
   pub end_is : end_in new ≡ Some n
   pub flushed_end_is : flushed_end_in new ≡ Some n
@@ -265,7 +266,7 @@ pub record RestartBreaks {D : Type 0} (content : D → Content) (old new : Kept 
       → Shows content new (unbuilt s whole line n)
   pub between : LeavesBetween content old new
 
--- a closed segment's batches, which pass every test, stand in the log, from its base to its last offset
+-- a closed segment's batches, which pass every test, are in the log, from its base to its last offset
 pub record IsSegmentOf (s : Seen) (whole : Closed) : Type 0 where
   pub before : List (List ℕ)
   pub batches : List (List ℕ)
@@ -281,15 +282,15 @@ pub record IsEndUpTo {D : Type 0} (content : D → Content) (kept : Kept D) (off
   pub point : WhileUp kept (λ log. end ≡ cut_end_at log offset)
   pub is : (s : Seen) → Shows content kept s → MayCut offset s → end ≡ end_of (up_to offset s.batches)
 
--- why a run ends: at the mark, with its piece, or since the next batch would pass the limit
+-- why a run ends: at the high watermark, with its piece, or since the next batch would pass the limit
 abbrev pub StopIs : Stop → List (List ℕ) → List (List ℕ) → ℕ → ℕ → ℕ → Type 0
 StopIs Mark run rest next limit mark = next ≡ mark
 StopIs Piece run rest next limit mark = next ≢ mark
 StopIs Limit run [] next limit mark = ⊥
 StopIs Limit run (batch ∷ rest) next limit mark = (next ≢ mark) × (limit < length (joined run) + length batch)
 
--- the run of the log at an offset, up to a mark: as many batches as its piece has below the mark and as fit the
--- limit. The piece ends with its log segment, or before it where the next leader epoch starts
+-- the run of the log at an offset, up to a mark: as many batches as its piece has below the high watermark and as fit
+-- the limit. The piece ends with its log segment, or before it where the next leader epoch starts
 pub record IsRunIn {D : Type 0} (kept : Kept D) (s : Seen) (offset limit mark : ℕ) (out : RunOut) : Type 0 where
   pub run : List (List ℕ)
   pub rest : List (List ℕ)
@@ -308,7 +309,7 @@ pub record IsRunIn {D : Type 0} (kept : Kept D) (s : Seen) (offset limit mark : 
       × StopsIn out.stop out.next mark (piece_of log offset) (passes limit (length out.bytes) rest))
 
 module _ {D : Type 0} (content : D → Content) (control : D → Control call_code) where
-  -- a run was read, out of what the disk handed in this call; where a batch ends at the mark, it is the log's
+  -- a run was read, out of what the disk passed in this call; where a batch ends at the high watermark, it is the log's
   pub record Reads (old new : Kept D) (offset limit mark : ℕ) (out : RunOut) : Type 0 where
     pub stays : Stays content old new
     -- its segment's base
@@ -318,18 +319,18 @@ module _ {D : Type 0} (content : D → Content) (control : D → Control call_co
         (λ d. IsCut log.line (control d).last_read offset limit mark (piece_of log offset) out))
     pub run : (s : Seen) → Shows content old s → EndsAt mark s.batches → IsRunIn old s offset limit mark out
 
-  -- no run was read, since what the disk handed has none, or no batch ends at the mark
+  -- no run was read, since what the disk returned has none, or no batch ends at the high watermark
   pub record Misreads (old new : Kept D) (offset limit mark : ℕ) (name : FileName) (at : ℕ) : Type 0 where
     pub stays : Stays content old new
     pub cause : WhileUp old (λ log. OnDisk new
         (λ d. RunFails log offset limit mark (control d).last_read (refusal.Damaged name at)))
     pub unmarked : (s : Seen) → Shows content old s → EndsAt mark s.batches → ⊥
 
-  -- the log wasn't opened, since what the disk handed has no reading
+  -- the log wasn't opened, since what the disk returned is invalid
   pub record Unopened (old new : Kept D) (name : FileName) (at : ℕ) : Type 0 where
     pub stays : Stays content old new
     pub cause : OnDisk new (λ d. OpenFails (control d).last_read (Damaged name at))
-    -- of a disk that tells it is the first place of its files that has none
+    -- of an observable disk it is the first place of its files that has none
     pub place : OnDisk old (λ d. IsTrue (content d).is_observable → IsDamage (content d).files name at)
     -- nor do the files of an observable disk open
     pub unread : OnDisk old (λ d. IsTrue (content d).is_observable → (o : Opened) → OpenAs (content d).files o → ⊥)
@@ -348,7 +349,7 @@ pub record Stops {D : Type 0} (content : D → Content) (old new : Kept D) : Typ
   pub seen : Goes content old new (λ s s'. s' ≡ s)
   pub between : LeavesBetween content old new
 
--- the log that was read, behind these batches, under the next incarnation
+-- the log that was read, after these batches, under the next incarnation
 abbrev pub read_behind : Opened → List (List ℕ) → Seen
 read_behind o below = record {
   batches = below ++ o.batches;

@@ -208,7 +208,8 @@ impl<D: Disk> BrokerLog<D> {
         }
     }
 
-    /// Whether the log may take bytes as a run: each batch passes every test, and goes on where the one before it ends.
+    /// Whether the log may take bytes as a run: each batch passes every test, and continues where the one before it
+    /// ends.
     pub fn takes(&self, run: &[u8]) -> bool
         requires { IsTrue (is_up self.now) }
         ensures { WhileUp self.now (λ log. IsTrue result ↔ IsRun log.end log.line run.now) }
@@ -259,7 +260,7 @@ impl<D: Disk> BrokerLog<D> {
         log.end_up_to(offset)
     }
 
-    /// Makes all of the log flushed, and answers its end.
+    /// Makes all of the log flushed, and returns its end.
     pub fn flush(&mut self) -> Result<u64, Trouble>
         requires { IsTrue (is_up self.old) }
         ensures ok { IfOk result (λ end. Settles D.content self.old self.new (λ line _. line) end) }
@@ -280,8 +281,8 @@ impl<D: Disk> BrokerLog<D> {
         outcome
     }
 
-    /// Appends the first batches of a run that stand in one segment, and answers their first and their last offset.
-    /// They come back after a stop once they are flushed.
+    /// Appends the first batches of a run that fit one segment, and returns their first and their last offset. They
+    /// come back after a stop once they are flushed.
     pub fn append(&mut self, run: &[u8]) -> Result<(u64, u64), AppendRefusal>
         requires { WhileUp self.old (λ log. IsRun log.end log.line run.now) }
         ensures ok { IfOk result (λ answer. Appends D.content self.old self.new run.now answer) }
@@ -309,7 +310,7 @@ impl<D: Disk> BrokerLog<D> {
         outcome
     }
 
-    /// Enters a leader epoch that begins at the log's end, makes all flushed, and answers the end.
+    /// Enters a leader epoch that begins at the log's end, makes all flushed, and returns the end.
     pub fn lead(&mut self, epoch: u32) -> Result<u64, Trouble>
         requires fits { epoch < 2 ^ 31 }
         requires above { WhileUp self.old (λ log. ForSome (last_epoch log.line) (λ last. last < epoch)) }
@@ -361,8 +362,8 @@ impl<D: Disk> BrokerLog<D> {
         outcome
     }
 
-    /// Cuts the log to an offset, durably, and answers its new end; where a batch holds the offset, that batch's
-    /// base. Below the local start nothing is left of it on the disk.
+    /// Cuts the log to an offset, durably, and returns its new end; where a batch holds the offset, that batch's base.
+    /// Below the local start nothing is left of it on the disk.
     pub fn cut_to(&mut self, end: u64) -> Result<u64, Trouble>
         requires { WhileUp self.old (λ log. end ≤ log.end) }
         ensures ok { IfOk result (λ now. Cuts D.content self.old self.new end now) }
@@ -397,7 +398,7 @@ impl<D: Disk> BrokerLog<D> {
         }
     }
 
-    /// Drops the first closed segment, durably, and answers its base and its last offset.
+    /// Drops the first closed segment, durably, and returns its base and its last offset.
     pub fn drop_first(&mut self) -> Result<(u64, u64), Trouble>
         requires { WhileUp self.old (λ log. IsFirstFlushed log.flushed_end log.closed) }
         ensures ok { IfOk result (λ answer. Drops D.content self.old self.new answer) }
@@ -417,7 +418,7 @@ impl<D: Disk> BrokerLog<D> {
         outcome
     }
 
-    /// Begins the local log anew at an offset, empty and durable, with this line.
+    /// Restarts the local log at an offset, empty and durable, with these leader epochs.
     pub fn restart_at(&mut self, start: u64, line: Line) -> Result<(), Trouble>
         requires up { IsTrue (is_up self.old) }
         requires low { start ≤ 2 ^ 62 }
@@ -463,15 +464,15 @@ impl<D: Disk> BrokerLog<D> {
         outcome
     }
 
-    /// Reads the run at an offset: the batch that holds it, and further ones that end at or below the mark and together
-    /// fit the limit, in bytes. The log is as it was also where the read failed.
+    /// Reads the run at an offset: the batch that holds it, and further ones that end at or below the high watermark
+    /// and together fit the limit, in bytes. The log is as it was also where the read failed.
     pub fn read_run(&mut self, offset: u64, limit: u64, mark: u64) -> Result<RunOut, ReadRefusal>
         requires start { WhileUp self.old (λ log. log.local_start ≤ offset) }
         requires below { offset < mark }
         ensures stays { Stays D.content self.old self.new }
         ensures ok { IfOk result (Reads D.content D.control self.old self.new offset limit mark) }
 
-        // Each cause. Where the disk is observable and a batch ends at the mark, nothing is damaged.
+        // Each cause. Where the disk is observable and a batch ends at the high watermark, nothing is damaged.
         ensures damaged { (name : FileName) (at : ℕ) → IsErrOf result (reading.Damaged name at)
             → Misreads D.content D.control self.old self.new offset limit mark name at }
         ensures refused { IfErr result (λ e. WhileUp self.old (λ log. OnDisk self.new (λ d.
@@ -535,14 +536,14 @@ impl<D: Disk> BrokerLog<D> {
         self.place = placed(settings, log, true);
     }
 
-    /// Opens the log of a broker that is down, and answers its end.
+    /// Opens the log of a broker that is down, and returns its end.
     pub fn up(&mut self) -> Result<u64, OpenRefusal>
         requires { is_up self.old ≡ false }
         ensures ok { IfOk result (λ end. ComesUp D.content self.old self.new end) }
         ensures refused { OnErr result (is_up self.new ≡ false) }
         ensures stays { OnErr result (Stays D.content self.old self.new) }
 
-        // Each cause, by what the disk handed last. Where the log is seen, or the files open, nothing is damaged.
+        // Each cause, by what the disk last returned. Where the log is seen, or the files open, nothing is damaged.
         ensures damaged { (name : FileName) (at : ℕ) → IsErrOf result (opening.Damaged name at)
             → Unopened D.content D.control self.old self.new name at }
         ensures last { IsErrOf result opening.LastIncarnation → IsSpent D.content D.control self.old self.new }

@@ -12,7 +12,7 @@ use std::{env, io};
 use tier_base::{StdSink, StdSource};
 use tiered_call::{OpenGate, Status, explained, folder, printed, script_source, tiered};
 
-/// Collects the words behind the program's name. A word that isn't text has no form.
+/// Collects the words after the program's name. A word that isn't text has no form.
 fn arguments(rt: &HostRuntime) -> Result<Vec<String>, Status> {
     let args = match env::args(rt) {
         Ok(args) => args,

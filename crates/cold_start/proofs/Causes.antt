@@ -33,7 +33,7 @@ use Rattle.cold_start.specs.declared.refusal.ColdRefusal.{ColdRefusal}
 use Rattle.cold_start.specs.declared.refusal.ColdRefusal.TheVariants.{RegistryFault, BadRegistry, Brokers, NoMemory}
 use Rattle.cold_start.proofs.Clearing.{last_same}
 
--- what holds of a value holds of one that it is told of
+-- what holds of a value holds of one that it is reported of
 pub if_ok_map : {T E : Type 0} (r : Result T E) (P Q : T → Type 0) → ((x : T) → P x → Q x) → IfOk r P → IfOk r Q
 if_ok_map (Ok x) P Q f h = f x h
 if_ok_map (Err e) P Q f h = tt
@@ -205,7 +205,7 @@ module _ {D S M : Type 0} (disk : DiskGhosts D) (meta : MetaGhosts M) where
     notes_last = λ is. lasts_same (meta.control m);
   }
 
-  -- disks and notes some calls later
+  -- disks and metadata events some calls later
   pub back_last : (disks : List D) (s : S) (m : M) (reg : D) (nows : List D) (t : S) (n : M) (why : ColdRefusal) → length nows ≡ length disks → AllLast disk.control disks nows → t ≡ s → Lasts (meta.control m) (meta.control n)
       → ComesBack disk meta disks s m reg nows t n reg why
   back_last disks s m reg nows t n why count last same notes = record {
@@ -224,7 +224,7 @@ module _ {D S M : Type 0} (disk : DiskGhosts D) (meta : MetaGhosts M) where
   back_armed disks s m reg nows t n r why (inr is) count lasts =
       record { count = count; registry = lasts; disks_last = λ other. absurd (cc (is, other)); store_same = λ other. absurd (cc (is, other)); notes_last = λ other. absurd (cc (is, other)) }
 
--- a registry's fault, or want of memory
+-- a registry's fault, or running out of memory
 pub registry_only : (why : Trouble) → (refusal_of_registry why ≡ RegistryFault) ⊎ (refusal_of_registry why ≡ NoMemory)
 registry_only trouble.Failed = inl refl
 registry_only trouble.NoMemory = inr refl
@@ -238,7 +238,7 @@ registry_dry trouble.Failed is = absurd (cc (is))
 registry_dry trouble.NoMemory is = refl
 
 module _ {D S M : Type 0} (disk : DiskGhosts D) (store : StoreGhosts S) (meta : MetaGhosts M) where
-  -- what devices stand for, and what an opening comes to, where the registry's disk was only read
+  -- what devices represent, and what an opening comes to, where the registry's disk was only read
   pub stands_read : (partition : PartitionId) (disks : List D) (s : S) (m : M) (old reg : D) (p : State) → KeepsFiles (disk.content old) (disk.content reg) → StandsFor disk store meta partition disks s m old p
       → StandsFor disk store meta partition disks s m reg p
   stands_read partition disks s m old reg p k h = record {

@@ -60,7 +60,7 @@ got_at (y ∷ ys) zero x lt is = ap Some (sym is)
 got_at (y ∷ ys) (suc i) x lt is = got_at ys i x (omega arith) is
 
 module _ {D : Type 0} (content : D → Content) (control : D → Control call_code) where
-  -- a disk some calls later, which tells as it did
+  -- a disk some calls later, which reports as it did
   pub record IsLater (old new : D) : Type 0 where
     pub lasts : Lasts (control old) (control new)
     pub is_observable : (content new).is_observable ≡ (content old).is_observable

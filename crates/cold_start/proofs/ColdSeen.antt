@@ -1,4 +1,4 @@
--- A partition as a power cut leaves it stands beside the state that is left.
+-- A partition as a power cut leaves it is beside the state that is left.
 use Rattle.std.proofs.Common.{◌≡◌, ◌∙◌, sym, ap, subst, refl, ℕ, zero, suc, ◌==◌, List, [], ◌∷◌, length, slice_get, Some, None, Bool, true, false, cond}
 use Rattle.std.specs.Prelude.{ℤ, map, replicate}
 use Rattle.tier_base.specs.Roll.{Rolled}

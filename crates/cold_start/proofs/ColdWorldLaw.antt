@@ -65,7 +65,7 @@ module _ {D : Type 0} (content : D → Content) (set : Settings) where
   nodes_shown [] [] (d ∷ disks) cut h = absurd cut
   nodes_shown (x ∷ xs) (y ∷ ys) [] cut h = absurd cut
 
--- the sides of a world that begins anew
+-- the tier states of a world that is reopened
 broker_tiers_cold : (broker_tiers : List BrokerTierState) → cold_broker_tiers (broker_tiers_seen broker_tiers) ≡ broker_tiers_seen (map (λ broker_tier. fresh_broker_tier) broker_tiers)
 broker_tiers_cold [] = refl
 broker_tiers_cold (broker_tier ∷ broker_tiers) = ap (λ (l : List BrokerTierIsSeen). broker_tier_seen fresh_broker_tier ∷ l) (broker_tiers_cold broker_tiers)
@@ -132,7 +132,7 @@ module _ {D S M : Type 0} (disk : DiskGhosts D) (store : StoreGhosts S) (meta : 
       few = subst (λ (notes : List Note). length notes + notes_left lists (replicate (length lists) fresh_actor_state) < 2 ^ 64) (sym k.shows_tier.notes) low;
     }
 
-  -- the journal has come to one plain state, whatever notes are left
+  -- the journal has come to one plain state, whatever metadata events are left
   pub same_plain : (opening : State) (w : Whole D S M) (l x : List Note) (a : IsCentral disk store (resolved meta) opening (whole_with w l)) (b : IsCentral disk store (resolved meta) opening (whole_with w x))
       → a.central.plain ≡ b.central.plain
   same_plain opening w l x a b = let is : Some a.central.plain ≡ Some b.central.plain = sym a.central.replays ∙ b.central.replays in cc (is)

@@ -1,4 +1,5 @@
--- Whatever moments of a step the devices' files are of, they stand for what is left of the state before it, or of that after it.
+-- Whatever moments of a step the devices' files are of, they represent what is left of the state before it, or of that
+-- after it.
 use Rattle.std.proofs.Common.{◌≡◌, ◌∙◌, ◌⊎◌, inl, inr, ⊎_elim, sym, ap, subst, refl, ℕ, zero, suc, ◌≤◌, List, [], ◌∷◌, length, slice_get, slice_set, Option, Some, arith}
 use Rattle.std.specs.Prelude.{IsTrue}
 use Rattle.tier_base.specs.declared.names.PartitionId.{PartitionId}

@@ -1,4 +1,5 @@
--- What a power cut leaves of an open partition stands for what is left of the plain state, since the file of its registry is there.
+-- What a power cut leaves of an open partition represents what is left of the plain state, since the file of its
+-- registry is there.
 use Rattle.std.proofs.Common.{◌≡◌, ◌∙◌, inl, inr, sym, subst, refl, ℕ, ◌≤◌, List, [], ◌∷◌, length, Option, Some}
 use Rattle.std.specs.Prelude.{Ok, IsTrue, IsSomeAnd}
 use Rattle.tier_base.specs.declared.names.PartitionId.{PartitionId}
@@ -107,7 +108,7 @@ module _ {D S M : Type 0} (laws : FileLaws) (disk : DiskGhosts D) (store : Store
           | inr new ↦ inr (stands_by opening w c disks s m r left.logs left.objects left.notes (left.file.is_observable told) new more fewer)
         ]
 
-  -- the devices that a closed world gives back stand for what is left of its plain state
+  -- the devices that a closed world gives back represent what is left of its plain state
   pub closed_cold : (opening : State) (w : Whole D S M) (c : IsCentralLeft disk store meta opening w) (disks : List D) (s : S) (m : M) (r : D) → AreDisksOf w.held.nodes disks → DisksReopen disk.content w.held.nodes disks
       → s ≡ w.tier.store → m ≡ w.tier.meta → IsTrue (disk.content r).is_observable → (disk.content r).files RegistryName ≡ Some (registry_bytes w.held.registry)
       → 1 ≤ length w.held.registry.replicas → length w.held.registry.replicas ≤ 8 → StandsFor disk store meta w.partition disks s m r (cold_of (plain_in disk store meta opening w c))

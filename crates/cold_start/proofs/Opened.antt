@@ -1,4 +1,4 @@
--- What an opening makes of what the devices stand for.
+-- What an opening makes of what the devices represent.
 use Rattle.std.proofs.Common.{◌≡◌, ◌∙◌, ◌⊎◌, inl, inr, sym, ap, subst, refl, ℕ, ◌<◌, ◌≤◌, List, [], length, Option, Some, None, arith}
 use Rattle.std.specs.Prelude.{◌^◌, Ok, IsTrue, IsSomeAnd}
 use Rattle.tier_base.specs.declared.names.PartitionId.{PartitionId}
@@ -59,7 +59,7 @@ module _ {D S M : Type 0} (disk : DiskGhosts D) (store : StoreGhosts S) (meta : 
   cut_notes : (m n : M) → KeepsNotes (meta.content m) (meta.content n) → IsCutLog (meta.content m) (meta.content n)
   cut_notes m n k = record { is_observable = λ told. subst IsTrue (sym k.is_observable) told; left = k.left }
 
-  -- it goes on after the notes were read
+  -- it continues after the metadata events were read
   pub stand_recorded : (partition : PartitionId) (disks : List D) (s : S) (m n : M) (reg : D) (p : State) → StandsFor disk store meta partition disks s m reg p → KeepsNotes (meta.content m) (meta.content n)
       → (l : List Note) → Left (meta.content n) l → StandCold disk store meta partition p.registry disks s n p l
   stand_recorded partition disks s m n reg p h k =
@@ -73,7 +73,7 @@ module _ {D S M : Type 0} (disk : DiskGhosts D) (store : StoreGhosts S) (meta : 
   pub notes_told : (partition : PartitionId) (disks : List D) (s : S) (m : M) (reg : D) (p : State) → StandsFor disk store meta partition disks s m reg p → IsTrue (meta.content m).is_observable
   notes_told partition disks s m reg p h = (h.stand (meta.content m).notes (inl refl)).meta_tells
 
-  -- the notes that were read are the only ones left, and can be counted
+  -- the metadata events that were read are the only ones left, and can be counted
   pub cold_recorded : (partition : PartitionId) (disks : List D) (s : S) (m n : M) (reg : D) (p : State) (registry : Registry) → StandsFor disk store meta partition disks s m reg p → KeepsNotes (meta.content m) (meta.content n)
       → (IsTrue (meta.content m).is_observable → LeavesTold (meta.content n)) → (IsTrue (meta.content m).is_observable → length (meta.content n).notes ≤ 2 ^ 59) → registry ≡ p.registry
       → AreCold disk store meta partition registry disks s n p
@@ -87,7 +87,7 @@ module _ {D S M : Type 0} (disk : DiskGhosts D) (store : StoreGhosts S) (meta : 
             subst (λ (x : List Note). length x < 2 ^ 63) (sym (settled told l at)) small;
       }
 
-  -- devices that hold nothing, after the notes were read
+  -- devices that hold nothing, after the metadata events were read
   pub blank_recorded : (s : S) (m n : M) (reg : D) → IsBlank disk store meta s m reg → KeepsNotes (meta.content m) (meta.content n) → IsBlank disk store meta s n reg
   blank_recorded s m n reg b k = record {
     file_tells = b.file_tells;
@@ -117,7 +117,7 @@ module _ {D S M : Type 0} (disk : DiskGhosts D) (store : StoreGhosts S) (meta : 
       let armed = blank_armed partition config lists disks s n reg reg w b f b.file_tells b.file in
       record { logs = seen; store_tells = armed.store_tells; objects = armed.objects; meta_tells = armed.meta_tells; notes = armed.notes }
 
-  -- and a power cut leaves no notes
+  -- and a power cut leaves no metadata events
   pub told_alone : (n t : M) → KeepsNotes (meta.content n) (meta.content t) → LeavesTold (meta.content n) → LeavesTold (meta.content t)
   told_alone n t k told l at = told l (k.left l at) ∙ sym k.notes
 
@@ -128,7 +128,8 @@ module _ {D S M : Type 0} (disk : DiskGhosts D) (store : StoreGhosts S) (meta : 
       let is : replay w.lists opening [] ≡ Some now.central.plain = subst (λ (j : List JournalEntry). replay w.lists opening j ≡ Some now.central.plain) empty now.central.replays in
       cc (is)
 
-  -- a fresh world whose registry couldn't be written leaves devices that hold nothing, or stand for what is left of the beginning
+  -- a fresh world whose registry couldn't be written leaves devices that hold nothing, or represent what is left of the
+  -- beginning
   pub begun_stands : (laws : FileLaws) (partition : PartitionId) (config : Config) (lists : List ActorList) (cleared : List D) (s : S) (n : M) (reg : D) (w : Whole D S M) (opening : State) (disks : List D) (t : S) (m : M) (r : D) (why : ColdRefusal)
       → IsBlank disk store meta s n reg → IsFresh disk store meta partition config lists cleared s n w → IsCentralLeft disk store meta opening w → GivesBack disk w reg disks t m r why
       → IsBlank disk store meta t m r ⊎ StandsFor disk store meta partition disks t m r (cold_of opening)

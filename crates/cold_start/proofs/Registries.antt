@@ -1,4 +1,4 @@
--- The registry of a partition whose devices tell keeps the rules of its file.
+-- The registry of a partition whose devices are observable keeps the rules of its file.
 use Rattle.std.proofs.Common.{◌≡◌, ◌∙◌, sym, ap, subst, refl, ℕ, zero, suc, ◌≤◌, true, List, [], ◌∷◌, length, Option, Some, slice_get, arith}
 use Rattle.std.specs.Prelude.{map, IsSomeAnd, ◌^◌}
 use Rattle.std.specs.List.{AllByRecursion}

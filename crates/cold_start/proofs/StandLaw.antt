@@ -1,4 +1,4 @@
--- What a power cut of everything leaves of the devices stands for what it leaves of the plain state.
+-- What a power cut of everything leaves of the devices represents what it leaves of the plain state.
 use Rattle.std.proofs.Common.{◌≡◌, ◌∙◌, inl, sym, ap, subst, refl, ℕ, suc, List, [], ◌∷◌, length}
 use Rattle.std.specs.Prelude.{◌^◌, ◌<◌, map, pos, replicate, IsTrue}
 use Rattle.tier_base.specs.declared.names.PartitionId.{PartitionId}
@@ -81,7 +81,7 @@ module _ {D : Type 0} (content : D → Content) where
   left_as [] (d ∷ disks) cut = absurd cut
   left_as (x ∷ xs) [] cut = absurd cut
 
--- as many sides as brokers are seen, or more
+-- as many tier states as brokers are seen, or more
 broker_tiers_anew : (nodes : List seen.Node) (broker_tiers : List BrokerTierIsSeen) → length (tier_views_of nodes broker_tiers) ≡ length nodes → tier_views_of (map cold_node nodes) (cold_broker_tiers broker_tiers) ≡ tier_views_of (map cold_node nodes) (replicate (length nodes) fresh_seen)
 broker_tiers_anew [] broker_tiers e = refl
 broker_tiers_anew (x ∷ nodes) [] e = absurd cc

@@ -11,11 +11,11 @@ use Rattle.plain_log.specs.declared.state.Role.TheVariants.{Idle}
 use Rattle.remote_view.specs.Fold.{view_of}
 use Rattle.tier_safe.specs.Scene.{BrokerTierView, TierTask, Scene}
 
--- a broker's side that is down and knows nothing of the tier
+-- a broker's tier state that is down and knows nothing of the tier
 abbrev pub cold_tier_view : BrokerTierView → BrokerTierView
 cold_tier_view tier_view = record tier_view { up = false; next = 0; view = view_of []; cache = [] }
 
--- all sides are, and the desk is free
+-- all tier states are, and the desk is free
 abbrev pub cold_scene : Scene → List TierTask → Scene
 cold_scene c desk = record c { tier_views = map cold_tier_view c.tier_views; desk = desk }
 
@@ -23,7 +23,7 @@ cold_scene c desk = record c { tier_views = map cold_tier_view c.tier_views; des
 abbrev pub cold_node : Node → Node
 cold_node x = record x { up = false; stops = 0; role = Idle; known_high_watermark = 0 }
 
--- all are, and the clock is set anew
+-- all are, and the clock is set again
 abbrev pub cold_held : SeenPartition → ℤ → SeenPartition
 cold_held h clock = record h { nodes = map cold_node h.nodes; clock = clock }
 

@@ -38,7 +38,7 @@ pub record IsCutDisk (old new : Content) : Type 0 where
   pub is_observable : IsTrue old.is_observable → IsTrue new.is_observable
   pub images : (c : Files) → Image new c → Image old c
 
--- a metadata log after it: it tells notes that were left, and no others are left
+-- a metadata log after it: it reports metadata events that were left, and no others are left
 pub record IsCutLog (old new : NotesContent) : Type 0 where
   pub is_observable : IsTrue old.is_observable → IsTrue new.is_observable
   pub left : (l : List Note) → Left new l → Left old l
@@ -103,24 +103,24 @@ module _ {D S M : Type 0} (disk : DiskGhosts D) (store : StoreGhosts S) (meta : 
       → ((l : List Note) → Left (meta.content m) l → length l + notes_left lists (replicate (length lists) fresh_actor_state) < 2 ^ 64)
       → IsCentralLeft disk store meta (cold_of (plain_in opening w c)) (reopened config w lists journal disks s m)
 
-  -- after a power cut of everything between two turns what is left of the devices stands for what is left of the plain state, with
-  -- whatever notes a further power cut may leave
+  -- after a power cut of everything between two turns what is left of the devices represents what is left of the plain
+  -- state, with whatever metadata events a further power cut may leave
   abbrev pub PowerCutLeavesCold : Type 0
   PowerCutLeavesCold = (opening : State) (w : Whole D S M) (disks : List D) (s : S) (m : M) (c : IsCentralLeft disk store meta opening w)
       → LeaveDisks disk.content w.held.nodes disks → IsCutStore (store.content w.tier.store) (store.content s)
       → IsCutLog (meta.content w.tier.meta) (meta.content m) → (l : List Note) → Left (meta.content m) l
       → StandCold disk store meta w.partition w.held.registry disks s m (cold_of (plain_in opening w c)) l
 
-  -- a power cut of devices that stand for a plain state leaves devices that stand for it
+  -- a power cut of devices that represent a plain state leaves devices that represent it
   abbrev pub PowerCutKeepsCold : Type 0
   PowerCutKeepsCold = (partition : PartitionId) (registry : Registry) (disks nows : List D) (s : S) (m : M) (t : S) (n : M) (p : State)
       → ((l : List Note) → Left (meta.content m) l → StandCold disk store meta partition registry disks s m p l)
       → AreCut disk.content disks nows → IsCutStore (store.content s) (store.content t) → IsCutLog (meta.content m) (meta.content n)
       → (l : List Note) → Left (meta.content n) l → StandCold disk store meta partition registry nows t n p l
 
-  -- A run goes on after a power cut of everything between two turns: over what is left of the devices, with the registry as it was, a
-  -- world begins anew, and whatever a schedule reaches from it has a journal that is a run of the plain log from what is left of the
-  -- plain state.
+  -- A run continues after a power cut of everything between two turns: over what is left of the devices, with the
+  -- registry as it was, a world is reopened, and whatever a schedule reaches from it has a journal that is a run of the
+  -- plain log from what is left of the plain state.
   abbrev pub RunsGoOn : Type 0
   RunsGoOn = (opening : State) (w : Whole D S M) (config : Config) (lists : List ActorList) (disks : List D) (s : S) (m : M)
       (v : Whole D S M) (schedule : List Pace) (v' : Whole D S M) (c : IsCentralLeft disk store meta opening w)

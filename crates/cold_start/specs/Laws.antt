@@ -33,7 +33,7 @@ abbrev pub ColdIsCentral : Type 0
 ColdIsCentral = (opening : State) (w : Whole) (clock : ℤ) (lists : List ActorList) (journal : Rolled JournalEntry) (c : IsCentral opening w)
     → AreRising lists → journal.items ≡ [] → IsCentral (cold_of c.plain) (cold_whole w clock lists journal)
 
--- the sides of the brokers that are left are those of the tier that is left
+-- the tier states of the brokers that are left are those of the tier that is left
 abbrev pub ColdBrokerTiersAreSeen : Type 0
 ColdBrokerTiersAreSeen = (nodes : List Node) (broker_tiers : List BrokerTierModel) → tier_views_of (map cold_node nodes) (cold_broker_tiers broker_tiers) ≡ map cold_tier_view (tier_views_of nodes broker_tiers)
 

@@ -4,7 +4,7 @@
 --   IsCutSince old now new     a disk after it: it has the files that one moment since old left, and no others
 --   LeaveSince xs ys disks     so has each broker's
 --   IsLeftSince v r0 w r ..    a power cut of everything may leave these devices of a partition in the course of the step
---   LeavesDuring opening ..    they stand for what is left of the plain state before the step, or of that after it
+--   LeavesDuring opening ..    they represent what is left of the plain state before the step, or of that after it
 --   GoesThrough us t t'        steps lead from t to t' through these, and in the course of each that holds
 --   RunsThrough t t'           so through some
 --   StepsWorkOnOne             a step works on one device at most
@@ -75,14 +75,14 @@ module _ {D S M : Type 0} (disk : DiskGhosts D) (store : StoreGhosts S) (meta : 
     pub notes : IsCutLog (meta.content v.tier.meta) (meta.content m) ⊎ IsCutLog (meta.content w.tier.meta) (meta.content m)
     pub file : IsCutSince (disk.content reg) (disk.content now) (disk.content r)
 
-  -- they stand for what is left of the plain state before the step, or of that after it
+  -- they represent what is left of the plain state before the step, or of that after it
   abbrev pub LeavesDuring : State → Whole D S M → D → Whole D S M → D → Type 0
   LeavesDuring opening v reg w now = (b : IsCentralLeft disk store meta opening v) (c : IsCentralLeft disk store meta opening w)
       (disks : List D) (s : S) (m : M) (r : D) → IsLeftSince v reg w now disks s m r
       → StandsFor disk store meta w.partition disks s m r (cold_of (plain_in disk store meta opening v b))
       ⊎ StandsFor disk store meta w.partition disks s m r (cold_of (plain_in disk store meta opening w c))
 
-  -- a step in the course of which that holds, where the registry's disk tells
+  -- a step in the course of which that holds, where the registry's disk reports
   abbrev pub GoesSafely : Running D S M → Running D S M → Type 0
   GoesSafely t t' = IsTrue (disk.content t.reg).is_observable → (opening : State) → LeavesDuring opening t.world t.reg t'.world t'.reg
 

@@ -2,7 +2,7 @@
 --
 --   form                 says
 --   Starts .. t          it began at the beginning, over disks whose files it removed
---   Continues .. t       it began anew with the registry that it read
+--   Continues .. t       it began again with the registry that it read
 --   IsOpened .. t        one of these
 --   says asked view      what the registry's file makes of an opening that asks for so many brokers
 --   HasCause .. why      a refusal comes of this
@@ -109,7 +109,7 @@ module _ {D S M : Type 0} (disk : DiskGhosts D) (store : StoreGhosts S) (meta : 
     pub notes_last : Lasts (meta.control m) (meta.control recorded)
     pub fresh : IsFresh disk store meta partition config lists cleared s recorded t.world
 
-  -- the registry was read: the world begins anew with it, over the disks as they were
+  -- the registry was read: the world is reopened with it, over the disks as they were
   pub record Continues (partition : PartitionId) (config : Config) (lists : List ActorList) (disks : List D) (s : S) (m : M) (reg : D)
       (t : Running D S M) : Type 0 where
     pub view : RegView
@@ -126,16 +126,16 @@ module _ {D S M : Type 0} (disk : DiskGhosts D) (store : StoreGhosts S) (meta : 
       Starts partition config lists disks s m reg t ⊎ Continues partition config lists disks s m reg t
 
 module _ {D M : Type 0} (disk : DiskGhosts D) (meta : MetaGhosts M) where
-  -- A refusal comes of this. The first device list is as it was handed in, the second as it is given back.
+  -- A refusal comes of this. The first device list is as it was passed in, the second as it is given back.
   pub record HasCause (config : Config) (disks : List D) (m : M) (reg : D) (nows : List D) (n : M) (r : D) (why : ColdRefusal)
       : Type 0 where
     pub registry_fault : why ≡ RegistryFault → Rose (disk.control reg).faults (disk.control r).faults
     pub device_fault : why ≡ DeviceFault → OneFailed disk.control disks nows ⊎ Rose (meta.control m).faults (meta.control n).faults
     pub bad_registry : (at : ℕ) → why ≡ BadRegistry at → says config.brokers (view_in (disk.control r).last_read) ≡ Some why
     pub brokers : (kept asked : ℕ) → why ≡ Brokers kept asked → says config.brokers (view_in (disk.control r).last_read) ≡ Some why
-    -- what was handed is the file
+    -- what was returned is the file
     pub last_read : IsSaid why → IsTrue (disk.content reg).is_observable → (disk.content reg).files RegistryName ≡ Some (disk.control r).last_read
-    -- what the file says comes before all but a fault of its disk, and want of memory
+    -- what the file says comes before all but a fault of its disk, and running out of memory
     pub told : IsTrue (disk.content reg).is_observable → (bytes : List ℕ) (said : ColdRefusal)
         → (disk.content reg).files RegistryName ≡ Some bytes → says config.brokers (view_in bytes) ≡ Some said
         → (why ≡ said) ⊎ ((why ≡ RegistryFault) ⊎ (why ≡ NoMemory))

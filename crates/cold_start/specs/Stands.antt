@@ -1,10 +1,10 @@
--- What the devices of a partition stand for while it isn't open, and what a power cut leaves of those of one that is.
+-- What the devices of a partition represent while it isn't open, and what a power cut leaves of those of one that is.
 --
 --   form                   says
---   StandsFor .. p         the devices, with whatever notes a power cut now may leave, are those of the plain state p
---   IsBlank ..             they hold nothing of a partition: no registry, no object and no note
+--   StandsFor .. p         the devices, with whatever metadata events a power cut now may leave, are those of the plain state p
+--   IsBlank ..             they hold nothing of a partition: no registry, no object and no metadata event
 --   IsLeft w reg ..        a power cut of everything may leave these devices of an open partition
---   LeavesCold w reg       whatever it leaves stands for what is left of the plain state that the journal has come to
+--   LeavesCold w reg       whatever it leaves represents what is left of the plain state that the journal has come to
 --   LeavesOneOf w v reg    for that of one world or that of the other
 use Rattle.std.specs.Prelude.{◌≡◌, ◌⊎◌, List, None, IsTrue}
 use Rattle.tier_base.specs.declared.names.PartitionId.{PartitionId}
@@ -24,8 +24,8 @@ use Rattle.cold_state.specs.Cold.{cold_of}
 use Rattle.cold_start.specs.ColdWorld.{IsCutDisk, IsCutStore, IsCutLog, LeaveDisks, plain_in}
 
 module _ {D S M : Type 0} (disk : DiskGhosts D) (store : StoreGhosts S) (meta : MetaGhosts M) where
-  -- The registry's file reads as the plain state's registry, and with it the brokers' disks, the store and the metadata log are those
-  -- of that state, with whatever notes a power cut now may leave.
+  -- The registry's file reads as the plain state's registry, and with it the brokers' disks, the store and the metadata
+  -- log are those of that state, with whatever metadata events a power cut now may leave.
   pub record StandsFor (partition : PartitionId) (disks : List D) (s : S) (m : M) (reg : D) (p : State) : Type 0 where
     pub file_tells : IsTrue (disk.content reg).is_observable
     pub file : HasFile (disk.content reg).files p.registry
@@ -47,12 +47,12 @@ module _ {D S M : Type 0} (disk : DiskGhosts D) (store : StoreGhosts S) (meta : 
     pub notes : IsCutLog (meta.content w.tier.meta) (meta.content m)
     pub file : IsCutDisk (disk.content reg) (disk.content r)
 
-  -- they stand for what is left of the plain state that the journal has come to
+  -- they represent what is left of the plain state that the journal has come to
   abbrev pub LeavesCold : State → Whole D S M → D → Type 0
   LeavesCold opening w reg = (c : IsCentralLeft disk store meta opening w) (disks : List D) (s : S) (m : M) (r : D)
       → IsLeft w reg disks s m r → StandsFor w.partition disks s m r (cold_of (plain_in disk store meta opening w c))
 
-  -- they stand for what is left of one plain state or of the other
+  -- they represent what is left of one plain state or of the other
   abbrev pub LeavesOneOf : State → Whole D S M → Whole D S M → D → Type 0
   LeavesOneOf opening v w reg = (b : IsCentralLeft disk store meta opening v) (c : IsCentralLeft disk store meta opening w)
       (disks : List D) (s : S) (m : M) (r : D) → IsLeft w reg disks s m r

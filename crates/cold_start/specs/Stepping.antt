@@ -50,8 +50,8 @@ module _ {D S M : Type 0} (disk : DiskGhosts D) (store : StoreGhosts S) (meta : 
       → (w'.held.registry ≡ w.held.registry)
       ⊎ (SameDevices w w' × (length w'.held.registry.replicas ≡ length w.held.registry.replicas))
 
-  -- Steps that found no memory, or the last of which ended the partition. Then a power cut leaves what stands for the state before that
-  -- step or after it.
+  -- Steps that found no memory, or the last of which ended the partition. Then a power cut leaves what represents the
+  -- state before that step or after it.
   abbrev pub Halts : Running D S M → Running D S M → ColdRefusal → Type 0
   Halts t t' why = ((why ≡ NoMemory) × (t'.ended ≡ false))
       ⊎ ((w : Whole D S M) × IsLater disk store meta t.world w × Ends disk t.reg w t' why

@@ -1,4 +1,4 @@
--- What a sweep between two runs makes of a world where no command is under way.
+-- What a sweep between two runs makes of a world where no command is in progress.
 use Rattle.std.specs.Prelude.{◌≡◌, ◌+◌, ◌^◌, ◌<◌, List, length, replicate}
 use Rattle.disk_model.specs.declared.disk.Disk.{Ghosts as DiskGhosts}
 use Rattle.object_store.specs.Content as objects
@@ -37,6 +37,6 @@ module _ {D S M : Type 0} (disk : DiskGhosts D) (store : StoreGhosts S) (meta : 
       → ((l : List Note) → Left (meta.content m) l → length l + notes_left w.lists w.desk < 2 ^ 64)
       → IsCentralLeft disk store meta opening (with_devices w s m)
 
--- a store that is handed out with each object that it had is as a power cut leaves it
+-- a store that is provided with each object that it had is as a power cut leaves it
 abbrev pub KeptStoreIsCut : Type 0
 KeptStoreIsCut = (old new : objects.Content) → objects.Keeps old new → IsCutStore old new

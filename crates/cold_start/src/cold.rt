@@ -51,7 +51,7 @@ impl<D: Disk, S: Store, M: MetaLog> Model for Cold<D, S, M> {
     ghost invariant = { λ t. IsKept D.content D.control (record { world = t.world; reg = t.reg; ended = t.ended }) };
 }
 
-/// What a step is answered whose registry couldn't be kept.
+/// What a step returns whose registry couldn't be kept.
 pub(crate) fn registry_refusal(why: Trouble) -> ColdRefusal
     ensures { result ≡ refusal_of_registry why }
 {
@@ -84,8 +84,8 @@ impl<D: Disk, S: Store, M: MetaLog> Cold<D, S, M> {
         self.ended
     }
 
-    /// What a power cut now leaves stands for what is left of the plain state that the journal has come to. It does nothing that is
-    /// seen.
+    /// What a power cut now leaves represents what is left of the plain state that the journal has come to. It does
+    /// nothing that is seen.
     pub fn leaves(&self)
         ensures file { self.now.ended ≡ false → KeepsFile (D.content self.now.reg) self.now.world.held.registry }
         ensures unarmed { (D.control self.now.reg).armed ≡ false }
@@ -106,7 +106,8 @@ impl<D: Disk, S: Store, M: MetaLog> Cold<D, S, M> {
         ensures quiet { self.new.world.held.registry ≡ self.old.world.held.registry → self.new.reg ≡ self.old.reg }
         ensures err { IfErr result (λ why. Ends D.Disk self.old.reg self.old.world self.new why) }
 
-        // Whatever it answers, the world is a later one, and a power cut leaves what stands for the state before or after it.
+        // Whatever it answers, the world is a later one, and a power cut leaves what represents the state before or
+        // after it.
         ensures later { IsLater D.Disk S.Store M.MetaLog self.old.world self.new.world }
         ensures control { Lasts (D.control self.old.reg) (D.control self.new.reg) }
         ensures is_observable { (D.content self.new.reg).is_observable ≡ (D.content self.old.reg).is_observable }
@@ -147,7 +148,7 @@ impl<D: Disk, S: Store, M: MetaLog> Cold<D, S, M> {
         ensures count { length result.0.disks.items ≡ self.world.config.brokers }
         ensures unarmed { (D.control result.1).armed ≡ false }
 
-        // They stand for what is left of the plain state that the journal has come to.
+        // They represent what is left of the plain state that the journal has come to.
         ensures cold { self.ended ≡ false → IsTrue (D.content self.reg).is_observable → (opening : State)
             (c : IsCentralLeft D.Disk S.Store M.MetaLog opening self.world)
             → StandsFor D.Disk S.Store M.MetaLog self.world.partition result.0.disks.items result.0.store result.0.meta result.1

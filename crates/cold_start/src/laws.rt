@@ -33,8 +33,8 @@ pub fn cold_broker_tiers_are_seen()
     ensures { ColdBrokerTiersAreSeen }
 {}
 
-/// After a power cut of everything between two turns, a world that begins anew over what it left has
-/// the central fact for what is left of the plain state, whatever notes are left.
+/// After a power cut of everything between two turns, a world that is reopened over what it left has the central fact
+/// for what is left of the plain state, whatever metadata events are left.
 pub fn a_power_cut_keeps_central<D: Disk, S: Store, M: MetaLog>()
     ensures { PowerCutKeepsCentral D.Disk S.Store M.MetaLog }
 {}
@@ -45,7 +45,7 @@ pub fn a_sweep_keeps_central<D: Disk, S: Store, M: MetaLog>()
     ensures { SweepKeepsCentral D.Disk S.Store M.MetaLog }
 {}
 
-/// A store that is handed out anew with each object that it had is as a power cut leaves it.
+/// A store that is provided again with each object that it had is as a power cut leaves it.
 pub fn a_kept_store_is_cut()
     ensures { KeptStoreIsCut }
 {}
@@ -55,12 +55,12 @@ pub fn a_crashed_disk_is_cut<D: Disk>()
     ensures { CrashedDiskIsCut D.Disk }
 {}
 
-/// A disk that is handed out anew with each file that it had is as a power cut leaves it.
+/// A disk that is provided again with each file that it had is as a power cut leaves it.
 pub fn a_kept_disk_is_cut<D: Disk>()
     ensures { KeptDiskIsCut D.Disk }
 {}
 
-/// A metadata log that is handed out anew with each note that it had is as a power cut leaves it.
+/// A metadata log that is provided again with each metadata event that it had is as a power cut leaves it.
 pub fn a_kept_log_is_cut<M: MetaLog>()
     ensures { KeptLogIsCut M.MetaLog }
 {}
@@ -71,13 +71,13 @@ pub fn a_reopened_log_is_cut<D: Disk>()
     ensures { ReopenedLogIsCut D.Disk }
 {}
 
-/// A power cut of everything between two turns leaves devices that stand for what is left of the plain
-/// state, whatever notes a further power cut leaves.
+/// A power cut of everything between two turns leaves devices that represent what is left of the plain state, whatever
+/// metadata events a further power cut leaves.
 pub fn a_power_cut_leaves_cold<D: Disk, S: Store, M: MetaLog>()
     ensures { PowerCutLeavesCold D.Disk S.Store M.MetaLog }
 {}
 
-/// A power cut of devices that stand for a plain state leaves devices that stand for it.
+/// A power cut of devices that represent a plain state leaves devices that represent it.
 pub fn a_power_cut_keeps_cold<D: Disk, S: Store, M: MetaLog>()
     ensures { PowerCutKeepsCold D.Disk S.Store M.MetaLog }
 {}

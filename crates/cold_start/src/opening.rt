@@ -39,7 +39,7 @@ use registry_disk::{find_registry, keep_registry};
 use std::alloc::Global;
 use tier_base::{FileName, PartitionId, Row, Trouble};
 
-/// No log has as many notes: each takes 33 bytes at least of a file whose length is below 2^63.
+/// No log has as many metadata events: each takes 33 bytes at least of a file whose length is below 2^63.
 const NOTES_BOUND: u64 = 1 << 59;
 
 fn device_refusal(why: Trouble) -> ColdRefusal
@@ -107,7 +107,8 @@ fn clear_all<D: Disk>(disks: &mut Vec<D>) -> Result<(), Trouble>
     Ok(())
 }
 
-/// Makes sure that the notes which a metadata log reads are the only ones that a power cut leaves, and that they can be counted.
+/// Makes sure that the metadata events which a metadata log reads are the only ones that a power cut leaves, and that
+/// they can be counted.
 fn settle_notes<M: MetaLog>(meta: &mut M) -> Result<(), Trouble>
     ensures settled { OnOk result (IsTrue (M.content meta.old).is_observable → LeavesTold (M.content meta.new)) }
     ensures few { OnOk result (IsTrue (M.content meta.old).is_observable → length (M.content meta.new).notes ≤ 2 ^ 59) }
@@ -144,8 +145,8 @@ impl<D: Disk, S: Store, M: MetaLog> Cold<D, S, M> {
         ensures is_observable { IfOk result (λ t. (D.content t.reg).is_observable ≡ (D.content reg).is_observable) }
         ensures new { IfOk result (λ t. IsNew lists t.world) }
 
-        // For each plain state that the devices stand for its journal is a run from there on, and so it is from the beginning
-        // where they hold nothing.
+        // For each plain state that the devices represent its journal is a run from there on, and so it is from the
+        // beginning where they hold nothing.
         ensures central { IfOk result (λ t. (p : State) → StandsFor D.Disk S.Store M.MetaLog partition devices.disks.items
             devices.store devices.meta reg p → IsCentralLeft D.Disk S.Store M.MetaLog p t.world) }
         ensures blank { IfOk result (λ t. DisksTell D.content devices.disks.items
@@ -154,7 +155,7 @@ impl<D: Disk, S: Store, M: MetaLog> Cold<D, S, M> {
         ensures cold { IfOk result (λ t. IsTrue (D.content t.reg).is_observable → (opening : State)
             → LeavesCold D.Disk S.Store M.MetaLog opening t.world t.reg) }
 
-        // A refusal has its cause, and leaves devices that stand for what they stood for.
+        // A refusal has its cause, and leaves devices that represent what they represented.
         ensures cause { IfErr result (λ e. HasCause D.Disk M.MetaLog config devices.disks.items devices.meta reg
             e.0.disks.items e.0.meta e.1 e.2) }
         ensures back { IfErr result (λ e. ComesBack D.Disk M.MetaLog devices.disks.items devices.store devices.meta reg
@@ -261,7 +262,7 @@ impl<D: Disk, S: Store, M: MetaLog> Cold<D, S, M> {
         }
     }
 
-    /// Begins anew with the registry that the disk has.
+    /// Starts again with the registry that the disk has.
     fn go_on(
         alloc: Global,
         partition: PartitionId,

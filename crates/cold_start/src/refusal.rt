@@ -5,7 +5,8 @@ ghost use Rattle.std.specs.Prelude.{◌≡◌};
 use registry_disk::FindRefusal;
 use thiserror::Error;
 
-/// Why a partition wasn't opened, or can't go on. What the registry's file says is told before the other devices are asked.
+/// Why a partition wasn't opened, or can't continue. What the registry's file says is reported before the other devices
+/// are asked.
 #[derive(Clone, Copy, Debug, PartialEq, Eq, Drop, Error)]
 pub enum ColdRefusal {
     /// A call of the registry's disk failed.

@@ -10,7 +10,7 @@ use Rattle.plain_log.specs.declared.state.State.{State}
 use Rattle.plain_log.specs.Safe.{PlainSafe, BrokerSafe, KnownSafe, AckSafe, SharedTo, current}
 use Rattle.cold_state.specs.Cold.{cold_broker, cold_of}
 
--- what stands in such a list was made of what stood there
+-- what is in such a list was made of what was there
 pub record Made {A B : Type 0} (f : A → B) (xs : List A) (k : ℕ) (y : B) : Type 0 where
   pub x : A
   pub there : slice_get xs k ≡ Some x

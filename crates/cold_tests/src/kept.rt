@@ -16,8 +16,8 @@ use std::alloc::Global;
 use tier_base::PartitionId;
 use trace_text::print;
 
-/// The disks of two brokers, the second of which a script of one broker doesn't use, the store, the disk of the notes, and that
-/// of the registry.
+/// The disks of two brokers, the second of which a script of one broker doesn't use, the store, the disk of the
+/// metadata events, and that of the registry.
 #[derive(Drop)]
 pub(crate) struct Kept {
     pub(crate) first: MemoryDisk,
@@ -27,7 +27,7 @@ pub(crate) struct Kept {
     pub(crate) reg: MemoryDisk,
 }
 
-/// How a run ended, and what its journal tells. One that wasn't begun has no text.
+/// How a run ended, and what its journal reports. One that wasn't begun has no text.
 #[derive(Drop)]
 pub(crate) struct Ran {
     pub(crate) refusal: Option<ColdRefusal>,
@@ -59,7 +59,7 @@ impl Kept {
     }
 }
 
-/// Hands a disk out anew. With a fuse it lets so many calls pass and fails every one after them.
+/// Provides a disk again. With a fuse it lets so many calls pass and fails every one after them.
 fn renewed(alloc: Global, disk: MemoryDisk, fuse: Option<u64>) -> MemoryDisk
     ensures { IsUnarmed ⟦<MemoryDisk as Disk>⟧.control result }
 {

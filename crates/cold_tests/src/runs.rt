@@ -6,7 +6,7 @@ use disk_model::Disk;
 use std::alloc::Global;
 use tier_base::FileName;
 
-/// Whether these words stand somewhere in a text.
+/// Whether these words are somewhere in a text.
 fn has(text: &[u8], words: &[u8]) -> bool {
     for at in 0..text.len() {
         if text[at..].starts_with(words) {
@@ -31,7 +31,7 @@ fn committed() -> &'static [u8] {
     b"segment_bytes 200\n0 0 0 append 1000,-,:a\n0 0 0 append 1000,-,:b\n0 0 0 append 1000,-,:c\n0 0 0 flush\n0 0 0 ack\n"
 }
 
-/// The leader comes up again, leads another epoch, serves what is there and copies it.
+/// The leader starts again, leads another epoch, serves what is there and copies it.
 fn again() -> &'static [u8] {
     b"segment_bytes 200\n0 0 0 elect\n0 0 0 up\n0 0 0 learn\n0 0 0 elect\n0 0 0 learn\n0 0 0 fetch 0 1000\n0 0 0 copy\n"
 }
@@ -93,7 +93,7 @@ fn tiered() -> &'static [u8] {
     b"segment_bytes 200\nlocal_retention_bytes 0\n0 0 0 append 1000,-,:a\n0 0 0 append 1000,-,:b\n0 0 0 append 1000,-,:c\n0 0 0 flush\n0 0 0 ack\n0 0 0 trim\n0 0 0 copy\n0 0 0 trim\n0 0 0 fetch 0 1000\n0 0 0 fetch 1 1000\n"
 }
 
-/// The leader comes up again and serves what is there.
+/// The leader starts again and serves what is there.
 fn served() -> &'static [u8] {
     b"segment_bytes 200\n0 0 0 up\n0 0 0 learn\n0 0 0 elect\n0 0 0 learn\n0 0 0 fetch 0 1000\n"
 }

@@ -1,4 +1,4 @@
--- The parts of a segment can be packed where the line of its log is short.
+-- The parts of a segment can be packed where the leader epochs of its log is short.
 use Rattle.std.proofs.Common.{◌≡◌, ◌∙◌, refl, ap, subst, ℕ, zero, suc, ◌+◌, ◌-◌, ◌*◌, ◌<◌, ◌≤◌, ◌^◌, Bool, true, false, cond, List, [], ◌∷◌, ◌++◌, length, map, arith}
 use Rattle.std.specs.Prelude.{◌&&◌, nat_lt, codes, decimal, ℤ, int_lt}
 use Rattle.std.specs.List.{AllByRecursion, concat}

@@ -89,7 +89,7 @@ packed_bundle copy packed None is = is
 packed_bundle copy packed (Some bundle) is =
     record { source_is = is.source_is; line_is = is.line_is; interval_is = is.interval_is; parts_are = is.parts_are }
 
--- what a test of two pairs tells
+-- what a test of two pairs reports
 pub pair_decides : (x y : ℕ × ℕ) → ((x.0 == y.0) && (x.1 == y.1) ≡ true → x ≡ y) × (x ≡ y → (x.0 == y.0) && (x.1 == y.1) ≡ true)
 pair_decides x y = (
   λ t. (let both = and_parts (x.0 == y.0) (x.1 == y.1) t in ap (λ n. (n, x.1)) (eqb-true x.0 y.0 both.0) ∙ ap (λ n. (y.0, n)) (eqb-true x.1 y.1 both.1)),

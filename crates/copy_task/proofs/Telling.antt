@@ -1,4 +1,4 @@
--- The custom metadata of what a copy puts may stand in the note that it is whole.
+-- The custom metadata of what a copy puts may be in the event that it is whole.
 use Rattle.std.proofs.Common.{◌≡◌, refl, sym, subst, ℕ, Bool, true, false, List, length, Option, arith}
 use Rattle.tier_base.specs.declared.layout.Layout.{Layout}
 use Rattle.tier_base.specs.declared.plain.State.TheVariants.{CopyFinished}

@@ -1,4 +1,4 @@
--- A segment that is copied: what its objects hold, and what the metadata log is told of it.
+-- A segment that is copied: what its objects hold, and what the metadata log has the event of it.
 use Rattle.std.specs.Prelude.{◌≡◌, ◌≢◌, ℕ, ◌+◌, Bool, true, if◌then◌else◌, List, [], length, Option, Some, None}
 use Rattle.tier_base.specs.declared.names.PartitionId.{PartitionId}
 use Rattle.tier_base.specs.declared.names.SegmentId.{SegmentId}
@@ -20,8 +20,8 @@ use Rattle.copy_task.specs.Source.{batches_in}
 -- A copy keeps a segment, its log's line and the interval of its indexes. What it puts is a function of these:
 -- whether the bundle has been made yet, and by whom, is nowhere seen.
 
--- a closed segment under a remote id, with the line of its log and the interval of its indexes; packed, it gets one
--- object
+-- a closed segment under a remote id, with the leader epochs of its log and the interval of its indexes; packed, it
+-- gets one object
 pub record Copied : Type 0 where
   pub id : SegmentId
   pub partition : PartitionId
@@ -67,7 +67,7 @@ pub record IsBundleOf (copy : Copied) (bundle : Bundled) : Type 0 where
 abbrev pub keys : Copied → List ObjectKey
 keys copy = keys_of copy.partition copy.id copy.packed
 
--- its entry, as it is told
+-- its entry, as it is reported
 abbrev pub entry_of : Copied → EventOrigin → Entry
 entry_of copy origin = record {
   id = copy.id;

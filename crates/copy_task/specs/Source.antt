@@ -4,7 +4,7 @@ use Rattle.segment_file.specs.Walk.{size_in, found_at}
 use Rattle.segment_file.specs.declared.walking.Found.{Found}
 use Rattle.segment_file.specs.declared.walking.Found.TheVariants.{Batch, End, Cut, Bad}
 
--- the batch that bytes begin with, and the others of what is left behind it
+-- the batch that bytes begin with, and the others of what is left after it
 abbrev pub first_of : (List ℕ → List (List ℕ)) → List ℕ → Found → List (List ℕ)
 first_of others bytes (Batch head) = take (size_in head) bytes ∷ others (drop (size_in head) bytes)
 first_of others bytes End = []

@@ -1,9 +1,9 @@
 -- What each turn of a copy does, from the one on that follows the choice of its segment.
 --
 --   turn      does                                answers
---   Start     appends the note that it starts     MetaFault
+--   Start     appends the event that it starts     MetaFault
 --   Put       puts an object                      StoreFault
---   Finish    appends the note that it is whole   MetaFault
+--   Finish    appends the event that it is whole   MetaFault
 --   Check     refreshes the view                  Copied, MetaFault, Damaged
 --   Delete    takes an object away                Overtaken, StoreFault, Damaged
 --
@@ -41,23 +41,23 @@ use Rattle.meta_log.specs.declared.event_origin.EventOrigin.{EventOrigin}
 use Rattle.copy_task.specs.declared.turn.CopyStep.{CopyStep}
 use Rattle.copy_task.specs.declared.turn.CopyStep.TheVariants.{Start, Put, Finish, Check, Delete}
 
--- the turn that puts the object of a number, where it has a key, or the one behind the last
+-- the turn that puts the object of a number, where it has a key, or the one after the last
 abbrev pub put_at : ℕ → Option ObjectKey → CopyStep
 put_at n None = Finish
 put_at n (Some key) = Put n
 
--- what a copy that took its objects away answers, by the state of its entry in a view of so many notes: an entry that
+-- what a copy that took its objects away answers, by the state of its entry in a view of so many events: an entry that
 -- is missing is damage of the metadata log
 abbrev pub overtaken : ℕ → Option State → Answer
 overtaken notes None = Damaged Meta notes
 overtaken notes (Some state) = Overtaken state
 
--- the turn that takes the object of a number away, where it has a key, or the answer behind the last
+-- the turn that takes the object of a number away, where it has a key, or the answer after the last
 abbrev pub delete_at : Copied → Seen → ℕ → Option ObjectKey → CopyTurn
 delete_at copy view n None = Ends (overtaken view.notes (state_of copy.id view.entries))
 delete_at copy view n (Some key) = Goes (Delete n)
 
--- what a refreshed view of so many notes says of a copy, by the state of its entry: an entry that is missing, or that
+-- what a refreshed view of so many events says of a copy, by the state of its entry: an entry that is missing, or that
 -- isn't finished yet, is damage of the metadata log
 abbrev pub checked : Copied → ℕ → Option State → CopyTurn
 checked copy notes (Some CopyFinished) = Ends (CopiedSegment copy.id copy.segment.base copy.segment.last)
@@ -79,7 +79,7 @@ module _ {M : Type 0} (notes : M → meta.Content) (calls : M → Control meta_c
   FinishRow copy origin (Ok turn) old new = (turn ≡ Goes Check) × Appends notes calls (finish_note copy origin) Went old new
   FinishRow copy origin (Err e) old new = (new ≡ old) ⊎ Appends notes calls (finish_note copy origin) Dry old new
 
-  -- how its entry stands
+  -- the state of its entry
   abbrev pub CheckRow : Copied → Result CopyTurn AllocError → Seen → Seen → M → M → Type 0
   CheckRow copy (Ok (Ends MetaFault)) before after old new = Unread notes calls before after old new
   CheckRow copy (Ok turn) before after old new =
@@ -87,7 +87,7 @@ module _ {M : Type 0} (notes : M → meta.Content) (calls : M → Control meta_c
   CheckRow copy (Err e) before after old new = Halted notes calls before after old new
 
 module _ {S : Type 0} (objects : S → store.Content) (calls : S → Control store_call.call_code) where
-  -- an object is put under a key: the part that stands there
+  -- an object is put under a key: the part that is there
   pub record PutsUnder (copy : Copied) (key : ObjectKey) (fate : Fate) (old new : S) : Type 0 where
     pub part : Part
     pub place : spot_of copy.partition copy.id false None part ≡ Some (whole key)
@@ -116,7 +116,7 @@ pub record Tiers (S M : Type 0) : Type 0 where
 
 module _ {S M : Type 0} (objects : S → store.Content) (calls : S → Control store_call.call_code)
     (notes : M → meta.Content) (notings : M → Control meta_call.call_code) where
-  -- a turn of a copy, by what was next: what it came to, or that it wanted memory
+  -- a turn of a copy, by what was next: what it came to, or that it ran out of memory
   abbrev pub CopyRow : Copied → EventOrigin → CopyStep → Result CopyTurn AllocError → Tiers S M → Tiers S M → Type 0
   CopyRow copy origin Start result old new =
       (new ≡ record old { meta = new.meta }) × StartRow notes notings copy origin result old.meta new.meta

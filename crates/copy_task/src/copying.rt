@@ -162,7 +162,7 @@ impl Copying {
         self
     }
 
-    /// Whether a bundle is of this segment, its line and its interval.
+    /// Whether a bundle is of this segment, its leader epochs and its interval.
     fn is_of(&self, bundle: &Bundle) -> bool
         ensures { result ≡ true → IsBundleOf self.now bundle.now }
     {

@@ -39,7 +39,7 @@ pub fn copy_turn<S: Store, M: MetaLog>(
     }
 }
 
-/// Tells the metadata log that a copy starts.
+/// Appends the event that a copy starts.
 fn start<M: MetaLog>(
     alloc: Global,
     copying: &Copying,
@@ -78,7 +78,7 @@ fn put<S: Store>(
     }
 }
 
-/// The turn that puts the object of this number, or the one behind the last.
+/// The turn that puts the object of this number, or the one after the last.
 fn put_at(copying: &Copying, n: u8) -> CopyStep
     ensures { result ≡ put_at n (slice_get (keys copying.now) n) }
 {
@@ -88,7 +88,7 @@ fn put_at(copying: &Copying, n: u8) -> CopyStep
     }
 }
 
-/// Tells the metadata log that a copy is whole.
+/// Appends the event that a copy is whole.
 fn finish<M: MetaLog>(
     alloc: Global,
     copying: &mut Copying,
@@ -106,7 +106,7 @@ fn finish<M: MetaLog>(
     }
 }
 
-/// Looks how a copy's entry stands in the metadata log.
+/// Looks the state of a copy's entry in the metadata log.
 fn check<M: MetaLog>(
     copying: &Copying,
     view: &mut View,
@@ -153,7 +153,7 @@ fn delete<S: Store>(copying: &Copying, n: u8, view: &View, store: &mut S) -> Cop
     }
 }
 
-/// The turn that takes the object of this number away, or the answer behind the last.
+/// The turn that takes the object of this number away, or the answer after the last.
 fn delete_at(copying: &Copying, n: u8, view: &View) -> CopyTurn
     ensures { result ≡ delete_at copying.now view.now n (slice_get (keys copying.now) n) }
 {

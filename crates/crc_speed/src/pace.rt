@@ -42,7 +42,7 @@ impl fmt::Display for Part {
     }
 }
 
-/// Copies the bytes, and tells how long it took.
+/// Copies the bytes, and returns how long it took.
 pub fn of_copy(rt: &impl Clock, bytes: &[u8], copy: &mut [u8]) -> io::Result<Pace>
     requires { length bytes.now ≡ length copy.old }
     ensures { IfOk result (λ _. copy.new ≡ bytes.now) }
@@ -53,7 +53,7 @@ pub fn of_copy(rt: &impl Clock, bytes: &[u8], copy: &mut [u8]) -> io::Result<Pac
     Ok(Pace { micros })
 }
 
-/// Takes the checksum by a body, and tells how long it took.
+/// Takes the checksum by a body, and returns how long it took.
 pub fn of_body(rt: &impl Clock, body: Body, bytes: &[u8]) -> io::Result<(u32, Pace)>
     ensures { IfOk result (λ x. x.0 ≡ crc_of bytes.now) }
 {

@@ -13,7 +13,7 @@ pub record Counts : Type 0 where
   pub faults : ℕ
 
 module _ {K : Type 0} (code : K → ℕ) where
-  -- what a device with these counts tells, where the last read gave these bytes
+  -- what a device with these counts reports, where the last read gave these bytes
   abbrev pub control_of : Counts → List ℕ → Control code
   control_of t last_read =
       record {

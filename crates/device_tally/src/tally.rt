@@ -46,7 +46,7 @@ impl<K: CallKind> Tally<K> {
         self.faults
     }
 
-    /// Answers whether calls are counted.
+    /// Returns whether calls are counted.
     pub fn is_armed(&self) -> bool
         ensures { result ≡ self.now.armed }
     {

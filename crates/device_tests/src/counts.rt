@@ -1,10 +1,10 @@
-//! The counts of a yard on trial. Worked by hand.
+//! The counts of an environment under test. Worked by hand.
 
 use device_yard::{Came, YardCounts};
 use std::alloc::Global;
 use tier_base::{Blob, Trouble};
 
-/// A device that is handed out and comes back so.
+/// A device that is provided and comes back so.
 fn goes(counts: &mut YardCounts, came: Came) -> bool {
     match counts.hand(Ok(1u8)) {
         Ok(_) => {
@@ -15,7 +15,7 @@ fn goes(counts: &mut YardCounts, came: Came) -> bool {
     }
 }
 
-/// How many faults a yard has after these devices came back, and one call of each kind failed.
+/// How many faults an environment has after these devices came back, and one call of each kind failed.
 fn faults_after(alloc: Global, devices: &[Came]) -> Option<(u64, usize)> {
     let mut counts = YardCounts::new(alloc);
     for came in devices {

@@ -8,7 +8,7 @@ use meta_log_file::{
 };
 use std::alloc::{AllocError, Global};
 
-/// The start of a copy and its end, each behind its length: 79 and 33 bytes.
+/// The start of a copy and its end, each after its length: 79 and 33 bytes.
 fn notes_of(alloc: Global) -> Result<Vec<u8>, AllocError> {
     let mut notes = Vec::new(alloc);
     notes.extend_from_slice(&[0, 0, 0, 75])?;

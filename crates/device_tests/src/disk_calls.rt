@@ -101,7 +101,7 @@ pub(crate) fn call<D: Disk>(disk: &mut D, step: Step) -> End {
     }
 }
 
-/// Makes calls, and tells how many end well at first, and how the next one ends.
+/// Makes calls, and returns how many end well at first, and how the next one ends.
 pub(crate) fn run<D: Disk>(disk: &mut D, steps: &[Step]) -> (usize, End) {
     for (i, step) in steps.iter().enumerate() {
         let end = call(disk, *step);

@@ -1,5 +1,5 @@
-//! Metadata logs on trial: calls over a disk in memory, each with what it is to give, what the files then have, and what a
-//! crash leaves of them. Values worked by hand.
+//! Metadata logs under test: calls over a disk in memory, each with what it is to give, what the files then have, and
+//! what a crash leaves of them. Values worked by hand.
 //!
 //! A test is a table of calls and never holds a log.
 
@@ -29,7 +29,7 @@ pub(crate) static STARTED: [u8; 75] = [
     0, 0, 0, 0, 0, 0, 0, 0, // its start
 ];
 
-/// It has finished, told by broker 2 at 7 milliseconds: 29 bytes.
+/// It has finished, recorded by broker 2 at 7 milliseconds: 29 bytes.
 static FINISHED: [u8; 29] = [
     0, 1, // version, kind
     0, 0, 0, 0, 0, 0, 0, 1, 0, 0, 0, 0, 0, 0, 0, 0, // id
@@ -41,12 +41,12 @@ static FINISHED: [u8; 29] = [
 /// A call of a log, with what it comes to.
 #[derive(Clone, Copy)]
 enum Turn {
-    /// The first or the second note goes to the end, at this place.
+    /// The first or the second metadata event goes to the end, at this place.
     Starts(u64),
     Finishes(u64),
-    /// The first note's append fails.
+    /// The first metadata event's append fails.
     FailsToStart,
-    /// From a place on there are so many notes.
+    /// From a place on there are so many metadata events.
     Reads(u64, usize),
     Arms,
     /// How many calls failed, and whether it is armed.
@@ -59,7 +59,7 @@ fn is_first(entry: &Entry) -> bool {
     span & (entry.map.entries() == [(0, 0)].as_slice())
 }
 
-/// Whether the first of these notes says what its row spells where it adds an entry, and there are so many.
+/// Whether the first of these metadata events says what its row spells where it adds an entry, and there are so many.
 fn are_notes(notes: &[Note], many: usize) -> bool {
     match notes.first() {
         None | Some(Note::Update { .. }) => notes.len() == many,
@@ -67,7 +67,7 @@ fn are_notes(notes: &[Note], many: usize) -> bool {
     }
 }
 
-/// How a read from a place on ends, which is to give so many notes.
+/// How a read from a place on ends, which is to give so many metadata events.
 fn read_notes<M: MetaLog>(log: &mut M, at: u64, many: usize) -> End {
     match log.read(at) {
         Ok(notes) => right(are_notes(notes.as_slice(), many)),
@@ -75,7 +75,7 @@ fn read_notes<M: MetaLog>(log: &mut M, at: u64, many: usize) -> End {
     }
 }
 
-/// What a log tells.
+/// What a log reports.
 fn told(log: &DiskLog<MemoryDisk>) -> (u64, bool) {
     (log.faults(), log.is_armed())
 }
@@ -103,8 +103,8 @@ fn live(alloc: Global, log: &mut DiskLog<MemoryDisk>, turns: &[Turn]) -> usize {
     turns.len()
 }
 
-/// What a log goes through: the call of its disk that is to fail, the calls, the bytes of `notes` then, its gate, and how
-/// many notes a crash leaves.
+/// What a log goes through: the call of its disk that is to fail, the calls, the bytes of `notes` then, its gate, and
+/// how many metadata events a crash leaves.
 #[derive(Clone, Copy)]
 struct Story {
     name: &'static str,
@@ -131,7 +131,7 @@ fn size_of(disk: &mut MemoryDisk, name: FileName) -> Option<usize> {
     }
 }
 
-/// How many notes a log over a disk has.
+/// How many metadata events a log over a disk has.
 fn count_notes(alloc: Global, disk: MemoryDisk) -> Option<usize> {
     match DiskLog::open(alloc, disk) {
         Ok(mut log) => count_read(&mut log),
@@ -139,7 +139,7 @@ fn count_notes(alloc: Global, disk: MemoryDisk) -> Option<usize> {
     }
 }
 
-/// How many notes a log gives.
+/// How many metadata events a log gives.
 fn count_read<M: MetaLog>(log: &mut M) -> Option<usize> {
     match log.read(0) {
         Ok(notes) => Some(notes.len()),
@@ -147,7 +147,7 @@ fn count_read<M: MetaLog>(log: &mut M) -> Option<usize> {
     }
 }
 
-/// How many bytes the notes have, whether this is their gate, and how many notes a crash leaves.
+/// How many bytes the metadata events have, whether this is their gate, and how many metadata events a crash leaves.
 fn left_of(alloc: Global, disk: MemoryDisk, gate: &[u8]) -> (Option<usize>, bool, Option<usize>) {
     let mut disk = disk;
     let size = size_of(&mut disk, FileName::Notes);
@@ -267,7 +267,7 @@ fn logs_go_through_their_stories(rt: HostRuntime) {
     }
 }
 
-/// A disk that tells nothing, with these two files.
+/// A disk that isn't observable, with these two files.
 pub(crate) fn disk_of(alloc: Global, notes: &[u8], gate: &[u8]) -> Result<DeafDisk, AllocError> {
     let mut files = Vec::new(alloc);
     files.push((FileName::Notes, Bytes::copy_from_slice(alloc, notes)?))?;
@@ -286,7 +286,7 @@ fn damage(alloc: Global, notes: &[u8], gate: &[u8]) -> Option<u64> {
     }
 }
 
-/// The end of a copy behind its length.
+/// The end of a copy after its length.
 pub(crate) static UPDATE: [u8; 33] = [
     0, 0, 0, 29, // length
     0, 1, // version, kind
@@ -321,7 +321,7 @@ static GATES: [(&str, usize, &[u8], Option<u64>); 6] = [
     ("a cut note", 30, &[0, 0, 0, 0, 0, 0, 0, 33], Some(0)),
 ];
 
-/// Where a log of so many bytes of a note is damaged.
+/// Where a log of so many bytes of a metadata event is damaged.
 fn damage_of(alloc: Global, bytes: usize, gate: &[u8]) -> Option<u64> {
     match UPDATE.get(..bytes) {
         Some(notes) => damage(alloc, notes, gate),

@@ -1,4 +1,4 @@
-//! Disks on trial: lists of calls, each with what it is to give. Values worked by hand.
+//! Disks under test: lists of calls, each with what it is to give. Values worked by hand.
 //!
 //! A test is a table of such lists and never holds a disk.
 
@@ -38,7 +38,7 @@ static WORK: [Step<'static>; 24] = [
     Step::Read(LOG, 0, b"abcd"),
 ];
 
-/// A disk that tells nothing at work, with a file that it is given.
+/// A disk that isn't observable, with a file that it is given.
 fn work_deaf(alloc: Global) -> Result<(usize, End), AllocError> {
     let mut files = Vec::new(alloc);
     files.push((FileName::Notes, Bytes::new()))?;
@@ -63,11 +63,11 @@ enum Turn<'a> {
     Fuse(u64),
     Crash,
     Renew,
-    /// It tells how many calls failed and how many are planned, and whether it is armed and fused, or was.
+    /// It reports how many calls failed and how many are planned, and whether it is armed and fused, or was.
     Tell(u64, usize, bool, bool),
 }
 
-/// What a disk in memory tells.
+/// What a disk in memory reports.
 fn told(disk: &MemoryDisk) -> (u64, usize, bool, bool) {
     (
         disk.faults(),

@@ -22,7 +22,7 @@ enum Turn {
     Fail(&'static [Step<'static>]),
     /// A file takes the place of its folder, which is empty.
     Spoil,
-    /// Its notes become a device that takes what is written, and can't be synced.
+    /// Its metadata events become a device that takes what is written, and can't be synced.
     Deafen,
 }
 
@@ -63,7 +63,8 @@ fn live<D: Disk>(rt: HostRuntime, path: &str, disk: &mut D, turns: &[Turn]) -> u
     turns.len()
 }
 
-/// How many turns of a disk over a folder go as they should at first, how many faults it tells then, and whether it is armed.
+/// How many turns of a disk over a folder go as they should at first, how many faults it reports then, and whether it
+/// is armed.
 fn live_in(rt: HostRuntime, path: &str, turns: &[Turn]) -> Result<(usize, u64, bool), Trouble> {
     match FolderDisk::open(rt, path) {
         Ok(mut disk) => {
@@ -152,7 +153,7 @@ static FOUND: [Turn; 1] = [Turn::Do(&[
     Step::Read(FileName::Gate, 0, b"g"),
 ])];
 
-/// What stands in the folder then.
+/// What is in the folder then.
 static KEPT: [&str; 2] = [
     "yard_again/p0/b1/stray",
     "yard_again/p0/b1/18446744073709551615.log",
@@ -206,7 +207,7 @@ fn a_folder_that_cannot_be_made_is_a_fault(rt: HostRuntime) {
     let _ = fs::remove_file(&rt, "yard_blocked");
 }
 
-/// A sync of the notes fails, and so does each sync behind it.
+/// A sync of the metadata events fails, and so does each sync after it.
 static DEAFENED: [Turn; 4] = [
     Turn::Deafen,
     Turn::Do(&[

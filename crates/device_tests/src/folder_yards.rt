@@ -128,7 +128,7 @@ fn objects_are_files_of_a_folder(rt: HostRuntime) {
     assert_eq!(rt; left, (Some(2), Some(4), Some(7)));
 }
 
-/// A segment's copy has finished, told by broker 2 at 7 milliseconds: 29 bytes.
+/// A segment's copy has finished, recorded by broker 2 at 7 milliseconds: 29 bytes.
 static FINISHED: [u8; 29] = [
     0, 1, // version, kind
     0, 0, 0, 0, 0, 0, 0, 1, 0, 0, 0, 0, 0, 0, 0, 0, // id
@@ -137,7 +137,7 @@ static FINISHED: [u8; 29] = [
     1, // state
 ];
 
-/// What the calls of a yard come to.
+/// What the calls of an environment come to.
 fn yard_calls<Y: Yard>(alloc: Global, yard: &mut Y) -> [bool; 11] {
     let empty = is_named(yard, None);
     let disk = disk_grows(yard, PARTITION, BrokerId(1), 0);
@@ -155,14 +155,14 @@ fn yard_calls<Y: Yard>(alloc: Global, yard: &mut Y) -> [bool; 11] {
     ]
 }
 
-/// What a yard is asked.
+/// What an environment is asked.
 #[derive(Clone, Copy)]
 enum Ask<'a> {
     /// Each call.
     Calls,
     /// Whether this is its first name.
     Name(Option<&'a str>),
-    /// Whether these are its partitions of which something stands.
+    /// Whether these are its partitions in use.
     Used(&'a [PartitionId]),
     /// Whether the first name, the partitions and a store fail.
     Fails,
@@ -175,7 +175,7 @@ fn fails<Y: Yard>(yard: &mut Y) -> bool {
     named & used & store_fails(yard)
 }
 
-/// Whether a yard is as it is asked.
+/// Whether an environment is as it is asked.
 fn answers<Y: Yard>(alloc: Global, yard: &mut Y, ask: Ask) -> bool {
     match ask {
         Ask::Calls => yard_calls(alloc, yard) == [true; 11],
@@ -185,7 +185,8 @@ fn answers<Y: Yard>(alloc: Global, yard: &mut Y, ask: Ask) -> bool {
     }
 }
 
-/// Whether a yard over a folder is as it is asked, how many devices came back then, and how many faults there are.
+/// Whether an environment over a folder is as it is asked, how many devices came back then, and how many faults there
+/// are.
 fn yard_in(rt: HostRuntime, dir: &str, ask: Ask) -> Result<(bool, usize, u64), AllocError> {
     match FolderYard::new(rt, dir) {
         Ok(mut yard) => {
@@ -196,7 +197,7 @@ fn yard_in(rt: HostRuntime, dir: &str, ask: Ask) -> Result<(bool, usize, u64), A
     }
 }
 
-/// Files of a yard's devices, and how long they are.
+/// Files of an environment's devices, and how long they are.
 static SIZES: [(&str, u64); 5] = [
     ("yard_whole/p3/b1/manifest", 1),
     ("yard_whole/p3/meta/notes", 66),
@@ -218,7 +219,7 @@ fn devices_stand_under_the_yards_folder(rt: HostRuntime) {
     let _ = fs::remove_dir_all(&rt, "yard_whole");
 }
 
-/// Folders and files that stand in a yard's folder, and the first name there.
+/// Folders and files that are in an environment's folder, and the first name there.
 static STANDING: [(&[&str], &[&str], Option<&str>); 11] = [
     (&[], &[], None),
     // Of partitions that hold nothing.
@@ -235,7 +236,7 @@ static STANDING: [(&[&str], &[&str], Option<&str>); 11] = [
         &["/p7/b0/manifest", "/p7/meta/gate", "/p7/reg/registry.new"],
         None,
     ),
-    // Of partitions that have objects or notes, with a registry and without.
+    // Of partitions that have objects or metadata events, with a registry and without.
     (
         &["/p1", "/p10", "/p10/store", "/p2", "/p2/meta"],
         &["/p10/store/letter", "/p2/meta/notes"],
@@ -300,7 +301,7 @@ fn a_partition_with_a_registry_is_no_name(rt: HostRuntime) {
     let _ = fs::remove_dir_all(&rt, "yard_names");
 }
 
-/// Folders and files of partitions and of strangers. Something stands of partitions 0, 2 and 10.
+/// Folders and files of partitions and of strangers. There is something of partitions 0, 2 and 10.
 static HELD: [&str; 11] = [
     "/p10",
     "/p10/store",
@@ -345,7 +346,7 @@ fn a_yard_over_a_file_fails(rt: HostRuntime) {
     let _ = fs::remove_file(&rt, "yard_file");
 }
 
-/// Whether a yard works, another over the same folder fails meanwhile, and works once the first is gone.
+/// Whether an environment works, another over the same folder fails meanwhile, and works once the first is gone.
 fn take_turns(rt: HostRuntime, dir: &str) -> Result<(bool, bool, bool), AllocError> {
     let mut first = FolderYard::new(rt, dir)?;
     let mut second = FolderYard::new(rt, dir)?;

@@ -14,7 +14,7 @@ fn placed(answer: Result<u64, Trouble>, place: u64) -> End {
     }
 }
 
-/// How a note of these bytes goes to the end, at this place.
+/// How a metadata event of these bytes goes to the end, at this place.
 pub(crate) fn append<M: MetaLog>(alloc: Global, log: &mut M, bytes: &[u8], place: u64) -> End {
     match decode(alloc, bytes) {
         Ok(note) => placed(log.append(&note), place),
@@ -22,7 +22,7 @@ pub(crate) fn append<M: MetaLog>(alloc: Global, log: &mut M, bytes: &[u8], place
     }
 }
 
-/// How a read from a place on ends, which is to give so many notes.
+/// How a read from a place on ends, which is to give so many metadata events.
 pub(crate) fn count<M: MetaLog>(log: &mut M, at: u64, many: usize) -> End {
     match log.read(at) {
         Ok(notes) => right(notes.len() == many),

@@ -1,4 +1,4 @@
-//! Metadata logs on trial: calls, each with what it is to give. Values worked by hand.
+//! Metadata logs under test: calls, each with what it is to give. Values worked by hand.
 //!
 //! A test is a table of calls and never holds a log.
 
@@ -29,7 +29,7 @@ static STARTED: [u8; 89] = [
     0, 0, // length of the custom metadata
 ];
 
-/// It has finished, told by broker 2 at 7 milliseconds.
+/// It has finished, recorded by broker 2 at 7 milliseconds.
 static FINISHED: [u8; 33] = [
     1, 1, // version, kind
     0, 0, 0, 0, 0, 0, 0, 1, 0, 0, 0, 0, 0, 0, 0, 6, // id
@@ -48,7 +48,7 @@ fn is_first(entry: &Entry) -> bool {
     span & rest & map
 }
 
-/// Whether a note says what the first row spells.
+/// Whether a metadata event says what the first row spells.
 fn is_started(note: &Note) -> bool {
     match note {
         Note::Add(entry) => is_first(entry),
@@ -64,7 +64,7 @@ fn is_custom(custom: &Option<Blob>) -> bool {
     }
 }
 
-/// Whether a note says what the second row spells.
+/// Whether a metadata event says what the second row spells.
 fn is_finished(note: &Note) -> bool {
     match note {
         Note::Add(_) => false,
@@ -84,12 +84,12 @@ fn is_finished(note: &Note) -> bool {
 /// A call of a log, with what it comes to.
 #[derive(Clone, Copy)]
 enum Turn {
-    /// The first or the second note goes to the end, at this place.
+    /// The first or the second metadata event goes to the end, at this place.
     Starts(u64),
     Finishes(u64),
-    /// From a place on there are so many notes.
+    /// From a place on there are so many metadata events.
     Reads(u64, usize),
-    /// The second note's append fails, or a read does.
+    /// The second metadata event's append fails, or a read does.
     FailsToFinish,
     FailsToRead,
     Arms,
@@ -98,7 +98,7 @@ enum Turn {
     Tells(u64, usize, bool),
 }
 
-/// Whether these are the last of both notes, so many.
+/// Whether these are the last of both metadata events, so many.
 fn are_last(notes: &[Note], many: usize) -> bool {
     match notes {
         [] => many == 0,
@@ -109,7 +109,7 @@ fn are_last(notes: &[Note], many: usize) -> bool {
     }
 }
 
-/// How a read from a place on ends, which is to give the last of both notes, so many.
+/// How a read from a place on ends, which is to give the last of both metadata events, so many.
 fn read_last<M: MetaLog>(log: &mut M, at: u64, many: usize) -> End {
     match log.read(at) {
         Ok(notes) => right(are_last(notes.as_slice(), many)),
@@ -122,7 +122,7 @@ fn renew(alloc: Global, log: &mut MemoryLog) -> End {
     End::Well
 }
 
-/// What a log tells.
+/// What a log reports.
 fn told(log: &MemoryLog) -> (u64, usize, bool) {
     (log.faults(), log.plan().len(), log.is_armed())
 }

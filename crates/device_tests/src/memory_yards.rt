@@ -1,6 +1,6 @@
-//! A yard in memory on trial. Values worked by hand.
+//! An environment in memory under test. Values worked by hand.
 //!
-//! A story is a list of steps, each a call of the yard and what it should come to. No test holds a device.
+//! A story is a list of steps, each a call of the environment and what it should come to. No test holds a device.
 
 use crate::yard_calls::{
     are_used, disk_fails, disk_goes, disk_grows, is_named, log_fails, log_reads, name_fails,
@@ -12,12 +12,12 @@ use object_store::{ObjectKey, Part};
 use std::alloc::{AllocError, Global};
 use tier_base::{Blob, BrokerId, PartitionId, segment_id};
 
-/// A call of a yard. Each device that is handed out comes back.
+/// A call of an environment. Each device that is provided comes back.
 #[derive(Clone, Copy)]
 enum Step<'a> {
     /// The first name.
     Name(Option<&'a str>),
-    /// The partitions of which something stands.
+    /// The partitions in use.
     Used(&'a [PartitionId]),
     /// A disk of a partition and a broker has so many bytes in its manifest, and then one more.
     Disk(u16, u16, usize),
@@ -25,13 +25,13 @@ enum Step<'a> {
     Empty(u16, u16),
     /// A store takes an object.
     Store(u16),
-    /// A metadata log has so many notes.
+    /// A metadata log has so many metadata events.
     Log(u16, usize),
     /// The file of a partition's registry has these bytes, and then others.
     Registry(u16, Option<&'a [u8]>, &'a [u8]),
     /// It has not, or can't be read or replaced.
     Broken(u16, Option<&'a [u8]>, &'a [u8]),
-    /// Disks that are handed out from now on let so many calls pass.
+    /// Disks that are provided from now on let so many calls pass.
     Fuse(u64),
     /// The disks that came back lose what isn't synced.
     Crash,
@@ -56,7 +56,7 @@ fn store(yard: &mut MemoryYard, partition: PartitionId) -> bool {
     went & yard.held_store(partition).is_some()
 }
 
-/// Whether a metadata log has so many notes, and is held then.
+/// Whether a metadata log has so many metadata events, and is held then.
 fn log(yard: &mut MemoryYard, partition: PartitionId, many: usize) -> bool {
     let went = log_reads(yard, partition, many);
     went & yard.held_log(partition).is_some()
@@ -96,7 +96,7 @@ fn crash(yard: &mut MemoryYard) -> bool {
     true
 }
 
-/// Makes a call, and answers whether it came to what it should.
+/// Makes a call, and returns whether it came to what it should.
 fn call(yard: &mut MemoryYard, step: Step) -> bool {
     match step {
         Step::Name(wanted) => is_named(yard, wanted),
@@ -131,7 +131,7 @@ fn run(yard: &mut MemoryYard, steps: &[Step]) -> usize {
     steps.len()
 }
 
-/// The strays of a yard.
+/// The strays of an environment.
 fn strays(alloc: Global, names: &[&str]) -> Result<Vec<Blob>, AllocError> {
     let mut strays = Vec::new(alloc);
     for name in names {
@@ -140,15 +140,15 @@ fn strays(alloc: Global, names: &[&str]) -> Result<Vec<Blob>, AllocError> {
     Ok(strays)
 }
 
-/// What the calls of a story come to: how many went as they should, how many faults the yard has, and how many devices came
-/// back.
+/// What the calls of a story come to: how many went as they should, how many faults the environment has, and how many
+/// devices came back.
 fn came(alloc: Global, strays: Vec<Blob>, plan: Vec<u32>, steps: &[Step]) -> (usize, u64, usize) {
     let mut yard = MemoryYard::new(alloc, strays, plan);
     let went = run(&mut yard, steps);
     (went, yard.faults(), yard.returned().len())
 }
 
-/// What they come to over a yard with these strays and these planned faults.
+/// What they come to over an environment with these strays and these planned faults.
 fn came_of(
     alloc: Global,
     names: &[&str],
@@ -243,7 +243,7 @@ static FUSED: [Step<'static>; 12] = [
     Step::Registry(1, Some(b"older"), b"new"),
 ];
 
-/// What their disks handed last.
+/// What their disks last returned.
 static HANDED: [(u16, &[u8]); 5] = [
     (1, b""),
     (0, b""),
@@ -252,7 +252,7 @@ static HANDED: [(u16, &[u8]); 5] = [
     (1, b"older"),
 ];
 
-/// Whether the disks of registries handed these bytes last.
+/// Whether the disks of registries returned these bytes last.
 fn are_handed(found: &[ReadRegistry], wanted: &[(u16, &[u8])]) -> bool {
     if found.len() != wanted.len() {
         return false;
@@ -265,7 +265,7 @@ fn are_handed(found: &[ReadRegistry], wanted: &[(u16, &[u8])]) -> bool {
     true
 }
 
-/// How many calls of a story went as they should, and whether these bytes were handed.
+/// How many calls of a story went as they should, and whether these bytes were returned.
 fn hands(alloc: Global, steps: &[Step], wanted: &[(u16, &[u8])]) -> (usize, bool) {
     let mut yard = MemoryYard::new(alloc, Vec::new(alloc), Vec::new(alloc));
     let went = run(&mut yard, steps);

@@ -102,7 +102,7 @@ fn call<S: Store>(store: &mut S, step: Step) -> End {
     }
 }
 
-/// Makes calls, and tells how many end well at first, and how the next one ends.
+/// Makes calls, and returns how many end well at first, and how the next one ends.
 fn run<S: Store>(store: &mut S, steps: &[Step]) -> (usize, End) {
     for (i, step) in steps.iter().enumerate() {
         let end = call(store, *step);
@@ -138,7 +138,7 @@ static WORK: [Step; 21] = [
     Step::Get(EPOCHS, 2, b"0\n"),
 ];
 
-/// A store that tells nothing at work, with an object that it is given, and how its keys are told then.
+/// A store that isn't observable, with an object that it is given, and how its keys are reported then.
 fn work_deaf(alloc: Global) -> Result<((usize, End), End), AllocError> {
     let mut objects = Vec::new(alloc);
     objects.push((key(GIVEN), Bytes::from_static(b"given")))?;
@@ -163,11 +163,11 @@ enum Turn {
     /// A call that fails.
     Fail(Step),
     Renew(&'static [Planned]),
-    /// It tells how many calls failed and how many are planned, and whether it is armed.
+    /// It reports how many calls failed and how many are planned, and whether it is armed.
     Tell(u64, usize, bool),
 }
 
-/// What a store in memory tells.
+/// What a store in memory reports.
 fn told(store: &MemoryStore) -> (u64, usize, bool) {
     (store.faults(), store.plan().len(), store.is_armed())
 }
@@ -352,13 +352,13 @@ fn key_of(number: u8, packed: bool) -> Option<ObjectKey> {
     }
 }
 
-/// Where a part of the segment stands.
+/// Where a part of the segment exists.
 fn spot_of(part: Part) -> Option<Spot> {
     let id = segment_id(PartitionId(3), BrokerId(2), 5, 258);
     place(PartitionId(3), id, false, None, part)
 }
 
-/// Whether a key is spelt so, and a part stands there whole.
+/// Whether a key is spelt so, and a part is there whole.
 fn is_spelt(alloc: Global, key: ObjectKey, part: Part, text: &str) -> Result<bool, AllocError> {
     let spelt = key.to_text(alloc)?;
     let whole = Spot {
@@ -370,7 +370,7 @@ fn is_spelt(alloc: Global, key: ObjectKey, part: Part, text: &str) -> Result<boo
     Ok(same & (spot_of(part) == Some(whole)))
 }
 
-/// Whether the key of that number is spelt so, and a part stands there whole.
+/// Whether the key of that number is spelt so, and a part is there whole.
 fn stands(alloc: Global, number: u8, part: Part, text: &str) -> bool {
     match key_of(number, false) {
         Some(key) => is_spelt(alloc, key, part, text) == Ok(true),
@@ -414,7 +414,7 @@ const LAYOUT: [u8; 17] = [
     0, 1, 17, 112, // epochs
 ];
 
-/// What custom metadata tells of a part: where it begins, and how long it is.
+/// What custom metadata says of a part: where it begins, and how long it is.
 static PLACES: [(&str, Option<&[u8]>, Part, Option<(u64, u64)>); 9] = [
     ("log", Some(&LAYOUT), Part::Log, Some((0, 300))),
     ("index", Some(&LAYOUT), Part::Index, Some((300, 16))),
@@ -437,7 +437,7 @@ static PLACES: [(&str, Option<&[u8]>, Part, Option<(u64, u64)>); 9] = [
     ),
 ];
 
-/// Where a part of a packed segment stands in its object, by its custom metadata.
+/// Where a part of a packed segment is in its object, by its custom metadata.
 fn packed_spot(
     alloc: Global,
     custom: Option<&[u8]>,
@@ -453,7 +453,7 @@ fn packed_spot(
     }
 }
 
-/// Whether a part of a packed segment stands there.
+/// Whether a part of a packed segment is there.
 fn is_at(spot: Option<Spot>, place: Option<(u64, u64)>) -> bool {
     match (spot, place) {
         (Some(spot), Some((at, len))) => {

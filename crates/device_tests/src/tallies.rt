@@ -1,4 +1,4 @@
-//! A tally on trial: what it counts and what it passes over.
+//! A tally under test: what it counts and what it passes over.
 
 use device_tally::Tally;
 use tier_base::{CallKind, Failed, Trouble};

@@ -1,4 +1,4 @@
-//! Calls of a yard, whatever its devices are. Each device that is handed out comes back.
+//! Calls of an environment, whatever its devices are. Each device that is provided comes back.
 
 use crate::ends::End;
 use crate::log_calls::{append, count};
@@ -18,7 +18,7 @@ fn is_name(found: Option<Blob>, wanted: Option<&str>) -> bool {
     }
 }
 
-/// Whether the yard's first name is this one.
+/// Whether the environment's first name is this one.
 pub(crate) fn is_named<Y: Yard>(yard: &mut Y, wanted: Option<&str>) -> bool {
     match yard.first_name() {
         Ok(found) => is_name(found, wanted),
@@ -26,7 +26,7 @@ pub(crate) fn is_named<Y: Yard>(yard: &mut Y, wanted: Option<&str>) -> bool {
     }
 }
 
-/// Whether the yard's partitions of which something stands are these.
+/// Whether the environment's partitions in use are these.
 pub(crate) fn are_used<Y: Yard>(yard: &mut Y, wanted: &[PartitionId]) -> bool {
     match yard.partitions() {
         Ok(found) => found.as_slice() == wanted,
@@ -123,7 +123,7 @@ pub(crate) fn store_fills<Y: Yard>(
     }
 }
 
-/// Whether a partition's metadata log has so many notes.
+/// Whether a partition's metadata log has so many metadata events.
 pub(crate) fn log_reads<Y: Yard>(yard: &mut Y, partition: PartitionId, many: usize) -> bool {
     match yard.meta(partition) {
         Ok(mut log) => {
@@ -135,7 +135,7 @@ pub(crate) fn log_reads<Y: Yard>(yard: &mut Y, partition: PartitionId, many: usi
     }
 }
 
-/// Whether a note of these bytes goes to this place of a partition's metadata log.
+/// Whether a metadata event of these bytes goes to this place of a partition's metadata log.
 pub(crate) fn log_grows<Y: Yard>(
     alloc: Global,
     yard: &mut Y,

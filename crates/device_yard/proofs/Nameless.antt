@@ -1,4 +1,4 @@
--- A yard without names hands out an empty tier of each partition that has no registry.
+-- An environment without names provides an empty tier of each partition that has no registry.
 use Rattle.std.specs.Prelude.{◌≡◌, ◌≢◌, List, [], ◌∷◌, Option, Some, None, IsSome, refl}
 use Rattle.std.proofs.Common.{◌∙◌, inl, inr}
 use Rattle.tier_base.specs.declared.names.PartitionId.{PartitionId}

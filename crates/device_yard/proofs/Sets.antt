@@ -1,4 +1,4 @@
--- Partitions in rising order: one more among them, and what their order tells.
+-- Partitions in rising order: one more among them, and what their order reports.
 use Rattle.std.specs.Prelude.{◌≡◌, ◌⊎◌, ◌↔◌, ℕ, ◌<◌, List, [], ◌∷◌, ◌++◌, refl}
 use Rattle.std.proofs.Common.{◌∙◌, sym, ap, subst, inl, inr, ⊎_elim, arith}
 use Rattle.std.specs.declared.cmp.Ordering.{Ordering}
@@ -41,7 +41,7 @@ pub inserted : (xs : List PartitionId) (q p : PartitionId) → In p (insert_key 
 inserted [] q p = (λ h. ⊎_elim (λ e. inr e) (λ no. absurd no) h, λ h. ⊎_elim (λ no. absurd no) (λ e. inl e) h)
 inserted (x ∷ xs) q p = insert_step (nat_cmp q.0 x.0) q x xs (insert_key id_cmp xs q) (same q x) (λ r. inserted xs q r) p
 
--- each is below all behind it, since the keys of a set ascend
+-- each is below all after it, since the keys of a set ascend
 all_above : (p q : PartitionId) (xs : List PartitionId) → AllByRecursion (λ y. id_cmp p y ≡ Less) xs → In q xs → p.0 < q.0
 all_above p q [] all h = absurd h
 all_above p q (x ∷ xs) all (inl e) = subst (λ y. p.0 < y.0) (sym e) (below p.0 x.0 all.0)

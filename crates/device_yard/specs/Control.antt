@@ -1,14 +1,15 @@
--- What a yard always tells: its faults, the last first name, how devices came back, and what registries' disks were read as.
+-- What an environment always reports: its faults, the last first name, how devices came back, and what registries'
+-- disks were read as.
 --
 --   form                 says
 --   Names r old new      `first_name` answered r
---   Asks f old new       a call ended so that hands nothing out
---   Hands f old new      a device was handed out, or wasn't, by a call that ended so
+--   Asks f old new       a call ended so that provides nothing
+--   Hands f old new      a device was provided, or wasn't, by a call that ended so
 --   TakesBack c old new  a device came back with these counts
 --   TakesRegistry c r .. so did a registry's disk, which was read as r last
 --
--- Before it is armed a device is opened, and the world that is made over it reads and writes. Of an armed device the faults
--- are the world's to answer for, and no longer the yard's.
+-- Before it is armed a device is opened, and the world that is made over it reads and writes. Of an armed device the
+-- faults are the world's to answer for, and no longer the environment's.
 use Rattle.std.specs.Prelude.{◌≡◌, ℕ, ◌+◌, nat_lt, Bool, not, ◌&&◌, if◌then◌else◌, List, [], ◌∷◌, ◌++◌, Option, Ok, Err}
 use Rattle.std.specs.declared.result.Result.{Result}
 use Rattle.tier_base.specs.declared.fault.Trouble.{Trouble}
@@ -24,12 +25,12 @@ pub record Control : Type 0 where
   pub named : Option (List ℕ)
   -- the counts of the devices that came back, the first of them first
   pub returned : List Came
-  -- what the registries' disks handed last, in the order in which they came back
+  -- what the registries' disks last returned, in the order in which they came back
   pub registries : List ReadRegistry
-  -- how many devices are handed out
+  -- how many devices are provided
   pub out : ℕ
 
--- a yard that was just made
+-- an environment that was just made
 pub record IsFresh (c : Control) : Type 0 where
   pub faults : c.faults ≡ 0
   pub returned : c.returned ≡ []
@@ -54,7 +55,7 @@ pub record Names (result : Result (Option (List ℕ)) Trouble) (old new : Contro
   pub registries : new.registries ≡ old.registries
   pub out : new.out ≡ old.out
 
--- a call that answers something and hands nothing out
+-- a call that answers something and provides nothing
 pub record Asks (fate : Fate) (old new : Control) : Type 0 where
   pub faults : Faults fate old.faults new.faults
   pub named : new.named ≡ old.named
@@ -75,7 +76,7 @@ pub record Hands (fate : Fate) (old new : Control) : Type 0 where
   pub registries : new.registries ≡ old.registries
   pub out : new.out ≡ out_after fate old.out
 
--- a device that was counted couldn't be opened, and isn't handed out
+-- a device that was counted couldn't be opened, and isn't provided
 pub record Withdraws (why : Trouble) (old new : Control) : Type 0 where
   pub faults : Faults (fate_of_trouble why) old.faults new.faults
   pub named : new.named ≡ old.named
@@ -83,7 +84,7 @@ pub record Withdraws (why : Trouble) (old new : Control) : Type 0 where
   pub registries : new.registries ≡ old.registries
   pub out : new.out + 1 ≡ old.out
 
--- a device that came back so is a fault of the yard
+-- a device that came back so is a fault of the environment
 abbrev pub is_fault : Came → Bool
 is_fault came = not came.armed && nat_lt 0 came.faults
 
@@ -94,7 +95,7 @@ pub record TakesBack (came : Came) (old new : Control) : Type 0 where
   pub registries : new.registries ≡ old.registries
   pub out : new.out + 1 ≡ old.out
 
--- a registry's disk came back with these counts, and these bytes were handed last
+-- a registry's disk came back with these counts, and these bytes were last returned
 pub record TakesRegistry (came : Came) (read : ReadRegistry) (old new : Control) : Type 0 where
   pub faults : new.faults ≡ (if is_fault came then counted old.faults 1 else old.faults)
   pub named : new.named ≡ old.named

@@ -1,4 +1,4 @@
--- The calls of a yard that are to fail, where it tells them.
+-- The calls of an environment that are to fail, where they are observable.
 --
 -- `first_name`, `partitions`, `disk`, `store`, `meta` and `registry` are counted together, from 1. The four `keep` calls can't
 -- fail and aren't counted.
@@ -13,7 +13,7 @@ pub record Plan : Type 0 where
   -- no device fails as it is opened, so that these numbers alone decide
   pub alone : Bool
 
--- the number of the next call, which stands still at its type's end
+-- the number of the next call, which stays at its type's greatest value
 abbrev pub next_of : Plan → ℕ
 next_of plan = min (plan.calls + 1) (2 ^ 32 - 1)
 
@@ -22,7 +22,7 @@ abbrev pub Counts : Fate → Option Plan → Option Plan → Type 0
 Counts fate None new = new ≡ None
 Counts fate (Some plan) new = ((fate ≡ Fault) ↔ Contains plan.failing (next_of plan)) × (new ≡ Some (record plan { calls = next_of plan }))
 
--- a call that opens what it hands out: it fails where the plan has its number, and else only where opening fails
+-- a call that opens what it provides: it fails where the plan has its number, and else only where opening fails
 abbrev pub CountsOpening : Fate → Option Plan → Option Plan → Type 0
 CountsOpening fate None new = new ≡ None
 CountsOpening fate (Some plan) new =

@@ -1,19 +1,20 @@
--- What a yard holds, where it tells: the devices that came back, and names of strangers.
+-- What an environment holds, where it is observable: the devices that came back, and names of strangers.
 --
 --   form                     says
---   IsUsed held p            a file, an object or a note of the partition stands
---   HasTier held p           an object or a note does
+--   IsUsed held p            a file, an object or a metadata event of the partition exists
+--   HasTier held p           an object or a metadata event does
 --   IsBare held p            so it is, and it has no registry
 --   AreUsed held list        the list has those partitions and no others
 --   Rise list                its numbers rise strictly
 --   IsFirst Named name       the first of the names, or none
---   HandsDisk files held c   a disk with this content is handed out where that is held
+--   HandsDisk files held c   a disk with this content is provided where that is held
 --   DiskIs p b now old new   that disk is held now, or none, and the rest stays
 --   RegistryIs p P old new   so does all but the disk of that registry, of which P holds
---   Same old new             what a call leaves that hands nothing out
+--   Same old new             what a call leaves that provides nothing
 --
--- Its names are the strangers' ones, and `p` with the number of each partition that has an object or a note and no registry:
--- of such a partition nobody can say what its brokers' logs had. The first of them is the least in the order of their bytes.
+-- Its names are the strangers' ones, and `p` with the number of each partition that has an object or a metadata event
+-- and no registry: of such a partition nobody can say what its brokers' logs had. The first of them is the least in the
+-- order of their bytes.
 use Rattle.std.specs.Prelude.{◌≡◌, ◌≢◌, ◌⊎◌, ◌↔◌, ℕ, ◌<◌, ◌≤◌, Bool, List, [], ◌∷◌, ◌++◌, codes, decimal, Option, Some, None, IsTrue, IsSome}
 use Rattle.tier_base.specs.declared.names.PartitionId.{PartitionId}
 use Rattle.tier_base.specs.declared.names.BrokerId.{BrokerId}
@@ -27,7 +28,7 @@ use Rattle.object_store.specs.Content as store
 use Rattle.object_store.specs.Memory.{IsEmptyStore}
 use Rattle.meta_log.specs.Content as log
 
--- Of a yard that isn't observable, the rest means nothing.
+-- Of an environment that isn't observable, the rest means nothing.
 pub record YardContent (D S M : Type 0) : Type 0 where
   pub is_observable : Bool
   pub strays : List (List ℕ)
@@ -48,7 +49,7 @@ Both R None None = Unit {0}
 Both R (Some x) (Some y) = R x y
 Both R a b = ⊥
 
--- a text stands before another, or is it
+-- a text precedes another, or is it
 abbrev pub IsUpTo : List ℕ → List ℕ → Type 0
 IsUpTo [] bs = Unit {0}
 IsUpTo (a ∷ more) [] = ⊥
@@ -59,12 +60,12 @@ abbrev pub IsFirst : (List ℕ → Type 0) → Option (List ℕ) → Type 0
 IsFirst Named None = (text : List ℕ) → Named text → ⊥
 IsFirst Named (Some name) = Named name × ((text : List ℕ) → Named text → IsUpTo name text)
 
--- the numbers rise strictly: each is below all behind it
+-- the numbers rise strictly: each is below all after it
 abbrev pub Rise : List PartitionId → Type 0
 Rise [] = Unit {0}
 Rise (p ∷ more) = ((q : PartitionId) → In q more → p.0 < q.0) × Rise more
 
--- a metadata log without notes, of which a power cut leaves none
+-- a metadata log without metadata events, of which a power cut leaves none
 pub record IsEmptyLog (c : log.Content) : Type 0 where
   pub is_observable : IsTrue c.is_observable
   pub notes : c.notes ≡ []
@@ -107,14 +108,14 @@ module _ {D S M : Type 0} where
     pub logs : (p : PartitionId) → new.logs p ≡ old.logs p
 
 module _ {D S M : Type 0} (files : D → disk.Content) (objects : S → store.Content) (notes : M → log.Content) where
-  -- something of the partition stands
+  -- the partition is in use
   abbrev pub IsUsed : YardContent D S M → PartitionId → Type 0
   IsUsed held p =
       ((b : BrokerId) × Has (λ d. (n : FileName) × IsSome ((files d).files n)) (held.disks p b))
       ⊎ (Has (λ s. (k : ObjectKey) × IsSome ((objects s).objects k)) (held.stores p)
       ⊎ Has (λ m. (notes m).notes ≢ []) (held.logs p))
 
-  -- an object or a note of the partition stands
+  -- an object or a metadata event of the partition exists
   abbrev pub HasTier : YardContent D S M → PartitionId → Type 0
   HasTier held p =
       Has (λ s. (k : ObjectKey) × IsSome ((objects s).objects k)) (held.stores p)
@@ -124,15 +125,15 @@ module _ {D S M : Type 0} (files : D → disk.Content) (objects : S → store.Co
   abbrev pub HasRegistry : YardContent D S M → PartitionId → Type 0
   HasRegistry held p = Has (λ d. IsSome ((files d).files Registry)) (held.registries p)
 
-  -- it has an object or a note, and no registry
+  -- it has an object or a metadata event, and no registry
   abbrev pub IsBare : YardContent D S M → PartitionId → Type 0
   IsBare held p = HasTier held p × (HasRegistry held p → ⊥)
 
-  -- the list has the partitions of which something stands
+  -- the list has the partitions in use
   abbrev pub AreUsed : YardContent D S M → List PartitionId → Type 0
   AreUsed held list = (p : PartitionId) → IsUsed held p ↔ In p list
 
-  -- nothing of it stands
+  -- nothing of it exists
   abbrev pub IsUnused : YardContent D S M → PartitionId → Type 0
   IsUnused held p = IsUsed held p → ⊥
 
@@ -149,7 +150,7 @@ module _ {D S M : Type 0} (files : D → disk.Content) (objects : S → store.Co
     pub logs : (p : PartitionId) → Both (λ m n. log.Keeps (notes m) (notes n)) (old.logs p) (new.logs p)
     pub registries : (p : PartitionId) → Both (λ d e. disk.Keeps (files d) (files e)) (old.registries p) (new.registries p)
 
-  -- a name that stands in the yard
+  -- a name that is in the environment
   abbrev pub IsName : YardContent D S M → List ℕ → Type 0
   IsName held text = In text held.strays ⊎ ((p : PartitionId) × IsBare held p × (text ≡ codes "p" ++ decimal p.0))
 
@@ -161,7 +162,7 @@ IsOut held = held ≡ None
 abbrev pub HoldsDisk : {D : Type 0} → (D → disk.Content) → D → Option D → Type 0
 HoldsDisk files d held = Has (λ e. disk.Keeps (files d) (files e)) held
 
--- a disk that is handed out has what came back, or nothing
+-- a disk that is provided has what came back, or nothing
 abbrev pub HandsDisk : {D : Type 0} → (D → disk.Content) → Option D → disk.Content → Type 0
 HandsDisk files None c = IsEmptyDisk c
 HandsDisk files (Some d) c = disk.Keeps (files d) c

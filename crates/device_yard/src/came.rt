@@ -11,7 +11,7 @@ pub struct Came {
 }
 
 impl Came {
-    /// Answers whether a device that comes back so is a fault of the yard.
+    /// Returns whether a device that comes back so is a fault of the environment.
     pub fn is_fault(self) -> bool
         ensures { result ≡ is_fault self }
     {

@@ -1,4 +1,5 @@
-//! The counts of a yard: its faults, the last first name, how devices came back, and what registries' disks were read as.
+//! The counts of an environment: its faults, the last first name, how devices came back, and what registries' disks
+//! were read as.
 
 ghost use Rattle.std.specs.Prelude.{◌≡◌, ◌↔◌, ◌+◌, ◌<◌, ◌≤◌, ◌^◌, if◌then◌else◌, Ok, None, IfOk, OnOk};
 ghost use Rattle.tier_base.specs.Counts.{counted};
@@ -11,7 +12,7 @@ use std::alloc::{AllocError, Global};
 use std::marker::Model;
 use tier_base::{Blob, Trouble};
 
-/// What a yard has counted. There is room for each device that is out to come back.
+/// What an environment has counted. There is room for each device that is out to come back.
 #[derive(Drop)]
 pub struct YardCounts {
     alloc: Global,
@@ -56,7 +57,7 @@ impl YardCounts {
         }
     }
 
-    /// Counts the faults of the yard.
+    /// Counts the faults of the environment.
     pub fn faults(&self) -> u64
         ensures { result ≡ self.now.faults }
     {
@@ -78,14 +79,14 @@ impl YardCounts {
         self.returned.as_slice()
     }
 
-    /// Lends what the registries' disks handed last, in the order in which they came back.
+    /// Lends what the registries' disks last returned, in the order in which they came back.
     pub fn registries(&self) -> &[ReadRegistry]
         ensures { result.now ≡ self.now.registries }
     {
         self.registries.as_slice()
     }
 
-    /// Notes the first name as it was found, and answers it.
+    /// Records the first name as it was found, and returns it.
     pub fn name(&mut self, found: Result<Option<Blob>, Trouble>) -> Result<Option<Blob>, Trouble>
         ensures names { Names result self.old self.new }
         ensures found { IfOk result (λ name. found ≡ Ok name) }
@@ -104,7 +105,7 @@ impl YardCounts {
         }
     }
 
-    /// Counts a call that hands nothing out, and answers what it found.
+    /// Counts a call that provides nothing, and returns what it found.
     pub fn ask<T: Drop>(&mut self, found: Result<T, Trouble>) -> Result<T, Trouble>
         ensures asks { Asks (fate_of found) self.old self.new }
         ensures found { result ≡ found }
@@ -114,7 +115,7 @@ impl YardCounts {
         found
     }
 
-    /// Counts a device that is handed out, if it was made.
+    /// Counts a device that is provided, if it was made.
     pub fn hand<T: Drop>(&mut self, made: Result<T, Trouble>) -> Result<T, Trouble>
         ensures hands { Hands (fate_of result) self.old self.new }
         ensures made { IfOk result (λ device. made ≡ Ok device) }
@@ -154,7 +155,7 @@ impl YardCounts {
         self.out -= 1;
     }
 
-    /// Counts a registry's disk that comes back, and notes what it handed last.
+    /// Counts a registry's disk that comes back, and records what it last returned.
     pub fn take_registry(&mut self, came: Came, read: ReadRegistry)
         requires { 1 ≤ self.old.out }
         ensures { TakesRegistry came read self.old self.new }

@@ -9,17 +9,17 @@ use disk_model::Disk;
 use meta_log::MetaLog;
 use object_store::Store;
 
-/// Where nothing is named, a partition without a registry has no object and no note.
+/// Where nothing is named, a partition without a registry has no object and no metadata event.
 pub fn nameless_has_no_tier<D: Disk, S: Store, M: MetaLog>()
     ensures { NamelessHasNoTier D.content S.content M.content }
 {}
 
-/// Of a partition without objects and notes an empty store and an empty metadata log are handed out.
+/// Of a partition without objects and metadata events an empty store and an empty metadata log are provided.
 pub fn tierless_is_empty<D: Disk, S: Store, M: MetaLog>()
     ensures { TierlessIsEmpty D.content S.content M.content }
 {}
 
-/// Of a partition without a registry a disk is handed out that has no registry's file.
+/// Of a partition without a registry a disk is provided that has no registry's file.
 pub fn registry_is_absent<D: Disk, S: Store, M: MetaLog>()
     ensures { RegistryIsAbsent D.content S.content M.content }
 {}

@@ -1,4 +1,4 @@
-//! The partitions that a yard has found, each once and in rising order, in whatever order they were found.
+//! The partitions that an environment has found, each once and in rising order, in whatever order they were found.
 
 ghost use Rattle.std.specs.Prelude.{◌≡◌, ◌⊎◌, ◌↔◌, [], OnOk, OnErr, IfOk};
 ghost use Rattle.tier_base.specs.Told.{In};

@@ -3,7 +3,7 @@
 use bytes::Bytes;
 use tier_base::PartitionId;
 
-/// The bytes that a registry's disk handed last, and the partition whose registry it keeps.
+/// The bytes that a registry's disk last returned, and the partition whose registry it keeps.
 #[derive(Debug, PartialEq, Eq, Drop)]
 pub struct ReadRegistry {
     pub partition: PartitionId,

@@ -15,8 +15,8 @@ use meta_log::MetaLog;
 use object_store::Store;
 use tier_base::{Blob, BrokerId, PartitionId, Row, Trouble};
 
-/// Where the devices of partitions come from, and where they come back to. A call that answers `Failed` has handed nothing out
-/// and leaves what is held as it was.
+/// Where the devices of partitions come from, and where they come back to. A call that answers `Failed` has provided
+/// nothing and leaves what is held as it was.
 pub trait Yard {
     type D: Disk;
 
@@ -30,7 +30,7 @@ pub trait Yard {
     /// The faults, the last first name, how devices came back, and how many are out.
     ghost control: { Self → Control };
 
-    /// The calls that are to fail, where they are told.
+    /// The calls that are to fail, where they are observable.
     ghost plan: { Self → Option Plan };
 
     /// Gives the first of the names in the order of their bytes, if there is one.
@@ -42,7 +42,7 @@ pub trait Yard {
         ensures first { IsTrue (held self.old).is_observable → IfOk result
             (IsFirst (IsName Self.D.content Self.S.content Self.M.content (held self.old))) };
 
-    /// Names the partitions of which something stands, in rising order.
+    /// Names the partitions in use, in rising order.
     fn partitions(&mut self) -> Result<Row<PartitionId>, Trouble>
         ensures control { Asks (fate_of result) (control self.old) (control self.new) }
         ensures plan { Counts (fate_of result) (plan self.old) (plan self.new) }
@@ -52,7 +52,7 @@ pub trait Yard {
         ensures used { IsTrue (held self.old).is_observable → IfOk result
             (AreUsed Self.D.content Self.S.content Self.M.content (held self.old)) };
 
-    /// Hands out a broker's disk.
+    /// Provides a broker's disk.
     fn disk(&mut self, partition: PartitionId, broker: BrokerId) -> Result<Self::D, Trouble>
         ensures control { Hands (fate_of result) (control self.old) (control self.new) }
         ensures plan { Counts (fate_of result) (plan self.old) (plan self.new) }
@@ -66,7 +66,7 @@ pub trait Yard {
         ensures err { IsTrue (held self.old).is_observable → OnErr result
             (Same Self.D.content Self.S.content Self.M.content (held self.old) (held self.new)) };
 
-    /// Hands out a partition's store.
+    /// Provides a partition's store.
     fn store(&mut self, partition: PartitionId) -> Result<Self::S, Trouble>
         ensures control { Hands (fate_of result) (control self.old) (control self.new) }
         ensures plan { Counts (fate_of result) (plan self.old) (plan self.new) }
@@ -80,7 +80,7 @@ pub trait Yard {
         ensures err { IsTrue (held self.old).is_observable → OnErr result
             (Same Self.D.content Self.S.content Self.M.content (held self.old) (held self.new)) };
 
-    /// Hands out a partition's metadata log.
+    /// Provides a partition's metadata log.
     fn meta(&mut self, partition: PartitionId) -> Result<Self::M, Trouble>
         ensures control { Hands (fate_of result) (control self.old) (control self.new) }
         ensures plan { CountsOpening (fate_of result) (plan self.old) (plan self.new) }
@@ -94,7 +94,7 @@ pub trait Yard {
         ensures err { IsTrue (held self.old).is_observable → OnErr result
             (Same Self.D.content Self.S.content Self.M.content (held self.old) (held self.new)) };
 
-    /// Hands out the disk that keeps a partition's registry.
+    /// Provides the disk that keeps a partition's registry.
     fn registry(&mut self, partition: PartitionId) -> Result<Self::D, Trouble>
         ensures control { Hands (fate_of result) (control self.old) (control self.new) }
         ensures plan { Counts (fate_of result) (plan self.old) (plan self.new) }
@@ -144,7 +144,7 @@ pub trait Yard {
         ensures held { IsTrue (held self.old).is_observable
             → LogIs partition (Some meta) (held self.old) (held self.new) };
 
-    /// Takes the disk back that keeps a partition's registry, and notes the bytes that it handed last.
+    /// Takes the disk back that keeps a partition's registry, and records the bytes that it last returned.
     fn keep_registry(&mut self, partition: PartitionId, disk: Self::D)
         requires { 1 ≤ (control self.old).out }
         ensures control { TakesRegistry (record {

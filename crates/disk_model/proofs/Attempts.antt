@@ -11,7 +11,7 @@ use Rattle.disk_model.specs.Steps.{Step, Append, Sync, Cut, Replace, Remove, rea
 use Rattle.disk_model.specs.Kept.{Kept, attempts}
 use Rattle.disk_model.proofs.Steps.{attempted, sync_attempted, after_only, synced_begins, left_now}
 
--- a call that hands nothing
+-- a call that returns nothing
 pub quiet : {K : Type 0} {code : K → ℕ} (call : K) (fate : Fate) (f g : Faults K) (last_read : List ℕ) → ((before after : List ℕ) → Ran call fate (control_of code f before) (control_of code g after)) → RanQuietly call fate (control_of code f last_read) (control_of code g last_read)
 quiet call fate f g last_read ran = record { ran = ran last_read last_read; last_read = refl }
 

@@ -47,7 +47,7 @@ ended-append from (x ∷ xs) ys ends =
     let n : x.end + length (joined xs) ≡ from + length (x.bytes ++ joined xs) = omega (arith, ends.0, length-append x.bytes (joined xs)) in
     ((ends.0, more.0), subst (λ (n : ℕ). AreEnded n ys) n more.1)
 
--- one piece more, behind the others
+-- one piece more, after the others
 pub ended-push : (from : ℕ) (xs : List Chunk) (last : Chunk) → AreEnded from xs → last.end ≡ from + length (joined xs) + length last.bytes → AreEnded from (xs ++ last ∷ [])
 ended-push from [] last ends is = (omega (arith, is), tt)
 ended-push from (x ∷ xs) last ends is = (ends.0, ended-push x.end xs last ends.1 (omega (arith, is, ends.0, length-append x.bytes (joined xs))))
@@ -62,7 +62,7 @@ ends-adjacent from (x ∷ y ∷ xs) (suc k) d ends lt = ends-adjacent x.end (y �
 pub ends-rise : (xs : List Chunk) → AreEnded 0 xs → IsNonDecreasingBy (λ p. p.end) xs
 ends-rise xs ends = IsNonDecreasingBy-from_all_adjacent (λ p. p.end) xs (λ k d l. rw add-one (ends-adjacent 0 xs k d ends (omega (arith, l))))
 
--- what stands in front of a place, and what reaches past it
+-- what precedes a place, and what reaches past it
 pub passed_at : (from at : ℕ) (xs : List Chunk) (i : ℕ) → AreEnded from xs → from ≤ at → i ≤ length xs → IsPartitionPoint (λ y. nat_le y.end at ≡ true) (λ y. nat_le y.end at ≡ false) xs i
     → (from + length (joined (take i xs)) ≤ at) × (i < length xs → at < from + length (joined (take (i + 1) xs)))
 passed_at from at [] zero ends le l h = (omega (arith, le), λ lt. absurd (omega (arith, lt)))
@@ -98,7 +98,7 @@ copied most left here front bytes part leaves is parts =
     ap (λ (p : List ℕ). take most front ++ p) (parts ∙ ap (λ (k : ℕ). take k bytes) is ∙ take_min left bytes ∙ ap (λ (k : ℕ). take k bytes) leaves)
     ∙ sym (take-over most front bytes)
 
--- what stands behind so many bytes isn't wanted
+-- what follows so many bytes isn't wanted
 pub enough : (most i : ℕ) (pieces : List Chunk) → most ≤ length (joined (take i pieces)) → take most (joined (take i pieces)) ≡ take most (joined pieces)
 enough most i pieces has =
     sym (take-append-le most (joined (take i pieces)) (joined (drop i pieces)) has)
@@ -118,7 +118,7 @@ part-in front behind piece at here most some is =
     ∙ ap (drop at) (sym (joined-append front (piece ∷ behind)))
     )
 
--- the piece at which what stands in front of a place ends: all pieces, where it ends, and that it reaches past the place
+-- the piece at which what precedes a place ends: all pieces, where it ends, and that it reaches past the place
 pub stands : (items passed rest : List Chunk) (i at : ℕ) (piece : Chunk) (behind : List Chunk) → AreEnded 0 items → passed ≡ items → rest ≡ items → take (length rest - i) (drop i rest) ≡ piece ∷ behind
     → (i < length passed → at < length (joined (take (i + 1) passed)))
     → (items ≡ take i items ++ piece ∷ behind) × ((piece.end ≡ length (joined (take i items)) + length piece.bytes) × (at < piece.end))

@@ -141,7 +141,7 @@ real shelf n h =
       in_slot : (name : FileName) (held : Option FileBytes) → files_on shelf name ≡ bytes_at held → In n (if_there name held) → IsSome (files_on shelf n)
       in_slot name held is h = (let r = slot_back n name held h in subst (λ (m : FileName). IsSome (files_on shelf m)) (sym r.0) (subst IsSome (sym is) r.1))
 
--- no name stands twice
+-- no name occurs twice
 once : (shelf : Shelf) → IsStrictlySortedBy nat_cmp (keys shelf.logs) → Once (names_on shelf)
 once shelf sorted =
     let L : List FileName = map Log (keys shelf.logs) in

@@ -1,4 +1,4 @@
--- Files as patches of those that stood there before.
+-- Files as patches of those that was there before.
 use Rattle.std.proofs.Common.{◌≡◌, ◌≤◌, ◌∙◌, sym, ap, refl, arith, ℕ, ◌+◌, ◌*◌, ◌-◌, Bool, true, false, List, ◌++◌, take, drop, length, take-append-drop, length-drop, length-take, take_all, take-add, drop-drop, append_assoc}
 use Rattle.std.specs.Prelude.{not}
 use Rattle.std.specs.Cmp.Lexicographic.{same_text}
@@ -28,7 +28,7 @@ block_more old new b before test =
     ∙ ap (λ (xs : List ℕ). take n new ++ xs) (sym (ap (λ (m : ℕ). take m (drop n old)) block) ∙ same ∙ ap (λ (m : ℕ). take m (drop n new)) block)
     ∙ sym (take-add n 128 new) ∙ sym (ap (λ (m : ℕ). take m new) further)
 
--- the head, what is the same, and what stands behind it
+-- the head, what is the same, and what follows it
 pub put_together : (old new : List ℕ) (same : ℕ) → 32 + same ≤ length new → take same (drop 32 old) ≡ take same (drop 32 new)
     → take 32 (take 32 new ++ drop (32 + same) new) ++ take same (drop 32 old) ++ drop 32 (take 32 new ++ drop (32 + same) new) ≡ new
 put_together old new same fits e =

@@ -1,4 +1,4 @@
--- The kinds of call of a disk, told apart by a number.
+-- The kinds of call of a disk, distinguished by a number.
 use Rattle.std.specs.Prelude.{ℕ}
 use Rattle.disk_model.specs.declared.call.DiskCall.{DiskCall}
 use Rattle.disk_model.specs.declared.call.DiskCall.TheVariants.{Append, Sync, Read, Cut, Replace, Remove, List as Listing}

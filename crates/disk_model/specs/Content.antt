@@ -9,9 +9,9 @@
 --   Lawful d                          what holds of every disk
 --
 --   call      of the file makes      a crash then may leave
---   append    appended bytes         Grown: as before, or what was there with any bytes behind
+--   append    appended bytes         Grown: as before, or what was there with any bytes after
 --   sync      itself                 and after `Ok` it Begins with what reads
---   cut       cut_to len             CutBack: as before, or the front of what was there with any bytes behind
+--   cut       cut_to len             CutBack: as before, or the front of what was there with any bytes after
 --   replace   replaced bytes         Swapped: the old or the new file, and after `Ok` the new one
 --   remove    removed                Gone: as before, or none
 --
@@ -37,13 +37,13 @@ pub record Content : Type 1 where
 abbrev pub Image : Content → Files → Type 0
 Image d c = d.left d.moment c
 
--- A disk as it reads is one of its images, an earlier moment has more of them, and only one that tells has any.
+-- A disk as it reads is one of its images, an earlier moment has more of them, and only one that reports has any.
 pub record Lawful (d : Content) : Type 0 where
   pub reads : IsTrue d.is_observable → Image d d.files
   pub told : (c : Files) → Image d c → IsTrue d.is_observable
   pub earlier : (t u : ℕ) (c : Files) → t ≤ u → d.left u c → d.left t c
 
--- Time goes on: a crash since t might have left what it might have left before, or what it may leave now.
+-- Time continues: a crash since t might have left what it might have left before, or what it may leave now.
 pub record Elapses (old new : Content) : Type 0 where
   pub later : old.moment ≤ new.moment
   pub nothing_else : (t : ℕ) (c : Files) → t ≤ old.moment → new.left t c → old.left t c ⊎ Image new c
@@ -79,11 +79,11 @@ pub record Keeps (old new : Content) : Type 0 where
 abbrev pub part_of : ℕ → ℕ → List ℕ → List ℕ
 part_of at most bytes = take most (drop at bytes)
 
--- `append`: until a sync, any bytes behind what was there
+-- `append`: until a sync, any bytes after what was there
 abbrev pub appended : List ℕ → Option (List ℕ) → Option (List ℕ)
 appended bytes file = Some (bytes_in file ++ bytes)
 
--- as before, or what was there with any bytes behind
+-- as before, or what was there with any bytes after
 abbrev pub Grown : Option (List ℕ) → Option (List ℕ) → Type 0
 Grown before after = (after ≡ before) ⊎ ((behind : List ℕ) × (after ≡ Some (bytes_in before ++ behind)))
 
@@ -91,7 +91,7 @@ Grown before after = (after ≡ before) ⊎ ((behind : List ℕ) × (after ≡ S
 abbrev pub cut_to : ℕ → Option (List ℕ) → Option (List ℕ)
 cut_to len file = option_map (take len) file
 
--- the file whole, or its front with any bytes behind
+-- the file whole, or its front with any bytes after
 abbrev pub CutBack : ℕ → Option (List ℕ) → Option (List ℕ) → Type 0
 CutBack len before after =
     (after ≡ before)
@@ -105,6 +105,6 @@ Swapped bytes before after = (after ≡ before) ⊎ (after ≡ Some bytes)
 abbrev pub Gone : Option (List ℕ) → Option (List ℕ) → Type 0
 Gone before after = (after ≡ before) ⊎ (after ≡ None)
 
--- after a sync a crash leaves what reads, with any bytes behind
+-- after a sync a crash leaves what reads, with any bytes after
 abbrev pub Begins : Option (List ℕ) → Option (List ℕ) → Type 0
 Begins read after = IsSome read → (behind : List ℕ) × (after ≡ Some (bytes_in read ++ behind))

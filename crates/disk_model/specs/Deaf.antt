@@ -1,9 +1,9 @@
--- A disk that tells no content.
+-- A disk that isn't observable.
 use Rattle.std.specs.Prelude.{false, None}
 use Rattle.std.proofs.lemmas.Bool.{false≢true}
 use Rattle.disk_model.specs.Content.{Content, Lawful}
 
--- nothing is told, and no image is claimed
+-- nothing is reported, and no image is claimed
 abbrev pub nothing_told : Content
 nothing_told = record { is_observable = false; files = λ n. None; moment = 0; left = λ t c. ⊥ }
 

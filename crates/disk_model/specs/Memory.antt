@@ -18,7 +18,7 @@ pub record Crashes (old new : Content) : Type 0 where
   pub time : Elapses old new
 
 module _ {K : Type 0} {code : K → ℕ} where
-  -- nothing that is told has changed, but whether the plan alone decides which calls fail
+  -- nothing that is reported has changed, but whether the plan alone decides which calls fail
   pub record Stays (old new : Control code) : Type 0 where
     pub plan : new.plan ≡ old.plan
     pub armed : new.armed ≡ old.armed

@@ -1,4 +1,4 @@
--- What a disk in memory has beside what every disk tells: the bytes that are synced, and its fuse.
+-- What a disk in memory has beside what every disk reports: the bytes that are synced, and its fuse.
 use Rattle.std.specs.Prelude.{ℕ, Option}
 use Rattle.disk_model.specs.declared.memory_disk.MemoryDisk.{MemoryDisk}
 use Rattle.disk_model.specs.Content.{Files}

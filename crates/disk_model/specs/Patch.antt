@@ -1,5 +1,5 @@
--- A file that stands in the place of another one, as what differs: its first 32 bytes, how many bytes behind them are
--- those of the other one, and what stands behind these.
+-- A file that replaces another one, as what differs: its first 32 bytes, how many bytes after them are those of the
+-- other one, and what follows these.
 use Rattle.std.specs.Prelude.{ℕ, List, ◌++◌, take, drop}
 use Rattle.disk_model.specs.declared.patch.Patch.{Patch}
 

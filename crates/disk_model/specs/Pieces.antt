@@ -8,7 +8,7 @@ use Rattle.disk_model.specs.declared.pieces.Pieces.TheInside.{Inside}
 abbrev pub joined : List Chunk → List ℕ
 joined pieces = concat (map (λ piece. piece.bytes) pieces)
 
--- behind so many bytes each piece has where it ends
+-- after so many bytes each piece has where it ends
 abbrev pub AreEnded : ℕ → List Chunk → Type 0
 AreEnded from [] = Unit {0}
 AreEnded from (piece ∷ pieces) = (piece.end ≡ from + length piece.bytes) × AreEnded piece.end pieces

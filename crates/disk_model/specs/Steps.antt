@@ -5,7 +5,7 @@
 --   safe past       what is left by a crash that drops what isn't synced
 --   LeftAfter past  what a crash may leave after the last step
 --   LeftSince past  what a crash at some moment since a time might have left
---   content_of past all of it, as a disk tells it
+--   content_of past all of it, as a disk reports it
 use Rattle.std.specs.Prelude.{◌≡◌, ◌⊎◌, ℕ, ◌≤◌, ◌==◌, Bool, true, false, if◌then◌else◌, List, [], ◌∷◌, length, Option, Some, None, MatchBool}
 use Rattle.std.specs.Bool.{OnTrue}
 use Rattle.tier_base.specs.declared.plain.FileName.{FileName}
@@ -110,6 +110,6 @@ abbrev pub LeftSince : List Step → ℕ → Files → Type 0
 LeftSince [] t c = LeftAfter [] c
 LeftSince (s ∷ past) t c = LeftAfter (s ∷ past) c ⊎ ((t ≤ length past) × LeftSince past t c)
 
--- what the disk tells
+-- what the disk reports
 abbrev pub content_of : List Step → Content
 content_of past = record { is_observable = true; files = reads past; moment = length past; left = LeftSince past }

@@ -106,7 +106,7 @@ pub fn front_of(file: Option<Bytes>, most: usize) -> Option<Bytes>
     }
 }
 
-/// Hands bytes where they are given.
+/// Records bytes as last read, if the call returns them.
 pub fn hand(last_read: &mut Bytes, given: bool, bytes: Bytes)
     ensures { last_read.new ≡ (if given then bytes else last_read.old) }
 {

@@ -18,7 +18,7 @@ use std::alloc::{AllocError, Global};
 use std::mem;
 use tier_base::{Failed, FaultPlan, FileName, Row, Trouble, give};
 
-/// A disk that tells no content.
+/// A disk that isn't observable.
 #[derive(Drop)]
 pub struct DeafDisk {
     alloc: Global,
@@ -29,7 +29,7 @@ pub struct DeafDisk {
 }
 
 impl DeafDisk {
-    /// Makes a disk of these files, without memory. Where a name stands twice, the first counts.
+    /// Makes a disk of these files, without memory. Where a name occurs twice, the first counts.
     pub fn new(alloc: Global, files: Vec<(FileName, Bytes)>) -> DeafDisk
         ensures fresh { IsFresh (⟦<DeafDisk as Disk>⟧.control result) }
         ensures plan { (⟦<DeafDisk as Disk>⟧.control result).plan ≡ [] }

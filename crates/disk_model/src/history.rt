@@ -1,8 +1,8 @@
 //! The files of a disk in memory with all that was done to them, from which its images follow.
 //!
-//! Each call notes what it did after it did it. `append` and `replace` make room for that first;
-//! `sync`, `cut` and `remove` use room that was promised by `reserve`. A crash takes no room: the
-//! next event notes that there was one before it.
+//! Each call records what it did after it did it. `append` and `replace` make room for that first; `sync`, `cut` and
+//! `remove` use room that was promised by `reserve`. A crash takes no room: the next event records that there was one
+//! before it.
 
 ghost use Rattle.std.specs.Prelude.{◌≡◌, ◌+◌, ◌≤◌, ◌<◌, ◌++◌, ◌∷◌, [], false, IfOk, OnOk, OnErr, drop, option_map, vec_len, vec_capacity};
 ghost use Rattle.tier_base.specs.Told.{Names};
@@ -218,7 +218,7 @@ fn make_room(events: &mut Vec<Event>, spare: usize) -> Result<(), AllocError>
     }
 }
 
-/// Notes what was done, and whether there was a crash before it.
+/// Records what was done, and whether there was a crash before it.
 fn note(events: &mut Vec<Event>, crashed: &mut bool, op: Op)
     requires { vec_len events.old < vec_capacity events.old }
     ensures items { events.new.items

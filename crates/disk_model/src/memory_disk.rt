@@ -51,7 +51,7 @@ impl MemoryDisk {
         }
     }
 
-    /// Hands the disk out anew: the content stays, with this plan, no fault and no call counted.
+    /// Provides the disk again: the content stays, with this plan, no fault and no call counted.
     pub fn renew(&mut self, plan: Vec<Planned>)
         ensures content { Keeps (⟦<MemoryDisk as Disk>⟧.content self.old)
             (⟦<MemoryDisk as Disk>⟧.content self.new) }
@@ -103,14 +103,14 @@ impl MemoryDisk {
         self.faults.plan()
     }
 
-    /// Answers whether there is a fuse, or was one.
+    /// Returns whether there is a fuse, or was one.
     pub fn fused(&self) -> bool
         ensures { IsTrue result ↔ IsFalse (⟦<MemoryDisk as Disk>⟧.control self.now).scripted }
     {
         !self.faults.is_scripted()
     }
 
-    /// Answers whether planned calls fail.
+    /// Returns whether planned calls fail.
     pub fn is_armed(&self) -> bool
         ensures { result ≡ (⟦<MemoryDisk as Disk>⟧.control self.now).armed }
     {

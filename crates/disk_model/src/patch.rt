@@ -15,12 +15,12 @@ const HEAD: usize = 32;
 /// How many bytes are compared at once.
 const BLOCK: usize = 128;
 
-/// What a file has that stands in the place of another one.
+/// What a file has that replaces another one.
 #[derive(Drop)]
 pub struct Patch {
-    /// How many bytes behind the head are as they were.
+    /// How many bytes after the head are as they were.
     pub same: usize,
-    /// The head, and what stands behind those bytes.
+    /// The head, and what follows those bytes.
     pub fresh: Bytes,
 }
 
@@ -40,7 +40,7 @@ fn count_same(old: &[u8], new: &[u8]) -> usize
     most * BLOCK
 }
 
-/// The new file, as long as a head at least, as a patch that has so many bytes behind the head of the old one.
+/// The new file, as long as a head at least, as a patch that has so many bytes after the head of the old one.
 fn patch_with(alloc: Global, same: usize, new: &[u8]) -> Result<Patch, AllocError>
     requires { 32 + same ≤ length new.now }
     ensures { IfOk result (λ patch. (old : List ℕ) → take same (drop 32 old) ≡ take same (drop 32 new.now)

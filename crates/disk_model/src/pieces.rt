@@ -1,10 +1,9 @@
 //! Bytes in pieces, one after another, each of which may have further owners.
 //!
-//! A piece is put behind the others, and bytes are cut off the end, without a copy of any byte. A part
-//! within one piece is shared. One that spans pieces is copied alone, so that whoever keeps it keeps
-//! no more than it, and the pieces stay shared with their other owners. Who asks for all bytes by
-//! their number, as a copy of a segment does, may keep them, and may ask again: then they become one
-//! piece.
+//! A piece is put after the others, and bytes are cut off the end, without a copy of any byte. A part within one piece
+//! is shared. One that spans pieces is copied alone, so that whoever keeps it keeps no more than it, and the pieces
+//! stay shared with their other owners. Who asks for all bytes by their number, as a copy of a segment does, may keep
+//! them, and may ask again: then they become one piece.
 
 ghost use Rattle.std.specs.Prelude.{◌≡◌, ◌≤◌, ◌<◌, ◌^◌, ◌+◌, ◌-◌, ◌++◌, ℕ, List, [], length, take, drop, IfOk, OnOk, OnErr};
 ghost use Rattle.disk_model.specs.Content.{part_of};
@@ -14,7 +13,7 @@ use bytes::Bytes;
 use std::alloc::{AllocError, Global};
 use std::marker::Model;
 
-/// How many bytes there may be: as many as stand in one vector.
+/// How many bytes there may be: as many as fit one vector.
 const MOST: usize = usize::MAX / 2;
 
 /// A piece, and where it ends, so that a place is found by halving.
@@ -71,7 +70,7 @@ impl Pieces {
         }
     }
 
-    /// Puts a piece behind the others.
+    /// Puts a piece after the others.
     pub fn push(&mut self, bytes: Bytes) -> Result<(), AllocError>
         ensures ok { OnOk result (self.new ≡ self.old ++ bytes) }
         ensures err { OnErr result (self.new ≡ self.old) }
@@ -163,8 +162,7 @@ fn read_in(
     Ok(Bytes::from_vec(all)?)
 }
 
-/// Copies so many of the first bytes of pieces to the end of others. Where memory fails, some of
-/// them may stand there.
+/// Copies so many of the first bytes of pieces to the end of others. Where memory fails, some of them may be there.
 fn copy_front(pieces: &[Chunk], mut most: usize, all: &mut Vec<u8>) -> Result<(), AllocError>
     ensures { OnOk result (all.new.items ≡ all.old.items ++ take most (joined pieces.now)) }
 {

@@ -171,7 +171,7 @@ pub fn test_offsets<W: Write>(
     ended(rt, out, log, joined(ending, finished), wrong)
 }
 
-/// How a dump and the lines behind it ended.
+/// How a dump and the lines after it ended.
 fn joined(
     ending: Result<Ending, DumpRefusal>,
     finished: Result<(), ShowRefusal>,

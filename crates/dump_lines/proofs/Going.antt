@@ -14,7 +14,7 @@ use Rattle.dump_lines.specs.Dump.{IsDump, Dumps, Fills}
 use Rattle.dump_lines.proofs.Kept.{seen_kept}
 use Rattle.dump_lines.proofs.Lists.{drop_front}
 
--- what comes behind is shown behind what was shown
+-- what comes after is shown after what was shown
 abbrev pub GoesOn : ℕ → List ℕ → List Shown → Type 0
 GoesOn at passed batches = (behind : List ℕ) (others : List Shown) (end : Ending) → IsDump at behind others end → IsDump 0 (passed ++ behind) (batches ++ others) end
 

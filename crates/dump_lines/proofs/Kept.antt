@@ -1,4 +1,4 @@
--- A batch that is shown is told by its own bytes: whatever follows them, it is found again.
+-- A batch that is shown is reported by its own bytes: whatever follows them, it is found again.
 use Rattle.std.proofs.Common.{◌≡◌, ◌∙◌, ap, sym, refl, subst, ℕ, ◌+◌, ◌==◌, ◌^◌, ◌<◌, ◌≤◌, nat_lt, not, Bool, true, false, cond, List, ◌++◌, length, take, drop, slice_index, Option, Some, None, Result, Ok, Err, arith, length-append, le-ltb}
 use Rattle.std.specs.Int.{w32}
 use Rattle.std.proofs.lemmas.Bool.{ltb-false}
@@ -18,7 +18,7 @@ use Rattle.dump_lines.specs.declared.seeing.Seen.TheVariants.{Batch}
 use Rattle.dump_lines.specs.Seen.{is_kind, judged_at, seen_at}
 use Rattle.dump_lines.proofs.Lists.{take_twice}
 
--- a head is told by the bytes in front alone
+-- a head is identified by the bytes in front alone
 pub headed_kept : (xs ys : List ℕ) → 61 ≤ length xs → headed (xs ++ ys) ≡ headed xs
 unfolding headed
 headed_kept xs ys long = rw (head_kept xs ys long, head_front xs ys long) refl

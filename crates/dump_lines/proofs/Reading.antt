@@ -1,4 +1,4 @@
--- What reads put behind the bytes of a window.
+-- What reads put after the bytes of a window.
 use Rattle.std.proofs.Common.{◌≡◌, ◌∙◌, ap, sym, ℕ, ◌+◌, ◌-◌, ◌<◌, ◌≤◌, List, [], ◌++◌, length, take, drop, append_assoc, append-nil, arith, inl, inr}
 use Rattle.std.specs.declared.option.Option.{Option}
 use Rattle.std.specs.Io.KnownBytes.{Consumes, IsAtEnd}
@@ -9,12 +9,12 @@ use Rattle.segment_file.proofs.Finding.{length_drop}
 use Rattle.dump_lines.proofs.Lists.{take_all, take_front}
 use Rattle.dump_lines.specs.Dump.{Grows, Grown, Fills}
 
--- room behind the bytes that were there leaves them
+-- room after the bytes that were there leaves them
 pub roomy : (held more : ℕ) (xs ys : List ℕ) → held ≡ length xs → take held (take (held + more) xs ++ ys) ≡ xs
 roomy held more xs ys len =
     rw (take_all (held + more) xs (omega (arith, len)), len) (take_front xs ys)
 
--- one read of so many bytes behind those that were there
+-- one read of so many bytes after those that were there
 pub piece : (old new : Option (List ℕ)) (before after : List ℕ) (held count : ℕ) → take held after ≡ before → held < length after
     → held + count ≤ length after → Consumes old new (take count (drop held after)) → (count ≡ 0 → 0 < length (drop held after) → IsAtEnd new)
     → Grows old new before (take (held + count) after) count

@@ -23,7 +23,7 @@ use Rattle.dump_lines.specs.Walked.{Agrees, shown_from, ShowsAll}
 use Rattle.dump_lines.proofs.Kept.{headed_kept, headed_is, size_long}
 use Rattle.dump_lines.proofs.Lists.{drop_front}
 
--- the head of a batch's own bytes is that of the bytes it stands in
+-- the head of a batch's own bytes is that of the bytes it is in
 own_head : (bytes : List ℕ) (head : Head) (batch : Batch) → headed bytes ≡ Ok head → size_in head ≤ length bytes
     → checked (take (size_in head) bytes) ≡ Ok batch → batch.head ≡ head
 own_head bytes head batch h fits e =
@@ -65,7 +65,7 @@ agrees at bytes = go (length bytes == 0) refl
     go true t = rw t refl
     go false t = heads t (headed bytes) refl
 
--- a batch that passes all tests is shown where it stands
+-- a batch that passes all tests is shown where it is
 shown_front : (at : ℕ) (batch rest : List ℕ) → IsOk (checked batch) → seen_at at (batch ++ rest) ≡ shown_at at (head_of batch) None
 shown_front at batch rest ok =
     subst (λ f. Agrees at f (seen_at at (batch ++ rest))) (batch_found at batch rest ok) (agrees at (batch ++ rest))

@@ -1,6 +1,6 @@
 //! What `tier_dump` prints of files: each form as the fields of its lines, in the words of `kafka-dump-log`.
 //!
-//! `dump` reads a log segment through a window of a few batches, and hands each batch to a `Show`. `specs/Seen.antt`
+//! `dump` reads a log segment through a window of a few batches, and passes each batch to a `Show`. `specs/Seen.antt`
 //! says what a dump finds at a position, and `specs/Dump.antt` what it shows of a whole file. The other modules make
 //! the fields of a line from each entry of a file that the file's own reader has parsed. `LineText` prints a line, as
 //! plain text or as JSON.

@@ -37,7 +37,7 @@ epoch_at-front line last offset h l =
     ∙ (ap last_epoch (filter-append (λ e. nat_le e.1 offset) line (last ∷ []) ∙ (ap (λ ys. started offset line ++ ys) none ∙ append-nil (started offset line)))
     ∙ sym (epoch_at-started line offset (IsLine-front line last h)))
 
--- from its start on, its epoch stands
+-- from its start on, its epoch exists
 pub epoch_at-last : (line : List (ℕ × ℕ)) (last : ℕ × ℕ) (offset : ℕ) → IsLine (line ++ last ∷ []) → last.1 ≤ offset → epoch_at (line ++ last ∷ []) offset ≡ Some last.0
 epoch_at-last line last offset h l =
     let one : started offset (last ∷ []) ≡ last ∷ [] = rw (le-leb last.1 offset l) refl in
@@ -89,7 +89,7 @@ apart own other mine theirs m line line' e l (inr h) =
     let low = epoch_at-le other theirs (m - 1) h.0 line' h.2 in
     omega (arith, e, same, low)
 
--- the last epoch stands nowhere in the other line
+-- the last epoch is nowhere in the other line
 pub meet-apart : (own other : List (ℕ × ℕ)) (mine theirs : ℕ × ℕ) (limit n : ℕ) → IsLine (own ++ mine ∷ []) → IsLine (other ++ theirs ∷ []) → theirs.0 < mine.0 → mine.1 ≤ limit
     → IsMeetBelow own (other ++ theirs ∷ []) mine.1 n → IsMeetBelow (own ++ mine ∷ []) (other ++ theirs ∷ []) limit n
 meet-apart own other mine theirs limit n line line' e l h = record {

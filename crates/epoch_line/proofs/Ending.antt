@@ -1,4 +1,4 @@
--- An epoch ends where the entry behind its own starts.
+-- An epoch ends where the entry after its own starts.
 use Rattle.std.proofs.Common.{zero, suc, ◌≡◌, ◌≢◌, refl, sym, ℕ, ◌+◌, ◌<◌, List, [], ◌∷◌, Some, None, length, get_or, drop, arith, add-one, inl, inr}
 use Rattle.std.specs.List.Sorted.{IsNonDecreasingBy, IsPartitionPoint}
 use Rattle.std.specs.Ordering.{nat_cmp, ordering_index}
@@ -9,12 +9,12 @@ use Rattle.std.proofs.lemmas.Cmp.{ranked}
 use Rattle.epoch_line.specs.Line.{IsLine, start_or, end_of}
 use Rattle.epoch_line.proofs.Rising.{epochs-rise}
 
--- an epoch behind the first entry is above it
+-- an epoch after the first entry is above it
 above-first : (one : ℕ × ℕ) (line : List (ℕ × ℕ)) (i : ℕ) (d : ℕ × ℕ) → IsLine (one ∷ line) → i < length line → one.0 < (get_or line i d).0
 above-first one [] i d h l = absurd (omega (arith, l))
 above-first one (two ∷ line) i d h l = let up = epochs-rise (two ∷ line) h.3 0 i d (omega arith) l in omega (arith, up, h.2.0)
 
--- the end of the epoch that stands at a place
+-- the end of the epoch that is at a place
 pub end_of-at : (line : List (ℕ × ℕ)) (i : ℕ) (d : ℕ × ℕ) (log_end : ℕ) → IsLine line → i < length line → end_of line (get_or line i d).0 log_end ≡ Some (start_or log_end (drop (suc i) line))
 end_of-at [] i d log_end h l = absurd (omega (arith, l))
 end_of-at (one ∷ line) zero d log_end h l = rw (eq-eqb one.0 one.0 refl) refl
@@ -25,7 +25,7 @@ end_of-at (one ∷ line) (suc i) d log_end h l =
     rest : (one : ℕ × ℕ) (line : List (ℕ × ℕ)) → IsLine (one ∷ line) → IsLine line
     rest one line h = h.3
 
--- no end of an epoch that stands nowhere
+-- no end of an epoch that is nowhere
 pub end_of-none : (line : List (ℕ × ℕ)) (epoch log_end : ℕ) → ((k : ℕ) (d : ℕ × ℕ) → k < length line → (get_or line k d).0 ≢ epoch) → end_of line epoch log_end ≡ None
 end_of-none [] epoch log_end none = refl
 end_of-none (one ∷ line) epoch log_end none =

@@ -14,7 +14,7 @@ pub started-none : (offset : ℕ) (entry : ℕ × ℕ) (line : List (ℕ × ℕ)
 started-none offset entry [] h l = rw (lt-leb entry.1 offset l) refl
 started-none offset entry (next ∷ line) h l = rw (lt-leb entry.1 offset l) (started-none offset next line h.3 (omega (arith, h.2.1, l)))
 
--- the first has started, so it stands in front
+-- the first has started, so it comes first
 pub started-cons : (offset : ℕ) (entry : ℕ × ℕ) (line : List (ℕ × ℕ)) → entry.1 ≤ offset → started offset (entry ∷ line) ≡ entry ∷ started offset line
 started-cons offset entry line l = rw (le-leb entry.1 offset l) refl
 

@@ -58,7 +58,7 @@ IsLine-filter p (one ∷ line) h =
 abbrev pub is_within : ℕ → ℕ → ℕ × ℕ → Bool
 is_within base last entry = nat_lt base entry.1 && nat_le entry.1 last
 
--- behind a base, what lies above its entry in epoch lies above the base in start
+-- after a base, what lies above its entry in epoch lies above the base in start
 pub below-within : (one : ℕ × ℕ) (base last : ℕ) (line : List (ℕ × ℕ)) → IsLine (one ∷ line) → IsBelow (one.0, base) (filter (is_within base last) line)
 below-within one base last line h =
     below-first (filter (is_within base last) line) (one.0, base)

@@ -1,4 +1,4 @@
--- The first line that can't stand.
+-- The first line that can't exist.
 use Rattle.std.proofs.Common.{◌≡◌, ◌≢◌, ◌∙◌, sym, ap, refl, subst, ℕ, ◌+◌, ◌^◌, ◌<◌, ◌≤◌, List, [], ◌∷◌, ◌++◌, length, map, arith, append_assoc, append-nil, true, false}
 use Rattle.std.specs.Prelude.{◌==◌}
 use Rattle.std.specs.List.{concat}
@@ -27,7 +27,7 @@ count-unique n m r s a b e = number-unique n m 10 r s (omega (arith, a)) (omega 
 text-parts : (line : List (ℕ × ℕ)) → text_of line ≡ version_line ++ (count_line (length line) ++ concat (map entry_line line))
 text-parts line = append_assoc version_line (count_line (length line)) (concat (map entry_line line))
 
--- no version stands there
+-- no version is there
 pub bad-version : (bytes : List ℕ) → ((n : ℕ) (rest : List ℕ) → n ≤ 0 → bytes ≢ number_text 10 n rest) → IsFirstBad bytes 1
 bad-version bytes none = record {
   before = [];
@@ -39,7 +39,7 @@ bad-version bytes none = record {
   unread = λ line h e. none 0 (count_line (length line) ++ concat (map entry_line line)) (omega arith) (e ∙ (text-parts line ∙ sym (version-number _)));
 }
 
--- no count stands there
+-- no count is there
 pub bad-count : (bytes rest : List ℕ) → bytes ≡ version_line ++ rest → ((n : ℕ) (more : List ℕ) → n ≤ 2 ^ 31 → rest ≢ number_text 10 n more) → IsFirstBad bytes 2
 bad-count bytes rest is none = record {
   before = version_line ∷ [];
@@ -67,7 +67,7 @@ begins-parts bytes n line rest b = b.parts ∙ simp append_assoc
 begins-can : (bytes : List ℕ) (n : ℕ) (line : List (ℕ × ℕ)) (rest : List ℕ) → BeginsWith bytes n line rest → CanBegin (version_line ∷ count_line n ∷ map entry_line line)
 begins-can bytes n line rest b = (refl, (n, b.few, refl, record { line = line; rises = b.rises; few = b.within; spelled = refl }))
 
--- no entry stands there that may follow, or more than the last entry
+-- no entry is there that may follow, or more than the last entry
 pub record IsStuck (n : ℕ) (line : List (ℕ × ℕ)) (rest : List ℕ) : Type 0 where
   pub none : (entry : ℕ × ℕ) (more : List ℕ) → IsLine (line ++ entry ∷ []) → length line < n → rest ≢ entry_text entry more
   pub full : length line ≡ n → rest ≢ []
@@ -96,7 +96,7 @@ stuck-unread bytes n line longer rest b stuck h e =
     let behind = longer-text line longer rest b.rises h (omega (arith, within, both.0)) (sym both.1) in
     stuck-more n line longer behind.more rest h stuck both.0 behind.is behind.text
 
--- the entries stand, and no line behind them can
+-- the entries exist, and no line after them can
 pub bad-line : (bytes : List ℕ) (n : ℕ) (line : List (ℕ × ℕ)) (rest : List ℕ) → BeginsWith bytes n line rest → IsStuck n line rest → IsFirstBad bytes (length line + 3)
 bad-line bytes n line rest b stuck = record {
   before = version_line ∷ count_line n ∷ map entry_line line;
@@ -141,7 +141,7 @@ begins-whole bytes n line rest b many none =
 pub bad-at : (bytes : List ℕ) (n k : ℕ) (line : List (ℕ × ℕ)) (rest : List ℕ) → BeginsWith bytes n line rest → IsStuck n line rest → length line ≡ k → IsFirstBad bytes (k + 3)
 bad-at bytes n k line rest b stuck e = subst (λ (m : ℕ). IsFirstBad bytes (m + 3)) e (bad-line bytes n line rest b stuck)
 
--- a test says that something stands there
+-- a test says that something is there
 pub some-rest : (rest : List ℕ) → false ≡ (length rest == 0) → rest ≢ []
 some-rest [] h e = let no : false ≡ true = h in cc
 some-rest (one ∷ rest) h e = cc

@@ -89,7 +89,7 @@ last_epochs [] entry above = λ n e. absurd (cc)
 last_epochs (one ∷ []) entry above = λ n e. let same : one.0 ≡ n = cc in rw (← same) (above one refl).0
 last_epochs (one ∷ two ∷ line) entry above = last_epochs (two ∷ line) entry above
 
--- the same, told of the last entry
+-- the same, reported of the last entry
 pub line_above : (line : List (ℕ × ℕ)) (entry : ℕ × ℕ) → IsLine line → entry.0 < 2 ^ 31 → entry.1 ≤ 2 ^ 62 → ForSome (last_entry line) (λ last. (last.0 < entry.0) × (last.1 < entry.1)) → IsLine (line ++ entry ∷ [])
 line_above line entry h fits fits' above =
     IsLine-push line entry h fits fits'

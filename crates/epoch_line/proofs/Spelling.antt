@@ -28,7 +28,7 @@ line-front [] more h = tt
 line-front (one ∷ []) more h = (h.0, h.1, tt, tt)
 line-front (one ∷ two ∷ line) more h = (h.0, h.1, h.2, line-front (two ∷ line) more h.3)
 
--- the entries of one line stand at the front of another's
+-- the entries of one line are at the front of another's
 pub record IsLonger (line longer : List (ℕ × ℕ)) (rest : List ℕ) : Type 0 where
   pub more : List (ℕ × ℕ)
   pub is : longer ≡ line ++ more

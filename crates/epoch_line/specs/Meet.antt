@@ -9,7 +9,7 @@ abbrev pub SharesEpoch : List (ℕ × ℕ) → List (ℕ × ℕ) → ℕ → Typ
 SharesEpoch own other offset =
     (epoch : ℕ) × (epoch_at own offset ≡ Some epoch) × (epoch_at other offset ≡ Some epoch)
 
--- nothing stands before n, or the offset before it has one epoch in both
+-- nothing precedes n, or the offset before it has one epoch in both
 abbrev pub MeetsAt : List (ℕ × ℕ) → List (ℕ × ℕ) → ℕ → Type 0
 MeetsAt own other n = (n ≡ 0) ⊎ SharesEpoch own other (n - 1)
 

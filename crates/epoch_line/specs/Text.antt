@@ -44,7 +44,7 @@ CanBegin (version ∷ []) = version ≡ version_line
 CanBegin (version ∷ count ∷ entries) =
     (version ≡ version_line) × ((n : ℕ) × (n ≤ 2 ^ 31) × (count ≡ count_line n) × AreEntries n entries)
 
--- the bytes are no text, and this is their first line that can't stand, counted from 1
+-- the bytes are no text, and this is their first line that can't exist, counted from 1
 pub record IsFirstBad (bytes : List ℕ) (number : ℕ) : Type 0 where
   pub before : List (List ℕ)
   pub rest : List ℕ

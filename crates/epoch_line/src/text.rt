@@ -64,7 +64,7 @@ fn push_entry(text: &mut String, entry: (u32, u64)) -> Result<(), AllocError>
     write!(text, "{epoch} {start}\n")
 }
 
-/// The count of the first two lines, and what stands behind them.
+/// The count of the first two lines, and what follows them.
 fn head(bytes: &[u8]) -> Result<(u32, &[u8]), TextRefusal>
     ensures { ReadsHead bytes.now result }
 {
@@ -77,7 +77,7 @@ fn head(bytes: &[u8]) -> Result<(u32, &[u8]), TextRefusal>
     Ok((count as u32, rest))
 }
 
-/// The entry at the front, and what stands behind it.
+/// The entry at the front, and what follows it.
 fn entry(bytes: &[u8]) -> Option<((u32, u64), &[u8])>
     ensures { ReadsFront (λ e. (e.0 < 2 ^ 31) × (e.1 ≤ 2 ^ 62)) entry_text bytes.now result }
 {

@@ -1,10 +1,10 @@
 -- How far retention lets a log start rise.
 --
--- The items are the pieces of remote segments from the log start on, one after another, as long as they end at or
--- below the known high watermark. Each counts the whole of its remote segment. Where segments aren't copied any more,
--- and the local log goes on where the pieces end, its closed segments from there on are items too, as long as they
--- end at or below the known high watermark. Behind all of them the local segments count that end past the last one.
--- The log start comes to the end of the last item that is due.
+-- The items are the pieces of remote segments from the log start offset on, one after another, as long as they end at
+-- or below the known high watermark. Each counts the whole of its remote segment. Where segments aren't copied any
+-- more, and the local log continues where the pieces end, its closed segments from there on are items too, as long as
+-- they end at or below the known high watermark. After all of them the local segments count that end past the last one.
+-- The log start offset comes to the end of the last item that is due.
 --
 -- Source: Kafka's retention.ms and retention.bytes, which count the remote log and what of the local log isn't
 -- copied. A segment that is still to be copied never goes by them (KIP-405); where copying is disabled (KIP-950)
@@ -63,8 +63,8 @@ end_behind offset (one ∷ more) = end_behind one.end more
 abbrev pub bytes_past : ℕ → List Grown → ℕ
 bytes_past offset segments = sum (map size_of (filter (λ segment. nat_lt offset (end_of segment)) segments))
 
--- the bytes of the local log behind an offset: of the closed segments, and of an open one that ends at the log's end;
--- a sum past 2^64 - 1 stands there
+-- the bytes of the local log after an offset: of the closed segments, and of an open one that ends at the log's end; a
+-- sum past 2^64 - 1 is there
 abbrev pub rest_behind : ℕ → List Grown → ℕ → ℕ → ℕ
 rest_behind offset closed open_size log_end =
     counted (if nat_lt offset log_end then open_size else 0) (bytes_past offset closed)
@@ -81,7 +81,7 @@ all_items entries pieces own = items_of entries pieces ++ map (λ one. one.item)
 abbrev pub all_ends : List Piece → List Uncopied → List ℕ
 all_ends pieces own = map (λ piece. piece.to) pieces ++ map (λ one. one.end) own
 
--- where the log start comes to, where it rises
+-- where the log start offset comes to, where it rises
 abbrev pub raised_to : List Entry → List Piece → List Uncopied → ℕ → ℤ → Keep → Option ℕ
 raised_to entries pieces own rest now keep =
     end_of_first (start_due (all_items entries pieces own) rest now keep) (all_ends pieces own)

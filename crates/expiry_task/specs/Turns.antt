@@ -1,9 +1,9 @@
 -- What each turn of an expiry does, from the one on that follows the choice of its remote segment.
 --
 --   turn      does                                       answers
---   Start     appends the note that it starts            MetaFault
+--   Start     appends the event that it starts            MetaFault
 --   Delete    takes an object away                       StoreFault
---   Finish    appends the note that no object stands     Deleted, MetaFault
+--   Finish    appends the event that no object exists     Deleted, MetaFault
 --
 -- The objects are taken away in the order of their keys, of which a packed segment has one. An expiry that fails is
 -- taken up by a later one, which does all of it again.
@@ -44,7 +44,7 @@ note_of expired_segment origin state =
 abbrev pub keys : ExpiredSegment → List ObjectKey
 keys expired_segment = keys_of expired_segment.partition expired_segment.id expired_segment.packed
 
--- the turn that takes the object of a number away, where it has a key, or the one behind the last
+-- the turn that takes the object of a number away, where it has a key, or the one after the last
 abbrev pub delete_at : ℕ → Option ObjectKey → DeletionStep
 delete_at n None = Finish
 delete_at n (Some key) = Delete n
@@ -58,7 +58,7 @@ module _ {M : Type 0} (notes : M → meta.Content) (calls : M → Control meta_c
   StartRow expired_segment origin (Err e) old new =
       Appends notes calls (note_of expired_segment origin DeleteStarted) Dry old new
 
-  -- no object stands any more
+  -- no object exists any more
   abbrev pub FinishRow : ExpiredSegment → EventOrigin → Result ExpiryTurn AllocError → M → M → Type 0
   FinishRow expired_segment origin (Ok (Ends MetaFault)) old new = Appends notes calls (note_of expired_segment origin DeleteFinished) Fault old new
   FinishRow expired_segment origin (Ok turn) old new =
@@ -83,7 +83,7 @@ pub record Tiers (S M : Type 0) : Type 0 where
 
 module _ {S M : Type 0} (objects : S → store.Content) (calls : S → Control store_call.call_code)
     (notes : M → meta.Content) (notings : M → Control meta_call.call_code) where
-  -- a turn of an expiry, by what was next: what it came to, or that it wanted memory
+  -- a turn of an expiry, by what was next: what it came to, or that it ran out of memory
   abbrev pub ExpiryRow : ExpiredSegment → EventOrigin → DeletionStep → Result ExpiryTurn AllocError → Tiers S M
       → Tiers S M → Type 0
   ExpiryRow expired_segment origin Start result old new =

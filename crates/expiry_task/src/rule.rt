@@ -23,7 +23,7 @@ pub struct Uncopied {
 
 /// The log start offset to which retention raises it at a time `now` in milliseconds, or `None` if it doesn't. The
 /// pieces are those from the log start offset on that end at or below the broker's high watermark, and the closed
-/// segments come after them; `rest` is the size in bytes of the local log behind both.
+/// segments come after them; `rest` is the size in bytes of the local log after both.
 pub fn raised_to(
     alloc: Global,
     view: &View,
@@ -67,7 +67,7 @@ pub fn find_uncopied(
     Ok(own)
 }
 
-/// The bytes of the local log behind an offset. An open segment ends at the log's end.
+/// The bytes of the local log after an offset. An open segment ends at the log's end.
 pub fn rest_behind(offset: u64, closed: &[Growing], open_size: u64, log_end: u64) -> u64
     ensures { result ≡ rest_behind offset closed.now open_size log_end }
 {

@@ -30,7 +30,7 @@ pub fn expiry_turn<S: Store, M: MetaLog>(
     }
 }
 
-/// Tells the metadata log that a deletion starts.
+/// Appends the event that a deletion starts.
 fn start<M: MetaLog>(
     alloc: Global,
     expired_segment: ExpiredSegment,
@@ -60,7 +60,7 @@ fn delete<S: Store>(expired_segment: ExpiredSegment, n: u8, store: &mut S) -> Ex
     }
 }
 
-/// The turn that takes the object of this number away, or the one behind the last.
+/// The turn that takes the object of this number away, or the one after the last.
 fn delete_at(expired_segment: &ExpiredSegment, n: u8) -> DeletionStep
     ensures { result ≡ delete_at n (slice_get (keys expired_segment.now) n) }
 {
@@ -86,7 +86,7 @@ fn key_at(expired_segment: &ExpiredSegment, n: u8) -> Option<ObjectKey>
     }
 }
 
-/// Tells the metadata log that no object stands.
+/// Appends the event that no object exists.
 fn finish<M: MetaLog>(
     alloc: Global,
     expired_segment: ExpiredSegment,

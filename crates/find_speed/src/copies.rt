@@ -1,4 +1,4 @@
-//! A view of finished copies, one behind another, and the line of a log that has them all.
+//! A view of finished copies, one after another, and the line of a log that has them all.
 
 ghost use Rattle.std.specs.Prelude.{◌≡◌, ◌≢◌, ◌≤◌, ◌*◌, ◌^◌, ◌∷◌, [], IfOk};
 ghost use Rattle.tier_base.specs.declared.plain.State.TheVariants.{CopyStarted};
@@ -13,7 +13,7 @@ use tier_base::{BrokerId, PartitionId, SegmentId, State, segment_id};
 /// How many offsets a copy has.
 const OFFSETS: u64 = 10;
 
-/// The log end offset behind so many copies.
+/// The log end offset after so many copies.
 pub fn end_of(copies: u32) -> u64
     ensures { result ≡ copies * 10 }
 {

@@ -4,7 +4,7 @@ use anyhow::{Context, Result, ensure};
 use std::env;
 use std::rt::Env;
 
-/// What is measured, and whether the time is told.
+/// What is measured, and whether the time is reported.
 #[derive(Clone, Copy, Debug)]
 pub struct Task {
     pub copies: u32,

@@ -24,11 +24,11 @@ base_text-length base = refl
 pub log_text-length : (base : ℕ) (text : List ℕ) → base_text base ++ codes ".log" ≡ text → length text ≡ 24
 log_text-length base text is = let long = ap length is in omega (arith, long, length-append (base_text base) (codes ".log"), base_text-length base)
 
--- the base offset stands in front of it
+-- the base offset precedes it
 pub log_text-base : (base : ℕ) (text front : List ℕ) → base_text base ++ codes ".log" ≡ text → front ≡ take 20 text → base_text base ≡ front
 log_text-base base text front is f = sym (f ∙ (ap (take 20) (sym is) ∙ take_at (base_text base) (codes ".log") 20 (base_text-length base)))
 
--- and the ending behind it
+-- and the ending after it
 pub log_text-end : (base : ℕ) (text back : List ℕ) → base_text base ++ codes ".log" ≡ text → back ≡ drop 20 text → codes ".log" ≡ back
 log_text-end base text back is b = sym (b ∙ (ap (drop 20) (sym is) ∙ drop_at (base_text base) (codes ".log") 20 (base_text-length base)))
 

@@ -8,14 +8,14 @@ use Rattle.tier_base.proofs.Keys.{id-length}
 use Rattle.folder_yard.specs.Name.{unfinished}
 use Rattle.folder_yard.specs.Unfinished.{IsUnfinished}
 
--- the id stands in front
+-- the id comes first
 pub object-long : (id : SegmentId) (part : Part) (text : List ℕ) → id_text id ++ part_text part ≡ text → 36 ≤ length text
 object-long id part text e = let long = ap length e in omega (arith, long, length-append (id_text id) (part_text part), id-length id)
 
 pub object-id : (id : SegmentId) (part : Part) (text front : List ℕ) → id_text id ++ part_text part ≡ text → front ≡ take 36 text → id_text id ≡ front
 object-id id part text front e f = sym (f ∙ (ap (take 36) (sym e) ∙ take_at (id_text id) (part_text part) 36 (id-length id)))
 
--- and the part's ending behind it
+-- and the part's ending after it
 pub object-part : (id : SegmentId) (part : Part) (text back : List ℕ) → id_text id ++ part_text part ≡ text → back ≡ drop 36 text → part_text part ≡ back
 object-part id part text back e f = sym (f ∙ (ap (drop 36) (sym e) ∙ drop_at (id_text id) (part_text part) 36 (id-length id)))
 

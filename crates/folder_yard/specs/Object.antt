@@ -2,7 +2,7 @@
 --
 -- name = id ( ".log" / ".index" / ".timeindex" / ".epochs" / ".pack" )
 --
--- It is what stands behind the "/" of the object's key: tier_base's module Key has the grammar of an id.
+-- It is what follows the "/" of the object's key: tier_base's module Key has the grammar of an id.
 use Rattle.std.specs.Prelude.{◌≡◌, ◌≢◌, ℕ, List, ◌++◌, Option, Some, None}
 use Rattle.tier_base.specs.declared.names.PartitionId.{PartitionId}
 use Rattle.tier_base.specs.declared.names.SegmentId.{SegmentId}

@@ -12,7 +12,7 @@ IsOurs text =
     ((name : FileName) × IsName name × (file_text name ≡ text))
     ⊎ ((id : SegmentId) × (part : Part) × IsId id × (id_text id ++ part_text part ≡ text))
 
--- and the ending behind it
+-- and the ending after it
 pub record IsUnfinished (text : List ℕ) : Type 0 where
   pub name : List ℕ
   pub ours : IsOurs name

@@ -10,8 +10,8 @@ use std::io::{self, ErrorKind};
 use std::rt::Files;
 use tier_base::Blob;
 
-/// The first of the names in a folder in the order of their bytes. An absent folder has none. A name that is no text can't
-/// be told, and is a failure.
+/// The first of the names in a folder in the order of their bytes. An absent folder has none. A name that is no text
+/// can't be reported, and is a failure.
 pub fn first_name<R: Files + AllocGlobal + Clone + Drop>(
     rt: &R,
     folder: &str,
@@ -32,7 +32,7 @@ pub fn first_name<R: Files + AllocGlobal + Clone + Drop>(
     Ok(first)
 }
 
-/// Whether a name stands before the first one so far, if there is one.
+/// Whether a name precedes the first one so far, if there is one.
 fn is_before(name: &[u8], first: &Option<Blob>) -> bool {
     match first {
         Some(first) => name < first.as_slice(),
@@ -40,7 +40,7 @@ fn is_before(name: &[u8], first: &Option<Blob>) -> bool {
     }
 }
 
-/// Whether what stands in the yard's folder is a name.
+/// Whether what is in the environment's folder is a name.
 fn is_name<R: Files + AllocGlobal + Clone + Drop>(
     rt: &R,
     entry: &DirEntry<R, Global>,

@@ -138,7 +138,7 @@ impl<R: Files + AllocGlobal + Clone + Drop> Folder<R> {
         list(&self.rt, self.place.folder())
     }
 
-    /// Opens a file to append to it, or takes the one that is open, and tells its length.
+    /// Opens a file to append to it, or takes the one that is open, and returns its length.
     fn open_to_append(&mut self, name: FileName) -> io::Result<(R::File, u64)>
         ensures { self.new.sync_failed ≡ self.old.sync_failed }
     {
@@ -200,7 +200,7 @@ impl<R: Files + AllocGlobal + Clone + Drop> Folder<R> {
         Ok(())
     }
 
-    /// Answers how a sync ended, which is well only where none before it failed.
+    /// Returns how a sync ended, which is well only where none before it failed.
     fn settled(&mut self, outcome: io::Result<()>) -> io::Result<()>
         ensures well { IsOk result ↔ (IsOk outcome × IsFalse self.old.sync_failed) }
         ensures lost { IsErr result ↔ IsTrue self.new.sync_failed }

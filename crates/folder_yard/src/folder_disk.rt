@@ -17,8 +17,8 @@ use std::mem;
 use std::rt::Files;
 use tier_base::{Failed, FileName, Row, Trouble, give};
 
-/// A disk whose files stand in a folder. It tells no content, and every failure of the system is a
-/// fault. No call of it is planned to fail, and each may.
+/// A disk whose files are in a folder. It isn't observable, and every failure of the system is a fault. No call of it
+/// is planned to fail, and each may.
 #[derive(Drop)]
 pub struct FolderDisk<R: Files + AllocGlobal + Clone + Drop> {
     folder: Folder<R>,
@@ -48,7 +48,7 @@ impl<R: Files + AllocGlobal + Clone + Drop> FolderDisk<R> {
         })
     }
 
-    /// Answers whether calls are counted.
+    /// Returns whether calls are counted.
     pub fn is_armed(&self) -> bool
         ensures { result ≡ (⟦<FolderDisk<R> as Disk>⟧.control self.now).armed }
     {
@@ -134,8 +134,8 @@ impl<R: Files + AllocGlobal + Clone + Drop> Disk for FolderDisk<R> {
     ghost planned = { λ d. fails_as_planned call_code d.tally d.last_read };
 }
 
-/// Whether a call that changes files went well. Want of memory in the system is a failure too, since
-/// the call may have been done in part.
+/// Whether a call that changes files went well. Running out of memory in the system is a failure too, since the call
+/// may have been done in part.
 pub(crate) fn done(outcome: io::Result<()>) -> Result<(), Failed>
     ensures { IsOk result ↔ IsOk outcome }
 {
@@ -167,7 +167,7 @@ pub(crate) fn share(file: &Result<Option<Bytes>, Trouble>) -> Result<Bytes, Allo
     }
 }
 
-/// Hands bytes where they are given.
+/// Records bytes as last read, if the call returns them.
 pub(crate) fn hand(last_read: &mut Bytes, given: bool, bytes: Bytes)
     ensures { last_read.new ≡ (if given then bytes else last_read.old) }
 {

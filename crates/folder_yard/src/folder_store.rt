@@ -14,8 +14,8 @@ use object_store::{Store, StoreCall};
 use std::rt::Files;
 use tier_base::{Failed, ObjectKey, PartitionId, Row, Trouble, give};
 
-/// A store of one partition's objects, each a file of a folder. It tells no content, and every failure of the system is a
-/// fault. No call of it is planned to fail, and each may.
+/// A store of one partition's objects, each a file of a folder. It isn't observable, and every failure of the system is
+/// a fault. No call of it is planned to fail, and each may.
 #[derive(Drop)]
 pub struct FolderStore<R: Files + AllocGlobal + Clone + Drop> {
     objects: Objects<R>,
@@ -42,7 +42,7 @@ impl<R: Files + AllocGlobal + Clone + Drop> FolderStore<R> {
         })
     }
 
-    /// Answers whether calls are counted.
+    /// Returns whether calls are counted.
     pub fn is_armed(&self) -> bool
         ensures { result ≡ (⟦<FolderStore<R> as Store>⟧.control self.now).armed }
     {

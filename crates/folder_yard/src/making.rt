@@ -16,7 +16,7 @@ pub fn make_folder<R: Files>(rt: &R, path: &str) -> io::Result<()> {
     make_one(rt, path)
 }
 
-/// Makes a folder that is absent, in one that stands.
+/// Makes a folder that is absent, in one that exists.
 fn make_one<R: Files>(rt: &R, path: &str) -> io::Result<()> {
     match fs::create_dir(rt, path) {
         Ok(()) => sync_folder(rt, above(path)),
@@ -27,7 +27,7 @@ fn make_one<R: Files>(rt: &R, path: &str) -> io::Result<()> {
     }
 }
 
-/// The folder in which a path's last name stands.
+/// The folder in which a path's last name exists.
 fn above(path: &str) -> &str {
     match path.rsplit_once('/') {
         None => ".",

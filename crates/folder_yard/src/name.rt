@@ -8,7 +8,7 @@ use tier_base::FileName;
 /// How many digits a base offset has: those of the greatest number of 64 bits.
 const BASE_DIGITS: usize = 20;
 
-/// Writes the last digits of a number behind a text that has the room.
+/// Writes the last digits of a number after a text that has the room.
 fn push_digits(text: &mut String, width: usize, number: u64)
     requires { string_len text.old + width ≤ string_capacity text.old }
     ensures bytes { string_bytes text.new ≡ string_bytes text.old ++ digits_of width number }
@@ -21,7 +21,7 @@ fn push_digits(text: &mut String, width: usize, number: u64)
     }
 }
 
-/// Writes the digits of a base offset behind a text that has the room.
+/// Writes the digits of a base offset after a text that has the room.
 #[tactic(auto, unfolding(crate::specs::Name::base_text))]
 fn push_base(text: &mut String, base: u64)
     requires { string_len text.old + 20 ≤ string_capacity text.old }
@@ -32,7 +32,7 @@ fn push_base(text: &mut String, base: u64)
     push_digits(text, BASE_DIGITS, base);
 }
 
-/// Writes a file's name behind a text that has the room, without memory.
+/// Writes a file's name after a text that has the room, without memory.
 pub fn push_name(text: &mut String, name: FileName)
     requires { string_len text.old + 24 ≤ string_capacity text.old }
     ensures bytes { string_bytes text.new ≡ string_bytes text.old ++ file_text name }

@@ -31,7 +31,7 @@ fn id_of<'b>(key: &ObjectKey, buffer: &'b mut [u8; 36]) -> &'b str
     key.id.write_text(buffer)
 }
 
-/// Writes the name of an object's file and an ending behind a text that has the room, without memory.
+/// Writes the name of an object's file and an ending after a text that has the room, without memory.
 pub fn push_object(text: &mut String, key: &ObjectKey, ending: &str)
     requires room { string_len text.old + 50 ≤ string_capacity text.old }
     requires ending { length ending.now ≤ 4 }

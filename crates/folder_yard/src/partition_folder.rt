@@ -11,7 +11,7 @@ use std::io;
 use std::rt::Files;
 use tier_base::PartitionId;
 
-/// The partition whose folder stands in the yard's under this name, if it is one's.
+/// The partition whose folder is in the environment's under this name, if it is one's.
 pub fn partition_of<R: Files + AllocGlobal + Clone + Drop>(
     rt: &R,
     entry: &DirEntry<R, Global>,
@@ -25,7 +25,7 @@ pub fn partition_of<R: Files + AllocGlobal + Clone + Drop>(
     Ok(Some(PartitionId(number)))
 }
 
-/// Whether something stands in a partition's folder.
+/// Whether a partition's folder is in use.
 pub fn is_used<R: Files + AllocGlobal + Clone + Drop>(
     rt: &R,
     partition: &DirEntry<R, Global>,
@@ -44,7 +44,7 @@ pub fn is_used<R: Files + AllocGlobal + Clone + Drop>(
     Ok(false)
 }
 
-/// Whether a partition's folder has an object or a note, and no registry.
+/// Whether a partition's folder has an object or a metadata event, and no registry.
 pub fn is_bare<R: Files + AllocGlobal + Clone + Drop>(
     rt: &R,
     partition: &DirEntry<R, Global>,
@@ -65,12 +65,12 @@ pub fn is_bare<R: Files + AllocGlobal + Clone + Drop>(
     Ok(has_tier)
 }
 
-/// Whether this is the name of a folder that a partition's tier stands in.
+/// Whether this is the name of a folder that a partition's tier is in.
 fn is_tier(name: &str) -> bool {
     name == "store" || name == "meta"
 }
 
-/// Whether something of this name stands in a folder.
+/// Whether something of this name is in a folder.
 fn has_file<R: Files + AllocGlobal + Clone + Drop>(
     rt: &R,
     folder: &DirEntry<R, Global>,
@@ -86,7 +86,7 @@ fn has_file<R: Files + AllocGlobal + Clone + Drop>(
     Ok(false)
 }
 
-/// Whether this is the folder of a partition's registry, which stands beside what the partition has.
+/// Whether this is the folder of a partition's registry, which is beside what the partition has.
 fn is_registry<R: Files + AllocGlobal + Clone + Drop>(
     entry: &DirEntry<R, Global>,
 ) -> io::Result<bool> {
@@ -101,8 +101,8 @@ fn is_device(alloc: Global, name: &str) -> Result<bool, AllocError> {
     Ok(number_of(alloc, "b", name)?.is_some())
 }
 
-/// Whether a device's folder holds more than files that were never put in their place, or is no folder. A metadata log that
-/// was opened and has no notes yet has a gate alone, which is nothing.
+/// Whether a device's folder holds more than files that were never put in their place, or is no folder. A metadata log
+/// that was opened and has no metadata events yet has a gate alone, which is nothing.
 fn holds<R: Files + AllocGlobal + Clone + Drop>(
     rt: &R,
     device: &DirEntry<R, Global>,
@@ -123,7 +123,7 @@ fn holds<R: Files + AllocGlobal + Clone + Drop>(
     Ok(false)
 }
 
-/// The number of a partition or a broker behind this letter, where the name is spelled as this yard spells it.
+/// The number of a partition or a broker after this letter, where the name is spelled as this environment spells it.
 fn number_of(alloc: Global, letter: &str, name: &str) -> Result<Option<u16>, AllocError> {
     let Some(digits) = name.strip_prefix(letter) else {
         return Ok(None);

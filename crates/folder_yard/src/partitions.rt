@@ -33,7 +33,7 @@ pub fn partitions<R: Files + AllocGlobal + Clone + Drop>(
     Ok(found.to_row()?)
 }
 
-/// The partition whose folder this is, if something stands in it. A name that is no text is no partition's.
+/// The partition whose folder this is, if something is in it. A name that is no text is no partition's.
 fn used_partition<R: Files + AllocGlobal + Clone + Drop>(
     rt: &R,
     entry: io::Result<DirEntry<R, Global>>,

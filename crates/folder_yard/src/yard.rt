@@ -26,8 +26,8 @@ use std::io::{self, ErrorKind};
 use std::rt::Files;
 use tier_base::{Blob, BrokerId, PartitionId, Row, Trouble};
 
-/// A yard whose devices stand in a folder. It tells nothing of what it holds, and lets go a device that comes back: what it
-/// held stands in the folder.
+/// An environment whose devices are in a folder. It isn't observable, and drops a device that comes back: what it held
+/// is in the folder.
 #[derive(Drop)]
 pub struct FolderYard<R: Files<File = File> + AllocGlobal + Clone + Drop> {
     rt: R,
@@ -37,7 +37,7 @@ pub struct FolderYard<R: Files<File = File> + AllocGlobal + Clone + Drop> {
 }
 
 impl<R: Files<File = File> + AllocGlobal + Clone + Drop> FolderYard<R> {
-    /// Makes a yard over a folder, and touches no file. The folder is made with the first device.
+    /// Makes an environment over a folder, and touches no file. The folder is made with the first device.
     pub fn new(rt: R, dir: &str) -> Result<FolderYard<R>, AllocError>
         ensures fresh { IfOk result (λ yard. control.IsFresh (⟦<FolderYard<R> as Yard>⟧.control yard)) }
         ensures named { IfOk result (λ yard. (⟦<FolderYard<R> as Yard>⟧.control yard).named ≡ None) }
@@ -53,7 +53,7 @@ impl<R: Files<File = File> + AllocGlobal + Clone + Drop> FolderYard<R> {
         })
     }
 
-    /// Counts the faults of the yard.
+    /// Counts the faults of the environment.
     pub fn faults(&self) -> u64
         ensures { result ≡ (⟦<FolderYard<R> as Yard>⟧.control self.now).faults }
     {
@@ -67,15 +67,15 @@ impl<R: Files<File = File> + AllocGlobal + Clone + Drop> FolderYard<R> {
         self.counts.returned()
     }
 
-    /// Lends what the registries' disks handed last, in the order in which they came back.
+    /// Lends what the registries' disks last returned, in the order in which they came back.
     pub fn registries(&self) -> &[ReadRegistry]
         ensures { result.now ≡ (⟦<FolderYard<R> as Yard>⟧.control self.now).registries }
     {
         self.counts.registries()
     }
 
-    /// Locks the folder, unless this yard has its lock. An absent folder has none. Where another yard holds it, that is a
-    /// failure; where the file system knows no locks, it goes on without.
+    /// Locks the folder, unless this environment has its lock. An absent folder has none. Where another environment
+    /// holds it, that is a failure; where the file system knows no locks, it continues without.
     fn hold(&mut self) -> io::Result<()>
         ensures { self.new.counts ≡ self.old.counts }
     {
@@ -110,7 +110,7 @@ impl<R: Files<File = File> + AllocGlobal + Clone + Drop> FolderYard<R> {
         first_name(&self.rt, self.dir.as_str())
     }
 
-    /// The partitions of which something stands.
+    /// The partitions in use.
     fn find_partitions(&mut self) -> io::Result<Row<PartitionId>>
         ensures rise { IfOk result Rise }
         ensures counts { self.new.counts ≡ self.old.counts }
@@ -154,7 +154,7 @@ fn part_path(
     Ok(path)
 }
 
-/// Opens the metadata log of a disk. Notes without a reading are a fault.
+/// Opens the metadata log of a disk. Invalid events are a fault.
 fn open_log<R: Files + AllocGlobal + Clone + Drop>(
     alloc: Global,
     disk: FolderDisk<R>,
@@ -167,7 +167,7 @@ fn open_log<R: Files + AllocGlobal + Clone + Drop>(
     }
 }
 
-/// What a yard tells of a metadata log that wasn't opened.
+/// What an environment says of a metadata log that wasn't opened.
 fn trouble_of(refusal: NotesRefusal) -> Trouble {
     match refusal {
         NotesRefusal::NoMemory => Trouble::NoMemory,

@@ -1,6 +1,6 @@
 -- A cache of remote segments' offset indexes, each under its segment's id.
 --
--- The pairs stand in the order of their last use, the most recently used first. No id stands twice.
+-- The pairs are in the order of their last use, the most recently used first. No id occurs twice.
 --
 -- Source: Kafka's RemoteIndexCache, with a bound on the number of indexes in place of one on their bytes.
 use Rattle.std.specs.Prelude.{ℕ, ◌-◌, ◌≤◌, List, [], ◌∷◌, length, take, map, Some, None, if◌then◌else◌}
@@ -43,7 +43,7 @@ in_front (Some index) id pairs = (id, index) ∷ others id pairs
 abbrev pub brought_front : Cache → List ℕ → Cache
 brought_front cache id = record cache { pairs = in_front (found id cache.pairs) id cache.pairs }
 
--- what stays behind a new pair: all but an older pair of the id, or else all but the last where the list is full
+-- what stays after a new pair: all but an older pair of the id, or else all but the last where the list is full
 abbrev pub staying : Option OffsetTable → Cache → List ℕ → List Pair
 staying (Some older) cache id = others id cache.pairs
 staying None cache id = take (cache.size - 1) cache.pairs

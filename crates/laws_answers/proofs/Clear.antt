@@ -1,4 +1,5 @@
--- An answer that tells of a fault comes of none where no call of a device failed, and over devices of which none can fail there is none.
+-- An answer that reports a fault comes of none where no call of a device failed, and over devices of which none can
+-- fail there is none.
 use Rattle.std.proofs.Common.{◌≡◌, inl, subst, refl, ℕ, zero, suc, List, [], ◌∷◌, ◌++◌}
 use Rattle.disk_model.specs.declared.disk.Disk.{Ghosts as DiskGhosts}
 use Rattle.object_store.specs.declared.store.Store.{Ghosts as StoreGhosts}
@@ -22,7 +23,7 @@ last_infallible [] last f = f.0
 last_infallible (first ∷ items) last f = last_infallible items last f.1
 
 module _ {D S M : Type 0} (disk : DiskGhosts D) (store : StoreGhosts S) (meta : MetaGhosts M) where
-  -- where the turn tells of a fault none was met
+  -- where the turn reports a fault none was met
   pub record Clear (b : ℕ) (answer : Answer) (w w' : Whole D S M) : Type 0 where
     pub disk_clear : answer ≡ DiskFault → DiskFailed disk b w w' → ⊥
     pub end_clear : (n : ℕ) → answer ≡ DiskFaultAt n → DiskFailed disk b w w' → ⊥

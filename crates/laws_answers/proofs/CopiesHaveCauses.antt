@@ -113,7 +113,7 @@ module _ {D S M : Type 0} (disk : DiskGhosts D) (store : StoreGhosts S) (meta : 
       at = subst (λ (k : InProgressIsSeen). Shows c.scene t.place b (tier_view disk store meta opening w c t.place t.list t.actor_state t.order z) k (store.content w.tier.store) (meta.content w.tier.meta) z.broker_tier.view)
           (ap (work_of (Some t.order)) works) (shows_at disk store meta opening w c t.place t.list t.actor_state t.order z)
 
-    -- the copy is told as whole
+    -- the copy is recorded as whole
     looked : (g : StartSnapshot) (copy : Copied) (notes : ℕ) (state : CopyState) (k : Answer) → state_of copy.id (fold (meta.content w'.tier.meta).notes) ≡ Some state → state ≢ CopyStarted
         → Ends k ≡ checked copy notes (Some state) → Later g copy k
     looked g copy notes CopyStarted k has not is = absurd (not refl)

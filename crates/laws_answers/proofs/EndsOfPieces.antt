@@ -1,6 +1,6 @@
 -- A piece that is found ends where a batch does, in its segment and in the log by whose line it was found.
 --
--- It ends where its epoch does in the log's line or in the copy's map, or else with the log or with the copy.
+-- It ends where its epoch does in the log's leader epochs or in the copy's map, or else with the log or with the copy.
 use Rattle.std.proofs.Common.{◌≡◌, ◌≢◌, ◌⊎◌, ◌∙◌, inl, inr, sym, ap, subst, refl, ℕ, ◌+◌, ◌-◌, ◌<◌, ◌≤◌, min, max, Bool, true, false, cond, nat_lt, List, [], ◌∷◌, ◌++◌, Some, None, Option, arith}
 use Rattle.std.proofs.lemmas.Bool.{lt-ltb, le-ltb, le-leb, lt-leb, cases_lt}
 use mathlib.Core.List.{IsPrefix}
@@ -75,7 +75,7 @@ front_off : (xs ys zs : List (List ℕ)) → xs ++ ys ≡ xs ++ zs → ys ≡ zs
 front_off [] ys zs e = e
 front_off (x ∷ xs) ys zs e = front_off xs ys zs (cc (e))
 
--- an end behind a front is one of the batches that come behind it
+-- an end after a front is one of the batches that come after it
 pub end_behind : (front batches : List (List ℕ)) (n : ℕ) → IsConsecutive 0 (front ++ batches) → end_of front ≤ n → EndsAt n (front ++ batches)
     → (first : List (List ℕ)) × IsPrefix first batches × (end_from (end_of front) first ≡ n)
 end_behind front batches n c low e =
@@ -90,7 +90,7 @@ end_behind front batches n c low e =
 
 -- lines
 
--- behind its span an epoch isn't the line's
+-- after its span an epoch isn't the line's
 behind_span : (line : List (ℕ × ℕ)) (epoch end : ℕ) (span : Span) → IsLine line → span_of line epoch end ≡ Some span → span.to < end → epoch_at line span.to ≢ Some epoch
 behind_span line epoch end span rises is below = λ at.
     (let inside : in_span (Some span) span.to ≡ true =
@@ -101,7 +101,7 @@ behind_span line epoch end span rises is below = λ at.
 
 -- pieces
 
--- what a piece is made of: the spans of its epoch in the copy's map and in the log's line
+-- what a piece is made of: the spans of its epoch in the copy's map and in the log's leader epochs
 record IsClipped (entries : List Entry) (line : List (ℕ × ℕ)) (log_end offset : ℕ) (piece : Piece) : Type 0 where
   pub epoch : ℕ
   pub at : epoch_at line offset ≡ Some epoch

@@ -1,4 +1,4 @@
--- Each fault that a journal tells of has been counted by its device since the journal began.
+-- Each fault that a journal reports has been counted by its device since the journal began.
 use Rattle.std.proofs.Common.{◌≡◌, inl, inr, ◌∙◌, sym, ap, subst, refl, ℕ, zero, suc, List, [], ◌∷◌, ◌++◌, slice_get, Some, None, Option, IsSomeAnd}
 use Rattle.std.specs.List.{AllByRecursion}
 use Rattle.tier_base.specs.Device.{Control}
@@ -76,7 +76,7 @@ module _ {D : Type 0} (control : D → Control call_code) where
   for_after command h h' h'' b lasts fails = fails_after control b h.nodes h'.nodes h''.nodes lasts fails
 
 module _ {D S M : Type 0} (disk : DiskGhosts D) (store : StoreGhosts S) (meta : MetaGhosts M) where
-  -- what is told of a fault of a command, from the one world to the other
+  -- what is reported of a fault of a command, from the one world to the other
   abbrev Tells : Whole D S M → Whole D S M → Order → Answer → Type 0
   Tells w v order answer =
       Told (FailsFor disk.control order.command w.held order.broker.0 v.held) (DiskFails disk.control order.broker.0 w.held v.held)
@@ -86,7 +86,7 @@ module _ {D S M : Type 0} (disk : DiskGhosts D) (store : StoreGhosts S) (meta : 
   abbrev EntryTells : Whole D S M → Whole D S M → JournalEntry → Type 0
   EntryTells w v entry = IsSomeAnd (order_of w.lists entry) (λ order. (answer : Answer) → entry.event ≡ event.Answers answer → Tells w v order answer)
 
-  -- the devices have lasted since the world before, and each fault that is told is counted
+  -- the devices have lasted since the world before, and each fault that is reported is counted
   record IsSince (w v : Whole D S M) : Type 0 where
     lists : v.lists ≡ w.lists
     rising : AreRising v.lists
@@ -180,7 +180,7 @@ module _ {D S M : Type 0} (disk : DiskGhosts D) (store : StoreGhosts S) (meta : 
   reaches_since w v [] u r s = same_since w v u r s
   reaches_since w v (pace ∷ schedule) u r s = reaches_since w r.0 schedule u r.2 (paces_since w v pace r.0 r.1 s)
 
-  -- nothing has been told in a new world
+  -- nothing has been reported in a new world
 
   new_since : (config : Config) (lists : List ActorList) (w : Whole D S M) → AreListsFor config lists → IsNew lists w → IsSince w w
   new_since config lists w fit f = record {
@@ -190,7 +190,7 @@ module _ {D S M : Type 0} (disk : DiskGhosts D) (store : StoreGhosts S) (meta : 
     journal = subst (AllByRecursion (EntryTells w w)) (sym f.journal) tt;
   }
 
-  -- what is told is what the definitions say
+  -- what is reported is what the definitions say
 
   failed_as : (w v : Whole D S M) (order : Order) (answer : Answer) → Tells w v order answer → FailedAs disk store meta order answer w v
   failed_as w v order DiskFault t = go order.command t

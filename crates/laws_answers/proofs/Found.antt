@@ -1,4 +1,4 @@
--- A search by timestamp with which nothing interferes is answered by an offset, or by that there is none.
+-- A timestamp lookup with which nothing interferes returns an offset, or by that there is none.
 use Rattle.std.proofs.Common.{◌≡◌, subst, refl, ℕ, ◌≤◌, List, slice_get}
 use Rattle.std.specs.Prelude.{ℤ}
 use Rattle.disk_model.specs.declared.disk.Disk.{Ghosts as DiskGhosts}

@@ -1,4 +1,4 @@
--- Each turn lets paths grow and appends notes, so what fetches have found goes on to stand.
+-- Each turn lets paths grow and appends metadata events, so what fetches have found continues to exist.
 use Rattle.std.proofs.Common.{◌≡◌, ◌∙◌, sym, ap, subst, ℕ, List, [], ◌∷◌, ◌++◌, Some}
 use mathlib.Core.List.{IsPrefix}
 use Rattle.disk_model.specs.declared.disk.Disk.{Ghosts as DiskGhosts}
@@ -30,7 +30,7 @@ use Rattle.partition_world.specs.Turn.{IsTurn}
 use Rattle.partition_world.specs.Whole.{Whole}
 use Rattle.laws_answers.specs.Found.{PieceEnds, SpanIsOf, IsFound}
 
--- what was found stands over paths that grow and with more notes
+-- what was found exists over paths that grow and with more metadata events
 pub ends_grow : (ps qs : List Path) (epoch : ℕ) (piece : Piece) → PathsGrow ps qs → PieceEnds ps epoch piece → PieceEnds qs epoch piece
 ends_grow ps qs epoch piece w e = record { front = e.front; begins = has_wider ps qs epoch e.front w e.begins; ends = e.ends }
 

@@ -1,4 +1,4 @@
--- A join that nothing hinders is answered by a cut or a restart.
+-- A join that nothing hinders returns a cut or a restart.
 use Rattle.std.proofs.Common.{◌≡◌, inl, inr, subst, refl, ℕ, ◌≤◌, List, Some, None, Option, slice_get, arith}
 use Rattle.disk_model.specs.declared.disk.Disk.{Ghosts as DiskGhosts}
 use Rattle.object_store.specs.declared.store.Store.{Ghosts as StoreGhosts}
@@ -51,7 +51,7 @@ module _ {D : Type 0} where
   stopped_never h x g (inl differs) may = differs may.0.0
   stopped_never h x g (inr down) may = let up = may.0.1 in cc (down, up)
 
-  -- a join that may go on isn't answered before it does
+  -- a join that may continue isn't answered before it does
   once_never : (h : PartitionState D) (x : Node D) (g : StartSnapshot) (answer : Answer) → AnswersAtOnce h x g answer → MayRebuild h x g → ⊥
   once_never h x g Stopped is may = stopped_never h x g is may
   once_never h x g (StaleEpoch n) is may = may.0.2 is.1

@@ -112,7 +112,7 @@ module _ {D S M : Type 0} (disk : DiskGhosts D) (store : StoreGhosts S) (meta : 
     own ((turned.Answers k, is, row), same) = let e : k ≡ answer = cc (is) in subst (λ (j : Answer). FirstCause disk store meta w b z.x j w') e (first k row)
     own ((turned.Begins g, is, row), same) = absurd (cc (is))
 
-    -- where the log begins anew
+    -- where the log restarts
     restarts : (g : StartSnapshot) (line : List (ℕ × ℕ)) (k : Answer) → JoinOnRow disk.content disk.control w.held b z.x (with_line g line) k w'.held → RestartCause disk store meta w b z.x g k w'
     restarts g line Stopped row = row.0
     restarts g line (StaleEpoch n) row = (row.0, row.1, row.2)

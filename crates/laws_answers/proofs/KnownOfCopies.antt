@@ -71,7 +71,7 @@ rep_get zero i x y at = absurd cc
 rep_get (suc n) zero x y at = cc
 rep_get (suc n) (suc i) x y at = rep_get n i x y at
 
--- the log start doesn't fall
+-- the log start offset doesn't fall
 
 replay_from : (lists : List ActorList) (p : State) (journal more : List JournalEntry) (q : State) → replay lists p journal ≡ Some q → replay lists p (journal ++ more) ≡ replay lists q more
 replay_from lists p [] more q e = let is : p ≡ q = cc (e) in ap (λ (k : State). replay lists k more) is
@@ -193,10 +193,10 @@ module _ {D S M : Type 0} (disk : DiskGhosts D) (store : StoreGhosts S) (meta : 
       ap (λ (ns : List Note). entry_of copy.id (fold ns)) (sym c.shows_tier.notes) ∙ (c.tier.copies.each place copy Start desk).at in
       absurd (cc (there, none))
 
-  -- the side of a broker after a turn
+  -- the tier state of a broker after a turn
   module _ (w : Whole D S M) (a : ℕ) (outcome : Outcome) (w' : Whole D S M) (t : IsTurn disk store meta w a outcome w') (broker_tier : BrokerTierState) (broker_tier_at : slice_get w.tier.broker_tiers t.order.broker.0 ≡ Some broker_tier)
       (start : ℕ) (goes : TierGoes meta start t.order.broker.0 broker_tier w.tier w'.tier) where
-    -- what a side has shown it shows
+    -- what a tier state has shown it shows
     still_shown : (b : ℕ) (new : BrokerTierState) (id : SegmentId) → slice_get w'.tier.broker_tiers b ≡ Some new → ((old : BrokerTierState) → slice_get w.tier.broker_tiers b ≡ Some old → ShowsDeleted old.view.entries id)
         → ShowsDeleted new.view.entries id
     still_shown b new id at was = elim (get-set w.tier.broker_tiers t.order.broker.0 goes.after b new (ap (λ (k : List BrokerTierState). slice_get k b) (sym goes.broker_tiers) ∙ at)) [
@@ -292,7 +292,7 @@ module _ {D S M : Type 0} (disk : DiskGhosts D) (store : StoreGhosts S) (meta : 
         let grows = start_later opening w a outcome w' t c in
         omega (arith, low, grows)
 
-    -- of a copy that went on before
+    -- of a copy that continued before
     before_below : (g : StartSnapshot) (copy : Copied) (next : CopyStep) → t.actor_state.work ≡ Copies g copy next → (id : SegmentId) → copy.id ≡ id → DeletedBelow (fold (meta.content w'.tier.meta).notes) w'.held.registry.start id
     before_below g copy next works id is =
         told id (subst (DeletedBelow (fold (meta.content w.tier.meta).notes) w.held.registry.start) is

@@ -1,4 +1,4 @@
--- Each turn keeps what is known of what searches by timestamp have found, and nothing is to be known of a fresh world.
+-- Each turn keeps what is known of what timestamp lookups have found, and nothing is to be known of a fresh world.
 use Rattle.std.proofs.Common.{◌≡◌, ◌∙◌, inl, inr, sym, ap, subst, refl, ℕ, ◌<◌, Bool, true, false, List, length, Some, slice_get, slice_set}
 use Rattle.std.specs.Prelude.{ℤ, unwrap_or}
 use mathlib.Core.List.{IsPrefix}
@@ -55,7 +55,7 @@ use Rattle.laws_answers.proofs.PlacesOfSearches.{Keeps, epoch, at as at_of, on a
 use Rattle.laws_answers.proofs.ReadingOfSearches.{searched_on, time_found}
 use Rattle.laws_answers.proofs.SearchesTell.{resumed_found}
 
--- what was found stands over paths that grow and with more notes
+-- what was found exists over paths that grow and with more metadata events
 found_grows : (ps qs : List Path) (notes more : List Note) (led : ℕ) (next : SearchStep) → PathsGrow ps qs → IsPrefix notes more
     → IsFoundByTime ps notes led next → IsFoundByTime qs more led next
 found_grows ps qs notes more led Seek w pre f = tt
@@ -70,7 +70,7 @@ number_kept : (actor_state : ActorState) (o : Outcome) (g : StartSnapshot) (curs
 number_kept actor_state (Answers answer) g cursor next is = absurd (cc (is))
 number_kept actor_state other g cursor next is = refl
 
--- a turn in the local log goes on without a piece
+-- a turn in the local log continues without a piece
 own_seeks : {D : Type 0} (disk : DiskGhosts D) (old : Kept D) (asked : Asked) (cursor at : ℕ) (later : SearchStep) (new : Kept D)
     → OwnRow disk.content disk.control old asked cursor (Goes at later) new → later ≡ Seek
 own_seeks disk old asked cursor at later new (inl (past, is, same)) = cc (is)

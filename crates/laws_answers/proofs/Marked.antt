@@ -1,4 +1,4 @@
--- A search by timestamp whose broker knows no high watermark past a mark comes closer to that mark by each of its turns.
+-- A timestamp lookup whose broker knows no high watermark past a mark comes closer to that mark by each of its turns.
 use Rattle.std.proofs.Common.{◌≡◌, subst, refl, ℕ, ◌<◌, ◌≤◌, List, slice_get, arith}
 use Rattle.std.specs.Prelude.{ℤ}
 use Rattle.tier_base.specs.declared.names.PartitionId.{PartitionId}
@@ -67,7 +67,7 @@ module _ {D S M : Type 0} (disk : DiskGhosts D) (store : StoreGhosts S) (meta : 
   first_closer mark h t b x broker_tier (Begins g) t' row = omega arith
   first_closer mark h t b x broker_tier other t' row = elim row [ ]
 
-  -- it is resumed below the mark
+  -- it is resumed below the high watermark
   below_mark : (mark : ℕ) (p : PartitionId) (h : PartitionState D) (t : RemoteTier S M) (b : ℕ) (x : Node D) (broker_tier : BrokerTierState) (g : StartSnapshot) (ts : ℤ)
       (cursor : ℕ) (before : SearchStep) (at : ℕ) (later : SearchStep) (h' : PartitionState D) (t' : RemoteTier S M) → x.known_high_watermark ≤ mark
       → DateOnRow disk store meta p h t b x broker_tier g ts cursor before (Dated at later) h' t' → resumed_at h.registry.start cursor < mark

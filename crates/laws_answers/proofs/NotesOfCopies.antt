@@ -1,5 +1,5 @@
--- A note of a copy deletes nothing, and one of an expiry what ends below the log start. A view that takes in more notes shows
--- what it has shown.
+-- A metadata event of a copy deletes nothing, and one of an expiry what ends below the log start offset. A view that
+-- takes more metadata events shows what it has shown.
 use Rattle.std.proofs.Common.{◌≡◌, ◌∙◌, ◌⊎◌, inl, inr, sym, ap, subst, refl, ℕ, ◌<◌, Bool, true, false, cond, List, [], ◌∷◌, ◌++◌, Some, None, Option}
 use Rattle.std.specs.Prelude.{IsSomeAnd, is_some, ℤ}
 use Rattle.std.specs.Option.{option_map}
@@ -19,11 +19,11 @@ use Rattle.tier_safe.proofs.Basics.{id_cases, one_some, some_or_none, deleted_ri
 use Rattle.tier_safe.proofs.Entries.{told, told_entry, told_follows, add_entry, other_entry, fold_push, entry_goes, id_in}
 use Rattle.laws_answers.specs.DeletionsKnown.{DeletedBelow, ShowsDeleted}
 
--- the entries have the id, and it ends below the log start
+-- the entries have the id, and it ends below the log start offset
 abbrev pub EndsBelow : List Entry → ℕ → SegmentId → Type 0
 EndsBelow es start id = IsSomeAnd (entry_of id es) (λ entry. entry.end < start)
 
--- a note that deletes none of these entries but one that ends below the log start
+-- a metadata event that deletes none of these entries but one that ends below the log start offset
 abbrev pub LeavesBe : List Entry → ℕ → Note → Type 0
 LeavesBe es start (Add entry) = entry.state ≡ CopyStarted
 LeavesBe es start (Update id broker event_ts state custom) = (state ≡ CopyFinished) ⊎ EndsBelow es start id
@@ -57,7 +57,7 @@ finish_told broker event_ts custom x gone = by x.state gone
     by DeleteStarted gone = refl
     by DeleteFinished gone = refl
 
--- the entry of the note's own id
+-- the entry of the metadata event's own id
 own_below : (es : List Entry) (note : Note) (start : ℕ) (x : Entry) → LeavesBe es start note → DeletedBelow es start (id_in note) → entry_of (id_in note) (recorded es note) ≡ Some x → is_deleted x.state ≡ true → x.end < start
 own_below es (Add e) start x be h at gone = elim (some_or_none (entry_of e.id es)) [
   | inl none ↦

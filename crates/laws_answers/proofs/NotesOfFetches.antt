@@ -1,4 +1,4 @@
--- A turn appends notes to the metadata log, or leaves it as it is.
+-- A turn appends metadata events to the metadata log, or leaves it as it is.
 use Rattle.std.proofs.Common.{◌≡◌, inl, inr, sym, ap, subst, ℕ, Bool, true, false, List, [], ◌∷◌, Ok, Err}
 use Rattle.std.specs.Prelude.{IsTrue, ℤ}
 use Rattle.std.specs.declared.result.Result.{Result}
@@ -75,7 +75,7 @@ appended true note notes = prefix_more notes notes (note ∷ []) (prefix_self no
 appended false note notes = prefix_self notes
 
 module _ {M : Type 0} (meta : MetaGhosts M) where
-  -- the first ones of its notes are those of another metadata log
+  -- the first ones of its metadata events are those of another metadata log
   abbrev pub Begin : M → M → Type 0
   Begin old new = IsPrefix (meta.content old).notes (meta.content new).notes
 
@@ -131,7 +131,7 @@ module _ {S M : Type 0} (store : StoreGhosts S) (meta : MetaGhosts M) where
   fetch_notes wanted line (Index piece) turn old new row = same_log meta old.meta new.meta (ap (λ (t : FetchTiers S M). t.meta) row.0)
   fetch_notes wanted line (Log piece span) turn old new row = same_log meta old.meta new.meta (ap (λ (t : FetchTiers S M). t.meta) row.0)
 
-  -- where a search goes on as a fetch does
+  -- where a search continues as a fetch does
   indexes_notes : (asked : Asked) (line : List (ℕ × ℕ)) (cursor from : ℕ) (piece : Piece) (found : Result FetchTurn AllocError)
       (turn : TimeTurn) (old new : FetchTiers S M)
       → FetchRow store.content store.control meta.content meta.control (wanted_at asked from) line (fetching.Index piece) found old new

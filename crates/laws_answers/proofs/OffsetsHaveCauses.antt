@@ -88,7 +88,7 @@ module _ {D S M : Type 0} (disk : DiskGhosts D) (store : StoreGhosts S) (meta : 
     second g NoOffset row = row
     second g other row = elim row.1 [ ]
 
-    -- a later turn of a search: what it tells of where it is answered a fault
+    -- a later turn of a search: what it says of where it returns a fault
     abbrev Tells : TimeTurn → Type 0
     Tells turn = TurnTold (DiskFailed disk b w w') (Unit {0}) (StoreFailed store w w') (MetaFailed meta w w') (date_outcome turn)
 

@@ -48,7 +48,7 @@ module _ {D S M : Type 0} (disk : DiskGhosts D) (store : StoreGhosts S) (meta : 
     pub sound : NodeSound y
     sound = (c.central.stands.lines.each order.broker.0 y z.sees.there).sound
 
-    -- the mark that the broker knows is an end of its log
+    -- the high watermark that the broker knows is an end of its log
     pub marked : EndsAt z.x.known_high_watermark z.s.batches
     marked = sound.known_high_watermark
 

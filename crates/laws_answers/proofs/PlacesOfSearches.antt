@@ -1,4 +1,4 @@
--- A later turn of a search by timestamp, in its place in the world and in the tier.
+-- A later turn of a timestamp lookup, in its place in the world and in the tier.
 use Rattle.std.proofs.Common.{◌≡◌, ◌∙◌, sym, ap, subst, refl, ℕ, ◌<◌, ◌≤◌, ◌^◌, Bool, true, false, max, nat_lt, List, [], ◌∷◌, length, Some, Option, slice_get, arith}
 use Rattle.std.specs.Prelude.{ℤ, unwrap_or}
 use Rattle.disk_model.specs.declared.disk.Disk.{Ghosts as DiskGhosts}
@@ -62,7 +62,7 @@ module _ {D S M : Type 0} (disk : DiskGhosts D) (store : StoreGhosts S) (meta : 
       pub set : IsSet cursor next
       pub gone : HasGone c.central.plain order.broker.0 g (Offset (At ts)) cursor next
 
-    -- of one that has noted only where it began
+    -- of one that has recorded only where it began
     pub keeps_recorded : (g : StartSnapshot) → actor_state.work ≡ Noted g → Keeps g 0 Seek
     keeps_recorded g is = record {
       recorded = ap recorded_in is;
@@ -93,7 +93,7 @@ module _ {D S M : Type 0} (disk : DiskGhosts D) (store : StoreGhosts S) (meta : 
       abbrev start : ℕ
       start = w.held.registry.start
 
-      -- where it goes on, with what, and what it asks for
+      -- where it continues, with what, and what it asks for
       abbrev pub at : ℕ
       at = resumed_at w.held.registry.start cursor
 
@@ -119,7 +119,7 @@ module _ {D S M : Type 0} (disk : DiskGhosts D) (store : StoreGhosts S) (meta : 
           let leads = going_on.leads (ap is_leaders asks) in
           leads.1 ∙ ap Leads (sym (ap (λ (r : Role). unwrap_or (leading r) 0) leads.1))
 
-      -- all before where it goes on is too early
+      -- all before where it continues is too early
       pub gone_at : KeepsLead z.x g → IsDatedTo ts start z.s.batches at on
       gone_at lead =
           resumed_dated ts start z.s.batches cursor next
@@ -174,7 +174,7 @@ module _ {D S M : Type 0} (disk : DiskGhosts D) (store : StoreGhosts S) (meta : 
             dated = subst (λ (n : ℕ). IsDatedTo ts n z.s.batches at on) (sym started) (gone_at lead);
           }
 
-      -- where the log start has passed its cursor, its state has let go what was found
+      -- where the log start offset has passed its cursor, its state has dropped what was found
       pub search_at : KeepsLead z.x g → at < z.x.known_high_watermark → (d : Scene) × (d.notes ≡ c.scene.notes) × IsAt d
       search_at lead below = by (nat_lt cursor start) refl
         where

@@ -1,4 +1,5 @@
--- A turn of a command that isn't answered leaves fewer to come, and a turn leaves the other seats as they were.
+-- A turn of a command that isn't answered leaves fewer to come, and a turn leaves the other actors' states as they
+-- were.
 use Rattle.std.proofs.Common.{◌≡◌, ◌≢◌, ◌∙◌, inl, inr, sym, ap, subst, refl, ℕ, zero, suc, ◌+◌, ◌<◌, ◌≤◌, List, [], ◌∷◌, Some, None, Option, Ok, slice_get, slice_set, Bool, true, false, arith}
 use Rattle.std.specs.Prelude.{◌-◌, ◌*◌, ◌^◌, ℤ, max, nat_lt, if◌then◌else◌}
 use Rattle.std.proofs.lemmas.Bool.Decides.{nat_tests}
@@ -91,7 +92,7 @@ Less command work (Dooms segment) = turns_left command (expired_segment work seg
 Less command work (Deletes next) = turns_left command (deleting work next) < turns_left command work
 Less command work (Rebuilding next) = turns_left command (rebuilding work next) < turns_left command work
 
--- a copy goes on with this turn
+-- a copy continues with this turn
 to : (before next after : CopyStep) → GoesOn next ≡ GoesOn after → copying_left after < copying_left before → copying_left next < copying_left before
 to before next after is lt = let e : next ≡ after = cc in rw e lt
 
@@ -129,7 +130,7 @@ module _ {S M : Type 0} (store : StoreGhosts S) (meta : MetaGhosts M) where
   copy_less copy origin Check next old new w = checked_less copy new.view.notes (state_of copy.id new.view.entries) next w.1.0
   copy_less copy origin (Delete n) next old new w = delete_row copy old.view n (slice_get (keys copy) n) next old.store new.store w.1
 
--- an expiry goes on with this turn
+-- an expiry continues with this turn
 dto : (before next after : Deletion) → expiry.Goes next ≡ expiry.Goes after → deleting_left after < deleting_left before → deleting_left next < deleting_left before
 dto before next after is lt = let e : next ≡ after = cc in rw e lt
 
@@ -156,7 +157,7 @@ all_turns Refresh = omega arith
 all_turns (Index piece) = omega arith
 all_turns (Log piece span) = omega arith
 
--- a search by timestamp takes four turns at a cursor at most, and has come to a later one or takes a further one there
+-- a timestamp lookup takes four turns at a cursor at most, and has come to a later one or takes a further one there
 few_here : (next : Dating) → dated_here next ≤ 3
 few_here dating.Seek = omega arith
 few_here (dating.Times piece) = omega arith
@@ -177,7 +178,7 @@ past_less limit cursor at n m fits far few = omega (arith, fits, far, few)
 here_less : (limit cursor at n m : ℕ) → cursor < limit → cursor ≤ at → n < m → m ≤ 3 → 1 + (4 * (limit - at) - m) < 1 + (4 * (limit - cursor) - n)
 here_less limit cursor at n m fits far up few = omega (arith, fits, far, up, few)
 
--- one that is resumed, and goes on with a piece
+-- one that is resumed, and continues with a piece
 piece_less : (limit start cursor at : ℕ) (before : Dating) (m : ℕ) → max start cursor < limit → max start cursor ≤ at → dated_before (if nat_lt cursor start then dating.Seek else before) < m → m ≤ 3
     → 1 + (4 * (limit - at) - m) < dating_left_to limit cursor before
 piece_less limit start cursor at before m fits far up few = by (nat_lt cursor start) refl up
@@ -205,7 +206,7 @@ resumed_less limit start cursor at before (dating.Log piece from span) fits goes
 pub first_left : (limit at : ℕ) (later : Dating) → dating_left_to limit at later < dating_left_to limit 0 dating.Seek → dating_left_to limit at later < 1 + 4 * limit
 first_left limit at later less = omega (arith, less)
 
--- behind the line that was read the log is begun anew
+-- after the leader epochs that were read the log is restarted
 read_less : (next : Rebuild) → MayTurn (rebuild.Goes next) → rebuilding_left next < rebuilding_left Epochs
 read_less (Restart line) may = omega arith
 read_less Epochs may = absurd may

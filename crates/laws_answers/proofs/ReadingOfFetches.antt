@@ -1,4 +1,4 @@
--- What a turn of a fetch from the remote tier finds stands, and the last one finds a run in what it reads.
+-- What a turn of a fetch from the remote tier finds exists, and the last one finds a run in what it reads.
 use Rattle.std.proofs.Common.{◌≡◌, ◌∙◌, inl, inr, sym, ap, subst, refl, ℕ, ◌-◌, ◌<◌, ◌≤◌, min, List, take, drop, Option, Some, None, Result, Ok, Err, arith}
 use Rattle.std.specs.Prelude.{option_map, IfOk}
 use mathlib.Core.List.{IsPrefix}

@@ -1,4 +1,4 @@
--- What a turn of a search by timestamp finds stands, and its last one finds no damage in what it reads.
+-- What a turn of a timestamp lookup finds exists, and its last one finds no damage in what it reads.
 use Rattle.std.proofs.Common.{◌≡◌, inl, inr, sym, ap, subst, refl, ℕ, ◌<◌, Bool, true, false, List, Option, Some, None, Result, Ok, Err}
 use Rattle.std.specs.Prelude.{nat_lt, if◌then◌else◌}
 use Rattle.std.specs.declared.alloc.AllocError.{AllocError}
@@ -55,7 +55,7 @@ use Rattle.laws_answers.specs.FoundByTime.{IsFoundByTime}
 use Rattle.laws_answers.proofs.EndsOfPieces.{piece_ends}
 use Rattle.laws_answers.proofs.ReadingOfFetches.{index_found, not_damaged}
 
--- where a run was searched, and the search goes on, it has no piece
+-- where a run was searched, and the search continues, it has no piece
 pub searched_on : (asked : Asked) (offset : ℕ) (run : List ℕ) (at : ℕ) (later : SearchStep) → IsSearched asked offset run (Goes at later)
     → later ≡ Seek
 searched_on asked offset run at Seek w = refl
@@ -64,7 +64,7 @@ searched_on asked offset run at (Index piece from) w = elim w [ ]
 searched_on asked offset run at (Log piece from span) w = elim w [ ]
 
 module _ (paths : List Path) (notes : List Note) (epoch : ℕ) where
-  -- of what it goes on with
+  -- of what it continues with
   none_found : (later : SearchStep) (at to : ℕ) → ◌≡◌ {A = Result TimeTurn AllocError} (Ok (Goes at later)) (Ok (Goes to Seek))
       → IsFoundByTime paths notes epoch later
   none_found later at to is = let same : later ≡ Seek = cc (is) in subst (IsFoundByTime paths notes epoch) (sym same) tt
@@ -111,7 +111,7 @@ module _ (c : Scene) (p : Plain) (a b : ℕ) (tier_view : BrokerTierView) (x : B
     led next s n view cache h = (subst (λ (r : Role). RoleSafe p.paths p.registry.epoch r x.log) h.leads
         (h.safe.plain.brokers b x h.broker_is).role).1
 
-    -- the mark is an end of it
+    -- the high watermark is an end of it
     marked : (next : SearchStep) (s : store.Content) (n : meta.Content) (view : Seen) (cache : Cache) → At next s n view cache
         → EndsAt asked.mark x.log
     marked next s n view cache h = subst (λ (m : ℕ). EndsAt m x.log) (sym h.mark_is) h.mark_ends
@@ -177,7 +177,7 @@ module _ (c : Scene) (p : Plain) (a b : ℕ) (tier_view : BrokerTierView) (x : B
       index_on from piece at later old new h (inl w) ends = none_found p.paths c.notes epoch later at (top_of asked piece) w.1
       index_on from piece at later old new h (inr w) ends = indexed from piece w.1.0 at later old new h w.1.1 w.1.2 ends
 
-      -- behind the log there is no piece
+      -- after the log there is no piece
       searched_found : (from : ℕ) (turn : Result FetchTurn AllocError) (at : ℕ) (later : SearchStep)
           → Searches asked from turn (Ok (Goes at later)) → IsFoundByTime p.paths c.notes epoch later
       searched_found from (Ok (fetch.Ends (Run tier size stop bytes))) at later k =
@@ -192,7 +192,7 @@ module _ (c : Scene) (p : Plain) (a b : ℕ) (tier_view : BrokerTierView) (x : B
       log_on from piece span at later old new (inl w) = none_found p.paths c.notes epoch later at (top_of asked piece) w.1
       log_on from piece span at later old new (inr w) = searched_found from w.1.0 at later w.1.2
 
-      -- a turn finds what stands
+      -- a turn finds what is there
       pub time_found : (next : SearchStep) (at : ℕ) (later : SearchStep) (old new : Tiers S M)
           → At next (objects old.store) (notes old.meta) old.view old.cache → IsSet cursor next
           → TimeRow objects calls notes notings asked line cursor next (Ok (Goes at later)) old new

@@ -78,7 +78,7 @@ module _ {D : Type 0} where
       let w = when_some (is_up one.0 && leads_in h.registry.epoch one.0.role) one.0 y one.2 in
       (both (is_up y) (leads_in h.registry.epoch y.role) (subst (λ (z : Node D). is_up z && leads_in h.registry.epoch z.role ≡ true) w.1 w.0)).0
 
-  -- a join isn't, before it goes on
+  -- a join isn't, before it continues
   once_never : (h : PartitionState D) (x : Node D) (g : StartSnapshot) (answer : Answer) (place : Spoiled) (at : ℕ) → Damaged place at ≡ answer → AnswersAtOnce h x g answer → ⊥
   once_never h x g answer place at is w = subst (AnswersAtOnce h x g) (sym is) w
 
@@ -106,7 +106,7 @@ module _ {D S M : Type 0} (disk : DiskGhosts D) (store : StoreGhosts S) (meta : 
         (subst (λ (n : ℕ). EndsAt n v.0.batches) (sym (end_shown disk.content y.0 v.0 (leader_up w.held y.0 y.1) v.1.shows)) (ends_at_end v.0.batches))
     follow_never limit other row = elim row [ ]
 
-    -- a command of one turn: a broker that comes up opens its log
+    -- a command of one turn: a broker that starts opens its log
     answer_never : (command : Command) (spoiled : Spoiled) → AnswerRow disk.content disk.control w.held b z.x command (Damaged spoiled at) w'.held → ⊥
     answer_never Up (File name) row = row.1.1.unseen z.s z.sees.shows
     answer_never (Append recs) spoiled row = row
@@ -163,7 +163,7 @@ module _ {D S M : Type 0} (disk : DiskGhosts D) (store : StoreGhosts S) (meta : 
         deletion_never place at k e (expiry_ends store meta expired_segment (origin_of w.held b) next k (expiry_tiers w.tier) (expiry_tiers w'.tier) goes.row)
     delete_never g expired_segment next (inr (keeps, (expiry.Goes further, is, goes))) = absurd (cc (is))
 
-    -- a join that goes on in the tier
+    -- a join that continues in the tier
     join_never : (g : StartSnapshot) → JoinSecondRow disk meta w.held w.tier b z.x z.broker_tier g (Answers (Damaged place at)) w'.held w'.tier → ⊥
     join_never g (inl own) = own_on_never g Join own.1
     join_never g (inr (low, inl (k, is, once, same), held)) = let e : Damaged place at ≡ k = cc (is) in once_never w.held z.x g k place at e once

@@ -1,4 +1,4 @@
--- What a schedule reaches from a fresh world tells of no damage.
+-- What a schedule reaches from a fresh world says of no damage.
 use Rattle.std.proofs.Common.{◌≡◌, inl, inr, sym, subst, ℕ, zero, suc, List, [], ◌∷◌, ◌++◌}
 use Rattle.std.specs.List.{AllByRecursion}
 use Rattle.disk_model.specs.declared.disk.Disk.{Ghosts as DiskGhosts}

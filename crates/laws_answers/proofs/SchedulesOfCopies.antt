@@ -14,7 +14,7 @@ use Rattle.laws_answers.proofs.SchedulesOfTurns.{Any, any_of}
 use Rattle.laws_answers.proofs.KnownOfCopies.{keep_known}
 
 module _ {D S M : Type 0} (disk : DiskGhosts D) (store : StoreGhosts S) (meta : MetaGhosts M) where
-  -- what is known goes on
+  -- what is known continues
   any_known : (opening : State) (v : Whole D S M) (actors : List ℕ) (u : Whole D S M) → IsCentral disk store meta opening v → DeletionsKnown meta v → Any disk store meta v actors u
       → IsCentral disk store meta opening u × DeletionsKnown meta u
   any_known opening v [] u c known r = subst (λ (k : Whole D S M). IsCentral disk store meta opening k × DeletionsKnown meta k) (sym r) (c, known)

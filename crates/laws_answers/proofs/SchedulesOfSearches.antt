@@ -1,4 +1,4 @@
--- What is known of searches by timestamp is known of what a schedule reaches.
+-- What is known of timestamp lookups is known of what a schedule reaches.
 use Rattle.std.proofs.Common.{inl, inr, sym, subst, ℕ, List, [], ◌∷◌}
 use Rattle.disk_model.specs.declared.disk.Disk.{Ghosts as DiskGhosts}
 use Rattle.object_store.specs.declared.store.Store.{Ghosts as StoreGhosts}
@@ -14,7 +14,7 @@ use Rattle.laws_answers.proofs.SchedulesOfTurns.{Any, any_of}
 use Rattle.laws_answers.proofs.KnownOfSearches.{keep_searches}
 
 module _ {D S M : Type 0} (disk : DiskGhosts D) (store : StoreGhosts S) (meta : MetaGhosts M) where
-  -- what is known goes on
+  -- what is known continues
   any_known : (opening : State) (v : Whole D S M) (actors : List ℕ) (u : Whole D S M) → IsCentral disk store meta opening v
       → SearchesKnown meta opening v → Any disk store meta v actors u
       → IsCentral disk store meta opening u × SearchesKnown meta opening u

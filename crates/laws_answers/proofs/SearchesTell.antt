@@ -1,4 +1,4 @@
--- What a search by timestamp is answered: the log's offset, or that there is none, and no damage.
+-- What a timestamp lookup returns: the log's offset, or that there is none, and no damage.
 use Rattle.std.proofs.Common.{◌≡◌, ◌∙◌, inl, inr, sym, ap, subst, refl, ℕ, ◌<◌, Bool, true, false, List, Some, None, Option, nat_lt, slice_get}
 use Rattle.std.specs.Prelude.{ℤ, unwrap_or, if◌then◌else◌}
 use Rattle.disk_model.specs.declared.disk.Disk.{Ghosts as DiskGhosts}
@@ -47,7 +47,7 @@ use Rattle.laws_answers.proofs.PlacesOfFetches.{start_plain}
 use Rattle.laws_answers.proofs.PlacesOfSearches.{Keeps, epoch, at as at_of, on as on_of, asked as asked_for, keeps_recorded, keeps_dates, gone_at, own_at, search_at}
 use Rattle.laws_answers.proofs.ReadingOfSearches.{time_undamaged}
 
--- what was found for a cursor that the log start has passed is let go
+-- what was found for a cursor that the log start offset has passed is dropped
 pub resumed_found : (paths : List Path) (notes : List Note) (led start cursor : ℕ) (next : SearchStep) → IsFoundByTime paths notes led next
     → IsFoundByTime paths notes led (resumed_with start cursor next)
 resumed_found paths notes led start cursor next f = by (nat_lt cursor start)

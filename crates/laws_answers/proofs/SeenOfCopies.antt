@@ -1,5 +1,5 @@
--- What a turn does to notes and views: it appends a note that deletes nothing but what ends below the log start, or none, and a
--- view takes in more of them.
+-- What a turn does to metadata events and views: it appends a metadata event that deletes nothing but what ends below
+-- the log start offset, or none, and a view takes more of them.
 use Rattle.std.proofs.Common.{◌≡◌, ◌∙◌, ◌⊎◌, inl, inr, sym, ap, refl, ℕ, Bool, true, false, List, [], ◌∷◌, ◌++◌, Some, Ok, Err, slice_get, slice_set}
 use Rattle.std.specs.Prelude.{IsTrue, ℤ}
 use Rattle.std.specs.declared.result.Result.{Result}
@@ -75,7 +75,7 @@ use Rattle.partition_world.specs.Turns.{BeginRow, ContinuedRow, CopyingRow, Seek
 use Rattle.partition_world.proofs.BrokerTierStates.{set_same}
 use Rattle.laws_answers.proofs.NotesOfCopies.{EndsBelow, LeavesBe}
 
--- no note was appended, or one that deletes nothing but what ends below the log start
+-- no metadata event was appended, or one that deletes nothing but what ends below the log start offset
 abbrev pub GoesNotes : ℕ → List Note → List Note → Type 0
 GoesNotes start old new = (new ≡ old) ⊎ ((note : Note) × (new ≡ old ++ note ∷ []) × LeavesBe (fold old) start note)
 
@@ -86,7 +86,7 @@ grown start note may old new g be is_observable = by (g.notes is_observable).0 (
     by true is = inr (note, is, be)
     by false is = inl is
 
--- what an expiry deletes ends below the log start
+-- what an expiry deletes ends below the log start offset
 abbrev pub DoomsBelow : List Entry → ℕ → InProgress → Type 0
 DoomsBelow es start (Expires g expired_segment next) = EndsBelow es start expired_segment.id
 DoomsBelow es start other = Unit {0}
@@ -113,7 +113,7 @@ module _ {M : Type 0} (meta : MetaGhosts M) (start : ℕ) where
   deletion_ends expired_segment origin turn old new is_observable low row = grown start (note_of expired_segment origin DeleteFinished) _ (meta.content old) (meta.content new) row.1.content (inr low) is_observable
 
 module _ {S M : Type 0} (meta : MetaGhosts M) (start : ℕ) where
-  -- what a turn does to the metadata log, and to the side of its broker
+  -- what a turn does to the metadata log, and to the tier state of its broker
   pub record TierGoes (b : ℕ) (broker_tier : BrokerTierState) (t t' : RemoteTier S M) : Type 0 where
     pub notes : GoesNotes start (meta.content t.meta).notes (meta.content t'.meta).notes
     pub after : BrokerTierState
@@ -178,7 +178,7 @@ module _ {S M : Type 0} (meta : MetaGhosts M) (start : ℕ) where
   }
   trim_goes h t b x broker_tier other t' at row = elim row [ ]
 
-  -- the notes and the view of a later turn
+  -- the metadata events and the view of a later turn
   pub record ViewGoes (t : RemoteTier S M) (broker_tier : BrokerTierState) (view : View) (t' : RemoteTier S M) : Type 0 where
     pub notes : GoesNotes start (meta.content t.meta).notes (meta.content t'.meta).notes
     pub fed : List Note
@@ -225,7 +225,7 @@ module _ {S M : Type 0} (meta : MetaGhosts M) (start : ℕ) where
             (λ (k : FetchTiers S M). k.view) row.0;
       }
 
-  -- a search by timestamp refreshes it too, where it looks for a piece; its other turns leave both
+  -- a timestamp lookup refreshes it too, where it looks for a piece; its other turns leave both
   seek_goes : (asked : Asked) (line : List (ℕ × ℕ)) (cursor : ℕ) (turn : TimeTurn) (t : RemoteTier S M) (broker_tier : BrokerTierState) (view : View)
       (t' : RemoteTier S M)
       → SeekRow meta.content meta.control asked line cursor (Ok turn) broker_tier.view view t.meta t'.meta → ViewGoes t broker_tier view t'

@@ -1,4 +1,4 @@
--- A fetch with which nothing interferes is answered by a run.
+-- A fetch with which nothing interferes returns a run.
 use Rattle.std.proofs.Common.{◌≡◌, ◌⊎◌, inl, inr, ap, subst, refl, ℕ, ◌+◌, ◌<◌, ◌≤◌, nat_lt, Bool, true, false, cond, List, [], ◌∷◌, ◌++◌, Some, slice_get, arith}
 use Rattle.std.proofs.lemmas.Bool.{ltb-true}
 use Rattle.tier_base.specs.declared.plain.Stop.{Stop}

@@ -1,4 +1,4 @@
--- A journal tells of as many faults of each device as its count has risen by since the journal began.
+-- A journal reports as many faults of each device as its count has risen by since the journal began.
 use Rattle.std.proofs.Common.{◌≡◌, inl, inr, ◌∙◌, sym, ap, subst, refl, ℕ, zero, suc, ◌+◌, Bool, true, false, List, [], ◌∷◌, ◌++◌, slice_get, Some, None, Option, arith, eq-eqb}
 use Rattle.std.specs.Prelude.{nat_eq, ◌<◌, ◌≤◌, length}
 use Rattle.std.proofs.lemmas.Bool.{ne_eqb}
@@ -100,7 +100,7 @@ module _ {D : Type 0} (control : D → Control call_code) where
       disk_then (λ d e. (control e).faults ≡ after_faults c (control d).faults) (λ e f. (control f).faults ≡ counted (control e).faults 1) (λ d f. (control f).faults ≡ after_faults total (control d).faults)
       x y z (λ d e f p q. q ∙ (ap (λ (k : ℕ). counted k 1) p ∙ ap (λ (k : ℕ). after_faults k (control d).faults) (sym next))) told one
 
-  -- no disk has failed since, and this is told of a broker before these
+  -- no disk has failed since, and this is reported of a broker before these
   told_none : (b : ℕ) (failed more : List (Option ℕ)) → ((k : ℕ) → b ≤ k → count_of k more ≡ count_of k failed) → (xs ys zs : List (Node D)) → DisksTold control b failed xs ys → NoneFails control ys zs → DisksTold control b more xs zs
   told_none b failed more same [] [] [] told none = tt
   told_none b failed more same (x ∷ xs) (y ∷ ys) (z ∷ zs) told none = (
@@ -129,7 +129,7 @@ module _ {D : Type 0} (control : D → Control call_code) where
   told_one place b d failed is [] (y ∷ ys) zs told one = absurd told
   told_one place b d failed is (x ∷ xs) [] zs told one = absurd told
 
-  -- nothing has been told
+  -- nothing has been reported
   told_nothing : (b : ℕ) (xs : List (Node D)) → HaveDisks xs → DisksTold control b [] xs xs
   told_nothing b [] have = tt
   told_nothing b (x ∷ xs) have = (at x.log have.0, told_nothing (b + 1) xs have.1)
@@ -280,7 +280,7 @@ module _ {D S M : Type 0} (disk : DiskGhosts D) (store : StoreGhosts S) (meta : 
   reaches_since w v [] u r s = same_since w v u r s
   reaches_since w v (pace ∷ schedule) u r s = reaches_since w r.0 schedule u r.2 (paces_since w v pace r.0 r.1 s)
 
-  -- nothing has been told in a new world
+  -- nothing has been reported in a new world
   new_since : (config : Config) (lists : List ActorList) (w : Whole D S M) → AreListsFor config lists → IsNew lists w → IsSince w w
   new_since config lists w fit f = record {
     lists = refl;

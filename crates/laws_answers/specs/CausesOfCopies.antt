@@ -1,4 +1,4 @@
--- Why a copy is answered, turn by turn.
+-- Why a copy returns its answer, turn by turn.
 --
 --   turn      answer              its cause
 --   first     Down                the broker isn't up
@@ -11,11 +11,11 @@
 --   later     LostLead            as at the second
 --             MetaFault           a call of the metadata log failed in this turn
 --             StoreFault          a call of the store did
---             Overtaken           the deletion has started, and the segment ends below the log start
+--             Overtaken           the deletion has started, and the segment ends below the log start offset
 --             Copied              the metadata log says that the copy is whole
 --
--- A call that failed is told by its device's count of faults, which has risen, or stands at its type's end. No other answer
--- has a cause: so no copy is answered `Damaged`, since what it reads is what was written.
+-- A call that failed is reported by its device's count of faults, which has risen, or is at its type's greatest value.
+-- No other answer has a cause: so no copy is answered `Damaged`, since what it reads is what was written.
 use Rattle.std.specs.Prelude.{◌≡◌, ◌≢◌, ℕ, ◌<◌, ◌≤◌, true, false, Some, None}
 use Rattle.disk_model.specs.declared.disk.Disk.{Ghosts as DiskGhosts}
 use Rattle.object_store.specs.declared.store.Store.{Ghosts as StoreGhosts}
@@ -39,7 +39,7 @@ use Rattle.partition_world.specs.Whole.{Whole}
 use Rattle.laws_answers.specs.Faults.{DiskFailed, StoreFailed, MetaFailed}
 
 module _ {D S M : Type 0} (meta : MetaGhosts M) where
-  -- the copy has this id and these offsets, and is told as finished
+  -- the copy has this id and these offsets, and is recorded as finished
   pub record IsToldWhole (copy : Copied) (id : SegmentId) (base last : ℕ) (w' : Whole D S M) : Type 0 where
     pub id_is : id ≡ copy.id
     pub base_is : base ≡ copy.segment.base
@@ -82,8 +82,8 @@ module _ {D S M : Type 0} (disk : DiskGhosts D) (store : StoreGhosts S) (meta : 
   HasCause w b x broker_tier (Rebuilds g next) answer w' = ⊥
 
 module _ {D S M : Type 0} where
-  -- the broker leads, and segments are copied as it begins; it has led on; there is a segment to copy, and the log start isn't past
-  -- its end
+  -- the broker leads, and segments are copied as it begins; it has led on; there is a segment to copy, and the log
+  -- start offset isn't past its end
   abbrev pub MayCopy : Whole D S M → Node D → BrokerTierState → InProgress → Type 0
   MayCopy w x broker_tier Idle = (is_up x ≡ true) × (leads x.role ≡ true) × (w.held.copying ≡ true)
   MayCopy w x broker_tier (Noted g) = KeepsLead x g × (next_segment w.held x broker_tier ≢ None)

@@ -1,23 +1,24 @@
--- Why a fetch is answered, turn by turn.
+-- Why a fetch returns its answer, turn by turn.
 --
 --   turn      answer              its cause
 --   first     Down                the broker isn't up
 --             NotLeader           it doesn't lead
---             OutOfRange          the offset is below the log start, or past the log's end
+--             OutOfRange          the offset is below the log start offset, or past the log's end
 --             Empty               it isn't below the high watermark that the broker knows
 --             DiskFault           a call of the broker's disk failed in this turn
---             Run                 the bytes are a run of the log, and stand in the local log
+--             Run                 the bytes are a run of the log, and are in the local log
 --   later     Stopped             the broker has stopped since the first turn
 --             NotLeader           it has another role than then
 --             OutOfRange, Empty   as at the first
 --   refresh   MetaFault           a call of the metadata log failed in this turn
 --   index     StoreFault          a call of the store failed in this turn
 --   log       StoreFault          as for the index
---             Run                 the bytes are a run of the log, and stand in the remote segment that was found
+--             Run                 the bytes are a run of the log, and are in the remote segment that was found
 --
--- A refresh, the index and the log are the later turns, in this order. A call that failed is told by its device's count of
--- faults, which has risen, or stands at its type's end. A run has one batch at least. No other answer has a cause: so no fetch is
--- answered `Damaged`, since what it reads is what was written, and its index shows as much of it as a run needs.
+-- A refresh, the index and the log are the later turns, in this order. A call that failed is reported by its device's
+-- count of faults, which has risen, or is at its type's greatest value. A run has one batch at least. No other answer
+-- has a cause: so no fetch is answered `Damaged`, since what it reads is what was written, and its index shows as much
+-- of it as a run needs.
 use Rattle.std.specs.Prelude.{◌≡◌, ◌⊎◌, ℕ, ◌<◌, ◌≤◌, true, false, List}
 use Rattle.tier_base.specs.declared.plain.Stop.{Stop}
 use Rattle.disk_model.specs.declared.disk.Disk.{Ghosts as DiskGhosts}
@@ -50,7 +51,7 @@ module _ {D : Type 0} (disk : DiskGhosts D) where
     pub gives : GivesRun (node_of x seen) offset limit size stop bytes
 
 module _ {D S M : Type 0} where
-  -- the offset is below the log start, or past the log's end
+  -- the offset is below the log start offset, or past the log's end
   pub record IsOutside (w : Whole D S M) (x : Node D) (offset start end : ℕ) : Type 0 where
     pub outside : (offset < start) ⊎ (end < offset)
     pub start_is : start ≡ w.held.registry.start
@@ -85,7 +86,7 @@ module _ {D S M : Type 0} (disk : DiskGhosts D) (store : StoreGhosts S) (meta : 
   HasCause w b x other offset limit answer w' = ⊥
 
 module _ {D S M : Type 0} where
-  -- the log start isn't past the offset, and the high watermark that the broker knows is
+  -- the log start offset isn't past the offset, and the high watermark that the broker knows is
   pub record IsCommitted (w : Whole D S M) (x : Node D) (offset : ℕ) : Type 0 where
     pub from : w.held.registry.start ≤ offset
     pub below : offset < x.known_high_watermark

@@ -1,4 +1,4 @@
--- Why a join is answered, turn by turn.
+-- Why a join returns its answer, turn by turn.
 --
 --   turn      answer              its cause
 --   first     Down                the broker isn't up
@@ -10,10 +10,10 @@
 --   later     Stopped             the broker has stopped since, or isn't up
 --             StaleEpoch          as at the first
 --             Passed              its log doesn't end as it was cut, or the broker hasn't joined
---             BelowStart          the log start has come up to the wanted offset since
+--             BelowStart          the log start offset has reached the wanted offset since
 --             MetaFault           at the refresh, a call of the metadata log failed in this turn
 --             StoreFault          at the line, a call of the store did
---             DiskFault, Rebuilt  at the restart, a call of the broker's disk did; the log begins anew at the wanted offset
+--             DiskFault, Rebuilt  at the restart, a call of the broker's disk did; the log restarts at the wanted offset
 --
 -- No other answer has a cause.
 use Rattle.std.specs.Prelude.{◌≡◌, ◌≢◌, ◌⊎◌, ℕ, ◌<◌, ◌≤◌, true, false, None, Some}
@@ -46,7 +46,7 @@ module _ {D S M : Type 0} (disk : DiskGhosts D) (store : StoreGhosts S) (meta : 
       ((y : Node D) × (the_leader w.held ≡ Some y) × (local_of y ≤ n)) × AtNode w'.held b (λ x. end_of x ≡ n)
   FirstCause w b x other w' = ⊥
 
-  -- where its log begins anew
+  -- where its log restarts
   abbrev pub RestartCause : Whole D S M → ℕ → Node D → StartSnapshot → Answer → Whole D S M → Type 0
   RestartCause w b x g (DiskFaultAt n) w' = DiskFailed disk b w w'
   RestartCause w b x g (Rebuilt n) w' = (n ≡ g.wanted) × AtNode w'.held b (λ x. end_of x ≡ n)
@@ -62,8 +62,8 @@ module _ {D S M : Type 0} (disk : DiskGhosts D) (store : StoreGhosts S) (meta : 
   EpochsCause w x g StoreFault w' = StoreFailed store w w'
   EpochsCause w x g answer w' = AnswersAtOnce w.held x g answer
 
-  -- behind its first turn, where it keeps what it noted: where the log start had come up to the wanted offset by then, its log
-  -- begins anew at once
+  -- after its first turn, where it keeps what it recorded: where the log start offset had reached the wanted offset by
+  -- then, its log restarts at once
   abbrev pub SecondCause : Whole D S M → ℕ → Node D → StartSnapshot → Answer → Whole D S M → Type 0
   SecondCause w b x g answer w' =
       ((g.wanted ≤ g.start) × RestartCause w b x g answer w') ⊎ ((g.start < g.wanted) × RefreshCause w x g answer w')
@@ -81,8 +81,8 @@ abbrev pub IsJoined : Answer → Type 0
 IsJoined answer = (n : ℕ) × ((answer ≡ Cut n) ⊎ (answer ≡ Rebuilt n))
 
 module _ {D S M : Type 0} where
-  -- the broker is up and follows the registry's epoch, whose leader is up and leads; later, nothing has come between, and the
-  -- log start hasn't come up to the wanted offset
+  -- the broker is up and follows the registry's epoch, whose leader is up and leads; later, nothing has come between,
+  -- and the log start offset hasn't reached the wanted offset
   abbrev pub MayJoin : Whole D S M → Node D → InProgress → Type 0
   MayJoin w x Idle = (is_up x ≡ true) × IsCurrent w.held (followed x.role) × (the_leader w.held ≢ None)
   MayJoin w x (Noted g) = MayRebuild w.held x g

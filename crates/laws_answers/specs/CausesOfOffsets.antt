@@ -1,4 +1,4 @@
--- Why a question for an offset is answered, turn by turn.
+-- Why a question for an offset returns its answer, turn by turn.
 --
 --   turn      answer              its cause
 --   first     Down                the broker isn't up
@@ -8,7 +8,7 @@
 --   second    Stopped             the broker has stopped since the first turn, or isn't up
 --             NotLeader           it has another role than then
 --             Offset              it has led on, and the remote tier has the log up to that offset
---             NoOffset            it has, and the remote tier has nothing from the log start on
+--             NoOffset            it has, and the remote tier has nothing from the log start offset on
 --
 -- And of a question by timestamp:
 --
@@ -21,8 +21,8 @@
 --             NoOffset            it has led on, and the search has come to the high watermark that it knows
 --             Offset, Damaged     it has led on; `LawsOfSearches.antt` says more of these
 --
--- A call that failed is told by its device's count of faults, which has risen, or stands at its type's end. No other answer
--- has a cause.
+-- A call that failed is reported by its device's count of faults, which has risen, or is at its type's greatest value.
+-- No other answer has a cause.
 use Rattle.std.specs.Prelude.{◌≡◌, ◌≢◌, ℕ, ◌≤◌, true, false, Some, None}
 use Rattle.disk_model.specs.declared.disk.Disk.{Ghosts as DiskGhosts}
 use Rattle.object_store.specs.declared.store.Store.{Ghosts as StoreGhosts}

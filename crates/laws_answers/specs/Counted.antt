@@ -1,4 +1,4 @@
--- Faults of devices that a journal tells of, and the devices' counts of them.
+-- Faults of devices that a journal reports, and the devices' counts of them.
 use Rattle.std.specs.Prelude.{◌≡◌, ℕ, IsSomeAnd}
 use Rattle.std.specs.List.{AllByRecursion}
 use Rattle.disk_model.specs.declared.disk.Disk.{Ghosts as DiskGhosts}
@@ -35,6 +35,6 @@ module _ {D S M : Type 0} (disk : DiskGhosts D) (store : StoreGhosts S) (meta : 
   IsCounted w w' entry =
       IsSomeAnd (order_of w'.lists entry) (λ order. (answer : Answer) → entry.event ≡ Answers answer → FailedAs order answer w w')
 
-  -- each fault that the journal tells of has been counted by its device since the world before
+  -- each fault that the journal reports has been counted by its device since the world before
   abbrev pub FaultsAreCounted : Whole D S M → Whole D S M → Type 0
   FaultsAreCounted w w' = AllByRecursion (IsCounted w w') w'.journal.items

@@ -1,7 +1,7 @@
 -- What is known of deletions, beside the central fact.
 --
--- An expiry may begin before the copy of its segment is whole. What it deletes is below the log start all the same; and the copy
--- takes its objects away again once its broker has seen that.
+-- An expiry may begin before the copy of its segment is whole. What it deletes is below the log start offset all the
+-- same; and the copy takes its objects away again once its broker has seen that.
 --
 -- Source: KIP-405: a remote segment is deleted once the log start offset is past it.
 use Rattle.std.specs.Prelude.{◌≡◌, ℕ, ◌<◌, true, List, Some, slice_get, IsSomeAnd}
@@ -22,7 +22,7 @@ use Rattle.partition_world.specs.declared.tier.BrokerTierState.{BrokerTierState}
 use Rattle.partition_world.specs.Turn.{IsNext}
 use Rattle.partition_world.specs.Whole.{Whole}
 
--- the remote segment with this id ends below the log start, where its deletion has started
+-- the remote segment with this id ends below the log start offset, where its deletion has started
 abbrev pub DeletedBelow : List Entry → ℕ → SegmentId → Type 0
 DeletedBelow entries start id = (entry : Entry) → entry_of id entries ≡ Some entry → is_deleted entry.state ≡ true → entry.end < start
 
@@ -39,8 +39,8 @@ module _ {D S M : Type 0} where
       → IsNext w a place l actor_state order → actor_state.work ≡ Copies g copy (Delete n) → slice_get w.tier.broker_tiers order.broker.0 ≡ Some broker_tier
       → ShowsDeleted broker_tier.view.entries copy.id
 
-  -- A segment that a copy on the desk copies ends below the log start, where its deletion has started. That isn't so of others: a
-  -- sweep between two runs deletes what was never finished, wherever it ends.
+  -- A segment that a copy on the desk copies ends below the log start offset, where its deletion has started. That
+  -- isn't so of others: a sweep between two runs deletes what was never finished, wherever it ends.
   abbrev pub OvertakenBelow : MetaGhosts M → Whole D S M → Type 0
   OvertakenBelow meta w =
       (a place : ℕ) (l : ActorList) (actor_state : ActorState) (order : Order) (g : StartSnapshot) (copy : Copied) (next : CopyStep) → IsNext w a place l actor_state order

@@ -1,4 +1,4 @@
--- Calls of devices that failed in a turn: the device's count of faults rose, or stands at its type's end.
+-- Calls of devices that failed in a turn: the device's count of faults rose, or is at its type's greatest value.
 use Rattle.std.specs.Prelude.{ℕ}
 use Rattle.tier_base.specs.Counts.{Rose}
 use Rattle.disk_model.specs.declared.disk.Disk.{Ghosts as DiskGhosts}

@@ -3,7 +3,8 @@
 -- The piece ends where a batch of the leader's log does: of the path of the epoch that its broker led when the fetch began. And
 -- what it is to read of the segment's log is what the offset index of that segment's batches shows to be needed, all of it.
 --
--- Both were so when they were found, and go on to be: paths only grow, and a remote segment's entry keeps what it tells of.
+-- Both were so when they were found, and continue to be: paths only grow, and a remote segment's entry keeps what it
+-- says of.
 --
 -- Source: KIP-405, fetches below the local log start offset.
 use Rattle.std.specs.Prelude.{◌≡◌, ℕ, List, Some, unwrap_or}
@@ -41,7 +42,8 @@ pub record PieceEnds (paths : List Path) (epoch : ℕ) (piece : Piece) : Type 0 
   pub begins : Has paths epoch front
   pub ends : end_of front ≡ piece.to
 
--- the span is the one that the index of the piece's segment gives, whose copy was finished after the first so many notes
+-- the span is the one that the index of the piece's segment gives, whose copy was finished after the first so many
+-- metadata events
 pub record SpanIsOf (paths : List Path) (notes : List Note) (offset limit : ℕ) (piece : Piece) (span : Span) : Type 0 where
   pub before : List Note
   pub begins : IsPrefix before notes
@@ -59,7 +61,7 @@ IsFound paths notes epoch offset limit (Index piece) = PieceEnds paths epoch pie
 IsFound paths notes epoch offset limit (Log piece span) = PieceEnds paths epoch piece × SpanIsOf paths notes offset limit piece span
 
 module _ {D S M : Type 0} (meta : MetaGhosts M) where
-  -- of each fetch that goes on in the remote tier, beside the state of the plain log after the world's journal
+  -- of each fetch that continues in the remote tier, beside the state of the plain log after the world's journal
   abbrev pub SpansKnown : State → Whole D S M → Type 0
   SpansKnown opening w = (p : State) → replay w.lists opening w.journal.items ≡ Some p
       → (a place : ℕ) (l : ActorList) (actor_state : ActorState) (order : Order) (offset limit : ℕ) (g : StartSnapshot)

@@ -1,9 +1,9 @@
--- What is known of what a search by timestamp has found, beside the central fact.
+-- What is known of what a timestamp lookup has found, beside the central fact.
 --
 -- The piece ends where a batch of the leader's log does, and what it is to read of the segment's log is what the offset index of that
 -- segment's batches shows to be needed from where it reads on, as a fetch without a limit has it.
 --
--- Source: KIP-405, look-ups by timestamp below the local log start offset.
+-- Source: KIP-405, lookups by timestamp below the local log start offset.
 use Rattle.std.specs.Prelude.{◌≡◌, ℕ, ℤ, List, Some, unwrap_or}
 use Rattle.segment_meta.specs.declared.note.Note.{Note}
 use Rattle.meta_log.specs.declared.log.MetaLog.{Ghosts as MetaGhosts}
@@ -32,7 +32,7 @@ IsFoundByTime paths notes epoch (Index piece from) = PieceEnds paths epoch piece
 IsFoundByTime paths notes epoch (Log piece from span) = PieceEnds paths epoch piece × SpanIsOf paths notes from 4294967295 piece span
 
 module _ {D S M : Type 0} (meta : MetaGhosts M) where
-  -- of each search that goes on, beside the state of the plain log after the world's journal
+  -- of each search that continues, beside the state of the plain log after the world's journal
   abbrev pub SearchesKnown : State → Whole D S M → Type 0
   SearchesKnown opening w = (p : State) → replay w.lists opening w.journal.items ≡ Some p
       → (a place : ℕ) (l : ActorList) (actor_state : ActorState) (order : Order) (ts : ℤ) (g : StartSnapshot)

@@ -1,4 +1,4 @@
--- The laws of what a copy is answered.
+-- The laws of what a copy returns.
 use Rattle.std.specs.Prelude.{◌≡◌, ◌≤◌, ℕ, true, List}
 use Rattle.tier_base.specs.declared.names.SegmentId.{SegmentId}
 use Rattle.disk_model.specs.declared.disk.Disk.{Ghosts as DiskGhosts}
@@ -46,7 +46,8 @@ module _ {D S M : Type 0} (disk : DiskGhosts D) (store : StoreGhosts S) (meta : 
   CopiesBeginWhereOn = (w : Whole D S M) (a : ℕ) (g : StartSnapshot) (w' : Whole D S M) (t : IsTurn disk store meta w a (Begins g) w')
       → t.order.command ≡ Copy → w.held.copying ≡ true
 
-  -- a copy is answered `Copied` by as many of its actor's turns as it has left, where nothing stands in the way of them
+  -- a copy is answered `Copied` by as many of its actor's turns as it has left, where there is nothing in the way of
+  -- them
   abbrev pub UnhinderedAreCopied : Type 0
   UnhinderedAreCopied =
       (opening : State) (w : Whole D S M) (a place : ℕ) (l : ActorList) (actor_state : ActorState) (order : Order)
@@ -65,7 +66,7 @@ module _ {D S M : Type 0} (disk : DiskGhosts D) (store : StoreGhosts S) (meta : 
       → Runs disk store meta (IsUnhindered disk store meta place actor_state.number) w actors w' → turns_left Copy actor_state.work ≤ times a actors
       → IsAnswered w' l.actor actor_state.number (CopiedSegment copy.id copy.segment.base copy.segment.last)
 
-  -- over devices of which no call can fail that is where it has something to copy, and its broker leads on
+  -- over devices of which no call can fail that is where it has something to copy, and its broker still leads
   abbrev pub UnfailingAreCopied : Type 0
   UnfailingAreCopied =
       (opening : State) (w : Whole D S M) (a place : ℕ) (l : ActorList) (actor_state : ActorState) (order : Order)

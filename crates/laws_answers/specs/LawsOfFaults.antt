@@ -15,12 +15,12 @@ use Rattle.laws_answers.specs.Told.{FaultsAreTold}
 use Rattle.laws_answers.specs.ByPlan.{AreScripted, HaveFailedByPlan}
 
 module _ {D S M : Type 0} (disk : DiskGhosts D) (store : StoreGhosts S) (meta : MetaGhosts M) where
-  -- whatever a schedule reaches from a new world, over any devices: each fault that is told is counted
+  -- whatever a schedule reaches from a new world, over any devices: each fault that is reported is counted
   abbrev pub ReachesCounted : Type 0
   ReachesCounted = (config : Config) (lists : List ActorList) (w : Whole D S M) (schedule : List Pace) (w' : Whole D S M)
       → AreListsFor config lists → IsNew lists w → Reaches disk store meta w schedule w' → FaultsAreCounted disk store meta w w'
 
-  -- and as many are told of each device as its count has risen by
+  -- and as many are reported of each device as its count has risen by
   abbrev pub ReachesTold : Type 0
   ReachesTold = (config : Config) (lists : List ActorList) (w : Whole D S M) (schedule : List Pace) (w' : Whole D S M)
       → AreListsFor config lists → IsNew lists w → Reaches disk store meta w schedule w' → FaultsAreTold disk store meta w w'

@@ -1,4 +1,4 @@
--- The laws of what a fetch is answered.
+-- The laws of what a fetch returns.
 use Rattle.std.specs.Prelude.{◌≡◌, ◌≤◌, ℕ, List, Some}
 use Rattle.disk_model.specs.declared.disk.Disk.{Ghosts as DiskGhosts}
 use Rattle.object_store.specs.declared.store.Store.{Ghosts as StoreGhosts}
@@ -36,7 +36,8 @@ use Rattle.laws_answers.specs.Turns.{turns_left}
 use Rattle.laws_answers.specs.Chains.{times, IsAnswered, Runs}
 use Rattle.laws_answers.specs.UnhinderedFetches.{IsServed, IsFree, IsUnhindered}
 
--- a piece that is found by a log's line, among entries whose finished copies stand, ends where a batch of the log does
+-- a piece that is found by a log's leader epochs, among entries whose finished copies exist, ends where a batch of the
+-- log does
 abbrev pub PiecesEnd : Type 0
 PiecesEnd = (p : State) (objects : Objects) (entries : List Entry) (line : List (ℕ × ℕ)) (log : List (List ℕ)) (offset : ℕ) (piece : Piece)
     → PlainSafe p → FinishedStand objects p.paths entries → AreKept entries → AreDistinct entries → TellsEpochs line log
@@ -56,7 +57,7 @@ module _ {D S M : Type 0} (disk : DiskGhosts D) (store : StoreGhosts S) (meta : 
       → IsCentral disk store meta opening w → SpansKnown meta opening w
       → (t : IsTurn disk store meta w a (Answers (Damaged place at)) w') → t.order.command ≡ Fetch offset limit → ⊥
 
-  -- a fetch is answered by a run, by as many of its actor's turns as it has left, where nothing stands in the way of them
+  -- a fetch returns a run, by as many of its actor's turns as it has left, where there is nothing in the way of them
   abbrev pub UnhinderedAreServed : Type 0
   UnhinderedAreServed =
       (opening : State) (w : Whole D S M) (a place : ℕ) (l : ActorList) (actor_state : ActorState) (order : Order)
@@ -66,7 +67,7 @@ module _ {D S M : Type 0} (disk : DiskGhosts D) (store : StoreGhosts S) (meta : 
       → turns_left (Fetch offset limit) actor_state.work ≤ times a actors
       → (answer : Answer) × IsServed offset limit answer × IsAnswered w' l.actor actor_state.number answer
 
-  -- over devices of which no call can fail that is where its broker leads on and may give the offset
+  -- over devices of which no call can fail that is where its broker still leads and may give the offset
   abbrev pub UnfailingAreServed : Type 0
   UnfailingAreServed =
       (opening : State) (w : Whole D S M) (a place : ℕ) (l : ActorList) (actor_state : ActorState) (order : Order)

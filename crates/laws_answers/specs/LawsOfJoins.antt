@@ -1,4 +1,4 @@
--- The laws of what a join is answered.
+-- The laws of what a join returns.
 use Rattle.std.specs.Prelude.{◌≡◌, ◌≤◌, ℕ, List}
 use Rattle.disk_model.specs.declared.disk.Disk.{Ghosts as DiskGhosts}
 use Rattle.object_store.specs.declared.store.Store.{Ghosts as StoreGhosts}
@@ -27,7 +27,8 @@ module _ {D S M : Type 0} (disk : DiskGhosts D) (store : StoreGhosts S) (meta : 
       → IsCentral disk store meta opening w → (t : IsTurn disk store meta w a (Answers answer) w') → t.order.command ≡ Join
       → AtNode w.held t.order.broker.0 (λ x. HasCause disk store meta w t.order.broker.0 x t.actor_state.work answer w')
 
-  -- a join is answered by a cut or a restart, by as many of its actor's turns as it has left, where nothing stands in the way
+  -- a join returns a cut or a restart, by as many of its actor's turns as it has left, where there is nothing in the
+  -- way
   abbrev pub UnhinderedAreJoined : Type 0
   UnhinderedAreJoined =
       (opening : State) (w : Whole D S M) (a place : ℕ) (l : ActorList) (actor_state : ActorState) (order : Order)
@@ -36,7 +37,7 @@ module _ {D S M : Type 0} (disk : DiskGhosts D) (store : StoreGhosts S) (meta : 
       → turns_left Join actor_state.work ≤ times a actors
       → (answer : Answer) × IsJoined answer × IsAnswered w' l.actor actor_state.number answer
 
-  -- over devices of which no call can fail that is where it may go on
+  -- over devices of which no call can fail that is where it may continue
   abbrev pub UnfailingAreJoined : Type 0
   UnfailingAreJoined =
       (opening : State) (w : Whole D S M) (a place : ℕ) (l : ActorList) (actor_state : ActorState) (order : Order)

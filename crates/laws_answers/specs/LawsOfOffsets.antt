@@ -1,4 +1,4 @@
--- The law of what a question for an offset is answered.
+-- The law of what a question for an offset returns.
 use Rattle.std.specs.Prelude.{◌≡◌, ℕ}
 use Rattle.disk_model.specs.declared.disk.Disk.{Ghosts as DiskGhosts}
 use Rattle.object_store.specs.declared.store.Store.{Ghosts as StoreGhosts}

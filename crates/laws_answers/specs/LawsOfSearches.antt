@@ -1,4 +1,4 @@
--- The laws of what a question for the offset of a timestamp is answered, over observable devices.
+-- The laws of what a question for the offset of a timestamp returns, over observable devices.
 use Rattle.std.specs.Prelude.{◌≡◌, ◌≤◌, ℕ, ℤ, List, Option, Some, None}
 use Rattle.disk_model.specs.declared.disk.Disk.{Ghosts as DiskGhosts}
 use Rattle.object_store.specs.declared.store.Store.{Ghosts as StoreGhosts}
@@ -60,8 +60,8 @@ module _ {D S M : Type 0} (disk : DiskGhosts D) (store : StoreGhosts S) (meta : 
       → IsCentral disk store meta opening w → SearchesKnown meta opening w
       → (t : IsTurn disk store meta w a (Answers (Damaged place at)) w') → t.order.command ≡ Offset (At ts) → ⊥
 
-  -- a search is answered by an offset or by that there is none, by as many of its actor's turns as it has left, where nothing
-  -- stands in the way of them
+  -- a search returns an offset or by that there is none, by as many of its actor's turns as it has left, where there is
+  -- nothing in the way of them
   abbrev pub UnhinderedAreFound : Type 0
   UnhinderedAreFound =
       (opening : State) (w : Whole D S M) (a place : ℕ) (l : ActorList) (actor_state : ActorState) (order : Order)
@@ -71,7 +71,7 @@ module _ {D S M : Type 0} (disk : DiskGhosts D) (store : StoreGhosts S) (meta : 
       → turns_left (Offset (At ts)) actor_state.work ≤ times a actors
       → (answer : Answer) × IsFound answer × IsAnswered w' l.actor actor_state.number answer
 
-  -- over devices of which no call can fail that is where its broker leads on
+  -- over devices of which no call can fail that is where its broker still leads
   abbrev pub UnfailingAreFound : Type 0
   UnfailingAreFound =
       (opening : State) (w : Whole D S M) (a place : ℕ) (l : ActorList) (actor_state : ActorState) (order : Order)

@@ -27,7 +27,7 @@ module _ {D S M : Type 0} (disk : DiskGhosts D) (store : StoreGhosts S) (meta : 
       → turns_left t.order.command
       (actor_state_after t.actor_state outcome).work < turns_left t.order.command t.actor_state.work
 
-  -- a turn leaves the other seats as they were
+  -- a turn leaves the other actors' states as they were
   abbrev pub OthersStay : Type 0
   OthersStay = (w : Whole D S M) (a : ℕ) (outcome : Outcome) (w' : Whole D S M) (t : IsTurn disk store meta w a outcome w')
       (place : ℕ) → place ≢ t.place → slice_get w'.desk place ≡ slice_get w.desk place
@@ -41,7 +41,7 @@ module _ {D S M : Type 0} (disk : DiskGhosts D) (store : StoreGhosts S) (meta : 
       → turns_left order.command actor_state.work ≤ times a actors
       → (answer : Answer) × IsAnswered w' l.actor actor_state.number answer
 
-  -- a search by timestamp is so by fewer, where its broker knows no high watermark past a mark at any of them
+  -- a timestamp lookup is so by fewer, where its broker knows no high watermark past a mark at any of them
   abbrev pub SearchesAreAnswered : Type 0
   SearchesAreAnswered = (w : Whole D S M) (a place : ℕ) (l : ActorList) (actor_state : ActorState) (order : Order) (ts : ℤ) (mark : ℕ)
       (actors : List ℕ) (w' : Whole D S M) → AreRising w.lists → IsNext w a place l actor_state order → order.command ≡ Offset (At ts)

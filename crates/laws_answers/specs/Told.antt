@@ -1,7 +1,7 @@
--- How many faults of each device a journal tells of: as many as its count of them has risen by.
+-- How many faults of each device a journal reports: as many as its count of them has risen by.
 --
--- A fault of a disk is one of the broker's that the command is for. A follow also reads the log of its leader, so of it the
--- journal doesn't tell whose disk it was.
+-- A fault of a disk is one of the broker's that the command is for. A follow also reads the log of its leader, so of it
+-- the journal doesn't report whose disk it was.
 use Rattle.std.specs.Prelude.{◌≡◌, ℕ, zero, suc, ◌+◌, ◌<◌, ◌==◌, Bool, true, false, List, [], ◌∷◌, length, Option, Some, None, IsSomeAnd}
 use Rattle.tier_base.specs.Counts.{counted}
 use Rattle.tier_base.specs.Device.{Control}
@@ -32,7 +32,7 @@ abbrev pub one_if : Bool → ℕ
 one_if true = 1
 one_if false = 0
 
--- a command is answered so
+-- a command gets this answer
 abbrev pub is_told : (Answer → Bool) → Event → Bool
 is_told is (Answers answer) = is answer
 is_told is (Begins cut) = false
@@ -57,7 +57,7 @@ abbrev pub WorksOn : ℕ → Command → ℕ → ℕ → Type 0
 WorksOn brokers (Follow limit) b d = d < brokers
 WorksOn brokers command b d = d ≡ b
 
--- where the entry tells of a fault of a disk, it is of that broker's
+-- where the entry describes a fault of a disk, it is of that broker's
 abbrev pub NamesDisk : ℕ → List ActorList → JournalEntry → Option ℕ → Type 0
 NamesDisk brokers lists entry None = is_told is_of_disk entry.event ≡ false
 NamesDisk brokers lists entry (Some d) =
@@ -81,7 +81,7 @@ module _ {D : Type 0} (control : D → Control call_code) where
   DisksTold b failed (x ∷ xs) [] = ⊥
 
 module _ {D S M : Type 0} (disk : DiskGhosts D) (store : StoreGhosts S) (meta : MetaGhosts M) where
-  -- since the one world each device has counted as many faults as the journal of the other tells of
+  -- since the one world each device has counted as many faults as the journal of the other reports
   pub record FaultsAreTold (w w' : Whole D S M) : Type 0 where
     -- of each entry the broker whose disk failed
     pub failed : List (Option ℕ)

@@ -29,10 +29,11 @@
 --
 -- A segment has four objects, or one where it is packed: then its copy and its expiry take fewer turns.
 --
--- A search is a question for the offset of a timestamp. Its cursor rises by an offset at least where it has no piece: behind each
--- piece, behind each run of the local log that it reads, and where it only passes over segments. So it takes 4 turns for each piece at
--- most and 1 for each such run; how many of them there are is the log's, which may grow while it goes on. It ends once its cursor has
--- come to the high watermark that its broker knows: so where that never passes a mark, the mark stands for 2^64 in the table.
+-- A search is a question for the offset of a timestamp. Its cursor rises by an offset at least where it has no piece:
+-- after each piece, after each run of the local log that it reads, and where it only passes over segments. So it takes
+-- 4 turns for each piece at most and 1 for each such run; how many of them there are is the log's, which may grow while
+-- it continues. It ends once its cursor has come to the high watermark that its broker knows: so where that never
+-- passes a mark, the high watermark represents 2^64 in the table.
 use Rattle.std.specs.Prelude.{ℕ, ◌+◌, ◌-◌, ◌*◌, ◌^◌}
 use Rattle.copy_task.specs.declared.turn.CopyStep.{CopyStep as Copying}
 use Rattle.copy_task.specs.declared.turn.CopyStep.TheVariants as copying
@@ -62,7 +63,7 @@ turns_of (Offset LatestTiered) = 2
 turns_of (Offset (At ts)) = 2 + 4 * 2 ^ 64
 turns_of other = 1
 
--- left of one behind its first turn
+-- left of one after its first turn
 abbrev pub second_left : Command → ℕ
 second_left Copy = 12
 second_left Expire = 7

@@ -10,8 +10,8 @@ use Rattle.laws_answers.specs.Chains.{AtTurnsOf, TurnMeetsNoFault}
 use Rattle.laws_answers.specs.CausesOfCopies.{MayCopy}
 
 module _ {D S M : Type 0} (disk : DiskGhosts D) (store : StoreGhosts S) (meta : MetaGhosts M) where
-  -- where the turn is one of the copy at this place, under this number, it begins where segments are copied, its broker leads on,
-  -- and there is something to copy
+  -- where the turn is one of the copy at this place, under this number, it begins where segments are copied, its broker
+  -- still leads, and there is something to copy
   abbrev pub IsFree : ℕ → ℕ → Whole D S M → ℕ → Whole D S M → Type 0
   IsFree place number w a w' = AtTurnsOf place number w a (λ actor_state order.
       AtNode w.held order.broker.0

@@ -28,7 +28,8 @@ pub record IsServed (offset limit : ℕ) (answer : Answer) : Type 0 where
   pub is : answer ≡ Run tier size stop (joined (first ∷ others))
 
 module _ {D S M : Type 0} (disk : DiskGhosts D) (store : StoreGhosts S) (meta : MetaGhosts M) where
-  -- where the turn is one of the fetch of this offset at this place, under this number, its broker leads on and may give it
+  -- where the turn is one of the fetch of this offset at this place, under this number, its broker still leads and may
+  -- give it
   abbrev pub IsFree : ℕ → ℕ → ℕ → Whole D S M → ℕ → Whole D S M → Type 0
   IsFree place number offset w a w' =
       AtTurnsOf place number w a

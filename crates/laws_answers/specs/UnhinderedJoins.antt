@@ -9,7 +9,7 @@ use Rattle.laws_answers.specs.Chains.{AtTurnsOf, TurnMeetsNoFault}
 use Rattle.laws_answers.specs.CausesOfJoins.{MayJoin}
 
 module _ {D S M : Type 0} (disk : DiskGhosts D) (store : StoreGhosts S) (meta : MetaGhosts M) where
-  -- where the turn is one of the join at this place, under this number, it may go on
+  -- where the turn is one of the join at this place, under this number, it may continue
   abbrev pub IsFree : ℕ → ℕ → Whole D S M → ℕ → Whole D S M → Type 0
   IsFree place number w a w' =
       AtTurnsOf place number w a (λ actor_state order. AtNode w.held order.broker.0 (λ x. MayJoin w x actor_state.work))

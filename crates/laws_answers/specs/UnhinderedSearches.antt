@@ -1,7 +1,7 @@
--- An answer that is what a search by timestamp looks for, and turns of several actors that nothing hinders a search in.
+-- An answer that is what a timestamp lookup looks for, and turns of several actors that nothing hinders a search in.
 --
--- Its broker leads on, and no call of a device fails: no other answer has a cause then (`FirstCause` and `SearchCause` in
--- `CausesOfOffsets.antt`) but damage, and over observable devices none is found.
+-- Its broker still leads, and no call of a device fails: no other answer has a cause then (`FirstCause` and
+-- `SearchCause` in `CausesOfOffsets.antt`) but damage, and over observable devices none is found.
 use Rattle.std.specs.Prelude.{ℕ}
 use Rattle.disk_model.specs.declared.disk.Disk.{Ghosts as DiskGhosts}
 use Rattle.object_store.specs.declared.store.Store.{Ghosts as StoreGhosts}
@@ -20,7 +20,7 @@ IsFound NoOffset = Unit {0}
 IsFound other = ⊥
 
 module _ {D S M : Type 0} (disk : DiskGhosts D) (store : StoreGhosts S) (meta : MetaGhosts M) where
-  -- where the turn is one of the search at this place, under this number, its broker leads on
+  -- where the turn is one of the search at this place, under this number, its broker still leads
   abbrev pub IsFree : ℕ → ℕ → Whole D S M → ℕ → Whole D S M → Type 0
   IsFree place number w a w' =
       AtTurnsOf place number w a (λ actor_state order. AtNode w.held order.broker.0 (λ x. MaySearch x actor_state.work))

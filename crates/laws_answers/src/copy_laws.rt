@@ -19,8 +19,8 @@ pub fn copies_begin_where_on<D: Disk, S: Store, M: MetaLog>()
     ensures { CopiesBeginWhereOn D.Disk S.Store M.MetaLog }
 {}
 
-/// A copy that begins where segments are copied, whose broker leads on, that has a segment to copy
-/// which the log start isn't past, and that meets no fault is answered `Copied`.
+/// A copy that begins where segments are copied, whose broker still leads, that has a segment to copy which the log
+/// start offset isn't past, and that meets no fault is answered `Copied`.
 pub fn unhindered_are_copied<D: Disk, S: Store, M: MetaLog>()
     ensures { UnhinderedAreCopied D.Disk S.Store M.MetaLog }
 {}
@@ -30,8 +30,8 @@ pub fn chosen_are_copied<D: Disk, S: Store, M: MetaLog>()
     ensures { ChosenAreCopied D.Disk S.Store M.MetaLog }
 {}
 
-/// Over devices of which no call can fail a copy is answered so where it so begins, its broker leads
-/// on and there is such a segment.
+/// Over devices of which no call can fail a copy gets this answer where it so begins, its broker still leads and there
+/// is such a segment.
 pub fn unfailing_are_copied<D: Disk, S: Store, M: MetaLog>()
     ensures { UnfailingAreCopied D.Disk S.Store M.MetaLog }
 {}

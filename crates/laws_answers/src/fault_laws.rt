@@ -13,8 +13,8 @@ pub fn reaches_counted<D: Disk, S: Store, M: MetaLog>()
     ensures { ReachesCounted D.Disk S.Store M.MetaLog }
 {}
 
-/// And as many faults of each device are told as its count of them has risen by: a fault that a turn meets is
-/// what its command is answered.
+/// And as many faults of each device are reported as its count of them has risen by: a fault that a turn meets is what
+/// its command returns.
 pub fn reaches_told<D: Disk, S: Store, M: MetaLog>()
     ensures { ReachesTold D.Disk S.Store M.MetaLog }
 {}

@@ -8,7 +8,7 @@ use disk_model::Disk;
 use meta_log::MetaLog;
 use object_store::Store;
 
-/// A piece that is found by a log's line ends where a batch of that log does.
+/// A piece that is found by a log's leader epochs ends where a batch of that log does.
 pub fn pieces_end()
     ensures { PiecesEnd }
 {}
@@ -23,14 +23,14 @@ pub fn no_fetch_is_damaged<D: Disk, S: Store, M: MetaLog>()
     ensures { NoFetchIsDamaged D.Disk S.Store M.MetaLog }
 {}
 
-/// A fetch whose broker leads on, of an offset that the log start isn't past and the known high
-/// watermark is, and that meets no fault is answered by a run.
+/// A fetch whose broker still leads, of an offset that the log start offset isn't past and the known high watermark is,
+/// and that meets no fault returns a run.
 pub fn unhindered_are_served<D: Disk, S: Store, M: MetaLog>()
     ensures { UnhinderedAreServed D.Disk S.Store M.MetaLog }
 {}
 
-/// Over devices of which no call can fail a fetch is answered so where its broker leads on and may
-/// give the offset.
+/// Over devices of which no call can fail a fetch gets this answer where its broker still leads and may give the
+/// offset.
 pub fn unfailing_are_served<D: Disk, S: Store, M: MetaLog>()
     ensures { UnfailingAreServed D.Disk S.Store M.MetaLog }
 {}

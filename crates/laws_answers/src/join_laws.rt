@@ -16,7 +16,7 @@ pub fn unhindered_are_joined<D: Disk, S: Store, M: MetaLog>()
     ensures { UnhinderedAreJoined D.Disk S.Store M.MetaLog }
 {}
 
-/// Over devices of which no call can fail a join is answered so where it may go on.
+/// Over devices of which no call can fail a join gets this answer where it may continue.
 pub fn unfailing_are_joined<D: Disk, S: Store, M: MetaLog>()
     ensures { UnfailingAreJoined D.Disk S.Store M.MetaLog }
 {}

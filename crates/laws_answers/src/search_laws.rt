@@ -20,18 +20,18 @@ pub fn no_search_is_damaged<D: Disk, S: Store, M: MetaLog>()
     ensures { NoSearchIsDamaged D.Disk S.Store M.MetaLog }
 {}
 
-/// A search whose broker leads on, and that meets no fault, is answered `Offset` or `NoOffset`.
+/// A search whose broker still leads, and that meets no fault, is answered `Offset` or `NoOffset`.
 pub fn unhindered_are_found<D: Disk, S: Store, M: MetaLog>()
     ensures { UnhinderedAreFound D.Disk S.Store M.MetaLog }
 {}
 
-/// Over devices of which no call can fail a search is answered so where its broker leads on.
+/// Over devices of which no call can fail a search gets this answer where its broker still leads.
 pub fn unfailing_are_found<D: Disk, S: Store, M: MetaLog>()
     ensures { UnfailingAreFound D.Disk S.Store M.MetaLog }
 {}
 
-/// A search that nothing hinders, and whose broker knows no high watermark past a mark, is answered so
-/// by two turns and four for each offset below that mark.
+/// A search that nothing hinders, and whose broker knows no high watermark past a mark, gets this answer by two turns
+/// and four for each offset below that mark.
 pub fn marked_are_found<D: Disk, S: Store, M: MetaLog>()
     ensures { MarkedAreFound D.Disk S.Store M.MetaLog }
 {}

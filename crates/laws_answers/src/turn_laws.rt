@@ -14,7 +14,7 @@ pub fn turns_go_on<D: Disk, S: Store, M: MetaLog>()
     ensures { TurnsGoOn D.Disk S.Store M.MetaLog }
 {}
 
-/// A turn leaves the other seats as they were.
+/// A turn leaves the other actors' states as they were.
 pub fn others_stay<D: Disk, S: Store, M: MetaLog>()
     ensures { OthersStay D.Disk S.Store M.MetaLog }
 {}
@@ -25,8 +25,8 @@ pub fn commands_are_answered<D: Disk, S: Store, M: MetaLog>()
     ensures { CommandsAreAnswered D.Disk S.Store M.MetaLog }
 {}
 
-/// A search by timestamp whose broker knows no high watermark past a mark is answered by two turns
-/// and four for each offset below that mark, whatever the devices do.
+/// A timestamp lookup whose broker knows no high watermark past a mark is answered by two turns and four for each
+/// offset below that mark, whatever the devices do.
 pub fn searches_are_answered<D: Disk, S: Store, M: MetaLog>()
     ensures { SearchesAreAnswered D.Disk S.Store M.MetaLog }
 {}

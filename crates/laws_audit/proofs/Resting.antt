@@ -27,7 +27,7 @@ use Rattle.tier_audit.proofs.Saying.{one_thing}
 use Rattle.laws_audit.specs.Laws.{tier_in, SafeIsReadable, SafeHasLeftAtMost, SweptIsWhole}
 use Rattle.laws_audit.proofs.Stored.{held_readable, each_has}
 
--- notes and entries
+-- metadata events and entries
 
 pub notes_right : (notes : List Note) → AllByRecursion IsRight notes → AllByRecursion IsNote notes
 notes_right [] h = tt

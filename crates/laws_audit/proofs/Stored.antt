@@ -104,7 +104,7 @@ module _ (objects kept : Objects) (p : Plain) (entry : Entry) (s : PlainSafe p) 
       let safe = has_safe p d.part.epoch (whole_of h) s d.part.begins in
       within_whole d.part.front h.batches entry.start entry.end d.some safe.consecutive d.is.consecutive d.part.ends d.last_is ∙ sym d.map_is
 
-  -- so it is readable, wherever its objects stand
+  -- so it is readable, wherever its objects exist
   pub held_readable : IsReadable objects entry
   held_readable =
       copy_readable objects entry h.batches line h.interval described

@@ -1,4 +1,5 @@
--- A sweep, done, under way or refused, of a tier where no command is under way: the rules of the tier hold afterwards as before.
+-- A sweep, done, in progress or refused, of a tier where no command is in progress: the rules of the tier hold
+-- afterwards as before.
 use Rattle.std.proofs.Common.{◌≡◌, ◌⊎◌, inl, inr, ◌∙◌, refl, ap, sym, subst, ℕ, false, List, [], ◌∷◌, ◌++◌, map, Option, Some, None, IsSome, is_some}
 use Rattle.std.specs.Prelude.{option_map}
 use Rattle.std.specs.List.{AllByRecursion}
@@ -34,9 +35,9 @@ use Rattle.tier_sweep.proofs.Leaving.{swept_under}
 use Rattle.laws_audit.specs.Laws.{tier_in, IsIdle, scene_with, SweepKeepsCold, WholeSweepKeepsCold}
 use Rattle.laws_audit.proofs.Resting.{notes_right}
 
--- lists of notes
+-- lists of metadata events
 
--- what begins two lists, one behind the other, begins the first, or is it with the first of the second
+-- what begins two lists, one after the other, begins the first, or is it with the first of the second
 split : (before a b : List Note) → IsPrefix before (a ++ b) → IsPrefix before a ⊎ ((some : List Note) × IsPrefix some b × (before ≡ a ++ some))
 split [] a b p = inl (a, refl)
 split (x ∷ xs) [] b p = inr (x ∷ xs, p, refl)
@@ -45,7 +46,7 @@ split (x ∷ xs) (y ∷ ys) b p = elim (split xs ys b (p.0, cc (p.1))) [
   | inr q ↦ inr (q.0, q.1, cc (p.1, q.2))
 ]
 
--- a sweep's notes keep the rules of notes: none adds an entry
+-- a sweep's metadata events keep the rules of metadata events: none adds an entry
 are_right : (es : List Entry) (notes : List Note) → AllByRecursion (IsOf es) notes → AllByRecursion IsNote notes → AllByRecursion IsRight notes
 are_right es [] h k = tt
 are_right es (note ∷ notes) h k = (record { is = k.0; id = subst HasId (sym h.0.is) tt }, are_right es notes h.1 k.1)
@@ -54,7 +55,7 @@ module _ (c : Scene) (p : Plain) (new : SweptTier) (idle : IsIdle c) (t : TierSa
   are : AreNotes c.notes
   are = All-from_recursion IsNote c.notes (notes_right c.notes t.notes.right)
 
-  -- what it has told
+  -- what it has reported
   told : IsTold (tier_in c) new
   told = is_told (tier_in c) new (notes_distinct c.notes are) h
 

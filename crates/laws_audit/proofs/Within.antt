@@ -1,4 +1,4 @@
--- The part of a log's line within its last batches is their own line.
+-- The part of a log's leader epochs within its last batches is their own leader epochs.
 use Rattle.std.proofs.Common.{◌≡◌, ◌≢◌, ◌∙◌, inl, inr, refl, ap, sym, subst, ℕ, ◌+◌, ◌<◌, ◌≤◌, List, [], ◌∷◌, ◌++◌, Option, Some, arith}
 use Rattle.std.specs.Prelude.{filter}
 use Rattle.std.proofs.lemmas.Bool.{lt-ltb, le-leb, le-ltb}
@@ -43,7 +43,7 @@ module _ (base last : ℕ) where
       within-not (epoch_of b, base_of b) base last (line_after (epoch_of b) bs) (omega (arith, c.0))
       ∙ all_stay (epoch_of b) (last_of b + 1) bs (omega (arith, c.0)) c.1 high
 
-  -- of those behind others that end at the base, it too
+  -- of those after others that end at the base, it too
   front_goes : (e n : ℕ) (front : List (List ℕ)) (b : List ℕ) (bs : List (List ℕ)) → IsConsecutive n (front ++ b ∷ bs) → end_from n front ≡ base
       → end_from base (b ∷ bs) ≤ last + 1 → inside (line_after e (front ++ b ∷ bs)) ≡ line_after (epoch_of b) bs
   front_goes e n [] b bs c ends high =

@@ -12,7 +12,7 @@ use Rattle.tier_audit.specs.declared.verdict.Flaw.TheVariants.{Left}
 use Rattle.tier_audit.specs.Whole.{AreReadable, IsWhole}
 use Rattle.tier_audit.specs.Flaws.{IsFirstFlaw}
 
--- the objects and the notes of a scene
+-- the objects and the metadata events of a scene
 abbrev pub tier_in : Scene → SweptTier
 tier_in c = record { objects = c.objects; notes = c.notes }
 
@@ -31,15 +31,15 @@ abbrev pub SweptIsWhole : Type 0
 SweptIsWhole = (c : Scene) (p : Plain) (new : SweptTier) (n : ℕ) → BothSafe c p → IsSwept (tier_in c) new n
     → IsWhole new.objects (fold new.notes)
 
--- no command is under way
+-- no command is in progress
 abbrev pub IsIdle : Scene → Type 0
 IsIdle c = (a : ℕ) (work : TierTask) → slice_get c.desk a ≡ Some work → work ≡ Free
 
--- a scene with these objects and notes
+-- a scene with these objects and metadata events
 abbrev pub scene_with : Scene → SweptTier → Scene
 scene_with c tier = record c { objects = tier.objects; notes = tier.notes }
 
--- a sweep that is under way or was refused leaves the rules of the tier, where no command is under way
+-- a sweep that is in progress or was refused leaves the rules of the tier, where no command is in progress
 abbrev pub SweepKeepsCold : Type 0
 SweepKeepsCold = (c : Scene) (p : Plain) (new : SweptTier) → IsIdle c → TierSafe c p → IsUnderSweep (tier_in c) new
     → TierSafe (scene_with c new) p

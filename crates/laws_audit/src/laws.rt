@@ -17,7 +17,7 @@ pub fn a_swept_tier_is_whole()
     ensures { SweptIsWhole }
 {}
 
-/// Where no command is under way, what a sweep leaves that is under way or was refused keeps the rules of the tier.
+/// Where no command is in progress, what a sweep leaves that is in progress or was refused keeps the rules of the tier.
 pub fn a_sweep_keeps_cold()
     ensures { SweepKeepsCold }
 {}

@@ -8,7 +8,7 @@ use Rattle.record_batch.specs.declared.refusal.BatchRefusal.{BatchRefusal}
 use Rattle.record_batch.specs.Head.{head_of}
 use Rattle.record_batch.specs.Check.{Batch, checked, head_in, IsBatchOf}
 
--- what the head of a checked batch tells
+-- what the head of a checked batch gives
 pub record IsCounted (bytes : List ℕ) (head : Head) : Type 0 where
   pub ok : IsOk (checked bytes)
   pub is : cast_unsigned w32 head.last_offset_delta ≡ last_offset_delta_of bytes

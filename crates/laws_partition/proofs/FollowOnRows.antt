@@ -54,7 +54,7 @@ first_of : (limit : ℕ) (batches : List (List ℕ)) → is_within limit batches
 first_of limit [] w = absurd cc
 first_of limit (b ∷ more) w = (b, more, refl)
 
--- the follower's log and its path, where the follow goes on
+-- the follower's log and its path, where the follow continues
 record OnPath (h : SeenPartition) (p : State) (b : ℕ) (x : Node) (g : StartSnapshot) : Type 0 where
   epoch : ℕ
   role : x.role ≡ Joined epoch

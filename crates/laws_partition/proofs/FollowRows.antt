@@ -300,7 +300,7 @@ join_allowed h p b x s (DiskFaultAt n) h' st w =
     join_torn h p b x s k.0 k.1 n h' st cut k.4 k.5
 join_allowed h p b x s other h' st w = elim w [ ]
 
--- a join that goes on after the cut
+-- a join that continues after the cut
 pub record JoinStarts (h : SeenPartition) (p : State) (b : ℕ) (x : Node) (s : Replica) (g : StartSnapshot) (h' : SeenPartition) : Type 0 where
   pub broker : Broker
   pub node : Node

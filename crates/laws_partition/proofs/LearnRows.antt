@@ -199,7 +199,7 @@ taken_there p e s h = elim (by_taken p.paths p.broken e h) [
   | inr off ↦ s.broken e off
 ]
 
--- a broker that is to lead an epoch that its line has was its leader, or took its lead and broke off
+-- a broker that is to lead an epoch that its leader epochs have was its leader, or took its lead and broke off
 was_led : (h : SeenPartition) (p : State) (b : ℕ) (x : Node) (s : Replica) (n : ℕ) → Standing h p b x s → n ≡ h.registry.epoch → (IsNew x n → ⊥) → was_taken p.paths p.broken n ≡ true
 was_led h p b x s n st is old = elim (by_last x.log.line) [
   | inl none ↦ absurd (old (λ last e. absurd (cc (e, none))))

@@ -1,4 +1,5 @@
--- The line of a log goes on through all that is done to the log, and says in which epoch each of its offsets was appended.
+-- The line of a log continues through all that is done to the log, and says in which epoch each of its offsets was
+-- appended.
 use Rattle.std.proofs.Common.{◌≡◌, ◌≢◌, ◌⊎◌, inl, inr, ◌∙◌, sym, ap, subst, refl, ℕ, ◌+◌, ◌^◌, ◌<◌, ◌≤◌, ◌==◌, List, [], ◌∷◌, ◌++◌, Some, None, Option, Bool, true, false, arith, append-nil, append_assoc}
 use Rattle.std.specs.Prelude.{nat_lt}
 use Rattle.std.specs.Option.{ForSome}
@@ -38,7 +39,7 @@ after_same e batch log same = rw (eq-eqb (epoch_of batch) e same) refl
 pub after_other : (e : ℕ) (batch : List ℕ) (log : List (List ℕ)) → epoch_of batch ≢ e → line_after e (batch ∷ log) ≡ (epoch_of batch, base_of batch) ∷ line_after (epoch_of batch) log
 after_other e batch log differs = rw (ne_eqb (epoch_of batch) e differs) refl
 
--- the line goes on where the log does
+-- the line continues where the log does
 after_append : (e : ℕ) (xs ys : List (List ℕ)) → line_after e (xs ++ ys) ≡ line_after e xs ++ line_after (epoch_after e xs) ys
 after_append e [] ys = refl
 after_append e (x ∷ xs) ys = elim (cases_eq (epoch_of x) e) [
@@ -58,7 +59,7 @@ after_none : (e : ℕ) (log : List (List ℕ)) → AllByRecursion (λ batch. epo
 after_none e [] all = refl
 after_none e (x ∷ xs) all = after_same e x xs all.0 ∙ after_none e xs all.1
 
--- the last epoch of a log's line is its last batch's
+-- the last epoch of a log's leader epochs is its last batch's
 pub last_after : (e s : ℕ) (log : List (List ℕ)) → last_epoch ((e, s) ∷ line_after e log) ≡ Some (epoch_after e log)
 last_after e s [] = refl
 last_after e s (x ∷ xs) = elim (cases_eq (epoch_of x) e) [
@@ -150,7 +151,7 @@ cut_parts line xs ys c (inr h) =
     ap (λ (l : List (ℕ × ℕ)). cut_end l (end_of xs)) h.1
     ∙ (cut_past (line_of (xs ++ ys)) h.0 (end_of (xs ++ ys)) (end_of xs) (end_of_front xs ys c) ∙ cut_front xs ys c)
 
--- the line of a log's beginning is what starts before its end
+-- the leader epochs of a log's beginning is what starts before its end
 pub cut_line : (line : List (ℕ × ℕ)) (xs log : List (List ℕ)) → IsConsecutive 0 log → IsLineFor line log → IsPrefix xs log → cut_end line (end_of xs) ≡ line_of xs
 cut_line line xs log c h p =
     cut_parts line xs p.0 (subst (λ (l : List (List ℕ)). IsConsecutive 0 l) (sym p.1) c) (subst (λ (l : List (List ℕ)). IsLineFor line l) (sym p.1) h)
@@ -291,7 +292,7 @@ with_batches_line line log e batch more c h rises may base all fits small =
     let each = recursion_from_All (λ (b : List ℕ). epoch_of b ≡ e) (batch ∷ more) all in
     (entered_is line log e batch more c h rises may base each.0 each.1, entered_rises line e (end_of log) rises may fits small)
 
--- before the next batch begins, the first entry's epoch stands
+-- before the next batch begins, the first entry's epoch exists
 before_at : (e s n : ℕ) (log : List (List ℕ)) (offset : ℕ) → IsConsecutive n log → s ≤ offset → offset < n → epoch_at ((e, s) ∷ line_after e log) offset ≡ Some e
 before_at e s n [] offset c low high = rw (le-leb s offset low) refl
 before_at e s n (x ∷ xs) offset c low high = elim (cases_eq (epoch_of x) e) [
@@ -349,7 +350,7 @@ own_at (x ∷ xs) offset c high =
           ∙ rw (held, le-leb offset (last_of x) in_it) refl
     ]
 
--- below the log's end its line says in which epoch an offset was appended
+-- below the log's end its leader epochs say in which epoch an offset was appended
 pub line_at : (line : List (ℕ × ℕ)) (log : List (List ℕ)) (offset : ℕ) → IsConsecutive 0 log → IsLineFor line log → IsLine line → offset < end_of log
     → epoch_at line offset ≡ epoch_holding log offset
 line_at line log offset c (inl is) rises high = ap (λ (l : List (ℕ × ℕ)). epoch_at l offset) is ∙ own_at log offset c high
@@ -376,7 +377,7 @@ cut_more (x ∷ xs) a b le = elim (cases_lt x.1 b) [
   ]
 ]
 
--- the line of a log has what starts at its end or before
+-- the leader epochs of a log has what starts at its end or before
 pub own_cut : (front : List (List ℕ)) → IsConsecutive 0 front → cut_end (line_of front) (end_of front + 1) ≡ line_of front
 own_cut front c =
     let nil = append-nil front in

@@ -121,10 +121,10 @@ turns_all [] n = refl
 turns_all (k ∷ lists) zero = refl
 turns_all (k ∷ lists) (suc n) = let rest = turns_all lists n in omega (arith, rest)
 
--- what holds of what stands at a place holds of what is read there
+-- what holds of what is at a place holds of what is read there
 pub some_at : {A : Type 0} (P : A → Type 0) (xs : List A) (i : ℕ) (x : A) → IsSomeAnd (slice_get xs i) P → slice_get xs i ≡ Some x → P x
 some_at {A} P xs i x w at = subst (λ (o : Option A). IsSomeAnd o P) at w
 
--- what an index gives stands at its place
+-- what an index gives is at its place
 pub got : {A : Type 0} (xs : List A) (i : ℕ) (x : A) → i < length xs → x ≡ get_or xs i x → slice_get xs i ≡ Some x
 got xs i x lt is = slice_get-get_or xs i x lt ∙ ap Some (sym is)

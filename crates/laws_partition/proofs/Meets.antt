@@ -1,4 +1,4 @@
--- Two logs that match meet where their lines of leader epochs do: what they have in common ends there.
+-- Two logs that match meet where their leader epochs do: what they have in common ends there.
 use Rattle.std.proofs.Common.{◌≡◌, ◌⊎◌, inl, inr, ◌∙◌, sym, ap, subst, refl, ℕ, ◌+◌, ◌-◌, ◌<◌, ◌≤◌, List, [], ◌∷◌, ◌++◌, Some, None, Option, min, arith}
 use Rattle.std.proofs.lemmas.Bool.{lt-ltb, le-ltb, le-leb, lt-leb, cases_lt}
 use mathlib.Core.List.{IsPrefix}
@@ -99,7 +99,7 @@ pub record Lines (mine theirs : List (ℕ × ℕ)) (xs ys : List (List ℕ)) : T
   pub theirs_for : IsLineFor theirs ys
   pub theirs_rises : IsLine theirs
 
--- what the logs have in common ends at an offset to which their lines agree
+-- what the logs have in common ends at an offset to which their leader epochs agree
 common_meets : (mine theirs : List (ℕ × ℕ)) (xs ys : List (List ℕ)) → IsConsecutive 0 xs → IsConsecutive 0 ys → Lines mine theirs xs ys
     → MeetsAt mine theirs (end_of (common xs ys))
 common_meets mine theirs xs ys cx cy l = elim (last_batch (common xs ys)) [

@@ -75,7 +75,7 @@ last_fits [] e h is = absurd cc
 last_fits (one ∷ []) e h is = let same : one.0 ≡ e = cc in omega (arith, same, h.0)
 last_fits (one ∷ two ∷ line) e h is = last_fits (two ∷ line) e h.3 is
 
--- what goes on from a list's end
+-- what continues from a list's end
 consecutive_append : (n : ℕ) (xs ys : List (List ℕ)) → IsConsecutive n xs → IsConsecutive (end_from n xs) ys → IsConsecutive n (xs ++ ys)
 consecutive_append n [] ys c d = d
 consecutive_append n (x ∷ xs) ys c d = (c.0, consecutive_append (last_of x + 1) xs ys c.1 d)
@@ -443,7 +443,7 @@ node_torn x m s = elim (cases_lt n x.flushed_end) [
     line_is : IsLineFor line (up_to n x.log.batches)
     line_is = inl (k.0 ∙ ap line_of (sym (up_to_end_of m n x.log.batches s.log.consecutive refl)))
 
--- a log that is begun anew: batches that it begins, and that end further on
+-- a log that is restarted: batches that it begins, and that end further on
 pub record IsWhole (x : Node) (whole : List (List ℕ)) (n : ℕ) : Type 0 where
   pub consecutive : IsConsecutive 0 whole
   pub begins : IsPrefix x.log.batches whole
@@ -508,7 +508,7 @@ ends_within a b log c one two le =
     let at = up_to_end b log c two in
     subst (λ (m : ℕ). EndsAt m (up_to b log)) (omega (arith, at, le)) (ends_cut a b log c one)
 
--- a node that comes up
+-- a node that starts
 pub node_opened : (x : Node) (back : Back) (i : ℕ) → NodeSound x → x.up ≡ false → MayComeBack x back → NodeSound (opened x back i)
 node_opened x back i s off may =
     let k = may_back x back s may in

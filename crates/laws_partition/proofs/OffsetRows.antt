@@ -84,7 +84,7 @@ same_given o answer is = subst (λ (k : Option ℕ). same_offset o k ≡ true) i
     itself None = refl
     itself (Some n) = eq_same n n refl
 
--- so the plain log tells it
+-- so the plain log reports it
 told : (h : SeenPartition) (p : State) (b : ℕ) (x : Node) (s : Replica) (ts : ℤ) (answer : Option ℕ) → Standing h p b x s
     → dated_offset h x ts ≡ answer → is_offset_of p (broker_of x) (At ts) answer ≡ true
 told h p b x s ts answer st is = same_given (offset_at p (broker_of x) ts) answer (dated_same h p x ts st.held.registry ∙ is)

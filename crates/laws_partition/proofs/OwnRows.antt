@@ -275,7 +275,7 @@ filter_taken ps bs line end h =
     (λ entry t a. a) line (recursion_from_All _ line h)
     )
 
--- the lead of each epoch of the line that comes back was taken
+-- the lead of each epoch of the leader epochs that comes back was taken
 back_taken : (h : SeenPartition) (p : State) (b : ℕ) (x : Node) (s : Replica) (back : Back) → Standing h p b x s → MayComeBack x back → AreTaken p.paths p.broken back.1
 back_taken h p b x s back st (inl is) = subst (λ (k : Back). AreTaken p.paths p.broken k.1) (sym is) (st.lines.each b x st.at).saved_are
 back_taken h p b x s back st (inr is) = (st.lines.each b x st.at).back_are back is

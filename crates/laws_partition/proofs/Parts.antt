@@ -21,7 +21,7 @@ length_drop zero xs = omega arith
 length_drop (suc n) [] = omega arith
 length_drop (suc n) (x ∷ xs) = let rest : length (drop n xs) ≡ length xs - n = length_drop n xs in omega (arith, rest)
 
--- what is left behind a part is shorter
+-- what is left after a part is shorter
 left_over : (most n : ℕ) (bytes : List ℕ) → length bytes ≤ suc most → length (drop (12 + n) bytes) ≤ most
 left_over most n bytes le = let is = length_drop (12 + n) bytes in omega (arith, is, le)
 
@@ -38,7 +38,7 @@ join_parts_in (suc most) (b ∷ bytes) le =
 pub join_parts : (bytes : List ℕ) → joined (parts bytes) ≡ bytes
 join_parts bytes = join_parts_in (length bytes) bytes (omega arith)
 
--- the front of a batch tells its size, whatever stands behind it
+-- the front of a batch gives its size, whatever follows it
 size_front : (batch more : List ℕ) → 61 ≤ length batch → field_at w32 8 (batch ++ more) ≡ field_at w32 8 batch
 unfolding field_at
 size_front batch more long =
@@ -60,7 +60,7 @@ sized batch ok = go (checked batch) refl ok
 told_size : (batch more : List ℕ) → IsSized batch → size_told (batch ++ more) ≡ length batch
 told_size batch more s = ap (λ (n : ℕ). 12 + n) (size_front batch more s.long) ∙ sym s.size
 
--- one batch, and what stands behind it
+-- one batch, and what follows it
 part_first : (most : ℕ) (batch more : List ℕ) → IsSized batch → parts_in (suc most) (batch ++ more) ≡ batch ∷ parts_in most more
 part_first most [] more s = absurd (let long = s.long in omega (arith, long))
 part_first most (b ∷ batch) more s =

@@ -1,4 +1,4 @@
--- The seats, the steps of the plain log that their turns are, and how the desk stands after a turn.
+-- The actors' states, the steps of the plain log that their turns are, and how the desk is after a turn.
 use Rattle.std.proofs.Common.{◌≡◌, ◌≢◌, inl, inr, ◌∙◌, sym, ap, subst, refl, ℕ, ◌+◌, List, slice_get, slice_set, Some, None, Option, true, arith}
 use Rattle.std.specs.Prelude.{option_map}
 use Rattle.std.specs.Option.{option_and_then}
@@ -41,7 +41,7 @@ use Rattle.laws_partition.proofs.BoolTests.{and_true, eq_same}
 use Rattle.laws_partition.proofs.Standing.{Steady}
 use Rattle.laws_partition.proofs.TurnRows.{GoingOn}
 
--- a run goes on with longer paths
+-- a run continues with longer paths
 pub run_wide : (ps qs : List Path) (limit : ℕ) (g : StartSnapshot) → Wider ps qs → RunStands ps limit g → RunStands qs limit g
 run_wide ps qs limit g w r =
     let k = w r.epoch r.path r.path_is in
@@ -88,7 +88,7 @@ rebuild_goes p q g w steady safe r =
           omega (arith, low, y.2);
     }
 
--- what is kept of a command goes on
+-- what is kept of a command continues
 pub begun_goes : (p q : State) (command : Command) (g : StartSnapshot) → Wider p.paths q.paths → Steady p q → ArePaths q → SnapshotMatches p command g → SnapshotMatches q command g
 begun_goes p q (Follow limit) g w steady safe r = run_wide p.paths q.paths limit g w r
 begun_goes p q Join g w steady safe r = rebuild_goes p q g w steady safe r
@@ -165,7 +165,7 @@ begun_actor_state q l actor_state order g at next stands = record {
     some_is : (g f : StartSnapshot) → Some g ≡ Some f → g ≡ f
     some_is g f e = cc (e)
 
--- the other seats stand as they did
+-- the other actors' states are as they did
 pub desk_goes : (w : Whole) (a : ℕ) (turned : Turned) (w' : Whole) (p q : State) (y : Actor) → (t : IsTurn w a turned w') → Stands w p → q.actors ≡ put_actor p.actors t.list.actor.0 y
     → Wider p.paths q.paths → Steady p q → ArePaths q → ProgressMatches q t.list (actor_state_after t.actor_state turned)
     → (place : ℕ) (l : ActorList) (actor_state : ActorProgress) → slice_get w'.lists place ≡ Some l → slice_get w'.desk place ≡ Some actor_state → ProgressMatches q l actor_state

@@ -1,4 +1,4 @@
--- The later turns of a join, the last of which begins a follower's log anew, are the plain log's. What its log is seen as
+-- The later turns of a join, the last of which restarts a follower's log, are the plain log's. What its log is seen as
 -- then is the path of the epoch that it follows, up to the wanted point.
 use Rattle.std.proofs.Common.{◌≡◌, ◌≢◌, ◌∙◌, sym, ap, subst, refl, ℕ, ◌<◌, ◌≤◌, ◌&&◌, List, slice_get, Some, Option, true, false, arith, inl, inr}
 use Rattle.std.specs.Prelude.{is_some, option_map, nat_lt, IsSome}
@@ -40,7 +40,7 @@ pub record Rebuilding (p : State) (x : Node) (order : Order) (g : StartSnapshot)
   pub run : RebuildStands p g
   pub recorded : HasJoined p.registry.epoch (recorded_of order g) (broker_of x)
 
--- what the log is begun anew as: the path up to the wanted point, which the leader has
+-- what the log is restarted as: the path up to the wanted point, which the leader has
 pub record OnWay (h : SeenPartition) (p : State) (b : ℕ) (x y : Node) (g : StartSnapshot) : Type 0 where
   pub epoch : ℕ
   pub role : x.role ≡ Joined epoch
@@ -119,7 +119,7 @@ on_way h p b x y s order g st k on end at =
       line = run.line ∙ ap line_of (of_path ∙ sym of_leader);
     }
 
--- the log start hasn't reached the wanted point since
+-- the log start offset hasn't reached the wanted point since
 not_passed : (h : SeenPartition) (p : State) (x : Node) (order : Order) (g : StartSnapshot) (n : ℕ) (s : Replica) (b : ℕ) → Standing h p b x s → ((g.start < g.wanted) × (g.wanted ≤ h.registry.start) → ⊥) → n ≡ g.wanted
     → was_passed p (recorded_of order g) n ≡ false
 not_passed h p x order g n s b st never is = elim (cases_lt g.start n) [
@@ -130,7 +130,7 @@ not_passed h p x order g n s b st never is = elim (cases_lt g.start n) [
   ]
 ]
 
--- the plain log begins the log anew
+-- the plain log restarts the log
 rebuilds : (h : SeenPartition) (p : State) (b : ℕ) (x y : Node) (s : Replica) (order : Order) (g : StartSnapshot) (n : ℕ) → Standing h p b x s → (o : OnWay h p b x y g) → MayRebuild h x g → n ≡ g.wanted
     → rebuilt_broker p (broker_of x) (recorded_of order g) n ≡ Some (record (broker_of x) { log = up_to n y.log.batches })
 rebuilds h p b x y s order g n st o may is =
@@ -144,7 +144,7 @@ rebuilds h p b x y s order g n st o may is =
     let passed = not_passed h p x order g n s b st may.2 is in
     rw to (when_true _ z (and_true _ _ goes (not_false _ passed)) ∙ ap (λ (w : List (List ℕ)). Some (record bx { log = w })) path_same)
 
--- it is begun anew
+-- it is restarted
 rebuild_allowed : (h : SeenPartition) (p : State) (b : ℕ) (x y : Node) (s : Replica) (order : Order) (g : StartSnapshot) (n : ℕ) (h' : SeenPartition) → Standing h p b x s → OnWay h p b x y g → MayRebuild h x g → n ≡ g.wanted
     → h' ≡ put_node h b (rebuilt x (up_to n y.log.batches) n) → Allowed p b x s (Some (recorded_of order g)) Join (Rebuilt n) h'
 rebuild_allowed h p b x y s order g n h' st o may is same =

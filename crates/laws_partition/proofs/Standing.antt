@@ -1,4 +1,5 @@
--- A turn against the plain log: what it starts from, what is to be shown, and how the lines of the nodes stand after it.
+-- A turn against the plain log: what it starts from, what is to be shown, and how the leader epochs of the nodes are
+-- after it.
 use Rattle.std.proofs.Common.{◌≡◌, ◌≢◌, ◌⊎◌, inl, inr, ◌∙◌, sym, ap, subst, refl, ℕ, zero, suc, ◌<◌, ◌≤◌, ◌==◌, List, [], ◌∷◌, ◌++◌, slice_get, slice_set, Some, None, Option, Bool, true, false, arith, append_assoc}
 use Rattle.std.specs.Prelude.{map, is_some, ◌||◌}
 use Rattle.std.specs.List.{AllByRecursion}
@@ -38,7 +39,7 @@ pub record Standing (h : SeenPartition) (p : State) (b : ℕ) (x : Node) (s : Re
 abbrev pub LogsSafe : State → Type 0
 LogsSafe q = (b : ℕ) (x : Broker) → slice_get q.brokers b ≡ Some x → LogSafe q.paths x.log
 
--- while an epoch with a path stays the registry's, its leader has no less stable
+-- while an epoch with a path stays the registry's, its leader has no less flushed
 abbrev pub Steady : State → State → Type 0
 Steady p q = (e : ℕ) → is_some (path_of p.paths e) ≡ true → q.registry.epoch ≡ e
     → (p.registry.epoch ≡ e) × ((z : Broker) → slice_get q.brokers q.registry.leader.0 ≡ Some z
@@ -63,7 +64,7 @@ steady_set p q b x z at brokers epoch leader up = λ e has is. (
       ],
 )
 
--- the plain log allows the answer, and stands to the partition afterwards
+-- the plain log allows the answer, and is related to the partition afterwards
 pub record Allowed (p : State) (b : ℕ) (x : Node) (s : Replica) (recorded : Option PlainSnapshot) (command : Command) (answer : Answer) (h' : SeenPartition) : Type 0 where
   pub state : State
   pub is : row p b (broker_of x) s recorded command answer ≡ Some state
@@ -89,7 +90,7 @@ map_set f (y ∷ xs) (suc i) x = ap (λ t. f y ∷ t) (map_set f xs i x)
 pub broker_at : (h : SeenPartition) (p : State) (b : ℕ) (x : Node) → PartitionMatches h p → slice_get h.nodes b ≡ Some x → slice_get p.brokers b ≡ Some (broker_of x)
 broker_at h p b x st at = ap (λ (k : List Broker). slice_get k b) st.brokers ∙ map_get broker_of h.nodes b x at
 
--- what stands at a place after a write of it
+-- what is at a place after a write of it
 pub get_put : {A : Type 0} (xs : List A) (i : ℕ) (x y : A) → slice_get xs i ≡ Some x → slice_get (slice_set xs i y) i ≡ Some y
 get_put [] i x y e = absurd cc
 get_put (z ∷ xs) zero x y e = refl
@@ -171,7 +172,7 @@ log_taken paths broken log s = All-from_recursion _ (line_of log) (own_taken pat
 pub line_taken : (paths : List Path) (broken : List ℕ) (line : List (ℕ × ℕ)) (log : List (List ℕ)) → line ≡ line_of log → LogSafe paths log → AreTaken paths broken line
 line_taken paths broken line log is s = subst (AreTaken paths broken) (sym is) (log_taken paths broken log s)
 
--- the lines of the nodes, after a node has changed
+-- the leader epochs of the nodes, after a node has changed
 pub record Puts (h : SeenPartition) (p q : State) (b : ℕ) (x y : Node) : Type 0 where
   pub registry : q.registry ≡ p.registry
   pub brokers : q.brokers ≡ slice_set p.brokers b (broker_of y)

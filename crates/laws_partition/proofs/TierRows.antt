@@ -1,4 +1,5 @@
--- The rows of commands on the remote tier are the plain log's: it sees nothing of the tier, but who leads, and the log start.
+-- The rows of commands on the remote tier are the plain log's: it sees nothing of the tier, but who leads, and the log
+-- start offset.
 use Rattle.std.proofs.Common.{◌≡◌, ◌∙◌, sym, ap, subst, refl, ℕ, ◌==◌, Some, None, Ok as Done, Bool, true, false, not, ◌&&◌, arith}
 use Rattle.std.proofs.lemmas.Bool.Decides.{nat_tests}
 use Rattle.registry.specs.declared.registry.Replica.{Replica}
@@ -57,7 +58,7 @@ role_differs r q differ = go (same_role r q) refl
     go true t = absurd (differ (same_is r q t))
     go false t = t
 
--- whether a broker goes on
+-- whether a broker continues
 
 pub and_false : (a b : Bool) → b ≡ false → a && b ≡ false
 and_false true b is = is
@@ -136,7 +137,7 @@ expire_allowed h p b x s NotLeader h' st w = silent h p b x s None Expire NotLea
 expire_allowed h p b x s MetaFault h' st w = silent h p b x s None Expire MetaFault h' st (rw (w.0, w.1) refl) w.2
 expire_allowed h p b x s other h' st w = elim w [ ]
 
--- the registry raises the log start
+-- the registry raises the log start offset
 raise_on : (h : SeenPartition) (p : State) (b : ℕ) (x : Node) (s : Replica) (order : Order) (g : StartSnapshot) (start : ℕ) (h' : SeenPartition) → Standing h p b x s → KeepsLead x g → Raises h x start h'
     → Allowed p b x s (Some (recorded_of order g)) Expire (Raised start) h'
 raise_on h p b x s order g start h' st k w =

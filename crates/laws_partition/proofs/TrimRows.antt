@@ -21,7 +21,7 @@ use Rattle.laws_partition.proofs.Standing.{Standing, Allowed, Puts, silent, put,
 use Rattle.laws_partition.proofs.OwnRows.{filter_taken}
 use Rattle.laws_partition.proofs.BreakRows.{IsTold, break_allowed}
 
--- the line that is kept ends as the log's where that entry is flushed
+-- the leader epochs that are kept ends as the log's where that entry is flushed
 kept_last : (h : SeenPartition) (p : State) (b : ℕ) (x : Node) (s : Replica) (entry : ℕ × ℕ) → Standing h p b x s → last_entry x.log.line ≡ Some entry → entry.1 ≤ x.flushed_end → last_entry (kept_line x) ≡ Some entry
 kept_last h p b x s entry st is le =
     let l = st.lines.each b x st.at in

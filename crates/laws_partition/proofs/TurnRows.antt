@@ -192,7 +192,7 @@ pub record GoingOn (p : State) (x : Node) (order : Order) (command : Command) (g
 moment_same : (ts : ℤ) → int_le ts ts && int_le ts ts ≡ true
 moment_same ts = let itself : int_le ts ts ≡ true = grind (arith, ints) in and_true _ _ itself itself
 
--- a command that goes on is one of several turns
+-- a command that continues is one of several turns
 pub later_same : (h : SeenPartition) (b : ℕ) (x : Node) (command : Command) (g : StartSnapshot) (turned : Turned) (h' : SeenPartition) → LaterRow h b x command g turned h' → same_command command command ≡ true
 later_same h b x (Follow limit) g turned h' w = eq_same limit limit refl
 later_same h b x Join g turned h' w = refl

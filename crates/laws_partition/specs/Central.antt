@@ -47,8 +47,8 @@ was_taken paths broken e = is_some (path_of paths e) || is_in e broken
 abbrev pub AreTaken : List Path → List ℕ → List (ℕ × ℕ) → Type 0
 AreTaken paths broken line = All (λ entry. was_taken paths broken entry.0 ≡ true) line
 
--- a node's line is its log's; the lead of each of its epochs was taken, also of the lines that may come back; and that of
--- a follower that has joined has none beyond its log's
+-- a node's line is its log's; the lead of each of its epochs was taken, also of the leader epochs that may come back;
+-- and that of a follower that has joined has none beyond its log's
 pub record LineStands (paths : List Path) (broken : List ℕ) (x : Node) : Type 0 where
   pub sound : NodeSound x
   pub paths_are : AreTaken paths broken x.log.line
@@ -56,15 +56,15 @@ pub record LineStands (paths : List Path) (broken : List ℕ) (x : Node) : Type 
   pub back_are : (back : Back) → x.loose ≡ Some back → AreTaken paths broken back.1
   pub joined : (e : ℕ) → x.role ≡ Joined e → x.log.line ≡ line_of x.log.batches
 
--- the leader of the registry's epoch, once it has led it: its line ends with that epoch, from a stable offset on, and
--- so do the lines that may come back; and its log begins the epoch's path
+-- the leader of the registry's epoch, once it has led it: its leader epochs end with that epoch, from a flushed offset
+-- on, and so do the leader epochs that may come back; and its log begins the epoch's path
 abbrev pub LeaderStands : List Path → ℕ → Node → Type 0
 LeaderStands paths epoch x = is_some (path_of paths epoch) ≡ true
     → (start : ℕ) × (last_entry x.log.line ≡ Some (epoch, start)) × (last_entry x.saved ≡ Some (epoch, start))
     × (start ≤ x.flushed_end) × ((back : Back) → x.loose ≡ Some back → last_entry back.1 ≡ Some (epoch, start))
     × Has paths epoch x.log.batches
 
--- the lines of the nodes; and no follower of the registry's epoch is its leader
+-- the leader epochs of the nodes; and no follower of the registry's epoch is its leader
 pub record LinesStand (h : SeenPartition) (paths : List Path) (broken : List ℕ) : Type 0 where
   pub each : (b : ℕ) (x : Node) → slice_get h.nodes b ≡ Some x → LineStands paths broken x
   pub leader : (x : Node) → slice_get h.nodes h.registry.leader.0 ≡ Some x → LeaderStands paths h.registry.epoch x
@@ -86,8 +86,8 @@ pub record RunStands (paths : List Path) (limit : ℕ) (g : StartSnapshot) : Typ
   pub epochs : All (λ batch. Some (epoch_of batch) ≡ epoch_in g.batches) g.batches
   pub small : end_from g.end g.batches ≤ 4611686018427387904
 
--- a rebuild that a join has begun: the path that it follows has an end at the wanted point, past the log's, and the line
--- is the path's up to there; and the leader has that much stable while its epoch is the registry's
+-- a rebuild that a join has begun: the path that it follows has an end at the wanted point, past the log's, and the
+-- line is the path's up to there; and the leader has that much flushed while its epoch is the registry's
 pub record RebuildStands (p : State) (g : StartSnapshot) : Type 0 where
   pub epoch : ℕ
   pub role : g.role ≡ Joined epoch
@@ -109,7 +109,7 @@ SnapshotMatches p (Fetch offset limit) g = Unit {0}
 SnapshotMatches p (Offset which) g = Unit {0}
 SnapshotMatches p other g = ⊥
 
--- the seats: the plain log's actors have come as far, and what commands keep stands
+-- the actors' states: the plain log's actors have come as far, and what commands keep exists
 pub record ProgressMatches (p : State) (l : ActorList) (actor_state : ActorProgress) : Type 0 where
   pub actor : actor_at p.actors l.actor.0 ≡ record {
     number =
@@ -128,13 +128,13 @@ pub record Stands (w : Whole) (p : State) : Type 0 where
   pub rising : AreRising w.lists
   pub actor_states : length w.desk ≡ length w.lists
 
--- the journal leads from the opening state to one in which the safety rules hold and to which the world stands
+-- the journal leads from the opening state to one in which the safety rules hold and to which the world exists
 pub record IsCentral (opening : State) (w : Whole) : Type 0 where
   pub plain : State
   pub replays : replay w.lists opening w.journal.items ≡ Some plain
   pub safe : PlainSafe plain
   pub stands : Stands w plain
 
--- for each opening state the central fact goes on
+-- for each opening state the central fact continues
 abbrev pub KeepsCentral : Whole → Whole → Type 0
 KeepsCentral w w' = (opening : State) → IsCentral opening w → IsCentral opening w'

@@ -10,7 +10,7 @@ use Rattle.laws_partition.specs.Seen.{Node, SeenPartition}
 use Rattle.laws_partition.specs.declared.actor_progress.ActorProgress.{ActorProgress}
 use Rattle.laws_partition.specs.Whole.{Whole}
 
--- a node that is up, with an empty log and this line
+-- a node that is up, with an empty log and these leader epochs
 abbrev pub fresh_node : Role → List (ℕ × ℕ) → Node
 fresh_node role line = record {
   up = true;

@@ -1,4 +1,4 @@
--- A log with its line of leader epochs, and the runs that are taken of it.
+-- A log with its leader epochs, and the runs that are taken of it.
 --
 -- A run begins with the batch that holds an offset, and has batches of one leader epoch that end at or below a bound
 -- and fit a limit, but at least one.
@@ -12,16 +12,16 @@ use Rattle.log_terms.specs.Log.{IsConsecutive, end_of, joined, from_offset, up_t
 use Rattle.epoch_line.specs.Line.{IsLine, last_epoch, assign, cut_end}
 use Rattle.plain_log.specs.Fetch.{is_within}
 
--- a log's batches, and its line
+-- a log's batches, and its leader epochs
 pub record Lined : Type 0 where
   pub batches : List (List ℕ)
   pub line : List (ℕ × ℕ)
 
--- the line has the epochs of the batches, and perhaps one more, which starts at the log's end
+-- the leader epochs have the epochs of the batches, and perhaps one more, which starts at the log's end
 abbrev pub IsLineFor : List (ℕ × ℕ) → List (List ℕ) → Type 0
 IsLineFor line log = (line ≡ line_of log) ⊎ ((e : ℕ) × (line ≡ line_of log ++ (e, end_of log) ∷ []))
 
--- what a log keeps: its batches are consecutive from 0, its line is theirs, and it ends within the offsets
+-- what a log keeps: its batches are consecutive from 0, its leader epochs are theirs, and it ends within the offsets
 pub record IsLog (end : ℕ) (log : Lined) : Type 0 where
   pub consecutive : IsConsecutive 0 log.batches
   pub line_is : IsLineFor log.line log.batches
@@ -29,7 +29,7 @@ pub record IsLog (end : ℕ) (log : Lined) : Type 0 where
   pub ends : end ≡ end_of log.batches
   pub small : end ≤ 4611686018427387904
 
--- the line of a log that gains a batch of an epoch at an offset
+-- the leader epochs of a log that gains a batch of an epoch at an offset
 abbrev pub entered : List (ℕ × ℕ) → ℕ → ℕ → List (ℕ × ℕ)
 entered line e base = line_or_more (last_epoch line)
   where

@@ -32,7 +32,7 @@ StopRow h b x other h' = ⊥
 abbrev pub MayComeBack : Node → Back → Type 0
 MayComeBack x back = (back ≡ back_of x) ⊎ (x.loose ≡ Some back)
 
--- a node that comes up so, opened so many times
+-- a node that starts so, opened so many times
 abbrev pub opened : Node → Back → ℕ → Node
 opened x back incarnation = record x {
   up = true;

@@ -55,11 +55,11 @@ UncleanRow h b x other h' = ⊥
 abbrev pub IsKnown : SeenPartition → Node → Type 0
 IsKnown h x = epoch_in x.role ≡ Some h.registry.epoch
 
--- the line has no epoch from this one on
+-- the leader epochs have no epoch from this one on
 abbrev pub IsNew : Node → ℕ → Type 0
 IsNew x n = ForSome (last_epoch x.log.line) (λ last. last < n)
 
--- the node leads this epoch: its line has it from the log's end on, and all of both is flushed
+-- the node leads this epoch: its leader epochs have it from the log's end on, and all of both is flushed
 abbrev pub led : SeenPartition → Node → ℕ → Node
 led h x n = record x {
   role = LeadsIn n;

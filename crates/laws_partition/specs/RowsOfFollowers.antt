@@ -1,12 +1,12 @@
 -- What a turn of a follower's command comes to: join, follow.
 --
--- A follower's log meets the leader's where their lines of leader epochs still agree. Where that lies below the leader's
--- local log, a join goes on after the cut, and its last turn begins the follower's log anew, empty, where the leader's
--- local log began. It is seen as the leader's log up to there then, of which nothing stands on the follower's disk. The
+-- A follower's log meets the leader's where their leader epochs still agree. Where that lies below the leader's local
+-- log, a join continues after the cut, and its last turn restarts the follower's log, empty, where the leader's local
+-- log began. It is seen as the leader's log up to there then, of which there is nothing on the follower's disk. The
 -- leader may be down by then: while its epoch is the registry's its log has what was flushed when the join began.
 --
--- A follow takes a run of the leader's local log at its first turn, which an actor's state has, and puts as much of it at the end
--- of its own at the second as stands in one segment.
+-- A follow takes a run of the leader's local log at its first turn, which an actor's state has, and puts as much of it
+-- at the end of its own at the second as fits one segment.
 use Rattle.std.specs.Prelude.{◌≡◌, ◌≢◌, ℕ, ◌^◌, ◌<◌, ◌≤◌, true, false, min, List, ◌++◌, length, Option, None, Some, IsSome, IsSomeAnd, IsOk, All}
 use Rattle.tier_base.specs.declared.plain.Stop.{Stop}
 use Rattle.log_terms.specs.Batch.{epoch_of}
@@ -34,7 +34,7 @@ IsStale h e = IsSomeAnd e (λ e. e < h.registry.epoch)
 abbrev pub IsCurrent : SeenPartition → Option ℕ → Type 0
 IsCurrent h e = IsSomeAnd e (λ e. h.registry.epoch ≤ e)
 
--- where the logs of two nodes meet: the greatest offset up to both ends to which their lines agree
+-- where the logs of two nodes meet: the greatest offset up to both ends to which their leader epochs agree
 abbrev pub IsMeet : Node → Node → ℕ → Type 0
 IsMeet x y n = IsMeetBelow x.log.line y.log.line (min (end_of x.log.batches) (end_of y.log.batches)) n
 
@@ -104,7 +104,7 @@ pub record CanExtend (x : Node) (g : StartSnapshot) : Type 0 where
   pub fits : epoch < 2 ^ 31
   pub small : end_from g.end g.batches ≤ 4611686018427387904
 
--- a later turn goes on: no stop, and no newer epoch
+-- a later turn continues: no stop, and no newer epoch
 abbrev pub GoesOn : SeenPartition → Node → StartSnapshot → Type 0
 GoesOn h x g = (g.stops ≡ x.stops) × ¬ IsStale h (followed g.role)
 
@@ -112,7 +112,7 @@ GoesOn h x g = (g.stops ≡ x.stops) × ¬ IsStale h (followed g.role)
 abbrev pub extended : Node → List (List ℕ) → ℕ → Node
 extended x front e = record x { log = with_batches x.log e front }
 
--- the first of the batches that were taken, at least one, stand at the end of the log, which ends at n then
+-- the first of the batches that were taken, at least one, are at the end of the log, which ends at n then
 pub record Extends (h : SeenPartition) (b : ℕ) (x : Node) (g : StartSnapshot) (n e : ℕ)
     (h' : SeenPartition) : Type 0 where
   pub front : List (List ℕ)
@@ -126,7 +126,7 @@ pub record Extends (h : SeenPartition) (b : ℕ) (x : Node) (g : StartSnapshot) 
 abbrev pub IsAsCut : Node → StartSnapshot → Type 0
 IsAsCut x g = (g.end ≡ end_of x.log.batches) × IsSome (joined x.role)
 
--- a rebuild may end: nothing has come between, and the log start hasn't reached the wanted point since it began
+-- a rebuild may end: nothing has come between, and the log start offset hasn't reached the wanted point since it began
 abbrev pub MayRebuild : SeenPartition → Node → StartSnapshot → Type 0
 MayRebuild h x g = GoesOn h x g × IsAsCut x g × ((g.start < g.wanted) × (g.wanted ≤ h.registry.start) → ⊥)
 

@@ -50,7 +50,7 @@ RawRow h b x bytes DiskFault h' = IsOk (checked bytes) × AppendRow h b x bytes 
 RawRow h b x bytes (OkSpan base last e) h' = IsOk (checked bytes) × AppendRow h b x bytes (OkSpan base last e) h'
 RawRow h b x bytes answer h' = AppendRow h b x bytes answer h'
 
--- flush: all of the log is flushed, and its line is saved
+-- flush: all of the log is flushed, and its leader epochs are saved
 abbrev pub FlushRow : SeenPartition → ℕ → Node → Answer → SeenPartition → Type 0
 FlushRow h b x Down h' = (x.up ≡ false) × (h' ≡ h)
 FlushRow h b x DiskFault h' =
@@ -68,12 +68,12 @@ RollRow h b x DiskFault h' = (x.up ≡ true) × (h' ≡ put_node h b (broken x (
 RollRow h b x (OkAt n) h' = (x.up ≡ true) × (n ≡ end_of x.log.batches) × (h' ≡ h)
 RollRow h b x other h' = ⊥
 
--- the local log may begin at this offset instead: it is an end of the log, and stable
+-- the local log may begin at this offset instead: it is an end of the log, and flushed
 pub record MayBegin (x : Node) (start : ℕ) : Type 0 where
   pub flushed_end : start ≤ x.flushed_end
   pub ends : EndsAt start x.log.batches
 
--- what an actor's state has of a command that begins: what was recorded of its broker, and the log start
+-- what an actor's state has of a command that begins: what was recorded of its broker, and the log start offset
 pub record Notes (h : SeenPartition) (x : Node) (g : StartSnapshot) : Type 0 where
   pub stops : g.stops ≡ x.stops
   pub role : g.role ≡ x.role

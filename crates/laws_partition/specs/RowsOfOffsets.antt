@@ -1,9 +1,9 @@
 -- What a turn of a question for an offset comes to, to which nothing changes.
 --
--- The log start, the high watermark that the leader knows, and where its local log begins are answered at once. Up to where the
--- remote tier has the log takes a second turn, behind a refresh of the leader's view; it is answered as it comes. The offset of a
--- timestamp takes as many turns as the search of both tiers does; the turns between the first and the last change nothing that is
--- seen.
+-- The log start offset, the high watermark that the leader knows, and where its local log begins are answered at once.
+-- Up to where the remote tier has the log takes a second turn, after a refresh of the leader's view; it is answered as
+-- it comes. The offset of a timestamp takes as many turns as the search of both tiers does; the turns between the first
+-- and the last change nothing that is seen.
 use Rattle.std.specs.Prelude.{◌≡◌, ℕ, ℤ, max, true, false, Option, Some, None}
 use Rattle.log_terms.specs.Log.{up_to, from_offset}
 use Rattle.plain_log.specs.declared.answer.Answer.{Answer}
@@ -16,7 +16,7 @@ use Rattle.laws_partition.specs.declared.start_snapshot.StartSnapshot.{StartSnap
 use Rattle.laws_partition.specs.Seen.{Node, SeenPartition}
 use Rattle.laws_partition.specs.RowsOfTiers.{GoesLeading}
 
--- the offset that is known at once; nothing of the log that is below the log start is in the local log
+-- the offset that is known at once; nothing of the log that is below the log start offset is in the local log
 abbrev pub known_offset : SeenPartition → Node → Which → Option ℕ
 known_offset h x Earliest = Some h.registry.start
 known_offset h x Latest = Some x.known_high_watermark
@@ -38,7 +38,7 @@ OffsetOnRow h x g (Offset n) h' = GoesLeading h x g h'
 OffsetOnRow h x g NoOffset h' = GoesLeading h x g h'
 OffsetOnRow h x g other h' = ⊥
 
--- the offset of a timestamp: among the batches from the log start to the high watermark that the leader knows
+-- the offset of a timestamp: among the batches from the log start offset to the high watermark that the leader knows
 abbrev pub dated_offset : SeenPartition → Node → ℤ → Option ℕ
 dated_offset h x ts =
     first_at ts h.registry.start (from_offset h.registry.start (up_to x.known_high_watermark x.log.batches))

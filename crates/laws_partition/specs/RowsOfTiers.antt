@@ -1,9 +1,9 @@
 -- What a turn of a command comes to that works on the remote tier: copy, expire, and a fetch below the local log. Whether
 -- segments are copied at all isn't seen.
 --
--- Of the remote tier nothing is seen here: how its calls end, and what stands there, is answered as it comes. Each of these
--- commands notes where it begins, and goes on as long as its broker leads as it did. The turns between the first and the last
--- change nothing that is seen.
+-- Of the remote tier nothing is seen here: how its calls end, and what is there, is answered as it comes. Each of these
+-- commands records where it begins, and continues as long as its broker leads as it did. The turns between the first
+-- and the last change nothing that is seen.
 use Rattle.std.specs.Prelude.{◌≡◌, ◌⊎◌, ℕ, ◌<◌, ◌≤◌, true, false, Ok as Done}
 use Rattle.log_terms.specs.Log.{end_of}
 use Rattle.registry.specs.Calls.{after_raise}
@@ -55,7 +55,7 @@ CopyOnRow h x g (Overtaken state) h' = GoesLeading h x g h'
 CopyOnRow h x g (CopiedSegment id start last) h' = GoesLeading h x g h'
 CopyOnRow h x g other h' = ⊥
 
--- the registry raises the log start for the broker
+-- the registry raises the log start offset for the broker
 pub record Raises (h : SeenPartition) (x : Node) (start : ℕ) (h' : SeenPartition) : Type 0 where
   pub epoch : ℕ
   pub role : x.role ≡ Leads epoch

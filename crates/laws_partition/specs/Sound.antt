@@ -20,9 +20,9 @@ pub record IsBack (x : Node) (back : Back) : Type 0 where
   pub within : back.2 ≤ back.0
 
 -- a node's log is one, its flushed end and the high watermark that it knows are 0 or ends of its batches, the saved
--- line is that of what is flushed, the local log begins at such an end that is flushed, a leader's line ends with its
--- epoch, and a node that is down is idle and knows no high watermark; more than one end may come back only while it
--- is down
+-- line is that of what is flushed, the local log begins at such an end that is flushed, a leader's leader epochs end
+-- with its epoch, and a node that is down is idle and knows no high watermark; more than one end may come back only
+-- while it is down
 pub record NodeSound (x : Node) : Type 0 where
   pub log : IsLog (end_of x.log.batches) x.log
   pub flushed_end : EndsAt x.flushed_end x.log.batches

@@ -18,7 +18,7 @@ pub struct StartSnapshot {
     pub start: u64,
     /// The run of the leader's log that a follow has taken.
     pub batches: Taken,
-    /// Where a join is to begin the log anew, and the line of leader epochs up to there.
+    /// Where a join is to restart the log, and the leader epochs up to there.
     pub wanted: LocalStart,
     pub line: Line,
 }
@@ -28,6 +28,6 @@ pub struct StartSnapshot {
 pub enum Turned {
     /// The command was answered.
     Answers(Answer),
-    /// It began, and goes on with a later turn.
+    /// It began, and continues with a later turn.
     Begins(StartSnapshot),
 }

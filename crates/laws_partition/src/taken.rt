@@ -9,7 +9,7 @@ ghost use Rattle.laws_partition.specs.Taken.{parts};
 use bytes::Bytes;
 use std::marker::Model;
 
-/// Checked batches that were taken, one behind another. Contracts see the list of them.
+/// Checked batches that were taken, one after another. Contracts see the list of them.
 #[derive(Debug, Drop)]
 pub struct Taken {
     bytes: Bytes,

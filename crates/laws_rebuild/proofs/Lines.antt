@@ -1,4 +1,4 @@
--- A line is told by its text, and the epochs that stand beside a remote segment are a path's.
+-- A line is identified by its text, and the epochs that are beside a remote segment are a path's.
 use Rattle.std.proofs.Common.{◌≡◌, ◌∙◌, sym, ap, subst, refl, ℕ, ◌≤◌, ◌^◌, List, [], ◌∷◌, ◌++◌, length, map, arith, append_assoc, append-nil}
 use Rattle.std.specs.Prelude.{decimal}
 use Rattle.std.specs.List.{concat}
@@ -83,7 +83,7 @@ whole_rises objects p entry s h =
     let end : end_of (whole_of h) ≡ end_from entry.start h.batches = end_append 0 h.describes.part.front h.batches ∙ ap (λ (n : ℕ). end_from n h.batches) h.describes.part.ends in
     safe_rises p (whole_of h) s safe (omega (arith, end, h.describes.is.low))
 
--- the epochs that stand beside it are those of all of that
+-- the epochs that are beside it are those of all of that
 pub epochs_are : (objects : Objects) (p : Plain) (entry : Entry) → (h : IsStoredWhole objects p.paths entry)
     → part_in (parts_of h.batches h.line h.interval) Epochs ≡ text_of (line_of (whole_of h))
 epochs_are objects p entry h =

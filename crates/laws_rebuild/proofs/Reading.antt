@@ -98,7 +98,8 @@ covers_so e o entry done low high at =
     let here : is_epoch e (epoch_at entry.map o) ≡ true = ap (is_epoch e) at ∙ eq-eqb e e refl in
     rw (done, le-leb entry.start o low, le-leb o entry.end high) here
 
--- the rebuild's piece is found in its broker's view, and is of a copy that reads so, whose epochs stand where the view places them
+-- the rebuild's piece is found in its broker's view, and is of a copy that reads so, whose epochs exist where the view
+-- places them
 pub record Found (c : Scene) (p : Plain) (rebuild : Rebuild) (wanted : RebuildRequest) (line : List (ℕ × ℕ)) (view : Seen) (front : List (List ℕ)) : Type 0 where
   pub piece : Piece
   pub there : piece_at view.entries line wanted.offset (wanted.offset - 1) ≡ Some piece
@@ -107,7 +108,7 @@ pub record Found (c : Scene) (p : Plain) (rebuild : Rebuild) (wanted : RebuildRe
   pub place : epochs_of wanted.partition view.entries (Some piece) ≡ Some spot
   pub placed : IsPlaced c.objects spot (text_of (line_of (whole_of reads.held)))
 
--- the view's entry of a copy that isn't under way places its epochs as its entry does
+-- the view's entry of a copy that isn't in progress places its epochs as its entry does
 seen_spot : (partition : PartitionId) (id : SegmentId) (seen entry : Entry) (spot : Spot) → Follows seen entry → seen.state ≢ CopyStarted → entry.partition ≡ partition → entry.id ≡ id
     → spot_of entry.partition entry.id entry.packed entry.custom EpochsPart ≡ Some spot → spot_of partition id seen.packed seen.custom EpochsPart ≡ Some spot
 seen_spot partition id seen entry spot f done of is at =
@@ -173,7 +174,7 @@ none_lacks : (objects : store.Objects) (spot : Spot) (text bytes : List ℕ) →
 none_lacks objects spot text bytes is k = ap (short_of spot) is ∙ not_short spot.at spot.len text k.whole
 
 module _ {S : Type 0} (objects : S → store.Content) (calls : S → Control store_call.call_code) where
-  -- the row, of the place where they stand
+  -- the row, of the place where they are
   at_place : (c : Scene) (p : Plain) (rebuild : Rebuild) (wanted : RebuildRequest) (line : List (ℕ × ℕ)) (view : Seen) (front : List (List ℕ)) (turn : RebuildTurn) (old new : S)
       → (f : Found c p rebuild wanted line view front) → RebuildRow objects calls wanted line view (Ok turn) old new → ReadsEpochs objects calls wanted.offset f.spot (Ok turn) old new
   at_place c p rebuild wanted line view front turn old new f row =
@@ -223,7 +224,7 @@ module _ {S : Type 0} (objects : S → store.Content) (calls : S → Control sto
       let reads = at_place c p rebuild wanted line view (h.safe.tier.rebuilds a rebuild h.actor_state).front (Goes (Restart read)) old new f row in
       reads_path c p a rebuild tier_view wanted line read view old new h f reads.answer reads.gets reads.takes
 
-  -- what has no reading isn't it
+  -- what is invalid isn't it
   no_damage : (c : Scene) (p : Plain) (a : ℕ) (rebuild : Rebuild) (tier_view : BrokerTierView) (wanted : RebuildRequest) (line : List (ℕ × ℕ)) (view : Seen) (place : Place) (at : ℕ) (old new : S)
       → (h : IsToRead c p a rebuild tier_view wanted line (objects old) view) → (f : Found c p rebuild wanted line view (h.safe.tier.rebuilds a rebuild h.actor_state).front)
       → (answer : Result (Option (List ℕ)) Trouble) → Gets objects calls f.spot.key (all_of f.spot) answer old new → Takes wanted.offset f.spot answer (Ok (Ends (Damaged place at))) → ⊥

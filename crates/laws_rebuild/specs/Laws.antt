@@ -19,7 +19,7 @@ use Rattle.tier_safe.specs.Safe.{TierSafe}
 use Rattle.tier_safe.specs.Turns.{Shows, after_turn}
 use Rattle.laws_rebuild.specs.Reading.{IsToRead}
 
--- the rebuild's broker has seen all notes
+-- the rebuild's broker has seen all metadata events
 abbrev pub seen_all : Rebuild → Rebuild
 seen_all rebuild = record rebuild { refreshed = true }
 
@@ -32,14 +32,14 @@ module _ {M : Type 0} (notes : M → meta.Content) where
       → IsChanged c p (after_turn c a rebuild.broker tier_view (Rebuilds (seen_all rebuild)) c.objects c.notes view)
 
 module _ {S : Type 0} (objects : S → store.Content) (calls : S → Control store_call.call_code) where
-  -- the line that is read is the one by which the segment was looked up
+  -- the leader epochs that are read is the one by which the segment was looked up
   abbrev pub LinesArePaths : Type 0
   LinesArePaths = (wanted : RebuildRequest) (line read : List (ℕ × ℕ)) (view : Seen) (old new : S) (c : Scene) (p : Plain) (a : ℕ)
       (rebuild : Rebuild) (tier_view : BrokerTierView)
       → RebuildRow objects calls wanted line view (Ok (Goes (Restart read))) old new
       → IsToRead c p a rebuild tier_view wanted line (objects old) view → read ≡ line
 
-  -- no damage is told of
+  -- no damage is reported of
   abbrev pub NothingIsDamaged : Type 0
   NothingIsDamaged = (wanted : RebuildRequest) (line : List (ℕ × ℕ)) (view : Seen) (place : Place) (at : ℕ) (old new : S) (c : Scene)
       (p : Plain) (a : ℕ) (rebuild : Rebuild) (tier_view : BrokerTierView)

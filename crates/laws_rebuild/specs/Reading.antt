@@ -1,7 +1,7 @@
--- What the scene of the tier has of a rebuild at the turn that reads its line.
+-- What the scene of the tier has of a rebuild at the turn that reads its leader epochs.
 --
 -- Its follower's path has an end at the wanted offset, and the line by which the remote segment is looked up is the
--- path's up to there. Whoever takes the turn tests that the log start is below the wanted offset.
+-- path's up to there. Whoever takes the turn tests that the log start offset is below the wanted offset.
 use Rattle.std.specs.Prelude.{◌≡◌, ℕ, ◌<◌, true, List, Some, IsTrue, slice_get}
 use Rattle.log_terms.specs.Line.{line_of}
 use Rattle.log_terms.specs.Log.{up_to}

@@ -17,8 +17,7 @@ pub fn a_rebuild_reads_its_path<S: Store>()
     ensures { LinesArePaths S.content S.control }
 {}
 
-/// A rebuild tells of no damage: the segment, its entry and its epochs are found, and these have a
-/// reading.
+/// A rebuild reports no damage: the segment, its entry and its epochs are found, and these are valid.
 pub fn a_rebuild_finds_all<S: Store>()
     ensures { NothingIsDamaged S.content S.control }
 {}

@@ -38,7 +38,7 @@ drop_front : {A : Type 0} (xs ys : List A) → drop (length xs) (xs ++ ys) ≡ y
 drop_front [] ys = refl
 drop_front (x ∷ xs) ys = drop_front xs ys
 
--- what stands between two pieces
+-- what is between two pieces
 middle : (xs ys zs : List ℕ) (from to : ℕ) → from ≡ length xs → to ≡ from + length ys → slice_range (xs ++ (ys ++ zs)) from to ≡ ys
 middle xs ys zs from to first last =
     let size : to - from ≡ length ys = omega (arith, last) in
@@ -49,7 +49,7 @@ middle xs ys zs from to first last =
 
 -- batches from an offset on
 
--- what stands before them, and them
+-- what precedes them, and them
 pub parted : (offset : ℕ) (bs : List (List ℕ)) → (front : List (List ℕ)) × (bs ≡ front ++ from_offset offset bs)
 parted offset [] = ([], refl)
 parted offset (b ∷ bs) = by (nat_lt (last_of b) offset) refl (parted offset bs)
@@ -118,7 +118,7 @@ read_head bytes head is = by (head_refusal bytes) refl is
     by None why is = (head_long bytes why, sym (cc (is)))
     by (Some refusal) why is = absurd (cc (is))
 
--- the head of a batch is read where 61 of its bytes stand
+-- the head of a batch is read where 61 of its bytes are
 pub part_head : (rest more batch others : List ℕ) → IsOk (checked batch) → rest ++ more ≡ batch ++ others → 61 ≤ length rest → (head : Head) × (headed rest ≡ Ok head) × (size_in head ≡ length batch)
 unfolding headed
 part_head rest more batch others ok is long =
@@ -133,7 +133,7 @@ part_head rest more batch others ok is long =
     by None h head is = refl
     by (Some why) h head is = absurd (cc (is))
 
--- a batch that would pass the limit is the one that stands there
+-- a batch that would pass the limit is the one that is there
 passing : (limit size : ℕ) (rest more batch others : List ℕ) → IsOk (checked batch) → rest ++ more ≡ batch ++ others → would_pass limit size (headed rest) ≡ true → limit < size + length batch
 passing limit size rest more batch others ok is h = by (headed rest) refl h
   where
@@ -146,7 +146,7 @@ passing limit size rest more batch others ok is h = by (headed rest) refl h
         omega (arith, above, own)
     by (Err why) read h = absurd (cc (h))
 
--- where nothing stands none would
+-- where there is nothing none would
 passing_none : (limit size : ℕ) (rest more : List ℕ) → rest ++ more ≡ [] → would_pass limit size (headed rest) ≡ true → ⊥
 passing_none limit size rest more is h = by (headed rest) refl h
   where

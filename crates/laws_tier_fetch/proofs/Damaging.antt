@@ -1,4 +1,4 @@
--- A fetch tells of damage in its last turn alone.
+-- A fetch reports damage in its last turn alone.
 use Rattle.std.proofs.Common.{◌≡◌, ◌⊎◌, ◌∙◌, sym, ap, subst, refl, ℕ, List, take, drop, Option, Some, None, Result, Ok, Err}
 use Rattle.tier_base.specs.declared.fault.Trouble.{Trouble}
 use Rattle.tier_base.specs.declared.fault.Trouble.TheVariants.{Failed, NoMemory}
@@ -50,7 +50,7 @@ use Rattle.laws_tier_fetch.proofs.Turning.{shown}
 pub kept_safe : (c d : Scene) (p : Plain) → IsChanged c p d → BothSafe c p → BothSafe d p
 kept_safe c d p h safe = subst (λ (e : Scene). BothSafe e p) h.is (all_kept h.changes c p p h.may safe)
 
--- the piece is found in a view of all notes
+-- the piece is found in a view of all metadata events
 piece_there : (c : Scene) (p : Plain) (a b : ℕ) (tier_view : BrokerTierView) (x : Broker) (stops epoch : ℕ) (wanted : FetchRequest) (line : List (ℕ × ℕ)) (s : store.Content) (n : meta.Content) (view : Seen) (cache : Cache)
     (after : Seen) → IsAtTurn c p a b tier_view x stops epoch wanted line Refresh s n view cache → after ≡ view_of c.notes
     → IsChanged c p (after_turn c a b tier_view (Seeks (sought_of b stops epoch wanted.offset Refresh)) c.objects c.notes after)

@@ -1,4 +1,4 @@
--- The entries of a segment's offset index: they rise, and their bytes tell them.
+-- The entries of a segment's offset index: they rise, and their bytes give them.
 use Rattle.std.proofs.Common.{◌≡◌, ◌∙◌, sym, ap, subst, refl, ℕ, ◌+◌, ◌-◌, Bool, true, false, List, [], ◌∷◌, ◌++◌, length, arith, append_assoc, append-nil}
 use Rattle.std.specs.List.{AllByRecursion}
 use Rattle.log_terms.specs.Batch.{last_of}
@@ -14,7 +14,7 @@ use Rattle.segment_file.proofs.Laying.{marked_append}
 use Rattle.segment_file.proofs.Placing.{placed_push}
 use Rattle.segment_file.proofs.Tracking.{may_mark}
 
--- entries of eight bytes each are told by their bytes
+-- entries of eight bytes each are identified by their bytes
 wide_same : (xs ys : List (ℕ × ℕ)) → AllByRecursion IsWide xs → AllByRecursion IsWide ys → bytes_of entry_bytes xs ≡ bytes_of entry_bytes ys → xs ≡ ys
 wide_same [] [] h k is = refl
 wide_same [] (y ∷ ys) h k is = absurd (cc (is))

@@ -8,7 +8,7 @@ use Rattle.sparse_index.specs.Offsets.{OffsetTable}
 use Rattle.index_cache.specs.Cache.{Pair, Cache, found, others, in_front, staying, brought_front, kept}
 use Rattle.laws_tier_fetch.specs.Seeking.{under_id, indexes_in}
 
--- a pair that was first, or behind it
+-- a pair that was first, or after it
 behind : (x : SegmentId × OffsetTable) (pair : Pair) (xs ys : List Pair) → (In x (map under_id xs) → In x (map under_id ys)) → In x (map under_id (pair ∷ xs)) → In x (map under_id (pair ∷ ys))
 behind x pair xs ys more (inl first) = inl first
 behind x pair xs ys more (inr there) = inr (more there)

@@ -1,4 +1,4 @@
--- Where the entries of a segment's offset index stand among its batches.
+-- Where the entries of a segment's offset index are among its batches.
 use Rattle.std.proofs.Common.{◌≡◌, ◌⊎◌, inl, inr, ◌∙◌, sym, ap, subst, refl, ℕ, ◌+◌, ◌-◌, ◌<◌, ◌≤◌, min, Bool, true, false, cond, nat_lt, List, [], ◌∷◌, ◌++◌, length, map, filter, Option, Some, None, slice_get, arith, append_assoc, length-append}
 use Rattle.std.specs.Prelude.{◌^◌, nat_le}
 use Rattle.std.specs.List.{AllByRecursion}
@@ -100,7 +100,7 @@ end_snoc n xs b = end_append n xs (b ∷ [])
 one_of : (xs : List (List ℕ)) (b : List ℕ) (rest ys : List (List ℕ)) → ys ≡ xs ++ b ∷ rest → IsPrefix (xs ++ b ∷ []) ys
 one_of xs b rest ys is = (rest, append_assoc xs (b ∷ []) rest ∙ sym is)
 
--- one that ends before the other does stands before it
+-- one that ends before the other does precedes it
 pub before : (base : ℕ) (batches pre post former latter : List (List ℕ)) (m b : List ℕ) → IsConsecutive base batches → batches ≡ pre ++ m ∷ post → batches ≡ former ++ b ∷ latter
     → last_of m < last_of b → IsPrefix (pre ++ m ∷ []) former
 before base batches pre post former latter m b c one two less =
@@ -111,7 +111,7 @@ before base batches pre post former latter m b c one two less =
       | inr same ↦ absurd (let x = end_snoc base pre m in let y = end_snoc base former b in let z = ap (end_from base) same in omega (arith, x, y, z, less))
     ]
 
--- one that doesn't begin past the other's last offset doesn't stand behind it
+-- one that doesn't begin past the other's last offset doesn't follow it
 pub not_behind : (base : ℕ) (batches pre post former latter : List (List ℕ)) (m b : List ℕ) → IsConsecutive base batches → batches ≡ pre ++ m ∷ post → batches ≡ former ++ b ∷ latter
     → base_of m ≤ last_of b → IsPrefix pre former
 not_behind base batches pre post former latter m b c one two low =

@@ -1,4 +1,4 @@
--- What a fetch reads in the store is what its copy's entry tells of: the index of its batches, and their bytes.
+-- What a fetch reads in the store is what its copy's entry says of: the index of its batches, and their bytes.
 use Rattle.std.proofs.Common.{◌≡◌, ◌≢◌, ◌⊎◌, inl, inr, ◌∙◌, sym, ap, subst, refl, ℕ, Bool, true, false, List, [], ◌∷◌, Option, Some, None}
 use Rattle.std.specs.Prelude.{option_map}
 use Rattle.tier_base.specs.declared.names.PartitionId.{PartitionId}
@@ -37,7 +37,7 @@ use Rattle.tier_safe.proofs.Serving.{FetchReads, fetch_reads}
 use Rattle.laws_tier_fetch.specs.Seeking.{piece_of, sought_of, IsAtTurn}
 use Rattle.laws_tier_fetch.proofs.Entries.{entries_same, index_rises}
 
--- what stands there
+-- what is there
 
 pub first_is : (n : ℕ) (xs : List (List ℕ)) → xs ≢ [] → IsConsecutive n xs → first_offset xs ≡ n
 first_is n [] some c = absurd (some refl)
@@ -49,7 +49,7 @@ pub copy_of : (c : Scene) (p : Plain) (a b : ℕ) (tier_view : BrokerTierView) (
 copy_of c p a b tier_view x stops epoch wanted line next s n view cache piece h is =
     fetch_reads a (sought_of b stops epoch wanted.offset next) piece c p tier_view x h.safe.plain h.safe.tier h.shows.actor_state h.shows.tier_view_is h.broker_is is h.leads h.past
 
--- where a part of it stands, as the broker's view says
+-- where a part of it is, as the broker's view says
 pub record IsAtSpot (partition : PartitionId) (id : SegmentId) (kind : Part) (found : Option Entry) (start : ℕ) (objects : store.Objects) (bytes : List ℕ) : Type 0 where
   pub spot : Spot
   pub is : spot_in partition id kind found ≡ Some (start, spot)

@@ -118,7 +118,7 @@ shown log offset limit mark from to epoch stop first others rest c parts low hig
       stop_is = stop_is;
     }
 
--- why the run ends, and what is behind it in the log
+-- why the run ends, and what is after it in the log
 record Stops (log : List (List ℕ)) (offset limit mark : ℕ) (stop : Stop) (run : List (List ℕ)) : Type 0 where
   pub rest : List (List ℕ)
   pub parts : from_offset offset log ≡ run ++ rest

@@ -142,7 +142,7 @@ module _ (base interval : ℕ) (batches : List (List ℕ)) (offset limit end : �
       let size = size_snoc pre m in
       omega (arith, le, size)
 
-  -- where so many bytes behind what was read are needed, so many are read
+  -- where so many bytes after what was read are needed, so many are read
   rest_long : (from most j : ℕ) (given : List ℕ) (bs : List (List ℕ)) (rest : List ℕ) (k : IsReadFrom base batches offset from most given bs rest) (m : List ℕ) (others : List (List ℕ))
       → most ≡ needed_end index offset limit end - from → given ≡ joined bs ++ rest → k.more ≡ m ∷ others → j ≤ length m
       → length (joined (k.former ++ bs)) + j ≤ needed_end index offset limit end → j ≤ length rest
@@ -189,7 +189,7 @@ module _ (base interval : ℕ) (batches : List (List ℕ)) (offset limit end : �
       in_needed n (limit_end index offset limit) (first_begin index (end - 1)) (omega (arith, few, size))
       (limit_room pre (others ++ m ∷ rest) first n (omega (arith, few, size)) parts low (omega (arith, fits))) (omega (arith, piece, size))
 
-  -- what was read, and the batch behind it
+  -- what was read, and the batch after it
   record Behind (from most : ℕ) (given : List ℕ) (bs : List (List ℕ)) (rest : List ℕ) : Type 0 where
     pub k : IsReadFrom base batches offset from most given bs rest
     pub most_is : most ≡ needed_end index offset limit end - from
@@ -234,7 +234,7 @@ module _ (base interval : ℕ) (batches : List (List ℕ)) (offset limit end : �
       let room = room_behind pre x.others first x.m run parts low x.high fit in
       rest_long from most (length x.m) given bs rest x.k x.m x.others x.most_is x.stand x.more (omega arith) (omega (arith, room, size))
 
--- a run that goes on ends below its bound
+-- a run that continues ends below its bound
 goes_low : (offset n limit bound : ℕ) (bs run : List (List ℕ)) (rest : List ℕ) → n ≤ offset → offset < bound → from_offset offset bs ≡ run → GoesOn limit bound (end_after None bs) run rest → end_from n bs < bound
 goes_low offset n limit bound bs [] rest low past is goes =
     let g = gone_low offset n bs low in

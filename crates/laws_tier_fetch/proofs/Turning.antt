@@ -102,7 +102,7 @@ shown c a b tier_view work s n view h = record {
 
 -- the piece
 
--- what is found in a view of all notes may be taken, whatever the actor's state kept before
+-- what is found in a view of all metadata events may be taken, whatever the actor's state kept before
 may_find : (c : Scene) (p : Plain) (a b : ℕ) (tier_view : BrokerTierView) (x : Broker) (stops epoch offset log_end : ℕ) (line : List (ℕ × ℕ)) (before : TierTask) (after : Seen) (piece : Piece)
     → TierSafe c p → slice_get c.tier_views b ≡ Some tier_view → slice_get c.desk a ≡ Some before → slice_get p.brokers b ≡ Some x → log_end ≡ end_of x.log → TellsEpochs line x.log
     → after ≡ view_of c.notes → piece_at after.entries line log_end offset ≡ Some piece
@@ -155,7 +155,7 @@ chooses c p a b tier_view x stops epoch wanted line s n view cache after (Some p
 
 -- the index
 
--- an index that stands is read on by, in a cache that has no other new one
+-- an index that is is read on by, in a cache that has no other new one
 reads_on : (c : Scene) (p : Plain) (a b : ℕ) (tier_view : BrokerTierView) (stops epoch : ℕ) (wanted : FetchRequest) (piece : Piece) (index : OffsetTable) (cache : Cache)
     → slice_get c.tier_views b ≡ Some tier_view → slice_get c.desk a ≡ Some (Seeks (sought_of b stops epoch wanted.offset (Index piece)))
     → ((id : SegmentId) (t : OffsetTable) → In (id, t) (indexes_in cache) → In (id, t) tier_view.cache ⊎ CachedStands p.paths c.notes id t)
@@ -202,7 +202,7 @@ module _ {S M : Type 0} (objects : S → store.Content) (calls : S → Control s
 
   -- reads of the store
 
-  -- a turn that was answered, or wanted memory, and left the cache
+  -- a turn that was answered, or ran out of memory, and left the cache
   pub ended : (c : Scene) (p : Plain) (a b : ℕ) (tier_view : BrokerTierView) (x : Broker) (stops epoch : ℕ) (wanted : FetchRequest) (line : List (ℕ × ℕ)) (next : FetchStep) (ns : meta.Content) (view : Seen) (cache cache' : Cache)
       (old new : S) → IsAtTurn c p a b tier_view x stops epoch wanted line next (objects old) ns view cache → (objects new).objects ≡ (objects old).objects → cache' ≡ cache
       → IsChanged c p (after_fetch c a b tier_view Free (objects new).objects ns.notes view cache')
@@ -216,7 +216,7 @@ module _ {S M : Type 0} (objects : S → store.Content) (calls : S → Control s
       quiet c p a b tier_view _ _ (objects old) ns view cache (objects new).objects ns.notes view cache' h.shows h.cache_is
       (none c p a b tier_view (Seeks (sought_of b stops epoch wanted.offset next)) h.shows.tier_view_is h.shows.actor_state) same refl refl kept
 
-  -- a turn with the index goes on
+  -- a turn with the index continues
   went : (c : Scene) (p : Plain) (a b : ℕ) (tier_view : BrokerTierView) (x : Broker) (stops epoch : ℕ) (wanted : FetchRequest) (line : List (ℕ × ℕ)) (piece : Piece) (ns : meta.Content) (view : Seen) (cache cache' : Cache)
       (old new : S) (turn : FetchTurn) (index : OffsetTable) → IsAtTurn c p a b tier_view x stops epoch wanted line (Index piece) (objects old) ns view cache → (objects new).objects ≡ (objects old).objects
       → turn ≡ reads_by wanted piece index

@@ -1,7 +1,7 @@
--- Where a fetch from the tier may tell of damage while no call fails: in its last turn alone.
+-- Where a fetch from the tier may reports damage while no call fails: in its last turn alone.
 --
--- Its broker's view has the piece, and the entry of its segment; the segment's index and its log stand, and the index
--- has a reading. What is left is that the part of the log which was read has no run.
+-- Its broker's view has the piece, and the entry of its segment; the segment's index and its log exist, and the index
+-- is valid. What is left is that the part of the log which was read has no run.
 use Rattle.std.specs.Prelude.{◌≡◌, ◌⊎◌, ℕ, List, Ok}
 use Rattle.tier_base.specs.declared.plain.Part.{Part}
 use Rattle.tier_base.specs.declared.plain.Part.TheVariants as part
@@ -26,7 +26,7 @@ use Rattle.tier_fetch.specs.Turns.{Tiers, FetchRow}
 use Rattle.tier_safe.specs.Scene.{BrokerTierView, Scene}
 use Rattle.laws_tier_fetch.specs.Seeking.{IsAtTurn}
 
--- damage of the log of the segment whose piece was found, which the turn was to read: it is told of the object that
+-- damage of the log of the segment whose piece was found, which the turn was to read: it is reported of the object that
 -- has it
 pub record IsOfLog (wanted : FetchRequest) (next : FetchStep) (place : Place) : Type 0 where
   pub piece : Piece
@@ -38,7 +38,7 @@ pub record IsOfLog (wanted : FetchRequest) (next : FetchStep) (place : Place) : 
 
 module _ {S M : Type 0} (objects : S → store.Content) (calls : S → Control store_call.call_code)
     (notes : M → meta.Content) (notings : M → Control meta_call.call_code) where
-  -- damage that a turn tells of is of a segment's log
+  -- damage that a turn reports is of a segment's log
   abbrev pub DamageIsOfLogs : Type 0
   DamageIsOfLogs =
       (wanted : FetchRequest) (line : List (ℕ × ℕ)) (next : FetchStep) (place : Place) (at : ℕ) (old new : Tiers S M) (c : Scene) (p : Plain)

@@ -1,7 +1,7 @@
--- What the scene of the tier has of a fetch that goes on, and of a broker's cache of remote indexes.
+-- What the scene of the tier has of a fetch that continues, and of a broker's cache of remote indexes.
 --
--- A broker serves a fetch still where it leads the epoch that it led when the fetch began, without a stop between,
--- and the log start isn't above the offset. Whoever takes a turn tests both first; the turn goes by the line and the
+-- A broker serves a fetch still where it leads the epoch that it led when the fetch began, without a stop between, and
+-- the log start offset isn't above the offset. Whoever takes a turn tests both first; the turn goes by the line and the
 -- end of that broker's log.
 use Rattle.std.specs.Prelude.{◌≡◌, ℕ, ◌^◌, ◌<◌, ◌≤◌, List, length, map, Option, Some, None, Ok, Err, slice_get, slice_set}
 use Rattle.std.specs.declared.result.Result.{Result}
@@ -58,7 +58,7 @@ abbrev pub fetch_work : ℕ → ℕ → ℕ → ℕ → FetchTurn → TierTask
 fetch_work broker stops epoch offset (Goes next) = Seeks (sought_of broker stops epoch offset next)
 fetch_work broker stops epoch offset (Ends answer) = Free
 
--- after one that may have wanted memory, and then is taken again
+-- after one that may have run out of memory, and then is taken again
 abbrev pub fetch_after : ℕ → ℕ → ℕ → ℕ → FetchStep → Result FetchTurn AllocError → TierTask
 fetch_after broker stops epoch offset next (Ok turn) = fetch_work broker stops epoch offset turn
 fetch_after broker stops epoch offset next (Err e) = Seeks (sought_of broker stops epoch offset next)
@@ -91,7 +91,7 @@ pub record IsAtTurn (c : Scene) (p : Plain) (a b : ℕ) (tier_view : BrokerTierV
   pub end_is : wanted.log_end ≡ end_of x.log
   pub is_observable : TellsEpochs line x.log
 
--- the tier after a turn of the fetch in that seat
+-- the tier after a turn of the fetch in that actor's state
 abbrev pub after_fetch : Scene → ℕ → ℕ → BrokerTierView → TierTask → store.Objects → List Note → Seen → Cache → Scene
 after_fetch c a b tier_view work objects notes view cache = record {
   partition = c.partition;

@@ -1,7 +1,7 @@
 -- That the part of a segment's log which its offset index shows to be needed holds the run.
 --
 -- Where the bound of the run and the end of the piece are ends of the segment's batches, a run that has begun, or is
--- still to begin, finds its next batch in the bytes that are read: there is no place where none stands.
+-- still to begin, finds its next batch in the bytes that are read: there is no place where none is.
 use Rattle.std.specs.Prelude.{◌≡◌, ℕ, ◌<◌, ◌≤◌, min, List, take, drop}
 use mathlib.Core.List.{IsPrefix}
 use Rattle.log_terms.specs.Log.{joined, end_from}

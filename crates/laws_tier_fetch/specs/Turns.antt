@@ -1,12 +1,13 @@
 -- That each turn of a fetch from the tier is changes of the tier.
 --
---   turn       changes where it goes on
+--   turn       changes where it continues
 --   first      Asks
 --   Refresh    Sees, Finds
 --   Index      Caches, Reads
 --   Log        none: it is answered
 --
--- A turn that is answered is what it changed and then Leaves. One that wanted memory may have taken some notes in.
+-- A turn that is answered is what it changed and then Leaves. One that ran out of memory may have taken some metadata
+-- events in.
 use Rattle.std.specs.Prelude.{◌≡◌, ℕ, ◌<◌, List, Some, slice_get, slice_set}
 use Rattle.std.specs.declared.result.Result.{Result}
 use Rattle.std.specs.declared.alloc.AllocError.{AllocError}

@@ -15,8 +15,7 @@ pub fn asks_change()
     ensures { AskChanges }
 {}
 
-/// Each further turn of it is changes of the tier, done or not where its call failed, and where it
-/// wanted memory.
+/// Each further turn of it is changes of the tier, done or not where its call failed, and where it ran out of memory.
 pub fn fetch_turns_change<S: Store, M: MetaLog>()
     ensures { FetchTurnsChange S.content S.control M.content M.control }
 {}
@@ -26,8 +25,8 @@ pub fn fetch_runs_are_logs<S: Store, M: MetaLog>()
     ensures { FetchRunsAreLogs S.content S.control M.content M.control }
 {}
 
-/// Damage that a turn tells of is of a segment's log, which the turn was to read: the segment, its
-/// entry, its index and its log are found.
+/// Damage that a turn reports is of a segment's log, which the turn was to read: the segment, its entry, its index and
+/// its log are found.
 pub fn damage_is_of_logs<S: Store, M: MetaLog>()
     ensures { DamageIsOfLogs S.content S.control M.content M.control }
 {}

@@ -1,4 +1,4 @@
--- What a turn's changes have in common: the sides follow the plain log's step, and the command leaves the desk.
+-- What a turn's changes have in common: the tier states follow the plain log's step, and the command leaves the desk.
 use Rattle.std.proofs.Common.{◌≡◌, ◌∙◌, sym, ap, subst, refl, ℕ, List, [], ◌∷◌, ◌++◌, Option, Some, false, slice_get, slice_set}
 use Rattle.plain_log.specs.declared.command.Order.{Order}
 use Rattle.plain_log.specs.declared.journal.JournalEntry.{JournalEntry}
@@ -22,7 +22,7 @@ use Rattle.laws_tier_turns.specs.Laws.{TurnsKeepSafe}
 use Rattle.laws_tier_turns.proofs.Places.{map_has}
 use Rattle.laws_tier_turns.proofs.Follow.{tier_views_follow}
 
--- the tier with these sides, and with this in seat a
+-- the tier with these tier states, and with this in actor a's state
 abbrev pub left_with : Scene → ℕ → List BrokerTierView → TierTask → Scene
 left_with c a tier_views work = record c { tier_views = tier_views; desk = slice_set c.desk a work }
 

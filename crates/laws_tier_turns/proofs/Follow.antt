@@ -1,4 +1,4 @@
--- The brokers' sides follow a turn.
+-- The brokers' tier states follow a turn.
 use Rattle.std.proofs.Common.{◌≡◌, ◌∙◌, ◌≢◌, ◌≤◌, ◌⊎◌, inl, inr, sym, ap, subst, refl, ℕ, List, length, Some, slice_get, slice_set, arith}
 use Rattle.std.specs.Prelude.{map}
 use Rattle.log_terms.specs.Log.{IsConsecutive}
@@ -22,7 +22,7 @@ use Rattle.laws_tier_turns.proofs.Places.{one_at, set_get, beside, map_at, map_h
 use Rattle.laws_tier_turns.proofs.Nodes.{start_within, NodeGoes}
 use Rattle.laws_tier_turns.proofs.Goes.{row_goes}
 
--- a side follows itself
+-- a tier state follows itself
 tier_view_stays : (x : Node) (broker_tier : BrokerTierModel) → NodeSound x → BrokerTierGoes (tier_view_of x broker_tier) (tier_view_of x broker_tier) (broker_of x) (broker_of x)
 tier_view_stays x broker_tier s = record {
   up = refl;
@@ -34,7 +34,7 @@ tier_view_stays x broker_tier s = record {
   ids = inl (refl, λ u. (u, refl));
 }
 
--- a side follows its node
+-- a tier state follows its node
 pub tier_view_goes : (x y : Node) (broker_tier : BrokerTierModel) → NodeGoes x y → IsConsecutive 0 y.log.batches → BrokerTierGoes (tier_view_of x broker_tier) (tier_view_of y broker_tier) (broker_of x) (broker_of y)
 tier_view_goes x y broker_tier g c = record {
   up = refl;
@@ -52,7 +52,7 @@ tier_view_goes x y broker_tier g c = record {
       | inr more ↦ inr more
     ]
 
--- where one node and its side change, all sides follow
+-- where one node and its tier state change, all tier states follow
 pub one_follows : (brokers : ℕ) (h : SeenPartition) (p q : Plain) (broker_tiers : List BrokerTierModel) (b : ℕ) (x y : Node) (old new : BrokerTierView) (c : Scene) → SoundPartition brokers h → PartitionMatches h p
     → length h.nodes ≤ length broker_tiers → slice_get h.nodes b ≡ Some x → q.brokers ≡ map broker_of (slice_set h.nodes b y) → c.tier_views ≡ slice_set (tier_views_of h.nodes broker_tiers) b old
     → BrokerTierGoes old new (broker_of x) (broker_of y) → BrokerTiersFollow (slice_set (tier_views_of h.nodes broker_tiers) b new) c p q

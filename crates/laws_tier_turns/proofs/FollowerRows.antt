@@ -1,4 +1,4 @@
--- Turns of a follower's commands: no local start rises, but where a rebuild begins a log anew.
+-- Turns of a follower's commands: no local start rises, but where a rebuild restarts a log.
 use Rattle.std.proofs.Common.{◌≡◌, refl, ℕ, Some, false, slice_get, arith}
 use Rattle.plain_log.specs.declared.answer.Answer.{Answer}
 use Rattle.plain_log.specs.declared.answer.Answer.TheVariants.{Down, NotFollower, NotJoined, StaleEpoch, NoLeader, Cut, DiskFaultAt, Stopped, Passed, BelowStart, MetaFault, StoreFault, Damaged, Rebuilt, Level, Moved, DiskFault, TooManySegments, Copied, Kept, Dropped}

@@ -1,4 +1,4 @@
--- The sides of a fresh partition are those of a fresh tier.
+-- The tier states of a fresh partition are those of a fresh tier.
 use Rattle.std.proofs.Common.{◌≡◌, ap, refl, ℕ, zero, suc, ◌-◌, List, [], ◌∷◌, arith}
 use Rattle.std.specs.Prelude.{replicate}
 use Rattle.plain_log.specs.declared.state.Role.TheVariants.{Joined}

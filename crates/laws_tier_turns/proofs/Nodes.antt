@@ -42,8 +42,8 @@ start_above x = go x.loose
     go None = omega arith
     go (Some back) = omega arith
 
--- a node follows a turn: its local start doesn't rise, and lies within the log, where that is one; it stays where the node
--- leads on; and the log was opened as often, while the node is no more up than before, or more often
+-- a node follows a turn: its local start doesn't rise, and lies within the log, where that is one; it stays where the
+-- node still leads; and the log was opened as often, while the node is no more up than before, or more often
 pub record NodeGoes (x y : Node) : Type 0 where
   pub start : start_of y ≤ start_of x
   pub within : IsConsecutive 0 y.log.batches → start_of y ≤ end_of y.log.batches
@@ -107,7 +107,7 @@ node_cuts x e m s up = record {
     cut : start_of (cut_node x e m) ≡ min x.local (end_of (up_to m x.log.batches))
     cut = ap (greatest (min x.local (end_of (up_to m x.log.batches)))) (s.tight up)
 
--- a node that comes up
+-- a node that starts
 pub node_opens : (x : Node) (back : Back) (i : ℕ) → NodeSound x → x.up ≡ false → MayComeBack x back → x.incarnation < i → NodeGoes x (opened x back i)
 node_opens x back i s off may more = record {
   start = low may;

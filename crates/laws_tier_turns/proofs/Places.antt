@@ -1,15 +1,15 @@
--- Places in lists: of nodes, sides and sites that stand one beside another.
+-- Places in lists: of nodes, tier states and tier views that are one beside another.
 use Rattle.std.proofs.Common.{◌≡◌, ◌≢◌, ◌≤◌, ap, refl, ℕ, zero, suc, List, [], ◌∷◌, length, Some, slice_get, slice_set, arith}
 use Rattle.std.specs.Prelude.{map}
 use Rattle.laws_partition.specs.Seen.{Node}
 use Rattle.tier_safe.specs.Scene.{BrokerTierView}
 use Rattle.laws_tier_turns.specs.BrokerTiers.{BrokerTierModel, tier_view_of, tier_views_of}
 
--- what stands at a place is one
+-- what is at a place is one
 pub one_at : {A : Type 0} (xs : List A) (i : ℕ) (x y : A) → slice_get xs i ≡ Some x → slice_get xs i ≡ Some y → x ≡ y
 one_at xs i x y at to = cc (at, to)
 
--- what was written stands there
+-- what was written is there
 pub set_get : {A : Type 0} (xs : List A) (i : ℕ) (x y : A) → slice_get xs i ≡ Some x → slice_get (slice_set xs i y) i ≡ Some y
 set_get [] i x y at = absurd cc
 set_get (z ∷ xs) zero x y at = refl
@@ -52,7 +52,7 @@ beside (z ∷ xs) [] i x count at = absurd (omega (arith, count))
 beside (z ∷ xs) (y ∷ ys) zero x count at = (y, refl)
 beside (z ∷ xs) (y ∷ ys) (suc i) x count at = beside xs ys i x (omega (arith, count)) at
 
--- each site is that of a node and of a side
+-- each tier view is that of a node and of a tier state
 pub record IsBrokerTierAt (nodes : List Node) (broker_tiers : List BrokerTierModel) (b : ℕ) (tier_view : BrokerTierView) : Type 0 where
   pub node : Node
   pub node_at : slice_get nodes b ≡ Some node
@@ -78,7 +78,7 @@ tier_view_has (z ∷ nodes) (w ∷ broker_tiers) zero x broker_tier at beside =
     rw (one, two) refl
 tier_view_has (z ∷ nodes) (w ∷ broker_tiers) (suc b) x broker_tier at beside = tier_view_has nodes broker_tiers b x broker_tier at beside
 
--- a node's site is written with it
+-- a node's tier view is written with it
 pub tier_views_set : (nodes : List Node) (broker_tiers : List BrokerTierModel) (b : ℕ) (y : Node) (broker_tier : BrokerTierModel) → slice_get broker_tiers b ≡ Some broker_tier
     → tier_views_of (slice_set nodes b y) broker_tiers ≡ slice_set (tier_views_of nodes broker_tiers) b (tier_view_of y broker_tier)
 tier_views_set [] broker_tiers b y broker_tier at = refl
@@ -88,7 +88,7 @@ tier_views_set (z ∷ nodes) (w ∷ broker_tiers) zero y broker_tier at =
     ap (λ (s : BrokerTierModel). tier_view_of y s ∷ tier_views_of nodes broker_tiers) one
 tier_views_set (z ∷ nodes) (w ∷ broker_tiers) (suc b) y broker_tier at = ap (λ (ss : List BrokerTierView). tier_view_of z w ∷ ss) (tier_views_set nodes broker_tiers b y broker_tier at)
 
--- there are as many sites as nodes
+-- there are as many tier views as nodes
 pub tier_views_count : (nodes : List Node) (broker_tiers : List BrokerTierModel) → length nodes ≤ length broker_tiers → length (tier_views_of nodes broker_tiers) ≡ length nodes
 tier_views_count [] broker_tiers count = refl
 tier_views_count (x ∷ nodes) [] count = absurd (omega (arith, count))

@@ -194,7 +194,7 @@ restarts brokers h h' p q x y g answer order entry broker_tiers c a n rebuild t 
     tier_views : tier_views_of h'.nodes broker_tiers ≡ slice_set (tier_views_of h.nodes broker_tiers) b (tier_view_of y broker_tier)
     tier_views = ap (λ (ns : List Node). tier_views_of ns broker_tiers) nodes ∙ tier_views_set h.nodes broker_tiers b y broker_tier there.1
 
-    -- the side after the plain log's step: its local start is what it was
+    -- the tier state after the plain log's step: its local start is what it was
     between : BrokerTierView
     between = record (tier_view_of y broker_tier) { start = start_of x }
 

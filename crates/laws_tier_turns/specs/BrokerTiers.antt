@@ -1,6 +1,6 @@
--- A node with what its broker knows of the remote tier, as the broker's side of the tier's scene.
+-- A node with what its broker knows of the remote tier, as the broker's tier state of the tier's scene.
 --
--- The nodes of a partition and the sides of their brokers stand in two lists, one of each for a broker.
+-- The nodes of a partition and the tier states of their brokers are in two lists, one of each for a broker.
 use Rattle.std.specs.Prelude.{ℕ, ◌==◌, if◌then◌else◌, max, List, [], ◌∷◌, Option, Some, None}
 use Rattle.tier_base.specs.declared.names.SegmentId.{SegmentId}
 use Rattle.sparse_index.specs.Offsets.{OffsetTable}
@@ -29,7 +29,7 @@ greatest start (Some back) = max start back.2
 abbrev pub start_of : Node → ℕ
 start_of x = greatest x.local x.loose
 
--- a broker's side of the scene
+-- a broker's tier state of the scene
 abbrev pub tier_view_of : Node → BrokerTierModel → BrokerTierView
 tier_view_of x broker_tier = record {
   up = x.up;

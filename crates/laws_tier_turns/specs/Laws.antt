@@ -16,7 +16,7 @@ use Rattle.laws_tier_turns.specs.BrokerTiers.{BrokerTierModel, tier_views_of, fr
 use Rattle.laws_tier_turns.specs.TierTasks.{work_of, begun_after}
 use Rattle.laws_tier_turns.specs.Turns.{TurnStands, ShowsBrokerTiers, ShowsTask, may_raise, OwesTier, IsTurned}
 
--- where no local start may rise, the sides follow the turn, of whatever command
+-- where no local start may rise, the tier states follow the turn, of whatever command
 abbrev pub BrokerTiersFollowTurns : Type 0
 BrokerTiersFollowTurns = (brokers : ℕ) (h h' : SeenPartition) (p q : Plain) (x : Node) (snapshot : Option StartSnapshot) (turned : Turned) (order : Order)
     (entry : JournalEntry) (broker_tiers : List BrokerTierModel) (c : Scene)
@@ -24,7 +24,7 @@ BrokerTiersFollowTurns = (brokers : ℕ) (h h' : SeenPartition) (p q : Plain) (x
     → PlainSafe p → ShowsBrokerTiers h broker_tiers c → may_raise snapshot order.command turned ≡ false
     → BrokerTiersFollow (tier_views_of h'.nodes broker_tiers) c p q
 
--- the tier after a turn in seat a
+-- the tier after a turn in actor a's state
 abbrev pub after_turn : Scene → ℕ → Order → Turned → List BrokerTierModel → SeenPartition → Scene
 after_turn c a order turned broker_tiers h = record c {
   tier_views = tier_views_of h.nodes broker_tiers;
@@ -43,7 +43,7 @@ OwnTurnsChange = (brokers : ℕ) (h h' : SeenPartition) (p q : Plain) (x : Node)
 abbrev pub TurnsKeepSafe : Type 0
 TurnsKeepSafe = (c new : Scene) (p q : Plain) → IsTurned c p q new → BothSafe c p → BothSafe new q
 
--- the sides of a fresh partition are those of a fresh tier
+-- the tier states of a fresh partition are those of a fresh tier
 abbrev pub FreshTier : Type 0
 FreshTier = (brokers : ℕ)
     → tier_views_of (fresh_held brokers).nodes (replicate brokers fresh_broker_tier) ≡ replicate brokers fresh_tier_view

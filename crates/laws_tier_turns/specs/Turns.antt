@@ -37,18 +37,18 @@ pub record TurnStands (brokers : ℕ) (h h' : SeenPartition) (p q : Plain) (x : 
   pub event : entry.event ≡ event_of turned order.command
   pub is : step p order entry ≡ Some q
 
--- the scene shows these nodes and sides
+-- the scene shows these nodes and tier states
 pub record ShowsBrokerTiers (h : SeenPartition) (broker_tiers : List BrokerTierModel) (c : Scene) : Type 0 where
   pub count : length h.nodes ≤ length broker_tiers
   pub are : c.tier_views ≡ tier_views_of h.nodes broker_tiers
 
--- seat a shows a command of broker b that has begun with this, or not
+-- actor a's state shows a command of broker b that has begun with this, or not
 pub record ShowsTask (a b : ℕ) (command : Command) (snapshot : Option StartSnapshot) (c : Scene) : Type 0 where
   pub work : TierTask
   pub actor_state : slice_get c.desk a ≡ Some work
   pub is : KeepsTask b command snapshot work
 
--- a local start may rise: a trim drops a segment, a rebuild begins a log anew, or either fails on the disk
+-- a local start may rise: a trim drops a segment, a rebuild restarts a log, or either fails on the disk
 abbrev pub may_raise : Option StartSnapshot → Command → Turned → Bool
 may_raise (Some g) Trim (Answers (Dropped base last)) = true
 may_raise (Some g) Trim (Answers DiskFault) = true
@@ -56,7 +56,8 @@ may_raise (Some g) Join (Answers (Rebuilt n)) = true
 may_raise (Some g) Join (Answers (DiskFaultAt n)) = true
 may_raise snapshot command turned = false
 
--- a node's local start has not fallen, and what it has passed, from the log start on, is covered in the broker's view
+-- a node's local start has not fallen, and what it has passed, from the log start offset on, is covered in the broker's
+-- view
 pub record IsTrimmed (start : ℕ) (x y : Node) (broker_tier : BrokerTierModel) : Type 0 where
   pub rises : start_of x ≤ start_of y
   pub covered : (o : ℕ) → start ≤ o → start_of x ≤ o → o < start_of y

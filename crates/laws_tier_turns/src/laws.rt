@@ -3,7 +3,7 @@
 
 ghost use Rattle.laws_tier_turns.specs.Laws.{BrokerTiersFollowTurns, OwnTurnsChange, TurnsKeepSafe, FreshTier};
 
-/// Where no local start may rise, the brokers' sides follow the turn.
+/// Where no local start may rise, the brokers' tier states follow the turn.
 pub fn tier_views_follow()
     ensures { BrokerTiersFollowTurns }
 {}
@@ -18,7 +18,7 @@ pub fn turns_keep_safe()
     ensures { TurnsKeepSafe }
 {}
 
-/// The sides of a fresh partition are those of a fresh tier.
+/// The tier states of a fresh partition are those of a fresh tier.
 pub fn fresh_tier()
     ensures { FreshTier }
 {}

@@ -1,4 +1,4 @@
--- A search among the remote segments tells of damage where it reads a segment's log alone.
+-- A search among the remote segments reports damage where it reads a segment's log alone.
 use Rattle.std.proofs.Common.{◌≡◌, inl, inr, ◌∙◌, sym, ap, subst, refl, ℕ, ◌<◌, ◌≤◌, List, Option, Some, None, Ok, Err, arith}
 use Rattle.std.specs.declared.result.Result.{Result}
 use Rattle.std.specs.declared.alloc.AllocError.{AllocError}
@@ -68,7 +68,7 @@ passes_up asked line entries cursor at holds (Over start before piece passes bel
     let on = holds before piece found in
     omega (arith, up, on)
 
--- the view of all notes has a piece wherever a pass ends below the top
+-- the view of all metadata events has a piece wherever a pass ends below the top
 none_lacks : (c : Scene) (p : Plain) (a b : ℕ) (tier_view : BrokerTierView) (x : Broker) (stops epoch : ℕ) (asked : Asked) (line : List (ℕ × ℕ)) (cursor : ℕ) (s : store.Content) (n : meta.Content) (view : Seen)
     (cache : Cache) (after : Seen) → IsAtSearch c p a b tier_view x stops epoch asked line cursor Seek s n view cache → after ≡ view_of c.notes
     → IsChanged c p (after_turn c a b tier_view Free c.objects c.notes after) → SeeksNothing asked line after.entries cursor → ⊥
@@ -142,7 +142,7 @@ module _ {S M : Type 0} (objects : S → store.Content) (calls : S → Control s
   times_damage c p a b tier_view x stops epoch asked line cursor piece ns view cache old new (Some spot) place at h stood row =
       reads_damage c p a b tier_view x stops epoch asked line cursor piece ns view cache old new spot place at row.answer h stood row.gets row.times
 
-  -- what a fetch's turn tells of
+  -- what a fetch's turn says of
 
   indexes_damage : (asked : Asked) (line : List (ℕ × ℕ)) (cursor from : ℕ) (piece : Piece) (place : Place) (at : ℕ) (turn : Result FetchTurn AllocError) (old new : Tiers S M)
       (c : Scene) (p : Plain) (a b : ℕ) (tier_view : BrokerTierView) (x : Broker) (stops epoch : ℕ) → FetchRow objects calls notes notings (wanted_at asked from) line (fetch.Index piece) turn old new

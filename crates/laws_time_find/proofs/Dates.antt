@@ -14,7 +14,7 @@ use Rattle.plain_log.specs.RowsOfReads.{first_at}
 use Rattle.laws_partition.specs.Log.{IsRunOf}
 use Rattle.laws_time_find.specs.Passed.{AreEarly, HasPassed, StartHasPassed, PassedHasNone, PassedIsKept}
 
--- what stands in lists
+-- what is in lists
 
 pub in_front : {A : Type 0} (x : A) (xs ys : List A) → In x xs → In x (xs ++ ys)
 in_front x [] ys h = absurd h
@@ -66,7 +66,7 @@ in_beginning n xs ys b c there low = elim (in_either b xs ys there) [
   | inr h ↦ absurd (let k = in_below (end_from n xs) ys b (consecutive_back n xs ys c) h in omega (arith, k.0, low))
 ]
 
--- one that ends at or past it is behind
+-- one that ends at or past it is after
 pub in_rest : (n : ℕ) (xs ys : List (List ℕ)) (b : List ℕ) → IsConsecutive n xs → In b (xs ++ ys) → end_from n xs ≤ last_of b → In b ys
 in_rest n xs ys b c there high = elim (in_either b xs ys there) [
   | inl h ↦ absurd (let k = in_below n xs b c h in omega (arith, k.1, high))
@@ -149,14 +149,14 @@ all_below n (x ∷ xs) ys c =
     let up = end_above (last_of x + 1) xs c.1 in
     rw (lt-ltb (last_of x) (end_from (last_of x + 1) xs) (omega (arith, up))) (ap (λ (l : List (List ℕ)). x ∷ l) (all_below (last_of x + 1) xs ys c.1))
 
--- batches that end at or below a mark stand up to it
+-- batches that end at or below a mark are up to it
 pub up_to_front : (n m : ℕ) (xs ys : List (List ℕ)) → IsConsecutive n xs → end_from n xs ≤ m → up_to m (xs ++ ys) ≡ xs ++ up_to m ys
 up_to_front n m [] ys c le = refl
 up_to_front n m (x ∷ xs) ys c le =
     let up = end_above (last_of x + 1) xs c.1 in
     rw (lt-ltb (last_of x) m (omega (arith, up, le))) (ap (λ (l : List (List ℕ)). x ∷ l) (up_to_front (last_of x + 1) m xs ys c.1 le))
 
--- batches of which the last ends past an offset: what is behind the front of them stays
+-- batches of which the last ends past an offset: what is after the front of them stays
 pub from_front : (s : ℕ) (xs ys : List (List ℕ)) (y : List ℕ) → s ≤ last_of y → from_offset s (xs ++ y ∷ ys) ≡ from_offset s xs ++ y ∷ ys
 from_front s [] ys y high = rw (le-ltb (last_of y) s high) refl
 from_front s (x ∷ xs) ys y high = elim (cases_lt (last_of x) s) [
@@ -186,7 +186,7 @@ none_early ts start (x ∷ xs) none = by (int_lt (max_ts_of x) ts) refl none (no
     by true is rest more = (is_lower (max_ts_of x) ts is, more rest)
     by false is rest more = absurd (cc (rest))
 
--- behind early ones it is that of what comes behind
+-- after early ones it is that of what comes after
 pub first_behind : (ts : ℤ) (start : ℕ) (xs ys : List (List ℕ)) → AreEarly ts xs → first_at ts start (xs ++ ys) ≡ first_at ts start ys
 first_behind ts start [] ys all = refl
 first_behind ts start (x ∷ xs) ys all = rw (is_true (max_ts_of x) ts all.0) (first_behind ts start xs ys all.1)
@@ -210,7 +210,7 @@ early_append ts (x ∷ xs) ys all more = (all.0, early_append ts xs ys all.1 mor
 
 -- the laws
 
--- a search has gone through nothing at the log start
+-- a search has gone through nothing at the log start offset
 none_between : (start : ℕ) (log : List (List ℕ)) → from_offset start (up_to start log) ≡ []
 none_between start [] = refl
 none_between start (x ∷ log) = elim (cases_lt (last_of x) start) [
@@ -294,7 +294,7 @@ past offset (x ∷ log) first others is = elim (cases_lt (last_of x) offset) [
       let same : x ≡ first = cc (whole) in let last = ap last_of same in omega (arith, last, up))
 ]
 
--- the batches of a log on both sides of a run, where all in front of it from the log start on are too early
+-- the batches of a log on both sides of a run, where all in front of it from the log start offset on are too early
 record Around (ts : ℤ) (start offset mark : ℕ) (log run : List (List ℕ)) : Type 0 where
   pub front : List (List ℕ)
   pub rest : List (List ℕ)
@@ -339,7 +339,7 @@ around ts start offset limit mark stop log (first ∷ others) c h low m =
     lower : (b e o : ℕ) → b < e → e ≤ max 0 o → b < o
     lower b e o h k = omega (arith, h, k)
 
--- what is in front of it from the log start on
+-- what is in front of it from the log start offset on
 front_early : (ts : ℤ) (start n : ℕ) (front : List (List ℕ)) → IsConsecutive n front → ((b : List ℕ) → In b front → start ≤ last_of b → max_ts_of b <ℤ ts) → AreEarly ts (from_offset start front)
 front_early ts start n front c each =
     all_of (λ (b : List ℕ). max_ts_of b <ℤ ts) (from_offset start front) (λ b there. (let k = from_in start n front b c there in each b k.0 k.1))

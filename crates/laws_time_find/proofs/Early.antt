@@ -98,7 +98,7 @@ piece_within c p n x piece s bx r =
     let below = prefix_end shares.front x.log (s.brokers n x bx).log.consecutive shares.two in
     omega (arith, past, below)
 
--- going on
+-- continuing
 
 -- a search that has gone through up to one offset has up to another, where what ends between them is too early
 pub passed_more : (ts : ℤ) (start from to : ℕ) (log : List (List ℕ)) → IsConsecutive 0 log → HasPassed ts start log from → to ≤ end_of log

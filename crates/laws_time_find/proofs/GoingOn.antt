@@ -1,4 +1,4 @@
--- Where a search goes on, all before its cursor is too early, and the offset that it answers is the log's.
+-- Where a search continues, all before its cursor is too early, and the offset that it answers is the log's.
 use Rattle.std.proofs.Common.{◌≡◌, inl, inr, ◌∙◌, sym, ap, subst, refl, ℕ, ◌+◌, ◌<◌, ◌≤◌, min, max, Bool, true, false, cond, nat_lt, List, Some, None, Option, Ok, Err, arith}
 use Rattle.std.specs.Prelude.{ℤ}
 use Rattle.std.specs.declared.result.Result.{Result}
@@ -85,7 +85,7 @@ at_turn c p a b tier_view x stops epoch asked line cursor next s n view cache fr
       is_observable = h.is_observable;
     }
 
--- what a turn that goes on has: all before the cursor, and before where it reads on, is too early
+-- what a turn that continues has: all before the cursor, and before where it reads on, is too early
 abbrev Dated : Plain → Broker → Asked → ℕ → ℕ → SearchStep → Type 0
 Dated p x asked cursor at then = IsDatedTo asked.ts p.registry.start x.log at then × (cursor ≤ at) × (then ≡ Seek → cursor < at)
 
@@ -252,7 +252,7 @@ module _ {S M : Type 0} (objects : S → store.Content) (calls : S → Control s
 
   -- time indexes
 
-  -- where a search goes on, none of the bytes are lacking
+  -- where a search continues, none of the bytes are lacking
   none_lack : (end : Option ℕ) (asked : Asked) (cursor at : ℕ) (piece : Piece) (base : ℕ) (spot : Spot) (bytes : List ℕ) (then : SearchStep)
       → TimesBytes end asked cursor piece base spot bytes (Ok (Goes at then)) → IsTimed asked cursor piece base bytes (Goes at then)
   none_lack (Some end) asked cursor at piece base spot bytes then k = absurd (cc (k))
@@ -328,7 +328,7 @@ module _ {S M : Type 0} (objects : S → store.Content) (calls : S → Control s
       by (Ok (fetch.Goes next)) row k = absurd k
       by (Err e) row k = absurd (cc (k))
 
-  -- where a search goes on, all before its cursor is too early
+  -- where a search continues, all before its cursor is too early
   pub searches_go_on : SearchesGoOn objects calls notes notings
   searches_go_on asked line cursor at Seek then old new c p a b tier_view x stops epoch row below set h =
       seek_on c p a b tier_view x stops epoch asked line cursor at then (objects old.store) old.cache old.view new.view old.meta new.meta h below row.1.0 row.1.1

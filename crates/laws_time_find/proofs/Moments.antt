@@ -1,4 +1,4 @@
--- What a segment's time index tells of its batches, and that its bytes tell its entries.
+-- What a segment's time index says of its batches, and that its bytes give its entries.
 use Rattle.std.proofs.Common.{◌≡◌, inl, inr, ◌∙◌, sym, ap, subst, refl, ℕ, ◌+◌, ◌-◌, ◌^◌, ◌<◌, ◌≤◌, Bool, true, false, cond, List, [], ◌∷◌, ◌++◌, length, Some, None, Option, arith, append_assoc, append-nil}
 use Rattle.std.specs.Prelude.{ℤ, ◌<ℤ◌, ◌≤ℤ◌, int_lt, filter, FitsSigned}
 use Rattle.std.specs.Int.{w64, cast_signed}
@@ -156,7 +156,7 @@ times_tell base interval batches s =
     let marks = marked_by base interval (unmarked base) (placed_from 0 batches) in
     all_times (Tells base batches) base marks.moments marks.top k.0 (told_all base batches marks.top s.near k.1)
 
--- look-ups
+-- lookups
 
 last_in : {X : Type 0} (xs : List X) (x : X) → last_entry xs ≡ Some x → In x xs
 last_in [] x is = absurd (cc (is))

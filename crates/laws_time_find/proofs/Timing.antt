@@ -19,7 +19,7 @@ use Rattle.segment_file.proofs.Laying.{marked_append}
 use Rattle.segment_file.proofs.Placing.{placed_push}
 use Rattle.segment_file.proofs.Tracking.{last_moment, may_mark, tops_front}
 
--- a signed field fits, whatever stands there
+-- a signed field fits, whatever is there
 read_fits : (n : ℕ) → FitsSigned w64 (cast_signed w64 n)
 read_fits n = by (nat_lt n (2 ^ 63)) refl
   where

@@ -1,4 +1,4 @@
--- The turns of a search by timestamp as changes.
+-- The turns of a timestamp lookup as changes.
 use Rattle.std.proofs.Common.{◌≡◌, inl, inr, ◌∙◌, sym, ap, subst, refl, ℕ, ◌<◌, ◌≤◌, Bool, true, false, cond, List, Option, Some, None, Ok, Err, slice_get, arith}
 use Rattle.std.specs.Prelude.{ℤ, nat_lt}
 use Rattle.std.proofs.lemmas.Bool.{ltb-true}
@@ -80,7 +80,7 @@ as_turn c p a b tier_view x stops epoch asked line cursor next s n view cache of
 
 -- a piece is taken up
 
--- a search in a free seat may ask for an offset that its local log lacks
+-- a search in a free actor's state may ask for an offset that its local log lacks
 may_ask : (c : Scene) (p : Plain) (a b : ℕ) (tier_view : BrokerTierView) (x : Broker) (stops epoch : ℕ) (asked : Asked) (line : List (ℕ × ℕ)) (cursor : ℕ) (s : store.Content) (n : meta.Content) (view : Seen)
     (cache : Cache) (after : Seen) (at : ℕ) → IsAtSearch c p a b tier_view x stops epoch asked line cursor Seek s n view cache → at < top_in asked
     → MayAsk a (sought_of b stops epoch at fetch.Refresh) (after_turn c a b tier_view Free c.objects c.notes after) p
@@ -124,7 +124,7 @@ seeks c p a b tier_view x stops epoch asked line cursor s n view cache after (En
 
 -- a later offset of the piece
 
--- a piece that was found stands for each later offset in it
+-- a piece that was found represents each later offset in it
 may_skip : (c : Scene) (p : Plain) (a b : ℕ) (tier_view : BrokerTierView) (x : Broker) (stops epoch : ℕ) (asked : Asked) (line : List (ℕ × ℕ)) (cursor : ℕ) (piece : Piece) (s : store.Content) (n : meta.Content)
     (view : Seen) (cache : Cache) (from : ℕ) → IsAtSearch c p a b tier_view x stops epoch asked line cursor (Times piece) s n view cache → cursor ≤ from → from < piece.to
     → MaySkip a (sought_of b stops epoch cursor (fetch.Index piece)) from c p
@@ -228,7 +228,7 @@ module _ {S M : Type 0} (objects : S → store.Content) (calls : S → Control s
 
   -- reads of a time index
 
-  -- a turn that was answered, or wanted memory
+  -- a turn that was answered, or ran out of memory
   ends : (c : Scene) (p : Plain) (a b : ℕ) (tier_view : BrokerTierView) (x : Broker) (stops epoch : ℕ) (asked : Asked) (line : List (ℕ × ℕ)) (cursor : ℕ) (piece : Piece) (ns : meta.Content) (view : Seen)
       (cache : Cache) (old new : S) → IsAtSearch c p a b tier_view x stops epoch asked line cursor (Times piece) (objects old) ns view cache → (objects new).objects ≡ (objects old).objects
       → IsChanged c p (after_fetch c a b tier_view Free (objects new).objects ns.notes view cache)
@@ -243,7 +243,7 @@ module _ {S M : Type 0} (objects : S → store.Content) (calls : S → Control s
       let t = as_turn c p a b tier_view x stops epoch asked line cursor (Times piece) (objects old) ns view cache cursor (fetch.Index piece) h refl (omega arith) in
       halted objects calls notes notings c p a b tier_view x stops epoch (wanted_at asked cursor) line (fetch.Index piece) ns view cache cache old new t same refl
 
-  -- one whose answer is told
+  -- one whose answer is reported
   ends_as : (c : Scene) (p : Plain) (a b : ℕ) (tier_view : BrokerTierView) (x : Broker) (stops epoch : ℕ) (asked : Asked) (line : List (ℕ × ℕ)) (cursor : ℕ) (piece : Piece) (result : Result TimeTurn AllocError)
       (turn : TimeTurn) (ns : meta.Content) (view : Seen) (cache : Cache) (old new : S) → IsAtSearch c p a b tier_view x stops epoch asked line cursor (Times piece) (objects old) ns view cache
       → (objects new).objects ≡ (objects old).objects → search_work b stops epoch turn ≡ Free → result ≡ Ok turn

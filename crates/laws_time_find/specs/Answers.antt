@@ -1,7 +1,7 @@
--- What a search by timestamp comes to: it goes through its log batch by batch, and what it answers is the log's.
+-- What a timestamp lookup comes to: it goes through its log batch by batch, and what it answers is the log's.
 --
--- A remote segment whose entry tells of an earlier greatest timestamp has no batch that isn't too early, and up to
--- the batch that its time index shows there is none. A piece's batches are the log's, as far as it goes. So where the
+-- A remote segment whose entry describes an earlier greatest timestamp has no batch that isn't too early, and up to the
+-- batch that its time index shows there is none. A piece's batches are the log's, as far as it goes. So where the
 -- cursor comes to, all before it are too early, and the first batch of a run that isn't is the log's first.
 use Rattle.std.specs.Prelude.{◌≡◌, ◌⊎◌, ℕ, ◌<◌, ◌≤◌, List, Some, Ok}
 use Rattle.tier_base.specs.declared.plain.Part.{Part}
@@ -43,7 +43,7 @@ RunsAreSearched = (asked : Asked) (offset at limit : ℕ) (log run : List (List 
     → (IsSearched asked offset (joined run) (Ends (Offset at)) → first_at asked.ts asked.start (from_offset asked.start (up_to asked.mark log)) ≡ Some at)
     × (IsSearched asked offset (joined run) (Goes at Seek) → HasPassed asked.ts asked.start log at × (offset < at))
 
--- damage of the log of the segment that was to be read: it is told of the object that has it
+-- damage of the log of the segment that was to be read: it is reported of the object that has it
 pub record IsOfLog (asked : Asked) (next : SearchStep) (place : Place) : Type 0 where
   pub piece : Piece
   pub from : ℕ
@@ -55,7 +55,7 @@ pub record IsOfLog (asked : Asked) (next : SearchStep) (place : Place) : Type 0 
 
 module _ {S M : Type 0} (objects : S → store.Content) (calls : S → Control store_call.call_code)
     (notes : M → meta.Content) (notings : M → Control meta_call.call_code) where
-  -- where a turn goes on, all before its cursor is too early, and the cursor hasn't fallen; where the turn sought, or
+  -- where a turn continues, all before its cursor is too early, and the cursor hasn't fallen; where the turn sought, or
   -- searched a log, and comes to no piece, it has risen
   abbrev pub SearchesGoOn : Type 0
   SearchesGoOn =
@@ -74,7 +74,7 @@ module _ {S M : Type 0} (objects : S → store.Content) (calls : S → Control s
       → IsAtSearch c p a b tier_view x stops epoch asked line cursor next (objects old.store) (notes old.meta) old.view old.cache
       → offset_at p x asked.ts ≡ Some at
 
-  -- damage that a turn tells of is of a segment's log, which the turn was to read
+  -- damage that a turn reports is of a segment's log, which the turn was to read
   abbrev pub SearchDamageIsOfLogs : Type 0
   SearchDamageIsOfLogs =
       (asked : Asked) (line : List (ℕ × ℕ)) (cursor at : ℕ) (next : SearchStep) (place : Place) (old new : Tiers S M)

@@ -1,4 +1,4 @@
--- What a search by timestamp has gone through of its log.
+-- What a timestamp lookup has gone through of its log.
 use Rattle.std.specs.Prelude.{◌≡◌, ℕ, ◌≤◌, max, ℤ, ◌<ℤ◌, List, None}
 use Rattle.std.specs.List.{AllByRecursion}
 use mathlib.Core.List.{IsPrefix}
@@ -12,8 +12,8 @@ use Rattle.time_find.specs.declared.turn.SearchStep.TheVariants.{Seek, Times, In
 abbrev pub AreEarly : ℤ → List (List ℕ) → Type 0
 AreEarly ts batches = AllByRecursion (λ batch. max_ts_of batch <ℤ ts) batches
 
--- those of the batches from the log start on that end at or below an offset; it isn't past the log, but for the log
--- start
+-- those of the batches from the log start offset on that end at or below an offset; it isn't past the log, but for the
+-- log start offset
 pub record HasPassed (ts : ℤ) (start : ℕ) (log : List (List ℕ)) (offset : ℕ) : Type 0 where
   pub within : offset ≤ max start (end_of log)
   pub early : AreEarly ts (from_offset start (up_to offset log))
@@ -32,7 +32,7 @@ pub record IsDatedTo (ts : ℤ) (start : ℕ) (log : List (List ℕ)) (at : ℕ)
 
 -- the laws of it
 
--- it holds at the log start
+-- it holds at the log start offset
 abbrev pub StartHasPassed : Type 0
 StartHasPassed = (ts : ℤ) (start : ℕ) (log : List (List ℕ)) → HasPassed ts start log start
 
@@ -41,7 +41,7 @@ abbrev pub PassedHasNone : Type 0
 PassedHasNone = (ts : ℤ) (start mark cursor : ℕ) (log : List (List ℕ)) → HasPassed ts start log cursor → mark ≤ cursor
     → first_at ts start (from_offset start (up_to mark log)) ≡ None
 
--- it stays so as the log grows and the log start rises
+-- it stays so as the log grows and the log start offset rises
 abbrev pub PassedIsKept : Type 0
 PassedIsKept = (ts : ℤ) (start later offset : ℕ) (log more : List (List ℕ)) → HasPassed ts start log offset → IsPrefix log more
     → IsConsecutive 0 more → start ≤ later → HasPassed ts later more offset

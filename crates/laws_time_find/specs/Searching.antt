@@ -1,9 +1,9 @@
--- What the scene of the tier has of a search by timestamp that goes on.
+-- What the scene of the tier has of a timestamp lookup that continues.
 --
 -- A search that has taken up a piece is a fetch there, at its cursor, or at the offset from which it reads the piece.
--- One that hasn't keeps nothing. Whoever takes a turn tests first that its broker leads the epoch that it led when
--- the search began, without a stop between, that the cursor isn't below the log start, and that it is below the known
--- mark.
+-- One that hasn't keeps nothing. Whoever takes a turn tests first that its broker leads the epoch that it led when the
+-- search began, without a stop between, that the cursor isn't below the log start offset, and that it is below the
+-- known high watermark.
 use Rattle.std.specs.Prelude.{◌≡◌, ℕ, ◌^◌, ◌<◌, ◌≤◌, List, length, Some, Ok, Err, slice_get}
 use Rattle.std.specs.declared.result.Result.{Result}
 use Rattle.std.specs.declared.alloc.AllocError.{AllocError}
@@ -40,12 +40,13 @@ abbrev pub search_work : ℕ → ℕ → ℕ → TimeTurn → TierTask
 search_work broker stops epoch (Goes cursor next) = search_of broker stops epoch cursor next
 search_work broker stops epoch (Ends answer) = Free
 
--- after one that may have wanted memory, and then is taken again
+-- after one that may have run out of memory, and then is taken again
 abbrev pub search_after : ℕ → ℕ → ℕ → ℕ → SearchStep → Result TimeTurn AllocError → TierTask
 search_after broker stops epoch cursor next (Ok turn) = search_work broker stops epoch turn
 search_after broker stops epoch cursor next (Err e) = search_of broker stops epoch cursor next
 
--- actor a's search is at this turn, at broker b, in a tier that shows devices, view and cache, and the broker leads on
+-- actor a's search is at this turn, at broker b, in a tier that shows devices, view and cache, and the broker still
+-- leads
 pub record IsAtSearch (c : Scene) (p : Plain) (a b : ℕ) (tier_view : BrokerTierView) (x : Broker) (stops epoch : ℕ)
     (asked : Asked)
     (line : List (ℕ × ℕ)) (cursor : ℕ) (next : SearchStep) (objects : store.Content) (notes : meta.Content) (view : Seen) (cache : Cache)

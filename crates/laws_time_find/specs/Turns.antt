@@ -1,12 +1,13 @@
 -- That each turn of a search among the remote segments is changes of the tier.
 --
---   turn     changes where it goes on
+--   turn     changes where it continues
 --   Seek     Sees; where it has come to a piece, Asks and Finds too
 --   Times    Skips, or Leaves
 --   Index    Caches, Reads, or Leaves
 --   Log      Leaves
 --
--- A turn that is answered is what it changed and then Leaves. One that wanted memory may have taken some notes in.
+-- A turn that is answered is what it changed and then Leaves. One that ran out of memory may have taken some metadata
+-- events in.
 use Rattle.std.specs.Prelude.{ℕ, List}
 use Rattle.std.specs.declared.result.Result.{Result}
 use Rattle.std.specs.declared.alloc.AllocError.{AllocError}

@@ -36,7 +36,7 @@ commands =
 abbrev pub same : List ℕ → List ℕ → Bool
 same v w = pointwise nat_eq v w
 
--- one word stands before the other by their bytes
+-- one word precedes the other by their bytes
 abbrev pub stands_before : List ℕ → List ℕ → Bool
 stands_before v [] = false
 stands_before [] (b ∷ w) = true

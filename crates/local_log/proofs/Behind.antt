@@ -1,4 +1,4 @@
--- An append behind a roll: the open segment is synced and closed, and a new one is appended to.
+-- An append after a roll: the open segment is synced and closed, and a new one is appended to.
 use Rattle.std.proofs.Common.{◌≡◌, ◌∙◌, sym, subst, ℕ, ◌<◌, ◌≤◌, Bool, true, List, [], ◌∷◌, ◌++◌, IsTrue}
 use Rattle.std.proofs.lemmas.List.{append-nil}
 use Rattle.tier_base.specs.declared.plain.FileName.TheVariants as file

@@ -1,4 +1,4 @@
--- Bytes that are batches which were checked: what is read of a log is, and the head alone tells each batch of them.
+-- Bytes that are batches which were checked: what is read of a log is, and the head alone reports each batch of them.
 use Rattle.std.proofs.Common.{◌≡◌, ◌∙◌, ap, sym, subst, refl, ℕ, ◌+◌, ◌<◌, ◌≤◌, List, [], ◌∷◌, ◌++◌, length, drop, Ok, IsOk, arith, length-append}
 use Rattle.std.specs.List.{AllByRecursion}
 use Rattle.std.proofs.lemmas.List.{length-drop, drop-drop, drop_at}
@@ -49,7 +49,7 @@ module _ (run : List ℕ) (at : ℕ) (inside : at < length run) (a : AreChecked 
   abbrev first : FirstChecked (drop at run)
   first = first_checked (drop at run) (let n = length-drop at run in omega (arith, n, inside)) a
 
-  -- a head stands there
+  -- a head is there
   pub head_stands : IsOk (headed (drop at run))
   head_stands = let is = ap headed first.parts ∙ headed_batch first.batch first.more first.is in rw is refl
 

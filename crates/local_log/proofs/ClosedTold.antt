@@ -115,7 +115,7 @@ holder_low first offset (s ∷ closed) active chained laid last = go (nat_lt off
     go true t h = (omega (arith, up, h.0, chained.0), rw t (omega (arith, up, h.0)))
     go false t h = (omega (arith, up, h.0, chained.0), rw t h.1)
 
--- where a segment's batches stand in the log
+-- where a segment's batches are in the log
 pub record StandsAt (f : Files) (first : ℕ) (closed : List Grown) (active g : Grown) : Type 0 where
   pub before : List (List ℕ)
   pub after : List (List ℕ)

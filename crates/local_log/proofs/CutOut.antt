@@ -70,7 +70,7 @@ front_same (x ∷ xs) (y ∷ ys) cs ds l e =
     let rest = front_same xs ys cs ds (omega (arith, l)) others in
     (ap (λ z. z ∷ xs) first ∙ ap (λ zs. y ∷ zs) rest.0, rest.1)
 
--- a head is told by the bytes in front alone
+-- a head is identified by the bytes in front alone
 headed_kept : (xs ys : List ℕ) → 61 ≤ length xs → headed (xs ++ ys) ≡ headed xs
 unfolding headed
 headed_kept xs ys long = rw (head_kept xs ys long, head_front xs ys long) refl
@@ -83,7 +83,7 @@ headed_long xs head e = go (nat_lt (length xs) 61) refl
     go true t = absurd (cc (rw t at e))
     go false t = ltb-false (length xs) 61 t
 
--- what would pass the limit does with more bytes behind
+-- what would pass the limit does with more bytes after
 passes_more : (limit size : ℕ) (xs ys : List ℕ) → would_pass limit size (headed xs) ≡ true → would_pass limit size (headed (xs ++ ys)) ≡ true
 passes_more limit size xs ys pass = go (headed xs) refl
   where
@@ -99,11 +99,11 @@ batch_same x y cs ds okx oky e =
     let same : head_of x ≡ head_of y = same_head (head_of x) (head_of y) (sym one ∙ (ap (found_at 0) e ∙ two)) in
     front_same x y cs ds (sym (head_sized x okx) ∙ (ap size_in same ∙ head_sized y oky)) e
 
--- others go on behind these, and so do the bytes
+-- others continue after these, and so do the bytes
 abbrev Goes : List (List ℕ) → List (List ℕ) → List ℕ → List ℕ → Type 0
 Goes xs ys rest tail = (more : List (List ℕ)) × (ys ≡ xs ++ more) × (rest ≡ joined more ++ tail)
 
--- batches that follow at the front of bytes are the first of those that stand there
+-- batches that follow at the front of bytes are the first of those that are there
 fronts : (last : Option ℕ) (n offset bound : ℕ) (xs ys : List (List ℕ)) (rest tail : List ℕ) → ((x : List ℕ) → Follows last offset bound x → n < bound)
     → AreBatches last offset bound xs → AreChecked ys → IsConsecutive n ys → bound ≤ end_from n ys → joined xs ++ rest ≡ joined ys ++ tail → Goes xs ys rest tail
 fronts last n offset bound [] ys rest tail low are ok c up e = (ys, refl, e)
@@ -116,7 +116,7 @@ fronts last n offset bound (x ∷ xs) (y ∷ ys) rest tail low are ok c up e =
     let others = fronts (Some (last_of x + 1)) (last_of x + 1) offset bound xs ys rest tail (λ z f. (let b = f.begins in let l = f.below in omega (arith, b, l))) are.1 ok.1 c' up' (sym both.1) in
     (others.0, ap (λ z. z ∷ ys) both.0 ∙ ap (λ zs. x ∷ zs) others.1, others.2)
 
--- the batch behind a beginning ends at or below a later end
+-- the batch after a beginning ends at or below a later end
 next_below : (n : ℕ) (xs : List (List ℕ)) (m : List ℕ) (more ls : List (List ℕ)) → IsConsecutive n (xs ++ m ∷ more) → IsPrefix ls (xs ++ m ∷ more) → end_from n xs < end_from n ls → last_of m + 1 ≤ end_from n ls
 next_below n [] m more [] c p lt = absurd (omega (arith, lt))
 next_below n [] m more (l ∷ ls) c p lt =
@@ -362,7 +362,7 @@ module _ (f : Files) (line : List (ℕ × ℕ)) (g : Grown) (s : IsStored f line
         none : Goes bad.batches latter (bad.rest ++ behind) tail → ⊥
         none h = next h.0 h.1 h.2
 
-    -- the run in terms of the segment's batches, and of others behind them
+    -- the run in terms of the segment's batches, and of others after them
     pub record Told (cut : Cutout) (r : IsRun part offset limit mark piece cut) (beyond : List (List ℕ)) : Type 0 where
       pub rest : List (List ℕ)
       pub parts : from_offset offset (s.batches ++ beyond) ≡ r.first ∷ r.others ++ rest

@@ -5,7 +5,7 @@ use Rattle.segment_file.specs.Growing.{Grown, end_after, ending_by, AreLaid}
 use Rattle.local_log.specs.Stored.{end_of}
 use Rattle.local_log.specs.Taking.{HasFront}
 
--- behind where batches end nothing is kept
+-- after where batches end nothing is kept
 ending_none : (base at : ℕ) (rest : List Placed) → AreLaid base at rest → ending_by base rest ≡ []
 ending_none base at [] laid = refl
 ending_none base at (x ∷ rest) laid = rw (le-ltb x.last base laid.0) refl

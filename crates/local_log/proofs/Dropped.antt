@@ -90,7 +90,7 @@ opened_behind f incarnation start closed active line flushed_end = record {
   line = cut_end line (flushed_end + 1);
 }
 
--- the segments behind the first one
+-- the segments after the first one
 pub rest_are : (start flushed_end : ℕ) (closed : List Grown) (active : Grown) → IsFirstFlushed flushed_end closed → AreSegmentsOf start closed active → AreSegmentsOf (start_behind start closed) (rest_of closed) active
 rest_are start flushed_end [] active some are = absurd some
 rest_are start flushed_end (x ∷ xs) active some are = record {

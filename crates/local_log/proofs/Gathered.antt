@@ -50,7 +50,7 @@ pub lined_snoc : (line : List (ℕ × ℕ)) (bs : List (List ℕ)) (b : List ℕ
 lined_snoc line [] b = refl
 lined_snoc line (x ∷ bs) b = lined_snoc (snapshot line (epoch_of x) (base_of x)) bs b
 
--- the epochs behind the front don't fall
+-- the epochs after the front don't fall
 pub lined_rise : (line : List (ℕ × ℕ)) (front rest : List (List ℕ)) → EpochsRise (unwrap_or (last_epoch line) 0) (front ++ rest) → EpochsRise (unwrap_or (last_epoch (lined line front)) 0) rest
 lined_rise line [] rest h = h
 lined_rise line (b ∷ front) rest h =

@@ -1,4 +1,4 @@
--- Segments that end at or below an offset stand in front.
+-- Segments that end at or below an offset come first.
 use Rattle.std.proofs.Common.{◌≡◌, refl, ℕ, zero, suc, ◌<◌, ◌≤◌, Bool, true, false, List, [], ◌∷◌, ◌++◌, length, arith, nat_le, nat_lt, add-one, get_or}
 use Rattle.std.specs.List.{slice_get}
 use Rattle.std.proofs.lemmas.Bool.Decides.{nat_tests}

@@ -1,4 +1,4 @@
--- An error that is handed on.
+-- An error that is passed on.
 use Rattle.std.proofs.Common.{◌≡◌, Result, Ok, Err, IsErrAnd}
 use Rattle.std.specs.Prelude.{IsErrOf}
 

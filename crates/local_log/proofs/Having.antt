@@ -158,7 +158,7 @@ module _ (d : Content) (laws : Lawful d) (incarnation local_start : ℕ) (closed
           clear = λ t b other. has_kept.clear t b (each_left (λ (g : Grown). b ≢ g.base) segments (next ∷ []) other);
         }
 
-    -- all of the log is published, with a line that says the same below the end
+    -- all of the log is published, with leader epochs that says the same below the end
     module _ (are : AreSegmentsOf local_start closed active) (opened : 1 ≤ incarnation) (fits : incarnation < 2 ^ 32) (other : List (ℕ × ℕ)) (is : IsLine line) (is' : IsLine other) (same_line : cut_end other (end_of active) ≡ cut_end line (end_of active))
         (fate : Fate) (change : Publishes (file.Log active.base) (manifest_bytes (manifest_of incarnation local_start closed active other)) fate d d') where
       abbrev pub all : Manifest

@@ -1,4 +1,4 @@
--- The head at the front of bytes is that of the batch that stands there.
+-- The head at the front of bytes is that of the batch that is there.
 use Rattle.std.proofs.Common.{◌≡◌, ◌≢◌, ◌^◌, ◌∙◌, ap, sym, subst, refl, ℕ, zero, suc, ◌+◌, ◌-◌, ◌≤◌, ◌<◌, List, [], ◌∷◌, ◌++◌, length, drop, slice_index, Result, Ok, Err, IsOk, arith}
 use Rattle.std.specs.Int.{Width, w16, w32, w64, byte_len}
 use Rattle.std.proofs.lemmas.List.{take-append-le}
@@ -56,7 +56,7 @@ headed_batch batch more ok = go (checked batch) refl ok
     go (Ok b) e ok = headed_front batch more b e ∙ ap (λ (h : Head). Ok h) (head_front batch more (is_batch_of batch b e).long)
     go (Err why) e ok = absurd (cc)
 
--- the first batch's last offset and size are told by the bytes that it begins
+-- the first batch's last offset and size are reported by the bytes that it begins
 pub last_front : (batch more : List ℕ) → 61 ≤ length batch → last_of (batch ++ more) ≡ last_of batch
 unfolding base_of last_offset_delta_of
 last_front batch more long = rw (field_front w64 0 batch more (omega (arith, long)), field_front w32 23 batch more (omega (arith, long))) refl

@@ -64,7 +64,7 @@ pub epoch_same : (line other : List (ℕ × ℕ)) (o n : ℕ) → IsLine line �
 epoch_same line other o n is is' same lt =
     sym (epoch_cut other o n is' lt) ∙ ap (λ (l : List (ℕ × ℕ)). epoch_at l o) same ∙ epoch_cut line o n is lt
 
--- batches below it may stand by the other line too
+-- batches below it may be by the other line too
 pub placed_same : (line other : List (ℕ × ℕ)) (base n m : ℕ) (batches : List (List ℕ)) → IsLine line → IsLine other → cut_end other n ≡ cut_end line n
     → IsConsecutive m batches → end_from m batches ≤ n → Each (IsPlaced line base) batches → Each (IsPlaced other base) batches
 placed_same line other base n m [] is is' same c le h = tt

@@ -64,7 +64,7 @@ no_miss f line e batches bytes at s is miss =
         let both = consecutive_parts e.base miss.batches (b ∷ more) (subst (IsConsecutive e.base) parts s.consecutive) in
         miss.nothing b (joined more) rest placed.0 (consecutive_snoc e.base miss.batches b both.0 both.1.0)
 
--- what comes next, behind segments that are stored
+-- what comes next, after segments that are stored
 pub segments_next : (f : Files) (line : List (ℕ × ℕ)) (n : ℕ) (gs : List Grown) (e : Extent) (es : List Extent) (batches : List (List ℕ)) → AreChained n gs → Each (IsStored f line) gs
     → Segments f line n (map extent_of gs ++ e ∷ es) batches → (e.base ≡ chain_end n gs) × ((here : List (List ℕ)) × Segment f line e here)
 segments_next f line n [] e es batches c st s = (s.3, (s.0, s.4))

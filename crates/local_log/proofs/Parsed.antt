@@ -42,7 +42,7 @@ same_some (Some m) n e = ap (λ (k : ℕ). Some k) (eqb-true m n e)
 pub some_same : (o : Option ℕ) (n : ℕ) → o ≡ Some n → option_eq eqb o (Some n) ≡ true
 some_same o n e = ap (λ (x : Option ℕ). option_eq eqb x (Some n)) e ∙ eq-eqb n n refl
 
--- batches that may stand in a segment are laid one behind another
+-- batches that may be in a segment are laid one after another
 pub laid_placed : (line : List (ℕ × ℕ)) (base n at : ℕ) (bs : List (List ℕ)) → Each (IsPlaced line base) bs → IsConsecutive n bs → AreLaid n at (placed_from at bs)
 laid_placed line base n at [] h c = tt
 laid_placed line base n at (b ∷ bs) h c =
@@ -156,7 +156,7 @@ module _ (line : List (ℕ × ℕ)) (interval : ℕ) (e : Extent) (bytes : List 
         ((consecutive_parts e.base p.batches (batch ∷ []) consecutive).1.0 ∙ sym (parsing_end line interval e.base (take e.len bytes) segment p));
   }
 
--- what a head says of whether its batch may stand
+-- what a head says of whether its batch may exist
 module _ (line : List (ℕ × ℕ)) (base end : ℕ) where
   pub stands_next : (bytes : List ℕ) (at : ℕ) (head : Head) (batch : List ℕ) → IsOk (checked batch) → drop at bytes ≡ batch ++ drop (at + size_in head) bytes → Tells batch head
       → at + size_in head ≤ length bytes → MayStand line base end head → StandsNext line base bytes at end head

@@ -1,4 +1,4 @@
--- The segments of a log before and behind a cut.
+-- The segments of a log before and after a cut.
 use Rattle.std.proofs.Common.{◌≡◌, ◌∙◌, ap, subst, refl, inl, inr, ℕ, suc, ◌+◌, ◌^◌, ◌≤◌, ◌<◌, Bool, true, false, cond, List, [], ◌∷◌, ◌++◌, length, drop, take, get_or, arith, lt-ltb, le-ltb, Some, None, length-append}
 use Rattle.std.specs.Prelude.{nat_le}
 use Rattle.std.specs.List.{slice_get}
@@ -68,7 +68,7 @@ chain_from first (g ∷ gs) c laid =
     let up = end_up g.base 0 g.batches laid.0.laid in
     (omega (arith, c.0), each_map (λ x le. omega (arith, le, up, c.0)) gs (chain_from (end_of g) gs c.1 laid.1))
 
--- those behind begin past it
+-- those after begin past it
 pub behind_high : (first n : ℕ) (closed : List Grown) (active : Grown) → AreChained first (closed ++ active ∷ []) → Each IsLaidOut (closed ++ active ∷ []) → Each (λ g. n < g.base) (behind n closed active)
 behind_high first n [] active c laid = tt
 behind_high first n (g ∷ gs) active c laid = go (nat_le (end_of g) n) refl (behind_high (end_of g) n gs active c.1 laid.1)

@@ -19,7 +19,7 @@ use Rattle.local_log.proofs.Pieces.{stored_batches}
 use Rattle.local_log.proofs.Edges.{piece_ends, holder, holder_each, holder_same}
 use Rattle.local_log.proofs.RunsTold.{edge_told}
 
--- the entries of a line behind one start past it
+-- the entries of a line after one start past it
 pub rising_below : (entry : ℕ × ℕ) (line : List (ℕ × ℕ)) → IsLine (entry ∷ line) → Each (λ (e : ℕ × ℕ). entry.1 < e.1) line
 rising_below entry [] h = tt
 rising_below entry (next ∷ line) h =

@@ -13,7 +13,7 @@ use Rattle.segment_file.specs.Run.{Fits}
 use Rattle.segment_file.proofs.Joining.{consecutive_parts}
 use Rattle.local_log.specs.Reading.{position_of}
 
--- a list is its front and what stands behind
+-- a list is its front and what follows
 pub ending_parts : (n : ℕ) (bs : List Placed) → bs ≡ ending_by n bs ++ drop (length (ending_by n bs)) bs
 ending_parts n [] = refl
 ending_parts n (b ∷ bs) = go (nat_lt b.last n) refl (ending_parts n bs)
@@ -40,7 +40,7 @@ begins_there g offset position is = record {
   before = λ le. ending_low g.base offset g.batches le;
 }
 
--- the first behind those that end by an offset holds it
+-- the first after those that end by an offset holds it
 pub first_holds : (n : ℕ) (bs : List Placed) (b : Placed) (more : List Placed) → drop (length (ending_by n bs)) bs ≡ b ∷ more → nat_lt b.last n ≡ false
 first_holds n [] b more e = absurd (cc (e))
 first_holds n (x ∷ bs) b more e = go (nat_lt x.last n) refl (first_holds n bs b more)
@@ -74,7 +74,7 @@ one_false : (a b : Bool) → a ≡ true → (a && b) ≡ false → b ≡ false
 one_false true b h k = k
 one_false false b h k = absurd (cc (h))
 
--- behind batches of a run
+-- after batches of a run
 run_needs : (bound top end at : ℕ) (xs : List (List ℕ)) (m : List ℕ) (ms : List (List ℕ)) → IsConsecutive end (xs ++ m ∷ ms) → end_from end xs < bound → last_of m + 1 ≤ bound → (xs ≢ [] → at + length (joined xs) ≤ top)
     → Needs top (at + length (joined xs)) m (run_reach bound top end at (placed_from at (xs ++ m ∷ ms)))
 run_needs bound top end at [] m ms c lt le fit = go (nat_lt (last_of m) bound && nat_le (at + length m) top) refl
@@ -105,7 +105,7 @@ run_needs bound top end at (x ∷ xs) m ms c lt le fit =
     let same : at + length (joined (x ∷ xs)) ≡ at + length x + length (joined xs) = omega (arith, size) in
     rw (both, same) (run_needs bound top (last_of x + 1) (at + length x) xs m ms c.1 lt le (λ some. omega (arith, all, size)))
 
--- bytes are enough for the batch behind these, or for its head where it would pass the limit
+-- bytes are enough for the batch after these, or for its head where it would pass the limit
 abbrev pub Enough : ℕ → List (List ℕ) → List ℕ → ℕ → Type 0
 Enough limit xs m most =
     (length (joined xs) + length m ≤ most)

@@ -13,7 +13,7 @@ pub breaks : (t : Trouble) (r : Trouble) (new old : Bool) → (t ≡ fault.Faile
 breaks fault.Failed r new old f m e = (f refl).1
 breaks fault.NoMemory r new old f m e = absurd (cc ((m refl).0, e))
 
--- want of memory leaves it
+-- running out of memory leaves it
 pub stays : (t : Trouble) (r : Trouble) (new old : Bool) → (t ≡ fault.Failed → (r ≡ fault.Failed) × (new ≡ true)) → (t ≡ fault.NoMemory → (r ≡ fault.NoMemory) × (new ≡ old)) → r ≡ fault.NoMemory → new ≡ old
 stays fault.Failed r new old f m e = absurd (cc ((f refl).0, e))
 stays fault.NoMemory r new old f m e = (m refl).1

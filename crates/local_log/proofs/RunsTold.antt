@@ -37,7 +37,7 @@ pub err_more : {T E : Type 0} (P Q : E → Type 0) (r : Result T E) → ((e : E)
 err_more P Q (Ok x) f h = tt
 err_more P Q (Err e) f h = f e h
 
--- an error that is handed on
+-- an error that is passed on
 pub err_on : {T E : Type 0} (P Q : E → Type 0) (r : Result T E) → ((e : E) → P e → Q e) → IsErrAnd r P → IfErr r Q
 err_on P Q (Ok x) f h = tt
 err_on P Q (Err e) f h = f e h

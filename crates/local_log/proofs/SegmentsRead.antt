@@ -107,13 +107,13 @@ module _ (d : Content) (line : List (ℕ × ℕ)) (interval start : ℕ) (done :
     stored = λ t. each_join (IsStored d.files line) segments (segment ∷ []) (r.stored t) (s.stored t, tt);
   }
 
-  -- where the files have all batches it stands there
+  -- where the files have all batches it is there
   pub next_stands : IsTrue d.is_observable → (rest : List Extent) (batches : List (List ℕ)) → Segments d.files line start (done ++ e ∷ rest) batches
       → (e.base ≡ chain_end start segments) × ((here : List (List ℕ)) × Segment d.files line e here)
   next_stands t rest batches s =
       segments_next d.files line start segments e rest batches r.chained (r.stored t) (subst (λ (x : List Extent). Segments d.files line start (x ++ e ∷ rest) batches) (sym r.are) s)
 
-  -- where it isn't read, this is the first place of the manifest's segments that has no reading
+  -- where it isn't read, this is the first place of the manifest's segments that is invalid
   pub read_fails_in : (m : Manifest) (f : Files) (rest : List Extent) (why : OpenRefusal) → m.line ≡ line → m.local_start ≡ start → m.segments ≡ done ++ e ∷ rest → IsTrue d.is_observable → bytes_in (f (file.Log e.base)) ≡ log_at d.files e
       → SegmentFails line (chain_end start segments) e (log_at f e) why → ReadFailsIn d.files m why
   read_fails_in m f rest DiskFault lines starts parts t same fails = tt
@@ -137,11 +137,11 @@ parse_fails line end e bytes (Damaged name at) is fails = (fails.0, inr (is, fai
 parse_fails line end e bytes LastIncarnation is fails = absurd fails
 parse_fails line end e bytes NoMemory is fails = tt
 
--- what was handed of a segment that was read
+-- what was returned of a segment that was read
 pub reads_to : (line : List (ℕ × ℕ)) (interval : ℕ) (e : Extent) (bytes : List ℕ) (segment : Grown) → IsParsed line interval e bytes segment → ReadsTo line e bytes (end_of segment)
 reads_to line interval e bytes segment p = record { batches = p.batches; fronts = p.fronts; long = p.long; end_is = parsed_end line interval e bytes segment p }
 
--- a segment isn't read, behind those that were
+-- a segment isn't read, after those that were
 pub not_read : (m : Manifest) (done : List Extent) (e : Extent) (rest : List Extent) (end : ℕ) (before last_read : List ℕ) (why : OpenRefusal) → IsManifest m → m.segments ≡ done ++ e ∷ rest
     → LastRead m.line m.local_start done end before → (e.base ≢ end → last_read ≡ before) → SegmentFails m.line end e last_read why → ReadFails m last_read why
 not_read m done e rest end before last_read DiskFault rules parts last early fails = tt

@@ -1,4 +1,4 @@
--- The files behind an end of a log at or past the flushed one are removed, and the last one is cut to it. No image opens
+-- The files after an end of a log at or past the flushed one are removed, and the last one is cut to it. No image opens
 -- otherwise than before.
 use Rattle.std.proofs.Common.{◌≡◌, ◌≢◌, ◌⊎◌, ℕ, ◌≤◌, ◌<◌, List, [], ◌∷◌, ◌++◌, length, take, map, Option, Some, None, refl, sym, ◌∙◌, ap, subst, inl, inr, ⊎_elim, arith, IsTrue}
 use Rattle.std.proofs.lemmas.List.{map-append, take-take, take_all, length-take-le}
@@ -65,7 +65,7 @@ in_or_out b (g ∷ gs) = elim (cases_name (file.Log b) (file.Log g.base)) [
   | inr ne ↦ ⊎_elim (λ named. inl (inr named)) (λ out. inr (λ e. ne (ap file.Log e), out)) (in_or_out b gs)
 ]
 
--- the last segment isn't behind the cut
+-- the last segment isn't after the cut
 pub last_apart : (base n : ℕ) (later : List Grown) → base ≤ n → Each (λ g. n < g.base) later → In (file.Log base) (names_of later) → ⊥
 last_apart base n later le high named =
     let h = in_names (file.Log base) n later high named in

@@ -39,7 +39,7 @@ ending_placed n at (b ∷ bs) = go (nat_lt (last_of b) n) (ending_placed n (at +
     go true h = ap (λ (l : List Placed). placed at b ∷ l) h
     go false h = refl
 
--- a segment below the cut is stored by the line that is cut
+-- a segment below the cut is stored by the leader epochs that are cut
 pub stored_below : (f : Files) (line other : List (ℕ × ℕ)) (n : ℕ) (g : Grown) → IsLine line → IsLine other → cut_end other n ≡ cut_end line n → IsStored f line g → end_of g ≤ n → IsStored f other g
 stored_below f line other n g is is' same s le = record {
   batches = s.batches;

@@ -1,4 +1,4 @@
--- Batches whose epochs the line gives, and the first one whose epoch it doesn't.
+-- Batches whose epochs the leader epochs give, and the first one whose epoch it doesn't.
 use Rattle.std.proofs.Common.{◌≡◌, ◌≢◌, ◌∙◌, ap, sym, refl, subst, ℕ, ◌+◌, ◌^◌, ◌<◌, ◌≤◌, ◌==◌, nat_lt, nat_le, Bool, true, false, List, [], ◌∷◌, ◌++◌, length, drop, Option, Some, None, IsOk, Ok, arith, append_assoc, length-append}
 use Rattle.std.specs.Prelude.{unwrap_or}
 use Rattle.std.specs.List.{AllByRecursion}
@@ -86,7 +86,7 @@ stretch_gives line a e top is one o le lt = go (end_of line e top) refl
     go None none = let less = rw none at lt in absurd (omega (arith, less, le))
     go (Some z) two = epoch_given line a o e z top is one two le (rw two at lt)
 
--- batches that may stand in a segment have the line's epochs
+-- batches that may be in a segment have the line's epochs
 pub placed_given : (line : List (ℕ × ℕ)) (base : ℕ) (batches : List (List ℕ)) → Each (IsPlaced line base) batches → Each (IsOfLine line) batches
 placed_given line base [] placed = tt
 placed_given line base (b ∷ batches) placed = (placed.0.epoch, placed_given line base batches placed.1)

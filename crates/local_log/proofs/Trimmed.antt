@@ -163,7 +163,7 @@ module _ (names : List FileName) (base len : ℕ) (apart : In (Log base) names �
           );
     }
 
--- removals that failed, told of more files
+-- removals that failed, reported of more files
 pub removes_wider : (front names : List FileName) (fate other : Fate) (d d' : Content) → (other ≡ Went → ⊥) → RemovesAll names fate d d' → RemovesAll (front ++ names) other d d'
 removes_wider front names fate other d d' not h = record {
   is_observable = h.is_observable;

@@ -1,4 +1,4 @@
--- Whether bytes are batches that a log may take, told from the front on.
+-- Whether bytes are batches that a log may take, reported from the front on.
 --
 -- A spot is a place in the bytes with what is asked of the batch there: where it must begin, a base and so many offsets
 -- further on, and the epoch that its own must not be below.
@@ -25,7 +25,7 @@ pub record AreTaken (end epoch : ℕ) (bytes : List ℕ) : Type 0 where
 abbrev pub AreFrom : List ℕ → Spot → Type 0
 AreFrom run spot = AreTaken (spot.base + spot.more) spot.epoch (drop spot.at run)
 
--- the spot at the front of bytes that are to go behind a log of this end and line
+-- the spot at the front of bytes that are to go after a log of this end and line
 abbrev pub spot_behind : ℕ → List (ℕ × ℕ) → Spot
 spot_behind end line = record { at = 0; base = end; more = 0; epoch = unwrap_or (last_epoch line) 0 }
 
@@ -35,7 +35,7 @@ pub record Meets (spot : Spot) (head : Head) : Type 0 where
   pub rises : spot.epoch ≤ cast_unsigned w32 head.leader_epoch
   pub fits : cast_unsigned w32 head.leader_epoch < 2 ^ 31
 
--- the spot behind a batch of this head, which stands at a place
+-- the spot after a batch of this head, which is at a place
 abbrev pub spot_after : ℕ → Head → Spot
 spot_after at head = record {
   at = at + size_in head;
@@ -44,7 +44,7 @@ spot_after at head = record {
   epoch = cast_unsigned w32 head.leader_epoch;
 }
 
--- a batch stands at a spot, the next spot is behind it, and nothing else is asked
+-- a batch is at a spot, the next spot is after it, and nothing else is asked
 pub record GoesOn (run : List ℕ) (spot next : Spot) : Type 0 where
   pub further : spot.at < next.at
   pub inside : next.at ≤ length run

@@ -29,7 +29,7 @@ abbrev pub open_by : ℕ → List Grown → Grown → Grown
 open_by end [] active = active
 open_by end (segment ∷ segments) active = if nat_le (end_of segment) end then open_by end segments active else segment
 
--- the segments behind that one: they are removed
+-- the segments after that one: they are removed
 abbrev pub behind : ℕ → List Grown → Grown → List Grown
 behind end [] active = []
 behind end (segment ∷ segments) active =
@@ -54,7 +54,7 @@ module _ {D : Type 0} where
     active = front_to end (open_by end log.closed log.active);
   }
 
-  -- stable up to one of its ends
+  -- flushed up to one of its ends
   abbrev pub settled : Log D → ℕ → Log D
   settled log end = record log { flushed_end = end }
 
@@ -62,7 +62,7 @@ module _ {D : Type 0} where
   abbrev pub cut : Log D → ℕ → Log D
   cut log end = record (shortened log end) { flushed_end = end }
 
-  -- empty at an offset, and all of it is flushed, with this line
+  -- empty at an offset, and all of it is flushed, with these leader epochs
   abbrev pub restarted : Log D → ℕ → List (ℕ × ℕ) → Log D
   restarted log start line = record log {
     local_start = start;

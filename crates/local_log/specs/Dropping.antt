@@ -7,7 +7,7 @@ use Rattle.log_steps.specs.Opens.{Opens}
 use Rattle.local_log.specs.Stored.{end_of}
 use Rattle.local_log.specs.Log.{Log, OpensFlushed, flushed_log}
 
--- the first of some segments, and those behind it
+-- the first of some segments, and those after it
 abbrev pub first_of : List Grown → List Grown
 first_of [] = []
 first_of (first ∷ rest) = first ∷ []
@@ -16,7 +16,7 @@ abbrev pub rest_of : List Grown → List Grown
 rest_of [] = []
 rest_of (first ∷ rest) = rest
 
--- where those behind it begin
+-- where those after it begin
 abbrev pub start_behind : ℕ → List Grown → ℕ
 start_behind start [] = start
 start_behind start (first ∷ rest) = end_of first

@@ -1,6 +1,7 @@
--- Whether the line gives the epochs of batches that were read.
+-- Whether the leader epochs give the epochs of batches that were read.
 --
--- A batch's checksum doesn't cover its epoch. So a batch is the log's where the line gives that epoch at its base.
+-- A batch's checksum doesn't cover its epoch. So a batch is the log's where the leader epochs give that epoch at its
+-- base.
 use Rattle.std.specs.Prelude.{◌≡◌, ◌≢◌, ℕ, ◌≤◌, ◌<◌, List, ◌∷◌, ◌++◌, length, Some, IsOk}
 use Rattle.log_terms.specs.Batch.{base_of, epoch_of}
 use Rattle.log_terms.specs.Line.{epoch_at}
@@ -9,11 +10,11 @@ use Rattle.record_batch.specs.Check.{checked}
 use Rattle.log_steps.specs.Fronts.{Each}
 use Rattle.local_log.specs.declared.epochs.Stretch.{Stretch}
 
--- the line gives the batch's epoch at its base
+-- the leader epochs give the batch's epoch at its base
 abbrev pub IsOfLine : List (ℕ × ℕ) → List ℕ → Type 0
 IsOfLine line batch = epoch_at line (base_of batch) ≡ Some (epoch_of batch)
 
--- the first of the batches whose epoch the line doesn't give stands there, in bytes from the first batch on
+-- the first of the batches whose epoch the line doesn't give is there, in bytes from the first batch on
 pub record StraysAt (line : List (ℕ × ℕ)) (batches : List (List ℕ)) (at : ℕ) : Type 0 where
   pub before : List (List ℕ)
   pub batch : List ℕ
@@ -29,11 +30,11 @@ pub record IsRow (bytes : List ℕ) : Type 0 where
   pub bytes_are : bytes ≡ joined batches
   pub are : Each (λ (batch : List ℕ). IsOk (checked batch)) batches
 
--- the line gives this from one offset up to another
+-- the leader epochs give this from one offset up to another
 abbrev pub Gives : List (ℕ × ℕ) → Stretch → Type 0
 Gives line stretch = (offset : ℕ) → stretch.from ≤ offset → offset < stretch.end → epoch_at line offset ≡ stretch.epoch
 
--- the front of the bytes is batches whose epochs the line gives
+-- the front of the bytes is batches whose epochs the leader epochs give
 pub record ArePassed (line : List (ℕ × ℕ)) (bytes : List ℕ) (at : ℕ) : Type 0 where
   pub front : List (List ℕ)
   pub rest : List (List ℕ)

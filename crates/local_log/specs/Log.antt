@@ -36,7 +36,7 @@ pub record AreSettings (settings : Settings) : Type 0 where
   pub segment_high : settings.segment_bytes ≤ 16777216
   pub interval_high : settings.index_interval ≤ 16777216
 
--- what opens so is a log up to an end; an entry of the line that starts at the end may be another
+-- what opens so is a log up to an end; an entry of the leader epochs that starts at the end may be another
 pub record IsUpTo (incarnation local_start end : ℕ) (all : List (List ℕ)) (line : List (ℕ × ℕ))
     (o : Opened) : Type 0 where
   pub incarnation_is : o.incarnation ≡ incarnation
@@ -54,7 +54,7 @@ module _ {D : Type 0} where
     line = cut_end log.line (log.flushed_end + 1);
   }
 
-  -- the flushed log; an entry of the line that starts at its end may be another
+  -- the flushed log; an entry of the leader epochs that starts at its end may be another
   abbrev pub IsFlushed : Log D → Opened → Type 0
   IsFlushed log o = IsUpTo log.incarnation log.local_start log.flushed_end log.batches log.line o
 
@@ -62,11 +62,11 @@ module _ {D : Type 0} where
   abbrev pub OpensFlushed : Log D → Files → Type 0
   OpensFlushed log c = (o : Opened) × Opens c o × IsFlushed log o
 
-  -- all of the log is flushed, with this line
+  -- all of the log is flushed, with these leader epochs
   abbrev pub committed : Log D → List (ℕ × ℕ) → Log D
   committed log line = record log { flushed_end = log.end; line = line }
 
-  -- the flushed log of before, or all of it with this line
+  -- the flushed log of before, or all of it with these leader epochs
   abbrev pub Committing : Log D → List (ℕ × ℕ) → Files → Type 0
   Committing log line c = OpensFlushed log c ⊎ OpensFlushed (committed log line) c
 

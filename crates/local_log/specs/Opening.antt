@@ -1,4 +1,4 @@
--- Why a log isn't opened, and what is told of one that is.
+-- Why a log isn't opened, and what is reported of one that is.
 --
 -- A log is opened under the incarnation after that of the manifest. A disk without a manifest opens as the empty log
 -- at 0 under incarnation 0.
@@ -39,14 +39,14 @@ SegmentFails line end e last_read (Damaged name at) =
 SegmentFails line end e last_read LastIncarnation = ⊥
 SegmentFails line end e last_read NoMemory = Unit {0}
 
--- what was handed is a segment's file, and its batches end there
+-- what was returned is a segment's file, and its batches end there
 pub record ReadsTo (line : List (ℕ × ℕ)) (e : Extent) (last_read : List ℕ) (end : ℕ) : Type 0 where
   pub batches : List (List ℕ)
   pub fronts : Fronts line e.base (take e.len last_read) batches []
   pub long : e.len ≤ length last_read
   pub end_is : end ≡ end_from e.base batches
 
--- the file of a segment of the manifest was handed, and has no batch at a place
+-- the file of a segment of the manifest was returned, and has no batch at a place
 pub record HasUnread (m : Manifest) (last_read : List ℕ) (name : FileName) (at : ℕ) : Type 0 where
   pub before : List Extent
   pub extent : Extent
@@ -55,7 +55,7 @@ pub record HasUnread (m : Manifest) (last_read : List ℕ) (name : FileName) (at
   pub named : name ≡ file.Log extent.base
   pub misses : HasNoBatchAt m.line extent last_read at
 
--- the file of a segment of the manifest was handed, and the next one doesn't begin where its batches end
+-- the file of a segment of the manifest was returned, and the next one doesn't begin where its batches end
 pub record HasGap (m : Manifest) (last_read : List ℕ) (name : FileName) (at : ℕ) : Type 0 where
   pub before : List Extent
   pub extent : Extent
@@ -68,7 +68,7 @@ pub record HasGap (m : Manifest) (last_read : List ℕ) (name : FileName) (at : 
   pub apart : next.base ≢ end
   pub place : at ≡ 0
 
--- a segment of a manifest has no reading at a place of its file
+-- a segment of a manifest is invalid at a place of its file
 abbrev pub MissesSegment : Manifest → List ℕ → FileName → ℕ → Type 0
 MissesSegment m last_read name at = HasUnread m last_read name at ⊎ HasGap m last_read name at
 
@@ -79,7 +79,7 @@ ReadFails m last_read (Damaged name at) = MissesSegment m last_read name at
 ReadFails m last_read LastIncarnation = ⊥
 ReadFails m last_read NoMemory = Unit {0}
 
--- the first place of a manifest's segments that has no reading in these files: those before its segment have one
+-- the first place of a manifest's segments that is invalid in these files: those before its segment have one
 pub record MissesIn (f : Files) (m : Manifest) (name : FileName) (at : ℕ) : Type 0 where
   pub before : List Extent
   pub extent : Extent
@@ -96,14 +96,14 @@ ReadFailsIn f m (Damaged name at) = MissesIn f m name at
 ReadFailsIn f m LastIncarnation = ⊥
 ReadFailsIn f m NoMemory = Unit {0}
 
--- the manifest of these files has no reading at a place
+-- the manifest of these files is invalid at a place
 pub record MissesManifest (f : Files) (name : FileName) (at : ℕ) : Type 0 where
   pub named : name ≡ file.Manifest
   pub bytes : List ℕ
   pub there : f file.Manifest ≡ Some bytes
   pub none : manifest_in bytes ≡ Err (Bad at)
 
--- the first place of these files that has no reading: of the manifest, or of the segments that it lists
+-- the first place of these files that is invalid: of the manifest, or of the segments that it lists
 abbrev pub IsDamage : Files → FileName → ℕ → Type 0
 IsDamage f name at = MissesManifest f name at ⊎ ((m : Manifest) × Says f m × MissesIn f m name at)
 
@@ -123,7 +123,7 @@ ListsFrom (Some bytes) extents = (m : Manifest) × (manifest_in bytes ≡ Ok m) 
 abbrev pub Lists : Files → List Grown → Type 0
 Lists f segments = ListsFrom (f file.Manifest) (map extent_of segments)
 
--- why a log wasn't opened, by what was handed last: the manifest has no reading at a place, or a segment that it lists
+-- why a log wasn't opened, by what was last returned: the manifest is invalid at a place, or a segment that it lists
 abbrev pub OpenFails : List ℕ → OpenRefusal → Type 0
 OpenFails last_read DiskFault = Unit {0}
 OpenFails last_read (Damaged name at) =

@@ -16,7 +16,7 @@ use Rattle.log_steps.specs.Opens.{IsPlaced}
 use Rattle.local_log.specs.declared.refusal.OpenRefusal.{OpenRefusal}
 use Rattle.local_log.specs.declared.refusal.OpenRefusal.TheVariants.{DiskFault, Damaged, LastIncarnation, NoMemory}
 
--- batches that may stand in a segment are the front of bytes
+-- batches that may be in a segment are the front of bytes
 pub record Fronts (line : List (ℕ × ℕ)) (base : ℕ) (bytes : List ℕ) (batches : List (List ℕ))
     (rest : List ℕ) : Type 0 where
   pub parts : bytes ≡ joined batches ++ rest
@@ -30,7 +30,7 @@ pub record IsParsed (line : List (ℕ × ℕ)) (interval : ℕ) (e : Extent) (by
   pub long : e.len ≤ length bytes
   pub segment_is : segment ≡ record { base = e.base; interval = interval; batches = placed_from 0 batches }
 
--- the segment isn't whole, and at this place of its bytes no batch stands that goes on
+-- the segment isn't whole, and at this place of its bytes no batch follows
 pub record HasNoBatchAt (line : List (ℕ × ℕ)) (e : Extent) (bytes : List ℕ) (at : ℕ) : Type 0 where
   pub batches : List (List ℕ)
   pub rest : List ℕ
@@ -54,14 +54,14 @@ pub record IsParsing (line : List (ℕ × ℕ)) (interval base : ℕ) (front : L
   pub fronts : Fronts line base front batches rest
   pub segment_is : segment ≡ record { base = base; interval = interval; batches = placed_from 0 batches }
 
--- a batch of this head may stand in a segment, behind batches that end there
+-- a batch of this head may be in a segment, after batches that end there
 pub record MayStand (line : List (ℕ × ℕ)) (base end : ℕ) (head : Head) : Type 0 where
   pub begins : cast_unsigned w64 head.base_offset ≡ end
   pub near : end + cast_unsigned w32 head.last_offset_delta - base < 2 ^ 31
   pub low : end + cast_unsigned w32 head.last_offset_delta < 2 ^ 62
   pub epoch : epoch_at line end ≡ Some (cast_unsigned w32 head.leader_epoch)
 
--- the batch of this head stands there and goes on
+-- the batch of this head is there and continues
 pub record StandsNext (line : List (ℕ × ℕ)) (base : ℕ) (bytes : List ℕ) (at end : ℕ) (head : Head) : Type 0 where
   pub batch : List ℕ
   pub parts : drop at bytes ≡ batch ++ drop (at + size_in head) bytes
@@ -70,7 +70,7 @@ pub record StandsNext (line : List (ℕ × ℕ)) (base : ℕ) (bytes : List ℕ)
   pub is_observable : Tells batch head
   pub inside : at + size_in head ≤ length bytes
 
--- no batch stands there that goes on
+-- no batch follows
 abbrev pub NothingNext : List (ℕ × ℕ) → ℕ → List ℕ → ℕ → ℕ → Type 0
 NothingNext line base bytes at end =
     (batch more : List ℕ) → drop at bytes ≡ batch ++ more → IsPlaced line base batch → base_of batch ≡ end → ⊥

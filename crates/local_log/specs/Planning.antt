@@ -63,7 +63,7 @@ abbrev pub FileFails : Option (List ℕ) → OpenRefusal → Type 0
 FileFails None why = IsDry why
 FileFails (Some bytes) why = PlanFails bytes why
 
--- why nothing was planned, by what was handed last
+-- why nothing was planned, by what was last returned
 abbrev pub StudyFails : List ℕ → OpenRefusal → Type 0
 StudyFails last_read DiskFault = Unit {0}
 StudyFails last_read (Damaged name at) = (name ≡ file.Manifest) × (manifest_in last_read ≡ Err (Bad at))
@@ -80,13 +80,13 @@ pub record AreRead (d : Content) (line : List (ℕ × ℕ)) (interval start : �
   pub low : chain_end start segments ≤ 2 ^ 62
   pub stored : IsTrue d.is_observable → Each (IsStored d.files line) segments
 
--- nothing was read yet, or the last segment's file was handed and its batches end there
+-- nothing was read yet, or the last segment's file was returned and its batches end there
 abbrev pub LastRead : List (ℕ × ℕ) → ℕ → List Extent → ℕ → List ℕ → Type 0
 LastRead line start extents end last_read =
     ((extents ≡ []) × (end ≡ start))
     ⊎ ((before : List Extent) × (e : Extent) × (extents ≡ before ++ e ∷ []) × ReadsTo line e last_read end)
 
--- a segment was read from its file, behind segments that end there
+-- a segment was read from its file, after segments that end there
 pub record IsRead (d : Content) (line : List (ℕ × ℕ)) (interval end : ℕ) (e : Extent) (segment : Grown) : Type 0 where
   pub begins : e.base ≡ end
   pub is : extent_of segment ≡ e

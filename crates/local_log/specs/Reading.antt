@@ -1,8 +1,8 @@
 -- What is read of a log: the run at an offset, and its closed segments.
 --
--- A run has the batch that holds the offset, and as many further ones as the mark and the limit allow. It lies in a
--- piece: in one segment, and before the next epoch starts. A start that is no batch's end ends no piece. The line
--- gives the epoch of each batch that is read.
+-- A run has the batch that holds the offset, and as many further ones as the high watermark and the limit allow. It
+-- lies in a piece: in one segment, and before the next epoch starts. A start that is no batch's end ends no piece. The
+-- line gives the epoch of each batch that is read.
 use Rattle.std.specs.Prelude.{◌≡◌, ℕ, ◌+◌, ◌<◌, ◌≤◌, ◌⊎◌, ◌==◌, ◌&&◌, nat_lt, min, Bool, true, false, if◌then◌else◌, List, [], ◌∷◌, ◌++◌, length, take, Option, Some, None, Result, Ok, Err, unwrap_or, slice_range}
 use Rattle.tier_base.specs.declared.plain.FileName.{FileName}
 use Rattle.tier_base.specs.declared.plain.FileName.TheVariants as file
@@ -47,12 +47,12 @@ piece_end [] segment offset = end_of segment
 piece_end (entry ∷ line) segment offset =
     if nat_lt offset entry.1 && is_edge segment entry.1 then entry.1 else piece_end line segment offset
 
--- behind so many bytes the next batch would pass the limit
+-- after so many bytes the next batch would pass the limit
 abbrev pub passes : ℕ → ℕ → List (List ℕ) → Bool
 passes limit size [] = false
 passes limit size (batch ∷ batches) = nat_lt limit (size + length batch)
 
--- a run was cut out of bytes, of a piece that ends there, and the line gives its batches' epochs
+-- a run was cut out of bytes, of a piece that ends there, and the leader epochs give its batches' epochs
 pub record IsCut (line : List (ℕ × ℕ)) (bytes : List ℕ) (offset limit mark piece : ℕ) (out : RunOut) : Type 0 where
   pub cut : Cutout
   pub is : IsRun bytes offset limit mark piece cut
@@ -61,7 +61,7 @@ pub record IsCut (line : List (ℕ × ℕ)) (bytes : List ℕ) (offset limit mar
   pub next_is : out.next ≡ cut.next
   pub stop_is : out.stop ≡ cut.stop
 
--- bytes have a run, and there stands its first batch whose epoch the line doesn't give
+-- bytes have a run, and there is its first batch whose epoch the line doesn't give
 pub record IsStray (line : List (ℕ × ℕ)) (bytes : List ℕ) (offset limit mark piece at : ℕ) : Type 0 where
   pub cut : Cutout
   pub is : IsRun bytes offset limit mark piece cut
@@ -69,13 +69,13 @@ pub record IsStray (line : List (ℕ × ℕ)) (bytes : List ℕ) (offset limit m
   pub strays : StraysAt line (is.first ∷ is.others) behind
   pub place : at ≡ cut.from + behind
 
--- bytes that stand at a position have no such run from this place on; those of an absent file have none at 0
+-- bytes that are at a position have no such run from this place on; those of an absent file have none at 0
 pub record HasNoRun (line : List (ℕ × ℕ)) (bytes : List ℕ) (offset limit mark piece position at : ℕ) : Type 0 where
   pub found : ℕ
   pub bad : IsBadAt bytes offset limit (min mark piece) found ⊎ IsStray line bytes offset limit mark piece found
   pub place : (at ≡ position + found) ⊎ ((bytes ≡ []) × (at ≡ 0))
 
--- the segment of this base and size is the front of bytes, and the line gives its batches' epochs
+-- the segment of this base and size is the front of bytes, and the leader epochs give its batches' epochs
 pub record IsFront (line : List (ℕ × ℕ)) (base size : ℕ) (bytes : List ℕ) (segment : Whole) : Type 0 where
   pub whole : IsWhole segment
   pub epochs : Each (IsOfLine line) whole.batches
@@ -83,7 +83,7 @@ pub record IsFront (line : List (ℕ × ℕ)) (base size : ℕ) (bytes : List �
   pub long : size ≤ length bytes
   pub bytes_are : segment.bytes ≡ take size bytes
 
--- the front of bytes is a segment, and there stands its first batch whose epoch the line doesn't give
+-- the front of bytes is a segment, and there is its first batch whose epoch the line doesn't give
 pub record HasStray (line : List (ℕ × ℕ)) (base size : ℕ) (bytes : List ℕ) (at : ℕ) : Type 0 where
   pub batches : List (List ℕ)
   pub is : IsSegment base batches
@@ -102,14 +102,14 @@ FrontFails line base size bytes (Damaged name at) = (name ≡ file.Log base) × 
 FrontFails line base size bytes DiskFault = ⊥
 FrontFails line base size bytes NoMemory = Unit {0}
 
--- why nothing was cut out of bytes that stand at a position of a segment's file
+-- why nothing was cut out of bytes that are at a position of a segment's file
 abbrev pub CutFails : List (ℕ × ℕ) → ℕ → ℕ → List ℕ → ℕ → ℕ → ℕ → ℕ → ReadRefusal → Type 0
 CutFails line base position bytes offset limit mark piece (Damaged name at) =
     (name ≡ file.Log base) × HasNoRun line bytes offset limit mark piece position at
 CutFails line base position bytes offset limit mark piece DiskFault = ⊥
 CutFails line base position bytes offset limit mark piece NoMemory = Unit {0}
 
--- the disk was read once, in this call, and what it handed was given or is the cause; without memory it may not have
+-- the disk was read once, in this call, and what it returned was given or is the cause; without memory it may not have
 -- been
 abbrev pub ReadOnce : {T : Type 0} → Result T ReadRefusal → Control call_code → Control call_code → Type 0
 ReadOnce (Ok x) old new = Ran Read Went old new
@@ -164,7 +164,7 @@ module _ {D : Type 0} where
   ClosedFails log offset last_read DiskFault = Unit {0}
   ClosedFails log offset last_read NoMemory = Unit {0}
 
-  -- the segment's batches stand in the log, from its base to its last offset
+  -- the segment's batches are in the log, from its base to its last offset
   pub record IsPartOf (log : Log D) (whole : Whole) : Type 0 where
     pub before : List (List ℕ)
     pub batches : List (List ℕ)
@@ -174,13 +174,13 @@ module _ {D : Type 0} where
     pub bytes_are : whole.bytes ≡ joined batches
     pub ends : end_from whole.base batches ≡ whole.last + 1
 
-  -- no batch ends at the mark, and this is where the one begins that holds it, or where the log ends
+  -- no batch ends at the high watermark, and this is where the one begins that holds it, or where the log ends
   pub record MissesMark (log : Log D) (mark : ℕ) (name : FileName) (at : ℕ) : Type 0 where
     pub missed : is_edge (segment_at log mark) mark ≡ false
     pub name_is : name ≡ file.Log (segment_at log mark).base
     pub place : at ≡ position_of (segment_at log mark) mark
 
-  -- a batch ends at the mark, and what was read from where the batch begins that holds the offset has no run
+  -- a batch ends at the high watermark, and what was read from where the batch begins that holds the offset has no run
   pub record MissesRun (log : Log D) (offset limit mark : ℕ) (last_read : List ℕ) (name : FileName)
       (at : ℕ) : Type 0 where
     pub edge : is_edge (segment_at log mark) mark ≡ true

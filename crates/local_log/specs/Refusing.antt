@@ -10,7 +10,7 @@ use Rattle.local_log.specs.declared.refusal.ReadRefusal.TheVariants as read
 use Rattle.local_log.specs.declared.refusal.OpenRefusal.{OpenRefusal}
 use Rattle.local_log.specs.declared.refusal.OpenRefusal.TheVariants.{DiskFault, Damaged, LastIncarnation, NoMemory}
 
--- the bytes that were handed aren't the cause
+-- the bytes that were returned aren't the cause
 abbrev pub IsSoundCause : OpenRefusal → Type 0
 IsSoundCause DiskFault = Unit {0}
 IsSoundCause (Damaged name at) = ⊥

@@ -1,8 +1,8 @@
 -- What a log takes of a run of batches, and where it rolls to a new segment.
 --
 -- The log rolls before an append where the open segment isn't empty and would pass the settings' segment_bytes, or
--- where the batch's last offset less the segment's base would pass 2,147,483,647. A batch larger than segment_bytes
--- stands alone in a segment.
+-- where the batch's last offset less the segment's base would pass 2,147,483,647. A batch larger than segment_bytes is
+-- alone in a segment.
 use Rattle.std.specs.Prelude.{◌≡◌, ◌≢◌, ℕ, ◌+◌, ◌-◌, ◌^◌, ◌==◌, ◌&&◌, ◌||◌, nat_lt, nat_le, Bool, false, if◌then◌else◌, List, [], ◌∷◌, ◌++◌, length, Option, Some, None, unwrap_or, IsOk}
 use Rattle.std.specs.Int.{w32}
 use Rattle.log_terms.specs.Batch.{field_at, base_of, last_of, epoch_of}
@@ -25,11 +25,11 @@ pub record IsRun (end : ℕ) (line : List (ℕ × ℕ)) (run : List ℕ) : Type 
   pub consecutive : IsConsecutive end batches
   pub epochs : EpochsRise (unwrap_or (last_epoch line) 0) batches
 
--- a batch of this size and last offset makes the log roll, behind so many bytes of a segment
+-- a batch of this size and last offset makes the log roll, after so many bytes of a segment
 abbrev pub rolls_before : ℕ → ℕ → ℕ → ℕ → ℕ → Bool
 rolls_before most base size len last = nat_lt 0 size && (nat_lt most (size + len) || nat_le (2 ^ 31) (last - base))
 
--- the first batches that stand in a segment, behind so many bytes of it, and end at or below 2^62
+-- the first batches that are in a segment, after so many bytes of it, and end at or below 2^62
 abbrev pub taking : ℕ → ℕ → ℕ → List (List ℕ) → List (List ℕ)
 taking most base size [] = []
 taking most base size (batch ∷ batches) =
@@ -67,7 +67,7 @@ module _ {D : Type 0} where
     active = record { base = log.end; interval = log.settings.index_interval; batches = [] };
   }
 
-  -- batches stand in the open segment
+  -- batches are in the open segment
   abbrev pub with_batches : Log D → List (List ℕ) → Log D
   with_batches log batches = record log {
     batches = log.batches ++ batches;
@@ -76,7 +76,7 @@ module _ {D : Type 0} where
     active = record log.active { batches = log.active.batches ++ placed_from (size_of log.active) batches };
   }
 
-  -- as many batches stand there as stand in one segment
+  -- as many batches are there as fit one segment
   abbrev pub with_first : Log D → List (List ℕ) → Log D
   with_first log batches =
       with_batches log (taking log.settings.segment_bytes log.active.base (size_of log.active) batches)

@@ -1,6 +1,6 @@
 -- The segments of a log in memory, and their batches on the disk.
 --
--- Memory keeps where each batch ends; its bytes stand in the segment's file.
+-- Memory keeps where each batch ends; its bytes are in the segment's file.
 use Rattle.std.specs.Prelude.{◌≡◌, ℕ, ◌-◌, List, [], ◌∷◌, ◌++◌, take, drop}
 use Rattle.tier_base.specs.declared.plain.FileName.TheVariants as file
 use Rattle.tier_base.specs.Told.{bytes_in}

@@ -13,7 +13,7 @@ use Rattle.local_log.specs.Stored.{size_of, end_of}
 use Rattle.local_log.specs.Listing.{IsLaidOut}
 use Rattle.local_log.specs.Run.{IsRun, taking, lined}
 
--- what a head tells of its batch
+-- what a head says of its batch
 abbrev pub head_asks : Head → Asked
 head_asks head = record {
   base = cast_unsigned w64 head.base_offset;
@@ -50,7 +50,7 @@ pub record IsGathering (old : Grown) (line : List (ℕ × ℕ)) (run : List ℕ)
   pub segment_is : segment ≡ grown_by old front
   pub line_is : line_or line newer ≡ lined line front
 
--- as many batches of a run as stand in a segment are in it
+-- as many batches of a run as fit a segment are in it
 pub record IsTakenIn (old new : Grown) (line : List (ℕ × ℕ)) (run : List ℕ) (most : ℕ)
     (taken : ℕ × Option (List (ℕ × ℕ))) : Type 0 where
   pub is : IsRun (end_of old) line run

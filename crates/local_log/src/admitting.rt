@@ -71,7 +71,7 @@ fn are_from(run: &[u8], first: Spot) -> bool
     true
 }
 
-/// The spot behind the batch that stands at one and meets what is asked there.
+/// The spot after the batch that is at one and meets what is asked there.
 fn next_spot(run: &[u8], spot: Spot) -> Option<Spot>
     requires { spot.at < length run.now }
     ensures some { IfSome result (λ next. GoesOn run.now spot next) }
@@ -103,7 +103,7 @@ fn checked_are_from(run: &[u8], first: Spot) -> bool
     true
 }
 
-/// The spot behind the checked batch that stands at one, where that batch meets what is asked there.
+/// The spot after the checked batch that is at one, where that batch meets what is asked there.
 fn next_checked(run: &[u8], spot: Spot) -> Option<Spot>
     requires inside { spot.at < length run.now }
     requires checked { AreChecked (drop spot.at run.now) }
@@ -137,7 +137,7 @@ fn meets(spot: Spot, head: &Head) -> bool
     epoch < EPOCHS
 }
 
-/// The spot behind a batch of this head, which stands at a place.
+/// The spot after a batch of this head, which is at a place.
 fn spot_after(at: usize, head: &Head) -> Spot
     requires { at + size_in head.now < 2 ^ 64 }
     ensures { result ≡ spot_after at head.now }

@@ -1,9 +1,9 @@
 //! Truncation of a log, durable when the call returns.
 //!
 //! The manifest is written first, so running out of memory for it changes nothing, and no crash leaves one that lists
-//! more than there is: the segment that will be the last one is synced, and then the manifest with the new end
-//! replaces the old one. After that the files behind the end are removed, from the last to the first, and the last
-//! one is cut. What a crash brings back of them is in no manifest.
+//! more than there is: the segment that will be the last one is synced, and then the manifest with the new end replaces
+//! the old one. After that the files after the end are removed, from the last to the first, and the last one is cut.
+//! What a crash brings back of them is in no manifest.
 
 ghost use Rattle.std.specs.Prelude.{◌≡◌, ◌⊎◌, ◌+◌, ◌≤◌, ◌<◌, ℕ, length, false, true, OnOk, OnErr, IfOk, IsErrOf, IsTrue};
 ghost use Rattle.disk_model.specs.Content.{LeavesOnly, Image, Files, Keeps};

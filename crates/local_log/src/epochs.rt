@@ -1,4 +1,4 @@
-//! Whether the line gives the epochs of batches that were read. A batch's checksum doesn't cover its epoch.
+//! Whether the leader epochs give the epochs of batches that were read. A batch's checksum doesn't cover its epoch.
 //!
 //! An epoch spans many batches, so the line is asked once for all of those that begin where one epoch reaches. The
 //! batches were checked, so that their heads alone are read.
@@ -14,7 +14,7 @@ use crate::run::head_at;
 use epoch_line::Line;
 use record_batch::Head;
 
-/// What the line gives from one offset up to another: an epoch, or none.
+/// What the leader epochs give from one offset up to another: an epoch, or none.
 #[derive(Clone, Copy)]
 pub(crate) struct Stretch {
     epoch: Option<u32>,
@@ -22,7 +22,7 @@ pub(crate) struct Stretch {
     end: u64,
 }
 
-/// Where the first batch stands whose epoch the line doesn't give.
+/// Where the first batch is whose epoch the line doesn't give.
 pub(crate) fn first_stray(bytes: &[u8], line: &Line) -> Option<usize>
     requires { IsRow bytes.now }
     ensures some { IfSome result (λ at. (are : IsRow bytes.now) → StraysAt line.now are.batches at) }
@@ -45,14 +45,14 @@ pub(crate) fn first_stray(bytes: &[u8], line: &Line) -> Option<usize>
     None
 }
 
-/// The bytes of the batch that a head tells.
+/// The bytes of the batch that a head gives.
 fn size_in(head: &Head) -> usize
     ensures { result ≡ size_in head.now }
 {
     12 + head.batch_length.cast_unsigned() as usize
 }
 
-/// Whether a stretch gives the epoch that a head tells.
+/// Whether a stretch gives the epoch that a head gives.
 fn gives(stretch: Stretch, head: &Head) -> bool
     ensures { IsTrue result ↔ stretch.epoch ≡ Some (cast_unsigned w32 head.now.leader_epoch) }
 {

@@ -38,7 +38,7 @@ fn extents(alloc: Global, closed: &[Growing], active: &Growing) -> Result<Segmen
     Ok(list)
 }
 
-/// The bytes of the manifest that lists all of a log, with this line.
+/// The bytes of the manifest that lists all of a log, with these leader epochs.
 pub(crate) fn listing(
     alloc: Global,
     incarnation: u32,

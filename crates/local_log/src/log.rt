@@ -158,8 +158,8 @@ impl<D: Disk> LocalLog<D> {
             → LeavesOnly (D.content disk) (D.content e.0) (Opening (D.content disk))) }
         ensures again { IfErr result (λ e. Reopens (D.content disk) → Reopens (D.content e.0)) }
 
-        // Each cause, by what the disk handed last. A fault of the manifest is told before the first change, and none
-        // of what the disk handed where what it reads opens.
+        // Each cause, by what the disk last returned. A fault of the manifest is reported before the first change, and
+        // none of what the disk returned where what it reads opens.
         ensures err { IfErr result (λ e. OpenFails (D.control e.0).last_read e.1) }
         ensures place { IfErr result (λ e. IsTrue (D.content disk).is_observable
             → OpenFailsIn (D.content disk).files e.1) }
@@ -205,7 +205,7 @@ impl<D: Disk> LocalLog<D> {
     pub fn stands(&self)
         ensures { self.now.broken ≡ false → (c : Files) → Image (D.content self.now.disk) c → OpensFlushed self.now c }
     {
-        // What is read of a log has what its type keeps told.
+        // What is read of a log has what its type keeps reported.
         let _ = &self.active;
     }
 
@@ -508,10 +508,11 @@ impl<D: Disk> LocalLog<D> {
         ensures durable { OnOk result ((c : Files) → Image (D.content self.new.disk) c
             → Opens c (flushed_log self.new)) }
 
-        // A crash at any moment of the call leaves the flushed log of before, or all of the log with this line.
+        // A crash at any moment of the call leaves the flushed log of before, or all of the log with these leader
+        // epochs.
         ensures any_moment { LeavesOnly (D.content self.old.disk) (D.content self.new.disk)
             (Committing self.old line) }
-        // Each of these images opens as an image of before does, or as all of the log with this line.
+        // Each of these images opens as an image of before does, or as all of the log with these leader epochs.
         ensures opens { LeavesOnly (D.content self.old.disk) (D.content self.new.disk)
             (OpensAsOr (D.content self.old.disk) (flushed_log (committed self.old line))) }
         // So it opens as before the call, or as after it, whatever the answer is.

@@ -248,7 +248,7 @@ fn read_segments<D: Disk>(
     Ok(segments)
 }
 
-/// Reads a segment behind those that end there.
+/// Reads a segment after those that end there.
 fn read_segment<D: Disk>(
     alloc: Global,
     disk: &mut D,

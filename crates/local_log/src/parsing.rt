@@ -27,7 +27,7 @@ pub(crate) fn damaged(base: u64, at: u64) -> OpenRefusal
     }
 }
 
-/// Reads the front of a file as a segment whose epochs the line gives.
+/// Reads the front of a file as a segment whose epochs the leader epochs give.
 pub(crate) fn parse(
     alloc: Global,
     extent: Extent,
@@ -52,7 +52,7 @@ pub(crate) fn parse(
     Ok(segment)
 }
 
-/// The head of the batch that stands at a place of a segment's bytes, behind batches that end there, and goes on.
+/// The head of the batch that is at a place of a segment's bytes, after batches that end there, and continues.
 fn next_head(bytes: &[u8], at: usize, end: u64, base: u64, line: &Line) -> Option<Head>
     requires inside { at ≤ length bytes.now }
     requires from_base { base ≤ end }
@@ -70,7 +70,7 @@ fn next_head(bytes: &[u8], at: usize, end: u64, base: u64, line: &Line) -> Optio
     }
 }
 
-/// Whether a batch of this head may stand in a segment, behind batches that end there.
+/// Whether a batch of this head may be in a segment, after batches that end there.
 fn may_stand(head: &Head, end: u64, base: u64, line: &Line) -> bool
     requires from_base { base ≤ end }
     requires end_fits { end ≤ 2 ^ 62 }

@@ -60,7 +60,7 @@ impl<D: Disk> LocalLog<D> {
 
         ensures edge { IsOk result → is_edge (segment_at self.old mark) mark ≡ true }
 
-        // Each cause. A mark that is no batch's end is told first, and nothing is read then.
+        // Each cause. A mark that is no batch's end is reported first, and nothing is read then.
         ensures err { IfErr result (λ e. RunFails self.old offset limit mark (D.control self.new.disk).last_read e) }
         ensures missed { is_edge (segment_at self.old mark) mark ≡ false → self.new ≡ self.old }
         ensures whole { IfErr result (λ e. IsTrue (D.content self.old.disk).is_observable → IsEdge self.old mark

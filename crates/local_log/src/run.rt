@@ -30,7 +30,7 @@ pub(crate) struct Asked {
     pub epoch: u32,
 }
 
-/// The head of the batch that stands at a place.
+/// The head of the batch that is at a place.
 pub(crate) fn head_at(run: &[u8], at: usize) -> Head
     requires inside { at ≤ length run.now }
     requires stands { IsOk (headed (drop at run.now)) }
@@ -67,7 +67,7 @@ pub(crate) fn first_asked(run: &[u8]) -> Asked
     asked_of(&head_at(run, 0))
 }
 
-/// Whether the log rolls before such a batch, behind so many bytes of a segment.
+/// Whether the log rolls before such a batch, after so many bytes of a segment.
 pub(crate) fn rolls_before(most: u32, base: u64, size: u64, len: u64, last: u64) -> bool
     requires from_base { base ≤ last }
     requires small { size + len < 2 ^ 64 }
@@ -105,7 +105,7 @@ fn with_epoch(
     Ok(Some(next))
 }
 
-/// Adds as many batches of a run to a segment as stand in it, and tells their bytes, and the line where it has changed.
+/// Adds as many batches of a run to a segment as fit it, and returns their bytes, and the line where it has changed.
 fn gather(
     alloc: Global,
     segment: &mut Growing,
@@ -135,7 +135,7 @@ fn gather(
     Ok((at, newer))
 }
 
-/// Whether a batch stands in no segment with what comes before it, or past the last offset.
+/// Whether a batch fits no segment with what comes before it, or past the last offset.
 fn stops(most: u32, segment: &Growing, batch: Asked) -> bool
     requires from_base { segment.now.base ≤ batch.last }
     requires small { size_of segment.now + batch.size < 2 ^ 64 }
@@ -146,7 +146,7 @@ fn stops(most: u32, segment: &Growing, batch: Asked) -> bool
         || batch.last >= OFFSET_LIMIT
 }
 
-/// Adds as many batches of a run to a segment as stand in it. Want of memory leaves the segment as it was.
+/// Adds as many batches of a run to a segment as fit it. Running out of memory leaves the segment as it was.
 pub(crate) fn take_in(
     alloc: Global,
     segment: &mut Growing,

@@ -1,4 +1,4 @@
-//! What a cut makes of a log's segments and of their files: those behind are removed, from the last to the first, and
+//! What a cut makes of a log's segments and of their files: those after are removed, from the last to the first, and
 //! the one that is the last then is cut. Nothing is read.
 
 ghost use Rattle.std.specs.Prelude.{◌≡◌, ◌+◌, ◌≤◌, ◌<◌, ◌^◌, ◌++◌, ◌∷◌, [], length, map, OnOk, IfOk};
@@ -22,7 +22,7 @@ use segment_file::Growing;
 use std::alloc::{AllocError, Global};
 use tier_base::{Failed, Row};
 
-/// What stands of a segment up to an offset.
+/// What is left of a segment up to an offset.
 fn front_of(segment: &Growing, end: u64) -> Extent
     ensures { result ≡ extent_of (front_to end segment.now) }
 {
@@ -32,7 +32,7 @@ fn front_of(segment: &Growing, end: u64) -> Extent
     }
 }
 
-/// What stands then of the segment that is the open one after a cut.
+/// What is then left of the segment that is the open one after a cut.
 pub(crate) fn open_front(local_start: u64, closed: &[Growing], active: &Growing, end: u64) -> Extent
     requires { AreSegmentsOf local_start closed.now active.now }
     ensures { result ≡ extent_of (front_to end (open_by end closed.now active.now)) }
@@ -75,7 +75,7 @@ fn extents_to(
     Ok(list)
 }
 
-/// The bytes of the manifest that lists the log that is cut to an offset, with this line.
+/// The bytes of the manifest that lists the log that is cut to an offset, with these leader epochs.
 pub(crate) fn listing_to(
     alloc: Global,
     incarnation: u32,
@@ -134,7 +134,7 @@ pub(crate) fn remove_segments<D: Disk>(
     remove_all(disk, closed)
 }
 
-/// Removes the files of the segments behind a cut.
+/// Removes the files of the segments after a cut.
 fn remove_behind<D: Disk>(
     disk: &mut D,
     local_start: u64,
@@ -157,7 +157,7 @@ fn remove_behind<D: Disk>(
     remove_segments(disk, rest, active)
 }
 
-/// Removes the files of the segments behind a cut, and cuts the file of the last one.
+/// Removes the files of the segments after a cut, and cuts the file of the last one.
 pub(crate) fn trim<D: Disk>(
     disk: &mut D,
     local_start: u64,
@@ -179,7 +179,7 @@ pub(crate) fn trim<D: Disk>(
     disk.cut(FileName::Log(last.base), last.len as u64)
 }
 
-/// Opens the last segment that isn't behind a cut.
+/// Opens the last segment that isn't after a cut.
 fn reopen(local_start: u64, closed: &mut Vec<Growing>, active: &mut Growing, end: u64)
     requires { AreSegmentsOf local_start closed.old.items active.old }
     ensures closed { closed.new.items ≡ closed_by end closed.old.items }

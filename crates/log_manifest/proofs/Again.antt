@@ -39,7 +39,7 @@ u64-again : (at n : ℕ) (rest : List ℕ) → n < 2 ^ 64 → number_at w64 at (
 unfolding number_at
 u64-again at n rest h = rw (cut-again 8 at (to_be_bytes w64 n) rest refl, from_be_bytes-to_be_bytes_8 n h) refl
 
--- what stands before the segments is read again
+-- what precedes the segments is read again
 front-again : (incarnation start count : ℕ) (rest : List ℕ) → 1 ≤ incarnation → incarnation < 2 ^ 32 → start ≤ 2 ^ 62 → 0 < count → count ≤ 4096
     → front_at (front_bytes incarnation start count ++ rest)
     ≡ Ok (record { incarnation = incarnation; local_start = start; count = count }, rest)

@@ -1,4 +1,4 @@
--- What stood where a reading went on.
+-- What was where a reading continued.
 use Rattle.std.proofs.Common.{◌≡◌, ◌≤◌, refl, ℕ, Bool, true, false, cond, List, [], ◌∷◌, length, arith, Result, Ok, Err}
 use Rattle.log_manifest.specs.declared.refusal.ManifestRefusal.{ManifestRefusal}
 use Rattle.log_manifest.specs.declared.refusal.ManifestRefusal.TheVariants.{Bad, NoMemory}
@@ -33,7 +33,7 @@ passed test why (Ok x) y e =
     (cc, (rw (← is.0) is.1))
 passed test why (Err fault) y e = absurd (cc)
 
--- what is refused is told
+-- what is refused is reported
 pub refuses_of : {Y : Type 0} (why : ManifestRefusal) (read : Result Y ManifestRefusal) → read ≡ Err why → Refuses why read
 refuses_of (Bad at) read e = e
 refuses_of NoMemory read e = tt

@@ -3,11 +3,11 @@ use Rattle.std.proofs.Common.{◌≡◌, ◌∙◌, ap, refl, ℕ, suc, ◌+◌,
 use Rattle.epoch_line.specs.Line.{last_entry}
 use Rattle.log_manifest.specs.Reading.{Read, ◌>>=◌, items_at}
 
--- a reader of one item: by how many come behind it, its place and the one before
+-- a reader of one item: by how many come after it, its place and the one before
 abbrev pub One : Type 0 → Type 0
 One X = ℕ → ℕ → Option X → List ℕ → Read X
 
--- items behind those that were read before
+-- items after those that were read before
 abbrev pub glue : {X : Type 0} → List X → Read (List X) → Read (List X)
 glue front (Ok x) = Ok (front ++ x.0, x.1)
 glue front (Err why) = Err why

@@ -1,4 +1,4 @@
--- What is read as a manifest keeps the rules, and stands in the bytes as the manifest is spelled.
+-- What is read as a manifest keeps the rules, and is in the bytes as the manifest is spelled.
 use Rattle.std.proofs.Common.{◌≡◌, ◌∙◌, ap, refl, ℕ, zero, suc, ◌+◌, ◌*◌, ◌^◌, ◌<◌, ◌≤◌, ◌==◌, ◌&&◌, nat_lt, nat_le, true, List, [], ◌∷◌, length, map, Option, Some, None, Result, Ok, Err, IfOk, arith, append-nil}
 use Rattle.std.specs.List.{All, concat}
 use Rattle.std.specs.Option.{ForSome}
@@ -56,12 +56,12 @@ front-read bytes front rest e =
           rw (← value, ← back) (both s1 (both s2 (both s3 s4)));
     }))))
 
--- one item that was read: what it passed, and that it stands there
+-- one item that was read: what it passed, and that it is there
 record ItemRead {X : Type 0} (Test : ℕ → Option X → X → Type 0) (spell : X → List ℕ) (behind : ℕ) (last : Option X) (x : X) (bytes rest : List ℕ) : Type 0 where
   tests : Test behind last x
   stands : AreBytes bytes → Stands (spell x) bytes rest
 
--- each item passed by how many come behind it and the one before
+-- each item passed by how many come after it and the one before
 abbrev Chain : {X : Type 0} → (ℕ → Option X → X → Type 0) → Option X → List X → Type 0
 Chain Test last [] = Unit {0}
 Chain Test last (x ∷ items) = Test (length items) last x × Chain Test (Some x) items
@@ -265,6 +265,6 @@ pub manifest_rules : (bytes : List ℕ) (r : Result Manifest ManifestRefusal) �
 manifest_rules bytes (Ok manifest) h = (manifest-read bytes manifest h).rules
 manifest_rules bytes (Err why) h = tt
 
--- what was read stands in the bytes as it is spelled
+-- what was read is in the bytes as it is spelled
 pub one_spelling : (bytes : List ℕ) (manifest : Manifest) → All (λ b. b < 256) bytes → manifest_in bytes ≡ Ok manifest → bytes ≡ manifest_bytes manifest
 one_spelling bytes manifest h e = (manifest-read bytes manifest e).spelled h

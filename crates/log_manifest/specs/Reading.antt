@@ -1,5 +1,5 @@
 -- What bytes say as a manifest, or their first fault: each part as what it reads at the front of bytes, with what
--- stands behind it.
+-- follows it.
 --
 -- A fault is the place of the first field that is missing, is cut or breaks a rule, or of the first byte that follows
 -- the last field. The places are those of the table in the module Spelling.
@@ -12,7 +12,7 @@ use Rattle.log_manifest.specs.declared.refusal.ManifestRefusal.{ManifestRefusal}
 use Rattle.log_manifest.specs.declared.refusal.ManifestRefusal.TheVariants.{Bad, NoMemory}
 use Rattle.log_manifest.specs.Spelling.{magic}
 
--- what was read at the front, and what stands behind it
+-- what was read at the front, and what follows it
 abbrev pub Read : Type 0 → Type 0
 Read A = Result (A × List ℕ) ManifestRefusal
 
@@ -22,7 +22,7 @@ abbrev pub ◌>>=◌ : {A B : Type 0} → Result A ManifestRefusal → (A → Re
 (Ok x) >>= f = f x
 (Err why) >>= f = Err why
 
--- a fault at a place; one past 4 GiB is told as the last place of them
+-- a fault at a place; one past 4 GiB is reported as the last place of them
 abbrev pub bad : ℕ → ManifestRefusal
 bad at = Bad (min at (2 ^ 32 - 1))
 
@@ -41,7 +41,7 @@ number_at w at bytes = do
   field ← cut_at (byte_len w) at bytes
   Ok (from_be_bytes w field.0, field.1)
 
--- so many items of twelve bytes, from a place on: each is read by how many come behind it, its place and the one before
+-- so many items of twelve bytes, from a place on: each is read by how many come after it, its place and the one before
 abbrev pub items_at : {X : Type 0} → (ℕ → ℕ → Option X → List ℕ → Read X) → ℕ → ℕ → Option X → List ℕ → Read (List X)
 items_at one zero at last bytes = Ok ([], bytes)
 items_at one (suc behind) at last bytes = do
@@ -49,7 +49,7 @@ items_at one (suc behind) at last bytes = do
   others ← items_at one behind (at + 12) (Some item.0) item.1
   Ok (item.0 ∷ others.0, others.1)
 
--- what stands before the segments
+-- what precedes the segments
 unfoldable pub front_at : List ℕ → Read Front
 front_at bytes = do
   tag ← passing (λ n. n == magic) (bad 0) (number_at w32 0 bytes)
@@ -58,12 +58,12 @@ front_at bytes = do
   count ← passing (λ n. nat_lt 0 n && nat_le n 4096) (bad 16) (number_at w32 16 start.1)
   Ok (record { incarnation = incarnation.0; local_start = start.0; count = count.0 }, count.1)
 
--- a base may stand behind the last segment, or where the log begins
+-- a base may follow the last segment, or where the log begins
 abbrev pub base_may : ℕ → Option Extent → ℕ → Bool
 base_may start None n = n == start
 base_may start (Some last) n = nat_lt last.base n && nat_le n (2 ^ 62)
 
--- a length may stand before so many segments
+-- a length may precede so many segments
 abbrev pub len_may : ℕ → ℕ → Bool
 len_may zero n = nat_lt n (2 ^ 31)
 len_may (suc behind) n = nat_lt 0 n && nat_lt n (2 ^ 31)
@@ -75,12 +75,12 @@ segment_at start behind at last bytes = do
   len ← passing (len_may behind) (bad (at + 8)) (number_at w32 (at + 8) base.1)
   Ok (record { base = base.0; len = len.0 }, len.1)
 
--- an epoch may stand behind the last one
+-- an epoch may follow the last one
 abbrev pub epoch_may : Option (ℕ × ℕ) → ℕ → Bool
 epoch_may None epoch = nat_lt epoch (2 ^ 31)
 epoch_may (Some last) epoch = nat_lt epoch (2 ^ 31) && nat_lt last.0 epoch
 
--- a start may stand behind the last one
+-- a start may follow the last one
 abbrev pub start_may : Option (ℕ × ℕ) → ℕ → Bool
 start_may None start = nat_le start (2 ^ 62)
 start_may (Some last) start = nat_le start (2 ^ 62) && nat_lt last.1 start

@@ -5,7 +5,7 @@
 --        4     4  incarnation, at least 1
 --        8     8  local start: the base of the first segment
 --       16     4  count of segments, 1 to 4,096
---       20   8+4  base, at most 2^62, and stable length, below 2^31. Bases rise, and only the last length may be 0
+--       20   8+4  base, at most 2^62, and flushed length, below 2^31. Bases rise, and only the last length may be 0
 --   20+12n     4  count of line entries
 --   24+12n   4+8  epoch, below 2^31, and where it starts, at most 2^62. Both rise
 use Rattle.std.specs.Prelude.{ℕ, List, ◌++◌, length, map}
@@ -26,7 +26,7 @@ segment_bytes segment = to_be_bytes w64 segment.base ++ to_be_bytes w32 segment.
 unfoldable pub entry_bytes : ℕ × ℕ → List ℕ
 entry_bytes entry = to_be_bytes w32 entry.0 ++ to_be_bytes w64 entry.1
 
--- what stands before the segments
+-- what precedes the segments
 unfoldable pub front_bytes : ℕ → ℕ → ℕ → List ℕ
 front_bytes incarnation local_start count =
     to_be_bytes w32 magic ++ (to_be_bytes w32 incarnation ++ (to_be_bytes w64 local_start ++ to_be_bytes w32 count))

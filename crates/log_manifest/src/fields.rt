@@ -6,7 +6,7 @@ ghost use Rattle.log_manifest.specs.Reading.{bad, cut_at, number_at, seen};
 
 use crate::refusal::ManifestRefusal;
 
-/// The last place that a refusal can tell.
+/// The last place that a refusal can report.
 const LAST_PLACE: u64 = (1 << 32) - 1;
 
 /// The refusal of a field at this place.

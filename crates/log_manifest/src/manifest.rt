@@ -27,11 +27,11 @@ pub struct Manifest {
     pub line: Line,
 }
 
-/// What stands before the segments.
+/// What precedes the segments.
 #[derive(Clone, Copy)]
 pub(crate) struct Front {
     pub incarnation: u32,
     pub local_start: u64,
-    /// How many segments stand behind it.
+    /// How many segments follow it.
     pub count: u32,
 }

@@ -22,7 +22,7 @@ const MOST_SEGMENTS: u32 = 4_096;
 const BOUND: u32 = 1 << 31;
 /// Where the segments begin: 4 + 4 + 8 + 4.
 const SEGMENTS: u64 = 20;
-/// Where the line's entries would begin behind no segment: 20 + 4.
+/// Where the line's entries would begin after no segment: 20 + 4.
 const ENTRIES: u64 = 24;
 /// The bytes of a segment, 8 + 4, and of a line's entry, 4 + 8.
 const ITEM: u64 = 12;
@@ -55,7 +55,7 @@ fn manifest(alloc: Global, bytes: &[u8]) -> Result<Manifest, ManifestRefusal>
     })
 }
 
-/// What stands before the segments.
+/// What precedes the segments.
 #[tactic(auto, unfolding(crate::specs::Reading::front_at))]
 fn front(bytes: &[u8]) -> Result<(Front, &[u8]), ManifestRefusal>
     ensures exact { seen (λ x. (x.0, x.1.now)) result ≡ front_at bytes.now }
@@ -85,7 +85,7 @@ fn front(bytes: &[u8]) -> Result<(Front, &[u8]), ManifestRefusal>
     Ok((front, rest))
 }
 
-/// Whether a base may stand behind the last segment of a log that begins at start.
+/// Whether a base may follow the last segment of a log that begins at start.
 fn base_may(start: u64, last: Option<Extent>, base: u64) -> bool
     ensures { result ≡ base_may start last base }
 {
@@ -95,7 +95,7 @@ fn base_may(start: u64, last: Option<Extent>, base: u64) -> bool
     }
 }
 
-/// Whether a length may stand before so many segments.
+/// Whether a length may precede so many segments.
 fn len_may(behind: u32, len: u32) -> bool
     ensures { result ≡ len_may behind len }
 {
@@ -106,7 +106,7 @@ fn len_may(behind: u32, len: u32) -> bool
     }
 }
 
-/// A segment at a place behind the last one.
+/// A segment at a place after the last one.
 #[tactic(auto, unfolding(crate::specs::Reading::segment_at))]
 fn segment(
     start: u64,
@@ -152,7 +152,7 @@ fn segments(
     Ok((segments, rest))
 }
 
-/// Whether an epoch may stand behind the last one.
+/// Whether an epoch may follow the last one.
 fn epoch_may(last: Option<(u32, u64)>, epoch: u32) -> bool
     ensures { result ≡ epoch_may last epoch }
 {
@@ -162,7 +162,7 @@ fn epoch_may(last: Option<(u32, u64)>, epoch: u32) -> bool
     }
 }
 
-/// Whether a start may stand behind the last one.
+/// Whether a start may follow the last one.
 fn start_may(last: Option<(u32, u64)>, start: u64) -> bool
     ensures { result ≡ start_may last start }
 {
@@ -172,7 +172,7 @@ fn start_may(last: Option<(u32, u64)>, start: u64) -> bool
     }
 }
 
-/// A line's entry at a place behind the last one.
+/// A line's entry at a place after the last one.
 #[tactic(auto, unfolding(crate::specs::Reading::entry_at))]
 fn entry(
     at: u64,

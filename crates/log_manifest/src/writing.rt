@@ -44,7 +44,7 @@ fn push_u64(out: &mut Vec<u8>, number: u64) -> Result<(), AllocError>
     out.extend_from_slice(number.to_be_bytes().as_slice())
 }
 
-/// Writes what stands before the segments.
+/// Writes what precedes the segments.
 #[tactic(auto, unfolding(crate::specs::Spelling::front_bytes))]
 fn push_front(
     out: &mut Vec<u8>,

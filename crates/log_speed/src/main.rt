@@ -21,7 +21,7 @@ use std::rt::Clock;
 use task::{Place, Task};
 use work::{Found, Report, measure};
 
-/// Where a log in a folder stands, which is made and removed.
+/// Where a log in a folder is, which is made and removed.
 const YARD: &str = "log_speed.yard";
 
 /// Measures a log over a disk in memory.

@@ -4,14 +4,14 @@ use anyhow::{Context, Result, bail, ensure};
 use std::rt::Env;
 use std::{env, fmt};
 
-/// Where a log stands.
+/// Where a log is.
 #[derive(Clone, Copy, Debug, PartialEq, Eq)]
 pub enum Place {
     Memory,
     Folder,
 }
 
-/// What is measured, and whether the time is told.
+/// What is measured, and whether the time is reported.
 #[derive(Clone, Copy, Debug)]
 pub struct Task {
     pub count: u32,
@@ -30,7 +30,7 @@ impl fmt::Display for Place {
     }
 }
 
-/// A number among the arguments, or what stands for one that isn't there.
+/// A number among the arguments, or what represents one that isn't there.
 fn number<R: Alloc>(word: Option<String<R::A>>, other: u32) -> Result<u32> {
     match word {
         Some(word) => Ok(

@@ -118,7 +118,7 @@ fn fill<D: Disk>(
     flush(rt, log, times)
 }
 
-/// Reads the batch at an offset, and tells how many bytes it has.
+/// Reads the batch at an offset, and returns how many bytes it has.
 fn read<D: Disk>(
     rt: &impl Clock,
     log: &mut LocalLog<D>,
@@ -135,7 +135,7 @@ fn read<D: Disk>(
     Ok(run.bytes.len() as u64)
 }
 
-/// Reads at offsets in no order, the same in each run, and tells how many bytes that gave.
+/// Reads at offsets in no order, the same in each run, and returns how many bytes that gave.
 fn read_all<D: Disk>(
     rt: &impl Clock,
     log: &mut LocalLog<D>,

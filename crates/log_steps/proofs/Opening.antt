@@ -125,7 +125,7 @@ module _ (d : Content) (laws : Lawful d) (reopens : Reopens d) (now next : List 
     pub rewrite_reopens : Reopens d1
     rewrite_reopens = ⊎_elim rewritten_reopens underway_reopens rewrites.phase
 
-    -- then what stands is read, and the next manifest is written
+    -- then what is is read, and the next manifest is written
     module _ (went : fate ≡ Went) (d2 : Content) (k : Keeps d1 d2) where
       under2 : (c : Files) → Image d2 c → Underway now es d c
       under2 c left = rewrites.under went c (k.images c left)

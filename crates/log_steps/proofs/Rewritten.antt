@@ -49,7 +49,7 @@ module _ (now : List ℕ) (es : List Extent) (names : List FileName) (d d1 : Con
   }
 
   module _ (sure : (c : Files) → Image d1 c → c Manifest ≡ Some now) where
-    -- an image after the manifest stands
+    -- an image after the manifest exists
     stands : (c : Files) → Image d1 c → Underway now es d c
     stands c left =
         let x = change.images c left in

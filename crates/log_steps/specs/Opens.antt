@@ -23,7 +23,7 @@ pub record Opened : Type 0 where
   pub batches : List (List ℕ)
   pub line : List (ℕ × ℕ)
 
--- a batch may stand in a segment: its offsets are near the base and below 2^62, and the line gives its epoch
+-- a batch may be in a segment: its offsets are near the base and below 2^62, and the line gives its epoch
 pub record IsPlaced (line : List (ℕ × ℕ)) (base : ℕ) (batch : List ℕ) : Type 0 where
   pub is : IsOk (checked batch)
   pub near : last_of batch - base < 2 ^ 31

@@ -1,4 +1,4 @@
--- Lists: what stands at a place, writes at a place, and lists that begin others.
+-- Lists: what is at a place, writes at a place, and lists that begin others.
 use Rattle.std.proofs.Common.{◌≡◌, ◌≢◌, ◌⊎◌, inl, inr, ℕ, zero, suc, ◌≤◌, ◌<◌, List, [], ◌∷◌, ◌++◌, length, take, Some, None, Option, slice_get, slice_set, refl, ap, sym, subst, ◌∙◌, arith, append_assoc, length-append}
 use Rattle.std.specs.Option.{option_and_then}
 use mathlib.Core.List.{IsPrefix}
@@ -8,7 +8,7 @@ pub and_then_some : {T U : Type 0} (f : T → Option U) (o : Option T) (q : U) �
 and_then_some f None q e = absurd cc
 and_then_some f (Some x) q e = (x, refl, e)
 
--- what stands at a place after a write
+-- what is at a place after a write
 pub get-set : {A : Type 0} (xs : List A) (i : ℕ) (y : A) (j : ℕ) (x : A) → slice_get (slice_set xs i y) j ≡ Some x
     → ((j ≡ i) × (x ≡ y)) ⊎ ((j ≢ i) × (slice_get xs j ≡ Some x))
 get-set [] i y j x e = absurd cc
@@ -40,7 +40,7 @@ prefix_take (suc n) (x ∷ xs) = (let r = prefix_take n xs in r.0, ap (λ ys. x 
 pub prefix_length : {A : Type 0} (xs ys : List A) → IsPrefix xs ys → length xs ≤ length ys
 prefix_length xs ys p = omega (arith, sym (ap length p.1) ∙ length-append xs p.0)
 
--- a write of what stands there changes nothing
+-- a write of what is there changes nothing
 pub set-same : {A : Type 0} (xs : List A) (i : ℕ) (x : A) → slice_get xs i ≡ Some x → slice_set xs i x ≡ xs
 set-same [] i x e = refl
 set-same (z ∷ xs) zero x e = cc
@@ -78,20 +78,20 @@ length-slice_set [] i x = refl
 length-slice_set (z ∷ xs) zero x = refl
 length-slice_set (z ∷ xs) (suc i) x = ap suc (length-slice_set xs i x)
 
--- what stands in a beginning stands in the list
+-- what is in a beginning is in the list
 pub prefix_get : {A : Type 0} (xs ys : List A) (k : ℕ) (x : A) → IsPrefix xs ys → slice_get xs k ≡ Some x → slice_get ys k ≡ Some x
 prefix_get [] ys k x p h = absurd cc
 prefix_get (y ∷ xs) [] k x p h = absurd (cc (p.1))
 prefix_get (y ∷ xs) (z ∷ ys) zero x p h = cc (p.1, h)
 prefix_get (y ∷ xs) (z ∷ ys) (suc k) x p h = prefix_get xs ys k x (p.0, cc (p.1)) h
 
--- within a list something stands at each place
+-- within a list something is at each place
 pub look : {A : Type 0} (xs : List A) (j : ℕ) → j < length xs → (x : A) × (slice_get xs j ≡ Some x)
 look [] j h = absurd (omega arith)
 look (x ∷ xs) zero h = (x, refl)
 look (x ∷ xs) (suc j) h = look xs j (omega arith)
 
--- where something stands is within the list
+-- where something is is within the list
 pub within : {A : Type 0} (xs : List A) (j : ℕ) (x : A) → slice_get xs j ≡ Some x → j < length xs
 within [] j x e = absurd cc
 within (y ∷ xs) zero x e = omega arith

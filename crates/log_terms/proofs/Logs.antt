@@ -23,7 +23,7 @@ lt_false a b h = go (nat_lt a b) refl
     go false e = e
     go true e = let n : a < b = grind (arith, nat_tests, e) in absurd (omega (arith, n))
 
--- the end of a list goes on from the end of its beginning
+-- the end of a list continues from the end of its beginning
 pub end_append : (n : ℕ) (xs ys : List (List ℕ)) → end_from n (xs ++ ys) ≡ end_from (end_from n xs) ys
 end_append n [] ys = refl
 end_append n (x ∷ xs) ys = end_append (last_of x + 1) xs ys
@@ -42,7 +42,7 @@ consecutive_prefix n (x ∷ xs) (y ∷ ys) p c =
     let d = subst (λ (w : List ℕ). IsConsecutive n (w ∷ ys)) same c in
     (d.0, consecutive_prefix (last_of x + 1) xs ys (p.0, cc (p.1)) d.1)
 
--- a batch that begins at the end goes on
+-- a batch that begins at the end continues
 pub consecutive_snoc : (n : ℕ) (xs : List (List ℕ)) (v : List ℕ) → IsConsecutive n xs → base_of v ≡ end_from n xs → IsConsecutive n (xs ++ v ∷ [])
 consecutive_snoc n [] v c e = (e, tt)
 consecutive_snoc n (x ∷ xs) v c e = (c.0, consecutive_snoc (last_of x + 1) xs v c.1 e)

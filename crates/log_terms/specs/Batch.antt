@@ -11,7 +11,7 @@
 use Rattle.std.specs.Prelude.{ℕ, ◌+◌, ℤ, List, take, drop}
 use Rattle.std.specs.Int.{Width, w32, w64, byte_len, from_be_bytes, cast_signed}
 
--- the number that stands at a place of the bytes
+-- the number that is at a place of the bytes
 unfoldable pub field_at : Width → ℕ → List ℕ → ℕ
 field_at w at bytes = from_be_bytes w (take (byte_len w) (drop at bytes))
 

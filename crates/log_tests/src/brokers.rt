@@ -35,11 +35,11 @@ enum Turn {
     Closed(u64, usize),
     Restart(u64),
     Arm,
-    /// What it tells.
+    /// What it reports.
     Tell(Told),
 }
 
-/// What a broker's log tells: the end, the flushed end, the local start, how often it was opened, and how many
+/// What a broker's log reports: the end, the flushed end, the local start, how often it was opened, and how many
 /// segments are closed.
 type Told = (Option<u64>, Option<u64>, Option<u64>, Option<u32>, usize);
 
@@ -115,7 +115,7 @@ fn read(log: &mut Log, offset: u64, mark: u64) -> Option<(u64, Stop, usize)> {
     }
 }
 
-/// Cuts the log to an offset: the end that is told before, and that of the cut.
+/// Cuts the log to an offset: the end that is reported before, and that of the cut.
 fn cut(log: &mut Log, to: u64) -> Option<(u64, Option<u64>)> {
     match log.end() {
         Some(now) if to <= now => {}
@@ -204,7 +204,7 @@ fn run(alloc: Global, log: &mut Log, turns: &[Turn]) -> Option<usize> {
     None
 }
 
-/// Whether a broker that is down over this disk comes up.
+/// Whether a broker that is down over this disk starts.
 fn comes_up(alloc: Global, disk: MemoryDisk) -> bool {
     let settings = Settings {
         segment_bytes: 100,

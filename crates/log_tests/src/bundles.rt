@@ -52,7 +52,7 @@ fn bundle_of(alloc: Global, closed: &Closed, line: &str) -> Option<Bundle> {
     }
 }
 
-/// The line of the log, of which the last entry starts behind the segment.
+/// The line of the log, of which the last entry starts after the segment.
 static LINE: &str = "0\n3\n0 0\n1 149\n2 150\n";
 
 /// The entries of that line.

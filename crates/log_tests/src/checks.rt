@@ -192,7 +192,7 @@ fn refusal_of(
     }
 }
 
-/// The name of the first changed batch of which something else is told. What says nothing is read over: a record's
+/// The name of the first changed batch of which something else is reported. What says nothing is read over: a record's
 /// attributes, bits 6 to 15 of the batch's.
 fn first_wrong_change(alloc: Global) -> Option<&'static str> {
     for (name, of_three, changes, crc, want) in &CHANGED {
@@ -208,7 +208,7 @@ fn changed_batches_are_refused_or_taken(rt: HostRuntime) {
     assert_eq!(rt; first_wrong_change(rt.alloc()), None);
 }
 
-/// Why the first bytes of two batches, one behind the other, are no batch.
+/// Why the first bytes of two batches, one after the other, are no batch.
 fn refusal_of_front(size: usize) -> Option<BatchRefusal> {
     check(part(SEGMENT.as_slice(), 0, size)).err()
 }
@@ -221,7 +221,7 @@ static FRONTS: [(usize, Option<BatchRefusal>); 4] = [
     (70, Some(BatchRefusal::BadLength)),
 ];
 
-/// The first number of bytes of which something else is told.
+/// The first number of bytes of which something else is reported.
 fn first_wrong_front() -> Option<usize> {
     for (size, want) in &FRONTS {
         if refusal_of_front(*size) != *want {

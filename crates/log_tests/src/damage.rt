@@ -67,7 +67,7 @@ fn open_with(alloc: Global, at: usize, other: &[u8]) -> Opened {
     }
 }
 
-/// What an opening tells that finds no log in a file.
+/// What an opening reports that finds no log in a file.
 fn damaged(file: FileName, at: u64) -> Opened {
     Err(OpenRefusal::Damaged { file, at })
 }
@@ -121,7 +121,7 @@ fn told_of_manifest(at: usize) -> Opened {
     }
 }
 
-/// The first byte of the manifest that is told otherwise.
+/// The first byte of the manifest that is reported otherwise.
 fn first_untold(alloc: Global) -> Option<usize> {
     for at in 0..FLUSHED.len() {
         if open_with(alloc, at, [0xff].as_slice()) != told_of_manifest(at) {
@@ -136,7 +136,7 @@ fn each_spoilt_byte_of_the_manifest_has_its_place(rt: HostRuntime) {
     assert_eq!(rt; first_untold(rt.alloc()), None);
 }
 
-/// The first byte of the segment that isn't told where its batch begins.
+/// The first byte of the segment that isn't reported where its batch begins.
 fn first_unplaced(alloc: Global) -> Option<usize> {
     for at in 0..SEGMENT.len() {
         if open_turned(alloc, at, SEGMENT[at]) != damaged(LOG, (at / SIZE * SIZE) as u64) {
@@ -151,12 +151,12 @@ fn each_spoilt_byte_of_a_segment_is_told_where_its_batch_begins(rt: HostRuntime)
     assert_eq!(rt; first_unplaced(rt.alloc()), None);
 }
 
-/// Whether an opening told a place in a file of the log.
+/// Whether an opening reported a place in a file of the log.
 fn is_damaged(opened: Opened, name: FileName) -> bool {
     matches!(opened, Err(OpenRefusal::Damaged { file, .. }) if file == name)
 }
 
-/// The first number of bytes of the manifest that isn't told.
+/// The first number of bytes of the manifest that isn't reported.
 fn first_cut_manifest(alloc: Global) -> Option<usize> {
     for len in 0..FLUSHED.len() {
         let opened = open(alloc, &FLUSHED[..len], LOG, SEGMENT.as_slice());
@@ -167,7 +167,7 @@ fn first_cut_manifest(alloc: Global) -> Option<usize> {
     None
 }
 
-/// The first number of bytes of the segment that isn't told.
+/// The first number of bytes of the segment that isn't reported.
 fn first_cut_segment(alloc: Global) -> Option<usize> {
     for len in 0..SEGMENT.len() {
         let opened = open(alloc, FLUSHED.as_slice(), LOG, &SEGMENT[..len]);
@@ -188,7 +188,7 @@ fn each_cut_segment_is_told(rt: HostRuntime) {
     assert_eq!(rt; first_cut_segment(rt.alloc()), None);
 }
 
-/// Adds a segment that the manifest doesn't list, and tells whether the opened log leaves these names.
+/// Adds a segment that the manifest doesn't list, and returns whether the opened log leaves these names.
 fn leaves_with_stray(alloc: Global, files: Vec<(FileName, Bytes)>, names: &[FileName]) -> bool {
     let mut files = files;
     match files.push((FileName::Log(2), Bytes::from_static(b"stray"))) {
@@ -211,7 +211,7 @@ fn a_stray_segment_goes_at_the_opening(rt: HostRuntime) {
     assert!(rt; leaves_of_stray(rt.alloc(), names.as_slice()));
 }
 
-/// The files of a log, and behind its segment's file another one of that name, with another byte at a place.
+/// The files of a log, and after its segment's file another one of that name, with another byte at a place.
 fn files_with_second(alloc: Global, at: usize, byte: u8) -> Option<Vec<(FileName, Bytes)>> {
     let mut files = match files(alloc, FLUSHED.as_slice(), LOG, SEGMENT.as_slice()) {
         Some(files) => files,
@@ -252,7 +252,7 @@ fn reads_with(alloc: Global, at: usize, byte: u8, places: Option<(u64, u64)>) ->
     reads_over(alloc, files, SEGMENT.as_slice()) == Some(wanted)
 }
 
-/// The first byte of the batches' epochs that isn't told where it has changed. Where the first epoch has risen, a
+/// The first byte of the batches' epochs that isn't reported where it has changed. Where the first epoch has risen, a
 /// closed segment is damaged at the second batch, whose epoch is below it: the line is asked last.
 fn first_untold_epoch(alloc: Global) -> Option<usize> {
     let second = SIZE as u64;

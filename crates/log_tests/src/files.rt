@@ -43,7 +43,7 @@ pub(crate) static FLUSHED: [u8; 48] = [
     0, 0, 0, 0, 0, 0, 0, 0, // local start
     0, 0, 0, 1, // count of segments
     0, 0, 0, 0, 0, 0, 0, 0, // base
-    0, 0, 0, 0x8a, // stable length
+    0, 0, 0, 0x8a, // flushed length
     0, 0, 0, 1, // count of line entries
     0, 0, 0, 0, // epoch
     0, 0, 0, 0, 0, 0, 0, 0, // its start
@@ -56,7 +56,7 @@ pub(crate) static LED: [u8; 48] = [
     0, 0, 0, 0, 0, 0, 0, 0, // local start
     0, 0, 0, 1, // count of segments
     0, 0, 0, 0, 0, 0, 0, 0, // base
-    0, 0, 0, 0, // stable length
+    0, 0, 0, 0, // flushed length
     0, 0, 0, 1, // count of line entries
     0, 0, 0, 0, // epoch
     0, 0, 0, 0, 0, 0, 0, 0, // its start

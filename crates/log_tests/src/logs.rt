@@ -1,4 +1,4 @@
-//! Logs over a disk in memory, turn by turn: what stands in their files, what crashes and faults leave, and where
+//! Logs over a disk in memory, turn by turn: what is in their files, what crashes and faults leave, and where
 //! segments end. Values worked by hand; a batch of one record has 69 bytes, and one of three has 85.
 
 use crate::files::{FLUSHED, LED, SEGMENT, SIZE, THREE};
@@ -10,7 +10,7 @@ use tier_base::Stop;
 
 const LOG: FileName = FileName::Log(0);
 
-/// The greatest offset, 2^62 - 1, and the end behind it.
+/// The greatest offset, 2^62 - 1, and the end after it.
 const LAST: u64 = 4_611_686_018_427_387_903;
 
 const END: u64 = 4_611_686_018_427_387_904;
@@ -172,7 +172,7 @@ fn run(log: Trial, turns: &[Turn]) -> Result<Trial, usize> {
     Ok(log)
 }
 
-/// What stands in the files at the end.
+/// What is in the files at the end.
 #[derive(Clone, Copy)]
 enum Left {
     Any,

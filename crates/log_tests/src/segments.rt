@@ -61,7 +61,7 @@ fn spoilt(alloc: Global, at: usize, byte: u8) -> Option<Vec<u8>> {
 /// No place in the bytes.
 const NOWHERE: usize = 9999;
 
-/// The head of the batch at a place, where one stands there.
+/// The head of the batch at a place, where one is there.
 fn head_at(bytes: &[u8], at: usize) -> Option<Head> {
     if at > bytes.len() {
         return None;
@@ -72,7 +72,7 @@ fn head_at(bytes: &[u8], at: usize) -> Option<Head> {
     }
 }
 
-/// What stands at the place 0 of the first bytes, in short.
+/// What is at the place 0 of the first bytes, in short.
 #[derive(Clone, Copy, PartialEq, Eq)]
 enum Stands {
     Batch(i64),
@@ -90,7 +90,7 @@ fn first_of(bytes: &[u8], len: usize) -> Stands {
     }
 }
 
-/// A place and its byte, how many bytes there are, and what stands at their front.
+/// A place and its byte, how many bytes there are, and what is at their front.
 static STANDS: [(usize, u8, usize, Stands); 9] = [
     (NOWHERE, 0, 272, Stands::Batch(5)),
     (NOWHERE, 0, 68, Stands::Batch(5)),
@@ -103,7 +103,7 @@ static STANDS: [(usize, u8, usize, Stands); 9] = [
     (9, 1, 272, Stands::Cut(0)),
 ];
 
-/// What stands at the front of the four batches.
+/// What is at the front of the four batches.
 fn first_of_spoilt(alloc: Global, at: usize, byte: u8, len: usize) -> Option<Stands> {
     match spoilt(alloc, at, byte) {
         Some(bytes) => Some(first_of(bytes.as_slice(), len)),
@@ -111,7 +111,7 @@ fn first_of_spoilt(alloc: Global, at: usize, byte: u8, len: usize) -> Option<Sta
     }
 }
 
-/// The number of the first row at whose front something else stands.
+/// The number of the first row at whose front something else exists.
 fn first_wrong_front(alloc: Global) -> Option<usize> {
     for (i, (at, byte, len, wanted)) in STANDS.iter().enumerate() {
         if first_of_spoilt(alloc, *at, *byte, *len) != Some(*wanted) {
@@ -163,7 +163,7 @@ static RUNS: [(usize, u8, (u64, u64, u64, u64), Run); 15] = [
     (NOWHERE, 0, (4, 1000, 9, 9), Run::Bad(0)),
     (NOWHERE, 0, (9, 1000, 10, 10), Run::Bad(272)),
     (NOWHERE, 0, (5, 1000, 10, 10), Run::Bad(272)),
-    // a wrong checksum, which isn't seen behind the run
+    // a wrong checksum, which isn't seen after the run
     (203, 1, (5, 1000, 9, 9), Run::Bad(136)),
     (203, 1, (7, 0, 9, 9), Run::Bad(136)),
     (203, 1, (5, 136, 9, 9), Run::Of(0, 136, 7, Stop::Limit)),
@@ -208,7 +208,7 @@ enum Turn {
     Cuts(u64),
 }
 
-/// A segment that grows on trial.
+/// A segment that grows under test.
 #[derive(Drop)]
 struct Trial {
     segment: Growing,
@@ -317,7 +317,7 @@ fn first_wrong(alloc: Global, turns: &[Turn]) -> Option<usize> {
 static GROWING: [Turn; 21] = [
     Turn::Tells(0, 0, 0),
     Turn::Takes(150),
-    // none goes on
+    // none continues
     Turn::Takes(0),
     Turn::Tells(10_200, 150, 8296),
     Turn::Finds(60, 0),
@@ -407,8 +407,8 @@ fn is_spelt(bytes: Result<Vec<u8>, AllocError>, wanted: &[u8]) -> bool {
 /// The batches of two epochs, from 5 on.
 static EPOCHS: [(u64, u32, i64); 4] = [(5, 1, 30), (6, 1, 50), (7, 3, 50), (8, 3, 40)];
 
-/// What the closed segment of two epochs tells, whether its epochs start there, and whether its indexes are right: an
-/// entry of the third batch, before which stand more than 100 bytes, and the first batch of the greatest timestamp.
+/// What the closed segment of two epochs reports, whether its epochs start there, and whether its indexes are right: an
+/// entry of the third batch, before which are more than 100 bytes, and the first batch of the greatest timestamp.
 fn of_epochs(alloc: Global) -> Option<((u64, u64, i64, usize), bool, bool)> {
     let offsets = b"\x00\x00\x00\x02\x00\x00\x00\x88";
     let times = b"\x00\x00\x00\x00\x00\x00\x00\x32\x00\x00\x00\x01";
@@ -454,7 +454,7 @@ fn with_tail(bytes: Option<Vec<u8>>, tail: &[u8]) -> Option<Vec<u8>> {
     }
 }
 
-/// Where no batch goes on the segment of these bytes.
+/// Where no batch continues the segment of these bytes.
 fn bad_in(alloc: Global, base: u64, bytes: Vec<u8>) -> Option<usize> {
     match read(alloc, base, bytes) {
         Err(ClosedRefusal::BadAt { at }) => Some(at),
@@ -462,7 +462,7 @@ fn bad_in(alloc: Global, base: u64, bytes: Vec<u8>) -> Option<usize> {
     }
 }
 
-/// Where no batch goes on the segment of these batches and a tail.
+/// Where no batch continues the segment of these batches and a tail.
 fn bad_at(alloc: Global, base: u64, rows: &[(u64, u32, i64)], tail: &[u8]) -> Option<usize> {
     match with_tail(batches(alloc, rows), tail) {
         Some(bytes) => bad_in(alloc, base, bytes),
@@ -470,7 +470,7 @@ fn bad_at(alloc: Global, base: u64, rows: &[(u64, u32, i64)], tail: &[u8]) -> Op
     }
 }
 
-/// Segments that have a bad place: the base offset, the batches, what stands behind them, and the place.
+/// Segments that have a bad place: the base offset, the batches, what follows them, and the place.
 static BAD: [(u64, &[(u64, u32, i64)], &[u8], usize); 7] = [
     (0, &[], b"", 0),
     (4, &[(5, 0, 1)], b"", 0),
@@ -486,7 +486,7 @@ static BAD: [(u64, &[(u64, u32, i64)], &[u8], usize); 7] = [
     (0, &[(0, 0, 1), (1, 0, 1)], b"\0", 136),
 ];
 
-/// The number of the first segment whose bad place isn't told.
+/// The number of the first segment whose bad place isn't reported.
 fn first_untold(alloc: Global) -> Option<usize> {
     for (i, (base, rows, tail, at)) in BAD.iter().enumerate() {
         if bad_at(alloc, *base, rows, tail) != Some(*at) {

@@ -31,7 +31,7 @@ impl Model for Trial {
 
     ghost Value = { ℕ };
 
-    // Nothing is told.
+    // Nothing is reported.
     ghost view = { λ t. 0 };
 }
 
@@ -133,7 +133,7 @@ impl Trial {
         self.log.cut_to(end).is_ok()
     }
 
-    /// Whether the log begins anew with an empty line.
+    /// Whether the log restarts with an empty line.
     pub(crate) fn restarts(&mut self, start: u64) -> bool {
         if self.log.is_broken() || start > 1 << 62 {
             return false;
@@ -266,7 +266,7 @@ pub(crate) fn stamped(alloc: Global, batch: &[u8], base: u64, epoch: u32) -> Opt
     Some(bytes)
 }
 
-/// Opens the log of these files over a disk that tells nothing.
+/// Opens the log of these files over a disk that isn't observable.
 fn open_deaf(
     alloc: Global,
     files: Vec<(FileName, Bytes)>,
@@ -319,8 +319,8 @@ fn read_both(log: &mut LocalLog<DeafDisk>) -> Option<Reads> {
     Some((run, closed))
 }
 
-/// Begins an opened log of these files anew at 0, fills it with a run, and tells what is read. Of the segment's file
-/// the disk may have two. The log drops the first as it begins anew, and the run is appended to the second, so that
+/// Begins an opened log of these files again at 0, fills it with a run, and returns what is read. Of the segment's file
+/// the disk may have two. The log drops the first as it starts again, and the run is appended to the second, so that
 /// the second's bytes are read in its place.
 pub(crate) fn reads_over(
     alloc: Global,

@@ -1,4 +1,4 @@
--- Whether something stands on a device, out of the names that it lists.
+-- Whether a device has content, out of the names that it lists.
 use Rattle.std.specs.Prelude.{◌≡◌, ◌↔◌, Bool, true, false, not, List, [], ◌∷◌, ℕ, Option, IsSome, IsTrue, refl}
 use Rattle.std.proofs.Common.{◌∙◌, sym, subst, inl, inr, ⊎_elim, arith}
 use Rattle.std.proofs.lemmas.Bool.{false≢true}

@@ -60,7 +60,7 @@ up_to_along (x ∷ xs) (y ∷ ys) (z ∷ zs) (inl h) (inr k) = let e : y ≡ z =
 up_to_along (x ∷ xs) (y ∷ ys) (z ∷ zs) (inr h) (inl k) = let e : x ≡ y = h.0 in inl (omega arith)
 up_to_along (x ∷ xs) (y ∷ ys) (z ∷ zs) (inr h) (inr k) = inr (h.0 ∙ k.0, up_to_along xs ys zs h.1 k.1)
 
--- of two one stands before the other
+-- of two one precedes the other
 up_to_either : (xs ys : List ℕ) → (IsUpTo xs ys → ⊥) → IsUpTo ys xs
 up_to_either [] ys n = absurd (n tt)
 up_to_either (x ∷ xs) [] n = tt
@@ -122,7 +122,7 @@ pub first_with_none : (P : List ℕ → Type 0) (o : Option (List ℕ)) → ((t 
 first_with_none P None n = λ t. ⊎_elim (λ e. absurd cc) (λ p. n t p)
 first_with_none P (Some x) n = (inl refl, λ t. ⊎_elim (λ e. subst (λ y. IsUpTo x y) (some_is x t e) (up_to_itself x)) (λ p. absurd (n t p)))
 
--- a name of the list stands at some place
+-- a name of the list is at some place
 pub in_at : (t : List ℕ) (xs : List (List ℕ)) → In t xs → (k : ℕ) × (slice_get xs k ≡ Some t)
 in_at t [] h = absurd h
 in_at t (x ∷ xs) (inl e) = (0, ap Some (sym e))
@@ -162,7 +162,7 @@ least_all names i a le h =
     (λ t r. let p = in_at t names r in let w : p.0 < length names = slice_get_within names p.0 t p.1 in (p.0, omega arith, p.1))
     h
 
--- the same behind a first one
+-- the same after a first one
 pub names_more : (names : List (List ℕ)) (i : ℕ) (name : List ℕ) (o a b : Option (List ℕ)) → slice_get names i ≡ Some name
     → IsFirstWith (λ text. (k : ℕ) × (k < i) × (slice_get names k ≡ Some text)) o a → IsFirstWith (λ text. text ≡ name) a b
     → IsFirstWith (λ text. (k : ℕ) × (k < i + 1) × (slice_get names k ≡ Some text)) o b

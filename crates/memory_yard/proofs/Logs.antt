@@ -1,4 +1,4 @@
--- Metadata logs over disks: what they tell as calls of the disk change nothing, and as they go from and to a shelf.
+-- Metadata logs over disks: what they report as calls of the disk change nothing, and as they go from and to a shelf.
 use Rattle.std.specs.Prelude.{◌≡◌, ◌≢◌, ◌⊎◌, ◌↔◌, ℕ, Bool, true, false, cond, List, [], drop, Option, Some, None, Result, Ok, Err, IfOk, OnOk, IsTrue, refl}
 use Rattle.std.proofs.Common.{◌∙◌, sym, ap, subst, inl, inr, ⊎_elim, arith}
 use Rattle.std.specs.declared.alloc.AllocError.{AllocError}
@@ -27,7 +27,7 @@ use Rattle.memory_yard.specs.Shelf.{at, Leaves}
 pub never_rose : (a b : ℕ) → a ≡ 0 → b ≡ counted a 1 → b ≡ a → ⊥
 never_rose a b none once same = omega (arith, none, once, same)
 
--- a log tells the same where its disk does
+-- a log reports the same where its disk is observable
 pub told_keeps : (d e : disk.Content) → disk.Keeps d e → log.Keeps (told_of d) (told_of e)
 told_keeps d e k =
     let files : e.files ≡ d.files = λ i n. k.files n i in
@@ -58,7 +58,7 @@ went_wrong : (why : Trouble) → fate_of {T = List Note} (Err why) ≡ Went → 
 went_wrong trouble.Failed is = cc
 went_wrong trouble.NoMemory is = cc
 
--- what a read of all notes tells
+-- what a read of all metadata events reports
 pub has_by : (r : Result Bool AllocError) (found : Result (List Note) Trouble) (held notes : List Note) → IfOk r (λ answer. IfOk found (λ ns. IsTrue answer ↔ (ns ≢ [])))
     → OnOk r (fate_of found ≡ Went) → IfOk found (λ ns. ns ≡ drop 0 held) → held ≡ notes → IfOk r (λ answer. IsTrue answer ↔ (notes ≢ []))
 has_by (Err e) found held notes says went read same = tt
@@ -83,7 +83,7 @@ itself : (o : Option (NoteLog MemoryDisk)) → Both keeps o o
 itself None = tt
 itself (Some m) = log_keeps_itself (told m)
 
--- a log that was taken and came back with what it tells
+-- a log that was taken and came back with what it reports
 pub put_back : (old mid new : List (Slot PartitionId (NoteLog MemoryDisk))) (p : PartitionId) (m n : NoteLog MemoryDisk) → Some m ≡ at same_partition p old
     → Leaves same_partition p None old mid → Leaves same_partition p (Some n) mid new → log.Keeps (told m) (told n)
     → (q : PartitionId) → Both (λ a b. log.Keeps (told a) (told b)) (at same_partition q old) (at same_partition q new)

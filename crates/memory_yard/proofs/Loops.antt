@@ -64,7 +64,7 @@ below_or_past k zero = inr (omega arith)
 below_or_past zero (suc i) = inl (omega arith)
 below_or_past (suc k) (suc i) = ⊎_elim (λ below. inl (omega (arith, below))) (λ past. inr (omega (arith, past))) (below_or_past k i)
 
--- nothing stands past the end
+-- there is nothing past the end
 none_past : {A : Type 0} → (xs : List A) (k : ℕ) → length xs ≤ k → slice_get xs k ≡ None
 none_past [] k le = refl
 none_past (x ∷ xs) zero le = absurd (omega (arith, le))

@@ -1,4 +1,4 @@
--- The partitions and the first name of a yard in memory.
+-- The partitions and the first name of an environment in memory.
 use Rattle.std.specs.Prelude.{◌≡◌, ◌≢◌, List, [], ℕ, Option, IsSome, Ok, Err, IfOk, refl}
 use Rattle.std.proofs.Common.{◌∙◌, sym, subst, inl, inr, ⊎_elim}
 use Rattle.std.specs.declared.result.Result.{Result}
@@ -30,7 +30,7 @@ use Rattle.memory_yard.specs.Yard.{held_by}
 use Rattle.memory_yard.proofs.Firsts.{first_same, first_then}
 
 module _ (strays : List (List ℕ)) (disks : List (Slot DiskPlace MemoryDisk)) (stores : List (Slot PartitionId MemoryStore)) (logs : List (Slot PartitionId (NoteLog MemoryDisk))) (registries : List (Slot PartitionId MemoryDisk)) where
-  -- the partitions of which something stands are those of the three shelves
+  -- the partitions in use are those of the three shelves
   used_of_all : (a b c : List PartitionId)
       → Adds (IsPartitionOn (λ (place : DiskPlace). place.partition) (λ x. (n : FileName) × IsSome (((disk.ghosts).content x).files n)) same_disk disks) [] a
       → Adds (IsPartitionOn (λ (place : PartitionId). place) (λ x. (k : ObjectKey) × IsSome (((store.ghosts).content x).objects k)) same_partition stores) a b
@@ -74,7 +74,7 @@ module _ (strays : List (List ℕ)) (disks : List (Slot DiskPlace MemoryDisk)) (
       empty h)
       m n)
 
-  -- those that have an object or a note are those of two shelves
+  -- those that have an object or a metadata event are those of two shelves
   tiers_of_both : (b c : List PartitionId)
       → Adds (IsPartitionOn (λ (place : PartitionId). place) (λ x. (k : ObjectKey) × IsSome (((store.ghosts).content x).objects k)) same_partition stores) [] b
       → Adds (IsPartitionOn (λ (place : PartitionId). place) (λ x. (told x).notes ≢ []) same_partition logs) b c
@@ -148,7 +148,7 @@ same_joined a b c f g kept disks_are stores_are logs_are = record {
   registries = λ p. subst (λ o. Both disks_keep o (c.registries p)) (kept p) (g.registries p);
 }
 
--- those with an object or a note that have no registry
+-- those with an object or a metadata event that have no registry
 pub bare_are : (a b : YardContent MemoryDisk MemoryStore (NoteLog MemoryDisk)) (tiers kept bare : List PartitionId) → ((p : PartitionId) → b.registries p ≡ a.registries p)
     → HaveTiers a tiers → HaveRegistries b kept → AreWithout tiers kept bare → AreBare a bare
 bare_are a b tiers kept bare same has keeps without p = (

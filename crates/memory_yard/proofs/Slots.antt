@@ -1,4 +1,4 @@
--- Slots of distinct places: what stands at a place after one of them has changed, or one was added.
+-- Slots of distinct places: what is at a place after one of them has changed, or one was added.
 use Rattle.std.specs.Prelude.{◌≡◌, ◌⊎◌, ℕ, zero, suc, ◌<◌, length, Bool, true, false, List, [], ◌∷◌, ◌++◌, slice_get, slice_set, Option, Some, None, Ok, Err, OnOk, IsSomeAnd, refl}
 use Rattle.std.proofs.Common.{◌∙◌, sym, ap, subst, inl, inr, ⊎_elim, arith, Decides, get_or}
 use Rattle.std.proofs.lemmas.Bool.{false≢true}
@@ -48,7 +48,7 @@ module _ {K T : Type 0} (same : K → K → Bool) (decides : (a b : K) → Decid
   not_first x s slots i place h e is =
       not_same same decides x.place place (λ p. let r : 0 ≡ suc i = h 0 (suc i) x s refl e ((decides x.place s.place).1 (p ∙ sym is)) in absurd (omega arith))
 
-  -- the device of a slot stands at its place
+  -- the device of a slot is at its place
   pub at_slot : (slots : List (Slot K T)) (i : ℕ) (s : Slot K T) (place : K) → AreDistinct same slots → slice_get slots i ≡ Some s → s.place ≡ place → at same place slots ≡ s.device
   at_slot [] i s place h e is = absurd cc
   at_slot (x ∷ slots) zero s place h e is =
@@ -57,7 +57,7 @@ module _ {K T : Type 0} (same : K → K → Bool) (decides : (a b : K) → Decid
   at_slot (x ∷ slots) (suc i) s place h e is =
       at_behind x.place place x.device slots (not_first x s slots i place h e is) ∙ at_slot slots i s place (distinct_behind x slots h) e is
 
-  -- where none has the place nothing stands there
+  -- where none has the place there is nothing there
   pub at_absent : (slots : List (Slot K T)) (place : K) → ((n : ℕ) → IsAbsentBelow same n place slots) → at same place slots ≡ None
   at_absent [] place h = refl
   at_absent (x ∷ slots) place h =
@@ -178,7 +178,7 @@ module _ {K T : Type 0} (same : K → K → Bool) (decides : (a b : K) → Decid
         (bool_cases (same x.place q))
 
   module _ (partition_of : K → PartitionId) (used : T → Type 0) where
-    -- what stands at a place stands in one of the slots
+    -- what is at a place is in one of the slots
     find_slot : (slots : List (Slot K T)) (q : K) → Has used (at same q slots) → (i : ℕ) × (s : Slot K T) × (slice_get slots i ≡ Some s) × (s.place ≡ q) × Has used s.device
     find_slot [] q has = absurd has
     find_slot (x ∷ slots) q has =
@@ -208,7 +208,7 @@ module _ {K T : Type 0} (same : K → K → Bool) (decides : (a b : K) → Decid
         → IsPartitionOn partition_of used same slots p
     partition_on_shelf slots n p distinct h = on_shelf slots p h.0 (slice_get slots h.0) distinct refl h.2
 
--- what a search for a place's slot tells
+-- what a search for a place's slot reports
 module _ {K T : Type 0} (same : K → K → Bool) (decides : (a b : K) → Decides (same a b) (a ≡ b)) (told seen items : List (Slot K T)) (view : told ≡ items) (sees : seen ≡ items)
     (distinct : AreDistinct same items) (place : K) where
   found_slot : (i : ℕ) (s : Slot K T) → IsSlotOf same place seen (Some i) → s ≡ get_or items i s → (slice_get items i ≡ Some s) × (s.place ≡ place)

@@ -1,4 +1,5 @@
--- The calls of a yard in memory: how many were made, which of them fail, and the fuse of the disks that it hands out.
+-- The calls of an environment in memory: how many were made, which of them fail, and the fuse of the disks that it
+-- provides.
 use Rattle.std.specs.Prelude.{ℕ, List, Option, not, is_some}
 use Rattle.device_yard.specs.Plan.{Plan}
 
@@ -7,9 +8,9 @@ pub record Calls : Type 0 where
   pub calls : ℕ
   -- the numbers of those that fail
   pub failing : List ℕ
-  -- how many calls of each disk that is handed out pass before each one fails, where it has a fuse
+  -- how many calls of each disk that is provided pass before each one fails, where it has a fuse
   pub fuse : Option ℕ
 
--- what every yard tells of them: with a fuse a device may fail as it is opened
+-- what every environment says of them: with a fuse a device may fail as it is opened
 abbrev pub plan_of : Calls → Plan
 plan_of c = record { calls = c.calls; failing = c.failing; alone = not (is_some c.fuse) }

@@ -12,7 +12,7 @@ name_of p = codes "p" ++ decimal p.0
 abbrev pub AreWithout : List PartitionId → List PartitionId → List PartitionId → Type 0
 AreWithout partitions others list = (p : PartitionId) → In p list ↔ (In p partitions × (In p others → ⊥))
 
--- the partition is behind the row now, unless it is in the others
+-- the partition is after the row now, unless it is in the others
 abbrev pub PushesUnless : List PartitionId → PartitionId → List PartitionId → List PartitionId → Type 0
 PushesUnless others p old new = (In p others × (new ≡ old)) ⊎ ((In p others → ⊥) × (new ≡ old ++ p ∷ []))
 

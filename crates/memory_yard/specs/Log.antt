@@ -1,4 +1,4 @@
--- What is kept of a metadata log that came back, and what it tells.
+-- What is kept of a metadata log that came back, and what it reports.
 use Rattle.std.specs.Prelude.{[], false}
 use Rattle.disk_model.specs.declared.memory_disk.MemoryDisk.{MemoryDisk}
 use Rattle.disk_model.specs.contracts.memory_disk.MemoryDiskDisk.TheImpl as disk
@@ -14,6 +14,6 @@ abbrev pub log_of : Kept → NoteLog MemoryDisk
 log_of (kept.Log log) = log
 log_of (kept.Bare d) = record { disk = d; counts = record { armed = false; counts = []; faults = 0 }; ends = []; tail = Loose }
 
--- what it tells
+-- what it reports
 abbrev pub told : NoteLog MemoryDisk → Content
 told log = told_of ((disk.ghosts).content log.disk)

@@ -1,4 +1,4 @@
--- The partitions and the names that stand in a yard in memory.
+-- The partitions and the names that are in an environment in memory.
 use Rattle.std.specs.Prelude.{◌↔◌, List, ℕ, Option}
 use Rattle.tier_base.specs.declared.names.PartitionId.{PartitionId}
 use Rattle.disk_model.specs.declared.memory_disk.MemoryDisk.{MemoryDisk}
@@ -14,7 +14,7 @@ use Rattle.device_yard.specs.YardContent.{YardContent, Same, IsName, IsFirst, Ar
 abbrev pub SameYardContent : YardContent MemoryDisk MemoryStore (NoteLog MemoryDisk) → YardContent MemoryDisk MemoryStore (NoteLog MemoryDisk) → Type 0
 SameYardContent old new = Same (disk.ghosts).content (store.ghosts).content told old new
 
--- the partitions of which something stands
+-- the partitions in use
 abbrev pub AreUsedOf : YardContent MemoryDisk MemoryStore (NoteLog MemoryDisk) → List PartitionId → Type 0
 AreUsedOf held list = AreUsed (disk.ghosts).content (store.ghosts).content told held list
 
@@ -22,7 +22,7 @@ AreUsedOf held list = AreUsed (disk.ghosts).content (store.ghosts).content told 
 abbrev pub IsFirstOf : YardContent MemoryDisk MemoryStore (NoteLog MemoryDisk) → Option (List ℕ) → Type 0
 IsFirstOf held first = IsFirst (IsName (disk.ghosts).content (store.ghosts).content told held) first
 
--- the partitions that have an object or a note
+-- the partitions that have an object or a metadata event
 abbrev pub HaveTiers : YardContent MemoryDisk MemoryStore (NoteLog MemoryDisk) → List PartitionId → Type 0
 HaveTiers held list = (p : PartitionId) → HasTier (disk.ghosts).content (store.ghosts).content told held p ↔ In p list
 
@@ -30,6 +30,6 @@ HaveTiers held list = (p : PartitionId) → HasTier (disk.ghosts).content (store
 abbrev pub HaveRegistries : YardContent MemoryDisk MemoryStore (NoteLog MemoryDisk) → List PartitionId → Type 0
 HaveRegistries held list = (p : PartitionId) → HasRegistry (disk.ghosts).content (store.ghosts).content told held p ↔ In p list
 
--- the partitions that have an object or a note, and no registry
+-- the partitions that have an object or a metadata event, and no registry
 abbrev pub AreBare : YardContent MemoryDisk MemoryStore (NoteLog MemoryDisk) → List PartitionId → Type 0
 AreBare held list = (p : PartitionId) → IsBare (disk.ghosts).content (store.ghosts).content told held p ↔ In p list

@@ -1,4 +1,4 @@
--- What a yard in memory holds.
+-- What an environment in memory holds.
 use Rattle.std.specs.Prelude.{◌≡◌, ◌+◌, ◌≤◌, true, List, ℕ, None, IsTrue}
 use Rattle.tier_base.specs.declared.names.PartitionId.{PartitionId}
 use Rattle.tier_base.specs.declared.names.BrokerId.{BrokerId}
@@ -12,7 +12,7 @@ use Rattle.memory_yard.specs.Shelf.{at}
 use Rattle.memory_yard.specs.Place.{same_partition, same_disk}
 use Rattle.memory_yard.specs.Crash.{DropsUnsynced}
 
--- the strays, and what stands on the shelves
+-- the strays, and what is on the shelves
 abbrev pub held_by : List (List ℕ) → List (Slot DiskPlace MemoryDisk) → List (Slot PartitionId MemoryStore) → List (Slot PartitionId (NoteLog MemoryDisk)) → List (Slot PartitionId MemoryDisk) → YardContent MemoryDisk MemoryStore (NoteLog MemoryDisk)
 held_by strays disks stores logs registries = record {
   is_observable = true;

@@ -1,4 +1,4 @@
-//! The calls of a yard that are to fail, and the fuse of the disks that it hands out.
+//! The calls of an environment that are to fail, and the fuse of the disks that it provides.
 
 ghost use Rattle.std.specs.Prelude.{◌≡◌, ◌↔◌, IsErr, Contains, None};
 ghost use Rattle.device_yard.specs.Plan.{next_of};
@@ -36,7 +36,7 @@ impl CallPlan {
         }
     }
 
-    /// The fuse of the disks that are handed out.
+    /// The fuse of the disks that are provided.
     pub fn fuse(&self) -> Option<u64>
         ensures { result ≡ self.now.fuse }
     {
@@ -50,7 +50,7 @@ impl CallPlan {
         self.fuse = fuse;
     }
 
-    /// Counts a call, and answers whether it goes on.
+    /// Counts a call, and returns whether it continues.
     pub fn count(&mut self) -> Result<(), Failed>
         ensures fails { IsErr result ↔ Contains self.old.failing (next_of (plan_of self.old)) }
         ensures counted { self.new ≡ record self.old { calls = next_of (plan_of self.old) } }

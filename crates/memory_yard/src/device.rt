@@ -20,10 +20,10 @@ pub trait Device: Drop {
     /// The content of one is that of the other.
     ghost keeps: { Self → Self → Type 0 };
 
-    /// Something stands on it.
+    /// It has content.
     ghost used: { Self → Type 0 };
 
-    /// Answers whether something stands on it. It is asked as one that is handed out anew, which can't fail.
+    /// Returns whether it has content. It is asked as one that is provided again, which can't fail.
     fn is_used(&mut self, alloc: Global) -> Result<bool, AllocError>
         ensures keeps { keeps self.old self.new }
         ensures used { IfOk result (λ answer. IsTrue answer ↔ used self.old) };
@@ -63,7 +63,7 @@ impl Device for MemoryDisk {
     ghost keeps_itself = { λ d. disk_keeps_itself (⟦<MemoryDisk as Disk>⟧.content d) };
 }
 
-/// The disk of a registry. Something stands on it where the registry's file does.
+/// The disk of a registry. It has content where the registry's file does.
 #[derive(Drop)]
 pub struct RegistryDisk {
     pub disk: MemoryDisk,

@@ -91,7 +91,7 @@ fn offer(alloc: Global, first: &mut Option<Blob>, name: &[u8]) -> Result<(), All
     Ok(())
 }
 
-/// Whether a name is the first one so far, or stands behind it.
+/// Whether a name is the first one so far, or follows it.
 fn is_behind(name: &[u8], first: &Option<Blob>) -> bool
     ensures { IsTrue result ↔ IsSomeAnd first.now (λ before. IsUpTo before name.now) }
 {
@@ -101,7 +101,7 @@ fn is_behind(name: &[u8], first: &Option<Blob>) -> bool
     }
 }
 
-/// Whether a text stands before another, or is it.
+/// Whether a text precedes another, or is it.
 fn is_up_to(a: &[u8], b: &[u8]) -> bool
     ensures { IsTrue result ↔ IsUpTo a.now b.now }
 {

@@ -1,4 +1,4 @@
-//! Devices that are handed out of a shelf: one that came back with what it held, or an empty one.
+//! Devices that are provided from a shelf: one that came back with what it held, or an empty one.
 
 ghost use Rattle.std.specs.Prelude.{◌≡◌, ◌≢◌, ◌≤◌, ◌+◌, None, IfOk, OnOk, OnErr, IsErrOf, IsSome, IsTrue, not, is_some};
 ghost use Rattle.tier_base.specs.Device.{IsFresh};
@@ -21,7 +21,7 @@ use object_store::{MemoryStore, Store};
 use std::alloc::Global;
 use tier_base::{PartitionId, Trouble};
 
-/// Sets a fuse to a disk that was just handed out, where there is one.
+/// Sets a fuse to a disk that was just provided, where there is one.
 fn fused(disk: MemoryDisk, fuse: Option<u64>) -> MemoryDisk
     requires fresh { IsFresh (⟦<MemoryDisk as Disk>⟧.control disk) }
     requires infallible { IsTrue (⟦<MemoryDisk as Disk>⟧.control disk).infallible }
@@ -38,7 +38,7 @@ fn fused(disk: MemoryDisk, fuse: Option<u64>) -> MemoryDisk
     disk
 }
 
-/// Hands out a disk that came back, or an empty one. Its calls can't fail but by the fuse, if there is one.
+/// Provides a disk that came back, or an empty one. Its calls can't fail but by the fuse, if there is one.
 pub fn hand_disk(alloc: Global, held: Option<MemoryDisk>, fuse: Option<u64>) -> MemoryDisk
     ensures fresh { IsFresh (⟦<MemoryDisk as Disk>⟧.control result) }
     ensures content { HandsDisk ⟦<MemoryDisk as Disk>⟧.content held (⟦<MemoryDisk as Disk>⟧.content result) }
@@ -64,7 +64,7 @@ pub fn disk_of(held: Option<RegistryDisk>) -> Option<MemoryDisk>
     }
 }
 
-/// Hands out a store, whose calls can't fail.
+/// Provides a store, whose calls can't fail.
 pub fn hand_store(
     alloc: Global,
     stores: &mut Shelf<PartitionId, MemoryStore>,
@@ -85,8 +85,8 @@ pub fn hand_store(
     }
 }
 
-/// Hands out a metadata log: one that is opened over the disk of the log that came back, or over an empty one. Where it can't be
-/// opened the disk is kept. Its disk's calls can't fail but by the fuse, if there is one.
+/// Provides a metadata log: one that is opened over the disk of the log that came back, or over an empty one. Where it
+/// can't be opened the disk is kept. Its disk's calls can't fail but by the fuse, if there is one.
 pub fn hand_log(
     alloc: Global,
     logs: &mut Shelf<PartitionId, LogPlace>,

@@ -108,7 +108,7 @@ impl LogPlace {
     }
 }
 
-/// Opens a log over a disk that was just handed out. Where its calls can't fail it is opened, unless there is no memory.
+/// Opens a log over a disk that was just provided. Where its calls can't fail it is opened, unless there is no memory.
 pub fn open(alloc: Global, disk: MemoryDisk) -> Result<DiskLog<MemoryDisk>, (MemoryDisk, Trouble)>
     requires reopens { Reopens (⟦<MemoryDisk as Disk>⟧.content disk) }
     requires new { IsFresh (⟦<MemoryDisk as Disk>⟧.control disk) }
@@ -130,7 +130,7 @@ pub fn open(alloc: Global, disk: MemoryDisk) -> Result<DiskLog<MemoryDisk>, (Mem
     }
 }
 
-/// Whether a log over a disk has notes, and the place of what is left of it.
+/// Whether a log over a disk has metadata events, and the place of what is left of it.
 fn has_notes(alloc: Global, disk: MemoryDisk) -> (LogPlace, Result<bool, AllocError>)
     requires reopens { Reopens (⟦<MemoryDisk as Disk>⟧.content disk) }
     requires new { IsFresh (⟦<MemoryDisk as Disk>⟧.control disk) }
@@ -148,7 +148,7 @@ fn has_notes(alloc: Global, disk: MemoryDisk) -> (LogPlace, Result<bool, AllocEr
     }
 }
 
-/// Whether a read that can't fail found notes.
+/// Whether a read that can't fail found metadata events.
 fn are_some(found: Result<Row<Note>, Trouble>) -> Result<bool, AllocError>
     requires { fate_of found ≢ Fault }
     ensures answer { IfOk result (λ answer. IfOk found (λ notes. IsTrue answer ↔ (notes ≢ []))) }

@@ -1,4 +1,4 @@
-//! A metadata log in the files of a disk in memory, as the yard in memory hands it out.
+//! A metadata log in the files of a disk in memory, as the environment in memory provides it.
 
 ghost use Rattle.std.specs.Prelude.{[]};
 ghost use Rattle.device_tally.specs.Tally.{fails_as_planned};

@@ -1,4 +1,4 @@
-//! A yard in memory, some of whose calls are to fail.
+//! An environment in memory, some of whose calls are to fail.
 
 ghost use Rattle.std.specs.Prelude.{◌≡◌, ◌≤◌, ◌↔◌, Some, None, IfSome, true, false, IfOk, OnOk, OnErr, IsTrue, Contains};
 ghost use Rattle.std.specs.Option.{option_copied};
@@ -28,8 +28,9 @@ use object_store::MemoryStore;
 use std::alloc::{AllocError, Global};
 use tier_base::{Blob, BrokerId, PartitionId, Row, Trouble};
 
-/// A yard whose devices are in memory. A device that came back is handed out with what it held, and an empty one where none
-/// did; the devices' own calls can't fail, but by a fuse. Beside the names of its partitions it has those of strangers.
+/// An environment whose devices are in memory. A device that came back is provided with what it held, and an empty one
+/// where none did; the devices' own calls can't fail, but by a fuse. Beside the names of its partitions it has those of
+/// strangers.
 #[derive(Drop)]
 pub struct MemoryYard {
     alloc: Global,
@@ -47,8 +48,9 @@ pub struct MemoryYard {
 }
 
 impl MemoryYard {
-    /// Makes a yard without devices, in which the strays' names stand, and takes no memory. Of the calls `first_name`,
-    /// `partitions`, `disk`, `store`, `meta` and `registry`, counted together from 1, those fail whose number the plan names.
+    /// Makes an environment without devices, in which the strays' names exist, and takes no memory. Of the calls
+    /// `first_name`, `partitions`, `disk`, `store`, `meta` and `registry`, counted together from 1, those fail whose
+    /// number the plan names.
     pub fn new(alloc: Global, strays: Vec<Blob>, plan: Vec<u32>) -> MemoryYard
         ensures fresh { control.IsFresh (⟦<MemoryYard as Yard>⟧.control result) }
         ensures named { (⟦<MemoryYard as Yard>⟧.control result).named ≡ None }
@@ -68,7 +70,7 @@ impl MemoryYard {
         }
     }
 
-    /// Counts the faults of the yard.
+    /// Counts the faults of the environment.
     pub fn faults(&self) -> u64
         ensures { result ≡ (⟦<MemoryYard as Yard>⟧.control self.now).faults }
     {
@@ -82,14 +84,14 @@ impl MemoryYard {
         self.counts.returned()
     }
 
-    /// Lends what the registries' disks handed last, in the order in which they came back.
+    /// Lends what the registries' disks last returned, in the order in which they came back.
     pub fn registries(&self) -> &[ReadRegistry]
         ensures { result.now ≡ (⟦<MemoryYard as Yard>⟧.control self.now).registries }
     {
         self.counts.registries()
     }
 
-    /// From now on each disk that is handed out lets so many calls pass, and then fails every call.
+    /// From now on each disk that is provided lets so many calls pass, and then fails every call.
     pub fn fuse(&mut self, calls: u64)
         ensures held { ⟦<MemoryYard as Yard>⟧.held self.new ≡ ⟦<MemoryYard as Yard>⟧.held self.old }
         ensures control { ⟦<MemoryYard as Yard>⟧.control self.new ≡ ⟦<MemoryYard as Yard>⟧.control self.old }
@@ -169,7 +171,7 @@ impl MemoryYard {
         self.registries.reserve(count)
     }
 
-    /// Counts a call that hands a device out, where it goes on.
+    /// Counts a call that provides a device, where it continues.
     fn hand_out(&mut self) -> Result<(), Trouble>
         ensures control { control.Hands (fate_of result) self.old.counts self.new.counts }
         ensures plan { Counts (fate_of result) (Some (plan_of self.old.plan)) (Some (plan_of self.new.plan)) }
@@ -214,7 +216,7 @@ impl MemoryYard {
         Ok(first)
     }
 
-    /// Counts a call that finds the partitions of which something stands.
+    /// Counts a call that finds the partitions in use.
     fn find_partitions(&mut self) -> Result<Row<PartitionId>, Trouble>
         ensures fails { (fate_of result ≡ Fault) ↔ Contains self.old.plan.failing (next_of (plan_of self.old.plan)) }
         ensures plan { self.new.plan ≡ record self.old.plan { calls = next_of (plan_of self.old.plan) } }
@@ -241,7 +243,7 @@ impl MemoryYard {
         Ok(first)
     }
 
-    /// The partitions that have an object or a note, and no registry.
+    /// The partitions that have an object or a metadata event, and no registry.
     fn bare(&mut self) -> Result<Row<PartitionId>, AllocError>
         ensures plan { self.new.plan ≡ self.old.plan }
         ensures counts { self.new.counts ≡ self.old.counts }
@@ -253,7 +255,7 @@ impl MemoryYard {
         without(self.alloc, tiers.as_slice(), kept.as_slice())
     }
 
-    /// The partitions that have an object or a note.
+    /// The partitions that have an object or a metadata event.
     fn tiers(&mut self) -> Result<Row<PartitionId>, AllocError>
         ensures plan { self.new.plan ≡ self.old.plan }
         ensures counts { self.new.counts ≡ self.old.counts }
@@ -283,7 +285,7 @@ impl MemoryYard {
         found.to_row()
     }
 
-    /// The partitions of which something stands.
+    /// The partitions in use.
     fn used(&mut self) -> Result<Row<PartitionId>, AllocError>
         ensures plan { self.new.plan ≡ self.old.plan }
         ensures counts { self.new.counts ≡ self.old.counts }
@@ -340,7 +342,7 @@ impl Yard for MemoryYard {
         ensures err { IsTrue (⟦<MemoryYard as Yard>⟧.held self.old).is_observable → OnErr result
             (SameYardContent (⟦<MemoryYard as Yard>⟧.held self.old) (⟦<MemoryYard as Yard>⟧.held self.new)) }
 
-        // It lets as many calls pass as the yard's fuse says, and then fails every call.
+        // It lets as many calls pass as the environment's fuse says, and then fails every call.
         ensures fuse { IfOk result (λ disk. fuse_of disk ≡ self.old.plan.fuse) }
         ensures stays { self.new.plan.fuse ≡ self.old.plan.fuse }
     {

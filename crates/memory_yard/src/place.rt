@@ -16,11 +16,11 @@ pub trait DevicePlace: Copy {
     /// The place's partition.
     ghost partition_of: { Self → PartitionId };
 
-    /// Answers whether it is the other place.
+    /// Returns whether it is the other place.
     fn is(self, other: Self) -> bool
         ensures { result ≡ same self other };
 
-    /// Answers the partition.
+    /// Returns the partition.
     fn partition(self) -> PartitionId
         ensures { result ≡ partition_of self };
 

@@ -75,7 +75,7 @@ impl<K: DevicePlace, T: Device> Shelf<K, T> {
         }
     }
 
-    /// Puts a device at a place. One that stood there is gone.
+    /// Puts a device at a place. One that was there is gone.
     pub fn put(&mut self, place: K, device: T)
         requires { 1 ≤ self.old.room }
         ensures leaves { Leaves K.same place (Some device) self.old.slots self.new.slots }

@@ -18,7 +18,7 @@ pub struct Slot<K: Copy, T: Drop> {
 }
 
 impl<K: DevicePlace, T: Device> Slot<K, T> {
-    /// Answers whether its device is here and something stands on it.
+    /// Returns whether its device is here and it has content.
     fn is_used(&mut self, alloc: Global) -> Result<bool, AllocError>
         ensures keeps { SlotKeeps T.keeps self.old self.new }
         ensures used { IfOk result (λ answer. IsTrue answer ↔ Has T.used self.old.device) }
@@ -38,7 +38,7 @@ impl<K: DevicePlace, T: Device> Slot<K, T> {
         }
     }
 
-    /// Adds its partition to those that were found, where something stands on its device.
+    /// Adds its partition to those that were found, where its device has content.
     pub fn find(&mut self, alloc: Global, found: &mut PartitionSet) -> Result<(), AllocError>
         ensures keeps { SlotKeeps T.keeps self.old self.new }
         ensures found { OnOk result

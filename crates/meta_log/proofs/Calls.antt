@@ -1,4 +1,4 @@
--- A call that hands nothing, and one of a log in memory that was done or not.
+-- A call that returns nothing, and one of a log in memory that was done or not.
 use Rattle.std.proofs.Common.{◌≡◌, ◌⊎◌, ◌∙◌, inl, inr, ℕ, Bool, true, false, List, [], ◌∷◌, ◌++◌, refl, sym, subst}
 use Rattle.tier_base.specs.Device.{Fate, Ran, RanQuietly}
 use Rattle.tier_base.specs.Faults.{Faults, control_of}
@@ -6,11 +6,11 @@ use Rattle.segment_meta.specs.declared.note.Note.{Note}
 use Rattle.meta_log.specs.Content.{Left, Grows, appended_if}
 use Rattle.meta_log.specs.Memory.{content_of}
 
--- a call that hands nothing
+-- a call that returns nothing
 pub quiet : {K : Type 0} {code : K → ℕ} (call : K) (fate : Fate) (f g : Faults K) (last_read : List ℕ) → ((before after : List ℕ) → Ran call fate (control_of code f before) (control_of code g after)) → RanQuietly call fate (control_of code f last_read) (control_of code g last_read)
 quiet call fate f g last_read ran = record { ran = ran last_read last_read; last_read = refl }
 
--- a call that puts a note at the end
+-- a call that puts an event at the end
 pub grows : (old new : List Note) (done d : Bool) (note : Note) (M : Bool → Type 0) → new ≡ appended_if done note old → done ≡ d → M d → Grows note M (content_of old) (content_of new)
 grows old new done d note M is same m = record { is_observable = refl; notes = λ told. (done, may, is); left = λ told l left. leaves done is may l left }
   where

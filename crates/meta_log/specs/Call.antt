@@ -1,4 +1,4 @@
--- The kinds of call of a metadata log, told apart by a number.
+-- The kinds of call of a metadata log, distinguished by a number.
 use Rattle.std.specs.Prelude.{ℕ}
 use Rattle.meta_log.specs.declared.call.MetaCall.{MetaCall}
 use Rattle.meta_log.specs.declared.call.MetaCall.TheVariants.{Append, Read}

@@ -6,7 +6,7 @@ use Rattle.meta_log.specs.Call.{call_code}
 use Rattle.meta_log.specs.Content.{Content, Grows}
 
 module _ {M : Type 0} (notes : M → Content) (calls : M → Control call_code) where
-  -- a note was appended
+  -- an event was appended
   pub record Appends (note : Note) (fate : Fate) (old new : M) : Type 0 where
     pub control : RanQuietly Append fate (calls old) (calls new)
     pub content : Grows note (MayBeDone Append fate (calls old)) (notes old) (notes new)

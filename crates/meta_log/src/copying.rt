@@ -1,11 +1,11 @@
-//! Copies of notes.
+//! Copies of events.
 
 ghost use Rattle.std.specs.Prelude.{◌≡◌, IfOk};
 
 use segment_meta::{Note, copied_custom};
 use std::alloc::{AllocError, Global};
 
-/// A note that says the same.
+/// An event that says the same.
 pub fn copied(alloc: Global, note: &Note) -> Result<Note, AllocError>
     ensures { IfOk result (λ copy. copy ≡ note.now) }
 {

@@ -2,7 +2,7 @@
 
 use tier_base::BrokerId;
 
-/// The broker that appends a note, and the time in milliseconds.
+/// The broker that appends an event, and the time in milliseconds.
 #[derive(Clone, Copy, Debug, PartialEq, Eq)]
 pub struct EventOrigin {
     pub broker: BrokerId,

@@ -1,5 +1,5 @@
 //! The metadata log of a partition's remote segments: a list of metadata events, as Kafka keeps them in the topic
-//! `__remote_log_metadata`. The code calls an event a note.
+//! `__remote_log_metadata`. The type of an event is called `Event`.
 //!
 //! `MetaLog` is the trait through which brokers learn of each other's remote segments. The events of a log may be
 //! observable; what can always be observed is how many calls failed and how many were made. The events that it

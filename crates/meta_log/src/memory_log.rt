@@ -26,7 +26,7 @@ pub struct MemoryLog {
 }
 
 impl MemoryLog {
-    /// Makes a log with no notes, whose planned calls fail once it is armed, without memory.
+    /// Makes a log with no events, whose planned calls fail once it is armed, without memory.
     pub fn new(alloc: Global, plan: Vec<Planned>) -> MemoryLog
         ensures is_observable { IsTrue (⟦<MemoryLog as MetaLog>⟧.content result).is_observable }
         ensures notes { (⟦<MemoryLog as MetaLog>⟧.content result).notes ≡ [] }
@@ -41,7 +41,7 @@ impl MemoryLog {
         }
     }
 
-    /// Hands the log out anew: the notes stay, with this plan, no fault and no call counted.
+    /// Provides the log again: the events stay, with this plan, no fault and no call counted.
     pub fn renew(&mut self, plan: Vec<Planned>)
         ensures content { Keeps (⟦<MemoryLog as MetaLog>⟧.content self.old)
             (⟦<MemoryLog as MetaLog>⟧.content self.new) }
@@ -60,7 +60,7 @@ impl MemoryLog {
         self.faults.plan()
     }
 
-    /// Answers whether planned calls fail.
+    /// Returns whether planned calls fail.
     pub fn is_armed(&self) -> bool
         ensures { result ≡ (⟦<MemoryLog as MetaLog>⟧.control self.now).armed }
     {

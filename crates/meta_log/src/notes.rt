@@ -1,4 +1,4 @@
-//! The notes of a metadata log in memory. The rules of a note hold of each.
+//! The events of a metadata log in memory. The rules of an event hold of each.
 
 ghost use Rattle.std.specs.Prelude.{◌≡◌, ◌++◌, ◌∷◌, [], length, drop, IfOk, OnOk, OnErr};
 ghost use Rattle.segment_meta.specs.Rules.{IsNote};
@@ -10,7 +10,7 @@ use std::alloc::{AllocError, Global};
 use std::marker::Model;
 use tier_base::Row;
 
-/// Notes, the oldest first.
+/// Events, the oldest first.
 #[derive(Drop)]
 pub struct Notes {
     alloc: Global,
@@ -30,7 +30,7 @@ impl Model for Notes {
 }
 
 impl Notes {
-    /// No notes.
+    /// No events.
     pub fn new(alloc: Global) -> Notes
         ensures { result ≡ [] }
     {
@@ -40,14 +40,14 @@ impl Notes {
         }
     }
 
-    /// Counts the notes.
+    /// Counts the events.
     pub fn len(&self) -> usize
         ensures { result ≡ length self.now }
     {
         self.notes.len()
     }
 
-    /// Puts a copy of a note at the end, where that is to be done.
+    /// Puts a copy of an event at the end, where that is to be done.
     pub fn append_if(&mut self, note: &Note, done: bool) -> Result<(), AllocError>
         requires { IsNote note.now }
         ensures ok { OnOk result (self.new ≡ appended_if done note.now self.old) }
@@ -66,7 +66,7 @@ impl Notes {
         Ok(())
     }
 
-    /// Copies the notes from a place on.
+    /// Copies the events from a place on.
     pub fn read(&self, at: usize) -> Result<Row<Note>, AllocError>
         ensures notes { IfOk result (λ notes. notes ≡ drop at self.now) }
         ensures rules { IfOk result AreNotes }

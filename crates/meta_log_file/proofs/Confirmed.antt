@@ -27,7 +27,7 @@ nothing_front : (a b : List ℕ) → [] ≡ a ++ b → a ≡ []
 nothing_front [] b is = refl
 nothing_front (x ∷ a) b is = cc
 
--- a file that begins with what reads has the notes that read
+-- a file that begins with what reads has the events that read
 begun_front : (notes : List Note) (held after : Option (List ℕ)) → Fronts (frames notes) held → Begins held after → Fronts (frames notes) after
 begun_front notes None after f begins = record { behind = bytes_in after; is = ap (λ (b : List ℕ). b ++ bytes_in after) (sym (nothing_front (frames notes) f.behind f.is)) }
 begun_front notes (Some bytes) after f begins =
@@ -42,7 +42,7 @@ read_opens d gate ends read is_observable = record {
   front = read.has.front is_observable;
 }
 
--- a gate stands at one place
+-- a gate is at one place
 pub gate_same : (held : Option (List ℕ)) (a b : ℕ) → GateAt held a → GateAt held b → a ≡ b
 gate_same None a b p q = p ∙ sym q
 gate_same (Some bytes) a b p q = gate_once a b p.0 q.0 (sym p.1 ∙ q.1)
@@ -117,15 +117,15 @@ confirmed d m n laws laws_m gate ends read fate M keeps synced change durable = 
         ))
         x.2.there
 
--- an opened log has the notes
+-- an opened log has the events
 pub opened_has : (d n : Content) (gate : ℕ) (ends : List ℕ) (read : IsRead d gate ends) → AllHold n read.has.notes → HasNotes n ends Loose
 opened_has d n gate ends read all = record { notes = read.has.notes; told = read.has.told; ends_are = read.has.ends_are; low = omega (arith, read.low, read.has.gate_is); stands = all }
 
--- where the files open, their gate has a reading
+-- where the files open, their gate is valid
 pub opens_gate : (c : Files) (notes : List Note) → Opens c notes → ((end : ℕ) → GateAt (c file.Gate) end → ⊥) → ⊥
 opens_gate c notes o nowhere = nowhere (length (frames notes)) o.gate
 
--- and what stands up to it is notes
+-- and what is up to it is events
 pub opens_unbroken : (c : Files) (notes : List Note) (gate at : ℕ) → Opens c notes → GateAt (c file.Gate) gate → BreakAt gate (take gate (bytes_in (c file.Notes))) at → ⊥
 opens_unbroken c notes gate at o here broken =
     let same = gate_same (c file.Gate) (length (frames notes)) gate o.gate here in
@@ -168,13 +168,13 @@ open_since d m n laws_m keeps then reopens =
     itself : (c : Files) → Image d c → OpensLike d c
     itself c image = (let o = reopens c image in (c, image, (o.0, o.1, o.1)))
 
--- both before and after the notes are those that were read
+-- both before and after the events are those that were read
 pub opened_both : (d n : Content) (laws_n : Lawful n) (gate : ℕ) (ends : List ℕ) (read : IsRead d gate ends) → n.is_observable ≡ d.is_observable → AllHold n read.has.notes → IsTrue d.is_observable → (notes : List Note) × Opens d.files notes × Opens n.files notes
 opened_both d n laws_n gate ends read same all is_observable =
     let now = laws_n.reads (subst IsTrue (sym same) is_observable) in
     (read.has.notes, read_opens d gate ends read is_observable, holds_opens read.has.notes n.files read.has.told (omega (arith, read.low, read.has.gate_is)) (all n.files now))
 
--- where the gate is sure, each image opens with what is told
+-- where the gate is sure, each image opens with what is reported
 pub sure_durable : (d : Content) (laws : Lawful d) (ends : List ℕ) (tail : Tail) (h : HasNotes d ends tail) → IsSure tail → (c : Files) → Image d c → Opens c (notes_told d)
 sure_durable d laws ends tail h sure c image =
     let all = sure_all d h.notes tail h.stands sure in
@@ -182,6 +182,6 @@ sure_durable d laws ends tail h sure c image =
     let is = disk_told d h.notes is_observable (holds_opens h.notes d.files h.told h.low (all d.files (laws.reads is_observable))) in
     subst (Opens c) (sym is) (holds_opens h.notes c h.told h.low (all c image))
 
--- the notes with which the files opened are told
+-- the events with which the files opened are reported
 pub opened_told : (d n : Content) (notes : List Note) → n.is_observable ≡ d.is_observable → IsTrue d.is_observable → Opens d.files notes → Opens n.files notes → Opens d.files (notes_told n)
 opened_told d n notes same is_observable before now = subst (Opens d.files) (sym (disk_told n notes (subst IsTrue (sym same) is_observable) now)) before

@@ -1,4 +1,4 @@
--- Files that give no log, and the place that is told of them.
+-- Files that give no log, and the place that is reported of them.
 use Rattle.std.proofs.Common.{◌≡◌, ◌∙◌, sym, ap, subst, refl, ⊎_elim, inl, inr, ℕ, ◌<◌, List, [], ◌∷◌, ◌++◌, length, take, Option, Some, None, IsTrue, arith, append_assoc}
 use Rattle.tier_base.specs.declared.plain.FileName.TheVariants as file
 use Rattle.tier_base.specs.Told.{bytes_in}
@@ -14,7 +14,7 @@ use Rattle.meta_log_file.proofs.Confirmed.{gate_same, opens_gate, opens_unbroken
 pub damage_closes : (c : Files) (at : ℕ) (notes : List Note) → IsDamage c at → Opens c notes → ⊥
 damage_closes c at notes damage o = ⊎_elim (λ none. opens_gate c notes o none.0) (λ broken. opens_unbroken c notes broken.gate at o broken.stands broken.breaks) damage
 
--- notes that no further one follows are as many as any that no further one follows
+-- events that no further one follows are as many as any that no further one follows
 rest_once : (a b : List Note) (x y : List ℕ) → AreTold a → AreTold b → NoNote x → NoNote y → frames a ++ x ≡ frames b ++ y → a ≡ b
 rest_once [] [] x y ta tb nx ny is = refl
 rest_once [] (m ∷ b) x y ta tb nx ny is = absurd (nx m (frames b ++ y) tb.0 (is ∙ append_assoc (framed m) (frames b) y))
@@ -41,7 +41,7 @@ damage_once c a b p q =
     (λ broken. ⊎_elim (λ none. absurd (none.0 broken.gate broken.stands)) (λ too. broken_once c a b broken too) q)
     p
 
--- a gate that was handed, where it isn't at 0
+-- a gate that was returned, where it isn't at 0
 pub gate_handed : (held : Option (List ℕ)) (gate : ℕ) → GateAt held gate → 0 < gate → bytes_in held ≡ gate_bytes gate
 gate_handed None gate at above = absurd (omega (arith, at, above))
 gate_handed (Some bytes) gate at above = at.1
@@ -52,7 +52,7 @@ kept_damage d m at keeps is_observable none =
     let no = none (subst IsTrue (sym keeps.is_observable) is_observable) in
     inl (λ end here. no.0 end (subst (λ (held : Option (List ℕ)). GateAt held end) (sym (keeps.files file.Gate)) here), no.1)
 
--- notes that break off before the gate that was read
+-- events that break off before the gate that was read
 pub read_damage : (d r m : Content) (gate at : ℕ) → Keeps d r → Keeps r m → (IsTrue r.is_observable → GateAt (r.files file.Gate) gate) → (IsTrue m.is_observable → BreakAt gate (take gate (bytes_in (m.files file.Notes))) at) → IsTrue d.is_observable → IsDamage d.files at
 read_damage d r m gate at first second here broken is_observable =
     let tells_r = subst IsTrue (sym first.is_observable) is_observable in

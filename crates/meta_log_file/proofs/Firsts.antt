@@ -1,4 +1,4 @@
--- The note that begins bytes, if one does.
+-- The event that begins bytes, if one does.
 use Rattle.std.proofs.Common.{◌≡◌, ◌∙◌, sym, ap, subst, refl, ℕ, ◌<◌, ◌≤◌, List, ◌++◌, length, take, drop, Ok, Err, arith, length-append, length-take, length-drop, take-append-drop, append_assoc, get_or, Fits, w8}
 use Rattle.std.specs.List.{All}
 use Rattle.std.specs.Int.{w32, to_be_bytes}
@@ -26,7 +26,7 @@ none_short bytes short note behind told is =
     let size = framed_len note in
     absurd (omega (arith, long, parts, size, short))
 
--- too few bytes for the note
+-- too few bytes for the event
 pub none_cut : (bytes : List ℕ) → 4 ≤ length bytes → length (drop 4 bytes) < size_in bytes → NoNote bytes
 none_cut bytes four short note behind told is =
     let long = ap length is in
@@ -36,14 +36,14 @@ none_cut bytes four short note behind told is =
     let rest = length-drop 4 bytes in
     absurd (omega (arith, long, parts, size, says, short, rest))
 
--- bytes that say no note
+-- bytes that say no event
 pub none_bad : (bytes : List ℕ) (why : NoteRefusal) → note_in (take (size_in bytes) (drop 4 bytes)) ≡ Err why → NoNote bytes
 none_bad bytes why bad note behind told is =
     let body = ap (λ (b : List ℕ). take (size_in b) (drop 4 b)) is ∙ body_again note behind told in
     let read = ap note_in body ∙ note_again note told.rules told.fits in
     absurd (cc)
 
--- a refusal that isn't want of memory
+-- a refusal that isn't running out of memory
 pub refused : (why : NoteRefusal) (bytes : List ℕ) → (why ≡ NoMemory → ⊥) → Refuses why (note_in bytes) → note_in bytes ≡ Err why
 refused Short bytes not is = is
 refused BadVersion bytes not is = is
@@ -55,7 +55,7 @@ refused NoMemory bytes not is = absurd (not refl)
 pub all_bytes : (bytes : List ℕ) → ((i : ℕ) → Fits w8 (get_or bytes i 0)) → All (λ b. b < 256) bytes
 all_bytes bytes each k d low = subst (λ (b : ℕ). b < 256) (get_or_default bytes k 0 d low) (omega (arith, each k))
 
--- bytes that say a note
+-- bytes that say an event
 pub some_first : (bytes : List ℕ) (note : Note) → All (λ b. b < 256) bytes → 4 ≤ length bytes → size_in bytes ≤ length (drop 4 bytes)
     → note_in (take (size_in bytes) (drop 4 bytes)) ≡ Ok note → bytes ≡ framed note ++ drop (size_in bytes) (drop 4 bytes)
 unfolding framed size_in

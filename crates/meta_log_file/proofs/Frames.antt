@@ -1,4 +1,4 @@
--- Notes as they stand in the file.
+-- Events as they are in the file.
 use Rattle.std.proofs.Common.{◌≡◌, ◌∙◌, sym, ap, refl, ℕ, ◌+◌, ◌*◌, ◌<◌, ◌≤◌, ◌^◌, Bool, true, false, List, [], ◌∷◌, ◌++◌, length, take, drop, Some, None, arith, length-append, append_assoc}
 use Rattle.std.specs.Int.{w32, w64, to_be_bytes, from_be_bytes}
 use Rattle.std.proofs.lemmas.List.{take_at, drop_at, append-nil}
@@ -20,7 +20,7 @@ packed_len : (packed : Bool) → length (packed_bytes packed) ≤ 2
 packed_len false = omega arith
 packed_len true = omega arith
 
--- a note is short
+-- an event is short
 pub note_len : (note : Note) → IsTold note → length (note_bytes note) < 2 ^ 32
 unfolding note_bytes entry_bytes span_bytes event_bytes update_bytes ts_bytes
 note_len (Add entry) told =
@@ -37,12 +37,12 @@ note_len (Update id broker event_ts state (Some bytes)) told =
     let few = told.rules.1.few in
     simp length-append (omega (arith, id_len, few))
 
--- a note and its length
+-- an event and its length
 pub framed_len : (note : Note) → length (framed note) ≡ 4 + length (note_bytes note)
 unfolding framed
 framed_len note = length-append (to_be_bytes w32 (length (note_bytes note))) (note_bytes note)
 
--- what stands in front of a note's bytes
+-- what precedes an event's bytes
 framed_size : (note : Note) (behind : List ℕ) → take 4 (framed note ++ behind) ≡ to_be_bytes w32 (length (note_bytes note))
 unfolding framed
 framed_size note behind =
@@ -70,7 +70,7 @@ behind_again note behind told =
     ap (λ (n : ℕ). drop (4 + n) (framed note ++ behind)) (size_again note behind told)
     ∙ drop_at (framed note) behind (4 + length (note_bytes note)) (framed_len note)
 
--- two notes at the front of the same bytes are one
+-- two events at the front of the same bytes are one
 pub record Same (n m : Note) (x y : List ℕ) : Type 0 where
   pub note : n ≡ m
   pub behind : x ≡ y
@@ -90,7 +90,7 @@ pub frames_append : (a b : List Note) → frames (a ++ b) ≡ frames a ++ frames
 frames_append [] b = refl
 frames_append (n ∷ a) b = ap (λ (l : List ℕ). framed n ++ l) (frames_append a b) ∙ sym (append_assoc (framed n) (frames a) (frames b))
 
--- one note more
+-- one event more
 pub frames_more : (notes : List Note) (note : Note) → frames (notes ++ note ∷ []) ≡ frames notes ++ framed note
 frames_more notes note = frames_append notes (note ∷ []) ∙ ap (λ (l : List ℕ). frames notes ++ l) (append-nil (framed note))
 
@@ -98,7 +98,7 @@ pub told_append : (a b : List Note) → AreTold a → AreTold b → AreTold (a +
 told_append [] b ta tb = tb
 told_append (n ∷ a) b ta tb = (ta.0, told_append a b ta.1 tb)
 
--- what stands behind notes that begin others
+-- what follows events that begin others
 pub record Behind (notes all : List Note) (rest : List ℕ) : Type 0 where
   pub more : List Note
   pub told : AreTold more
@@ -123,7 +123,7 @@ frames_front (n ∷ notes) (m ∷ all) rest tn ta is =
       all_are = ap (λ (l : List Note). m ∷ l) tail.all_are ∙ ap (λ (x : Note). x ∷ (notes ++ tail.more)) one.note;
     }
 
--- notes are those that their bytes say
+-- events are those that their bytes say
 pub frames_once : (a b : List Note) → AreTold a → AreTold b → frames a ≡ frames b → a ≡ b
 frames_once [] [] ta tb is = refl
 frames_once [] (m ∷ b) ta tb is = (let long = ap length is in let parts = length-append (framed m) (frames b) in let size = framed_len m in absurd (omega (arith, long, parts, size)))
@@ -132,7 +132,7 @@ frames_once (n ∷ a) (m ∷ b) ta tb is =
     let one = framed_once n m (frames a) (frames b) ta.0 tb.0 is in
     ap (λ (x : Note). x ∷ a) one.note ∙ ap (λ (l : List Note). m ∷ l) (frames_once a b ta.1 tb.1 one.behind)
 
--- there are no more notes than bytes
+-- there are no more events than bytes
 pub frames_long : (notes : List Note) → length notes ≤ length (frames notes)
 frames_long [] = omega arith
 frames_long (n ∷ notes) = let more = frames_long notes in let parts = length-append (framed n) (frames notes) in let size = framed_len n in omega (arith, more, parts, size)
@@ -141,7 +141,7 @@ pub gate_len : (end : ℕ) → length (gate_bytes end) ≡ 8
 unfolding gate_bytes
 gate_len end = refl
 
--- a gate stands at one place
+-- a gate is at one place
 pub gate_once : (a b : ℕ) → a < 2 ^ 64 → b < 2 ^ 64 → gate_bytes a ≡ gate_bytes b → a ≡ b
 unfolding gate_bytes
 gate_once a b la lb is = sym (from_be_bytes-to_be_bytes_8 a la) ∙ ap (from_be_bytes w64) is ∙ from_be_bytes-to_be_bytes_8 b lb

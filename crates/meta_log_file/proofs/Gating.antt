@@ -20,7 +20,7 @@ pub no_gate_of : (held : Option (List ℕ)) (here : ℕ) (next : Option ℕ) (en
 no_gate_of None here next end at not = λ e is low same. (let long = ap length same in let size = gate_len e in absurd (omega (arith, long, size)))
 no_gate_of (Some bytes) here next end at not = λ e is low same. not (subst (IsGateOf here next) (gate_once e end low at.0 (sym same ∙ at.1)) is)
 
--- what the images have of an open log: notes, and perhaps more
+-- what the images have of an open log: events, and perhaps more
 pub record Gated (d : Content) (ends : List ℕ) (notes more : List Note) : Type 0 where
   pub choice : Choice notes more
   pub ends_are : ends ≡ ends_from 0 notes
@@ -78,7 +78,7 @@ has_kept d m ends tail keeps h = record { notes = h.notes; told = h.told; ends_a
 pub keeps_since : (d m : Content) (ends : List ℕ) (tail : Tail) → Keeps d m → HasNotes d ends tail → LeavesOnly d m (OpensLike d)
 keeps_since d m ends tail keeps h = goes_on d d m (OpensLike d) (has_started d ends tail h) keeps.time (λ c image. has_like d ends tail h c (keeps.images c image))
 
--- after a replacement of the gate each image has the notes as an image of before
+-- after a replacement of the gate each image has the events as an image of before
 pub record Regated (d n : Content) (g : List ℕ) (c : Files) : Type 0 where
   pub image : Files
   pub was : Image d image

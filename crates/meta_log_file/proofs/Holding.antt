@@ -1,4 +1,4 @@
--- Images that have the notes, and with what they open.
+-- Images that have the events, and with what they open.
 use Rattle.std.proofs.Common.{◌≡◌, ◌≢◌, ◌∙◌, sym, ap, subst, refl, inl, inr, ⊎_elim, ◌⊎◌, ℕ, zero, suc, ◌+◌, ◌<◌, ◌≤◌, ◌^◌, Bool, true, false, cond, List, [], ◌∷◌, ◌++◌, length, take, get_or, Option, Some, IsTrue, arith, length-append, append_assoc, zero-add}
 use Rattle.std.proofs.lemmas.List.{append-nil, take_all}
 use Rattle.tier_base.specs.declared.plain.FileName.TheVariants as file
@@ -17,14 +17,14 @@ notes_not_gate is = cc
 pub gate_not_notes : file.Gate ≢ file.Notes
 gate_not_notes is = cc
 
--- the front of fewer notes
+-- the front of fewer events
 pub front_less : (notes more : List Note) (held : Option (List ℕ)) → Fronts (frames (notes ++ more)) held → Fronts (frames notes) held
 front_less notes more held f = record {
   behind = frames more ++ f.behind;
   is = f.is ∙ ap (λ (b : List ℕ). b ++ f.behind) (frames_append notes more) ∙ append_assoc (frames notes) (frames more) f.behind;
 }
 
--- notes that may be all or the first of more
+-- events that may be all or the first of more
 pub record Choice (notes more : List Note) : Type 0 where
   pub told : AreTold notes
   pub told_more : AreTold more
@@ -86,7 +86,7 @@ pub like_of : (notes more : List Note) (d : Content) (c x : Files) → Choice no
 like_of notes more d c x choice hc hx image same =
     let o = or_opens notes more x choice hx in (x, image, (o.with, o.each x hx refl, o.each c hc same))
 
--- the files that a disk has are told where it tells
+-- the files that a disk has are reported where it is observable
 pub told_same : (d n : Content) → n.is_observable ≡ d.is_observable → (IsTrue d.is_observable → notes_of n.files ≡ notes_of d.files) → notes_told n ≡ notes_told d
 told_same d n is_observable files = by d.is_observable is_observable files
   where
@@ -98,7 +98,7 @@ pub notes_same : (c d : Files) → c file.Gate ≡ d file.Gate → c file.Notes 
 unfolding notes_of
 notes_same c d gate notes = cc
 
--- where the notes end
+-- where the events end
 pub ends_len : (start : ℕ) (notes : List Note) → length (ends_from start notes) ≡ length notes
 ends_len start [] = refl
 ends_len start (n ∷ notes) = ap suc (ends_len (start + length (framed n)) notes)
@@ -111,7 +111,7 @@ end_at start (n ∷ notes) (suc k) lt =
     let parts = length-append (framed n) (frames (take (suc k) notes)) in
     omega (arith, more, parts)
 
--- where the note of a number begins
+-- where the event of a number begins
 pub start_at : (notes : List Note) (k : ℕ) → k ≤ length notes → start_of (ends_from 0 notes) k ≡ length (frames (take k notes))
 start_at notes zero le = refl
 start_at notes (suc k) le = end_at 0 notes k (omega (arith, le)) ∙ zero-add (length (frames (take (suc k) notes)))

@@ -1,4 +1,4 @@
--- With which notes the images of a disk open that a call leaves.
+-- With which events the images of a disk open that a call leaves.
 use Rattle.std.proofs.Common.{◌≡◌, ◌∙◌, ◌⊎◌, inl, inr, sym, ap, subst, refl, true, false, ℕ, Bool, List, [], ◌∷◌, ◌++◌, Option, None, IsTrue}
 use Rattle.tier_base.specs.Device.{Fate, Went, MayBeDone}
 use Rattle.disk_model.specs.Content.{Content, Files, Image, Lawful, Keeps, LeavesOnly}
@@ -31,7 +31,7 @@ pub kept_left : (d m : Content) → Keeps d m → notes_told m ≡ notes_told d 
 kept_left d m keeps same l (inl is) = inl (is ∙ same)
 kept_left d m keeps same l (inr (c, image, o)) = inr (c, keeps.images c image, o)
 
--- each image opens with these notes
+-- each image opens with these events
 pub opens_left : (n : Content) (notes : List Note) → notes_told n ≡ notes → ((c : Files) → Image n c → Opens c notes) → (l : List Note) → Left (told_of n) l → l ≡ notes
 opens_left n notes told all l (inl is) = is ∙ told
 opens_left n notes told all l (inr (c, image, o)) = opens_once c l notes o (all c image)
@@ -39,14 +39,14 @@ opens_left n notes told all l (inr (c, image, o)) = opens_once c l notes o (all 
 pub durable_left : (n : Content) → ((c : Files) → Image n c → Opens c (notes_told n)) → LeavesTold (told_of n)
 durable_left n all l left = opens_left n (notes_told n) refl all l left
 
--- a call that didn't go and puts no note
+-- a call that didn't go and puts no event
 pub undone : (fate : Fate) → (fate ≡ Went → ⊥) → IsDone fate false
 undone fate not = record { went = λ went. absurd (not went); dry = λ dry. refl }
 
 pub grows_left : (d m : Content) (note : Note) (fate : Fate) → (fate ≡ Went → ⊥) → m.is_observable ≡ d.is_observable → notes_told m ≡ notes_told d → ((l : List Note) → Left (told_of m) l → Left (told_of d) l) → Grows note (IsDone fate) (told_of d) (told_of m)
 grows_left d m note fate not is_observable same left = record { is_observable = is_observable; notes = λ t. (false, undone fate not, same); left = λ t l at. inl (undone fate not, left l at) }
 
--- a call that puts a note, behind one that changes nothing
+-- a call that puts an event, after one that changes nothing
 pub grows_behind : (d m n : Content) (note : Note) (fate : Fate) → m.is_observable ≡ d.is_observable → notes_told m ≡ notes_told d → ((l : List Note) → Left (told_of m) l → Left (told_of d) l) → Grows note (IsDone fate) (told_of m) (told_of n)
     → Grows note (IsDone fate) (told_of d) (told_of n)
 grows_behind d m n note fate is_observable same left g = record {
@@ -81,14 +81,14 @@ grows_for counts a b note fate g = record { is_observable = g.is_observable; not
     more (inl (done, at)) = inl (may false done, at)
     more (inr (done, is)) = inr (may true done, is)
 
--- an opening leaves no notes but those that might have been left before
+-- an opening leaves no events but those that might have been left before
 pub open_left : (d n : Content) (laws : Lawful d) (laws_n : Lawful n) → IsTrue d.is_observable → LeavesOnly d n (OpensLike d) → Opens d.files (notes_told n) → (l : List Note) → Left (told_of n) l → IsLeft d l
 open_left d n laws laws_n is_observable since opened l (inl is) = (d.files, laws.reads is_observable, subst (Opens d.files) (sym is) opened)
 open_left d n laws laws_n is_observable since opened l (inr (c, image, o)) =
     let x = since.each c (laws_n.earlier d.moment n.moment c since.later image) in
     (x.0, x.1, subst (Opens x.0) (opens_once c x.2.0 l x.2.2 o) x.2.1)
 
--- an opening keeps the notes
+-- an opening keeps the events
 pub opening_keeps : (d n : Content) (laws : Lawful d) (laws_n : Lawful n) → n.is_observable ≡ d.is_observable → (IsTrue d.is_observable → (l : List Note) → Opens d.files l → Opens n.files l) → (Reopens d → LeavesOnly d n (OpensLike d)) → Reopens d
     → log.Keeps (told_of d) (told_of n)
 opening_keeps d n laws laws_n is_observable same since reopens =

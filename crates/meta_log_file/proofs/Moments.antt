@@ -1,4 +1,4 @@
--- How a run of disk calls goes on.
+-- How a run of disk calls continues.
 use Rattle.std.proofs.Common.{inl, inr, ⊎_elim, arith}
 use Rattle.disk_model.specs.Content.{Content, Files, Image, Elapses, LeavesOnly}
 

@@ -22,7 +22,7 @@ use Rattle.meta_log_file.proofs.Leaving.{undone, opens_left, grows_left}
 use Rattle.meta_log_file.proofs.Holding.{note_choice, holds_opens, or_opens, last_end, ends_len}
 use Rattle.meta_log_file.proofs.Written.{leaves_started, leaves_on, sure_all, keeps_all}
 
--- an open log whose gate is sure, and a note that is to be put
+-- an open log whose gate is sure, and an event that is to be put
 pub record Ready (d : Content) (ends : List ℕ) (notes : List Note) (note : Note) (next : ℕ) : Type 0 where
   pub laws : Lawful d
   pub all : AllHold d notes
@@ -50,7 +50,7 @@ ready d laws ends tail h note bytes end next sure told is end_is next_is low =
       next_low = low;
     }
 
--- the disk tells the notes that each image has
+-- the disk reports the events that each image has
 all_told : (d : Content) (laws : Lawful d) (notes : List Note) → AllHold d notes → AreTold notes → length (frames notes) < 2 ^ 64 → IsTrue d.is_observable → notes_told d ≡ notes
 all_told d laws notes all told low is_observable = disk_told d notes is_observable (holds_opens notes d.files told low (all d.files (laws.reads is_observable)))
 
@@ -58,7 +58,7 @@ all_told d laws notes all told low is_observable = disk_told d notes is_observab
 leaves_like : (d : Content) (laws : Lawful d) (notes : List Note) → AllHold d notes → AreTold notes → length (frames notes) < 2 ^ 64 → (c : Files) → IsTrue d.is_observable → Opens c notes → OpensLike d c
 leaves_like d laws notes all told low c is_observable o = (d.files, laws.reads is_observable, (notes, holds_opens notes d.files told low (all d.files (laws.reads is_observable)), o))
 
--- what is left with the notes is what an append may leave
+-- what is left with the events is what an append may leave
 holds_appending : (d : Content) (ends : List ℕ) (notes : List Note) (note : Note) (next : ℕ) → Ready d ends notes note next → (c : Files) → Leaves d notes c → Appending d (notes_told d) note c
 holds_appending d ends notes note next r c (is_observable, h) = inl (leaves_like d r.laws notes r.all r.told r.low c is_observable (holds_opens notes c r.told r.low h))
 
@@ -72,7 +72,7 @@ or_appending d ends notes note next r c (is_observable, h) =
     (λ is. inr (subst (λ (l : List Note). Opens c (l ++ note ∷ [])) (sym (all_told d r.laws notes r.all r.told r.low is_observable)) (subst (Opens c) is opens)))
     o.one_of
 
--- the note was written, or not
+-- the event was written, or not
 pub extended_since : (d m e : Content) (laws_m : Lawful m) (ends : List ℕ) (notes : List Note) (note : Note) (next : ℕ) (fate : Fate) → Ready d ends notes note next → Keeps d m → Extends notes note fate m e
     → LeavesOnly d e (Appending d (notes_told d) note)
 extended_since d m e laws_m ends notes note next fate r keeps x =
@@ -83,7 +83,7 @@ extended_since d m e laws_m ends notes note next fate r keeps x =
 pub extended_has : (d e : Content) (ends now : List ℕ) (notes : List Note) (note : Note) (next : ℕ) (fate : Fate) (m : Content) → Ready d ends notes note next → Extends notes note fate m e → now ≡ ends → HasNotes e now (Unsure None)
 extended_has d e ends now notes note next fate m r x same = record { notes = notes; told = r.told; ends_are = same ∙ r.ends_are; low = r.low; stands = x.images }
 
--- each image has the note behind the others, and the gate before it
+-- each image has the event after the others, and the gate before it
 pub extended_or : (notes : List Note) (note : Note) (c : Files) → Holds notes c → Fronts (frames (notes ++ note ∷ [])) (c file.Notes) → HoldsOr notes (notes ++ note ∷ []) c
 extended_or notes note c h front = record { gate = inl h.gate; front = front }
 
@@ -117,7 +117,7 @@ committed_since d m e n laws_m ends notes note next fate r keeps x same y =
     leaves_then d e n (Appending d (notes_told d) note) (extended_since d m e laws_m ends notes note next Went r keeps x)
     (leaves_weaker e n (LeavesOr d notes (notes ++ note ∷ [])) (Appending d (notes_told d) note) (or_appending d ends notes note next r) then)
 
--- the notes with the new one behind them
+-- the events with the new one after them
 more_told : (d n : Content) (laws_n : Lawful n) (ends : List ℕ) (notes : List Note) (note : Note) (next : ℕ) → Ready d ends notes note next → n.is_observable ≡ d.is_observable → HoldsOr notes (notes ++ note ∷ []) n.files → IsTrue d.is_observable
     → (notes_told n ≡ notes_told d) ⊎ (notes_told n ≡ notes_told d ++ note ∷ [])
 more_told d n laws_n ends notes note next r same h is_observable =
@@ -127,7 +127,7 @@ more_told d n laws_n ends notes note next r same h is_observable =
     let was = all_told d r.laws notes r.all r.told r.low is_observable in
     ⊎_elim (λ is. inl (now ∙ is ∙ sym was)) (λ is. inr (now ∙ is ∙ ap (λ (l : List Note). l ++ note ∷ []) (sym was))) o.one_of
 
--- an image with these notes or more of them opens with the one or the other
+-- an image with these events or more of them opens with the one or the other
 or_left : (d : Content) (ends : List ℕ) (notes : List Note) (note : Note) (next : ℕ) → Ready d ends notes note next → (c : Files) → HoldsOr notes (notes ++ note ∷ []) c → (l : List Note) → Opens c l → IsTrue d.is_observable
     → (l ≡ notes_told d) ⊎ (l ≡ notes_told d ++ note ∷ [])
 or_left d ends notes note next r c h l o is_observable =
@@ -160,7 +160,7 @@ grows_perhaps d e n laws_n ends notes note next Fault r same x not = record {
     either l (inl is) = inl (undone Fault not, inl is)
     either l (inr is) = inr (record { went = λ went. refl; dry = λ dry. cc }, is)
 
--- the note was appended
+-- the event was appended
 pub put_has : (d m e n : Content) (ends now : List ℕ) (notes : List Note) (note : Note) (next : ℕ) → Ready d ends notes note next → Commits notes (notes ++ note ∷ []) Went e n → EndsWith n (notes ++ note ∷ []) → now ≡ ends ++ next ∷ [] → HasNotes n now Exact
 put_has d m e n ends now notes note next r x exact now_is = record {
   notes = notes ++ note ∷ [];

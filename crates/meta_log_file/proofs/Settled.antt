@@ -69,7 +69,7 @@ sure_here d m n ends next end M h here keeps change durable =
     front_of None h c r = subst (Fronts (frames h.notes)) (sym r.notes) (h.stands r.image r.was).front
     front_of (Some e) h c r = subst (Fronts (frames h.notes)) (sym r.notes) ((in_doubt d ends (Unsure (Some e)) h).gated.choice.front (r.image file.Notes) (h.stands.images r.image r.was).front)
 
--- the gate is where the next note ends
+-- the gate is where the next event ends
 pub sure_next : (d m n : Content) (ends : List ℕ) (next : Option ℕ) (end : ℕ) (M : Bool → Type 0) → HasNotes d ends (Unsure next) → next ≡ Some end
     → Keeps d m → Changes file.Gate (replaced (gate_bytes end)) (Swapped (gate_bytes end)) M m n → ((c : Files) → Image n c → c file.Gate ≡ Some (gate_bytes end)) → HasNotes n (ends ++ end ∷ []) Loose
 sure_next d m n ends None end M h is keeps change durable = absurd (cc)
@@ -110,7 +110,7 @@ settle_since d m n laws laws_after ends next end M h of reads keeps change =
         (λ is. like_of doubt.notes doubt.more d c d.files doubt.gated.choice hc hd now (is ∙ sym gate.0))
         r.gate
 
--- and the log tells what it told
+-- and the log reports what it reported
 pub settle_told : (d m n : Content) (laws : Lawful d) (ends : List ℕ) (next : Option ℕ) (end : ℕ) (M : Bool → Type 0) → HasNotes d ends (Unsure next)
     → (IsTrue d.is_observable → GateAt (d.files file.Gate) end) → Keeps d m → Changes file.Gate (replaced (gate_bytes end)) (Swapped (gate_bytes end)) M m n → notes_told n ≡ notes_told d
 settle_told d m n laws ends next end M h reads keeps change = told_same d n (change.is_observable ∙ keeps.is_observable) here
@@ -129,7 +129,7 @@ settle_told d m n laws ends next end M h reads keeps change = told_same d n (cha
         let x = change.files (subst IsTrue (sym keeps.is_observable) is_observable) in
         notes_same n.files d.files (swapped x.0 gate.0 (keeps.files file.Gate) x.2.there) (x.2.others file.Notes notes_not_gate ∙ keeps.files file.Notes)
 
--- an observable disk hands a gate of the log
+-- an observable disk returns a gate of the log
 pub no_strange_gate : (d : Content) (laws : Lawful d) (ends : List ℕ) (next : Option ℕ) → HasNotes d ends (Unsure next) → IsTrue d.is_observable → IsNoGateOf (start_of ends (length ends)) next (bytes_in (d.files file.Gate)) → ⊥
 no_strange_gate d laws ends None h is_observable strange =
     let hd = h.stands d.files (laws.reads is_observable) in

@@ -1,4 +1,4 @@
--- A part of the file is the notes from a number on.
+-- A part of the file is the events from a number on.
 use Rattle.std.proofs.Common.{◌≡◌, ◌∙◌, sym, ap, refl, ℕ, zero, suc, ◌-◌, ◌≤◌, List, [], ◌∷◌, ◌++◌, length, take, drop, Option, Some, None, option_map, IsTrue, arith, length-append, take-append-drop, append_assoc}
 use Rattle.std.specs.List.{All}
 use Rattle.std.proofs.lemmas.List.{take_at, drop_at, drop_all}
@@ -44,13 +44,13 @@ told_drop zero notes told = told
 told_drop (suc k) [] told = tt
 told_drop (suc k) (n ∷ notes) told = told_drop k notes told.1
 
--- the rules hold of what is told
+-- the rules hold of what is reported
 pub told_rules : (notes : List Note) → AreTold notes → All IsNote notes
 told_rules [] told k d low = absurd (omega (arith, low))
 told_rules (n ∷ notes) told zero d low = told.0.rules
 told_rules (n ∷ notes) told (suc k) d low = told_rules notes told.1 k d (omega (arith, low))
 
--- the notes from a number on, as they stand in the file
+-- the events from a number on, as they are in the file
 pub record Span (d : Content) (from at size : ℕ) : Type 0 where
   pub notes : List Note
   pub told : AreTold notes
@@ -80,17 +80,17 @@ span_of d laws ends tail h from at end size sure is_observable within at_is end_
       are = ap (drop from) (sym (disk_told d notes is_observable (holds_opens notes d.files h.told h.low here)));
     }
 
--- the notes that were read are those
+-- the events that were read are those
 pub span_notes : (d : Content) (from at size : ℕ) (part : Option (List ℕ)) (notes : List Note) → Span d from at size → part ≡ option_map (part_of at size) (d.files file.Notes) → ReadsSpan size (bytes_in part) (Some notes) → notes ≡ drop from (notes_told d)
 span_notes d from at size part notes s is read =
     let bytes = ap bytes_in is ∙ part_bytes at size (d.files file.Notes) ∙ s.bytes in
     frames_once notes s.notes read.0 s.told (sym read.1 ∙ bytes) ∙ s.are
 
--- and they have a reading
+-- and they are valid
 pub span_reads : (d : Content) (from at size : ℕ) (part : Option (List ℕ)) → Span d from at size → part ≡ option_map (part_of at size) (d.files file.Notes) → ReadsSpan size (bytes_in part) None → ⊥
 span_reads d from at size part s is none = none s.notes s.told s.long (ap bytes_in is ∙ part_bytes at size (d.files file.Notes) ∙ s.bytes)
 
--- past the last note there is none
+-- past the last event there is none
 pub none_from : (d : Content) (laws : Lawful d) (ends : List ℕ) (tail : Tail) (h : HasNotes d ends tail) (from : ℕ) → IsSure tail → IsTrue d.is_observable → length ends ≤ from → drop from (notes_told d) ≡ []
 none_from d laws ends tail h from sure is_observable past =
     let here = sure_all d h.notes tail h.stands sure d.files (laws.reads is_observable) in

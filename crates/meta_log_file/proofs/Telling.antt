@@ -1,4 +1,4 @@
--- What the files tell is what they open with.
+-- What the files report is what they open with.
 use Rattle.std.proofs.Common.{◌≡◌, ◌∙◌, sym, ap, subst, refl, ℕ, ◌+◌, ◌≤◌, suc, zero, List, [], ◌∷◌, ◌++◌, length, take, drop, Option, Some, None, arith, cond, IsTrue}
 use Rattle.std.proofs.lemmas.List.{take_at}
 use Rattle.tier_base.specs.declared.plain.FileName.TheVariants as file
@@ -11,13 +11,13 @@ use Rattle.meta_log_file.specs.Notes.{framed, frames, AreTold, GateAt, Fronts, O
 use Rattle.meta_log_file.specs.Told.{recorded, size_in, notes_at, gate_of, gated, notes_of, notes_told}
 use Rattle.meta_log_file.proofs.Frames.{body_again, behind_again, frames_long, gate_again}
 
--- no bytes are no notes
+-- no bytes are no events
 none_again : (size count : ℕ) → recorded (note_in (take size [])) (notes_at count (drop (4 + size) [])) ≡ []
 unfolding note_in
 none_again zero count = refl
 none_again (suc size) count = refl
 
--- notes are read again
+-- events are read again
 pub notes_again : (notes : List Note) (count : ℕ) → AreTold notes → length notes ≤ count → notes_at count (frames notes) ≡ notes
 notes_again [] zero told few = refl
 notes_again [] (suc count) told few = none_again (size_in []) count
@@ -33,7 +33,7 @@ gate_is : (held : Option (List ℕ)) (end : ℕ) → GateAt held end → gate_of
 gate_is None end at = sym at
 gate_is (Some bytes) end at = ap (λ (b : List ℕ). gate_of (Some b)) at.1 ∙ gate_again end at.0
 
--- the files tell the notes with which they open
+-- the files report the events with which they open
 pub opens_told : (c : Files) (notes : List Note) → Opens c notes → notes_of c ≡ notes
 unfolding notes_of
 opens_told c notes o =
@@ -46,7 +46,7 @@ opens_told c notes o =
 pub opens_once : (c : Files) (a b : List Note) → Opens c a → Opens c b → a ≡ b
 opens_once c a b p q = sym (opens_told c a p) ∙ opens_told c b q
 
--- an observable disk tells the notes with which its files open
+-- an observable disk reports the events with which its files open
 pub disk_told : (d : Content) (notes : List Note) → IsTrue d.is_observable → Opens d.files notes → notes_told d ≡ notes
 disk_told d notes is_observable o = ap (λ b. cond b (notes_of d.files) []) is_observable ∙ opens_told d.files notes o
 

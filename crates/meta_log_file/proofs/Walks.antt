@@ -1,4 +1,4 @@
--- Going through notes one behind another.
+-- Going through events one after another.
 use Rattle.std.proofs.Common.{◌≡◌, ◌∙◌, sym, ap, refl, ℕ, ◌+◌, ◌<◌, ◌≤◌, List, [], ◌∷◌, ◌++◌, length, arith, length-append, append_assoc, zero-add}
 use Rattle.std.proofs.lemmas.List.{append-nil}
 use Rattle.segment_meta.specs.declared.note.Note.{Note}
@@ -7,7 +7,7 @@ use Rattle.meta_log_file.specs.Ends.{ends_from}
 use Rattle.meta_log_file.specs.Reading.{NoNote, EndAt, BreakAt}
 use Rattle.meta_log_file.proofs.Frames.{frames_more, told_append, frames_front, Behind}
 
--- notes were found at the front, and these bytes are left
+-- events were found at the front, and these bytes are left
 pub record Found (bytes : List ℕ) (notes : List Note) (rest : List ℕ) : Type 0 where
   pub told : AreTold notes
   pub bytes_are : bytes ≡ frames notes ++ rest
@@ -27,7 +27,7 @@ found_more bytes notes rest note behind found told is = record {
 pub found_all : (bytes : List ℕ) (notes : List Note) (rest : List ℕ) → Found bytes notes rest → rest ≡ [] → bytes ≡ frames notes
 found_all bytes notes rest found nothing = found.bytes_are ∙ ap (λ (b : List ℕ). frames notes ++ b) nothing ∙ append-nil (frames notes)
 
--- bytes that no note begins are no notes, or none are left
+-- bytes that no event begins are no events, or none are left
 pub found_no : (notes all : List Note) (rest : List ℕ) → AreTold notes → AreTold all → NoNote rest → frames all ≡ frames notes ++ rest → (all ≡ notes) × (rest ≡ [])
 found_no notes all rest tn ta none is = by_more (frames_front notes all rest tn ta is)
   where
@@ -38,7 +38,7 @@ found_no notes all rest tn ta none is = by_more (frames_front notes all rest tn 
         more_none [] told rest_is all_are = (all_are ∙ append-nil notes, rest_is)
         more_none (m ∷ more) told rest_is all_are = absurd (none m (frames more) told.0 rest_is)
 
--- notes were found at the front that end there, the last of them at a place
+-- events were found at the front that end there, the last of them at a place
 pub record Ended (bytes : List ℕ) (ends : List ℕ) (end : ℕ) (rest : List ℕ) : Type 0 where
   pub notes : List Note
   pub found : Found bytes notes rest
@@ -48,7 +48,7 @@ pub record Ended (bytes : List ℕ) (ends : List ℕ) (end : ℕ) (rest : List �
 pub ended_none : (bytes : List ℕ) → Ended bytes [] 0 bytes
 ended_none bytes = record { notes = []; found = found_none bytes; ends_are = refl; end_is = refl }
 
--- the ends of one note more
+-- the ends of one event more
 pub ends_more : (start : ℕ) (notes : List Note) (note : Note) → ends_from start (notes ++ note ∷ []) ≡ ends_from start notes ++ (start + length (frames (notes ++ note ∷ []))) ∷ []
 ends_more start [] note = ap (λ (n : ℕ). (start + n) ∷ []) (ap length (sym (append-nil (framed note))))
 ends_more start (n ∷ notes) note =
@@ -88,7 +88,7 @@ ended_all gate bytes ends end rest so_far few reached =
     empty [] is = refl
     empty (x ∷ l) is = absurd (omega (arith, is))
 
--- no note begins what is left
+-- no event begins what is left
 pub ended_broken : (gate : ℕ) (bytes ends : List ℕ) (end : ℕ) (rest : List ℕ) (at : ℕ) → Ended bytes ends end rest → end < gate → NoNote rest → end ≡ at → BreakAt gate bytes at
 ended_broken gate bytes ends end rest at so_far before none is = record {
   notes = so_far.notes;

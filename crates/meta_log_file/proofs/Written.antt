@@ -23,7 +23,7 @@ leaves_started d laws notes all = started d (Leaves d notes) (λ c image. (laws.
 pub leaves_on : (old mid new : Content) (laws : Lawful new) (notes : List Note) → new.is_observable ≡ old.is_observable → LeavesOnly old mid (Leaves old notes) → Elapses mid new → AllHold new notes → LeavesOnly old new (Leaves old notes)
 leaves_on old mid new laws notes is_observable so_far time all = goes_on old mid new (Leaves old notes) so_far time (λ c image. (subst IsTrue is_observable (laws.told c image), all c image))
 
--- where the tail is sure, each image has the notes
+-- where the tail is sure, each image has the events
 pub sure_all : (d : Content) (notes : List Note) (tail : Tail) → StandsBy d notes tail → IsSure tail → AllHold d notes
 sure_all d notes Exact stands sure = stands.0
 sure_all d notes Loose stands sure = stands
@@ -33,7 +33,7 @@ sure_all d notes (Unsure next) stands sure = absurd (sure)
 pub keeps_all : (d m : Content) (notes : List Note) → Keeps d m → AllHold d notes → AllHold m notes
 keeps_all d m notes keeps all c image = all c (keeps.images c image)
 
--- the front of a file that is cut behind it, or grows
+-- the front of a file that is cut after it, or grows
 cut_front : (notes : List Note) (end : ℕ) (before after : Option (List ℕ)) → end ≡ length (frames notes) → Fronts (frames notes) before → CutBack end before after → Fronts (frames notes) after
 cut_front notes end before after is f (inl same) = subst (Fronts (frames notes)) (sym same) f
 cut_front notes end before after is f (inr (some, (behind, now))) =
@@ -47,7 +47,7 @@ grown_front notes before after f (inr (behind, now)) = record {
   is = ap bytes_in now ∙ ap (λ (b : List ℕ). b ++ behind) f.is ∙ append_assoc (frames notes) f.behind behind;
 }
 
--- a cut behind the notes
+-- a cut after the events
 pub cut_all : (d m : Content) (notes : List Note) (end : ℕ) (M : Bool → Type 0) → end ≡ length (frames notes) → AllHold d notes → Changes file.Notes (cut_to end) (CutBack end) M d m → AllHold m notes
 cut_all d m notes end M is all change c image =
     let x = change.images c image in
@@ -67,7 +67,7 @@ cut_exact d m laws notes end M is all went change is_observable =
     let now : m.files file.Notes ≡ cut_to end (d.files file.Notes) = x.2.there ∙ ap (λ (done : Bool). cond done (cut_to end (d.files file.Notes)) (d.files file.Notes)) (went x.0 x.1) in
     ap bytes_in now ∙ take_bytes end (d.files file.Notes) ∙ ap (take end) h.front.is ∙ take_at (frames notes) h.front.behind end (sym is)
 
--- an append behind the notes
+-- an append after the events
 pub append_all : (d m : Content) (notes : List Note) (bytes : List ℕ) (M : Bool → Type 0) → AllHold d notes → Changes file.Notes (appended bytes) Grown M d m → AllHold m notes
 append_all d m notes bytes M all change c image =
     let x = change.images c image in

@@ -12,6 +12,6 @@ Reopens d = (c : Files) → Image d c → (notes : List Note) × Opens c notes
 abbrev pub OpensLike : Content → Files → Type 0
 OpensLike old c = (d : Files) × Image old d × ((notes : List Note) × Opens d notes × Opens c notes)
 
--- in the course of an append: as an image of before, or as the log of before with the note behind it
+-- in the course of an append: as an image of before, or as the log of before with the event after it
 abbrev pub Appending : Content → List Note → Note → Files → Type 0
 Appending old notes note c = OpensLike old c ⊎ Opens c (notes ++ note ∷ [])

@@ -9,6 +9,6 @@ module _ {D : Type 0} where
   log_in log = record { disk = log.disk; counts = log.tally; ends = log.marks.ends.items; tail = log.marks.tail }
 
 module _ {D : Type 0} (content : D → Content) where
-  -- the disk has the notes of the marks
+  -- the disk has the events of the marks
   abbrev pub IsSound : Inside D → Type 0
   IsSound log = HasNotes (content log.disk) log.marks.ends.items log.marks.tail

@@ -7,7 +7,7 @@ use Rattle.meta_log_file.specs.declared.marks.Tail.{Tail}
 pub record NoteLog (D : Type 0) : Type 0 where
   pub disk : D
   pub counts : Counts
-  -- where each note ends
+  -- where each event ends
   pub ends : List ℕ
   -- how the last writing call ended
   pub tail : Tail

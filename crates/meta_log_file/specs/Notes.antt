@@ -1,18 +1,18 @@
 -- A metadata log in two files of a disk. Numbers are big endian.
 --
--- `notes`, notes one behind another:
+-- `notes`, events one after another:
 --
 --   at  size    field
---    0       4  length of the note
---    4  length  the note, as segment_meta's module Spelling has it
+--    0       4  length of the event
+--    4  length  the event, as segment_meta's module Spelling has it
 --
 -- `gate`:
 --
 --   at  size  field
---    0     8  the length of `notes` up to which its notes count
+--    0     8  the length of `notes` up to which its events count
 --
--- Behind the gate `notes` may have any bytes: an append that didn't come to its end left them. An absent gate stands at
--- 0, and an absent `notes` has no bytes.
+-- After the gate `notes` may have any bytes: an append that didn't come to its end left them. An absent gate is at 0,
+-- and an absent `notes` has no bytes.
 use Rattle.std.specs.Prelude.{◌≡◌, ℕ, ◌<◌, ◌^◌, List, [], ◌∷◌, ◌++◌, length, Option, Some, None}
 use Rattle.std.specs.Int.{w32, w64, to_be_bytes}
 use Rattle.tier_base.specs.declared.plain.FileName.TheVariants as file
@@ -22,11 +22,11 @@ use Rattle.segment_meta.specs.declared.note.Note.{Note}
 use Rattle.segment_meta.specs.Rules.{IsNote, NoteFits}
 use Rattle.segment_meta.specs.Spelling.{note_bytes}
 
--- a note as it stands in the file: its length, and its bytes
+-- an event as it is in the file: its length, and its bytes
 unfoldable pub framed : Note → List ℕ
 framed note = to_be_bytes w32 (length (note_bytes note)) ++ note_bytes note
 
--- notes one behind another
+-- events one after another
 abbrev pub frames : List Note → List ℕ
 frames [] = []
 frames (note ∷ notes) = framed note ++ frames notes
@@ -35,12 +35,12 @@ frames (note ∷ notes) = framed note ++ frames notes
 unfoldable pub gate_bytes : ℕ → List ℕ
 gate_bytes end = to_be_bytes w64 end
 
--- a note that a program may tell
+-- an event that a program may report
 pub record IsTold (note : Note) : Type 0 where
   pub rules : IsNote note
   pub fits : NoteFits note
 
--- each note
+-- each event
 abbrev pub AreTold : List Note → Type 0
 AreTold [] = Unit {0}
 AreTold (note ∷ notes) = IsTold note × AreTold notes
@@ -55,7 +55,7 @@ pub record Fronts (bytes : List ℕ) (held : Option (List ℕ)) : Type 0 where
   pub behind : List ℕ
   pub is : bytes_in held ≡ bytes ++ behind
 
--- an image opens with these notes: they stand up to its gate
+-- an image opens with these events: they are up to its gate
 pub record Opens (c : Files) (notes : List Note) : Type 0 where
   pub told : AreTold notes
   pub gate : GateAt (c file.Gate) (length (frames notes))

@@ -6,7 +6,7 @@ use Rattle.segment_meta.specs.declared.note.Note.{Note}
 use Rattle.meta_log_file.specs.Notes.{frames, AreTold, GateAt, Fronts}
 use Rattle.meta_log_file.specs.Ends.{ends_from}
 
--- notes up to the gate that end there; where the disk is observable, they stand at the front of its file
+-- events up to the gate that end there; where the disk is observable, they are at the front of its file
 pub record HasEnds (d : Content) (gate : ℕ) (ends : List ℕ) : Type 0 where
   pub notes : List Note
   pub told : AreTold notes
@@ -14,7 +14,7 @@ pub record HasEnds (d : Content) (gate : ℕ) (ends : List ℕ) : Type 0 where
   pub ends_are : ends ≡ ends_from 0 notes
   pub front : IsTrue d.is_observable → Fronts (frames notes) (d.files file.Notes)
 
--- the gate and the notes up to it
+-- the gate and the events up to it
 pub record IsRead (d : Content) (gate : ℕ) (ends : List ℕ) : Type 0 where
   pub at : IsTrue d.is_observable → GateAt (d.files file.Gate) gate
   pub low : gate < 2 ^ 64

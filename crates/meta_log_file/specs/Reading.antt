@@ -1,4 +1,4 @@
--- What bytes say as notes, and bytes that say none.
+-- What bytes say as events, and bytes that say none.
 use Rattle.std.specs.Prelude.{◌≡◌, ◌≢◌, ◌⊎◌, ℕ, ◌+◌, ◌<◌, ◌^◌, List, ◌++◌, length, take, Some, None}
 use Rattle.std.specs.declared.option.Option.{Option}
 use Rattle.std.specs.Borrow.{Bor}
@@ -8,16 +8,16 @@ use Rattle.meta_log_file.specs.declared.marks.Tail.TheVariants.{Exact, Loose, Un
 use Rattle.meta_log_file.specs.Notes.{framed, frames, gate_bytes, IsTold, AreTold}
 use Rattle.meta_log_file.specs.Ends.{ends_from, start_of}
 
--- no note begins these bytes
+-- no event begins these bytes
 abbrev pub NoNote : List ℕ → Type 0
 NoNote bytes = (note : Note) (behind : List ℕ) → IsTold note → bytes ≢ framed note ++ behind
 
--- what the reader of a front answers: the note there with the bytes behind it, or none where no note begins the bytes
+-- what the reader of a front answers: the event there with the bytes after it, or none where no event begins the bytes
 abbrev pub ReadsFirst : List ℕ → Option (Note × Bor (List ℕ)) → Type 0
 ReadsFirst bytes None = NoNote bytes
 ReadsFirst bytes (Some found) = IsTold found.0 × (bytes ≡ framed found.0 ++ found.1.now)
 
--- what the reader of all bytes answers: the notes that they are, or none where they are no notes
+-- what the reader of all bytes answers: the events that they are, or none where they are no events
 abbrev pub ReadsAll : List ℕ → Option (List Note) → Type 0
 ReadsAll bytes None = (notes : List Note) → AreTold notes → bytes ≢ frames notes
 ReadsAll bytes (Some notes) = AreTold notes × (bytes ≡ frames notes)
@@ -27,7 +27,7 @@ abbrev pub ReadsSpan : ℕ → List ℕ → Option (List Note) → Type 0
 ReadsSpan size bytes None = (notes : List Note) → AreTold notes → length (frames notes) ≡ size → bytes ≢ frames notes
 ReadsSpan size bytes (Some notes) = AreTold notes × (bytes ≡ frames notes) × (length (frames notes) ≡ size)
 
--- bytes are notes that end there, the last of them at the gate
+-- bytes are events that end there, the last of them at the gate
 pub record EndAt (gate : ℕ) (bytes ends : List ℕ) : Type 0 where
   pub notes : List Note
   pub told : AreTold notes
@@ -35,7 +35,7 @@ pub record EndAt (gate : ℕ) (bytes ends : List ℕ) : Type 0 where
   pub gate_is : gate ≡ length (frames notes)
   pub ends_are : ends ≡ ends_from 0 notes
 
--- bytes are notes up to a place, which is before the gate, and no note begins there
+-- bytes are events up to a place, which is before the gate, and no event begins there
 pub record BreakAt (gate : ℕ) (bytes : List ℕ) (at : ℕ) : Type 0 where
   pub notes : List Note
   pub rest : List ℕ
@@ -49,7 +49,7 @@ pub record BreakAt (gate : ℕ) (bytes : List ℕ) (at : ℕ) : Type 0 where
 abbrev pub IsNoGate : List ℕ → Type 0
 IsNoGate bytes = (end : ℕ) → end < 2 ^ 64 → bytes ≢ gate_bytes end
 
--- a gate stands here, or at the next end
+-- a gate is here, or at the next end
 abbrev pub IsGateOf : ℕ → Option ℕ → ℕ → Type 0
 IsGateOf here next end = (end ≡ here) ⊎ (next ≡ Some end)
 
@@ -57,17 +57,17 @@ IsGateOf here next end = (end ≡ here) ⊎ (next ≡ Some end)
 abbrev pub IsNoGateOf : ℕ → Option ℕ → List ℕ → Type 0
 IsNoGateOf here next bytes = (end : ℕ) → IsGateOf here next end → end < 2 ^ 64 → bytes ≢ gate_bytes end
 
--- the next end, where one note more may count
+-- the next end, where one event more may count
 abbrev pub next_end : Tail → Option ℕ
 next_end Exact = None
 next_end Loose = None
 next_end (Unsure next) = next
 
--- bytes are no gate of a log whose notes end there
+-- bytes are no gate of a log whose events end there
 abbrev pub IsStrangeGate : List ℕ → Tail → List ℕ → Type 0
 IsStrangeGate ends tail bytes = IsNoGateOf (start_of ends (length ends)) (next_end tail) bytes
 
--- bytes aren't the notes from a number on of a log whose notes end there
+-- bytes aren't the events from a number on of a log whose events end there
 abbrev pub AreStrangeNotes : List ℕ → ℕ → List ℕ → Type 0
 AreStrangeNotes ends from bytes =
     (notes : List Note) → AreTold notes → start_of ends from + length (frames notes) ≡ start_of ends (length ends)

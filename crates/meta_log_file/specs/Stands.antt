@@ -9,16 +9,16 @@ use Rattle.meta_log_file.specs.declared.marks.Tail.TheVariants.{Exact, Loose, Un
 use Rattle.meta_log_file.specs.Notes.{frames, gate_bytes, IsTold, AreTold, Fronts}
 use Rattle.meta_log_file.specs.Ends.{ends_from}
 
--- the gate stands behind these notes
+-- the gate follows these events
 abbrev pub GatedBy : Files → List Note → Type 0
 GatedBy c notes = c file.Gate ≡ Some (gate_bytes (length (frames notes)))
 
--- an image has these notes, and the gate behind them
+-- an image has these events, and the gate after them
 pub record Holds (notes : List Note) (c : Files) : Type 0 where
   pub gate : GatedBy c notes
   pub front : Fronts (frames notes) (c file.Notes)
 
--- an image has more notes, and the gate behind these or behind all
+-- an image has more events, and the gate after these or after all
 pub record HoldsOr (notes more : List Note) (c : Files) : Type 0 where
   pub gate : GatedBy c notes ⊎ GatedBy c more
   pub front : Fronts (frames more) (c file.Notes)
@@ -27,7 +27,7 @@ pub record HoldsOr (notes more : List Note) (c : Files) : Type 0 where
 abbrev pub AllHold : Content → List Note → Type 0
 AllHold d notes = (c : Files) → Image d c → Holds notes c
 
--- one note more may count, which ends there
+-- one event more may count, which ends there
 pub record MayCount (d : Content) (notes : List Note) (end : ℕ) : Type 0 where
   pub note : Note
   pub told : IsTold note
@@ -46,7 +46,7 @@ StandsBy d notes Loose = AllHold d notes
 StandsBy d notes (Unsure None) = AllHold d notes
 StandsBy d notes (Unsure (Some end)) = MayCount d notes end
 
--- the disk has the notes that end there
+-- the disk has the events that end there
 pub record HasNotes (d : Content) (ends : List ℕ) (tail : Tail) : Type 0 where
   pub notes : List Note
   pub told : AreTold notes

@@ -30,8 +30,8 @@ use std::alloc::Global;
 use std::marker::Model;
 use tier_base::{Row, Trouble};
 
-/// A metadata log over a disk, which has no other files of its names. No call of it is planned to fail. A call fails only
-/// where the disk fails, or hands what has no reading.
+/// A metadata log over a disk, which has no other files of its names. No call of it is planned to fail. A call fails
+/// only where the disk fails, or returns what is invalid.
 #[derive(Drop)]
 pub struct DiskLog<D: Disk> {
     alloc: Global,
@@ -53,7 +53,7 @@ impl<D: Disk> Model for DiskLog<D> {
 }
 
 impl<D: Disk> DiskLog<D> {
-    /// Opens the log of a disk. One with no files has no notes yet.
+    /// Opens the log of a disk. One with no files has no events yet.
     pub fn open(alloc: Global, disk: D) -> Result<DiskLog<D>, (D, NotesRefusal)>
         ensures fresh { IfOk result (λ log. IsFresh (⟦<DiskLog<D> as MetaLog>⟧.control log)) }
         ensures plan { IfOk result (λ log. (⟦<DiskLog<D> as MetaLog>⟧.control log).plan ≡ []) }
@@ -63,7 +63,7 @@ impl<D: Disk> DiskLog<D> {
             → Opens (D.content disk).files (⟦<DiskLog<D> as MetaLog>⟧.content log).notes) }
         ensures durable { IfOk result (λ log. (c : Files) → Image (D.content log.disk) c
             → Opens c (⟦<DiskLog<D> as MetaLog>⟧.content log).notes) }
-        // A power cut then leaves no notes but those that one before may have left.
+        // A power cut then leaves no events but those that one before may have left.
         ensures left { IfOk result (λ log. IsTrue (D.content disk).is_observable → Reopens (D.content disk) → (notes : List Note)
             → Left (⟦<DiskLog<D> as MetaLog>⟧.content log) notes → IsLeft (D.content disk) notes) }
         ensures control { IfOk result (λ log. Lasts (D.control disk) (D.control log.disk)) }
@@ -76,7 +76,7 @@ impl<D: Disk> DiskLog<D> {
             → LeavesOnly (D.content disk) (D.content e.0) (OpensLike (D.content disk))) }
         ensures again { IfErr result (λ e. Reopens (D.content disk) → Reopens (D.content e.0)) }
 
-        // And then the notes stay, and are told where the disk is observable, unless a call fails.
+        // And then the events stay, and are reported where the disk is observable, unless a call fails.
         ensures keeps { Reopens (D.content disk) → IfOk result (λ log. Keeps (told_of (D.content disk))
             (⟦<DiskLog<D> as MetaLog>⟧.content log)) }
         ensures keeps_err { Reopens (D.content disk) → IfErr result (λ e. Keeps (told_of (D.content disk))
@@ -91,7 +91,7 @@ impl<D: Disk> DiskLog<D> {
         ensures quiet_err { IfErr result (λ e. e.1 ≢ Failed
             → (D.control e.0).faults ≡ (D.control disk).faults) }
 
-        // The place that is told is that of the files, where the disk tells them, and of what it handed.
+        // The place that is reported is that of the files, where the disk is observable, and of what it returned.
         ensures damaged { IfErr result (λ e. (at : ℕ) → e.1 ≡ Damaged at → IsTrue (D.content disk).is_observable
             → IsDamage (D.content disk).files at) }
         ensures last_read { IfErr result (λ e. (at : ℕ) → e.1 ≡ Damaged at → HandsDamage D.control e.0 at) }
@@ -123,7 +123,7 @@ impl<D: Disk> DiskLog<D> {
         let _ = &self.marks;
     }
 
-    /// Answers whether calls are counted.
+    /// Returns whether calls are counted.
     pub fn is_armed(&self) -> bool
         ensures { result ≡ (⟦<DiskLog<D> as MetaLog>⟧.control self.now).armed }
     {
@@ -153,7 +153,7 @@ impl<D: Disk> MetaLog for DiskLog<D> {
         ensures place { IsTrue (⟦<DiskLog<D> as MetaLog>⟧.content self.old).is_observable
             → IfOk result (λ at. at ≡ length (⟦<DiskLog<D> as MetaLog>⟧.content self.old).notes) }
 
-        // A crash at any moment leaves what opened before, or that with the note behind it.
+        // A crash at any moment leaves what opened before, or that with the event after it.
         ensures any_moment { LeavesOnly (D.content self.old.disk) (D.content self.new.disk)
             (Appending (D.content self.old.disk)
             (⟦<DiskLog<D> as MetaLog>⟧.content self.old).notes note.now) }

@@ -13,7 +13,7 @@ use segment_meta::{Entry, Note, NoteRefusal, decode, encode};
 use std::alloc::{AllocError, Global};
 use tier_base::Blob;
 
-/// How many bytes tell a note's length.
+/// How many bytes give an event's length.
 const SIZE_BYTES: usize = 4;
 
 /// The fields of an entry are of their types.
@@ -44,7 +44,7 @@ fn custom_fits(custom: &Option<Blob>)
     }
 }
 
-/// The fields of a note are of their types.
+/// The fields of an event are of their types.
 fn fits(note: &Note)
     ensures { NoteFits note.now }
 {
@@ -65,7 +65,7 @@ fn fits(note: &Note)
     }
 }
 
-/// A note is one that may be told.
+/// An event is one that may be appended.
 pub fn tell(note: &Note)
     requires { IsNote note.now }
     ensures { IsTold note.now }
@@ -73,7 +73,7 @@ pub fn tell(note: &Note)
     fits(note);
 }
 
-/// The bytes of a note in the file.
+/// The bytes of an event in the file.
 #[tactic(auto, unfolding(crate::specs::Notes::framed))]
 pub fn frame(alloc: Global, note: &Note) -> Result<Vec<u8>, AllocError>
     requires { IsTold note.now }
@@ -87,7 +87,7 @@ pub fn frame(alloc: Global, note: &Note) -> Result<Vec<u8>, AllocError>
     Ok(out)
 }
 
-/// The note that begins these bytes, and what stands behind it.
+/// The event that begins these bytes, and what follows it.
 pub fn first(alloc: Global, bytes: &[u8]) -> Result<Option<(Note, &[u8])>, AllocError>
     ensures { IfOk result (λ found. ReadsFirst bytes.now found) }
 {
@@ -115,7 +115,7 @@ pub fn first(alloc: Global, bytes: &[u8]) -> Result<Option<(Note, &[u8])>, Alloc
     }
 }
 
-/// Whether there was no memory for a note.
+/// Whether there was no memory for an event.
 fn is_dry(why: NoteRefusal) -> bool
     ensures { IsTrue result ↔ (why ≡ NoMemory) }
 {
@@ -125,7 +125,7 @@ fn is_dry(why: NoteRefusal) -> bool
     }
 }
 
-/// The length that stands at the front of bytes.
+/// The length that is at the front of bytes.
 #[tactic(auto, unfolding(crate::specs::Told::size_in))]
 fn size_of(bytes: &[u8]) -> u32
     requires { 4 ≤ length bytes.now }

@@ -12,7 +12,7 @@ ghost use Rattle.meta_log_file.specs.Told.{notes_told, told_of};
 
 use disk_model::Disk;
 
-/// Files open with one list of notes, and with no other.
+/// Files open with one list of events, and with no other.
 #[tactic(auto, using(crate::proofs::Telling::opens_once))]
 pub fn files_open_once()
     ensures { (c : Files) (a b : List Note) → Opens c a → Opens c b → a ≡ b }
@@ -28,7 +28,7 @@ pub fn files_are_damaged_at_one_place()
     ensures { (c : Files) (a b : ℕ) → IsDamage c a → IsDamage c b → a ≡ b }
 {}
 
-/// A disk with no files has a log with no notes, also after a power cut.
+/// A disk with no files has a log with no events, also after a power cut.
 pub fn an_empty_disk_has_no_notes<D: Disk>()
     ensures { (disk : D) → IsEmptyDisk (D.content disk) → Reopens (D.content disk)
         × ((notes_told (D.content disk) ≡ []) × LeavesTold (told_of (D.content disk))) }

@@ -2,9 +2,9 @@
 //!
 //! An append writes the event after the others, syncs it, and only then moves the gate, in one replacement. So a crash
 //! leaves the events from before the append or those with the new one, and never a part of it. What a broken-off append
-//! left is behind the gate, and the next append cuts it off.
+//! left is after the gate, and the next append cuts it off.
 //!
-//! After a failed append the gate may be before its event or behind it, and a crash may leave it at either. Each call
+//! After a failed append the gate may be before its event or after it, and a crash may leave it at either. Each call
 //! then first replaces the gate by what it reads, until that has succeeded once: so the log never takes back an event
 //! that it returned.
 #![tactic(auto)]

@@ -1,4 +1,4 @@
-//! What memory keeps of the files: where each note ends, and how the last writing call ended.
+//! What memory keeps of the files: where each event ends, and how the last writing call ended.
 //!
 //!   Exact   --an append--> Exact
 //!   Exact, Loose   --an append that isn't Ok--> Unsure
@@ -8,18 +8,18 @@
 ghost use Rattle.std.specs.Prelude.{◌≡◌, ◌≤◌, length};
 ghost use Rattle.meta_log_file.specs.Ends.{start_of};
 
-/// How the files stand.
+/// How the files are.
 #[derive(Clone, Copy, Debug, PartialEq, Eq)]
 pub enum Tail {
-    /// The notes end where the gate is.
+    /// The events end where the gate is.
     Exact,
-    /// Behind the gate there may be bytes that don't count.
+    /// After the gate there may be bytes that don't count.
     Loose,
-    /// Where the gate is isn't sure: behind the notes, or where one note more ends.
+    /// Where the gate is isn't sure: after the events, or where one event more ends.
     Unsure(Option<u64>),
 }
 
-/// Where the notes of the files end, and how the files stand.
+/// Where the events of the files end, and how the files are.
 #[derive(Drop)]
 pub struct Marks {
     pub ends: Vec<u64>,
@@ -27,7 +27,7 @@ pub struct Marks {
 }
 
 impl Marks {
-    /// Answers where the last note ends.
+    /// Returns where the last event ends.
     pub fn end(&self) -> u64
         ensures { result ≡ start_of self.now.ends.items (length self.now.ends.items) }
     {
@@ -35,7 +35,7 @@ impl Marks {
     }
 }
 
-/// Where the note of a number begins, or the last one ends.
+/// Where the event of a number begins, or the last one ends.
 pub fn start_of(ends: &[u64], number: usize) -> u64
     requires { number ≤ length ends.now }
     ensures { result ≡ start_of ends.now number }

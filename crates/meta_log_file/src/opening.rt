@@ -1,4 +1,5 @@
-//! Opening a log: the gate and the notes up to it are read; then the notes are made to stay, and the gate as it reads.
+//! Opening a log: the gate and the events up to it are read; then the events are made to stay, and the gate as it
+//! reads.
 
 ghost use Rattle.std.specs.Prelude.{◌≡◌, ◌≢◌, ◌+◌, ◌<◌, ◌≤◌, ℕ, List, take, IsTrue, IfOk, IfErr, OnOk, length};
 ghost use Rattle.tier_base.specs.Device.{Ran, Went, Lasts, fate_of};
@@ -55,7 +56,7 @@ pub fn open_log<D: Disk>(alloc: Global, disk: &mut D) -> Result<Marks, NotesRefu
     })
 }
 
-/// Reads the gate and where the notes end, and makes room for a sync.
+/// Reads the gate and where the events end, and makes room for a sync.
 fn study<D: Disk>(alloc: Global, disk: &mut D) -> Result<(u64, Vec<u64>), NotesRefusal>
     ensures read { IfOk result (λ x. IsRead (D.content disk.old) x.0 x.1.items) }
     ensures room { OnOk result (1 ≤ D.spare disk.new) }
@@ -99,7 +100,7 @@ fn find_gate<D: Disk>(disk: &mut D) -> Result<u64, NotesRefusal>
     }
 }
 
-/// Reads where the notes end up to the gate.
+/// Reads where the events end up to the gate.
 fn find_ends<D: Disk>(alloc: Global, disk: &mut D, gate: u64) -> Result<Vec<u64>, NotesRefusal>
     ensures ends { IfOk result (λ ends. HasEnds (D.content disk.old) gate ends.items) }
     ensures room { D.spare disk.new ≡ D.spare disk.old }
@@ -119,7 +120,7 @@ fn find_ends<D: Disk>(alloc: Global, disk: &mut D, gate: u64) -> Result<Vec<u64>
     ends_of_file(alloc, &file, gate)
 }
 
-/// Where the notes of a file end up to the gate. An absent file has no bytes.
+/// Where the events of a file end up to the gate. An absent file has no bytes.
 fn ends_of_file(alloc: Global, file: &Option<Bytes>, gate: u64) -> Result<Vec<u64>, NotesRefusal>
     ensures ends { IfOk result (λ ends. EndAt gate (take gate (bytes_in file.now)) ends.items) }
     ensures damaged { IfErr result (λ why. (at : ℕ) → why ≡ Damaged at
@@ -132,7 +133,7 @@ fn ends_of_file(alloc: Global, file: &Option<Bytes>, gate: u64) -> Result<Vec<u6
     }
 }
 
-/// Where the notes of these bytes end up to the gate.
+/// Where the events of these bytes end up to the gate.
 fn ends_of(alloc: Global, bytes: &[u8], gate: u64) -> Result<Vec<u64>, NotesRefusal>
     ensures ends { IfOk result (λ ends. EndAt gate (take gate bytes.now) ends.items) }
     ensures damaged { IfErr result (λ why. (at : ℕ) → why ≡ Damaged at
@@ -143,7 +144,7 @@ fn ends_of(alloc: Global, bytes: &[u8], gate: u64) -> Result<Vec<u64>, NotesRefu
     ends_in(alloc, front, gate)
 }
 
-/// Makes the notes stay that were read, and the gate behind them.
+/// Makes the events stay that were read, and the gate after them.
 fn confirm<D: Disk>(disk: &mut D, gate: u64) -> Result<(), Trouble>
     requires { 1 ≤ D.spare disk.old }
     ensures content { (ends : List ℕ) (read : IsRead (D.content disk.old) gate ends)

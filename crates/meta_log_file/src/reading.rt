@@ -1,4 +1,4 @@
-//! Reading the notes from a number on.
+//! Reading the events from a number on.
 
 ghost use Rattle.std.specs.Prelude.{◌≡◌, ◌≢◌, ◌⊎◌, ◌-◌, ◌≤◌, ℕ, length, drop, IsTrue, IfOk, OnOk, None, Some};
 ghost use Rattle.std.specs.declared.option.Option.{Option};
@@ -22,7 +22,7 @@ use segment_meta::Note;
 use std::alloc::{AllocError, Global};
 use tier_base::{Row, Trouble};
 
-/// Gives the notes from a number on.
+/// Gives the events from a number on.
 pub fn read<D: Disk>(
     alloc: Global,
     disk: &mut D,
@@ -55,7 +55,7 @@ pub fn read<D: Disk>(
     read_from(alloc, disk, marks, from as usize)
 }
 
-/// Gives the notes from a number on, where the gate is sure.
+/// Gives the events from a number on, where the gate is sure.
 fn read_from<D: Disk>(
     alloc: Global,
     disk: &mut D,
@@ -87,7 +87,7 @@ fn read_from<D: Disk>(
     }
 }
 
-/// The notes that a file's part is, if it has this size and is such. An absent file has no bytes.
+/// The events that a file's part is, if it has this size and is such. An absent file has no bytes.
 fn notes_of_file(
     alloc: Global,
     file: &Option<Bytes>,
@@ -101,7 +101,7 @@ fn notes_of_file(
     }
 }
 
-/// The notes that bytes are, if they have this size and are such.
+/// The events that bytes are, if they have this size and are such.
 fn span(alloc: Global, bytes: &[u8], size: u64) -> Result<Option<Row<Note>>, AllocError>
     ensures { IfOk result (λ notes. ReadsSpan size bytes.now notes) }
 {

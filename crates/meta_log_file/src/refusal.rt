@@ -12,7 +12,7 @@ pub enum NotesRefusal {
     /// A call of the disk failed.
     #[error("the disk of the metadata log failed")]
     Failed,
-    /// What stands up to the gate has no reading from this place of `notes` on, or the gate has none, and then this is 0.
+    /// What is up to the gate is invalid from this place of `notes` on, or the gate has none, and then this is 0.
     #[error("the metadata log is damaged at {at}")]
     Damaged { at: u64 },
     /// There was no memory.

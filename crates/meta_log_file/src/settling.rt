@@ -47,7 +47,7 @@ pub fn settle<D: Disk>(disk: &mut D, marks: &mut Marks) -> Result<(), Trouble>
     Ok(())
 }
 
-/// Finds where the gate is: here or at the next note's end.
+/// Finds where the gate is: here or at the next event's end.
 fn find_end<D: Disk>(disk: &mut D, here: u64, next: Option<u64>) -> Result<u64, Trouble>
     ensures end { IfOk result (λ end. IsGateOf here next end) }
     ensures reads { IfOk result (λ end. IsTrue (D.content disk.old).is_observable
@@ -69,7 +69,7 @@ fn find_end<D: Disk>(disk: &mut D, here: u64, next: Option<u64>) -> Result<u64, 
     }
 }
 
-/// Where the file has the gate, if that is here or at the next note's end.
+/// Where the file has the gate, if that is here or at the next event's end.
 fn among(file: &Option<Bytes>, here: u64, next: Option<u64>) -> Option<u64>
     ensures some { IfSome result (λ end. IsGateOf here next end × GateAt file.now end) }
     ensures none { result ≡ None → IsNoGateOf here next (bytes_in file.now) }
@@ -82,7 +82,7 @@ fn among(file: &Option<Bytes>, here: u64, next: Option<u64>) -> Option<u64>
     }
 }
 
-/// Whether a gate is here or at the next note's end.
+/// Whether a gate is here or at the next event's end.
 fn is_gate_of(here: u64, next: Option<u64>, end: u64) -> bool
     ensures { IsTrue result ↔ IsGateOf here next end }
 {

@@ -1,4 +1,4 @@
-//! Notes one behind another.
+//! Events one after another.
 
 ghost use Rattle.std.specs.Prelude.{◌≡◌, ◌≢◌, ◌≤◌, ◌<◌, ◌^◌, ◌++◌, ◌∷◌, [], ℕ, length, OnOk, IfOk, IfErr};
 ghost use Rattle.meta_log_file.specs.declared.refusal.NotesRefusal.TheVariants.{Failed, Damaged};
@@ -10,7 +10,7 @@ use segment_meta::Note;
 use std::alloc::{AllocError, Global};
 use tier_base::Row;
 
-/// The notes that bytes are, if they are such.
+/// The events that bytes are, if they are such.
 pub fn notes_in(alloc: Global, bytes: &[u8]) -> Result<Option<Row<Note>>, AllocError>
     ensures { IfOk result (λ notes. ReadsAll bytes.now notes) }
 {
@@ -26,7 +26,7 @@ pub fn notes_in(alloc: Global, bytes: &[u8]) -> Result<Option<Row<Note>>, AllocE
     Ok(Some(notes))
 }
 
-/// Where the notes end that bytes are, the last of them at the gate.
+/// Where the events end that bytes are, the last of them at the gate.
 pub fn ends_in(alloc: Global, bytes: &[u8], gate: u64) -> Result<Vec<u64>, NotesRefusal>
     requires { length bytes.now ≤ gate }
     ensures ends { IfOk result (λ ends. EndAt gate bytes.now ends.items) }
@@ -47,7 +47,7 @@ pub fn ends_in(alloc: Global, bytes: &[u8], gate: u64) -> Result<Vec<u64>, Notes
     Ok(ends)
 }
 
-/// Puts an end behind the others.
+/// Puts an end after the others.
 fn push_end(ends: &mut Vec<u64>, end: u64) -> Result<(), AllocError>
     ensures { OnOk result (ends.new.items ≡ ends.old.items ++ end ∷ []) }
 {

@@ -1,5 +1,5 @@
-//! Putting a note behind the others: it is written and synced before the gate moves, so that no crash leaves a gate behind
-//! bytes that aren't there.
+//! Putting an event after the others: it is written and synced before the gate moves, so that no crash leaves a gate
+//! behind bytes that aren't there.
 
 ghost use Rattle.std.specs.Prelude.{◌≡◌, ◌≢◌, ◌⊎◌, ◌+◌, ◌≤◌, ◌++◌, ◌∷◌, [], List, length, IsTrue, OnOk, IfOk};
 ghost use Rattle.tier_base.specs.Device.{Fault, Lasts, fate_of, failing};
@@ -26,7 +26,7 @@ use segment_meta::Note;
 use std::alloc::Global;
 use tier_base::{Failed, Trouble};
 
-/// Puts a note behind the others, and answers its number.
+/// Puts an event after the others, and returns its number.
 pub fn append<D: Disk>(
     alloc: Global,
     disk: &mut D,
@@ -56,7 +56,7 @@ pub fn append<D: Disk>(
     put(alloc, disk, marks, note)
 }
 
-/// Puts a note behind the others, where the gate is sure.
+/// Puts an event after the others, where the gate is sure.
 fn put<D: Disk>(alloc: Global, disk: &mut D, marks: &mut Marks, note: &Note) -> Result<u64, Trouble>
     requires note { IsNote note.now }
     requires has { HasNotes (D.content disk.old) marks.old.ends.items marks.old.tail }
@@ -95,7 +95,7 @@ fn put<D: Disk>(alloc: Global, disk: &mut D, marks: &mut Marks, note: &Note) -> 
     Ok(at as u64)
 }
 
-/// Cuts off what stands behind the notes that end there, where something may.
+/// Cuts off what follows the events that end there, where something may.
 fn shorten<D: Disk>(disk: &mut D, tail: Tail, end: u64) -> Result<(), Failed>
     requires { 1 ≤ D.spare disk.old }
     ensures is_observable { (D.content disk.new).is_observable ≡ (D.content disk.old).is_observable }
@@ -111,7 +111,7 @@ fn shorten<D: Disk>(disk: &mut D, tail: Tail, end: u64) -> Result<(), Failed>
     disk.cut(FileName::Notes, end)
 }
 
-/// Writes bytes behind the notes that end there, and makes them stay.
+/// Writes bytes after the events that end there, and makes them stay.
 fn extend<D: Disk>(disk: &mut D, tail: Tail, end: u64, bytes: &[u8]) -> Result<(), Trouble>
     requires room { 2 ≤ D.spare disk.old }
     ensures is_observable { (D.content disk.new).is_observable ≡ (D.content disk.old).is_observable }
@@ -126,7 +126,7 @@ fn extend<D: Disk>(disk: &mut D, tail: Tail, end: u64, bytes: &[u8]) -> Result<(
     Ok(())
 }
 
-/// Makes the notes' bytes stay.
+/// Makes the events' bytes stay.
 fn sync_notes<D: Disk>(disk: &mut D) -> Result<(), Failed>
     requires room { 1 ≤ D.spare disk.old }
     ensures control { Runs (failing result) (D.control disk.old) (D.control disk.new) }

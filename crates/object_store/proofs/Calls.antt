@@ -1,4 +1,4 @@
--- A call that hands nothing, and one of a store in memory that was done or not.
+-- A call that returns nothing, and one of a store in memory that was done or not.
 use Rattle.std.proofs.Common.{◌≡◌, ℕ, Bool, List, Option, refl, sym, subst}
 use Rattle.tier_base.specs.declared.object_key.ObjectKey.{ObjectKey}
 use Rattle.tier_base.specs.Device.{Fate, Ran, RanQuietly}
@@ -7,7 +7,7 @@ use Rattle.object_store.specs.declared.shelf.Shelf.{Shelf}
 use Rattle.object_store.specs.Content.{MadeAt, Changes, made_if}
 use Rattle.object_store.specs.Shelf.{objects_on, content_of}
 
--- a call that hands nothing
+-- a call that returns nothing
 pub quiet : {K : Type 0} {code : K → ℕ} (call : K) (fate : Fate) (f g : Faults K) (last_read : List ℕ) → ((before after : List ℕ) → Ran call fate (control_of code f before) (control_of code g after)) → RanQuietly call fate (control_of code f last_read) (control_of code g last_read)
 quiet call fate f g last_read ran = record { ran = ran last_read last_read; last_read = refl }
 

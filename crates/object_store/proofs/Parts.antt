@@ -1,4 +1,4 @@
--- The parts of an object that has four of them one behind another, and reads of a part that stands.
+-- The parts of an object that has four of them one after another, and reads of a part that exists.
 use Rattle.std.proofs.Common.{◌≡◌, refl, sym, ap, ◌∙◌, ℕ, ◌+◌, ◌-◌, min, List, [], ◌++◌, length, take, drop, Option, Some, None, append-nil, length-append, arith}
 use Rattle.std.proofs.lemmas.Bool.{le-ltb}
 use Rattle.std.proofs.lemmas.List.{take_at, drop_at, take_all, append_assoc, length-take, length-drop}
@@ -21,7 +21,7 @@ one_of a b c d TimeIndex = c
 one_of a b c d Epochs = d
 one_of a b c d Pack = a ++ (b ++ (c ++ d))
 
--- what stands behind a front
+-- what follows a front
 stands : (front part rest : List ℕ) (at : ℕ) → length front ≡ at → take (length part) (drop at (front ++ (part ++ rest))) ≡ part
 stands front part rest at is = ap (take (length part)) (drop_at front (part ++ rest) at is) ∙ take_at part rest (length part) refl
 
@@ -43,12 +43,12 @@ parts_stand key a b c d Pack =
     let last = length-append c d in
     take_all (length a + length b + length c + length d) (a ++ (b ++ (c ++ d))) (omega (arith, long, behind, last))
 
--- these are all bytes of a part whose length is told, or it isn't told
+-- these are all bytes of a part whose length is reported, or it isn't reported
 abbrev pub AreAll : Option ℕ → List ℕ → Type 0
 AreAll None bytes = Unit {0}
 AreAll (Some len) bytes = len ≡ length bytes
 
--- a part of the object has the length that the layout tells
+-- a part of the object has the length that the layout gives
 pub parts_whole : (key : ObjectKey) (a b c d : List ℕ) (part : Part) → AreAll (part_of key (lengths a b c d) part).len (one_of a b c d part)
 parts_whole key a b c d Log = refl
 parts_whole key a b c d Index = refl

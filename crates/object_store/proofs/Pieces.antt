@@ -38,7 +38,7 @@ of_front len from most bytes = by (cases_lt from len)
         let nothing : min most (len - from) ≡ 0 = omega (arith, past) in
         ap (take most) none ∙ (take_none most ∙ sym (ap (λ n. take n (drop from bytes)) nothing))
 
--- so many bytes are read of a piece of a part, where its length is told
+-- so many bytes are read of a piece of a part, where its length is reported
 abbrev read_of : Spot → ℕ → ℕ → ℕ
 read_of spot from most = unwrap_or (option_map (λ len. min most (len - from)) spot.len) most
 

@@ -1,4 +1,4 @@
--- Slots and keys stand for each other, and the order of slots tells them apart.
+-- Slots and keys represent each other, and the order of slots distinguishes them.
 use Rattle.std.specs.Prelude.{◌≡◌, ◌≢◌, ℕ, true, false, List, refl}
 use Rattle.std.proofs.Common.{sym, ◌∙◌, ap}
 use Rattle.std.specs.Ordering.{nat_cmp, ordering_then}

@@ -1,4 +1,4 @@
--- The kinds of call of a store, told apart by a number.
+-- The kinds of call of a store, distinguished by a number.
 use Rattle.std.specs.Prelude.{ℕ}
 use Rattle.object_store.specs.declared.call.StoreCall.{StoreCall}
 use Rattle.object_store.specs.declared.call.StoreCall.TheVariants.{Put, Get, Delete, Keys}

@@ -1,7 +1,7 @@
--- Where the parts of a remote segment stand in the store, what is read there, and under which keys its objects stand.
+-- Where the parts of a remote segment are in the store, what is read there, and under which keys its objects exist.
 --
--- The one object of a packed segment has the parts one behind another, in the order of `Part`. The custom metadata of
--- the segment's entry tells their layout, so where each stands. Where it tells none, no part has a place.
+-- The one object of a packed segment has the parts one after another, in the order of `Part`. The custom metadata of
+-- the segment's entry gives their layout, so where each is. Where it reports none, no part has a place.
 use Rattle.std.specs.Prelude.{ℕ, ◌+◌, ◌-◌, min, nat_lt, if◌then◌else◌, Bool, true, false, List, [], ◌∷◌, length, take, drop, Option, Some, None, option_map}
 use Rattle.tier_base.specs.declared.names.PartitionId.{PartitionId}
 use Rattle.tier_base.specs.declared.names.SegmentId.{SegmentId}
@@ -16,7 +16,7 @@ use Rattle.object_store.specs.declared.placing.Spot.{Spot}
 abbrev pub key_of : PartitionId → SegmentId → Part → ObjectKey
 key_of partition id part = record { partition = partition; id = id; part = part }
 
--- the keys of all parts that stand by themselves
+-- the keys of all parts that are by themselves
 abbrev pub own_keys : PartitionId → SegmentId → List ObjectKey
 own_keys partition id =
     key_of partition id Log ∷ key_of partition id Index ∷ key_of partition id TimeIndex ∷ key_of partition id Epochs ∷ []
@@ -50,12 +50,12 @@ length_in l Pack = l.log + l.index + l.times + l.epochs
 abbrev pub part_of : ObjectKey → Layout → Part → Spot
 part_of key l part = record { key = key; at = at_in l part; len = Some (length_in l part) }
 
--- the layout that custom metadata tells
+-- the layout that custom metadata gives
 abbrev pub told_layout : Option (List ℕ) → Option Layout
 told_layout None = None
 told_layout (Some bytes) = layout_in bytes
 
--- where a part stands, by whether its segment is packed, and by the custom metadata of the segment's entry
+-- where a part exists, by whether its segment is packed, and by the custom metadata of the segment's entry
 abbrev pub spot_of : PartitionId → SegmentId → Bool → Option (List ℕ) → Part → Option Spot
 spot_of partition id false custom part = Some (whole (key_of partition id part))
 spot_of partition id true custom part = option_map (λ l. part_of (key_of partition id Pack) l part) (told_layout custom)
@@ -73,7 +73,7 @@ all_of spot object = capped spot.len (drop spot.at object)
 abbrev pub some_of : Spot → ℕ → ℕ → List ℕ → List ℕ
 some_of spot from most object = take most (drop from (all_of spot object))
 
--- where bytes are lacking, of which fewer stand from a place on than are owed: behind those
+-- where bytes are lacking, of which fewer are from a place on than are owed: after those
 abbrev pub short_at : ℕ → Option ℕ → ℕ → Option ℕ
 short_at at None got = None
 short_at at (Some owed) got = if nat_lt got owed then Some (at + got) else None

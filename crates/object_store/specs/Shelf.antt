@@ -48,6 +48,6 @@ objects_on shelf key = get slot_cmp shelf.objects (slot_of key)
 abbrev pub keys_on : Shelf → List ObjectKey
 keys_on shelf = map key_at (keys shelf.objects)
 
--- a store in memory tells what is on its shelf
+-- a store in memory reports what is on its shelf
 abbrev pub content_of : Shelf → Content
 content_of shelf = record { is_observable = true; objects = objects_on shelf }

@@ -16,7 +16,7 @@ use bytes::Bytes;
 use std::alloc::{AllocError, Global};
 use tier_base::{Failed, FaultPlan, ObjectKey, Row, Trouble, give};
 
-/// A store that tells no content.
+/// A store that isn't observable.
 #[derive(Drop)]
 pub struct DeafStore {
     alloc: Global,
@@ -26,7 +26,7 @@ pub struct DeafStore {
 }
 
 impl DeafStore {
-    /// Makes a store of these objects, without memory. Where a key stands twice, the first counts.
+    /// Makes a store of these objects, without memory. Where a key occurs twice, the first counts.
     pub fn new(alloc: Global, objects: Vec<(ObjectKey, Bytes)>) -> DeafStore
         ensures fresh { IsFresh (⟦<DeafStore as Store>⟧.control result) }
         ensures plan { (⟦<DeafStore as Store>⟧.control result).plan ≡ [] }

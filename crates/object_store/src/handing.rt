@@ -1,4 +1,4 @@
-//! How a `get` ends, and what it hands.
+//! How a `get` ends, and what it returns.
 
 ghost use Rattle.std.specs.Prelude.{◌≡◌, take, drop, if◌then◌else◌, IfOk};
 ghost use Rattle.tier_base.specs.Device.{Ran, fate_of};
@@ -12,8 +12,7 @@ use bytes::Bytes;
 use std::alloc::AllocError;
 use tier_base::{FaultPlan, Trouble, give};
 
-/// Ends a `get` or a `get_part` that found this: where it goes well it gives it and hands its
-/// bytes.
+/// Ends a `get` or a `get_part` that found this: where it goes well it gives it and returns its bytes.
 pub fn end_get(
     faults: &mut FaultPlan<StoreCall>,
     last_read: &mut Bytes,
@@ -50,7 +49,7 @@ fn share(object: &Option<Bytes>) -> Result<Bytes, AllocError>
     }
 }
 
-/// Hands bytes where they are given.
+/// Records bytes as last read, if the call returns them.
 fn hand(last_read: &mut Bytes, given: bool, bytes: Bytes)
     ensures { last_read.new ≡ (if given then bytes else last_read.old) }
 {

@@ -46,7 +46,7 @@ impl MemoryStore {
         }
     }
 
-    /// Hands the store out anew: the content stays, with this plan, no fault and no call counted.
+    /// Provides the store again: the content stays, with this plan, no fault and no call counted.
     pub fn renew(&mut self, plan: Vec<Planned>)
         ensures content { Keeps (⟦<MemoryStore as Store>⟧.content self.old)
             (⟦<MemoryStore as Store>⟧.content self.new) }
@@ -66,7 +66,7 @@ impl MemoryStore {
         self.faults.plan()
     }
 
-    /// Answers whether planned calls fail.
+    /// Returns whether planned calls fail.
     pub fn is_armed(&self) -> bool
         ensures { result ≡ (⟦<MemoryStore as Store>⟧.control self.now).armed }
     {

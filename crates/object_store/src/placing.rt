@@ -15,7 +15,7 @@ pub struct Spot {
     pub key: ObjectKey,
     /// Where it begins there, in bytes.
     pub at: u64,
-    /// How long it is there, if the object may continue behind it.
+    /// How long it is there, if the object may continue after it.
     pub len: Option<u64>,
 }
 
@@ -98,7 +98,7 @@ pub fn keys_of(partition: PartitionId, id: SegmentId, packed: bool) -> Keys
     }
 }
 
-/// The layout that custom metadata tells.
+/// The layout that custom metadata gives.
 fn told_layout(custom: Option<&Blob>) -> Option<Layout>
     ensures { result ≡ told_layout (option_map (λ blob. blob.now) custom.entry) }
 {

@@ -15,7 +15,7 @@ pub enum PartOrder {
     Fifth,
 }
 
-/// A key, as it stands in the order.
+/// A key, as it is in the order.
 #[derive(Clone, Copy, PartialEq, Eq, PartialOrd, Ord)]
 pub struct Slot {
     pub partition: PartitionId,

@@ -58,7 +58,7 @@ impl Spot {
         short_at(self.at + from, self.owed(from, most), bytes.len() as u64)
     }
 
-    /// How many bytes stand of a whole part, at most so many from a place in it on, where its length is told.
+    /// How many bytes are of a whole part, at most so many from a place in it on, where its length is reported.
     fn owed(&self, from: u64, most: u64) -> Option<u64>
         ensures { result ≡ option_map (λ len. min most (len - from)) self.now.len }
     {
@@ -69,7 +69,7 @@ impl Spot {
     }
 }
 
-/// Where bytes are lacking, of which fewer stand from a place on than are owed.
+/// Where bytes are lacking, of which fewer are from a place on than are owed.
 fn short_at(at: u64, owed: Option<u64>, got: u64) -> Option<u64>
     requires { at + got < 2 ^ 64 }
     ensures { result ≡ short_at at owed got }

@@ -13,7 +13,7 @@ use Rattle.partition_commands.specs.Partition.{put_node}
 use Rattle.partition_commands.specs.TurnsOfElections.{Leaves}
 use Rattle.partition_commands.proofs.LastingDisks.{disk_at}
 
--- this holds where a fault is told, and that where none is
+-- this holds where a fault is reported, and that where none is
 abbrev pub ByFault : Type 0 → Type 0 → Bool → Type 0
 ByFault A Z true = A
 ByFault A Z false = Z

@@ -1,4 +1,5 @@
--- The turns of commands on brokers' logs: one call of a disk failed where a fault of one is told, and none elsewhere.
+-- The turns of commands on brokers' logs: one call of a disk failed where a fault of one is reported, and none
+-- elsewhere.
 use Rattle.std.proofs.Common.{◌≡◌, sym, subst, refl, ℕ, List, slice_get, Some, None, Option, Bool, Ok as Done}
 use Rattle.std.specs.Prelude.{min, ℤ}
 use Rattle.tier_base.specs.Device.{Control}
@@ -34,7 +35,7 @@ use Rattle.partition_commands.proofs.SoundLaw.{leader_at}
 use Rattle.partition_commands.proofs.CountingDisks.{ByFault, by_map, Quietly, Once, OnceFor, quiet_same, quiet_put, quiet_log, quiet_leaves, once_put, counts_by}
 
 module _ {D : Type 0} (content : D → Content) (control : D → Control call_code) where
-  -- what a turn of the broker counts that works on its own log, where it is answered so
+  -- what a turn of the broker counts that works on its own log, where it gets this answer
   abbrev Leaving : PartitionState D → ℕ → PartitionState D → Answer → Type 0
   Leaving h b h' answer = ByFault (Once control h b h') (Quietly control h h') (is_of_disk answer)
 

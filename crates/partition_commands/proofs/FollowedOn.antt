@@ -25,7 +25,7 @@ use Rattle.plain_log.specs.declared.answer.Place.TheVariants.{File}
 use Rattle.partition_commands.proofs.Open.{of_while, while_map}
 
 module _ {D : Type 0} where
-  -- bytes that a log takes are a run behind its end
+  -- bytes that a log takes are a run after its end
   pub taken_run : (x : Node D) (taken : Bool) (run bytes : List ℕ) → WhileUp x.log (λ log. IsTrue taken ↔ IsRun log.end log.line run) → taken ≡ true → run ≡ bytes → IsRun (end_of x) (line_of x) bytes
   taken_run x taken run bytes says on same =
       subst (IsRun (end_of x) (line_of x)) same (of_while (λ end line. IsRun end line run) x.log

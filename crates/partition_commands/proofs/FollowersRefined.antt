@@ -265,7 +265,7 @@ module _ {D : Type 0} (content : D → Content) (control : D → Control call_co
       )
   join_refined h a b x s other h' v k w = elim w [ ]
 
-  -- join goes on
+  -- join continues
 
   pub join_on_refined : (h : PartitionState D) (a : seen.SeenPartition) (b : ℕ) (x : Node D) (s : log.Seen) (g : StartSnapshot) (answer : Answer) (h' : PartitionState D) → Sees content h a b x s → seen_sound.NodeSound (node_of x s)
       → IsRebuilding a (node_of x s) g → JoinOnRow content control h b x g answer h' → Refines content h' (λ c. seen_rows.JoinOnRow a b (node_of x s) g answer c)
@@ -408,7 +408,7 @@ module _ {D : Type 0} (content : D → Content) (control : D → Control call_co
       )
   follow_refined h a b x s limit other h' v k w = elim w [ ]
 
-  -- follow goes on
+  -- follow continues
 
   extend_shown : (x : Node D) (s : log.Seen) (g : StartSnapshot) → is_up x ≡ true → Shows content x.log s → IsKept (node_of x s) g → CanExtend x g → seen_rows.CanExtend (node_of x s) g
   extend_shown x s g up shows kept k =

@@ -177,7 +177,7 @@ module _ {D : Type 0} (content : D → Content) (control : D → Control call_co
   armed_made leads (d ∷ disks) (x ∷ xs) [] a f m = absurd a
   armed_made leads (d ∷ disks) (x ∷ xs) (y ∷ ys) a f m = (armed_over leads d x y f.0 m.0 a.0, armed_made false disks xs ys a.1 f.1 m.1)
 
-  -- their logs stand in segments as before
+  -- their logs are in segments as before
   pub armed_laid : (settings : Settings) (xs ys : List (Node D)) → AreArmed (length xs) xs ys → AreLaid settings xs → AreLaid settings ys
   armed_laid settings [] ys a l = rw a tt
   armed_laid settings (x ∷ xs) [] a l = absurd a

@@ -1,4 +1,4 @@
--- Batches at a log's end, and the line that they make.
+-- Batches at a log's end, and the leader epochs that they make.
 use Rattle.std.proofs.Common.{◌≡◌, ◌≢◌, inl, inr, ◌∙◌, sym, ap, refl, ℕ, List, [], ◌∷◌, ◌++◌, Some, None, IsOk, append-nil}
 use Rattle.std.specs.List.{All, AllByRecursion}
 use Rattle.std.proofs.lemmas.List.Elements.{All-from_recursion, recursion_from_All}
@@ -54,7 +54,7 @@ begun_entered line e base = elim (by_last line) [
   | inr some ↦ rw some.1 refl
 ]
 
--- the line of a log that gained an epoch ends with it
+-- the leader epochs of a log that gained an epoch ends with it
 pub entered_last : (line : List (ℕ × ℕ)) (e base : ℕ) → last_epoch (entered line e base) ≡ Some e
 entered_last line e base = elim (by_last line) [
   | inl none ↦ ap last_epoch (entered_none none) ∙ last_of_push (cut_end line base) (e, base)

@@ -1,4 +1,5 @@
--- While no call of the brokers' disks can fail, none does: they last so, and a fault that is told would be one of a disk.
+-- While no call of the brokers' disks can fail, none does: they last so, and a fault that is reported would be one of a
+-- disk.
 use Rattle.std.proofs.Common.{◌≡◌, ℕ, zero, suc, ◌+◌, ◌<◌, ◌≤◌, List, [], ◌∷◌, slice_get, Some, Option, IsSomeAnd, arith}
 use Rattle.std.specs.Prelude.{◌-◌, ◌^◌, min}
 use Rattle.tier_base.specs.Counts.{Rose}
@@ -77,7 +78,7 @@ module _ {D : Type 0} (control : D → Control call_code) where
   infallible_command command b h h' lasts c fails = infallible_disk b h h' lasts c fails
 
 module _ {D : Type 0} (content : D → Content) (control : D → Control call_code) where
-  -- a turn that is answered no fault tells of none
+  -- a turn that is answered no fault reports none
   tells_none : (A B : Type 0) (turned : Turned) (command : Command) → (A → ⊥) → (B → ⊥) → OwnTold A B turned → HasNoFault (event_of turned command)
   tells_none A B (Answers answer) command well whole t = told_none A B ⊥ ⊥ answer well whole (λ f. f) (λ f. f) t
   tells_none A B (Begins g) Join well whole t = tt

@@ -1,4 +1,4 @@
--- The brokers' disks last, over no call and over many, and a fault of one of them goes on to be counted.
+-- The brokers' disks last, over no call and over many, and a fault of one of them continues to be counted.
 use Rattle.std.proofs.Common.{◌≡◌, sym, subst, ℕ, zero, suc, ◌+◌, ◌≤◌, List, [], ◌∷◌, slice_get, slice_set, Some, Option, IsSomeAnd, arith}
 use Rattle.std.specs.Prelude.{◌-◌, ◌^◌, min}
 use Rattle.tier_base.specs.Counts.{counted, Rose}
@@ -23,7 +23,7 @@ rose_from n before now low rose = go low rose
     go : n ≤ before → min (before + 1) (2 ^ 64 - 1) ≤ now → min (n + 1) (2 ^ 64 - 1) ≤ now
     go low up = omega (arith, low, up)
 
--- one that has risen goes on
+-- one that has risen continues
 pub rose_on : (before now later : ℕ) → Rose before now → now ≤ later → Rose before later
 rose_on before now later rose up = go rose up
   where

@@ -1,4 +1,4 @@
--- The turns of commands on brokers' logs: their disks last, and where a fault is told a call of one of them failed.
+-- The turns of commands on brokers' logs: their disks last, and where a fault is reported a call of one of them failed.
 use Rattle.std.proofs.Common.{◌≡◌, sym, subst, refl, ℕ, List, slice_get, Some, None, Option, Bool, Ok as Done}
 use Rattle.std.specs.Prelude.{min, ℤ}
 use Rattle.tier_base.specs.Device.{Control}
@@ -34,7 +34,7 @@ use Rattle.partition_commands.proofs.Told.{Told, OwnTold, told_map}
 use Rattle.partition_commands.proofs.LastingDisks.{Keeps, FailsAlone, FailsFor, keeps_same, keeps_put, keeps_log, keeps_leaves, fails_put, one_faulted}
 
 module _ {D : Type 0} (content : D → Content) (control : D → Control call_code) where
-  -- what a turn of the broker leaves that works on its own log, where it is answered so
+  -- what a turn of the broker leaves that works on its own log, where it gets this answer
   abbrev Leaving : PartitionState D → ℕ → PartitionState D → Answer → Type 0
   Leaving h b h' answer = Keeps control h h' × Told (DiskFails control b h h') (DiskFails control b h h') ⊥ ⊥ answer
 

@@ -10,7 +10,7 @@ use Rattle.registry.specs.Registry.{elected, elected_alone, with_ack, shrunk, ex
 use Rattle.registry.specs.Calls.{when, is_stale, after_elect, after_unclean, after_ack, after_shrink, after_expand, after_raise}
 use Rattle.plain_log.proofs.Options.{when_some, both, le_of, not_true}
 
--- where the epoch is the same, the mark hasn't fallen
+-- where the epoch is the same, the high watermark hasn't fallen
 abbrev pub MarkStays : Registry → Registry → Type 0
 MarkStays r after = after.epoch ≡ r.epoch → r.mark ≤ after.mark
 
@@ -62,7 +62,7 @@ raise_marks r epoch wanted (Err (AboveMark mark)) after e = refused r after _ e
 raise_marks r epoch wanted (Ok start) after e = went r (started r wanted) after _ e (omega arith)
 raise_marks r epoch wanted other after e = absurd cc
 
--- a raise above the log start and to the mark at most is refused only since another epoch is the registry's
+-- a raise above the log start and to the high watermark at most is refused only since another epoch is the registry's
 pub raise_stale : (r : Registry) (epoch wanted : ℕ) (why : RegRefusal) (after : Registry) → after_raise r epoch wanted (Err why) ≡ Some after
     → r.start < wanted → (r.epoch ≤ epoch → wanted ≤ r.mark) → ((current : ℕ) → why ≡ StaleEpoch current → ⊥) → ⊥
 raise_stale r epoch wanted (StaleEpoch current) after e above within never = never current refl

@@ -5,7 +5,7 @@ use Rattle.local_log.specs.Log.{Log}
 use Rattle.broker_log.specs.Seen.{Kept, Up, Down, Away, WhileUp, is_up, end_in, line_in}
 
 module _ {D : Type 0} where
-  -- of its end and its line
+  -- of its end and its leader epochs
   pub while_of : (P : ℕ → List (ℕ × ℕ) → Type 0) (kept : Kept D) → is_up kept ≡ true → P (unwrap_or (end_in kept) 0) (unwrap_or (line_in kept) []) → WhileUp kept (λ log. P log.end log.line)
   while_of P (Up log) up p = p
   while_of P (Down settings disk) up p = absurd cc

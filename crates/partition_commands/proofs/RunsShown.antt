@@ -1,4 +1,5 @@
--- A run that was read of a log is a run of what is seen: of one epoch, since no epoch of the log's line starts within it.
+-- A run that was read of a log is a run of what is seen: of one epoch, since no epoch of the log's leader epochs starts
+-- within it.
 use Rattle.std.proofs.Common.{◌≡◌, ◌≢◌, inl, inr, ◌∙◌, sym, ap, subst, refl, ℕ, ◌+◌, ◌<◌, ◌≤◌, List, [], ◌∷◌, ◌++◌, length, Some, Bool, true, false, nat_lt, arith, append_assoc}
 use Rattle.std.specs.List.{AllByRecursion}
 use Rattle.std.proofs.lemmas.Bool.Decides.{nat_tests}
@@ -27,7 +28,7 @@ within_of limit [] some fits = absurd (some refl)
 within_of limit (batch ∷ []) some fits = refl
 within_of limit (batch ∷ next ∷ run) some fits = le_true (length (joined (batch ∷ next ∷ run))) limit fits
 
--- what stands before the batch that holds an offset
+-- what precedes the batch that holds an offset
 from_front : (offset : ℕ) (log : List (List ℕ)) → (front : List (List ℕ)) × (log ≡ front ++ from_offset offset log)
 from_front offset [] = ([], refl)
 from_front offset (batch ∷ log) = go (nat_lt (last_of batch) offset) refl (from_front offset log)
@@ -71,7 +72,7 @@ line_back : (P : ℕ × ℕ → Type 0) (front : List (List ℕ)) (first : List 
 line_back P [] first ys h = h.1
 line_back P (f ∷ front) first ys h = after_back P (epoch_of f) front first ys h.1
 
--- what holds of each entry of a log's line holds of each of its batches' entries
+-- what holds of each entry of a log's leader epochs holds of each of its batches' entries
 own_entries : (P : ℕ × ℕ → Type 0) (line : List (ℕ × ℕ)) (log : List (List ℕ)) → IsLineFor line log → Each P line → Each P (line_of log)
 own_entries P line log (inl is) h = subst (Each P) is h
 own_entries P line log (inr k) h = each_front P (line_of log) _ (subst (Each P) k.1 h)

@@ -104,7 +104,7 @@ module _ {D : Type 0} (content : D → Content) where
       subst (λ (r : Registry). ShowsOption (the_leader h) (option_and_then (λ (y : seen.Node). when (y.up && leads_in r.epoch y.role) y) (slice_get a.nodes r.leader.0))) (sym s.registry)
       (leading h.registry.epoch (slice_get h.nodes h.registry.leader.0) (slice_get a.nodes h.registry.leader.0) (shown_get h.nodes a.nodes h.registry.leader.0 s.nodes))
 
-  -- a log that is up has its end, its flushed end and its line
+  -- a log that is up has its end, its flushed end and its leader epochs
   pub end_shown : (x : Node D) (s : log.Seen) → is_up x ≡ true → Shows content x.log s → end_of x ≡ end_of_log s.batches
   end_shown x s up h = go x.log up h
     where

@@ -67,7 +67,7 @@ epoch_up : (old r : Registry) → Moves old r → old.epoch ≤ r.epoch
 epoch_up old r m = elim m.epoch [ inl k ↦ (let is = k.epoch in omega (arith, is)) | inr k ↦ (let is = k.epoch in omega (arith, is)) ]
 
 module _ {D : Type 0} where
-  -- the line of a log that was up
+  -- the leader epochs of a log that was up
   line_while : (k kept : Kept D) (f : List (ℕ × ℕ) → ℕ → List (ℕ × ℕ)) → is_open k ≡ true → WhileUp k (λ log. line_in kept ≡ Some (f log.line log.end))
       → unwrap_or (line_in kept) [] ≡ f (unwrap_or (line_in k) []) (unwrap_or (end_in k) 0)
   line_while (Up l) kept f up is = ap (λ (o : Option (List (ℕ × ℕ))). unwrap_or o []) is
@@ -90,7 +90,7 @@ module _ {D : Type 0} where
   pub put_is : (n : ℕ) (h : PartitionState D) (b : ℕ) (y : Node D) (h' : PartitionState D) → h' ≡ put_node h b y → SoundPartition n h → NodeSound h.registry y → SoundPartition n h'
   put_is n h b y h' e s k = subst (SoundPartition n) (sym e) (put_sound n h b y s k)
 
-  -- a node as the registry has moved: its epoch is the next, or the mark hasn't fallen
+  -- a node as the registry has moved: its epoch is the next, or the high watermark hasn't fallen
   moved_node : (old r : Registry) (x : Node D) → old.epoch ≤ r.epoch → MarkStays old r → NodeSound old x → NodeSound r x
   moved_node old r x later stays s = record {
     up = s.up;
@@ -150,7 +150,7 @@ module _ {D : Type 0} where
       one.1 ∙ ap (λ (z : Node D). Some z) (when_some (is_up one.0 && leads_in h.registry.epoch one.0.role) one.0 y one.2).1
 
 module _ {D : Type 0} (content : D → Content) (control : D → Control call_code) where
-  -- a log with the line that it had
+  -- a log with the leader epochs that it had
   looks_sound : (n : ℕ) (h : PartitionState D) (b : ℕ) (x : Node D) (kept : Kept D) (h' : PartitionState D) → slice_get h.nodes b ≡ Some x → SoundPartition n h → is_open kept ≡ is_open x.log → line_in kept ≡ line_in x.log
       → h' ≡ put_node h b (record x { log = kept }) → SoundPartition n h'
   looks_sound n h b x kept h' at s up line is =
@@ -509,7 +509,7 @@ module _ {D : Type 0} (content : D → Content) (control : D → Control call_co
   turn_sound n h b snapshot command turned h' s w =
       let x = some_of (λ x. Row content control h b x snapshot command turned h') (slice_get h.nodes b) w in row_sound n h b x.0 snapshot command turned h' x.1 s x.2
 
-  -- want of memory
+  -- running out of memory
   pub stays_held_sound : (n : ℕ) (h h' : PartitionState D) → SoundPartition n h → KeepsPartition content control h h' → SoundPartition n h'
   stays_held_sound n h h' s (inl is) = same n h h' is s
   stays_held_sound n h h' s (inr k) = let x = some_of (λ x. Rests content control h k.0 x h') (slice_get h.nodes k.0) k.1 in rests_sound n h k.0 x.0 h' x.1 s x.2

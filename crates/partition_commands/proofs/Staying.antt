@@ -1,4 +1,4 @@
--- A call that found no memory leaves what is seen of a partition, and a disk that handed damage was read once.
+-- A call that found no memory leaves what is seen of a partition, and a disk that returned damage was read once.
 use Rattle.std.proofs.Common.{◌≡◌, inr, subst, ℕ, true, slice_get, Some, Err}
 use Rattle.std.specs.declared.result.Result.{Result}
 use Rattle.tier_base.specs.Device.{Control}

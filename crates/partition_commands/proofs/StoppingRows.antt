@@ -328,7 +328,7 @@ module _ {D : Type 0} (content : D → Content) (control : D → Control call_co
   row_stops h b x None command turned h' at w = first_stops h b x command turned h' at w
   row_stops h b x (Some g) command turned h' at w = later_stops h b x command g turned h' at w
 
-  -- want of memory
+  -- running out of memory
   pub held_stops : (h h' : PartitionState D) → KeepsPartition content control h h' → StopsStay h h'
   held_stops h h' (inl is) = stays_same h h' is
   held_stops h h' (inr k) =

@@ -25,7 +25,7 @@ told_map A B C E A' B' C' E' StoreFault f g h k t = h t
 told_map A B C E A' B' C' E' MetaFault f g h k t = k t
 told_map A B C E A' B' C' E' other f g h k t = tt
 
--- where no device failed none is told
+-- where no device failed none is reported
 pub told_none : (A B C E : Type 0) (answer : Answer) → (A → ⊥) → (B → ⊥) → (C → ⊥) → (E → ⊥) → Told A B C E answer → IsFaultless answer
 told_none A B C E DiskFault f g h k t = f t
 told_none A B C E (DiskFaultAt n) f g h k t = g t

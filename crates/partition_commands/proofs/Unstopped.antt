@@ -1,4 +1,4 @@
--- Brokers that begin, or begin anew, have never stopped.
+-- Brokers that begin, or start again, have never stopped.
 use Rattle.std.proofs.Common.{◌≡◌, ap, ℕ, zero, suc, ◌≤◌, List, [], ◌∷◌, slice_get, Some, Bool, true, false, arith}
 use Rattle.tier_base.specs.declared.plain.Settings.{Settings}
 use Rattle.tier_base.specs.Device.{Control}

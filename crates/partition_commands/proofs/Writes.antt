@@ -1,4 +1,4 @@
--- Writes that change nothing, and answers that say more.
+-- Writes that change nothing, and returns that say more.
 use Rattle.std.proofs.Common.{◌≡◌, ◌∙◌, sym, ◌<◌, ℕ, zero, suc, List, [], ◌∷◌, length, slice_get, slice_set, Some, arith}
 use Rattle.std.specs.declared.result.Result.{Result}
 use Rattle.std.specs.declared.result.Result.TheVariants.{Ok, Err}
@@ -7,7 +7,7 @@ use Rattle.log_terms.proofs.Lists.{set-same}
 use Rattle.partition_commands.specs.declared.partition_state.PartitionState.{PartitionState}
 use Rattle.partition_commands.specs.Partition.{CanStop}
 
--- a write of what stands there changes nothing
+-- a write of what is there changes nothing
 pub set_same : {A : Type 0} (xs : List A) (i : ℕ) (x : A) → slice_get xs i ≡ Some x → slice_set xs i x ≡ xs
 set_same xs i x e = set-same xs i x e
 
@@ -20,7 +20,7 @@ ok_more P Q (Err e) f h = tt
 pub never : {A : Type 0} {x y z : A} → x ≡ y → (y ≡ z → ⊥) → x ≡ z → ⊥
 never is other was = other (sym is ∙ was)
 
--- what stands at a place is within the list
+-- what is at a place is within the list
 within : {A : Type 0} (P : A → Type 0) (xs : List A) (i : ℕ) → IsSomeAnd (slice_get xs i) P → i < length xs
 within P [] i at = absurd at
 within P (x ∷ xs) zero at = omega arith

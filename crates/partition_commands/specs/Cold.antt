@@ -1,4 +1,5 @@
--- A partition that begins anew over disks that were used before: all its brokers are down, and no disk was asked anything.
+-- A partition that starts again over disks that were used before: all its brokers are down, and no disk was asked
+-- anything.
 --
 --   form                          says
 --   cold_held settings r disks    the partition with this registry over these disks

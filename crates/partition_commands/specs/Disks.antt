@@ -47,7 +47,7 @@ module _ {D : Type 0} (control : D → Control call_code) where
   FailsOnce (Follow limit) b xs ys = (leader : ℕ) × OneFails leader xs ys
   FailsOnce command b xs ys = OneFails b xs ys
 
-  -- so where a turn of the command is answered a fault of a disk; at any other none failed
+  -- so where a turn of the command returns a fault of a disk; at any other none failed
   abbrev pub DisksCount : Command → ℕ → Bool → List (Node D) → List (Node D) → Type 0
   DisksCount command b true xs ys = FailsOnce command b xs ys
   DisksCount command b false xs ys = NoneFails xs ys

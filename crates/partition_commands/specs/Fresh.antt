@@ -18,12 +18,12 @@ use Rattle.partition_commands.specs.declared.refusal.WorldRefusal.{WorldRefusal}
 use Rattle.partition_commands.specs.declared.refusal.WorldRefusal.TheVariants.{DiskFault}
 use Rattle.partition_commands.specs.Partition.{is_up, line_of, IsInfallible}
 
--- the disks tell
+-- the disks are observable
 abbrev pub DisksTell : {D : Type 0} → (D → Content) → List D → Type 0
 DisksTell content [] = Unit {0}
 DisksTell content (disk ∷ disks) = IsTrue (content disk).is_observable × DisksTell content disks
 
--- an empty log with this line, as it is seen
+-- an empty log with these leader epochs, as it is seen
 abbrev pub empty_seen : List (ℕ × ℕ) → Seen
 empty_seen line = record { batches = []; line = line; flushed_end = 0; saved = line; local = 0; loose = None; incarnation = 1 }
 
@@ -118,14 +118,14 @@ module _ {D : Type 0} (control : D → Control call_code) where
   AreMadeFrom leads [] (x ∷ xs) = ⊥
   AreMadeFrom leads (disk ∷ disks) [] = ⊥
 
-  -- a node over a fresh disk stands behind these nodes; the first one leads
+  -- a node over a fresh disk follows these nodes; the first one leads
   pub record AddsNode (content : D → Content) (xs : List (Node D)) (disk : D) (new : List (Node D)) : Type 0 where
     pub node : Node D
     pub after : new ≡ xs ++ node ∷ []
     pub made : IsMadeOver (is_first xs) disk node
     pub seen : IsTrue (content disk).is_observable → Shows content node.log (empty_seen (line_of node))
 
-  -- a refusal over this disk, which is back: a fault is told only where its count of faults has risen
+  -- a refusal over this disk, which is back: a fault is reported only where its count of faults has risen
   pub record RefusesOver (disk now : D) (why : WorldRefusal) : Type 0 where
     pub lasts : Lasts (control disk) (control now)
     pub cause : why ≡ DiskFault → Rose (control disk).faults (control now).faults
@@ -142,7 +142,7 @@ module _ {D : Type 0} (control : D → Control call_code) where
   OneFailed (disk ∷ disks) (now ∷ nows) = Rose (control disk).faults (control now).faults ⊎ OneFailed disks nows
   OneFailed disks nows = ⊥
 
-  -- a refusal: the disks are back, and a fault is told only where the count of faults of one of them has risen
+  -- a refusal: the disks are back, and a fault is reported only where the count of faults of one of them has risen
   pub record Refuses (disks nows : List D) (why : WorldRefusal) : Type 0 where
     pub back : ComeBack disks nows
     pub cause : why ≡ DiskFault → OneFailed disks nows

@@ -1,4 +1,4 @@
--- Disks that fail no call, and turns that tell of no fault.
+-- Disks that fail no call, and turns that report no fault.
 use Rattle.std.specs.Prelude.{◌≡◌, List, [], ◌∷◌, IsTrue}
 use Rattle.tier_base.specs.Device.{Control}
 use Rattle.disk_model.specs.Call.{call_code}
@@ -23,7 +23,7 @@ AreUnplanned control (disk ∷ disks) =
     IsTrue (control disk).scripted × ((control disk).plan ≡ []) × IsInfallible (control disk)
     × AreUnplanned control disks
 
--- the answer tells of no fault of a device
+-- the answer reports no fault of a device
 abbrev pub IsFaultless : Answer → Type 0
 IsFaultless DiskFault = ⊥
 IsFaultless (DiskFaultAt n) = ⊥

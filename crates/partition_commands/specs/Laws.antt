@@ -42,13 +42,13 @@ module _ {D : Type 0} (content : D → Content) (control : D → Control call_co
       → slice_get h.nodes b ≡ Some x → HaveDisks h.nodes → Row content control h b x snapshot command turned h'
       → DisksLast control h.nodes h'.nodes
 
-  -- over any disks one call of a disk fails over a row that tells of a fault of one, and none over any other
+  -- over any disks one call of a disk fails over a row that reports a fault of one, and none over any other
   abbrev pub RowsCountFaults : Type 0
   RowsCountFaults = (h : PartitionState D) (b : ℕ) (x : Node D) (snapshot : Option StartSnapshot) (command : Command) (turned : Turned) (h' : PartitionState D)
       → slice_get h.nodes b ≡ Some x → HaveDisks h.nodes → Row content control h b x snapshot command turned h'
       → DisksCount control command b (is_answered is_of_disk turned) h.nodes h'.nodes
 
-  -- over disks of which no call can fail each row leaves them so, and tells of no fault
+  -- over disks of which no call can fail each row leaves them so, and reports no fault
   abbrev pub RowsStayInfallible : Type 0
   RowsStayInfallible = (h : PartitionState D) (b : ℕ) (x : Node D) (snapshot : Option StartSnapshot) (command : Command) (turned : Turned) (h' : PartitionState D)
       → slice_get h.nodes b ≡ Some x → AreInfallible control h.nodes

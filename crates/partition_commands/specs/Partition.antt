@@ -1,4 +1,4 @@
--- What the turns of commands work on where each broker's log stands on a disk, and how it is seen.
+-- What the turns of commands work on where each broker's log is on a disk, and how it is seen.
 --
 -- The rows over disks say what a turn does to the logs by the words of a broker's log; where the disks are observable, it is a row of
 -- the partition as it is seen. The disks' plans last over every turn, and infallible ones stay so.
@@ -27,7 +27,7 @@ module _ {D : Type 0} where
   abbrev pub is_up : Node D → Bool
   is_up x = is_open x.log
 
-  -- its log end offset, its flushed end, its line and its local start, where it is up
+  -- its log end offset, its flushed end, its leader epochs and its local start, where it is up
   abbrev pub end_of : Node D → ℕ
   end_of x = unwrap_or (end_in x.log) 0
 
@@ -97,7 +97,7 @@ module _ {D : Type 0} (content : D → Content) where
     pub clock : a.clock ≡ h.clock
 
 module _ {D : Type 0} (control : D → Control call_code) where
-  -- where a batch of the log ends at the mark, its disk was read once in this call, and handed something
+  -- where a batch of the log ends at the high watermark, its disk was read once in this call, and returned something
   abbrev pub HasRead : Kept D → Kept D → ℕ → Type 0
   HasRead old kept mark = WhileUp old (λ log. is_edge (segment_at log mark) mark ≡ true
       → OnDisk old (λ d. OnDisk kept (λ e. Ran Read Went (control d) (control e))))

@@ -25,7 +25,7 @@ use Rattle.partition_commands.specs.declared.partition_state.PartitionState.{Par
 use Rattle.partition_commands.specs.Partition.{node_of, ShowsPartition}
 
 module _ {D : Type 0} (content : D → Content) where
-  -- a node of a partition whose disks tell, and how both are seen
+  -- a node of a partition whose disks are observable, and how both are seen
   pub record Sees (h : PartitionState D) (a : seen.SeenPartition) (b : ℕ) (x : Node D) (s : log.Seen) : Type 0 where
     pub held : ShowsPartition content h a
     pub at : slice_get h.nodes b ≡ Some x
@@ -51,20 +51,20 @@ pub record Knows (a : seen.SeenPartition) (y : seen.Node) : Type 0 where
 abbrev pub StaysUp : seen.Node → StartSnapshot → Type 0
 StaysUp y g = g.stops ≡ y.stops → y.up ≡ true
 
--- what is known of a follow that goes on: what it keeps are batches of one epoch
+-- what is known of a follow that continues: what it keeps are batches of one epoch
 pub record IsKept (y : seen.Node) (g : StartSnapshot) : Type 0 where
   pub recorded : StaysUp y g
   pub are : All (λ (batch : List ℕ). IsOk (checked batch)) g.batches
   pub epochs : All (λ batch. Some (epoch_of batch) ≡ epoch_in g.batches) g.batches
   pub small : end_from g.end g.batches ≤ 4611686018427387904
 
--- up to the wanted point the log of z goes on from that of y, and the recorded line is its own
+-- up to the wanted point the log of z continues from that of y, and the recorded line is its own
 pub record HasWanted (y z : seen.Node) (g : StartSnapshot) : Type 0 where
   pub leads : LeadsTo (up_to g.wanted z.log.batches) g.wanted
   pub begins : IsPrefix y.log.batches (up_to g.wanted z.log.batches)
   pub line : g.line ≡ line_of (up_to g.wanted z.log.batches)
 
--- what is known of a join that goes on: the leader's log has what is wanted
+-- what is known of a join that continues: the leader's log has what is wanted
 pub record IsRebuilding (a : seen.SeenPartition) (y : seen.Node) (g : StartSnapshot) : Type 0 where
   pub recorded : StaysUp y g
   pub way : GoesOn a y g → g.end ≡ end_of y.log.batches

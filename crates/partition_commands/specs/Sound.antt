@@ -8,8 +8,8 @@ use Rattle.partition_commands.specs.declared.partition_state.PartitionState.{Par
 use Rattle.partition_commands.specs.Partition.{is_up, line_of}
 
 module _ {D : Type 0} where
-  -- a leader is up, and its line ends with its epoch, which isn't above the registry's; that of the registry's epoch knows no high
-  -- watermark above the registry's; a node that is down is idle and knows none
+  -- a leader is up, and its leader epochs end with its epoch, which isn't above the registry's; that of the registry's
+  -- epoch knows no high watermark above the registry's; a node that is down is idle and knows none
   pub record NodeSound (r : Registry) (x : Node D) : Type 0 where
     pub up : (e : ℕ) → x.role ≡ Leads e → is_up x ≡ true
     pub leads : (e : ℕ) → x.role ≡ Leads e → last_epoch (line_of x) ≡ Some e

@@ -47,8 +47,8 @@ IsOfTier (Offset LatestTiered) = Unit {0}
 IsOfTier (Offset (At ts)) = Unit {0}
 IsOfTier command = ⊥
 
--- the command may want memory: none does that only asks the registry, sets the clock or a switch, stops a broker, or asks for
--- an offset that is known at once
+-- the command may need memory: none does that only asks the registry, sets the clock or a switch, stops a broker, or
+-- asks for an offset that is known at once
 abbrev pub takes_memory : Command → Bool
 takes_memory Elect = false
 takes_memory Unclean = false
@@ -79,7 +79,8 @@ module _ {D : Type 0} where
   CopyingRow h on Ok h' = h' ≡ record h { copying = on }
   CopyingRow h on other h' = ⊥
 
-  -- the log start, the known high watermark, or where the local log begins of what isn't below the log start
+  -- the log start offset, the known high watermark, or where the local log begins of what isn't below the log start
+  -- offset
   abbrev pub known_offset : PartitionState D → Node D → Which → Option ℕ
   known_offset h x Earliest = Some h.registry.start
   known_offset h x Latest = Some x.known_high_watermark
@@ -102,7 +103,7 @@ module _ {D : Type 0} (content : D → Content) (control : D → Control call_co
       × (h' ≡ put_node h b (record (stopped x) { log = kept })))
   StopRow h b x other h' = ⊥
 
-  -- up: what wasn't flushed is gone; after a write that failed, what it was to make stable may be there
+  -- up: what wasn't flushed is gone; after a write that failed, what it was to make durable may be there
   abbrev pub UpRow : PartitionState D → ℕ → Node D → Answer → PartitionState D → Type 0
   UpRow h b x IsUp h' = (is_up x ≡ true) × (h' ≡ h)
   UpRow h b x (Up n) h' = (is_up x ≡ false) × ((kept : Kept D) × ComesUp content x.log kept n × Quiet control x.log kept

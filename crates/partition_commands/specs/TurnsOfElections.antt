@@ -51,11 +51,11 @@ module _ {D : Type 0} where
   abbrev pub IsKnown : PartitionState D → Node D → Type 0
   IsKnown h x = epoch_in x.role ≡ Some h.registry.epoch
 
-  -- the line has no epoch from this one on
+  -- the leader epochs have no epoch from this one on
   abbrev pub IsNew : Node D → ℕ → Type 0
   IsNew x n = ForSome (last_epoch (line_of x)) (λ last. last < n)
 
-  -- the broker is up, and its line has no epoch from this one on
+  -- the broker is up, and its leader epochs have no epoch from this one on
   abbrev pub MayLead : Node D → ℕ → Type 0
   MayLead x n = WhileUp x.log (λ log. ForSome (last_epoch log.line) (λ last. last < n))
 
@@ -105,8 +105,8 @@ module _ {D : Type 0} where
   AckRow h b x other h' = ⊥
 
 module _ {D : Type 0} (content : D → Content) (control : D → Control call_code) where
-  -- the node leads this epoch: its line has it from the log's end on, and all of its log is flushed; it knows the high
-  -- watermark, as far as its log goes
+  -- the node leads this epoch: its leader epochs have it from the log's end on, and all of its log is flushed; it knows
+  -- the high watermark, as far as its log goes
   pub record Leading (h : PartitionState D) (b : ℕ) (x : Node D) (epoch : ℕ) (h' : PartitionState D) : Type 0 where
     pub kept : Kept D
     pub end : ℕ

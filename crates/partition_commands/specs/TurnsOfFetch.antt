@@ -71,7 +71,7 @@ module _ {D : Type 0} (content : D → Content) (control : D → Control call_co
       × FindsDamage content control h b x offset limit x.known_high_watermark name at h'
   FetchRow h b x offset limit other h' = ⊥
 
-  -- fetch, first turn: below the local log it goes on with a later one
+  -- fetch, first turn: below the local log it continues with a later one
   abbrev pub FetchTurn : PartitionState D → ℕ → Node D → ℕ → ℕ → Turned → PartitionState D → Type 0
   FetchTurn h b x offset limit (Answers answer) h' = FetchRow h b x offset limit answer h'
   FetchTurn h b x offset limit (Begins g) h' =

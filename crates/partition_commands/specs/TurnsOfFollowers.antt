@@ -1,7 +1,7 @@
 -- What a turn of a follower's command comes to over disks: join, follow.
 --
--- A follower's log meets the leader's where their lines of leader epochs still agree. A follow reads a run of the
--- leader's log at its first turn, which an actor's state has, and puts of it at the end of its own at the second what stands in one
+-- A follower's log meets the leader's where their leader epochs still agree. A follow reads a run of the leader's log
+-- at its first turn, which an actor's state has, and puts of it at the end of its own at the second what fits one
 -- segment.
 use Rattle.std.specs.Prelude.{◌≡◌, ◌≢◌, ◌⊎◌, ℕ, ◌+◌, ◌^◌, ◌<◌, ◌≤◌, true, false, min, List, Option, None, Some, IsSome, IsSomeAnd}
 use Rattle.tier_base.specs.Device.{Control}
@@ -39,7 +39,7 @@ module _ {D : Type 0} where
   abbrev pub IsCurrent : PartitionState D → Option ℕ → Type 0
   IsCurrent h e = IsSomeAnd e (λ e. h.registry.epoch ≤ e)
 
-  -- where the logs of two nodes meet: the greatest offset up to both ends to which their lines agree
+  -- where the logs of two nodes meet: the greatest offset up to both ends to which their leader epochs agree
   abbrev pub IsMeet : Node D → Node D → ℕ → Type 0
   IsMeet x y n = IsMeetBelow (line_of x) (line_of y) (min (end_of x) (end_of y)) n
 
@@ -58,11 +58,11 @@ module _ {D : Type 0} where
   abbrev pub MayCut : Node D → ℕ → Type 0
   MayCut x met = WhileUp x.log (λ log. met ≤ log.end)
 
-  -- the broker is up, and the run may stand at the end of its log
+  -- the broker is up, and the run may be at the end of its log
   abbrev pub MayExtend : Node D → List ℕ → Type 0
   MayExtend x run = WhileUp x.log (λ log. IsRun log.end log.line run)
 
-  -- a later turn goes on: no stop, and no newer epoch
+  -- a later turn continues: no stop, and no newer epoch
   abbrev pub GoesOn : PartitionState D → Node D → StartSnapshot → Type 0
   GoesOn h x g = (g.stops ≡ x.stops) × (is_up x ≡ true) × ¬ IsStale h (followed g.role)
 
@@ -70,7 +70,8 @@ module _ {D : Type 0} where
   abbrev pub IsAsCut : Node D → StartSnapshot → Type 0
   IsAsCut x g = (g.end ≡ end_of x) × IsSome (joined x.role)
 
-  -- a rebuild may end: nothing has come between, and the log start hasn't reached the wanted point since it began
+  -- a rebuild may end: nothing has come between, and the log start offset hasn't reached the wanted point since it
+  -- began
   abbrev pub MayRebuild : PartitionState D → Node D → StartSnapshot → Type 0
   MayRebuild h x g = GoesOn h x g × IsAsCut x g × ((g.start < g.wanted) × (g.wanted ≤ h.registry.start) → ⊥)
 
@@ -120,7 +121,7 @@ module _ {D : Type 0} (content : D → Content) (control : D → Control call_co
       (e m : ℕ) × (followed x.role ≡ Some e) × IsMeet x y m × Wants h b x y e m g h')
   JoinRow h b x other h' = ⊥
 
-  -- the local log is begun anew at the wanted point
+  -- the local log is restarted at the wanted point
   pub record RestartsNode (h : PartitionState D) (b : ℕ) (x : Node D) (n : ℕ) (line : List (ℕ × ℕ))
       (h' : PartitionState D) : Type 0 where
     pub kept : Kept D
@@ -192,7 +193,7 @@ module _ {D : Type 0} (content : D → Content) (control : D → Control call_co
       × IsSomeAnd (the_leader h) (λ y. (end_of x < end_of y) × (local_of y ≤ end_of x) × Takes h x y limit g h')
   FollowRow h b x limit other h' = ⊥
 
-  -- as much of a run as stands in one segment stands at the end of the follower's log
+  -- as much of a run as fits one segment is at the end of the follower's log
   pub record Extends (h : PartitionState D) (b : ℕ) (x : Node D) (run : List ℕ) (n : ℕ)
       (h' : PartitionState D) : Type 0 where
     pub kept : Kept D

@@ -31,7 +31,7 @@ module _ {D : Type 0} where
   abbrev pub end_with : Node D → List ℕ → ℕ
   end_with x batch = end_of x + last_offset_delta_of batch + 1
 
-  -- the batch has this base and last offset and this epoch, and may stand at the end of the leader's log
+  -- the batch has this base and last offset and this epoch, and may be at the end of the leader's log
   pub record MayPut (x : Node D) (batch : List ℕ) (base last epoch : ℕ) : Type 0 where
     pub up : is_up x ≡ true
     pub end : end_of x ≡ base
@@ -63,7 +63,7 @@ module _ {D : Type 0} where
   abbrev pub MayDrop : Node D → Type 0
   MayDrop x = WhileUp x.log (λ log. IsFirstFlushed log.flushed_end log.closed)
 
-  -- what an actor's state has of a command that begins: what was recorded of its broker, and the log start
+  -- what an actor's state has of a command that begins: what was recorded of its broker, and the log start offset
   pub record Notes (h : PartitionState D) (x : Node D) (g : StartSnapshot) : Type 0 where
     pub stops : g.stops ≡ x.stops
     pub role : g.role ≡ x.role
@@ -75,7 +75,7 @@ module _ {D : Type 0} (content : D → Content) (control : D → Control call_co
   abbrev pub BreaksUnsaved : PartitionState D → ℕ → Node D → PartitionState D → Type 0
   BreaksUnsaved h b x h' = Breaks content control h b x (λ s. loosened s (back_of s)) h'
 
-  -- the batch stands at the end of the broker's log
+  -- the batch is at the end of the broker's log
   abbrev pub Gains : PartitionState D → ℕ → Node D → List ℕ → PartitionState D → Type 0
   Gains h b x batch h' = (kept : Kept D) × (span : ℕ × ℕ) × IsOk (checked batch) × Appends content x.log kept batch span
       × Quiet control x.log kept × (h' ≡ put_node h b (record x { log = kept }))

@@ -88,7 +88,7 @@ impl<D: Disk> PartitionState<D> {
         self.lead(b, epoch)
     }
 
-    /// Lets a broker lead an epoch that its line doesn't have.
+    /// Lets a broker lead an epoch that its leader epochs don't have.
     fn lead(&mut self, b: usize, epoch: u32) -> Result<Answer, AllocError>
         requires node { CanStop self.old b }
         requires few { epoch < 2 ^ 31 }

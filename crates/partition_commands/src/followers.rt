@@ -48,8 +48,8 @@ impl<D: Disk> PartitionState<D> {
         }
     }
 
-    /// Brings a follower's log to where it meets the leader's. Where that lies below the leader's local log, the follower
-    /// is to begin its own anew, where that begins.
+    /// Brings a follower's log to where it meets the leader's. Where that lies below the leader's local log, the
+    /// follower is to restart its own, where that begins.
     pub(crate) fn join(&mut self, alloc: Global, b: usize) -> Result<Turned, AllocError>
         requires { CanStop self.old b }
         ensures row { IfOk result (λ turned. AtNode self.old b (λ x. JoinRow D.content D.control self.old b x turned self.new)) }
@@ -88,7 +88,7 @@ impl<D: Disk> PartitionState<D> {
         }
     }
 
-    /// Goes on with a join: the follower's log is begun anew, where nothing has come between.
+    /// Continues with a join: the follower's log is restarted, where nothing has come between.
     pub fn join_on(
         &mut self,
         alloc: Global,
@@ -219,7 +219,7 @@ impl<D: Disk> PartitionState<D> {
         }
     }
 
-    /// Puts of the run that a follow has read at the end of the follower's log what stands in one segment.
+    /// Puts of the run that a follow has read at the end of the follower's log what fits one segment.
     #[tactic(auto, using(crate::proofs::Writes::set_same))]
     pub fn follow_on(&mut self, b: usize, snapshot: &StartSnapshot) -> Result<Answer, AllocError>
         requires { CanStop self.old b }

@@ -19,13 +19,12 @@ pub fn rows_last<D: Disk>()
     ensures { RowsLast D.content D.control }
 {}
 
-/// Over a row that tells of a fault of a disk one call of a disk fails, and over any other none, whatever
-/// the disks.
+/// Over a row that reports a fault of a disk one call of a disk fails, and over any other none, whatever the disks.
 pub fn rows_count_faults<D: Disk>()
     ensures { RowsCountFaults D.content D.control }
 {}
 
-/// Over disks of which no call can fail each row stays so, and tells of no fault.
+/// Over disks of which no call can fail each row stays so, and reports no fault.
 pub fn rows_stay_infallible<D: Disk>()
     ensures { RowsStayInfallible D.content D.control }
 {}

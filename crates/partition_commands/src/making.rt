@@ -72,7 +72,7 @@ fn broker<D: Disk>(
     }
 }
 
-/// Puts a broker over a fresh disk behind the others. The first leads.
+/// Puts a broker over a fresh disk after the others. The first leads.
 fn add<D: Disk>(
     alloc: Global,
     nodes: &mut Vec<Node<D>>,
@@ -141,7 +141,8 @@ fn brokers<D: Disk>(
     }
 }
 
-/// Puts brokers that are down over these disks, in their order, behind the others, and none is left. No disk is asked anything.
+/// Puts brokers that are down over these disks, in their order, after the others, and none is left. No disk is asked
+/// anything.
 fn set_down<D: Disk>(
     alloc: Global,
     disks: &mut Vec<D>,
@@ -238,9 +239,9 @@ impl<D: Disk> PartitionState<D> {
         })
     }
 
-    /// Makes a partition with this registry whose brokers are down over these disks, and none is left there. The disks aren't
-    /// opened: what is seen of a log is what its disk tells. From then on the disks' planned calls fail. Where memory is wanting the
-    /// disks are as they were, and their plans aren't in force.
+    /// Makes a partition with this registry whose brokers are down over these disks, and none is left there. The disks
+    /// aren't opened: what is seen of a log is what its disk reports. From then on the disks' planned calls fail. Where
+    /// memory runs out the disks are as they were, and their plans aren't in force.
     pub fn reopen(
         alloc: Global,
         disks: &mut Vec<D>,

@@ -74,7 +74,7 @@ impl<D: Disk> Node<D> {
         self.log.local_start().unwrap_or(0)
     }
 
-    /// A copy of its line, the empty one while it is down.
+    /// A copy of its leader epochs, the empty one while it is down.
     pub(crate) fn copy_line(&self, alloc: Global) -> Result<Line, AllocError>
         ensures { IfOk result (λ line. line ≡ line_of self.now) }
     {
@@ -84,7 +84,7 @@ impl<D: Disk> Node<D> {
         }
     }
 
-    /// The last leader epoch of its line.
+    /// The last leader epoch of its leader epochs.
     pub(crate) fn last_epoch(&self) -> Option<u32>
         ensures { result ≡ last_epoch (line_of self.now) }
     {
@@ -94,7 +94,7 @@ impl<D: Disk> Node<D> {
         }
     }
 
-    /// Notes a stop: the broker does nothing, and knows no high watermark.
+    /// Records a stop: the broker does nothing, and knows no high watermark.
     pub(crate) fn note_stop(&mut self)
         requires { self.old.stops < 18446744073709551615 }
         ensures { self.new ≡ record (stopped self.old) { log = self.old.log } }

@@ -11,7 +11,7 @@ use plain_log::{Answer, Place};
 use std::alloc::AllocError;
 
 impl<D: Disk> PartitionState<D> {
-    /// Stops a broker. What isn't flushed is gone when it comes up again.
+    /// Stops a broker. What isn't flushed is gone when it starts again.
     pub(crate) fn stop(&mut self, b: usize) -> Answer
         requires { CanStop self.old b }
         ensures { AtNode self.old b (λ x. StopRow D.content D.control self.old b x result self.new) }
@@ -25,7 +25,7 @@ impl<D: Disk> PartitionState<D> {
         Answer::Ok
     }
 
-    /// Lets a broker come up with what it has flushed.
+    /// Lets a broker start with what it has flushed.
     pub(crate) fn up(&mut self, b: usize) -> Result<Answer, AllocError>
         requires { b < length self.old.nodes }
         ensures row { IfOk result (λ answer. AtNode self.old b (λ x. UpRow D.content D.control self.old b x answer self.new)) }

@@ -1,4 +1,5 @@
--- Each turn of a command leaves fewer: an order takes at most 14 of them, and a search by timestamp at most four for each offset more.
+-- Each turn of a command leaves fewer: an order takes at most 14 of them, and a timestamp lookup at most four for each
+-- offset more.
 use Rattle.std.proofs.Common.{◌≡◌, inl, inr, refl, ap, subst, ℕ, zero, suc, ◌+◌, ◌-◌, ◌*◌, ◌<◌, ◌≤◌, List, [], ◌∷◌, length, slice_get, slice_set, Some, None, Option, Ok, Bool, true, false, arith}
 use Rattle.std.specs.Prelude.{◌^◌, min, ℤ}
 use Rattle.disk_model.specs.declared.disk.Disk.{Ghosts as DiskGhosts}
@@ -127,7 +128,7 @@ few_taken (Dates g cursor next) = few_taken_to cursor next
 few_taken (Expires g segment next) = let few = few_deleting next in omega (arith, few)
 few_taken (Rebuilds g next) = let few = few_rebuilding next in omega (arith, few)
 
--- a copy goes on with a later turn
+-- a copy continues with a later turn
 to : (before next after : CopyStep) → GoesOn next ≡ GoesOn after → taken_before before < taken_before after → taken_before before < taken_before next
 to before next after is lt = let e : next ≡ after = cc in rw e lt
 
@@ -177,7 +178,7 @@ rebuild_goes : (turn : RebuildTurn) (next : Rebuild) → Rebuilding next ≡ reb
 rebuild_goes (rebuild.Goes n) next is = cc
 rebuild_goes (rebuild.Ends answer) next is = absurd cc
 
--- behind the line that was read the log is begun anew
+-- after the leader epochs that were read the log is restarted
 read_advances : (next : Rebuild) → MayTurn (rebuild.Goes next) → 2 < rebuilding_before next
 read_advances (Restart line) may = omega arith
 read_advances Epochs may = absurd may

@@ -71,7 +71,7 @@ rebuild_may g next (rebuild.Goes further) outcome is = rw is tt
 rebuild_may g next (rebuild.Ends answer) outcome is = rw is tt
 
 module _ {D S M : Type 0} (disk : DiskGhosts D) (store : StoreGhosts S) (meta : MetaGhosts M) where
-  -- there are a broker and a side of a turn
+  -- there are a broker and a tier state of a turn
   pub record IsRow (p : PartitionId) (config : Config) (h : PartitionState D) (t : RemoteTier S M) (b : ℕ) (work : InProgress) (command : Command) (outcome : Outcome) (h' : PartitionState D) (t' : RemoteTier S M) : Type 0 where
     pub x : Node D
     pub at : slice_get h.nodes b ≡ Some x

@@ -418,7 +418,7 @@ module _ {D S M : Type 0} (disk : DiskGhosts D) (store : StoreGhosts S) (meta : 
       by_command opening w a outcome w' t c
       (place_of disk store meta opening w c t.place t.list t.actor_state t.order t.at.list t.at.actor_state_is t.next r.x r.at r.broker_tier r.broker_tier_at) t.order.command refl t.actor_state.work refl r.row
 
-  -- and so does want of memory
+  -- and so does running out of memory
   few_stays : (opening : State) (w : Whole D S M) (a : ℕ) (w' : Whole D S M) → StaysWhole disk store meta w a w' → (c : IsCentral disk store meta opening w) → (d : Scene)
       → ShowsTier store meta w' c.partition d → length d.notes + notes_left w'.lists w'.desk < 2 ^ 64
   few_stays opening w a w' s c d shows =
@@ -483,7 +483,7 @@ module _ {D S M : Type 0} (disk : DiskGhosts D) (store : StoreGhosts S) (meta : 
             (seen_broker_tiers ∙ ap (λ (v : View). slice_set w.tier.broker_tiers s.order.broker.0 (record z.broker_tier { view = v })) k.0)
             (d.store_stays.is_observable, ap (λ (m : M). (meta.content m).is_observable) k.1) (c.shows_tier.objects ∙ sym d.store_stays.objects) (c.shows_tier.notes ∙ sym (ap (λ (m : M). (meta.content m).notes) k.1)))
 
-    -- a view has taken in some notes
+    -- a view has taken in some metadata events
     halted : (z : Place disk store meta opening w c s.place s.list s.actor_state s.order) → w'.held ≡ w.held → HaltsSome disk store meta w.held w.tier s.order.broker.0 z.x z.broker_tier w'.tier
         → IsCentral disk store meta opening w'
     halted z same (inl k) =

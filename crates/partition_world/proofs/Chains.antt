@@ -53,7 +53,7 @@ module _ {D S M : Type 0} (disk : DiskGhosts D) (store : StoreGhosts S) (meta : 
   times_end w a taken turns v u adds le e =
       subst (λ (k : Whole D S M). GoesTimes disk store meta w a turns k) (sym e.1) (subst (λ (n : ℕ). GoesTimes disk store meta w a n v) (omega (arith, le)) (adds (turns - taken) v (times_ended v a (turns - taken) e.0)))
 
-  -- what leads on from one world leads on from another
+  -- what still leads from one world still leads from another
   abbrev pub LeadsOn : Whole D S M → ℕ → ℕ → Whole D S M → Type 0
   LeadsOn w a number v = (turns : ℕ) (u : Whole D S M) → GoesUntil disk store meta v a number turns u → (more : ℕ) × GoesUntil disk store meta w a number more u
 

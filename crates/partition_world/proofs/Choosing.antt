@@ -103,7 +103,7 @@ next_number i n = rw (eq_same i i refl) refl
 next_tier_view : (y : seen.Node) (broker_tier : BrokerTierState) → record (tier_view_of y (broker_tier_seen broker_tier)) { next = next_of (broker_tier_seen broker_tier) y.incarnation + 1 } ≡ tier_view_of y (broker_tier_seen (counted broker_tier y.incarnation))
 next_tier_view y broker_tier = ap (λ (n : ℕ). record (tier_view_of y (broker_tier_seen broker_tier)) { next = n }) (sym (next_number y.incarnation (next_of (broker_tier_seen broker_tier) y.incarnation + 1)))
 
--- an actor's state that has noted something, and chooses a copy
+-- an actor's state that has recorded something, and chooses a copy
 recorded_free : (order : Order) (work : InProgress) (g : StartSnapshot) → work ≡ Noted g → order.command ≡ Copy → work_of (Some order) work ≡ Free
 recorded_free order work g recorded is = ap (λ (k : InProgress). work_of (Some order) k) recorded ∙ ap (λ (k : Command). begun_of order.broker.0 g k) is
 

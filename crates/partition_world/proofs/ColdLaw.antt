@@ -1,4 +1,4 @@
--- A world that begins anew has the central fact for each plain state that its devices stand for.
+-- A world that is reopened has the central fact for each plain state that its devices represent.
 use Rattle.std.proofs.Common.{◌≡◌, ◌∙◌, inl, inr, sym, ap, subst, refl, ℕ, zero, suc, ◌+◌, ◌<◌, List, [], ◌∷◌, length, Some, None, slice_get, arith}
 use Rattle.std.specs.Prelude.{replicate, map, ◌^◌}
 use mathlib.Core.Path.{fun_ext}
@@ -46,7 +46,7 @@ use Rattle.partition_world.specs.Whole.{Whole}
 use Rattle.partition_world.proofs.FreshLaw.{far_fewer, broker_tiers_fresh, all_free, fresh_recorded, fresh_dated}
 use Rattle.partition_world.proofs.WorldFresh.{all_fresh}
 
--- what stands in a list of one thing alone is that
+-- what is in a list of one thing alone is that
 replicated : {A : Type 0} (n : ℕ) (x : A) (i : ℕ) (y : A) → slice_get (replicate n x) i ≡ Some y → x ≡ y
 replicated zero x i y e = absurd cc
 replicated (suc n) x zero y e = cc

@@ -60,7 +60,7 @@ module _ {D S M : Type 0} (disk : DiskGhosts D) (store : StoreGhosts S) (meta : 
   -- a turn of a copy, in its place
   module _ (opening : State) (w : Whole D S M) (a : ℕ) (outcome : Outcome) (w' : Whole D S M) (t : IsTurn disk store meta w a outcome w') (c : IsCentral disk store meta opening w)
       (z : Place disk store meta opening w c t.place t.list t.actor_state t.order) (copies : t.order.command ≡ Copy) where
-    -- its side of the scene, the scene after it, and what its state shows then
+    -- its tier state of the scene, the scene after it, and what its state shows then
     abbrev its : BrokerTierView
     its = here disk store meta opening w a outcome w' t c z Copy copies
 

@@ -1,4 +1,5 @@
--- What a turn of a copy may be answered, that its devices go on to tell, and that its answers are those of a leader that leads on.
+-- What a turn of a copy may be answered, that its devices continue to report, and that its answers are those of a
+-- leader that still leads.
 use Rattle.std.proofs.Common.{◌≡◌, inl, inr, sym, ap, subst, refl, ℕ, ◌+◌, slice_get, Some, None, Option, Ok, Err}
 use Rattle.tier_base.specs.declared.plain.State.{State as CopyState}
 use Rattle.tier_base.specs.declared.plain.State.TheVariants.{CopyStarted, CopyFinished, DeleteStarted, DeleteFinished}
@@ -72,7 +73,7 @@ module _ {S M : Type 0} (store : StoreGhosts S) (meta : MetaGhosts M) where
   delete_ends copy view n (Some key) StoreFault old new w = tt
   delete_ends copy view n (Some key) answer old new w = deleted_ends copy view (n + 1) (slice_get (keys copy) (n + 1)) _ w.0
 
-  -- what a turn of a copy is answered
+  -- what a turn of a copy returns
   pub copy_ends : (copy : Copied) (origin : EventOrigin) (next : CopyStep) (answer : Answer) (old new : Tiers S M) → CopyRow store.content store.control meta.content meta.control copy origin next (Ok (Ends answer)) old new
       → MayEnd answer
   copy_ends copy origin Start answer old new w = start_ends copy origin answer old.meta new.meta w.1
@@ -81,7 +82,7 @@ module _ {S M : Type 0} (store : StoreGhosts S) (meta : MetaGhosts M) where
   copy_ends copy origin Check answer old new w = check_ends copy answer old.view new.view old.meta new.meta w.1
   copy_ends copy origin (Delete n) answer old new w = delete_ends copy old.view n (slice_get (keys copy) n) answer old.store new.store w.1
 
-  -- the devices tell as they did
+  -- the devices report as they did
   abbrev pub TellsOn : S → M → S → M → Type 0
   TellsOn s m s' m' = ((store.content s').is_observable ≡ (store.content s).is_observable) × ((meta.content m').is_observable ≡ (meta.content m).is_observable)
 

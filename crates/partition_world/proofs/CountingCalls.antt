@@ -11,11 +11,11 @@ use Rattle.partition_world.specs.Answered.{is_answered}
 use Rattle.partition_world.specs.declared.actor_state.Outcome.{Outcome}
 use Rattle.partition_world.specs.declared.actor_state.Outcome.TheVariants.{Answers}
 
--- no fault is told
+-- no fault is reported
 abbrev pub Clear : Outcome → Type 0
 Clear o = (is_answered is_of_disk o ≡ false) × (is_answered is_of_store o ≡ false) × (is_answered is_of_meta o ≡ false)
 
--- a count that is the same, where no fault is told
+-- a count that is the same, where no fault is reported
 none_of : (fault : Bool) (n now : ℕ) → fault ≡ false → now ≡ n → now ≡ after_fault fault n
 none_of fault n now is same = same ∙ ap (λ (f : Bool). after_fault f n) (sym is)
 
@@ -41,7 +41,7 @@ module _ {S M : Type 0} (store : StoreGhosts S) (meta : MetaGhosts M) where
   pub meta_still : (m m' : M) → m' ≡ m → MetaStill m m'
   meta_still m m' is = ap (λ (k : M). (meta.control k).faults) is
 
-  -- neither has counted a fault, and none is told
+  -- neither has counted a fault, and none is reported
   pub clear : (o : Outcome) (s s' : S) (m m' : M) → Clear o → StoreStill s s' → MetaStill m m' → Counted o s s' m m'
   clear o s s' m m' none one two =
       (none.0, none_of (is_answered is_of_store o) _ _ none.1 one, none_of (is_answered is_of_meta o) _ _ none.2 two)

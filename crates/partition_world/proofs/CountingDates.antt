@@ -1,4 +1,4 @@
--- What a turn of a search by timestamp counts.
+-- What a turn of a timestamp lookup counts.
 use Rattle.std.proofs.Common.{◌≡◌, inl, inr, sym, ap, subst, refl, ℕ, List, Some, None, Option, Ok, Err, true, false}
 use Rattle.std.specs.declared.result.Result.{Result}
 use Rattle.std.specs.declared.alloc.AllocError.{AllocError}

@@ -1,4 +1,4 @@
--- What a turn of a fetch from the remote tier counts, and one of a rebuild that reads its line.
+-- What a turn of a fetch from the remote tier counts, and one of a rebuild that reads its leader epochs.
 use Rattle.std.proofs.Common.{◌≡◌, sym, ap, subst, refl, ℕ, List, Some, None, Option, Ok, Err, true, false}
 use Rattle.std.specs.declared.result.Result.{Result}
 use Rattle.std.specs.declared.alloc.AllocError.{AllocError}
@@ -37,7 +37,7 @@ found_clear : (notes : ℕ) (piece : Option Piece) → Clear (fetch_outcome (fou
 found_clear notes None = (refl, refl, refl)
 found_clear notes (Some piece) = (refl, refl, refl)
 
--- what a turn comes to that ended so tells of no fault
+-- what a turn comes to that ended so says of no fault
 fetch_clear : (turn after : FetchTurn) → ◌≡◌ {A = Result FetchTurn AllocError} (Ok turn) (Ok after) → Clear (fetch_outcome after) → Clear (fetch_outcome turn)
 fetch_clear turn after is none = let same : turn ≡ after = cc (is) in subst (λ (t : FetchTurn). Clear (fetch_outcome t)) (sym same) none
 

@@ -77,16 +77,16 @@ told_off A B StoreFault t = absurd t
 told_off A B MetaFault t = absurd t
 told_off A B other t = (refl, refl)
 
--- where no fault is told
+-- where no fault is reported
 none_by : (A Z : Type 0) (fault : Bool) → fault ≡ false → Z → ByFault A Z fault
 none_by A Z fault is z = subst (λ (f : Bool). ByFault A Z f) (sym is) z
 
--- a count that is the same, where no fault is told
+-- a count that is the same, where no fault is reported
 same_by : (fault : Bool) (n now : ℕ) → fault ≡ false → now ≡ n → now ≡ after_fault fault n
 same_by fault n now is same = same ∙ ap (λ (f : Bool). after_fault f n) (sym is)
 
 module _ {D S M : Type 0} (disk : DiskGhosts D) (store : StoreGhosts S) (meta : MetaGhosts M) where
-  -- the counts of faults over a turn that comes to this; this holds where it is answered a fault of a disk
+  -- the counts of faults over a turn that comes to this; this holds where it returns a fault of a disk
   abbrev pub Leaving : Type 0 → PartitionState D → RemoteTier S M → Outcome → PartitionState D → RemoteTier S M → Type 0
   Leaving A h t o h' t' =
       ByFault A (Quietly disk.control h h') (is_answered is_of_disk o)
@@ -228,7 +228,7 @@ module _ {D S M : Type 0} (disk : DiskGhosts D) (store : StoreGhosts S) (meta : 
   seek_counts A p h t b x broker_tier g offset limit next (Sought later) h' t' same w = goes_counts A p h t b x broker_tier offset limit next (fetch.Goes later) h' t' same w.1
   seek_counts A p h t b x broker_tier g offset limit next other h' t' same w = elim w [ ]
 
-  -- and of an expiry, which raises the log start as the command does
+  -- and of an expiry, which raises the log start offset as the command does
 
   raise_counts : (A : Type 0) (h : PartitionState D) (t : RemoteTier S M) (b : ℕ) (x : Node D) (start : ℕ) (answer : Answer) (h' : PartitionState D) (t' : RemoteTier S M) → slice_get h.nodes b ≡ Some x → is_up x ≡ true → t' ≡ t
       → RaiseRow h x.role start answer h' → Leaving A h t (Answers answer) h' t'
@@ -288,7 +288,7 @@ module _ {D S M : Type 0} (disk : DiskGhosts D) (store : StoreGhosts S) (meta : 
   offset_counts A h t x broker_tier g (Answers answer) h' t' held tier w = elim w.1 [ ]
   offset_counts A h t x broker_tier g other h' t' held tier w = elim w [ ]
 
-  -- and of a search by timestamp, which reads the broker's log, or is among the remote segments
+  -- and of a timestamp lookup, which reads the broker's log, or is among the remote segments
 
   own_search_counts : (h : PartitionState D) (t : RemoteTier S M) (b : ℕ) (x : Node D) (asked : Asked) (cursor : ℕ) (turn : TimeTurn) (h' : PartitionState D)
       (t' : RemoteTier S M) → slice_get h.nodes b ≡ Some x → t' ≡ t
@@ -304,7 +304,7 @@ module _ {D S M : Type 0} (disk : DiskGhosts D) (store : StoreGhosts S) (meta : 
       metas : MetaStill store meta t.meta t'.meta
       metas = meta_still store meta t.meta t'.meta (ap (λ (k : RemoteTier S M). k.meta) tier)
 
-      -- where no fault is told
+      -- where no fault is reported
       quiet : (o : Outcome) → Clear o → Quietly disk.control h h' → Leaving (Once disk.control h b h') h t o h' t'
       quiet o none k =
           let c = clear store meta o t.store t'.store t.meta t'.meta none stores metas in

@@ -152,7 +152,7 @@ module _ {S M : Type 0} (store : StoreGhosts S) (meta : MetaGhosts M) where
       by (inl r) = (r.ran.dry refl).faults
       by (inr r) = r.ran.went refl
 
-  -- what a turn of a task counts that wanted memory
+  -- what a turn of a task counts that ran out of memory
 
   copy_store : (copy : Copied) (origin : EventOrigin) (next : CopyStep) (e : AllocError) (old new : Tiers S M)
       → CopyRow store.content store.control meta.content meta.control copy origin next (Err e) old new → StoreStill store meta old.store new.store
@@ -242,7 +242,7 @@ module _ {S M : Type 0} (store : StoreGhosts S) (meta : MetaGhosts M) where
   expiry_meta segment origin deletion.Finish e old new w = appends_dry _ old.meta new.meta w.1
 
 module _ {D S M : Type 0} (disk : DiskGhosts D) (store : StoreGhosts S) (meta : MetaGhosts M) where
-  -- a call of the tier that wanted memory
+  -- a call of the tier that ran out of memory
 
   halts_store : (h : PartitionState D) (t : RemoteTier S M) (b : ℕ) (x : Node D) (broker_tier : BrokerTierState) (t' : RemoteTier S M) → HaltsSome disk store meta h t b x broker_tier t' → StoreStill store meta t.store t'.store
   halts_store h t b x broker_tier t' (inl halts) = store_still store meta t.store t'.store (ap (λ (k : RemoteTier S M). k.store) halts.after)

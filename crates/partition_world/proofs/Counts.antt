@@ -138,7 +138,7 @@ set_tries m broker_tiers b y few le i z at = elim (get-set broker_tiers b y i z 
 ]
 
 module _ {S M : Type 0} where
-  -- no side has tried more copies than it had
+  -- no tier state has tried more copies than it had
   abbrev pub Tries : BrokerTierState → RemoteTier S M → RemoteTier S M → Type 0
   Tries broker_tier t t' = (m : ℕ) → broker_tier.attempt ≤ m → HaveTried m t.broker_tiers → HaveTried m t'.broker_tiers
 
@@ -160,7 +160,7 @@ module _ {S M : Type 0} where
   more : (o : Outcome) (broker_tier : BrokerTierState) (t t' : RemoteTier S M) → Tries broker_tier t t' → TriesBy o broker_tier t t'
   more o broker_tier t t' k m low few i z at = let le = k m low few i z at in omega (arith, le)
 
--- how many seats have begun and chosen no segment, after a turn
+-- how many actors' states have begun and chosen no segment, after a turn
 
 chosen_waits : (work : InProgress) (copy : Copied) → MayComeTo work (Chose copy) → waits (chosen work copy) + 1 ≤ waits work
 chosen_waits (Noted g) copy may = omega arith
@@ -222,7 +222,7 @@ module _ {D S M : Type 0} (disk : DiskGhosts D) (store : StoreGhosts S) (meta : 
   trim_to h b x broker_tier g keep (Answers answer) h' at w = row_stops disk.content disk.control h b x (Some g) Trim (turned.Answers answer) h' at w.0
   trim_to h b x broker_tier g keep other h' at w = elim w [ ]
 
-  -- an expiry raises the log start as the command does
+  -- an expiry raises the log start offset as the command does
   raise_to : (h : PartitionState D) (b : ℕ) (x : Node D) (start : ℕ) (answer : Answer) (h' : PartitionState D) → slice_get h.nodes b ≡ Some x → is_up x ≡ true → RaiseRow h x.role start answer h'
       → StopsTo (Answers answer) h h'
   raise_to h b x start (StaleEpoch e) h' at up w = row_stops disk.content disk.control h b x None (Raise start) (turned.Answers (StaleEpoch e)) h' at (up, w)
@@ -241,7 +241,7 @@ module _ {D S M : Type 0} (disk : DiskGhosts D) (store : StoreGhosts S) (meta : 
   expire_to p h b x broker_tier g keep outcome h' at (inl lost) = to_same outcome h h' lost.2
   expire_to p h b x broker_tier g keep outcome h' at (inr k) = expires_to p h b x broker_tier keep outcome h' at k.0.up k.1
 
-  -- a search by timestamp reads its broker's log at most
+  -- a timestamp lookup reads its broker's log at most
   search_to : (o : Outcome) (h : PartitionState D) (t : RemoteTier S M) (b : ℕ) (x : Node D) (broker_tier : BrokerTierState) (asked : Asked) (cursor : ℕ) (next : Dating)
       (own : Bool) (turn : TimeTurn) (h' : PartitionState D) (t' : RemoteTier S M) → slice_get h.nodes b ≡ Some x
       → SearchRow disk store meta h t b x broker_tier asked cursor next own turn h' t' → StopsTo o h h'

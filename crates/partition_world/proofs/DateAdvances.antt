@@ -1,4 +1,4 @@
--- A search by timestamp that goes on does a later turn of the piece that it has, or has come further.
+-- A timestamp lookup that continues does a later turn of the piece that it has, or has come further.
 use Rattle.std.proofs.Common.{◌≡◌, inl, inr, subst, refl, ℕ, ◌+◌, ◌*◌, ◌<◌, ◌≤◌, List, Some, None, Option, Ok, Err, Bool, true, false, arith}
 use Rattle.std.specs.Prelude.{◌^◌, min, max, nat_lt, if◌then◌else◌}
 use Rattle.std.specs.declared.result.Result.{Result}
@@ -57,7 +57,7 @@ seeks_rises asked line view cursor at (search.Times piece) w = omega arith
 seeks_rises asked line view cursor at (search.Index piece from) w = elim w [ ]
 seeks_rises asked line view cursor at (search.Log piece from span) w = elim w [ ]
 
--- behind a run that was searched there is no piece
+-- after a run that was searched there is no piece
 searched_rises : (before next : SearchStep) (asked : Asked) (offset : ℕ) (run : List ℕ) (at : ℕ)
     → IsSearched asked offset run (Goes at next) → Rises before next
 searched_rises before search.Seek asked offset run at w = tt
@@ -136,7 +136,7 @@ taken_to cursor next = 2 + 4 * min cursor (2 ^ 64) + dated_before next
 pub few_taken_to : (cursor : ℕ) (next : SearchStep) → taken_to cursor next ≤ 4 * 2 ^ 64 + 5
 few_taken_to cursor next = let few = few_dated next in omega (arith, few)
 
--- one that is resumed and goes on has taken more
+-- one that is resumed and continues has taken more
 further : (start cursor at : ℕ) (before : SearchStep) (turn : ℕ) → max start cursor < 2 ^ 64 → max start cursor ≤ at
     → dated_before (if nat_lt cursor start then search.Seek else before) < turn → taken_to cursor before < 2 + 4 * min at (2 ^ 64) + turn
 further start cursor at before turn fits from up = go (nat_lt cursor start) refl up

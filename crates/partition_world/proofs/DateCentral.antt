@@ -1,5 +1,5 @@
--- Each turn of a search by timestamp keeps the central fact: it is a change of the tier, or reads a broker's log alone, and goes
--- through that log batch by batch.
+-- Each turn of a timestamp lookup keeps the central fact: it is a change of the tier, or reads a broker's log alone,
+-- and goes through that log batch by batch.
 use Rattle.std.proofs.Common.{◌≡◌, ◌∙◌, ◌⊎◌, inl, inr, sym, ap, subst, refl, ℕ, ◌<◌, ◌≤◌, ◌^◌, Bool, nat_lt, max, List, [], ◌∷◌, length, slice_get, Some, None, Option, Ok, true, false, arith}
 use Rattle.std.specs.Prelude.{ℤ, unwrap_or}
 use Rattle.std.proofs.lemmas.Bool.Decides.{nat_tests}
@@ -120,7 +120,7 @@ pub below_local : (asked : Asked) (cursor : ℕ) (next : SearchStep) → is_own 
 below_local asked cursor Seek is = grind (arith, nat_tests, is)
 below_local asked cursor other is = tt
 
--- a search that goes on is set where it goes
+-- a search that continues is set where it goes
 goes_set : (cursor at : ℕ) (later : SearchStep) → GoesOn cursor (Goes at later) → IsSet at later
 goes_set cursor at Seek k = tt
 goes_set cursor at other k = k.1

@@ -1,4 +1,4 @@
--- What a turn of a search by timestamp is answered, and what it leaves of the devices.
+-- What a turn of a timestamp lookup returns, and what it leaves of the devices.
 use Rattle.std.proofs.Common.{◌≡◌, inl, inr, ap, sym, subst, ℕ, true, false, List, Option, Some, None, Ok, Err}
 use Rattle.std.specs.declared.result.Result.{Result}
 use Rattle.std.specs.declared.alloc.AllocError.{AllocError}
@@ -164,7 +164,7 @@ module _ {S M : Type 0} (store : StoreGhosts S) (meta : MetaGhosts M) (asked : A
   log_ends from piece span answer old new (inl (low, is, same)) = absurd (cc (is))
   log_ends from piece span answer old new (inr (high, (came, row, k))) = logs_ends from piece span answer came old new row k
 
-  -- what a turn among the remote segments is answered
+  -- what a turn among the remote segments returns
   pub date_ends : (cursor : ℕ) (next : SearchStep) (answer : Answer) (old new : Tiers S M)
       → TimeRow store.content store.control meta.content meta.control asked line cursor next (Ok (Ends answer)) old new → MayEnd answer
   date_ends cursor Seek answer old new w = seek_ends cursor answer old.view new.view old.meta new.meta w.1
@@ -223,7 +223,7 @@ module _ {S M : Type 0} (store : StoreGhosts S) (meta : MetaGhosts M) (asked : A
   log_tells from piece span turn old new (inl (low, is, same)) = same_tells old new same
   log_tells from piece span turn old new (inr (high, (came, row, k))) = logs_tell from piece span turn came old new row k
 
-  -- the devices tell as they did
+  -- the devices report as they did
   pub date_tells : (cursor : ℕ) (next : SearchStep) (turn : TimeTurn) (old new : Tiers S M)
       → TimeRow store.content store.control meta.content meta.control asked line cursor next (Ok turn) old new
       → TellsOn store meta old.store old.meta new.store new.meta
@@ -265,7 +265,7 @@ module _ {S M : Type 0} (store : StoreGhosts S) (meta : MetaGhosts M) (asked : A
   log_dry from piece span e old new (inl (low, is, same)) = absurd (cc (is))
   log_dry from piece span e old new (inr (high, (came, row, k))) = logs_dry from piece span e came old new row k
 
-  -- what one leaves that wanted memory
+  -- what one leaves that ran out of memory
   pub date_dry : (cursor : ℕ) (next : SearchStep) (e : AllocError) (old new : Tiers S M)
       → TimeRow store.content store.control meta.content meta.control asked line cursor next (Err e) old new → Dries store meta old new
   date_dry cursor Seek e old new w = record {
@@ -294,7 +294,7 @@ module _ {D : Type 0} (disk : DiskGhosts D) where
       own_searched asked from run (Offset n) w = tt
       own_searched asked from run answer w = elim w [ ]
 
-  -- what a turn in the local log is answered
+  -- what a turn in the local log returns
   pub own_ends : (old : Kept D) (asked : Asked) (cursor : ℕ) (answer : Answer) (new : Kept D)
       → OwnRow disk.content disk.control old asked cursor (Ends answer) new → MayEndOwn answer
   own_ends old asked cursor answer new (inl (low, is, same)) = absurd (cc (is))

@@ -1,4 +1,4 @@
--- What a search by timestamp goes on with, and its row in the local log and among the remote segments.
+-- What a timestamp lookup continues with, and its row in the local log and among the remote segments.
 use Rattle.std.proofs.Common.{◌≡◌, inr, sym, refl, subst, ℕ, ◌<◌, ◌≤◌, max, List, [], length, Option, Some, Bool, true, false, slice_get}
 use Rattle.std.specs.Prelude.{nat_lt, if◌then◌else◌, unwrap_or, IsSomeAnd}
 use Rattle.std.proofs.lemmas.Bool.{ltb-false}

@@ -1,4 +1,4 @@
--- A later turn of a search by timestamp is its row.
+-- A later turn of a timestamp lookup is its row.
 use Rattle.std.proofs.Common.{◌≡◌, ◌⊎◌, inl, inr, sym, subst, ℕ, ◌<◌, Option, Some, Bool, true, false, slice_get}
 use Rattle.std.specs.Prelude.{◌^◌, ℤ, IsSomeAnd}
 use Rattle.tier_base.specs.declared.names.PartitionId.{PartitionId}
@@ -29,7 +29,7 @@ use Rattle.partition_world.proofs.DateEnds.{MayEnd, MayEndOwn, date_ends, own_en
 use Rattle.partition_world.proofs.Dispatch.{some_more}
 
 module _ {D S M : Type 0} (disk : DiskGhosts D) (store : StoreGhosts S) (meta : MetaGhosts M) where
-  -- what a turn is answered, in the local log or not
+  -- what a turn returns, in the local log or not
   answers_of : (h : PartitionState D) (t : RemoteTier S M) (b : ℕ) (x : Node D) (broker_tier : BrokerTierState) (asked : Asked) (cursor : ℕ) (next : SearchStep) (own : Bool)
       (answer : Answer) (h' : PartitionState D) (t' : RemoteTier S M) → SearchRow disk store meta h t b x broker_tier asked cursor next own (Ends answer) h' t'
       → MayEnd answer ⊎ MayEndOwn answer

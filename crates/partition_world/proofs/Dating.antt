@@ -1,5 +1,5 @@
--- What searches by timestamp have gone through stays so from turn to turn: a leader's log grows while it leads on, and the log start
--- doesn't fall.
+-- What timestamp lookups have gone through stays so from turn to turn: a leader's log grows while it still leads, and
+-- the log start offset doesn't fall.
 use Rattle.std.proofs.Common.{◌≡◌, ◌∙◌, inl, inr, sym, ap, subst, refl, ℕ, ◌+◌, List, [], ◌∷◌, slice_get, slice_set, Some, None, Option, arith}
 use Rattle.disk_model.specs.declared.disk.Disk.{Ghosts as DiskGhosts}
 use Rattle.object_store.specs.declared.store.Store.{Ghosts as StoreGhosts}
@@ -53,7 +53,7 @@ no_search q (Some order) other k = tt
 
 -- what a turn makes of it
 
--- a search that goes on has gone through its log as far as it goes on from
+-- a search that continues has gone through its log as far as it continues from
 abbrev pub GoesAsDated : State → Option Order → InProgress → Outcome → Type 0
 GoesAsDated q o work (Dated cursor next) = (g : StartSnapshot) → recorded_in work ≡ Some g → IsDated q o (Dates g cursor next)
 GoesAsDated q o work outcome = Unit {0}
@@ -149,7 +149,7 @@ actor_state_dated q orders actor_state (Rebuilding next) goes k = rebuilding_dat
 
 -- what a step of the plain log makes of it
 
--- a search whose broker leads on has gone through its log as far as before
+-- a search whose broker still leads has gone through its log as far as before
 gone_on : (p q : State) (b : ℕ) (order : Order) (g : StartSnapshot) (cursor : ℕ) (next : Dating) (command : Command) → Grows p q → PlainSafe q
     → ((x : Broker) → slice_get p.brokers b ≡ Some x → SnapshotIsSafe p.paths p.registry.epoch (recorded_of order g) x) → order.command ≡ command
     → HasGone p b g command cursor next → HasGone q b g command cursor next

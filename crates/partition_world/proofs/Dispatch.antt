@@ -100,7 +100,7 @@ module _ {D S M : Type 0} (disk : DiskGhosts D) (store : StoreGhosts S) (meta : 
       (λ x. AtBrokerTier t b (λ broker_tier. ContinuedRow disk store meta p config h t b x broker_tier g command (Answers answer) h' t)) (slice_get h.nodes b)
       (λ x row. there (λ broker_tier. ContinuedRow disk store meta p config h t b x broker_tier g command (Answers answer) h' t) t.broker_tiers b lt (λ broker_tier. rw is ((answer, refl, row), refl))) r
 
-  -- and of a search by timestamp
+  -- and of a timestamp lookup
   pub date_at : (p : PartitionId) (config : Config) (h : PartitionState D) (t : RemoteTier S M) (b : ℕ) (g : StartSnapshot) (command : Command) (which : Which) (ts : ℤ) (r : Result Outcome AllocError) (h' : PartitionState D) (t' : RemoteTier S M)
       → command ≡ Offset which → which ≡ At ts
       → IfOk r (λ outcome. AtNode h b (λ x. AtBrokerTier t b (λ broker_tier. DateOnRow disk store meta p h t b x broker_tier g ts 0 Seek outcome h' t')))

@@ -57,13 +57,13 @@ pub seated_as : (actor_state : ActorState) (t : Turned) → actor_state_seen (ac
 seated_as actor_state (turned.Answers answer) = refl
 seated_as actor_state (turned.Begins g) = refl
 
--- no more sites than sides
+-- no more tier views than tier states
 tier_views_low : (nodes : List seen.Node) (broker_tiers : List BrokerTierIsSeen) → length (tier_views_of nodes broker_tiers) ≤ length broker_tiers
 tier_views_low [] broker_tiers = omega arith
 tier_views_low (x ∷ nodes) [] = omega arith
 tier_views_low (x ∷ nodes) (broker_tier ∷ broker_tiers) = omega (arith, tier_views_low nodes broker_tiers)
 
--- each node has a side, since each broker has a site
+-- each node has a tier state, since each broker has a tier view
 pub sided : (d : Scene) (p : State) (h : seen.SeenPartition) (broker_tiers : List BrokerTierIsSeen) → BothSafe d p → seen_central.PartitionMatches h p → d.tier_views ≡ tier_views_of h.nodes broker_tiers
     → length h.nodes ≤ length broker_tiers
 sided d p h broker_tiers safe stands are =
@@ -226,7 +226,7 @@ module _ {D S M : Type 0} (disk : DiskGhosts D) (store : StoreGhosts S) (meta : 
         few = few;
       }
 
-  -- a turn that is entered nowhere, or one that wanted memory: changes of the tier alone
+  -- a turn that is entered nowhere, or one that ran out of memory: changes of the tier alone
   pub silent_central : (opening : State) (w w' : Whole D S M) (c : IsCentral disk store meta opening w) → w'.lists ≡ w.lists → desk_seen w'.desk ≡ desk_seen w.desk
       → w'.journal.items ≡ w.journal.items → ShowsPartition disk.content w'.held c.partition → (d : Scene) → IsChanged c.scene c.central.plain d → ShowsTier store meta w' c.partition d
       → AreRecorded w'.desk → AreDated c.central.plain w'.lists w'.desk → length d.notes + notes_left w'.lists w'.desk < 2 ^ 64 → IsCentral disk store meta opening w'

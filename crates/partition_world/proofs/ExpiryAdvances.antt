@@ -23,7 +23,7 @@ few_deleting Start = omega arith
 few_deleting (Delete n) = omega arith
 few_deleting Finish = omega arith
 
--- an expiry goes on with a later turn
+-- an expiry continues with a later turn
 to : (before next after : DeletionStep) → GoesOn next ≡ GoesOn after → deleting_before before < deleting_before after → deleting_before before < deleting_before next
 to before next after is lt = let e : next ≡ after = cc in rw e lt
 

@@ -1,5 +1,5 @@
--- Each turn of an expiry keeps the central fact. What it takes up is due, and its deletion makes changes of the tier; of the
--- partition only a raise of the log start is seen.
+-- Each turn of an expiry keeps the central fact. What it takes up is due, and its deletion makes changes of the tier;
+-- of the partition only a raise of the log start offset is seen.
 use Rattle.std.proofs.Common.{◌≡◌, ◌∙◌, inl, inr, sym, ap, subst, refl, ℕ, ◌<◌, ◌&&◌, ◌==◌, List, [], ◌∷◌, slice_get, slice_set, Some, Option, Ok, Err, Bool, true, false, arith}
 use Rattle.std.specs.Prelude.{nat_lt, nat_le, not, if◌then◌else◌, IsSomeAnd}
 use Rattle.std.proofs.lemmas.Bool.Decides.{nat_tests}
@@ -141,7 +141,7 @@ module _ {D S M : Type 0} (disk : DiskGhosts D) (store : StoreGhosts S) (meta : 
           (keeps_seen z.x z.s g keeps, refl),
         )
 
-    -- the log start rises
+    -- the log start offset rises
     pub raise_seen : (g : StartSnapshot) (start wanted : ℕ) → KeepsLead z.x g → RaiseRow w.held z.x.role wanted (Raised start) w'.held
         → Refines disk.content w'.held (λ h'. seen_tiers.ExpireOnRow c.partition y g (Raised start) h')
     raise_seen g start wanted keeps row =

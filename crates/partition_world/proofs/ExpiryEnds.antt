@@ -1,4 +1,5 @@
--- What a turn of an expiry may be answered, that its devices go on to tell, and what one that wanted memory leaves.
+-- What a turn of an expiry may be answered, that its devices continue to report, and what one that ran out of memory
+-- leaves.
 use Rattle.std.proofs.Common.{◌≡◌, ◌∙◌, ap, refl, ℕ, slice_get, Some, None, Option, Ok, Err, Bool, IsTrue}
 use Rattle.std.specs.declared.alloc.AllocError.{AllocError}
 use Rattle.tier_base.specs.Device.{Dry}
@@ -44,7 +45,7 @@ module _ {S M : Type 0} (store : StoreGhosts S) (meta : MetaGhosts M) where
   delete_ends expired_segment n (Some key) StoreFault old new w = tt
   delete_ends expired_segment n (Some key) answer old new w = let e = w.0 in absurd (cc (e))
 
-  -- what a turn of an expiry is answered
+  -- what a turn of an expiry returns
   pub expiry_ends : (expired_segment : ExpiredSegment) (origin : EventOrigin) (next : DeletionStep) (answer : Answer) (old new : Tiers S M)
       → ExpiryRow store.content store.control meta.content meta.control expired_segment origin next (Ok (Ends answer)) old new → MayEnd answer
   expiry_ends expired_segment origin Start answer old new w = start_ends expired_segment origin answer old.meta new.meta w.1
@@ -72,7 +73,7 @@ module _ {S M : Type 0} (store : StoreGhosts S) (meta : MetaGhosts M) where
       (delete_tells expired_segment n (slice_get (keys expired_segment) n) turn old.store new.store w.1, ap (λ (t : Tiers S M). (meta.content t.meta).is_observable) w.0)
   expiry_tells expired_segment origin Finish turn old new w = (ap (λ (t : Tiers S M). (store.content t.store).is_observable) w.0, finish_tells expired_segment origin turn old.meta new.meta w.1)
 
-  -- what wanted memory leaves: the store, and the notes of an observable metadata log
+  -- what ran out of memory leaves: the store, and the metadata events of an observable metadata log
   pub record IsDry (s : S) (m : M) (s' : S) (m' : M) : Type 0 where
     pub store_is : s' ≡ s
     pub is_observable : (meta.content m').is_observable ≡ (meta.content m).is_observable

@@ -32,7 +32,7 @@ few_sought Refresh = omega arith
 few_sought (Index piece) = omega arith
 few_sought (Log piece span) = omega arith
 
--- a fetch goes on with a later turn
+-- a fetch continues with a later turn
 
 same_next : (before next after : Search) → fetch.Goes next ≡ fetch.Goes after → sought_before before < sought_before after → sought_before before < sought_before next
 same_next before next after is lt = let e : next ≡ after = cc in rw e lt

@@ -1,4 +1,4 @@
--- What a turn of a fetch from the remote tier is answered, and what it leaves of the devices.
+-- What a turn of a fetch from the remote tier returns, and what it leaves of the devices.
 use Rattle.std.proofs.Common.{◌≡◌, ◌⊎◌, inl, inr, ap, sym, subst, ℕ, List, Option, Some, None, Ok, Err}
 use Rattle.std.specs.declared.alloc.AllocError.{AllocError}
 use mathlib.Core.Path.{fun_ext}
@@ -81,7 +81,7 @@ module _ {S M : Type 0} (store : StoreGhosts S) (meta : MetaGhosts M) where
   log_ends wanted piece span view None answer old new w = let e : answer ≡ Damaged Meta view.notes = cc (w.0) in subst MayEnd (sym e) tt
   log_ends wanted piece span view (Some place) answer old new w = cuts_ends wanted piece place.1 span w.answer answer w.cuts
 
-  -- what a turn of a fetch is answered
+  -- what a turn of a fetch returns
   pub fetch_ends : (wanted : FetchRequest) (line : List (ℕ × ℕ)) (next : FetchStep) (answer : Answer) (old new : Tiers S M)
       → FetchRow store.content store.control meta.content meta.control wanted line next (Ok (Ends answer)) old new → MayEnd answer
   fetch_ends wanted line Refresh answer old new w = refresh_ends wanted line answer old.view new.view old.meta new.meta w.1
@@ -90,7 +90,7 @@ module _ {S M : Type 0} (store : StoreGhosts S) (meta : MetaGhosts M) where
   fetch_ends wanted line (Log piece span) answer old new w =
       log_ends wanted piece span old.view (spot_in wanted.partition piece.id part.Log (entry_of piece.id old.view.entries)) answer old.store new.store w.1
 
-  -- the store tells what it did, and holds what it did
+  -- the store reports what it did, and holds what it did
   pub record StoreStays (old new : S) : Type 0 where
     pub is_observable : (store.content new).is_observable ≡ (store.content old).is_observable
     pub objects : (store.content new).objects ≡ (store.content old).objects
@@ -119,7 +119,7 @@ module _ {S M : Type 0} (store : StoreGhosts S) (meta : MetaGhosts M) where
   refresh_tells wanted line (Ends MetaFault) before after old new w = w.content.is_observable
   refresh_tells wanted line turn before after old new w = w.1.content.is_observable
 
-  -- the devices tell as they did
+  -- the devices report as they did
   pub fetch_tells : (wanted : FetchRequest) (line : List (ℕ × ℕ)) (next : FetchStep) (turn : FetchTurn) (old new : Tiers S M)
       → FetchRow store.content store.control meta.content meta.control wanted line next (Ok turn) old new → TellsOn store meta old.store old.meta new.store new.meta
   fetch_tells wanted line Refresh turn old new w =
@@ -150,7 +150,7 @@ module _ {S M : Type 0} (store : StoreGhosts S) (meta : MetaGhosts M) where
   index_dry wanted piece view e None cache cache' old new w =
       load_dry wanted piece view (spot_in wanted.partition piece.id part.Index (entry_of piece.id view.entries)) e cache cache' old new w
 
-  -- what one leaves that wanted memory: a view may have taken in some notes; else nothing has changed
+  -- what one leaves that ran out of memory: a view may have taken in some metadata events; else nothing has changed
   pub record Dries (old new : Tiers S M) : Type 0 where
     pub store_stays : StoreStays old.store new.store
     pub cache : new.cache ≡ old.cache

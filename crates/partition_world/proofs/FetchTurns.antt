@@ -35,7 +35,7 @@ module _ {D S M : Type 0} (store : StoreGhosts S) (meta : MetaGhosts M) where
   ends_row p h t b x broker_tier g offset limit next (Run tier size stop bytes) t' may s w = (s, w)
   ends_row p h t b x broker_tier g offset limit next other t' may s w = absurd may
 
-  -- what is read of the log in the tier's row, by its end and its line
+  -- what is read of the log in the tier's row, by its end and its leader epochs
   row_at : (p : PartitionId) (x : Node D) (offset limit end : ℕ) (line : List (ℕ × ℕ)) (next : FetchStep) (turn : FetchTurn) (old new : Tiers S M) → end ≡ end_of x → Some line ≡ line_in x.log
       → FetchRow store.content store.control meta.content meta.control (record { partition = p; offset = offset; limit = limit; log_end = end; mark = x.known_high_watermark }) line next (Ok turn) old new
       → FetchRow store.content store.control meta.content meta.control (wanted_of p x offset limit) (line_of x) next (Ok turn) old new

@@ -1,4 +1,4 @@
--- A fresh world whose logs, objects and notes are seen has the central fact.
+-- A fresh world whose logs, objects and metadata events are seen has the central fact.
 use Rattle.std.proofs.Common.{◌≡◌, ◌∙◌, sym, ap, subst, refl, ℕ, zero, suc, ◌+◌, ◌-◌, ◌*◌, ◌<◌, ◌≤◌, List, [], ◌∷◌, length, Option, Some, None, slice_get, Bool, true, false, arith}
 use Rattle.std.specs.Prelude.{replicate, unwrap_or, ◌^◌, All}
 use Rattle.tier_base.specs.declared.names.PartitionId.{PartitionId}
@@ -67,7 +67,7 @@ module _ {D : Type 0} (content : D → Content) (control : D → Control call_co
         subst (λ (k : ℕ). ShowNodes content xs (replicate k (fresh_node (Joined 0) []))) many (followers_shown disks xs f.1 seen.1),
       )
 
--- the brokers' sides are those of a fresh tier
+-- the brokers' tier states are those of a fresh tier
 pub broker_tiers_fresh : (n : ℕ) → broker_tiers_seen (replicate n fresh_broker_tier) ≡ replicate n fresh_seen
 broker_tiers_fresh zero = refl
 broker_tiers_fresh (suc n) = ap (λ (l : List BrokerTierIsSeen). fresh_seen ∷ l) (broker_tiers_fresh n)
@@ -77,7 +77,7 @@ tier_views_fresh n broker_tiers is =
     let all : broker_tiers_seen broker_tiers ≡ replicate n fresh_seen = ap (λ (l : List BrokerTierState). broker_tiers_seen l) is ∙ broker_tiers_fresh n in
     sym (ap (λ (l : List BrokerTierIsSeen). tier_views_of (fresh_held n).nodes l) all ∙ fresh_tier n)
 
--- nothing is under way
+-- nothing is in progress
 free : (o : Option Order) → work_of o Idle ≡ Free
 free None = refl
 free (Some order) = refl
@@ -93,7 +93,7 @@ abbrev IsFrom : ℕ → List ActorList → Type 0
 IsFrom low [] = Unit {0}
 IsFrom low (l ∷ lists) = low ≤ l.actor.0
 
--- so many notes an actor appends at most
+-- so many metadata events an actor appends at most
 few_notes : (config : Config) (low : ℕ) (lists : List ActorList) → IsFrom low lists → AreRising lists → All (IsListFor config) lists
     → notes_left lists (replicate (length lists) fresh_actor_state) ≤ 8589934592 * (64 - low)
 few_notes config low [] from rising each = omega arith
@@ -149,7 +149,7 @@ module _ {D S M : Type 0} (disk : DiskGhosts D) (store : StoreGhosts S) (meta : 
   plain_fresh : (opening : State) (v : seen_whole.Whole) (c : seen_central.IsCentral opening v) → v.journal.items ≡ [] → opening ≡ c.plain
   plain_fresh opening v c none = let is : Some opening ≡ Some c.plain = sym (ap (λ (l : List JournalEntry). replay v.lists opening l) none) ∙ c.replays in cc (is)
 
-  -- no seat keeps anything
+  -- no actor's state keeps anything
   idle_recorded : (n place : ℕ) (actor_state : ActorState) → slice_get (replicate n fresh_actor_state) place ≡ Some actor_state → IsRecorded actor_state.work
   idle_recorded zero place actor_state at = absurd cc
   idle_recorded (suc n) zero actor_state at = let is : fresh_actor_state ≡ actor_state = cc (at) in subst (λ (k : ActorState). IsRecorded k.work) is tt

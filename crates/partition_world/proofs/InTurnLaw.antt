@@ -1,4 +1,4 @@
--- Over any devices each turn goes on with its actor's next command, and begins none that has begun.
+-- Over any devices each turn continues with its actor's next command, and begins none that has begun.
 use Rattle.std.proofs.Common.{◌≡◌, ◌≢◌, inl, inr, ◌⊎◌, ◌∙◌, sym, ap, subst, refl, ℕ, zero, suc, ◌+◌, ◌<◌, ◌≤◌, ◌==◌, Bool, true, false, List, [], ◌∷◌, ◌++◌, length, replicate, Some, Option, IsSomeAnd, is_some, slice_get, slice_set, if◌then◌else◌, arith}
 use Rattle.log_terms.proofs.Lists.{get-set, look, within, length-slice_set}
 use Rattle.tier_base.specs.declared.names.ActorId.{ActorId}
@@ -113,7 +113,7 @@ record Enters (actor : ActorId) (actor_state : ActorState) (command : Command) (
   told : told_of actor actor_state.number command outcome ≡ record { actor = actor; number = actor_state.number; event = event } ∷ []
   next : next_after event actor_state.number (is_going actor_state) ≡ Some ((actor_state_after actor_state outcome).number, is_going (actor_state_after actor_state outcome))
 
--- a turn that enters nothing leaves the actor's state at its command, which goes on
+-- a turn that enters nothing leaves the actor's state at its command, which continues
 record IsSilent (actor : ActorId) (actor_state : ActorState) (command : Command) (outcome : Outcome) : Type 0 where
   told : told_of actor actor_state.number command outcome ≡ []
   number : (actor_state_after actor_state outcome).number ≡ actor_state.number

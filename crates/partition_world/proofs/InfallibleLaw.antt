@@ -1,4 +1,5 @@
--- While no call of the devices can fail, none does: they last so, and a fault that is told would be one of a device.
+-- While no call of the devices can fail, none does: they last so, and a fault that is reported would be one of a
+-- device.
 use Rattle.std.proofs.Common.{◌≡◌, inl, inr, sym, subst, ℕ, zero, suc, ◌+◌, ◌<◌, ◌≤◌, Bool, true, false, List, [], ◌∷◌, ◌++◌, arith}
 use Rattle.std.specs.Prelude.{IsTrue, ◌-◌, ◌^◌, min}
 use Rattle.tier_base.specs.Counts.{Rose}

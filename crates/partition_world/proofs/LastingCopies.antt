@@ -1,4 +1,4 @@
--- A turn of a copy: the devices last, and one has failed where a fault is told.
+-- A turn of a copy: the devices last, and one has failed where a fault is reported.
 use Rattle.std.proofs.Common.{◌≡◌, sym, ap, subst, refl, ℕ, ◌+◌, slice_get, Some, None, Option, Ok}
 use Rattle.tier_base.specs.declared.object_key.ObjectKey.{ObjectKey}
 use Rattle.tier_base.specs.declared.plain.State.{State}

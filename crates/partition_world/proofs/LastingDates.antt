@@ -1,4 +1,4 @@
--- A turn of a search by timestamp: the devices last, and one has failed where a fault is told.
+-- A turn of a timestamp lookup: the devices last, and one has failed where a fault is reported.
 use Rattle.std.proofs.Common.{◌≡◌, inl, inr, sym, ap, subst, refl, ℕ, List, Some, None, Option, Ok, Err, true, false}
 use Rattle.std.specs.declared.result.Result.{Result}
 use Rattle.std.specs.declared.alloc.AllocError.{AllocError}

@@ -1,4 +1,4 @@
--- A turn of an expiry that deletes a remote segment: the devices last, and one has failed where a fault is told.
+-- A turn of an expiry that deletes a remote segment: the devices last, and one has failed where a fault is reported.
 use Rattle.std.proofs.Common.{sym, ap, subst, refl, ℕ, slice_get, Some, None, Option, Ok}
 use Rattle.tier_base.specs.declared.object_key.ObjectKey.{ObjectKey}
 use Rattle.object_store.specs.declared.store.Store.{Ghosts as StoreGhosts}

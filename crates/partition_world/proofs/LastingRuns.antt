@@ -39,7 +39,7 @@ module _ {D : Type 0} (control : D → Control call_code) where
   fresh_have leads (d ∷ disks) [] f = absurd f
 
 module _ {D : Type 0} (content : D → Content) (control : D → Control call_code) where
-  -- and each of one that begins anew
+  -- and each of one that is reopened
   cold_have : (settings : Settings) (disks : List D) (xs : List (Node D)) → AreColdOver content control settings disks xs → HaveDisks xs
   cold_have settings [] [] f = tt
   cold_have settings (d ∷ disks) (x ∷ xs) f = (subst (λ (y : Node D). OnDisk y.log (λ e. Unit {0})) (sym f.0.node) tt, cold_have settings disks xs f.1)
@@ -99,7 +99,7 @@ module _ {D S M : Type 0} (disk : DiskGhosts D) (store : StoreGhosts S) (meta : 
   pub reaches_lasting : (lists : List ActorList) (w : Whole D S M) (schedule : List Pace) (w' : Whole D S M) → IsNew lists w → Reaches disk store meta w schedule w' → HaveLasted disk store meta w w'
   reaches_lasting lists w schedule w' n r = schedule_lasted w schedule w' r n.disks
 
-  -- a fresh world is new, and one that begins anew is
+  -- a fresh world is new, and one that is reopened is
   pub fresh_new : (partition : PartitionId) (config : Config) (lists : List ActorList) (disks : List D) (s : S) (m : M) (w : Whole D S M) → IsFresh disk store meta partition config lists disks s m w → IsNew lists w
   fresh_new partition config lists disks s m w f = record { lists_are = f.lists_are; desk = f.desk; journal = f.journal; disks = fresh_have disk.control true disks w.held.nodes f.held.nodes }
 

@@ -1,5 +1,5 @@
--- A turn of a fetch from the remote tier, and one of a rebuild that reads its line: the devices last, and one has failed
--- where a fault is told.
+-- A turn of a fetch from the remote tier, and one of a rebuild that reads its leader epochs: the devices last, and one
+-- has failed where a fault is reported.
 use Rattle.std.proofs.Common.{◌≡◌, sym, ap, subst, refl, ℕ, List, Some, None, Option, Ok, Err, true, false}
 use Rattle.std.specs.declared.result.Result.{Result}
 use Rattle.std.specs.declared.alloc.AllocError.{AllocError}

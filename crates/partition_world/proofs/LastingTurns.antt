@@ -1,4 +1,4 @@
--- The turns of commands of any kind: the devices last, and one of their calls failed where a fault is told.
+-- The turns of commands of any kind: the devices last, and one of their calls failed where a fault is reported.
 use Rattle.std.proofs.Common.{◌≡◌, inl, inr, sym, ap, subst, refl, ℕ, slice_get, Some, None, Bool, true, false}
 use Rattle.std.specs.Prelude.{ℤ}
 use Rattle.tier_base.specs.declared.names.PartitionId.{PartitionId}
@@ -70,7 +70,7 @@ module _ {D S M : Type 0} (disk : DiskGhosts D) (store : StoreGhosts S) (meta : 
     pub stores : StoreLasts store t.store t'.store
     pub metas : MetaLasts meta t.meta t'.meta
 
-  -- and where a fault is told a call of one failed; this holds where it is one of a disk
+  -- and where a fault is reported a call of one failed; this holds where it is one of a disk
   abbrev pub Leaving : Type 0 → PartitionState D → ℕ → RemoteTier S M → Outcome → PartitionState D → RemoteTier S M → Type 0
   Leaving A h b t outcome h' t' =
       AllLast h t h' t' × TurnTold A (DiskFails disk.control b h h') (StoreRose store t.store t'.store) (MetaRose meta t.meta t'.meta) outcome
@@ -84,7 +84,7 @@ module _ {D S M : Type 0} (disk : DiskGhosts D) (store : StoreGhosts S) (meta : 
   all_same : (h : PartitionState D) (t : RemoteTier S M) (h' : PartitionState D) (t' : RemoteTier S M) → h' ≡ h → t' ≡ t → AllLast h t h' t'
   all_same h t h' t' one two = same_tier h t h' t' (keeps_same disk.control h h' one) two
 
-  -- what is told of an outcome is told of one that is the same
+  -- what is reported of an outcome is reported of one that is the same
   told_as : (A : Type 0) (h : PartitionState D) (b : ℕ) (t : RemoteTier S M) (h' : PartitionState D) (t' : RemoteTier S M) (outcome after : Outcome) → outcome ≡ after → Leaving A h b t after h' t' → Leaving A h b t outcome h' t'
   told_as A h b t h' t' outcome after is k = subst (λ (o : Outcome). Leaving A h b t o h' t') (sym is) k
 
@@ -201,7 +201,7 @@ module _ {D S M : Type 0} (disk : DiskGhosts D) (store : StoreGhosts S) (meta : 
   seek_lasts A p h t b x broker_tier g offset limit next (Sought later) h' t' same w = goes_lasts A p h t b x broker_tier offset limit next (fetch.Goes later) h' t' same w.1
   seek_lasts A p h t b x broker_tier g offset limit next other h' t' same w = elim w [ ]
 
-  -- and of an expiry, which raises the log start as the command does
+  -- and of an expiry, which raises the log start offset as the command does
 
   raise_lasts : (A : Type 0) (h : PartitionState D) (t : RemoteTier S M) (b : ℕ) (x : Node D) (start : ℕ) (answer : Answer) (h' : PartitionState D) (t' : RemoteTier S M) → slice_get h.nodes b ≡ Some x → is_up x ≡ true → t' ≡ t
       → RaiseRow h x.role start answer h' → Leaving A h b t (Answers answer) h' t'
@@ -262,7 +262,7 @@ module _ {D S M : Type 0} (disk : DiskGhosts D) (store : StoreGhosts S) (meta : 
   offset_lasts A h t b x broker_tier g (Answers answer) h' t' held tier w = elim w.1 [ ]
   offset_lasts A h t b x broker_tier g other h' t' held tier w = elim w [ ]
 
-  -- and of a search by timestamp, which reads the broker's log, or is among the remote segments
+  -- and of a timestamp lookup, which reads the broker's log, or is among the remote segments
 
   own_search_lasts : (h : PartitionState D) (t : RemoteTier S M) (b : ℕ) (x : Node D) (asked : Asked) (cursor : ℕ) (turn : TimeTurn) (h' : PartitionState D)
       (t' : RemoteTier S M) → slice_get h.nodes b ≡ Some x → t' ≡ t

@@ -94,7 +94,7 @@ module _ {D S M : Type 0} (disk : DiskGhosts D) (store : StoreGhosts S) (meta : 
       let less = turns_less w.lists w.desk t.place t.list t.actor_state outcome t.at.list t.at.actor_state_is (within t.list.orders t.actor_state.number t.order t.next) on in
       rw (t.lists, t.desk) (omega (arith, less))
 
-  -- a step that goes on does
+  -- a step that continues does
   pub step_left : (w : Whole D S M) (a : ℕ) (stepped : Stepped) (w' : Whole D S M) → Steps disk store meta w a stepped w' → stepped ≢ Nothing → stepped ≢ NoMemory
       → turns_left w'.lists w'.desk < turns_left w.lists w.desk
   step_left w a Ran w' s n m = turn_left w a s.0 w' s.2

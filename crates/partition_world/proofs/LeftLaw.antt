@@ -1,4 +1,4 @@
--- Each step keeps the central fact with whatever notes a power cut may leave.
+-- Each step keeps the central fact with whatever metadata events a power cut may leave.
 use Rattle.std.proofs.Common.{◌∙◌, inl, refl, ℕ, List}
 use Rattle.disk_model.specs.declared.disk.Disk.{Ghosts as DiskGhosts}
 use Rattle.object_store.specs.declared.store.Store.{Ghosts as StoreGhosts}
@@ -28,7 +28,7 @@ module _ {D S M : Type 0} (disk : DiskGhosts D) (store : StoreGhosts S) (meta : 
       let r = steps_with disk store meta w a stepped w' s now.shows_tier.meta_tells l' left in
       step_central disk store (resolved meta) (whole_with w r.0) a stepped (whole_with w' l') r.2 opening (c r.0 r.1)
 
-  -- what is told is left
+  -- what is reported is left
   pub left_is_central : (opening : State) (w : Whole D S M) → IsCentralLeft disk store meta opening w → IsCentral disk store meta opening w
   left_is_central opening w c =
       let k = c (meta.content w.tier.meta).notes (inl refl) in

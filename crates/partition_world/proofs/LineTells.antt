@@ -1,4 +1,4 @@
--- The line of a broker's log says in which epochs the log's offsets are: look-ups in the remote tier go by it.
+-- The line of a broker's log says in which epochs the log's offsets are: lookups in the remote tier go by it.
 use Rattle.std.proofs.Common.{inl, inr, sym, subst, ℕ, ◌≤◌, List, [], ◌∷◌, ◌++◌, arith}
 use Rattle.std.specs.List.{AllByRecursion}
 use Rattle.log_terms.specs.Line.{line_of}
@@ -28,7 +28,7 @@ starts_below log line c (inr h) =
     subst (AllByRecursion (λ (start : ℕ × ℕ). start.1 ≤ end_of log)) (sym h.1)
     (all_push (end_of log) (line_of log) (h.0, end_of log) (starts_within 0 (end_of log) log c (omega arith)) (omega arith))
 
--- a node's line tells its log's epochs
+-- a node's line reports its log's epochs
 pub line_tells : (x : Node) → NodeSound x → TellsEpochs x.log.line x.log.batches
 line_tells x s = record {
   rises = s.log.rises;
@@ -36,7 +36,7 @@ line_tells x s = record {
   within = starts_below x.log.batches x.log.line s.log.consecutive s.log.line_is;
 }
 
--- a view of some first notes keeps the rules of views
+-- a view of some first metadata events keeps the rules of views
 pub right_view : (notes : List Note) (desk : List TierTask) (view : Seen) → NotesStand notes desk → IsViewOf notes view → IsRightView view
 right_view notes desk view n v =
     let kept = seen_kept notes v.before desk n v.begins in

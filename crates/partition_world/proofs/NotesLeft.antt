@@ -1,4 +1,4 @@
--- Each turn of a command leaves room for the notes that are appended yet: a command appends at most two.
+-- Each turn of a command leaves room for the metadata events that are appended yet: a command appends at most two.
 use Rattle.std.proofs.Common.{◌≡◌, inl, inr, ap, ℕ, zero, suc, ◌+◌, ◌-◌, ◌*◌, ◌<◌, ◌≤◌, List, [], ◌∷◌, length, slice_get, slice_set, Some, Bool, true, false, IsTrue, arith}
 use Rattle.std.specs.Prelude.{ℤ}
 use Rattle.disk_model.specs.declared.disk.Disk.{Ghosts as DiskGhosts}
@@ -217,7 +217,7 @@ module _ {D S M : Type 0} (disk : DiskGhosts D) (store : StoreGhosts S) (meta : 
   row_told p config h t b x broker_tier (Expires g segment next) command outcome h' t' w is_observable = deleting_told h t b x g segment next command outcome h' t' w is_observable
   row_told p config h t b x broker_tier (Rebuilds g next) command outcome h' t' w is_observable = let most = rebuilding_count p h t b x broker_tier g next command outcome h' t' w in omega (arith, most)
 
-  -- memory was wanting
+  -- memory ran out
   halts_count : (h : PartitionState D) (t : RemoteTier S M) (b : ℕ) (x : Node D) (broker_tier : BrokerTierState) (t' : RemoteTier S M) → HaltsSome disk store meta h t b x broker_tier t' → IsTrue (meta.content t.meta).is_observable → count meta t'.meta ≤ count meta t.meta
   halts_count h t b x broker_tier t' (inl halts) is_observable = keeps_count meta t.meta t'.meta halts.reads.content
   halts_count h t b x broker_tier t' (inr (inl (copy, next, wants))) is_observable =
@@ -239,7 +239,7 @@ module _ {D S M : Type 0} (disk : DiskGhosts D) (store : StoreGhosts S) (meta : 
       let broker_tier = some_of (λ broker_tier. HaltsSome disk store meta h t b x.0 broker_tier t') (slice_get t.broker_tiers b) x.2 in
       halts_count h t b x.0 broker_tier.0 t' broker_tier.2 is_observable
 
--- how many notes the commands of a list may append yet
+-- how many metadata events the commands of a list may append yet
 abbrev left_of : ActorList → ActorState → ℕ
 left_of l actor_state = 2 * (length l.orders - actor_state.number) - told_by actor_state.work
 
@@ -272,7 +272,7 @@ got_low (y ∷ xs) zero x at = omega arith
 got_low (y ∷ xs) (suc i) x at = let h = got_low xs i x at in omega (arith, h)
 
 module _ {D S M : Type 0} (disk : DiskGhosts D) (store : StoreGhosts S) (meta : MetaGhosts M) where
-  -- a turn leaves no more notes to come than there were, with those that there are
+  -- a turn leaves no more metadata events to come than there were, with those that there are
   pub notes_few : (w : Whole D S M) (a : ℕ) (outcome : Outcome) (w' : Whole D S M) → IsTurn disk store meta w a outcome w' → IsTrue (meta.content w.tier.meta).is_observable
       → length (meta.content w'.tier.meta).notes + notes_left w'.lists w'.desk ≤ length (meta.content w.tier.meta).notes + notes_left w.lists w.desk
   notes_few w a outcome w' t is_observable =
@@ -286,7 +286,7 @@ module _ {D S M : Type 0} (disk : DiskGhosts D) (store : StoreGhosts S) (meta : 
       let is = ap (λ (d : List ActorState). notes_left w.lists d) t.desk in
       omega (arith, desk, lists, is)
 
-  -- so does one that wanted memory
+  -- so does one that ran out of memory
   pub notes_stay : (w : Whole D S M) (a : ℕ) (w' : Whole D S M) → StaysWhole disk store meta w a w' → IsTrue (meta.content w.tier.meta).is_observable
       → length (meta.content w'.tier.meta).notes + notes_left w'.lists w'.desk ≤ length (meta.content w.tier.meta).notes + notes_left w.lists w.desk
   notes_stay w a w' t is_observable =

@@ -1,4 +1,4 @@
--- How many notes a turn of a copy, of a fetch and of an expiry append.
+-- How many metadata events a turn of a copy, of a fetch and of an expiry append.
 use Rattle.std.proofs.Common.{◌≡◌, ◌∙◌, inl, inr, refl, ap, ℕ, ◌+◌, ◌≤◌, List, length, slice_get, Some, None, Option, Ok, Err, Bool, true, false, IsTrue, arith}
 use Rattle.std.specs.declared.result.Result.{Result}
 use Rattle.std.specs.declared.alloc.AllocError.{AllocError}
@@ -49,7 +49,7 @@ use Rattle.partition_world.specs.declared.actor_state.InProgress.TheVariants.{Id
 use Rattle.partition_world.specs.Central.{told_by}
 use Rattle.partition_world.specs.ActorStates.{chosen, moved, sought, dated, expired_segment, deleting, rebuilding, copy_outcome, expiry_outcome}
 
--- how many notes a command has appended at most after a turn; once it is answered it appends none
+-- how many metadata events a command has appended at most after a turn; once it is answered it appends none
 abbrev pub told_after : InProgress → Outcome → ℕ
 told_after work (Answers answer) = 2
 told_after work (Begins g) = told_by (Noted g)
@@ -76,7 +76,7 @@ few_told (Expires g segment (deletion.Delete n)) = omega arith
 few_told (Expires g segment deletion.Finish) = omega arith
 few_told (Rebuilds g next) = omega arith
 
--- how many notes a copy has appended at most after a turn
+-- how many metadata events a copy has appended at most after a turn
 abbrev told_turn : StartSnapshot → Copied → CopyTurn → ℕ
 told_turn g copy (GoesOn next) = told_by (Copies g copy next)
 told_turn g copy (Ends answer) = 2
@@ -110,7 +110,7 @@ put_told g copy n None = refl
 put_told g copy n (Some key) = refl
 
 module _ {M : Type 0} (meta : MetaGhosts M) where
-  -- how many notes there are
+  -- how many metadata events there are
   abbrev pub count : M → ℕ
   count m = length (meta.content m).notes
 
@@ -205,7 +205,7 @@ module _ {S M : Type 0} (store : StoreGhosts S) (meta : MetaGhosts M) where
   fetch_wants wanted line (Index piece) e old new w = same_count meta old.meta new.meta (ap (λ (t : Fetched S M). t.meta) w.0)
   fetch_wants wanted line (Log piece span) e old new w = same_count meta old.meta new.meta (ap (λ (t : Fetched S M). t.meta) w.0)
 
-  -- nor does one of a search by timestamp
+  -- nor does one of a timestamp lookup
 
   seeking_count : (asked : Asked) (line : List (ℕ × ℕ)) (cursor : ℕ) (turn : TimeTurn) (before after : Seen) (old new : M)
       → SeekRow meta.content meta.control asked line cursor (Ok turn) before after old new → count meta new ≤ count meta old
@@ -297,7 +297,7 @@ module _ {S M : Type 0} (store : StoreGhosts S) (meta : MetaGhosts M) where
   deletes_told g segment next (expiry.Goes then) outcome is = ap (told_after (Expires g segment next)) is
   deletes_told g segment next (expiry.Ends answer) outcome is = ap (told_after (Expires g segment next)) is
 
-  -- one that wanted memory
+  -- one that ran out of memory
   pub copy_wants : (copy : Copied) (origin : EventOrigin) (next : CopyStep) (e : AllocError) (old new : Tiers S M)
       → CopyRow store.content store.control meta.content meta.control copy origin next (Err e) old new → IsTrue (meta.content old.meta).is_observable → count meta new.meta ≤ count meta old.meta
   copy_wants copy origin Start e old new (same, inl is) is_observable = same_count meta old.meta new.meta is

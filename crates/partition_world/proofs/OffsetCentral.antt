@@ -1,4 +1,5 @@
--- Each turn of a question for the offset of the remote tier keeps the central fact: a broker's view takes in notes at most.
+-- Each turn of a question for the offset of the remote tier keeps the central fact: a broker's view takes metadata
+-- events at most.
 use Rattle.std.proofs.Common.{◌≡◌, refl, ℕ}
 use Rattle.disk_model.specs.declared.disk.Disk.{Ghosts as DiskGhosts}
 use Rattle.object_store.specs.declared.store.Store.{Ghosts as StoreGhosts}

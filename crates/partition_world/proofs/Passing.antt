@@ -1,4 +1,4 @@
--- A search by timestamp in a broker's local log: what it passes over is too early, and what it reads is the log's.
+-- A timestamp lookup in a broker's local log: what it passes over is too early, and what it reads is the log's.
 use Rattle.std.proofs.Common.{◌≡◌, ◌∙◌, inl, inr, sym, ap, subst, refl, ℕ, ◌+◌, ◌<◌, ◌≤◌, ◌^◌, ◌-◌, ◌&&◌, ◌⊎◌, Bool, true, false, nat_lt, nat_le, List, [], ◌∷◌, ◌++◌, Some, arith, append_assoc}
 use Rattle.std.specs.Prelude.{ℤ, ◌<ℤ◌, ◌≤ℤ◌, int_lt, IsOk}
 use Rattle.std.specs.Int.{int_max}
@@ -170,8 +170,8 @@ are_checked : (run : List (List ℕ)) → Each (λ (batch : List ℕ). IsOk (che
 are_checked [] each = tt
 are_checked (batch ∷ run) each = (each.0, are_checked run each.1)
 
--- what a turn came to, of a log that is seen so: where it goes on, all before it is too early; an offset that it answers is that of the
--- timestamp
+-- what a turn came to, of a log that is seen so: where it continues, all before it is too early; an offset that it
+-- answers is that of the timestamp
 pub record OwnComes (asked : Asked) (log : List (List ℕ)) (turn : TimeTurn) : Type 0 where
   pub goes : (at : ℕ) (later : SearchStep) → turn ≡ Goes at later → (later ≡ Seek) × HasPassed asked.ts asked.start log at
   pub ends : (answer : Answer) → turn ≡ Ends answer → (answer ≡ DiskFault)

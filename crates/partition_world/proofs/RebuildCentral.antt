@@ -1,5 +1,5 @@
--- The turns of a join that reads a line in the remote tier keep the central fact: they make changes of the tier, nothing that is
--- seen of the partition changes, and the line that is read is the one that the join noted.
+-- The turns of a join that reads a line in the remote tier keep the central fact: they make changes of the tier,
+-- nothing that is seen of the partition changes, and the leader epochs that are read is the one that the join recorded.
 use Rattle.std.proofs.Common.{◌≡◌, ◌∙◌, sym, ap, subst, refl, ℕ, ◌<◌, List, slice_get, Some, Option, Ok, Bool, true, false, arith}
 use Rattle.std.specs.Prelude.{nat_le, unwrap_or, IsSomeAnd}
 use Rattle.std.proofs.lemmas.Bool.Decides.{nat_tests}
@@ -61,7 +61,7 @@ use Rattle.partition_world.proofs.TurnCentral.{here, shown, rests, held_same, si
 use Rattle.partition_world.proofs.WorldSound.{rebuilding_seen}
 
 module _ {D : Type 0} (disk : DiskGhosts D) where
-  -- an answer before the join goes on is one of its last turn
+  -- an answer before the join continues is one of its last turn
   pub once_row : (h : PartitionState D) (b : ℕ) (x : Node D) (g : StartSnapshot) (answer : Answer) (h' : PartitionState D) → AnswersAtOnce h x g answer → h' ≡ h → JoinOnRow disk.content disk.control h b x g answer h'
   once_row h b x g Stopped h' w same = (w, same)
   once_row h b x g (StaleEpoch n) h' w same = (w.0, w.1, w.2, same)
@@ -150,7 +150,7 @@ module _ {D S M : Type 0} (disk : DiskGhosts D) (store : StoreGhosts S) (meta : 
           let on = going c.central.plain y t.order t.list (actor_state_seen t.actor_state) g c.central.safe actor_states z.next (ap recorded_in works) broker in
           subst (λ (k : Command). SnapshotMatches c.central.plain k g) joins on.stands
 
-      -- the log start is below the wanted offset still
+      -- the log start offset is below the wanted offset still
       start_below : c.central.plain.registry.start < g.wanted
       start_below = subst (λ (n : ℕ). n < g.wanted) (sym start_plain) (by (nat_le g.wanted w.held.registry.start) refl)
         where

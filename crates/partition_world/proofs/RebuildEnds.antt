@@ -1,4 +1,4 @@
--- What the turn of a rebuild that reads its line may come to, and that the store goes on to tell.
+-- What the turn of a rebuild that reads its leader epochs may come to, and that the store continues to report.
 use Rattle.std.proofs.Common.{◌≡◌, ap, subst, sym, ℕ, List, Some, None, Option, Ok, Err, true, false}
 use mathlib.Core.Path.{fun_ext}
 use Rattle.std.specs.declared.result.Result.{Result}
@@ -17,7 +17,7 @@ use Rattle.rebuild_task.specs.Turns.{TakesBytes, Takes, EpochsRow, RebuildRow}
 use Rattle.plain_log.specs.declared.answer.Answer.{Answer}
 use Rattle.plain_log.specs.declared.answer.Answer.TheVariants.{StoreFault, Damaged}
 
--- it is answered so, or the log is begun anew next
+-- it gets this answer, or the log is restarted next
 abbrev pub MayTurn : RebuildTurn → Type 0
 MayTurn (Goes (Restart line)) = Unit {0}
 MayTurn (Ends StoreFault) = Unit {0}
@@ -47,7 +47,7 @@ module _ {S : Type 0} (store : StoreGhosts S) where
   pub rebuild_may_turn : (wanted : RebuildRequest) (line : List (ℕ × ℕ)) (view : View) (turn : RebuildTurn) (old new : S) → RebuildRow store.content store.control wanted line view (Ok turn) old new → MayTurn turn
   rebuild_may_turn wanted line view turn old new w = epochs_may wanted.offset view _ turn old new w
 
-  -- the store holds and tells what it did
+  -- the store holds and returns what it did
   pub record IsKept (old new : S) : Type 0 where
     pub is_observable : (store.content new).is_observable ≡ (store.content old).is_observable
     pub objects : (store.content new).objects ≡ (store.content old).objects

@@ -1,4 +1,5 @@
--- What a join's actor's state has of the line that it reads in the tier stays the line that it noted.
+-- What a join's actor's state has of the leader epochs that it reads in the tier stays the leader epochs that it
+-- recorded.
 use Rattle.std.proofs.Common.{◌≡◌, ◌∙◌, inl, inr, sym, ap, subst, refl, ℕ, List, slice_get, slice_set, Some}
 use Rattle.disk_model.specs.declared.disk.Disk.{Ghosts as DiskGhosts}
 use Rattle.object_store.specs.declared.store.Store.{Ghosts as StoreGhosts}
@@ -24,7 +25,7 @@ use Rattle.partition_world.specs.ActorStates.{recorded_in, chosen, moved, sought
 use Rattle.partition_world.specs.Turn.{IsTurn}
 use Rattle.partition_world.specs.Whole.{Whole}
 
--- a join that goes on does so with what it noted
+-- a join that continues does so with what it recorded
 abbrev pub GoesAsRecorded : InProgress → Outcome → Type 0
 GoesAsRecorded work (Rebuilding next) = (g : StartSnapshot) → recorded_in work ≡ Some g → IsRecorded (Rebuilds g next)
 GoesAsRecorded work outcome = Unit {0}

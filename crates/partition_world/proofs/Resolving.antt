@@ -1,5 +1,5 @@
--- A turn, and notes that a power cut may leave after it, give notes that one might have left before, and the same turn over the
--- metadata log beside these.
+-- A turn, and metadata events that a power cut may leave after it, give metadata events that one might have left
+-- before, and the same turn over the metadata log beside these.
 use Rattle.std.proofs.Common.{◌≡◌, ◌∙◌, ◌⊎◌, inl, inr, sym, ap, subst, refl, Bool, true, false, List, [], ◌∷◌, ◌++◌, drop, Option, Some, None, IsTrue}
 use Rattle.std.specs.Prelude.{IsSomeAnd}
 use Rattle.std.proofs.lemmas.List.Elements.{All-nil}
@@ -14,22 +14,22 @@ use Rattle.remote_view.specs.Fold.{Seen}
 use Rattle.view_refresh.specs.Refreshing.{Refreshed, Unread, Halted, Advances}
 use Rattle.partition_world.specs.Left.{resolved}
 
--- what holds of one that is there holds of it with such notes
+-- what holds of one that is there holds of it with such metadata events
 pub with_some : {A : Type 0} (o : Option A) (P : A → Type 0) (L : List Note → Type 0) (Q : A → List Note → Type 0) → IsSomeAnd o P
     → ((x : A) → P x → (l : List Note) × L l × Q x l) → (l : List Note) × L l × IsSomeAnd o (λ x. Q x l)
 with_some (Some x) P L Q is f = f x is
 with_some None P L Q is f = absurd is
 
 module _ {M : Type 0} (meta : MetaGhosts M) where
-  -- notes that a power cut might have left of a log, which have this
+  -- metadata events that a power cut might have left of a log, which have this
   abbrev pub Before : M → (List Note → Type 0) → Type 0
   Before m Q = (l : List Note) × Left (meta.content m) l × Q l
 
-  -- the log tells
+  -- the log reports
   abbrev pub Tells : M → Type 0
   Tells m = IsTrue (meta.content m).is_observable
 
-  -- a note was appended
+  -- a metadata event was appended
   pub appends_with : (note : Note) (fate : Fate) (old new : M) (k : Appends meta.content meta.control note fate old new) → Tells old → (l' : List Note)
       → Left (meta.content new) l' → Before old (λ l. Appends (resolved meta).content (resolved meta).control note fate (old, l) (new, l'))
   appends_with note fate old new k is_observable l' left = from (k.content.left is_observable l' left)
@@ -51,7 +51,7 @@ module _ {M : Type 0} (meta : MetaGhosts M) where
       from (inl (m, before)) = (l', before, made l' false m refl)
       from (inr (m, is)) = ((meta.content old).notes, inl refl, made (meta.content old).notes true m is)
 
-  -- a power cut leaves what is told beside it
+  -- a power cut leaves what is reported beside it
   told_with : (m : M) (l x : List Note) → Left ((resolved meta).content (m, l)) x → x ≡ l
   told_with m l x (inl same) = same
   told_with m l x (inr none) = absurd none
@@ -80,7 +80,7 @@ module _ {M : Type 0} (meta : MetaGhosts M) where
     record { view = k.view; control = k.control; content = record { is_observable = k.content.is_observable; notes = refl; left = λ x at. at } },
   )
 
-  -- memory was wanting
+  -- memory ran out
   pub halted_with : (before after : Seen) (old new : M) (k : Halted meta.content meta.control before after old new) → Tells old → (l' : List Note)
       → Left (meta.content new) l' → Before old (λ l. Halted (resolved meta).content (resolved meta).control before after (old, l) (new, l'))
   halted_with before after old new k is_observable l' left = (l', k.content.left l' left, record { view = view k.moved; control = k.control; once = k.once; content = record { is_observable = k.content.is_observable; notes = refl; left = λ x at. at }; moved = inr (λ t x at. told_with new l' x at) })

@@ -1,4 +1,4 @@
--- The rows of the tasks over a metadata log beside notes that a power cut may leave.
+-- The rows of the tasks over a metadata log beside metadata events that a power cut may leave.
 use Rattle.std.proofs.Common.{◌≡◌, inl, inr, ap, subst, ℕ, List, Ok, Err}
 use Rattle.std.specs.declared.result.Result.{Result}
 use Rattle.std.specs.declared.alloc.AllocError.{AllocError}
@@ -38,7 +38,7 @@ use Rattle.time_find.specs.declared.turn.SearchStep.TheVariants as dating
 use Rattle.partition_world.specs.Left.{resolved}
 use Rattle.partition_world.proofs.Resolving.{Before, Tells, appends_with, refreshed_with, unread_with, halted_with, same_with}
 
--- what the tasks change, with the metadata log beside notes
+-- what the tasks change, with the metadata log beside metadata events
 abbrev pub copy_with : {S M : Type 0} → copy.Tiers S M → List Note → copy.Tiers S (M × List Note)
 copy_with o l = record { view = o.view; store = o.store; meta = (o.meta, l) }
 
@@ -129,7 +129,7 @@ module _ {S M : Type 0} (store : StoreGhosts S) (meta : MetaGhosts M) where
   fetch_row wanted line (fetching.Log piece span) r old new w t l' left =
       (l', kept old.meta new.meta l' (ap (λ (o : fetch.Tiers S M). o.meta) w.0) left, (ap (λ (o : fetch.Tiers S M). fetch_with o l') w.0, w.1))
 
-  -- searches by timestamp
+  -- timestamp lookups
   time_seek : (asked : Asked) (line : List (ℕ × ℕ)) (cursor : ℕ) (r : Result TimeTurn AllocError) (before after : Seen) (old new : M) → time.SeekRow meta.content meta.control asked line cursor r before after old new
       → Tells meta old → (l' : List Note) → Left (meta.content new) l' → Before meta old (λ l. time.SeekRow (resolved meta).content (resolved meta).control asked line cursor r before after (old, l) (new, l'))
   time_seek asked line cursor (Ok (time_turn.Ends MetaFault)) before after old new w t l' left = unread_with meta before after old new w l' left

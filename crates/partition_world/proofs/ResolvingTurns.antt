@@ -1,5 +1,5 @@
--- A turn of a world, and notes that a power cut may leave after it, give notes that one might have left before, and the same turn of
--- the world with its metadata log beside these.
+-- A turn of a world, and metadata events that a power cut may leave after it, give metadata events that one might have
+-- left before, and the same turn of the world with its metadata log beside these.
 use Rattle.std.proofs.Common.{◌≡◌, inl, inr, ap, subst, ℕ, Bool, true, false, List, slice_get}
 use Rattle.std.specs.Prelude.{ℤ}
 use Rattle.disk_model.specs.declared.disk.Disk.{Ghosts as DiskGhosts}

@@ -1,4 +1,4 @@
--- How the tier's scene changes with a world's sides and seats.
+-- How the tier's scene changes with a world's tier states and actors' states.
 use Rattle.std.proofs.Common.{◌≡◌, ap, refl, ℕ, zero, suc, List, [], ◌∷◌, length, slice_get, slice_set, Some, None, Option}
 use Rattle.plain_log.specs.declared.command.ActorList.{ActorList}
 use Rattle.plain_log.specs.declared.command.Command.{Command}
@@ -14,12 +14,12 @@ use Rattle.partition_world.specs.declared.actor_state.InProgress.TheVariants.{Id
 use Rattle.partition_world.specs.declared.tier.BrokerTierState.{BrokerTierState}
 use Rattle.partition_world.specs.Central.{broker_tier_seen, broker_tiers_seen, work_of, desk_of}
 
--- as many sides are seen as there are
+-- as many tier states are seen as there are
 pub broker_tiers_count : (broker_tiers : List BrokerTierState) → length (broker_tiers_seen broker_tiers) ≡ length broker_tiers
 broker_tiers_count [] = refl
 broker_tiers_count (broker_tier ∷ broker_tiers) = ap suc (broker_tiers_count broker_tiers)
 
--- a broker's side of the scene
+-- a broker's tier state of the scene
 pub tier_view_at : (nodes : List seen.Node) (broker_tiers : List BrokerTierState) (b : ℕ) (y : seen.Node) (broker_tier : BrokerTierState) → slice_get nodes b ≡ Some y → slice_get broker_tiers b ≡ Some broker_tier
     → slice_get (tier_views_of nodes (broker_tiers_seen broker_tiers)) b ≡ Some (tier_view_of y (broker_tier_seen broker_tier))
 tier_view_at [] broker_tiers b y broker_tier at to = absurd cc
@@ -30,7 +30,7 @@ tier_view_at (x ∷ nodes) (z ∷ broker_tiers) zero y broker_tier at to =
     rw (one, two) refl
 tier_view_at (x ∷ nodes) (z ∷ broker_tiers) (suc b) y broker_tier at to = tier_view_at nodes broker_tiers b y broker_tier at to
 
--- with another side in its place
+-- with another tier state in its place
 pub tier_view_set : (nodes : List seen.Node) (broker_tiers : List BrokerTierState) (b : ℕ) (y : seen.Node) (broker_tier : BrokerTierState) → slice_get nodes b ≡ Some y
     → tier_views_of nodes (broker_tiers_seen (slice_set broker_tiers b broker_tier)) ≡ slice_set (tier_views_of nodes (broker_tiers_seen broker_tiers)) b (tier_view_of y (broker_tier_seen broker_tier))
 tier_view_set [] broker_tiers b y broker_tier at = absurd cc
@@ -49,7 +49,7 @@ actor_state_at (k ∷ lists) (s ∷ desk) zero l actor_state at to =
     rw (one, two) refl
 actor_state_at (k ∷ lists) (s ∷ desk) (suc place) l actor_state at to = actor_state_at lists desk place l actor_state at to
 
--- with another seat in its place
+-- with another actor's state in its place
 pub actor_state_set : (lists : List ActorList) (desk : List ActorState) (place : ℕ) (l : ActorList) (actor_state : ActorState) → slice_get lists place ≡ Some l
     → desk_of lists (slice_set desk place actor_state) ≡ slice_set (desk_of lists desk) place (work_of (slice_get l.orders actor_state.number) actor_state.work)
 actor_state_set [] desk place l actor_state at = absurd cc
@@ -58,7 +58,7 @@ actor_state_set (k ∷ lists) (s ∷ desk) zero l actor_state at = let one : k �
 actor_state_set (k ∷ lists) (s ∷ desk) (suc place) l actor_state at =
     ap (λ (ws : List InProgressIsSeen). work_of (slice_get k.orders s.number) s.work ∷ ws) (actor_state_set lists desk place l actor_state at)
 
--- an idle seat is free
+-- an idle actor's state is free
 pub idle_free : (order : Option Order) → work_of order Idle ≡ Free
 idle_free None = refl
 idle_free (Some order) = refl

@@ -55,7 +55,7 @@ module _ {D S M : Type 0} (disk : DiskGhosts D) (store : StoreGhosts S) (meta : 
       record { list = list; actor_state_is = actor_state_is; next = next; x = x; at = at; broker_tier = broker_tier; broker_tier_at = broker_tier_at; s = v.0; sees = v.1 }
 
   module _ (opening : State) (w : Whole D S M) (c : IsCentral disk store meta opening w) (place : ℕ) (l : ActorList) (actor_state : ActorState) (order : Order) (z : Place opening w c place l actor_state order) where
-    -- the broker's side of the scene
+    -- the broker's tier state of the scene
     abbrev pub tier_view : BrokerTierView
     tier_view = tier_view_of (node_of z.x z.s) (broker_tier_seen z.broker_tier)
 
@@ -87,7 +87,7 @@ module _ {D S M : Type 0} (disk : DiskGhosts D) (store : StoreGhosts S) (meta : 
     abbrev pub work_after : Outcome → InProgressIsSeen
     work_after outcome = work_of (slice_get l.orders (actor_state_after actor_state outcome).number) (actor_state_after actor_state outcome).work
 
-    -- the scene after a turn that left this side
+    -- the scene after a turn that left this tier state
     abbrev pub scene_with : InProgressIsSeen → Objects → List Note → BrokerTierState → Scene
     scene_with work objects notes broker_tier = record {
       partition = c.scene.partition;
@@ -140,7 +140,7 @@ module _ {D S M : Type 0} (disk : DiskGhosts D) (store : StoreGhosts S) (meta : 
           ∙ (c.shows_tier.desk ∙ (ap (λ (k : List ActorList). desk_of k w.desk) (sym lists) ∙ ap (λ (k : List ActorState). desk_of w'.lists k) (sym desk)));
     }
 
-    -- a side that is set to what it was
+    -- a tier state that is set to what it was
     pub same_broker_tiers : w.tier.broker_tiers ≡ slice_set w.tier.broker_tiers order.broker.0 (record z.broker_tier { view = z.broker_tier.view })
     same_broker_tiers = sym (set_same w.tier.broker_tiers order.broker.0 z.broker_tier z.broker_tier_at)
 
@@ -165,7 +165,7 @@ module _ {D S M : Type 0} (disk : DiskGhosts D) (store : StoreGhosts S) (meta : 
     pub answered_free : (outcome : Outcome) (answer : Answer) → outcome ≡ Answers answer → work_after outcome ≡ Free
     answered_free outcome answer is = rw is (idle_free (slice_get l.orders (actor_state.number + 1)))
 
-  -- as many notes as a view can count
+  -- as many metadata events as a view can count
   pub few_now : (opening : State) (w : Whole D S M) → (c : IsCentral disk store meta opening w) → length c.scene.notes < 2 ^ 64
   few_now opening w c = let few = c.few in omega (arith, few)
 

@@ -51,7 +51,7 @@ use Rattle.partition_world.specs.Whole.{Whole}
 use Rattle.partition_world.proofs.Scenes.{Place}
 use Rattle.partition_world.proofs.TurnCentral.{rests, stands, held_same, begins}
 
--- a broker's side as it is seen
+-- a broker's tier state as it is seen
 pub seen_broker_tier : (broker_tiers : List BrokerTierState) (b : ℕ) (broker_tier : BrokerTierState) → slice_get broker_tiers b ≡ Some broker_tier → slice_get (broker_tiers_seen broker_tiers) b ≡ Some (broker_tier_seen broker_tier)
 seen_broker_tier [] b broker_tier at = absurd cc
 seen_broker_tier (z ∷ broker_tiers) zero broker_tier at = let one : z ≡ broker_tier = cc in rw one refl
@@ -67,7 +67,7 @@ span_of : (closed : List Grown) (start : ℕ) (answer : ℕ × ℕ) → SpansFir
 span_of [] start answer spans = absurd spans
 span_of (first ∷ rest) start answer spans = spans.1
 
--- the node is as it was, or its local log starts behind the first closed segment
+-- the node is as it was, or its local log starts after the first closed segment
 pub record StartGoes (closed : List Grown) (b : ℕ) (y : seen.Node) (c : seen.SeenPartition) : Type 0 where
   pub each : (z : seen.Node) → slice_get c.nodes b ≡ Some z → (z ≡ y) ⊎ ((start_of z ≡ start_behind y.local closed) × (y.local ≤ start_of z))
 

@@ -1,6 +1,7 @@
 -- A turn that changes nothing that is seen of the partition keeps the central fact, where it makes changes of the tier.
 --
--- It is entered, or it isn't; and it leaves the tier as it was, or the command leaves the desk, or a broker's view takes in notes.
+-- It is entered, or it isn't; and it leaves the tier as it was, or the command leaves the desk, or a broker's view
+-- takes metadata events.
 use Rattle.std.proofs.Common.{◌≡◌, ◌∙◌, sym, ap, subst, refl, ℕ, ◌++◌, List, [], slice_get, slice_set, Some, None, Option, false, append-nil}
 use Rattle.disk_model.specs.declared.disk.Disk.{Ghosts as DiskGhosts}
 use Rattle.object_store.specs.declared.store.Store.{Ghosts as StoreGhosts}
@@ -54,7 +55,7 @@ module _ {D S M : Type 0} (disk : DiskGhosts D) (store : StoreGhosts S) (meta : 
     abbrev pub y : seen.Node
     y = node_of z.x z.s
 
-    -- its side of the scene
+    -- its tier state of the scene
     abbrev pub here : BrokerTierView
     here = tier_view disk store meta opening w c t.place t.list t.actor_state t.order z
 
@@ -150,7 +151,7 @@ module _ {D S M : Type 0} (disk : DiskGhosts D) (store : StoreGhosts S) (meta : 
         (turn_dated disk store meta w a outcome w' t c.central.plain c.dated far)
         (few_after disk store meta opening w a outcome w' t c c.partition d shows)
 
-    -- of a command that isn't a search by timestamp
+    -- of a command that isn't a timestamp lookup
     pub silent : GoesAsRecorded t.actor_state.work outcome → IsNoDate outcome → desk_seen w'.desk ≡ desk_seen w.desk → w'.journal.items ≡ w.journal.items → ShowsPartition disk.content w'.held c.partition → (d : Scene)
         → IsChanged c.scene c.central.plain d → ShowsTier store meta w' c.partition d → IsCentral disk store meta opening w'
     silent goes none desk items held d changed shows =

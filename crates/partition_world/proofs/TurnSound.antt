@@ -119,7 +119,7 @@ module _ {D S M : Type 0} (disk : DiskGhosts D) (store : StoreGhosts S) (meta : 
   trim_sound n h b x broker_tier g keep (Answers answer) h' at s w = later_sound disk.content disk.control n h b x Trim g (turned.Answers answer) h' at s w.0
   trim_sound n h b x broker_tier g keep other h' at s w = elim w [ ]
 
-  -- an expiry raises the log start as the command does
+  -- an expiry raises the log start offset as the command does
   raise_sound : (n : ℕ) (h : PartitionState D) (b : ℕ) (x : Node D) (start : ℕ) (answer : Answer) (h' : PartitionState D) → slice_get h.nodes b ≡ Some x → is_up x ≡ true → SoundPartition n h → RaiseRow h x.role start answer h'
       → SoundPartition n h'
   raise_sound n h b x start (StaleEpoch e) h' at up s w = first_sound disk.content disk.control n h b x (Raise start) (turned.Answers (StaleEpoch e)) h' at s (up, w)
@@ -138,7 +138,7 @@ module _ {D S M : Type 0} (disk : DiskGhosts D) (store : StoreGhosts S) (meta : 
   expire_sound n p h b x broker_tier g keep outcome h' at s (inl lost) = same n h h' lost.2 s
   expire_sound n p h b x broker_tier g keep outcome h' at s (inr k) = expires_sound n p h b x broker_tier keep outcome h' at k.0.up s k.1
 
-  -- a search by timestamp reads its broker's log at most
+  -- a timestamp lookup reads its broker's log at most
   search_sound : (n : ℕ) (h : PartitionState D) (t : RemoteTier S M) (b : ℕ) (x : Node D) (broker_tier : BrokerTierState) (asked : Asked) (cursor : ℕ) (next : Dating)
       (own : Bool) (turn : TimeTurn) (h' : PartitionState D) (t' : RemoteTier S M) → slice_get h.nodes b ≡ Some x → SoundPartition n h
       → SearchRow disk store meta h t b x broker_tier asked cursor next own turn h' t' → SoundPartition n h'
@@ -234,12 +234,12 @@ module _ {D S M : Type 0} (disk : DiskGhosts D) (store : StoreGhosts S) (meta : 
   turn_sound n p config h t b work command outcome h' t' s w =
       let r = row_of disk store meta p config h t b work command outcome h' t' w in row_sound n p config h t b r.x r.broker_tier work command outcome h' t' r.at s r.row
 
-  -- and want of memory
+  -- and running out of memory
   pub stays_sound : (n : ℕ) (h : PartitionState D) (t : RemoteTier S M) (b : ℕ) (h' : PartitionState D) (t' : RemoteTier S M) → SoundPartition n h → StaysSome disk store meta h t b h' t' → SoundPartition n h'
   stays_sound n h t b h' t' s (inl k) = stays_held_sound disk.content disk.control n h h' s k.0
   stays_sound n h t b h' t' s (inr k) = same n h h' k.0 s
 
-  -- and each leaves as many sides
+  -- and each leaves as many tier states
   broker_tiers_put : (t : RemoteTier S M) (b : ℕ) (broker_tier : BrokerTierState) (t' : RemoteTier S M) → t'.broker_tiers ≡ slice_set t.broker_tiers b broker_tier → length t'.broker_tiers ≡ length t.broker_tiers
   broker_tiers_put t b broker_tier t' is = ap (λ (k : List BrokerTierState). length k) is ∙ length-slice_set t.broker_tiers b broker_tier
 

@@ -1,4 +1,5 @@
--- What a turn leaves of the store and of the metadata log, and what it says of devices where its outcome tells of a fault.
+-- What a turn leaves of the store and of the metadata log, and what it says of devices where its outcome says of a
+-- fault.
 use Rattle.std.proofs.Common.{◌≡◌, sym, subst}
 use Rattle.tier_base.specs.Counts.{Rose}
 use Rattle.tier_base.specs.Device.{Fate, Ran, Lasts}

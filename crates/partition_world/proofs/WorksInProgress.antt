@@ -44,7 +44,7 @@ use Rattle.partition_world.proofs.Begins.{row_of, begins_idle}
 pub idle_for : (command : Command) → IsProgressOf command Idle
 idle_for command = tt
 
--- a command that goes on takes memory
+-- a command that continues takes memory
 recorded_takes : (command : Command) (g : StartSnapshot) → IsProgressOf command (Noted g) → IsTrue (takes_memory command)
 recorded_takes Join g k = refl
 recorded_takes (Follow limit) g k = refl
@@ -75,7 +75,7 @@ works_take command (Dates g cursor next) busy k = dates_take command g cursor ne
 works_take command (Expires g segment next) busy k = ap takes_memory k
 works_take command (Rebuilds g next) busy k = ap takes_memory k
 
--- a copy, an expiry and a join go on with what is for them as before
+-- a copy, an expiry and a join continue with what is for them as before
 moved_for : (command : Command) (work : InProgress) (next : CopyStep) → IsProgressOf command work → IsProgressOf command (moved work next)
 moved_for command Idle next k = k
 moved_for command (Noted g) next k = k
@@ -94,7 +94,7 @@ deleting_for command (Dates g cursor before) next k = k
 deleting_for command (Expires g segment before) next k = k
 deleting_for command (Rebuilds g before) next k = k
 
--- a search that goes on has such a turn next as its cursor needs
+-- a search that continues has such a turn next as its cursor needs
 set_of : (cursor at : ℕ) (next : Dating) → GoesOn cursor (dating.Goes at next) → IsSet at next
 set_of cursor at Seek goes = tt
 set_of cursor at next goes = goes.1
@@ -174,7 +174,7 @@ module _ {D S M : Type 0} (disk : DiskGhosts D) (store : StoreGhosts S) (meta : 
   expired_segment_for p config h t b x broker_tier (Expires g before next) command segment h' t' w k = k
   expired_segment_for p config h t b x broker_tier (Rebuilds g next) command segment h' t' w k = k
 
-  -- a join alone begins its log anew
+  -- a join alone restarts its log
   rebuilding_by : (p : PartitionId) (config : Config) (h : PartitionState D) (t : RemoteTier S M) (b : ℕ) (x : Node D) (broker_tier : BrokerTierState) (g : StartSnapshot) (command : Command) (next : Rebuild) (h' : PartitionState D) (t' : RemoteTier S M)
       → ContinuedRow disk store meta p config h t b x broker_tier g command (Rebuilding next) h' t' → command ≡ Join
   rebuilding_by p config h t b x broker_tier g Join next h' t' w = refl
@@ -199,7 +199,7 @@ module _ {D S M : Type 0} (disk : DiskGhosts D) (store : StoreGhosts S) (meta : 
   rebuilding_for p config h t b x broker_tier (Expires g segment before) command next h' t' w k = k
   rebuilding_for p config h t b x broker_tier (Rebuilds g before) command next h' t' w k = k
 
-  -- a fetch alone goes on in the remote tier, with what is for its offset
+  -- a fetch alone continues in the remote tier, with what is for its offset
   sought_by : (p : PartitionId) (config : Config) (h : PartitionState D) (t : RemoteTier S M) (b : ℕ) (x : Node D) (broker_tier : BrokerTierState) (g : StartSnapshot) (command : Command) (next : Search) (h' : PartitionState D) (t' : RemoteTier S M)
       → ContinuedRow disk store meta p config h t b x broker_tier g command (Sought next) h' t' → SeeksBy command next
   sought_by p config h t b x broker_tier g (Fetch offset limit) next h' t' w = w.0.2
@@ -231,7 +231,7 @@ module _ {D S M : Type 0} (disk : DiskGhosts D) (store : StoreGhosts S) (meta : 
   sought_for p config h t b x broker_tier (Expires g segment before) command next h' t' w k = k
   sought_for p config h t b x broker_tier (Rebuilds g before) command next h' t' w k = k
 
-  -- a search by timestamp alone goes on with what its cursor needs
+  -- a timestamp lookup alone continues with what its cursor needs
   dated_by : (p : PartitionId) (config : Config) (h : PartitionState D) (t : RemoteTier S M) (b : ℕ) (x : Node D) (broker_tier : BrokerTierState) (g : StartSnapshot)
       (command : Command) (cursor : ℕ) (next : Dating) (h' : PartitionState D) (t' : RemoteTier S M)
       → ContinuedRow disk store meta p config h t b x broker_tier g command (Dated cursor next) h' t' → DatesBy command cursor next

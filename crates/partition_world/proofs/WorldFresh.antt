@@ -28,7 +28,7 @@ fresh_actor_states lists n desk many is = ap (λ (k : List ActorState). length k
 pub fresh_left : (lists : List ActorList) (n : ℕ) (desk : List ActorState) → desk ≡ replicate n fresh_actor_state → turns_left lists (desk_seen desk) ≡ turns_left lists []
 fresh_left lists n desk is = ap (λ (k : List ActorState). turns_left lists (desk_seen k)) is ∙ (ap (λ k. turns_left lists k) (all_fresh n) ∙ turns_all lists n)
 
--- what stands in a list of one thing alone is that
+-- what is in a list of one thing alone is that
 replicated : {A : Type 0} (n : ℕ) (x : A) (i : ℕ) (y : A) → slice_get (replicate n x) i ≡ Some y → x ≡ y
 replicated zero x i y e = absurd cc
 replicated (suc n) x zero y e = cc
@@ -39,7 +39,7 @@ fresh_works lists n desk is = λ i l actor_state order at to next.
     let same : fresh_actor_state ≡ actor_state = replicated n fresh_actor_state i actor_state (ap (λ (k : List ActorState). slice_get k i) (sym is) ∙ to) in
     subst (λ (s : ActorState). IsProgressOf order.command s.work) same (idle_for order.command)
 
--- no seat waits, and no broker has tried a copy
+-- no actor's state waits, and no broker has tried a copy
 none_wait : (n : ℕ) → waiting (replicate n fresh_actor_state) ≡ 0
 none_wait zero = refl
 none_wait (suc n) = let h = none_wait n in omega (arith, h)

@@ -110,7 +110,7 @@ rebuilding_seen (Expires g segment before) next = refl
 rebuilding_seen (Rebuilds g before) next = refl
 
 module _ {D S M : Type 0} (disk : DiskGhosts D) (store : StoreGhosts S) (meta : MetaGhosts M) where
-  -- what holds of all holds of the one that stands at a place
+  -- what holds of all holds of the one that is at a place
   all_at : {A : Type 0} (P : A → Type 0) (xs : List A) (i : ℕ) (x : A) → All P xs → slice_get xs i ≡ Some x → P x
   all_at P xs i x h at = subst P (get_or_from_slice_get xs i x x at) (h i x (slice_get_within xs i x at))
 
@@ -168,7 +168,7 @@ module _ {D S M : Type 0} (disk : DiskGhosts D) (store : StoreGhosts S) (meta : 
       let same = seen_stays desk place actor_state (actor_state_after actor_state (Rebuilding next)) to (ap (λ (o : Option StartSnapshot). record { number = actor_state.number; snapshot = o }) (rebuilding_seen actor_state.work next)) in
       omega (arith, ap (λ k. turns_left lists k) same)
 
-  -- what the seats keep after a turn
+  -- what the actors' states keep after a turn
   works_after : (lists : List ActorList) (p : PartitionId) (config : Config) (h : PartitionState D) (t : RemoteTier S M) (h' : PartitionState D) (t' : RemoteTier S M) (desk : List ActorState) (place : ℕ) (l : ActorList) (actor_state : ActorState) (order : Order) (outcome : Outcome)
       → AreInProgress lists desk → slice_get lists place ≡ Some l → slice_get desk place ≡ Some actor_state → slice_get l.orders actor_state.number ≡ Some order
       → TurnRow disk store meta p config h t order.broker.0 actor_state.work order.command outcome h' t' → AreInProgress lists (slice_set desk place (actor_state_after actor_state outcome))

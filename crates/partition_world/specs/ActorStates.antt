@@ -57,13 +57,13 @@ abbrev pub moved : InProgress → CopyStep → InProgress
 moved (Copies g copy before) next = Copies g copy next
 moved other next = other
 
--- a fetch goes on in the remote tier with this
+-- a fetch continues in the remote tier with this
 abbrev pub sought : InProgress → Search → InProgress
 sought (Noted g) next = work.Seeks g next
 sought (work.Seeks g before) next = work.Seeks g next
 sought other next = other
 
--- a search by timestamp goes on at this cursor with this
+-- a timestamp lookup continues at this cursor with this
 abbrev pub dated : InProgress → ℕ → Dating → InProgress
 dated (Noted g) cursor next = work.Dates g cursor next
 dated (work.Dates g before was) cursor next = work.Dates g cursor next
@@ -79,14 +79,14 @@ abbrev pub deleting : InProgress → Deletion → InProgress
 deleting (Expires g segment before) next = Expires g segment next
 deleting other next = other
 
--- a join goes on with this to begin its log anew
+-- a join continues with this to restart its log
 abbrev pub rebuilding : InProgress → Rebuild → InProgress
 rebuilding (Noted g) next = work.Rebuilds g next
 rebuilding (work.Rebuilds g before) next = work.Rebuilds g next
 rebuilding other next = other
 
--- the actor's state as it is seen: what was recorded is seen, and not the segment of a copy or an expiry, nor what a fetch, a search by
--- timestamp or a rebuild has found
+-- the actor's state as it is seen: what was recorded is seen, and not the segment of a copy or an expiry, nor what a
+-- fetch, a timestamp lookup or a rebuild has found
 abbrev pub actor_state_seen : ActorState → seen_actor_state.ActorProgress
 actor_state_seen actor_state = record { number = actor_state.number; snapshot = recorded_in actor_state.work }
 
@@ -109,7 +109,7 @@ abbrev pub fetch_outcome : FetchTurn → Outcome
 fetch_outcome (fetch.Goes next) = Seeks next
 fetch_outcome (fetch.Ends answer) = Answers answer
 
--- what a turn of a search by timestamp came to
+-- what a turn of a timestamp lookup came to
 abbrev pub date_outcome : TimeTurn → Outcome
 date_outcome (dating.Goes cursor next) = Dates cursor next
 date_outcome (dating.Ends answer) = Answers answer
@@ -124,7 +124,7 @@ abbrev pub rebuild_outcome : RebuildTurn → Outcome
 rebuild_outcome (rebuild.Goes next) = Rebuilds next
 rebuild_outcome (rebuild.Ends answer) = Answers answer
 
--- the actor's state after a turn: at the next order after an answer, else with what the order goes on with
+-- the actor's state after a turn: at the next order after an answer, else with what the order continues with
 abbrev pub actor_state_after : ActorState → Outcome → ActorState
 actor_state_after actor_state (Answers answer) = record { number = actor_state.number + 1; work = Idle }
 actor_state_after actor_state (Begins g) = record actor_state { work = Noted g }
@@ -155,7 +155,7 @@ abbrev pub stepped_of : Outcome → Stepped
 stepped_of (Answers answer) = Done
 stepped_of other = Ran
 
--- the command goes on
+-- the command continues
 abbrev pub IsUnanswered : Outcome → Type 0
 IsUnanswered (Answers answer) = ⊥
 IsUnanswered other = Unit {0}

@@ -1,4 +1,4 @@
--- A fault of a device that a turn meets is what its command is answered; a turn that finds no memory meets none.
+-- A fault of a device that a turn meets is what its command returns; a turn that finds no memory meets none.
 use Rattle.std.specs.Prelude.{◌≡◌, ℕ, Bool, false}
 use Rattle.disk_model.specs.declared.disk.Disk.{Ghosts as DiskGhosts}
 use Rattle.object_store.specs.declared.store.Store.{Ghosts as StoreGhosts}
@@ -18,8 +18,8 @@ is_answered is (Answers answer) = is answer
 is_answered is other = false
 
 module _ {D S M : Type 0} (disk : DiskGhosts D) (store : StoreGhosts S) (meta : MetaGhosts M) where
-  -- a turn of the order that is answered a fault has raised the count of that device by one, and no other count has risen: a disk's
-  -- that the command works on, the store's, or the metadata log's
+  -- a turn of the order that returns a fault has raised the count of that device by one, and no other count has risen:
+  -- a disk's that the command works on, the store's, or the metadata log's
   pub record AnswersFaults (order : Order) (outcome : Outcome) (w w' : Whole D S M) : Type 0 where
     pub disks : DisksCount disk.control order.command order.broker.0 (is_answered is_of_disk outcome) w.held.nodes w'.held.nodes
     pub store_counts : (store.control w'.tier.store).faults

@@ -1,8 +1,8 @@
 -- The central fact, which holds between any two turns where the devices are observable.
 --
--- The world, as its partition is seen, is the plain log after the world's own journal; the remote tier, as it is seen beside that
--- state of the plain log, keeps its safety rules; the lines that joins have read in the tier are those that they noted; and searches by
--- timestamp have gone through their brokers' logs as far as they have come.
+-- The world, as its partition is seen, is the plain log after the world's own journal; the remote tier, as it is seen
+-- beside that state of the plain log, keeps its safety rules; the leader epochs that joins have read in the tier are
+-- those that they recorded; and timestamp lookups have gone through their brokers' logs as far as they have come.
 use Rattle.std.specs.Prelude.{◌≡◌, ℕ, ◌+◌, ◌-◌, ◌*◌, ◌^◌, ◌<◌, length, true, List, [], ◌∷◌, Option, Some, None, unwrap_or, slice_get, IsTrue}
 use Rattle.disk_model.specs.declared.disk.Disk.{Ghosts as DiskGhosts}
 use Rattle.object_store.specs.declared.store.Store.{Ghosts as StoreGhosts}
@@ -39,7 +39,7 @@ use Rattle.partition_world.specs.declared.actor_state.InProgress.TheVariants.{Id
 use Rattle.partition_world.specs.declared.tier.BrokerTierState.{BrokerTierState}
 use Rattle.partition_world.specs.Whole.{Whole, seen_as}
 
--- a broker's side as it is seen
+-- a broker's tier state as it is seen
 abbrev pub broker_tier_seen : BrokerTierState → BrokerTierIsSeen
 broker_tier_seen broker_tier = record {
   view = broker_tier.view;
@@ -52,17 +52,17 @@ abbrev pub broker_tiers_seen : List BrokerTierState → List BrokerTierIsSeen
 broker_tiers_seen [] = []
 broker_tiers_seen (broker_tier ∷ broker_tiers) = broker_tier_seen broker_tier ∷ broker_tiers_seen broker_tiers
 
--- what the tier sees of a fetch of broker b that has begun with this, and goes on so
+-- what the tier sees of a fetch of broker b that has begun with this, and continues so
 abbrev pub seeks_of : ℕ → StartSnapshot → Search → Command → InProgressIsSeen
 seeks_of b g next (Fetch offset limit) = SeeksSeen (sought_of b g.stops (unwrap_or (leading g.role) 0) offset next)
 seeks_of b g next command = Free
 
--- what it sees of a search by timestamp that has begun with this, and goes on so
+-- what it sees of a timestamp lookup that has begun with this, and continues so
 abbrev pub dates_of : ℕ → StartSnapshot → ℕ → Dating → Command → InProgressIsSeen
 dates_of b g cursor next (Offset (At ts)) = search_of b g.stops (unwrap_or (leading g.role) 0) cursor next
 dates_of b g cursor next command = Free
 
--- what it sees of a join whose broker has refreshed its view to begin its log anew
+-- what it sees of a join whose broker has refreshed its view to restart its log
 abbrev pub rebuilds_of : ℕ → StartSnapshot → Command → InProgressIsSeen
 rebuilds_of b g Join = RebuildsSeen (record (rebuild_of b g) { refreshed = true })
 rebuilds_of b g command = Free
@@ -90,7 +90,7 @@ desk_of (l ∷ lists) [] = []
 desk_of (l ∷ lists) (actor_state ∷ desk) =
     work_of (slice_get l.orders actor_state.number) actor_state.work ∷ desk_of lists desk
 
--- how many notes a command has appended at most, of the two that it may
+-- how many metadata events a command has appended at most, of the two that it may
 abbrev pub told_by : InProgress → ℕ
 told_by (Copies g copy Start) = 0
 told_by (Copies g copy (Put n)) = 1
@@ -100,15 +100,15 @@ told_by (Expires g segment deletion.Start) = 0
 told_by (Expires g segment next) = 1
 told_by other = 0
 
--- how many notes may be appended yet
+-- how many metadata events may be appended yet
 abbrev pub notes_left : List ActorList → List ActorState → ℕ
 notes_left [] desk = 0
 notes_left (l ∷ lists) [] = 0
 notes_left (l ∷ lists) (actor_state ∷ desk) =
     2 * (length l.orders - actor_state.number) - told_by actor_state.work + notes_left lists desk
 
--- a join that is to read a line in the tier began while the log start was below the wanted offset, and the line that it has read
--- is the leader's, as it noted it
+-- a join that is to read a line in the tier began while the log start offset was below the wanted offset, and the
+-- leader epochs that it has read is the leader's, as it recorded it
 abbrev pub IsRecorded : InProgress → Type 0
 IsRecorded (Rebuilds g Epochs) = g.start < g.wanted
 IsRecorded (Rebuilds g (Restart line)) = line ≡ g.line
@@ -119,8 +119,8 @@ abbrev pub AreRecorded : List ActorState → Type 0
 AreRecorded desk =
     (place : ℕ) (actor_state : ActorState) → slice_get desk place ≡ Some actor_state → IsRecorded actor_state.work
 
--- a search by timestamp that has begun with this has gone through its broker's log up to its cursor, and up to where it reads, as long
--- as the broker hasn't stopped and leads as it did
+-- a timestamp lookup that has begun with this has gone through its broker's log up to its cursor, and up to where it
+-- reads, as long as the broker hasn't stopped and leads as it did
 abbrev pub HasGone : State → ℕ → StartSnapshot → Command → ℕ → Dating → Type 0
 HasGone p b g (Offset (At ts)) cursor next =
     (x : Broker) → slice_get p.brokers b ≡ Some x → g.stops ≡ x.stops → g.role ≡ x.role → IsDatedTo ts p.registry.start x.log cursor next
@@ -158,9 +158,9 @@ module _ {D S M : Type 0} (disk : DiskGhosts D) (store : StoreGhosts S) (meta : 
     pub tier : TierSafe scene central.plain
     pub recorded : AreRecorded w.desk
     pub dated : AreDated central.plain w.lists w.desk
-    -- a view can count all notes that there will be
+    -- a view can count all metadata events that there will be
     pub few : length scene.notes + notes_left w.lists w.desk < 2 ^ 64
 
-  -- for each opening state the central fact goes on
+  -- for each opening state the central fact continues
   abbrev pub KeepsCentral : Whole D S M → Whole D S M → Type 0
   KeepsCentral w w' = (opening : State) → IsCentral opening w → IsCentral opening w'

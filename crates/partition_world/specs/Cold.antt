@@ -1,9 +1,9 @@
--- A world that begins anew over devices that were used before, and what those devices stand for.
+-- A world that is reopened over devices that were used before, and what those devices represent.
 --
 --   form                      says
 --   IsReopened .. w           it was made over these devices, which were armed and asked nothing else
---   StandCold p .. l          the devices, with these notes, are those of a partition in the plain state p, all brokers down
---   ReopensCentral            such a world has the central fact for each plain state that its devices stand for
+--   StandCold p .. l          the devices, with these metadata events, are those of a partition in the plain state p, all brokers down
+--   ReopensCentral            such a world has the central fact for each plain state that its devices represent
 use Rattle.std.specs.Prelude.{◌≡◌, ◌^◌, ◌<◌, List, [], length, map, replicate, IsTrue}
 use Rattle.tier_base.specs.declared.names.PartitionId.{PartitionId}
 use Rattle.disk_model.specs.declared.disk.Disk.{Ghosts as DiskGhosts}
@@ -30,7 +30,7 @@ use Rattle.partition_world.specs.Left.{IsCentralLeft}
 use Rattle.partition_world.specs.Tier.{IsArmedTier}
 use Rattle.partition_world.specs.Whole.{Whole}
 
--- the tier of a partition that begins anew: no broker knows anything of it, and nothing is on the desk
+-- the tier of a partition that starts again: no broker knows anything of it, and nothing is on the desk
 abbrev pub scene_back : PartitionId → Objects → List Note → List Seen → Scene
 scene_back partition objects notes logs = record {
   partition = partition;
@@ -54,8 +54,8 @@ module _ {D S M : Type 0} (disk : DiskGhosts D) (store : StoreGhosts S) (meta : 
     pub desk : w.desk ≡ replicate (length lists) fresh_actor_state
     pub journal : w.journal.items ≡ []
 
-  -- The devices and the registry are those of a partition in this plain state, whose brokers are all down and where no command has
-  -- begun, and of a remote tier with these notes.
+  -- The devices and the registry are those of a partition in this plain state, whose brokers are all down and where no
+  -- command has begun, and of a remote tier with these metadata events.
   pub record StandCold (partition : PartitionId) (registry : Registry) (disks : List D) (s : S) (m : M) (p : State) (l : List Note)
       : Type 0 where
     -- how the brokers' logs are seen
@@ -70,12 +70,12 @@ module _ {D S M : Type 0} (disk : DiskGhosts D) (store : StoreGhosts S) (meta : 
     pub meta_tells : IsTrue (meta.content m).is_observable
     pub tier : TierSafe (scene_back partition (store.content s).objects l logs) p
 
-  -- they do with whatever notes a power cut now may leave, and a view could count as many more
+  -- they do with whatever metadata events a power cut now may leave, and a view could count as many more
   pub record AreCold (partition : PartitionId) (registry : Registry) (disks : List D) (s : S) (m : M) (p : State) : Type 0 where
     pub stand : (l : List Note) → Left (meta.content m) l → StandCold partition registry disks s m p l
     pub few : (l : List Note) → Left (meta.content m) l → length l < 2 ^ 63
 
-  -- a world that begins anew has the central fact for each plain state that its devices stand for
+  -- a world that is reopened has the central fact for each plain state that its devices represent
   abbrev pub ReopensCentral : Type 0
   ReopensCentral = (partition : PartitionId) (config : Config) (lists : List ActorList) (registry : Registry) (disks : List D) (s : S)
       (m : M) (w : Whole D S M) (p : State) → AreListsFor config lists

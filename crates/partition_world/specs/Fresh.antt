@@ -31,7 +31,7 @@ pub record AreFreshBooks (lists : List ActorList) (journal : Rolled JournalEntry
   pub room : entries_left lists [] ≤ journal.room
   pub desk_is : desk ≡ replicate (length lists) fresh_actor_state
 
--- a broker that has seen no notes, and has chosen nothing to copy
+-- a broker that has seen no metadata events, and has chosen nothing to copy
 abbrev pub fresh_broker_tier : BrokerTierState
 fresh_broker_tier = record {
   view = record { entries = []; notes = 0 };
@@ -40,11 +40,11 @@ fresh_broker_tier = record {
   cache = record { size = 64; pairs = [] };
 }
 
--- no object stands in the store
+-- no object is in the store
 abbrev pub IsEmptyStore : store.Content → Type 0
 IsEmptyStore content = IsTrue content.is_observable → (key : ObjectKey) → content.objects key ≡ None
 
--- no note stands in the metadata log
+-- no metadata event is in the metadata log
 abbrev pub IsEmptyLog : meta.Content → Type 0
 IsEmptyLog content = IsTrue content.is_observable → content.notes ≡ []
 

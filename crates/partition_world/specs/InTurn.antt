@@ -1,4 +1,4 @@
--- In which order a journal tells of each actor's commands.
+-- In which order a journal reports each actor's commands.
 use Rattle.std.specs.Prelude.{◌≡◌, ℕ, ◌+◌, ◌<◌, ◌==◌, if◌then◌else◌, Bool, true, false, List, [], ◌∷◌, length, Option, Some, None, IsSomeAnd}
 use Rattle.plain_log.specs.declared.command.ActorList.{ActorList}
 use Rattle.plain_log.specs.declared.journal.Event.{Event}
@@ -24,7 +24,7 @@ AreInTurn count n snapshot [] = Unit {0}
 AreInTurn count n snapshot (entry ∷ entries) = (entry.number ≡ n) × (n < count)
     × IsSomeAnd (next_after entry.event n snapshot) (λ next. AreInTurn count next.0 next.1 entries)
 
--- of each actor the journal tells the commands of its list in their order: each is answered once, and begins at most once,
--- with no other entry of that actor between the two
+-- of each actor the journal reports the commands of its list in their order: each is answered once, and begins at most
+-- once, with no other entry of that actor between the two
 abbrev pub IsInTurn : List ActorList → List JournalEntry → Type 0
 IsInTurn lists journal = (a : ℕ) → AreInTurn (length (orders_of lists a)) 0 false (entries_of a journal)

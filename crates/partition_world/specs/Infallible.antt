@@ -1,4 +1,4 @@
--- Devices that fail no call, and turns that tell of no fault.
+-- Devices that fail no call, and turns that report no fault.
 use Rattle.std.specs.Prelude.{◌≡◌, ◌^◌, ◌-◌, ◌<◌, ℕ, [], IsTrue}
 use Rattle.tier_base.specs.Device.{Control}
 use Rattle.disk_model.specs.declared.disk.Disk.{Ghosts as DiskGhosts}

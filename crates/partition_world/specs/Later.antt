@@ -9,7 +9,7 @@ use Rattle.partition_world.specs.Central.{KeepsCentral}
 use Rattle.partition_world.specs.Left.{KeepsCentralLeft}
 
 module _ {D S M : Type 0} (disk : DiskGhosts D) (store : StoreGhosts S) (meta : MetaGhosts M) where
-  -- the same partition, configuration and lists; the central fact goes on, and who was at the end is
+  -- the same partition, configuration and lists; the central fact continues, and who was at the end is
   pub record IsLater (w w' : Whole D S M) : Type 0 where
     pub partition : w'.partition ≡ w.partition
     pub config : w'.config ≡ w.config

@@ -48,7 +48,7 @@ module _ {D S M : Type 0} (disk : DiskGhosts D) (store : StoreGhosts S) (meta : 
   StepsKeepCentral = (w : Whole D S M) (a : ℕ) (stepped : Stepped) (w' : Whole D S M) → Steps disk store meta w a stepped w'
       → KeepsCentral disk store meta w w'
 
-  -- it holds of a fresh world whose logs, objects and notes are seen
+  -- it holds of a fresh world whose logs, objects and metadata events are seen
   abbrev pub FreshIsCentral : Type 0
   FreshIsCentral = (partition : PartitionId) (config : Config) (lists : List ActorList) (disks : List D) (s : S) (m : M)
       (w : Whole D S M) → IsConfig config → AreListsFor config lists
@@ -65,12 +65,12 @@ module _ {D S M : Type 0} (disk : DiskGhosts D) (store : StoreGhosts S) (meta : 
   ReachesLasting = (lists : List ActorList) (w : Whole D S M) (schedule : List Pace) (w' : Whole D S M) → IsNew lists w
       → Reaches disk store meta w schedule w' → HaveLasted disk store meta w w'
 
-  -- over devices of which no call can fail no turn of a schedule is answered a fault
+  -- over devices of which no call can fail no turn of a schedule returns a fault
   abbrev pub ReachesUnfailing : Type 0
   ReachesUnfailing = (w : Whole D S M) (schedule : List Pace) (w' : Whole D S M) → Reaches disk store meta w schedule w'
       → IsUnfailing disk store meta w → IsUnfailing disk store meta w'
 
-  -- whatever a schedule reaches from a new world, over any devices: its journal tells each actor's commands in turn
+  -- whatever a schedule reaches from a new world, over any devices: its journal reports each actor's commands in turn
   abbrev pub ReachesInTurn : Type 0
   ReachesInTurn = (config : Config) (lists : List ActorList) (w : Whole D S M) (schedule : List Pace) (w' : Whole D S M)
       → AreListsFor config lists → IsNew lists w → Reaches disk store meta w schedule w' → IsInTurn w'.lists w'.journal.items
@@ -81,8 +81,8 @@ module _ {D S M : Type 0} (disk : DiskGhosts D) (store : StoreGhosts S) (meta : 
       → AreListsFor config lists → IsNew lists w → Reaches disk store meta w schedule w' → ((a : ℕ) → IsAtEnd w' a)
       → IsComplete w'.lists w'.journal.items
 
-  -- in a world that a schedule reaches from one that begins anew, the journal is a run of the plain log from each plain state that
-  -- the devices stood for
+  -- in a world that a schedule reaches from one that is reopened, the journal is a run of the plain log from each plain
+  -- state that the devices represented
   abbrev pub ReopenedRuns : Type 0
   ReopenedRuns = (partition : PartitionId) (config : Config) (lists : List ActorList) (registry : Registry) (disks : List D) (s : S)
       (m : M) (w : Whole D S M) (schedule : List Pace) (w' : Whole D S M) (p : State) → AreListsFor config lists
@@ -90,13 +90,13 @@ module _ {D S M : Type 0} (disk : DiskGhosts D) (store : StoreGhosts S) (meta : 
       → AreCold disk store meta partition registry disks s m p → Reaches disk store meta w schedule w'
       → IsRunFrom p lists w'.journal.items
 
-  -- a world that begins anew stands on devices of which no call can fail, where none is planned to
+  -- a world that is reopened is on devices of which no call can fail, where none is planned to
   abbrev pub ReopenedIsUnfailing : Type 0
   ReopenedIsUnfailing = (partition : PartitionId) (config : Config) (lists : List ActorList) (registry : Registry) (disks : List D)
       (s : S) (m : M) (w : Whole D S M) → IsReopened disk store meta partition config lists registry disks s m w
       → AreUnplanned disk.control disks → IsUnplanned (store.control s) → IsUnplanned (meta.control m) → IsUnfailing disk store meta w
 
-  -- a fresh world stands on devices of which no call can fail, where none is planned to
+  -- a fresh world is on devices of which no call can fail, where none is planned to
   abbrev pub FreshIsUnfailing : Type 0
   FreshIsUnfailing = (partition : PartitionId) (config : Config) (lists : List ActorList) (disks : List D) (s : S) (m : M)
       (w : Whole D S M) → IsFresh disk store meta partition config lists disks s m w → AreUnplanned disk.control disks

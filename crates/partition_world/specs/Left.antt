@@ -1,9 +1,9 @@
--- The central fact with whatever notes a power cut may leave.
+-- The central fact with whatever metadata events a power cut may leave.
 --
 --   form                     says
---   resolved meta            a metadata log beside notes: those are what it tells, and what a power cut leaves
---   whole_with w l           the world with its metadata log beside these notes
---   IsCentralLeft opening w  with each list of notes that a power cut now may leave, the central fact holds
+--   resolved meta            a metadata log beside metadata events: those are what it reports, and what a power cut leaves
+--   whole_with w l           the world with its metadata log beside these metadata events
+--   IsCentralLeft opening w  with each list of metadata events that a power cut now may leave, the central fact holds
 use Rattle.std.specs.Prelude.{ℕ, List}
 use Rattle.disk_model.specs.declared.disk.Disk.{Ghosts as DiskGhosts}
 use Rattle.object_store.specs.declared.store.Store.{Ghosts as StoreGhosts}
@@ -23,11 +23,11 @@ use Rattle.partition_world.specs.Fresh.{IsFresh, IsSeenEmpty}
 use Rattle.partition_world.specs.Turn.{Steps}
 use Rattle.partition_world.specs.Whole.{Whole}
 
--- it tells these notes, and a power cut leaves no others
+-- it reports these metadata events, and a power cut leaves no others
 abbrev pub resolved_to : Content → List Note → Content
 resolved_to c l = record { is_observable = c.is_observable; notes = l; besides = λ x. ⊥ }
 
--- a metadata log beside notes
+-- a metadata log beside metadata events
 abbrev pub resolved : {M : Type 0} → MetaGhosts M → MetaGhosts (M × List Note)
 resolved meta = record {
   content = λ m. resolved_to (meta.content m.0) m.1;
@@ -49,12 +49,13 @@ whole_with w l = record {
 }
 
 module _ {D S M : Type 0} (disk : DiskGhosts D) (store : StoreGhosts S) (meta : MetaGhosts M) where
-  -- with each list of notes that a power cut now may leave in the place of those that are told, the central fact holds
+  -- with each list of metadata events that a power cut now may leave in the place of those that are reported, the
+  -- central fact holds
   abbrev pub IsCentralLeft : State → Whole D S M → Type 0
   IsCentralLeft opening w = (l : List Note) → Left (meta.content w.tier.meta) l
       → IsCentral disk store (resolved meta) opening (whole_with w l)
 
-  -- it goes on, for each opening state
+  -- it continues, for each opening state
   abbrev pub KeepsCentralLeft : Whole D S M → Whole D S M → Type 0
   KeepsCentralLeft w w' = (opening : State) → IsCentralLeft opening w → IsCentralLeft opening w'
 
@@ -67,7 +68,7 @@ module _ {D S M : Type 0} (disk : DiskGhosts D) (store : StoreGhosts S) (meta : 
   abbrev pub LeftIsCentral : Type 0
   LeftIsCentral = (opening : State) (w : Whole D S M) → IsCentralLeft opening w → IsCentral disk store meta opening w
 
-  -- a fresh world has it whose logs, objects and notes are seen, where a power cut leaves no notes
+  -- a fresh world has it whose logs, objects and metadata events are seen, where a power cut leaves no metadata events
   abbrev pub FreshIsCentralLeft : Type 0
   FreshIsCentralLeft = (partition : PartitionId) (config : Config) (lists : List ActorList) (disks : List D) (s : S) (m : M)
       (w : Whole D S M) → IsConfig config → AreListsFor config lists

@@ -40,7 +40,7 @@ abbrev pub SeeksBy : Command → FetchStep → Type 0
 SeeksBy (Fetch offset limit) next = IsFor offset next
 SeeksBy command next = ⊥
 
--- a search by timestamp does this next, at a cursor
+-- a timestamp lookup does this next, at a cursor
 abbrev pub DatesBy : Command → ℕ → Dating → Type 0
 DatesBy (Offset (At ts)) cursor next = IsSet cursor next
 DatesBy command cursor next = ⊥
@@ -62,8 +62,8 @@ AreInProgress lists desk =
     → slice_get desk place ≡ Some actor_state → slice_get l.orders actor_state.number ≡ Some order
     → IsProgressOf order.command actor_state.work
 
--- its lists can be run, each broker has a side of the tier, and the journal has room for each entry that is left: a beginning
--- and an answer of each order
+-- its lists can be run, each broker has a tier state of the tier, and the journal has room for each entry that is left:
+-- a beginning and an answer of each order
 pub record IsSound {D : Type 0} (config : Config) (lists : List ActorList) (h : PartitionState D) (broker_tiers : List BrokerTierState) (desk : List ActorState)
     (free : ℕ) : Type 0 where
   pub config_fits : IsConfig config
@@ -79,7 +79,7 @@ abbrev pub waits : InProgress → ℕ
 waits (Noted g) = 1
 waits other = 0
 
--- how many seats have such a work
+-- how many actors' states have such a work
 abbrev pub waiting : List ActorState → ℕ
 waiting [] = 0
 waiting (actor_state ∷ desk) = waits actor_state.work + waiting desk

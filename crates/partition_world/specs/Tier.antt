@@ -14,17 +14,17 @@ use Rattle.partition_world.specs.declared.tier.RemoteTier.{RemoteTier}
 abbrev pub next_of : BrokerTierState → ℕ → ℕ
 next_of broker_tier incarnation = if broker_tier.incarnation == incarnation then broker_tier.attempt else 0
 
--- the side after a copy under its next number
+-- the tier state after a copy under its next number
 abbrev pub counted : BrokerTierState → ℕ → BrokerTierState
 counted broker_tier incarnation =
     record broker_tier { incarnation = incarnation; attempt = next_of broker_tier incarnation + 1 }
 
 module _ {S M : Type 0} where
-  -- the tier with this side in its place
+  -- the tier with this tier state in its place
   abbrev pub put_broker_tier : RemoteTier S M → ℕ → BrokerTierState → RemoteTier S M
   put_broker_tier t b broker_tier = record t { broker_tiers = slice_set t.broker_tiers b broker_tier }
 
-  -- there is such a side, and this holds of it
+  -- there is such a tier state, and this holds of it
   abbrev pub AtBrokerTier : RemoteTier S M → ℕ → (BrokerTierState → Type 0) → Type 0
   AtBrokerTier t b P = IsSomeAnd (slice_get t.broker_tiers b) P
 
@@ -40,7 +40,7 @@ module _ {S M : Type 0} (meta : MetaGhosts M) where
     pub reads : Unread meta.content meta.control broker_tier.view broker_tier.view t.meta t'.meta
     pub after : t' ≡ record t { meta = t'.meta }
 
-  -- memory was wanting, and the view has taken in some of what the metadata log has more
+  -- memory ran out, and the view has taken in some of what the metadata log has more
   pub record Halts (t : RemoteTier S M) (b : ℕ) (broker_tier : BrokerTierState) (t' : RemoteTier S M) : Type 0 where
     pub view : Seen
     pub reads : Halted meta.content meta.control broker_tier.view view t.meta t'.meta

@@ -36,8 +36,8 @@ module _ {D S M : Type 0} where
     pub next : slice_get l.orders actor_state.number ≡ Some order
 
 module _ {D S M : Type 0} (disk : DiskGhosts D) (store : StoreGhosts S) (meta : MetaGhosts M) where
-  -- a turn of the actor's next order, which begins, goes on or is answered; what began or was answered is entered into the
-  -- journal
+  -- a turn of the actor's next order, which begins, continues or is answered; what began or was answered is entered
+  -- into the journal
   pub record IsTurn (w : Whole D S M) (a : ℕ) (outcome : Outcome) (w' : Whole D S M) : Type 0 where
     pub place : ℕ
     pub list : ActorList

@@ -64,7 +64,7 @@ module _ {D S M : Type 0} (store : StoreGhosts S) (meta : MetaGhosts M) where
   CopyingRow h t b x broker_tier g copy next Copy outcome h' t' = CopyOnRow store meta h t b x broker_tier g copy next outcome t' × (h' ≡ h)
   CopyingRow h t b x broker_tier g copy next command outcome h' t' = ⊥
 
-  -- a later turn of a fetch that goes on in the remote tier; no other command has one
+  -- a later turn of a fetch that continues in the remote tier; no other command has one
   abbrev pub SeekingRow : PartitionId → PartitionState D → RemoteTier S M → ℕ → Node D → BrokerTierState → StartSnapshot → Search → Command → Outcome → PartitionState D → RemoteTier S M → Type 0
   SeekingRow p h t b x broker_tier g next (Fetch offset limit) outcome h' t' =
       FetchOnRow store meta p h t b x broker_tier g offset limit next outcome t' × (h' ≡ h)
@@ -76,14 +76,15 @@ module _ {D S M : Type 0} (store : StoreGhosts S) (meta : MetaGhosts M) where
   DeletingRow h t b x g expired_segment next command outcome h' t' = ⊥
 
 module _ {D S M : Type 0} (disk : DiskGhosts D) (store : StoreGhosts S) (meta : MetaGhosts M) where
-  -- a later turn of a search by timestamp that has come to a cursor; no other command has one
+  -- a later turn of a timestamp lookup that has come to a cursor; no other command has one
   abbrev pub DatingRow : PartitionId → PartitionState D → RemoteTier S M → ℕ → Node D → BrokerTierState → StartSnapshot → ℕ → Dating → Command → Outcome → PartitionState D → RemoteTier S M → Type 0
   DatingRow p h t b x broker_tier g cursor next (Offset (At ts)) outcome h' t' =
       DateOnRow disk store meta p h t b x broker_tier g ts cursor next outcome h' t'
   DatingRow p h t b x broker_tier g cursor next command outcome h' t' = ⊥
 
 module _ {D S M : Type 0} (disk : DiskGhosts D) (meta : MetaGhosts M) where
-  -- the second turn of a join: where the log start had come up to the wanted offset when it began, the log begins anew at once
+  -- the second turn of a join: where the log start offset had reached the wanted offset when it began, the log restarts
+  -- at once
   abbrev pub JoinSecondRow : PartitionState D → RemoteTier S M → ℕ → Node D → BrokerTierState → StartSnapshot → Outcome
       → PartitionState D → RemoteTier S M → Type 0
   JoinSecondRow h t b x broker_tier g outcome h' t' =
@@ -91,7 +92,7 @@ module _ {D S M : Type 0} (disk : DiskGhosts D) (meta : MetaGhosts M) where
       ⊎ ((g.start < g.wanted) × RefreshOnRow meta h t b x broker_tier g outcome t' × (h' ≡ h))
 
 module _ {D S M : Type 0} (disk : DiskGhosts D) (store : StoreGhosts S) where
-  -- a later turn of a join that begins its log anew: it reads the line, or begins the log anew with it
+  -- a later turn of a join that restarts its log: it reads the line, or restarts the log with it
   abbrev pub RebuildOnRow : PartitionId → PartitionState D → RemoteTier S M → ℕ → Node D → BrokerTierState → StartSnapshot → Rebuild → Outcome → PartitionState D → RemoteTier S M → Type 0
   RebuildOnRow p h t b x broker_tier g Epochs outcome h' t' =
       EpochsOnRow store p h t x broker_tier g outcome t' × (h' ≡ h)
@@ -104,8 +105,8 @@ module _ {D S M : Type 0} (disk : DiskGhosts D) (store : StoreGhosts S) where
   RebuildingRow p h t b x broker_tier g next command outcome h' t' = ⊥
 
 module _ {D S M : Type 0} (disk : DiskGhosts D) (store : StoreGhosts S) (meta : MetaGhosts M) where
-  -- the second turn, of a command of which its actor's state has what was recorded: a fetch begins with a refresh, and a search by timestamp at
-  -- the log start
+  -- the second turn, of a command of which its actor's state has what was recorded: a fetch begins with a refresh, and
+  -- a timestamp lookup at the log start offset
   abbrev pub ContinuedRow : PartitionId → Config → PartitionState D → RemoteTier S M → ℕ → Node D → BrokerTierState → StartSnapshot → Command → Outcome → PartitionState D → RemoteTier S M → Type 0
   ContinuedRow p config h t b x broker_tier g Copy outcome h' t' = ChooseRow disk p h t b x broker_tier g outcome h' t'
   ContinuedRow p config h t b x broker_tier g Trim outcome h' t' = TrimOnRow disk h b x broker_tier g config.local_keep outcome h' × (t' ≡ t)
@@ -147,7 +148,7 @@ module _ {D S M : Type 0} (disk : DiskGhosts D) (store : StoreGhosts S) (meta : 
   Row p config h t b x broker_tier (Rebuilds g next) command outcome h' t' =
       RebuildingRow disk store p h t b x broker_tier g next command outcome h' t'
 
-  -- there are such a broker and such a side, and the row holds of them
+  -- there are such a broker and such a tier state, and the row holds of them
   abbrev pub TurnRow : PartitionId → Config → PartitionState D → RemoteTier S M → ℕ → InProgress → Command → Outcome → PartitionState D → RemoteTier S M → Type 0
   TurnRow p config h t b work command outcome h' t' =
       AtNode h b (λ x. AtBrokerTier t b (λ broker_tier. Row p config h t b x broker_tier work command outcome h' t'))
@@ -165,7 +166,7 @@ module _ {S M : Type 0} (meta : MetaGhosts M) where
   BeginHalts t b broker_tier command t' = ⊥
 
 module _ {D S M : Type 0} (store : StoreGhosts S) (meta : MetaGhosts M) where
-  -- a search by timestamp that has come to this cursor with this
+  -- a timestamp lookup that has come to this cursor with this
   abbrev pub DateHalts : PartitionId → PartitionState D → RemoteTier S M → ℕ → Node D → BrokerTierState → ℤ → ℕ → Dating
       → RemoteTier S M → Type 0
   DateHalts p h t b x broker_tier ts cursor next t' =
@@ -187,14 +188,14 @@ module _ {D S M : Type 0} (store : StoreGhosts S) (meta : MetaGhosts M) where
   CopyingHalts h t b broker_tier copy next Copy t' = WantsForCopy store meta h t b broker_tier copy next t'
   CopyingHalts h t b broker_tier copy next command t' = ⊥
 
-  -- of a fetch that goes on in the remote tier
+  -- of a fetch that continues in the remote tier
   abbrev pub SeekingHalts : PartitionId → RemoteTier S M → ℕ → Node D → BrokerTierState → Search → Command
       → RemoteTier S M → Type 0
   SeekingHalts p t b x broker_tier next (Fetch offset limit) t' =
       WantsForFetch store meta p t b x broker_tier offset limit next t'
   SeekingHalts p t b x broker_tier next command t' = ⊥
 
-  -- of a search by timestamp
+  -- of a timestamp lookup
   abbrev pub DatingHalts : PartitionId → PartitionState D → RemoteTier S M → ℕ → Node D → BrokerTierState → ℕ → Dating → Command → RemoteTier S M → Type 0
   DatingHalts p h t b x broker_tier cursor next (Offset (At ts)) t' = DateHalts p h t b x broker_tier ts cursor next t'
   DatingHalts p h t b x broker_tier cursor next command t' = ⊥
@@ -228,7 +229,8 @@ module _ {D S M : Type 0} (store : StoreGhosts S) (meta : MetaGhosts M) where
   HaltsTier p h t b x broker_tier (Rebuilds g next) command t' = RebuildingHalts store p t broker_tier g next command t'
 
 module _ {D S M : Type 0} (disk : DiskGhosts D) where
-  -- there was no memory: nothing that is seen has changed, or of the tier alone, where this holds of broker and side
+  -- there was no memory: nothing that is seen has changed, or of the tier alone, where this holds of broker and tier
+  -- state
   abbrev pub StaysOr : PartitionState D → RemoteTier S M → ℕ → (Node D → BrokerTierState → Type 0) → PartitionState D
       → RemoteTier S M → Type 0
   StaysOr h t b W h' t' = (KeepsPartition disk.content disk.control h h' × (t' ≡ t))

@@ -5,8 +5,9 @@
 --   second    chooses a closed segment, and reads it     LostLead, Level, DiskFault, Damaged
 --   later     one call of a device, by the copy's row    LostLead, and what that row answers
 --
--- A broker that has stopped, or has another role than at the first turn, has lost its lead. Of the broker's log only the second
--- turn takes notice, and reads it. Where segments aren't copied no copy begins; one that has begun goes on.
+-- A broker that has stopped, or has another role than at the first turn, has lost its lead. Of the broker's log only
+-- the second turn takes notice, and reads it. Where segments aren't copied no copy begins; one that has begun
+-- continues.
 use Rattle.std.specs.Prelude.{◌≡◌, ◌⊎◌, ℕ, ◌-◌, ◌^◌, ◌<◌, ◌&&◌, Bool, true, false, max, Option, Some, None, Ok, Err, IsSomeAnd}
 use Rattle.std.specs.declared.alloc.AllocError.{AllocError}
 use Rattle.tier_base.specs.declared.names.PartitionId.{PartitionId}
@@ -63,7 +64,7 @@ module _ {D : Type 0} where
   next_segment h x broker_tier =
       candidate (closed_in x.log) (copied_to x broker_tier h.registry.start) x.known_high_watermark
 
-  -- who tells of a copy
+  -- who records a copy
   abbrev pub origin_of : PartitionState D → ℕ → EventOrigin
   origin_of h b = record { broker = record { 0 = b }; now = h.clock }
 
@@ -116,7 +117,7 @@ module _ {D : Type 0} (disk : DiskGhosts D) where
     pub reads : ReadsLog x x'
     pub quiet : NoFault disk.control x.log reads.kept
 
-  -- its disk was read once in this turn, and handed something
+  -- its disk was read once in this turn, and returned something
   abbrev pub HasRead : Node D → Kept D → Type 0
   HasRead x kept = OnDisk x.log (λ d. OnDisk kept (λ e. Ran Read Went (disk.control d) (disk.control e)))
 
@@ -133,7 +134,7 @@ module _ {D : Type 0} (disk : DiskGhosts D) where
     pub reads : ReadsLog x x'
     pub cause : OneFault disk.control x.log reads.kept
 
-  -- what the disk handed is no segment from this place of this file on
+  -- what the disk returned is no segment from this place of this file on
   pub record ReadsNoSegment (x : Node D) (offset : ℕ) (name : FileName) (at : ℕ) (x' : Node D) : Type 0 where
     pub reads : ReadsLog x x'
     pub ran : HasRead x reads.kept
@@ -187,7 +188,7 @@ module _ {D S M : Type 0} (store : StoreGhosts S) (meta : MetaGhosts M) where
       meta = t'.meta;
     }) b (record broker_tier { view = view })
 
-  -- it wanted memory
+  -- it ran out of memory
   pub record WantsForCopy (h : PartitionState D) (t : RemoteTier S M) (b : ℕ) (broker_tier : BrokerTierState) (copy : Copied) (next : CopyStep) (t' : RemoteTier S M)
       : Type 0 where
     pub view : View

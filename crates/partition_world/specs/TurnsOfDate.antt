@@ -1,9 +1,9 @@
--- What a later turn of a search by timestamp comes to over devices.
+-- What a later turn of a timestamp lookup comes to over devices.
 --
--- The tests are made anew at each turn, in their order: the broker hasn't stopped, and it leads the epoch that it led. A cursor that
--- the log start has passed goes on at the log start, without what was found for it. At or past the known high watermark no offset has the
--- timestamp. Else the turn goes by the rows of searches: in the local log, or below it and for a piece that was found there among the
--- remote segments.
+-- The tests are repeated at each turn, in their order: the broker hasn't stopped, and it leads the epoch that it led. A
+-- cursor that the log start offset has passed continues at the log start offset, without what was found for it. At or
+-- past the known high watermark no offset has the timestamp. Else the turn goes by the rows of searches: in the local
+-- log, or below it and for a piece that was found there among the remote segments.
 --
 -- Source: Kafka's ListOffsets by timestamp, which KIP-405 extends to remote segments.
 use Rattle.std.specs.Prelude.{◌≡◌, ◌≢◌, ℕ, ◌<◌, ◌≤◌, ◌^◌, max, nat_lt, nat_le, if◌then◌else◌, ℤ, Bool, true, false, List, Ok, Err}
@@ -35,11 +35,11 @@ use Rattle.partition_world.specs.Tier.{put_broker_tier}
 use Rattle.partition_world.specs.TurnsOfCopy.{KeepsLead}
 use Rattle.partition_world.specs.TurnsOfFetch.{HasStopped, fetch_tiers}
 
--- where a search goes on that has come to a cursor: nothing is searched below the log start
+-- where a search continues that has come to a cursor: nothing is searched below the log start offset
 abbrev pub resumed_at : ℕ → ℕ → ℕ
 resumed_at start cursor = max start cursor
 
--- and with what: what was found for a cursor below the log start is let go
+-- and with what: what was found for a cursor below the log start offset is dropped
 abbrev pub resumed_with : ℕ → ℕ → SearchStep → SearchStep
 resumed_with start cursor next = if nat_lt cursor start then Seek else next
 
@@ -60,7 +60,7 @@ module _ {D : Type 0} where
     mark = x.known_high_watermark;
   }
 
-  -- what it is answered before it searches, with the tests that come before, where it goes on at an offset
+  -- what it is answered before it searches, with the tests that come before, where it continues at an offset
   abbrev pub AnswersAtOnce : Node D → StartSnapshot → ℕ → Answer → Type 0
   AnswersAtOnce x g at Stopped = HasStopped x g
   AnswersAtOnce x g at NotLeader = (g.stops ≡ x.stops) × (is_up x ≡ true) × (g.role ≢ x.role)
@@ -84,7 +84,7 @@ module _ {S M : Type 0} (store : StoreGhosts S) (meta : MetaGhosts M) where
         (fetch_tiers broker_tier.view broker_tier.cache t) (fetch_tiers view cache t')
     pub after : t' ≡ put_broker_tier (record t { store = t'.store; meta = t'.meta }) b (record broker_tier { view = view; cache = cache })
 
-  -- it wanted memory
+  -- it ran out of memory
   pub record WantsForDate (t : RemoteTier S M) (b : ℕ) (broker_tier : BrokerTierState) (line : List (ℕ × ℕ)) (asked : Asked) (cursor : ℕ) (next : SearchStep)
       (t' : RemoteTier S M) : Type 0 where
     pub view : View
@@ -102,7 +102,7 @@ module _ {D S M : Type 0} (disk : DiskGhosts D) (store : StoreGhosts S) (meta : 
   SearchRow h t b x broker_tier asked cursor next false turn h' t' =
       SearchesRemote store meta t b broker_tier (line_of x) asked cursor next turn t' × (h' ≡ h)
 
-  -- the broker leads as it did, and the search goes on where it is resumed, below the known high watermark
+  -- the broker leads as it did, and the search continues where it is resumed, below the known high watermark
   pub record Searches (p : PartitionId) (h : PartitionState D) (t : RemoteTier S M) (b : ℕ) (x : Node D) (broker_tier : BrokerTierState) (g : StartSnapshot) (ts : ℤ)
       (cursor : ℕ) (next : SearchStep) (turn : TimeTurn) (h' : PartitionState D) (t' : RemoteTier S M) : Type 0 where
     pub keeps : KeepsLead x g

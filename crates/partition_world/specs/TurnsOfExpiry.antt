@@ -5,11 +5,11 @@
 --   second    takes up the view's first due segment, or raises the start  LostLead, Kept, StaleEpoch, Raised
 --   later     one call of a device, by the expiry's row                   LostLead, and what that row answers
 --
--- A broker that has stopped, or has another role than at the first turn, has lost its lead. A segment is due where it ends below
--- the log start and its deletion isn't whole. Only where none is due does retention count: the pieces of remote segments from the
--- log start up to the known high watermark, by the leader's own line, and behind them what its local log has. Where segments aren't
--- copied any more, so that the local log goes on where the pieces end, its closed segments count as they do. Local logs stay as they
--- are.
+-- A broker that has stopped, or has another role than at the first turn, has lost its lead. A segment is due where it
+-- ends below the log start and its deletion isn't whole. Only where none is due does retention count: the pieces of
+-- remote segments from the log start offset up to the known high watermark, by the leader's own line, and after them
+-- what its local log has. Where segments aren't copied any more, so that the local log continues where the pieces end,
+-- its closed segments count as they do. Local logs stay as they are.
 --
 -- Source: KIP-405, where the leader alone deletes remote segments, and by the retention of the whole log moves its start; and
 -- KIP-950, by which a topic whose tiered storage is disabled for writing keeps what it has there under the same retention.
@@ -56,12 +56,12 @@ module _ {D S M : Type 0} (meta : MetaGhosts M) where
   ExpireFirstRow h t b x broker_tier outcome t' = LeadersFirstRow meta h t b x broker_tier outcome t'
 
 module _ {D : Type 0} where
-  -- the first segment of the view that ends below the log start, and whose deletion isn't whole
+  -- the first segment of the view that ends below the log start offset, and whose deletion isn't whole
   abbrev pub due_of : PartitionState D → BrokerTierState → Option Entry
   due_of h broker_tier = due h.registry.start broker_tier.view.entries
 
-  -- the pieces of remote segments from the log start on that end at or below the known high watermark, by the
-  -- broker's own line
+  -- the pieces of remote segments from the log start offset on that end at or below the known high watermark, by the
+  -- broker's own leader epochs
   abbrev pub pieces_of : PartitionState D → Node D → BrokerTierState → List Piece
   pieces_of h x broker_tier =
       chain broker_tier.view.entries (line_of x) (end_of x) h.registry.start x.known_high_watermark
@@ -75,22 +75,22 @@ module _ {D : Type 0} where
   own_of h x pieces =
       uncopied h.copying (local_of x) (end_from h.registry.start pieces) x.known_high_watermark (closed_in x.log)
 
-  -- the bytes of the broker's local log behind these pieces and segments
+  -- the bytes of the broker's local log after these pieces and segments
   abbrev pub rest_of : PartitionState D → Node D → List Piece → List Uncopied → ℕ
   rest_of h x pieces own =
       rest_behind (end_behind (end_from h.registry.start pieces) own) (closed_in x.log) (open_size_of x) (end_of x)
 
-  -- where the log start comes to by these
+  -- where the log start offset comes to by these
   abbrev pub rises_by : PartitionState D → Node D → BrokerTierState → Keep → List Piece → List Uncopied → Option ℕ
   rises_by h x broker_tier keep pieces own =
       raised_to broker_tier.view.entries pieces own (rest_of h x pieces own) h.clock keep
 
-  -- where the log start comes to, where retention lets it rise
+  -- where the log start offset comes to, where retention lets it rise
   abbrev pub rises_to : PartitionState D → Node D → BrokerTierState → Keep → Option ℕ
   rises_to h x broker_tier keep =
       rises_by h x broker_tier keep (pieces_of h x broker_tier) (own_of h x (pieces_of h x broker_tier))
 
-  -- the registry raises the log start to this for a broker of a role, or refuses since another leads by now
+  -- the registry raises the log start offset to this for a broker of a role, or refuses since another leads by now
   abbrev pub RaiseRow : PartitionState D → Role → ℕ → Answer → PartitionState D → Type 0
   RaiseRow h role wanted (StaleEpoch n) h' =
       (e : ℕ) × (role ≡ Leads e) × Leaves h (after_raise h.registry e wanted (Err (Reg.StaleEpoch n))) h'
@@ -108,7 +108,7 @@ module _ {D : Type 0} where
     pub packed_is : expired_segment.packed ≡ entry.packed
     pub stays : h' ≡ h
 
-  -- no segment is due, and the log start is to rise to this
+  -- no segment is due, and the log start offset is to rise to this
   pub record MayRise (h : PartitionState D) (x : Node D) (broker_tier : BrokerTierState) (keep : Keep)
       (start : ℕ) : Type 0 where
     pub none : due_of h broker_tier ≡ None
@@ -144,7 +144,7 @@ module _ {D S M : Type 0} (store : StoreGhosts S) (meta : MetaGhosts M) where
         (expiry_tiers t) (expiry_tiers t')
     pub after : t' ≡ record t { store = t'.store; meta = t'.meta }
 
-  -- it wanted memory
+  -- it ran out of memory
   pub record WantsForDeletion (h : PartitionState D) (t : RemoteTier S M) (b : ℕ) (expired_segment : ExpiredSegment) (next : DeletionStep) (t' : RemoteTier S M) : Type 0 where
     pub error : AllocError
     pub row : ExpiryRow store.content store.control meta.content meta.control expired_segment (origin_of h b) next

@@ -1,8 +1,8 @@
--- What a later turn of a fetch comes to over devices: of one that goes on in the remote tier.
+-- What a later turn of a fetch comes to over devices: of one that continues in the remote tier.
 --
--- The tests are made anew at each turn, in their order: the broker hasn't stopped, it leads the epoch that it led, the offset
--- is in the log's range, and it is below the known high watermark. Then the turn goes by the row of fetches from the
--- remote tier.
+-- The tests are repeated at each turn, in their order: the broker hasn't stopped, it leads the epoch that it led, the
+-- offset is in the log's range, and it is below the known high watermark. Then the turn goes by the row of fetches from
+-- the remote tier.
 use Rattle.std.specs.Prelude.{◌≡◌, ◌≢◌, ◌⊎◌, ◌<◌, ◌≤◌, ℕ, true, false, Ok, Err}
 use Rattle.std.specs.declared.alloc.AllocError.{AllocError}
 use Rattle.tier_base.specs.declared.names.PartitionId.{PartitionId}
@@ -67,7 +67,7 @@ module _ {D S M : Type 0} (store : StoreGhosts S) (meta : MetaGhosts M) where
         (fetch_tiers broker_tier.view broker_tier.cache t) (fetch_tiers view cache t')
     pub after : t' ≡ put_broker_tier (record t { store = t'.store; meta = t'.meta }) b (record broker_tier { view = view; cache = cache })
 
-  -- it wanted memory
+  -- it ran out of memory
   pub record WantsForFetch (p : PartitionId) (t : RemoteTier S M) (b : ℕ) (x : Node D) (broker_tier : BrokerTierState) (offset limit : ℕ) (next : FetchStep)
       (t' : RemoteTier S M) : Type 0 where
     pub view : View

@@ -1,4 +1,5 @@
--- What a turn comes to of the question up to which offset the remote tier has the log. A search by timestamp has the same first turn.
+-- What a turn comes to of the question up to which offset the remote tier has the log. A timestamp lookup has the same
+-- first turn.
 --
 --   turn      does                                       answers
 --   first     refreshes the leader's view                Down, NotLeader, MetaFault
@@ -29,7 +30,8 @@ module _ {D S M : Type 0} (meta : MetaGhosts M) where
   OffsetFirstRow h t b x broker_tier outcome t' = LeadersFirstRow meta h t b x broker_tier outcome t'
 
 module _ {D : Type 0} where
-  -- the last offset that is in the remote tier with all before it, or none where nothing from the log start on is there
+  -- the last offset that is in the remote tier with all before it, or none where nothing from the log start offset on
+  -- is there
   abbrev pub tiered_offset : PartitionState D → Node D → BrokerTierState → Option ℕ
   tiered_offset h x broker_tier =
       if copied_to x broker_tier h.registry.start == h.registry.start then None else Some (copied_to x broker_tier h.registry.start - 1)

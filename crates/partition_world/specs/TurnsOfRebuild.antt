@@ -1,14 +1,14 @@
--- What a turn of a join comes to over devices, behind its first one: the follower's log is to begin anew, where the leader's local
--- log began at the first turn.
+-- What a turn of a join comes to over devices, after its first one: the follower's log is to restart, where the
+-- leader's local log began at the first turn.
 --
 --   turn       does                                                answers
 --   second     refreshes the follower's view                       Stopped, StaleEpoch, Passed, BelowStart, MetaFault
 --   Epochs     reads the line, by the row of rebuilds              the first four of these, and what that row answers
---   Restart    begins the log anew with the line                   the first four of these, DiskFault, Rebuilt
+--   Restart    restarts the log with the line                   the first four of these, DiskFault, Rebuilt
 --
--- Where the log start had come up to the wanted offset by the first turn, nothing below it needs the tier: the second turn begins
--- the log anew at once, with the leader's line. The tests are made anew at each turn, in their order. What the last turn comes to
--- the crate `partition_commands` says, of what was recorded.
+-- Where the log start offset had reached the wanted offset by the first turn, nothing below it needs the tier: the
+-- second turn restarts the log at once, with the leader's leader epochs. The tests are repeated at each turn, in their
+-- order. What the last turn comes to the crate `partition_commands` says, of what was recorded.
 --
 -- Source: KIP-405, where a follower whose fetch offset has moved to tiered storage truncates its log, builds its leader epochs out
 -- of remote storage, and fetches on from the leader's local log start offset.
@@ -37,7 +37,7 @@ use Rattle.partition_world.specs.Tier.{Refreshes, FailsToRead}
 use Rattle.partition_world.specs.ActorStates.{rebuild_outcome}
 use Rattle.partition_world.specs.TurnsOfFetch.{HasStopped}
 
--- what a join notes, with this line in the place of its own
+-- what a join records, with these leader epochs in the place of its own
 abbrev pub with_line : StartSnapshot → List (ℕ × ℕ) → StartSnapshot
 with_line g line = record g { batches = []; line = line }
 
@@ -46,7 +46,7 @@ abbrev pub wanted_of : PartitionId → StartSnapshot → RebuildRequest
 wanted_of p g = record { partition = p; offset = g.wanted }
 
 module _ {D : Type 0} where
-  -- what a join is answered before it goes on, with the tests that come before
+  -- what a join returns before it continues, with the tests that come before
   abbrev pub AnswersAtOnce : PartitionState D → Node D → StartSnapshot → Answer → Type 0
   AnswersAtOnce h x g Stopped = HasStopped x g
   AnswersAtOnce h x g (StaleEpoch n) = (g.stops ≡ x.stops) × IsStale h (followed g.role) × (n ≡ h.registry.epoch)
@@ -56,7 +56,7 @@ module _ {D : Type 0} where
   AnswersAtOnce h x g other = ⊥
 
 module _ {D S M : Type 0} where
-  -- a join is answered so, and nothing changes
+  -- a join gets this answer, and nothing changes
   abbrev pub IsAnswered : PartitionState D → RemoteTier S M → Node D → StartSnapshot → Outcome → RemoteTier S M → Type 0
   IsAnswered h t x g outcome t' = (answer : Answer) × (outcome ≡ Answers answer) × AnswersAtOnce h x g answer × (t' ≡ t)
 
@@ -82,7 +82,7 @@ module _ {S M : Type 0} (store : StoreGhosts S) where
     pub row : RebuildRow store.content store.control (wanted_of p g) g.line broker_tier.view (Ok turn) t.store t'.store
     pub after : t' ≡ record t { store = t'.store }
 
-  -- it wanted memory
+  -- it ran out of memory
   pub record WantsForRebuild (p : PartitionId) (t : RemoteTier S M) (broker_tier : BrokerTierState) (g : StartSnapshot)
       (t' : RemoteTier S M) : Type 0 where
     pub error : AllocError

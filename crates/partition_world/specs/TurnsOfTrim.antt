@@ -4,8 +4,9 @@
 --   first     refreshes the broker's view                      Down, MetaFault
 --   second    drops the local log's first closed segment       Stopped, Kept, DiskFault, Dropped
 --
--- The first closed segment may go where retention takes it from the local log, it lies below the known high watermark and the stable
--- end, and each of its offsets from the log start on has a piece of a remote segment in the broker's view.
+-- The first closed segment may go where retention takes it from the local log, it lies below the known high watermark
+-- and the stable end, and each of its offsets from the log start offset on has a piece of a remote segment in the
+-- broker's view.
 --
 -- Source: KIP-405, where local retention deletes a segment only once it has been copied to the remote storage.
 use Rattle.std.specs.Prelude.{◌≡◌, ◌-◌, ◌≤◌, ℕ, ℤ, true, false, map, IsSomeAnd, slice_get}

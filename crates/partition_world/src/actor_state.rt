@@ -22,11 +22,11 @@ pub enum InProgress {
     Copies(StartSnapshot, Copying, CopyStep),
     /// A fetch from the remote tier, and what it does next.
     Seeks(StartSnapshot, Search),
-    /// A search by timestamp, the offset that it has come to, and what it does next.
+    /// A timestamp lookup, the offset that it has come to, and what it does next.
     Dates(StartSnapshot, u64, Dating),
     /// An expiry of a remote segment, and what it does next.
     Expires(StartSnapshot, ExpiredSegment, Deletion),
-    /// A join whose broker has refreshed its view to begin its log anew, and what it does next.
+    /// A join whose broker has refreshed its view to restart its log, and what it does next.
     Rebuilds(StartSnapshot, Rebuild),
 }
 
@@ -48,17 +48,17 @@ pub enum Outcome {
     Begins(StartSnapshot),
     /// A copy has chosen its segment.
     Chose(Copying),
-    /// A copy goes on with this turn.
+    /// A copy continues with this turn.
     Goes(CopyStep),
-    /// A fetch from the remote tier goes on with this turn.
+    /// A fetch from the remote tier continues with this turn.
     Seeks(Search),
-    /// A search by timestamp goes on at this offset with this turn.
+    /// A timestamp lookup continues at this offset with this turn.
     Dates(u64, Dating),
     /// An expiry has taken up a remote segment.
     Dooms(ExpiredSegment),
-    /// An expiry goes on with this turn.
+    /// An expiry continues with this turn.
     Deletes(Deletion),
-    /// A join that begins its log anew goes on with this turn.
+    /// A join that restarts its log continues with this turn.
     Rebuilds(Rebuild),
 }
 
@@ -73,7 +73,7 @@ impl InProgress {
         }
     }
 
-    /// The work of a copy that goes on.
+    /// The work of a copy that continues.
     pub(crate) fn moved(self, next: CopyStep) -> InProgress
         ensures { result ≡ moved self next }
     {
@@ -83,7 +83,7 @@ impl InProgress {
         }
     }
 
-    /// The work of a fetch that goes on in the remote tier.
+    /// The work of a fetch that continues in the remote tier.
     pub(crate) fn sought(self, next: Search) -> InProgress
         ensures { result ≡ sought self next }
     {
@@ -95,7 +95,7 @@ impl InProgress {
         }
     }
 
-    /// The work of a search by timestamp that goes on.
+    /// The work of a timestamp lookup that continues.
     pub(crate) fn dated(self, cursor: u64, next: Dating) -> InProgress
         ensures { result ≡ dated self cursor next }
     {
@@ -116,7 +116,7 @@ impl InProgress {
         }
     }
 
-    /// The work of an expiry that goes on.
+    /// The work of an expiry that continues.
     pub(crate) fn deleting(self, next: Deletion) -> InProgress
         ensures { result ≡ deleting self next }
     {
@@ -128,7 +128,7 @@ impl InProgress {
         }
     }
 
-    /// The work of a join that goes on to begin its log anew.
+    /// The work of a join that continues to restart its log.
     pub(crate) fn rebuilding(self, next: Rebuild) -> InProgress
         ensures { result ≡ rebuilding self next }
     {
@@ -170,7 +170,7 @@ pub(crate) fn fetch_outcome(turn: FetchTurn) -> Outcome
     }
 }
 
-/// What a turn of a search by timestamp came to.
+/// What a turn of a timestamp lookup came to.
 pub(crate) fn date_outcome(turn: TimeTurn) -> Outcome
     ensures { result ≡ date_outcome turn }
 {

@@ -50,7 +50,7 @@ pub(crate) fn copied_to<D: Disk>(node: &Node<D>, broker_tier: &BrokerTierState, 
     covered_to(&broker_tier.view, line, node.end(), local.max(start))
 }
 
-/// Whether a closed segment comes next, behind the end that the remote tier has all up to.
+/// Whether a closed segment comes next, after the end that the remote tier has all up to.
 fn has_next<D: Disk>(node: &Node<D>, copied: u64) -> bool
     ensures some { result ≡ true → IsSomeAnd (candidate (closed_in node.now.log) copied node.now.known_high_watermark) (λ segment. Unit {0}) }
     ensures none { result ≡ false → candidate (closed_in node.now.log) copied node.now.known_high_watermark ≡ None }
@@ -135,7 +135,7 @@ fn read_next<D: Disk>(
     }
 }
 
-/// Who tells of what a broker does.
+/// Who records what a broker does.
 pub(crate) fn origin<D: Disk>(held: &PartitionState<D>, broker: BrokerId) -> EventOrigin
     ensures { result ≡ origin_of held.now broker.0 }
 {
@@ -167,7 +167,7 @@ impl<S: Store, M: MetaLog> RemoteTier<S, M> {
         self.begin_leading(alloc, b, held)
     }
 
-    /// Begins a leader's command on the remote tier: its view takes in what the metadata log has more.
+    /// Begins a leader's command on the remote tier: its view is refreshed.
     pub(crate) fn begin_leading<D: Disk>(
         &mut self,
         alloc: Global,

@@ -21,7 +21,7 @@ use tier_base::{Item, Keep, Row};
 fn reaches(view: &View, line: &Line, log_end: u64, at: u64, top: u64) -> bool
     ensures { result ≡ nat_le top (covered_to view.now.entries line.now log_end at) }
 {
-    // Reading both shows that a piece goes on by an offset at least.
+    // Reading both shows that a piece continues by an offset at least.
     let _entries = view.entries();
     let _line = line.entries();
     let mut place = at;

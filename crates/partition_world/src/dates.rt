@@ -26,7 +26,7 @@ use std::alloc::{AllocError, Global};
 use tier_base::{BrokerId, PartitionId};
 use time_find::{Asked, SearchStep, TimeTurn, own_turn, time_turn};
 
-/// What a search is answered before it reads, where its broker has stopped or no longer leads as it did, or all that is
+/// What a search returns before it reads, where its broker has stopped or no longer leads as it did, or all that is
 /// committed has been searched.
 fn answer_of<D: Disk>(node: &Node<D>, recorded: &StartSnapshot, at: u64) -> Option<Answer>
     ensures some { IfSome result (AnswersAtOnce node.now recorded.now at) }
@@ -45,7 +45,7 @@ fn answer_of<D: Disk>(node: &Node<D>, recorded: &StartSnapshot, at: u64) -> Opti
     None
 }
 
-/// Where a search goes on.
+/// Where a search continues.
 fn resumed_at(start: u64, cursor: u64) -> u64
     ensures is { result ≡ resumed_at start cursor }
     ensures fits { result < 2 ^ 64 }
@@ -53,7 +53,7 @@ fn resumed_at(start: u64, cursor: u64) -> u64
     start.max(cursor)
 }
 
-/// What a search goes on with.
+/// What a search continues with.
 #[tactic(auto, using(crate::proofs::DateRows::set_at))]
 fn resumed_with(start: u64, cursor: u64, next: SearchStep) -> SearchStep
     requires { IsSet cursor next }
@@ -186,7 +186,7 @@ impl<S: Store, M: MetaLog> RemoteTier<S, M> {
         self.search_remote(alloc, b, line, asked, cursor, *next)
     }
 
-    /// Takes a later turn of a search by timestamp, which has come to a cursor.
+    /// Takes a later turn of a timestamp lookup, which has come to a cursor.
     pub(crate) fn date_on<D: Disk>(
         &mut self,
         alloc: Global,

@@ -73,7 +73,7 @@ pub(crate) fn set_actor_state(
     let _ = desk.replace(place, ActorState { number, work });
 }
 
-/// Takes what stands at an actor's state.
+/// Takes what is at an actor's state.
 pub(crate) fn take_actor_state(desk: &mut Row<ActorState>, place: usize) -> ActorState
     requires { place < length desk.old }
     ensures actor_state { slice_get desk.old place ≡ Some result }
@@ -86,7 +86,7 @@ pub(crate) fn take_actor_state(desk: &mut Row<ActorState>, place: usize) -> Acto
     desk.replace(place, idle)
 }
 
-/// Lets a copy go on with the segment that it has chosen.
+/// Makes a copy continue with the segment that it has chosen.
 #[tactic(auto, using(crate::proofs::BrokerTierStates::set_twice))]
 fn choose_at(desk: &mut Row<ActorState>, place: usize, copying: Copying)
     requires { place < length desk.old }
@@ -98,7 +98,7 @@ fn choose_at(desk: &mut Row<ActorState>, place: usize, copying: Copying)
     set_actor_state(desk, place, number, work);
 }
 
-/// Lets a copy go on with a turn.
+/// Makes a copy continue with a turn.
 #[tactic(auto, using(crate::proofs::BrokerTierStates::set_twice))]
 fn move_at(desk: &mut Row<ActorState>, place: usize, next: CopyStep)
     requires { place < length desk.old }
@@ -110,7 +110,7 @@ fn move_at(desk: &mut Row<ActorState>, place: usize, next: CopyStep)
     set_actor_state(desk, place, number, work);
 }
 
-/// Lets a fetch go on in the remote tier.
+/// Makes a fetch continue in the remote tier.
 #[tactic(auto, using(crate::proofs::BrokerTierStates::set_twice))]
 fn seek_at(desk: &mut Row<ActorState>, place: usize, next: Search)
     requires { place < length desk.old }
@@ -122,7 +122,7 @@ fn seek_at(desk: &mut Row<ActorState>, place: usize, next: Search)
     set_actor_state(desk, place, number, work);
 }
 
-/// Lets a search by timestamp go on.
+/// Lets a timestamp lookup continue.
 #[tactic(auto, using(crate::proofs::BrokerTierStates::set_twice))]
 fn date_at(desk: &mut Row<ActorState>, place: usize, cursor: u64, next: Dating)
     requires { place < length desk.old }
@@ -134,7 +134,7 @@ fn date_at(desk: &mut Row<ActorState>, place: usize, cursor: u64, next: Dating)
     set_actor_state(desk, place, number, work);
 }
 
-/// Lets an expiry go on with the remote segment that it has taken up.
+/// Makes an expiry continue with the remote segment that it has taken up.
 #[tactic(auto, using(crate::proofs::BrokerTierStates::set_twice))]
 fn doom_at(desk: &mut Row<ActorState>, place: usize, segment: ExpiredSegment)
     requires { place < length desk.old }
@@ -146,7 +146,7 @@ fn doom_at(desk: &mut Row<ActorState>, place: usize, segment: ExpiredSegment)
     set_actor_state(desk, place, number, work);
 }
 
-/// Lets an expiry go on with a turn.
+/// Makes an expiry continue with a turn.
 #[tactic(auto, using(crate::proofs::BrokerTierStates::set_twice))]
 fn delete_at(desk: &mut Row<ActorState>, place: usize, next: Deletion)
     requires { place < length desk.old }
@@ -158,7 +158,7 @@ fn delete_at(desk: &mut Row<ActorState>, place: usize, next: Deletion)
     set_actor_state(desk, place, number, work);
 }
 
-/// Lets a join go on that begins its log anew.
+/// Makes a join continue that restarts its log.
 #[tactic(auto, using(crate::proofs::BrokerTierStates::set_twice))]
 fn rebuild_at(desk: &mut Row<ActorState>, place: usize, next: Rebuild)
     requires { place < length desk.old }

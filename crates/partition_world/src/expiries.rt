@@ -1,8 +1,9 @@
-//! The turns of an expiry: a remote segment that the log start has left behind goes, or the log start rises.
+//! The turns of an expiry: a remote segment that the log start offset has left behind goes, or the log start offset
+//! rises.
 //!
-//! The first turn refreshes the leader's view. The second takes up the first segment of the view whose deletion is due; where
-//! there is none, retention may raise the log start. From the third on the expiry makes a call of a device in each. A broker
-//! that has stopped, or has another role, has lost its lead.
+//! The first turn refreshes the leader's view. The second takes up the first segment of the view whose deletion is due;
+//! where there is none, retention may raise the log start offset. From the third on the expiry makes a call of a device
+//! in each. A broker that has stopped, or has another role, has lost its lead.
 
 ghost use Rattle.std.specs.Prelude.{◌≡◌, ◌<◌, ◌≤◌, ℕ, true, length, IfOk, IfSome, OnErr};
 ghost use Rattle.plain_log.specs.declared.state.Role.TheVariants.{Leads};
@@ -30,7 +31,7 @@ use remote_find::chain;
 use std::alloc::{AllocError, Global};
 use tier_base::{BrokerId, Keep, PartitionId};
 
-/// Where the log start comes to by a broker's log and view, where retention lets it rise.
+/// Where the log start offset comes to by a broker's log and view, where retention lets it rise.
 fn rises_to<D: Disk>(
     alloc: Global,
     held: &PartitionState<D>,
@@ -78,7 +79,8 @@ fn rises_to<D: Disk>(
     )
 }
 
-/// Where the log start comes to, which is above the log start, and at most the high watermark that the broker knows.
+/// Where the log start offset comes to, which is above the log start offset, and at most the high watermark that the
+/// broker knows.
 fn rises_within<D: Disk>(
     alloc: Global,
     held: &PartitionState<D>,
@@ -99,8 +101,8 @@ fn rises_within<D: Disk>(
     rises_to(alloc, held, node, broker_tier, keep)
 }
 
-/// Raises the log start for a leader. Retention raises it above the log start, and at most to the high watermark that the leader
-/// knows, so it is refused only where another epoch has begun.
+/// Raises the log start offset for a leader. Retention raises it above the log start offset, and at most to the high
+/// watermark that the leader knows, so it is refused only where another epoch has begun.
 fn raise<D: Disk>(held: &mut PartitionState<D>, role: Role, start: u64) -> Answer
     requires leads { leads role ≡ true }
     requires above { held.old.registry.start < start }
@@ -118,7 +120,7 @@ fn raise<D: Disk>(held: &mut PartitionState<D>, role: Role, start: u64) -> Answe
 }
 
 impl<S: Store, M: MetaLog> RemoteTier<S, M> {
-    /// Begins an expiry: the leader's view takes in what the metadata log has more.
+    /// Begins an expiry: the leader's view is refreshed.
     pub(crate) fn expire<D: Disk>(
         &mut self,
         alloc: Global,
@@ -135,7 +137,7 @@ impl<S: Store, M: MetaLog> RemoteTier<S, M> {
         self.begin_leading(alloc, b, held)
     }
 
-    /// Takes up a remote segment whose deletion is due, or raises the log start as retention says.
+    /// Takes up a remote segment whose deletion is due, or raises the log start offset as retention says.
     pub(crate) fn expire_on<D: Disk>(
         &self,
         alloc: Global,

@@ -22,8 +22,8 @@ use std::alloc::{AllocError, Global};
 use tier_base::{BrokerId, PartitionId};
 use tier_fetch::{FetchRequest, FetchStep, fetch_turn};
 
-/// What a fetch is answered before it reads, where its broker has stopped or no longer leads as it did, or the offset
-/// isn't committed or out of range.
+/// What a fetch returns before it reads, where its broker has stopped or no longer leads as it did, or the offset isn't
+/// committed or out of range.
 fn answer_of<D: Disk>(
     held: &PartitionState<D>,
     node: &Node<D>,

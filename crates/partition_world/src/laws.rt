@@ -14,27 +14,28 @@ pub fn steps_keep_central<D: Disk, S: Store, M: MetaLog>()
     ensures { StepsKeepCentral D.Disk S.Store M.MetaLog }
 {}
 
-/// Each step keeps the central fact with whatever notes a power cut may leave, for each opening state.
+/// Each step keeps the central fact with whatever metadata events a power cut may leave, for each opening state.
 pub fn steps_keep_left<D: Disk, S: Store, M: MetaLog>()
     ensures { StepsKeepCentralLeft D.Disk S.Store M.MetaLog }
 {}
 
-/// Where it holds so, it holds with the notes that are told.
+/// Where it holds so, it holds with the metadata events that are reported.
 pub fn left_is_central<D: Disk, S: Store, M: MetaLog>()
     ensures { LeftIsCentral D.Disk S.Store M.MetaLog }
 {}
 
-/// A fresh world whose logs, objects and notes are seen has it.
+/// A fresh world whose logs, objects and metadata events are seen has it.
 pub fn fresh_is_central<D: Disk, S: Store, M: MetaLog>()
     ensures { FreshIsCentral D.Disk S.Store M.MetaLog }
 {}
 
-/// A fresh world whose logs, objects and notes are seen has it with whatever notes a power cut may leave, where that is none.
+/// A fresh world whose logs, objects and metadata events are seen has it with whatever metadata events a power cut may
+/// leave, where that is none.
 pub fn fresh_is_central_left<D: Disk, S: Store, M: MetaLog>()
     ensures { FreshIsCentralLeft D.Disk S.Store M.MetaLog }
 {}
 
-/// A world that begins anew has it for each plain state that its devices stand for.
+/// A world that is reopened has it for each plain state that its devices represent.
 pub fn reopens_central<D: Disk, S: Store, M: MetaLog>()
     ensures { ReopensCentral D.Disk S.Store M.MetaLog }
 {}
@@ -54,7 +55,8 @@ pub fn ends_are_complete<D: Disk, S: Store, M: MetaLog>()
     ensures { EndsAreComplete D.Disk S.Store M.MetaLog }
 {}
 
-/// The journal of a world that a schedule reaches from a new one tells each actor's commands in turn, whatever the devices.
+/// The journal of a world that a schedule reaches from a new one gives each actor's commands in turn, whatever the
+/// devices.
 pub fn reaches_in_turn<D: Disk, S: Store, M: MetaLog>()
     ensures { ReachesInTurn D.Disk S.Store M.MetaLog }
 {}
@@ -69,8 +71,8 @@ pub fn reaches_lasting<D: Disk, S: Store, M: MetaLog>()
     ensures { ReachesLasting D.Disk S.Store M.MetaLog }
 {}
 
-/// A turn that is answered a fault of a device has raised that device's count of faults by one, and no other
-/// count has risen, whatever the devices.
+/// A turn that returns a fault of a device has raised that device's count of faults by one, and no other count has
+/// risen, whatever the devices.
 pub fn turns_answer_faults<D: Disk, S: Store, M: MetaLog>()
     ensures { TurnsAnswerFaults D.Disk S.Store M.MetaLog }
 {}
@@ -80,17 +82,17 @@ pub fn halts_meet_no_fault<D: Disk, S: Store, M: MetaLog>()
     ensures { HaltsMeetNoFault D.Disk S.Store M.MetaLog }
 {}
 
-/// Over devices of which no call can fail, no turn that a schedule leads through is answered a fault.
+/// Over devices of which no call can fail, no turn that a schedule leads through returns a fault.
 pub fn reaches_unfailing<D: Disk, S: Store, M: MetaLog>()
     ensures { ReachesUnfailing D.Disk S.Store M.MetaLog }
 {}
 
-/// A fresh world stands on such devices where no call is planned to fail.
+/// A fresh world is on such devices where no call is planned to fail.
 pub fn fresh_is_unfailing<D: Disk, S: Store, M: MetaLog>()
     ensures { FreshIsUnfailing D.Disk S.Store M.MetaLog }
 {}
 
-/// And so does one that begins anew.
+/// And so does one that is reopened.
 pub fn reopened_is_unfailing<D: Disk, S: Store, M: MetaLog>()
     ensures { ReopenedIsUnfailing D.Disk S.Store M.MetaLog }
 {}

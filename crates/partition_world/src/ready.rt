@@ -1,10 +1,10 @@
 //! What a turn has to do that the partition has no part in, and what of it was done before.
 //!
-//! The check of a batch from outside and the bundle of a segment that is copied take time in proportion to the bytes, and are functions
-//! of these alone. So a thread may make them without the partition's lock: it asks what an actor's next turn wants (`World::wanted`),
-//! makes it (`World::prepare`), and hands it in (`World::step_with`). A turn uses what is handed in only where it is of the very bytes,
-//! line and interval that the turn has; it makes its own otherwise. So a turn comes to the same whatever is handed in, and no clause
-//! of a step mentions it.
+//! The check of a batch from outside and the bundle of a segment that is copied take time in proportion to the bytes,
+//! and are functions of these alone. So a thread may make them without the partition's lock: it asks what an actor's
+//! next turn wants (`World::wanted`), makes it (`World::prepare`), and passes it in (`World::step_with`). A turn uses
+//! what is passed in only where it is of the very bytes, line and interval that the turn has; it makes its own
+//! otherwise. So a turn comes to the same whatever is passed in, and no clause of a step mentions it.
 
 ghost use Rattle.std.specs.Prelude.{◌≡◌, ◌<◌, length, slice_get, IfOk, OnErr, IsTrue, IsSomeAnd};
 ghost use Rattle.plain_log.specs.Orders.{IsInRange};

@@ -27,7 +27,7 @@ use rebuild_task::{RebuildRequest, RebuildStep, rebuild_turn};
 use std::alloc::{AllocError, Global};
 use tier_base::{BrokerId, PartitionId, Trouble};
 
-/// What a join is answered before it goes on, where something has come between.
+/// What a join returns before it continues, where something has come between.
 fn answer_of<D: Disk>(
     held: &PartitionState<D>,
     node: &Node<D>,
@@ -58,7 +58,7 @@ fn answer_of<D: Disk>(
     None
 }
 
-/// What a join notes, with another line.
+/// What a join records, with another line.
 fn with_line(
     alloc: Global,
     recorded: &StartSnapshot,
@@ -79,7 +79,8 @@ fn with_line(
 }
 
 impl<S: Store, M: MetaLog> RemoteTier<S, M> {
-    /// Goes on with a join: at once where nothing is needed of the remote tier, else with a refresh of the follower's view.
+    /// Continues with a join: at once where nothing is needed of the remote tier, else with a refresh of the follower's
+    /// view.
     pub(crate) fn join_on<D: Disk>(
         &mut self,
         alloc: Global,
@@ -102,7 +103,7 @@ impl<S: Store, M: MetaLog> RemoteTier<S, M> {
         self.refresh_on(broker, recorded, held)
     }
 
-    /// Lets the follower's view take in what the metadata log has more.
+    /// Refreshes the follower's view.
     fn refresh_on<D: Disk>(
         &mut self,
         broker: BrokerId,
@@ -127,7 +128,7 @@ impl<S: Store, M: MetaLog> RemoteTier<S, M> {
         }
     }
 
-    /// Reads the line with which the follower's log is to begin anew.
+    /// Reads the leader epochs with which the follower's log is to restart.
     pub(crate) fn read_epochs<D: Disk>(
         &mut self,
         alloc: Global,
@@ -157,7 +158,7 @@ impl<S: Store, M: MetaLog> RemoteTier<S, M> {
         Ok(rebuild_outcome(turn))
     }
 
-    /// Begins the follower's log anew, with the line that was read.
+    /// Restarts the follower's log, with the leader epochs that were read.
     pub(crate) fn restart<D: Disk>(
         &mut self,
         alloc: Global,
@@ -175,7 +176,7 @@ impl<S: Store, M: MetaLog> RemoteTier<S, M> {
         self.begin_anew(alloc, broker, &recorded, held)
     }
 
-    /// Begins the follower's log anew, with the line that was recorded.
+    /// Restarts the follower's log, with the leader epochs that were recorded.
     fn begin_anew<D: Disk>(
         &mut self,
         alloc: Global,

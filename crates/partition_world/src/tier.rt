@@ -25,7 +25,7 @@ pub struct BrokerTierState {
     pub cache: IndexCache,
 }
 
-/// A partition's remote store and remote log metadata, and a side for each broker, in their order.
+/// A partition's remote store and remote log metadata, and a tier state for each broker, in their order.
 #[derive(Drop)]
 pub struct RemoteTier<S: Store, M: MetaLog> {
     pub store: S,
@@ -73,7 +73,7 @@ impl<S: Store, M: MetaLog> RemoteTier<S, M> {
         self.meta.arm();
     }
 
-    /// Lets a broker's view take in what the metadata log has more.
+    /// Refreshes a broker's view.
     #[tactic(auto, using(crate::proofs::BrokerTierStates::set_same))]
     pub(crate) fn refresh(&mut self, b: usize) -> Result<(), Trouble>
         requires { b < length self.old.broker_tiers }

@@ -22,7 +22,7 @@ use std::alloc::{AllocError, Global};
 use tier_base::{Keep, Trouble};
 
 impl<S: Store, M: MetaLog> RemoteTier<S, M> {
-    /// Begins a trim: the broker's view takes in what the metadata log has more.
+    /// Begins a trim: the broker's view is refreshed.
     pub(crate) fn trim<D: Disk>(
         &mut self,
         alloc: Global,

@@ -208,7 +208,7 @@ impl<S: Store, M: MetaLog> RemoteTier<S, M> {
         self.copy_on(alloc, order.broker, recorded, copying, next, held)
     }
 
-    /// Carries out a turn of a fetch that goes on in the remote tier.
+    /// Carries out a turn of a fetch that continues in the remote tier.
     fn go_seeking<D: Disk>(
         &mut self,
         alloc: Global,
@@ -242,7 +242,7 @@ impl<S: Store, M: MetaLog> RemoteTier<S, M> {
         }
     }
 
-    /// Carries out a turn of a search by timestamp that has come to an offset.
+    /// Carries out a turn of a timestamp lookup that has come to an offset.
     fn go_dating<D: Disk>(
         &mut self,
         alloc: Global,
@@ -299,7 +299,7 @@ impl<S: Store, M: MetaLog> RemoteTier<S, M> {
         self.delete_on(alloc, order.broker, recorded, expired_segment, next, held)
     }
 
-    /// Carries out a turn of a join that begins its log anew.
+    /// Carries out a turn of a join that restarts its log.
     fn go_rebuilding<D: Disk>(
         &mut self,
         alloc: Global,

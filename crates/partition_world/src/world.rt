@@ -166,9 +166,9 @@ impl<D: Disk, S: Store, M: MetaLog> World<D, S, M> {
         })
     }
 
-    /// Makes a world that begins anew with this registry over devices that were used before. All brokers are down, no broker knows
-    /// anything of the remote tier, and no list has begun. No device is asked anything: the last act is to put their plans in force.
-    /// Where memory is wanting the devices are as they were.
+    /// Makes a world that is reopened with this registry over devices that were used before. All brokers are down, no
+    /// broker knows anything of the remote tier, and no list has begun. No device is asked anything: the last act is to
+    /// put their plans in force. Where memory runs out the devices are as they were.
     pub fn reopen(
         alloc: Global,
         partition: PartitionId,
@@ -187,7 +187,8 @@ impl<D: Disk, S: Store, M: MetaLog> World<D, S, M> {
 
         ensures new { IfOk result (IsNew lists) }
 
-        // It has the central fact for each plain state that the devices stand for, with whatever notes a power cut may leave.
+        // It has the central fact for each plain state that the devices represent, with whatever metadata events a
+        // power cut may leave.
         ensures central { IfOk result (λ w. (p : State) → AreCold D.Disk S.Store M.MetaLog partition registry
             devices.disks.items devices.store devices.meta p → IsCentralLeft D.Disk S.Store M.MetaLog p w) }
         ensures disks { IfErr result (λ e. e.0.disks.items ≡ devices.disks.items) }
@@ -251,8 +252,8 @@ impl<D: Disk, S: Store, M: MetaLog> World<D, S, M> {
         })
     }
 
-    /// The log of each broker that is up can be opened again from its disk, also after a power cut, and each broker has its side of
-    /// the remote tier. It does nothing that is seen.
+    /// The log of each broker that is up can be opened again from its disk, also after a power cut, and each broker has
+    /// its tier state of the remote tier. It does nothing that is seen.
     pub fn reopens(&self)
         ensures disks { AllReopen D.content self.now.held.nodes }
         ensures brokers { length self.now.held.nodes ≡ self.now.config.brokers }
@@ -295,7 +296,7 @@ impl<D: Disk, S: Store, M: MetaLog> World<D, S, M> {
         &self.journal
     }
 
-    /// Answers what the world was made with.
+    /// Returns what the world was made with.
     pub fn config(&self) -> &Config
         ensures { result.now ≡ self.now.config }
     {
@@ -309,7 +310,7 @@ impl<D: Disk, S: Store, M: MetaLog> World<D, S, M> {
         self.lists.as_slice()
     }
 
-    /// Answers whether an actor has answered so many of its commands, or all of them. One without a list has.
+    /// Returns whether an actor has answered so many of its commands, or all of them. One without a list has.
     pub fn has_answered(&self, actor: ActorId, number: u32) -> bool
         ensures { IsTrue result ↔ HasAnswered self.now actor.0 number }
     {
@@ -321,7 +322,7 @@ impl<D: Disk, S: Store, M: MetaLog> World<D, S, M> {
         number <= actor_state.number || list.orders.len() <= actor_state.number as usize
     }
 
-    /// Answers what the next turn of an actor's commands would have made ready.
+    /// Returns what the next turn of an actor's commands would have made ready.
     pub fn wanted(&self, alloc: Global, actor: ActorId) -> Result<Want, AllocError>
         ensures { IfOk result (IsWanted self.now actor.0) }
     {
@@ -412,7 +413,7 @@ fn fresh_books(alloc: Global, lists: &[ActorList]) -> Result<(Journal, Row<Actor
     Ok((journal, desk))
 }
 
-/// Makes the sides of so many brokers, which know of no remote segment.
+/// Makes the tier states of so many brokers, which know of no remote segment.
 fn fresh_broker_tiers(alloc: Global, count: u16) -> Result<Row<BrokerTierState>, AllocError>
     ensures { IfOk result (λ broker_tiers. broker_tiers ≡ replicate count fresh_broker_tier) }
 {

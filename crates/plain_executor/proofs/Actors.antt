@@ -17,14 +17,14 @@ put_set [] a y l = absurd (omega arith)
 put_set (z ∷ actors) zero y l = refl
 put_set (z ∷ actors) (suc a) y l = ap (λ zs. z ∷ zs) (put_set actors a y (omega arith))
 
--- behind an idle one
+-- after an idle one
 pub put_push : (actors : List Actor) (a : ℕ) (y : Actor) → length actors < a → put_actor (actors ++ idle ∷ []) a y ≡ put_actor actors a y
 put_push [] zero y l = absurd (omega arith)
 put_push [] (suc a) y l = refl
 put_push (z ∷ actors) zero y l = absurd (omega arith)
 put_push (z ∷ actors) (suc a) y l = ap (λ zs. z ∷ zs) (put_push actors a y (omega arith))
 
--- behind all of them
+-- after all of them
 pub put_last : (actors : List Actor) (a : ℕ) (y : Actor) → length actors ≡ a → put_actor actors a y ≡ actors ++ y ∷ []
 put_last [] zero y l = refl
 put_last [] (suc a) y l = absurd (omega arith)

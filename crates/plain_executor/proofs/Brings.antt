@@ -2,7 +2,7 @@
 use Rattle.std.proofs.Common.{◌≡◌, refl, ap, subst, ℕ, zero, suc, ◌-◌, ◌≤◌, List, [], ◌∷◌, ◌++◌, take, drop, length, arith}
 use mathlib.Core.List.{IsPrefix}
 
--- with the next ones behind it
+-- with the next ones after it
 pub brought : {A : Type 0} (xs r : List A) (n : ℕ) → length xs ≤ n → xs ++ take (n - length xs) (drop (length xs) (xs ++ r)) ≡ take n (xs ++ r)
 brought [] r n l = ap (λ k. take k r) (omega arith)
 brought (x ∷ xs) r zero l = absurd (omega arith)

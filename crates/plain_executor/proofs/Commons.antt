@@ -1,4 +1,5 @@
--- What two logs have in common, told from the end of the shorter one: a last batch that both don't have is left out.
+-- What two logs have in common, reported from the end of the shorter one: a last batch that both don't have is left
+-- out.
 use Rattle.std.proofs.Common.{◌≡◌, refl, ap, ℕ, zero, suc, ◌-◌, ◌<◌, ◌≤◌, min, List, [], ◌∷◌, take, length, get_or, Some, true, false, arith}
 use Rattle.std.specs.Prelude.{slice_get, bytes_eq}
 use Rattle.std.proofs.lemmas.Option.{slice_get_read}
@@ -32,7 +33,7 @@ pub common_self : (log : List (List ℕ)) → common log log ≡ log
 common_self [] = refl
 common_self (v ∷ log) = rw ((bytes_eq-Decides v v).1 refl) (ap (λ z. v ∷ z) (common_self log))
 
--- the same batches and the same one behind them
+-- the same batches and the same one after them
 pub same_more : (log other : List (List ℕ)) (k : ℕ) (v : List ℕ) → slice_get log k ≡ Some v → slice_get other k ≡ Some v
     → take k log ≡ take k other → take (suc k) log ≡ take (suc k) other
 same_more [] other k v a b e = absurd cc

@@ -68,7 +68,7 @@ done_ends config lists journal counts run are = (λ h a. go h a (list_or_none li
         let top = replay_within lists (fresh config) journal run.last a run.replays (fresh_safe (config.brokers - 1)) (omega arith) in
         omega (arith, top, empty)
 
--- a test that they are tells whether the journal is a complete run
+-- a test that they are reports whether the journal is a complete run
 pub complete_run_tells : (config : Config) (lists : List ActorList) (journal : List JournalEntry) (counts : List ℕ) (p : State) (r : Bool)
     → RunsEndComplete → replay lists (fresh config) journal ≡ Some p → AreCounts lists counts → IsTrue r ↔ AreDone lists counts p
     → IsTrue r ↔ IsCompleteRun config lists journal

@@ -15,14 +15,14 @@ eq_split (x ∷ a) b (y ∷ c) l = go (nat_eq x y) refl (eq_split a b c (omega a
     go true e r = rw e r
     go false e r = rw e refl
 
--- the batches from a place on, by the one that stands there and those behind it
+-- the batches from a place on, by the one that is there and those after it
 pub joined_at : (log : List (List ℕ)) (i : ℕ) (batch rest : List ℕ) → i < length log → batch ≡ get_or log i batch
     → length batch ≤ length rest
     → bytes_eq (joined (drop i log)) rest ≡ bytes_eq batch (take (length batch) rest) && bytes_eq (joined (drop (i + 1) log)) (drop (length batch) rest)
 joined_at log i batch rest b is l =
     rw (drop_more log i batch b) (rw (← is) (eq_split batch (joined (drop (i + 1) log)) rest l))
 
--- where less is left than the batch that stands there
+-- where less is left than the batch that is there
 pub joined_short : (log : List (List ℕ)) (i : ℕ) (batch rest : List ℕ) → i < length log → batch ≡ get_or log i batch
     → length rest < length batch → bytes_eq (joined (drop i log)) rest ≡ false
 joined_short log i batch rest b is l =

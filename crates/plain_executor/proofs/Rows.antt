@@ -1,4 +1,4 @@
--- Rows whose cases are told apart.
+-- Rows whose cases are distinguished.
 use Rattle.std.proofs.Common.{◌≡◌, refl, ℕ, List, Ok, Err, Result}
 use Rattle.std.specs.Prelude.{IsOk}
 use Rattle.record_batch.specs.Check.{Batch}

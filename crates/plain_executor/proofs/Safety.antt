@@ -15,13 +15,13 @@ are_joined p safe = λ b x e get is.
     let role = subst (λ (r : Role). RoleSafe p.paths p.registry.epoch r x.log) is (safe.brokers b x get).role in
     role.1
 
--- the batches before a place with the one that stands there begin a list
+-- the batches before a place with the one that is there begin a list
 front_is : (log : List (List ℕ)) (k : ℕ) (batch : List ℕ) → slice_get log k ≡ Some batch → IsPrefix (take k log ++ batch ∷ []) log
 front_is [] k batch get = absurd cc
 front_is (v ∷ log) zero batch get = (log, cc (get))
 front_is (v ∷ log) (suc k) batch get = let r = front_is log k batch get in (r.0, ap (λ z. v ∷ z) r.1)
 
--- two lists that reach a place, each with the same list behind it: they have the same items before it
+-- two lists that reach a place, each with the same list after it: they have the same items before it
 fronts_same : (k : ℕ) (log other path : List (List ℕ)) (v w : List ℕ) → slice_get log k ≡ Some v → slice_get other k ≡ Some w
     → IsPrefix (take k log ++ v ∷ []) path → IsPrefix (take k other ++ w ∷ []) path → take k log ≡ take k other
 fronts_same k [] other path v w a b p q = absurd cc

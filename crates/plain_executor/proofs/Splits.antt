@@ -64,7 +64,7 @@ end_last n (v ∷ w ∷ log) d b =
     let short : suc (length log) - 1 ≡ length log = omega arith in
     rw long (rw short at (end_last (last_of v + 1) (w ∷ log) d (omega arith)))
 
--- what stands at a place doesn't hang on what would stand past the end
+-- what is at a place doesn't hang on what would be past the end
 pub get_any : (log : List (List ℕ)) (k : ℕ) (d e : List ℕ) → k < length log → get_or log k d ≡ get_or log k e
 get_any [] k d e b = absurd (omega arith)
 get_any (v ∷ log) zero d e b = refl

@@ -23,7 +23,7 @@ pub numbers_more : (m n x : ℕ) → x ≡ m + n → numbers_from m n ++ x ∷ [
 numbers_more m zero x e = ap (λ (k : ℕ). k ∷ []) (let z : x ≡ m = omega (arith, e) in z)
 numbers_more m (suc n) x e = ap (λ (ns : List ℕ). m ∷ ns) (numbers_more (m + 1) n x (omega (arith, e)))
 
--- behind the first of them comes the next
+-- after the first of them comes the next
 pub numbers_next : (m n k x : ℕ) (rest : List ℕ) → numbers_from m n ++ x ∷ rest ≡ numbers_from m k → x ≡ m + n
 numbers_next m zero zero x rest e = absurd cc
 numbers_next m zero (suc k) x rest e = let h : x ≡ m = cc in omega (arith, h)
@@ -62,7 +62,7 @@ pub answered_own : (a : ℕ) (entry : JournalEntry) (answer : Answer) (more : Li
     → answered a (entry ∷ more) ≡ entry.number ∷ answered a more
 answered_own a entry answer more e is = let t : (entry.actor.0 == a) ≡ true = grind (arith, nat_tests, is) in rw (t, e) refl
 
--- counts go on
+-- counts continue
 
 -- by an entry that begins a command
 pub count_begin : (journal : List JournalEntry) (counts : List ℕ) (entry : JournalEntry) (cut : _) → entry.event ≡ Begins cut

@@ -25,7 +25,7 @@ ends lists p (first ∷ journal) (suc place) q entry run get none =
     let m = and_then_some (λ (w : State). replay lists w (take place journal)) (entry_step lists p first) q run in
     rw m.1 (ends lists m.0 journal place q entry m.2 get none)
 
--- the state after a journal tells whether it is a run
+-- the state after a journal reports whether it is a run
 pub state_tells : (config : Config) (lists : List ActorList) (journal : List JournalEntry) (o : Option State) (r : Bool) → o ≡ replay lists (fresh config) journal
     → r ≡ is_some o → IsTrue r ↔ IsPlainRun config lists journal
 state_tells config lists journal None r e is = (λ t. absurd (cc (t, is)), λ run. absurd (let some = run.replays in cc (e, some)))

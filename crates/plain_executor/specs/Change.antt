@@ -65,7 +65,7 @@ abbrev pub is_timed : Which → Bool
 is_timed (At ts) = true
 is_timed other = false
 
--- no path of the epoch stands before this place
+-- no path of the epoch precedes this place
 abbrev pub NoneBefore : List Path → ℕ → ℕ → Type 0
 NoneBefore paths e at = (k : ℕ) (path : Path) → k < at → slice_get paths k ≡ Some path → path.epoch ≡ e → ⊥
 

@@ -1,4 +1,4 @@
--- When a journal is complete, told by counts: a list has a count for each actor by its number, and 0 past its end.
+-- When a journal is complete, reported by counts: a list has a count for each actor by its number, and 0 past its end.
 use Rattle.std.specs.Prelude.{◌≡◌, ◌↔◌, ℕ, List, length, slice_index}
 use Rattle.plain_log.specs.declared.command.ActorList.{ActorList}
 use Rattle.plain_log.specs.declared.command.Config.{Config}

@@ -1,4 +1,4 @@
--- What is told of a journal: that it is a run, or its first entry that is no step.
+-- What is reported of a journal: that it is a run, or its first entry that is no step.
 use Rattle.std.specs.Prelude.{◌≡◌, ℕ, List, Option, Some, None, slice_get, take}
 use Rattle.plain_log.specs.declared.command.ActorList.{ActorList}
 use Rattle.plain_log.specs.declared.command.Config.{Config}
@@ -7,7 +7,7 @@ use Rattle.plain_log.specs.declared.state.State.{State}
 use Rattle.plain_log.specs.Fresh.{fresh}
 use Rattle.plain_log.specs.Runs.{replay, entry_step, IsPlainRun}
 
--- the entries before this place are a run, and the one that stands there is no step after it
+-- the entries before this place are a run, and the one that is there is no step after it
 pub record IsFirstRefused (config : Config) (lists : List ActorList) (journal : List JournalEntry) (place : ℕ) : Type 0 where
   pub state : State
   pub entry : JournalEntry
@@ -20,7 +20,7 @@ abbrev pub IsVerdict : Config → List ActorList → List JournalEntry → Optio
 IsVerdict config lists journal None = IsPlainRun config lists journal
 IsVerdict config lists journal (Some place) = IsFirstRefused config lists journal place
 
--- the entries before this place lead from p to q, and the one that stands there is no step after q
+-- the entries before this place lead from p to q, and the one that is there is no step after q
 pub record IsRefusedAt (lists : List ActorList) (p : State) (journal : List JournalEntry) (q : State) (place : ℕ) : Type 0 where
   pub entry : JournalEntry
   pub run : replay lists p (take place journal) ≡ Some q

@@ -19,7 +19,7 @@ pub(crate) enum Change {
     Flushes(u64),
     /// The broker stops.
     Stops,
-    /// It comes up with the first batches of its log, so many, which end here.
+    /// It starts with the first batches of its log, so many, which end here.
     Opens {
         count: usize,
         end: u64,

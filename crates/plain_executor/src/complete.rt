@@ -33,7 +33,7 @@ fn are_at_end(plain: &Plain, lists: &[ActorList], counts: &[usize]) -> bool
     true
 }
 
-/// Answers whether a journal answers every command of every list, each once and in its actor's order. Whether it is a
+/// Returns whether a journal answers every command of every list, each once and in its actor's order. Whether it is a
 /// run isn't looked at.
 pub fn is_complete(
     alloc: Global,
@@ -57,7 +57,7 @@ fn ends_complete(alloc: Global, plain: &Plain, lists: &[ActorList]) -> Result<bo
     Ok(are_at_end(plain, lists, counts.as_slice()))
 }
 
-/// Answers whether a journal is a run of the plain log that answers every command of every list. The journal is gone
+/// Returns whether a journal is a run of the plain log that answers every command of every list. The journal is gone
 /// over once.
 pub fn is_complete_run(
     alloc: Global,

@@ -40,7 +40,7 @@ fn count_common(log: &[Bytes], other: &[Bytes]) -> usize
     count
 }
 
-/// Where a join cuts the log that is told to end at n.
+/// Where a join cuts the log that is reported to end at n.
 pub(crate) fn cut_at(p: &State, x: &Broker, n: u64) -> Option<(u32, usize)>
     requires { MatchesPaths p.now x.now }
     ensures { cut_to p.now x.now n ≡ option_map (λ at. cut x.now at.0 at.1 n) result }
@@ -57,7 +57,7 @@ pub(crate) fn cut_at(p: &State, x: &Broker, n: u64) -> Option<(u32, usize)>
     }
 }
 
-/// Whether a later turn goes on.
+/// Whether a later turn continues.
 fn is_going_on(p: &State, x: &Broker, recorded: &PlainSnapshot) -> bool
     ensures { result ≡ goes_on p.now x.now recorded.now }
 {
@@ -82,14 +82,14 @@ fn longer_to(p: &State, x: &Broker, n: u64) -> Option<(u32, usize)>
     }
 }
 
-/// Whether the log start has reached n since the command began.
+/// Whether the log start offset has reached n since the command began.
 fn was_passed_by(p: &State, recorded: &PlainSnapshot, n: u64) -> bool
     ensures { result ≡ was_passed p.now recorded.now n }
 {
     recorded.start < n && n <= p.registry.start
 }
 
-/// Whether a later turn of either is answered so.
+/// Whether a later turn of either gets this answer.
 fn later(p: &State, x: &Broker, recorded: &PlainSnapshot, answer: &Answer) -> bool
     ensures { later_row p.now x.now recorded.now answer.now ≡ when result p.now }
 {
@@ -104,7 +104,7 @@ fn later(p: &State, x: &Broker, recorded: &PlainSnapshot, answer: &Answer) -> bo
     }
 }
 
-/// How the log is begun anew at n.
+/// How the log is restarted at n.
 fn rebuilt_to(p: &State, x: &Broker, recorded: &PlainSnapshot, n: u64) -> Option<(u32, usize)>
     requires { (e : ℕ) (path : List (List ℕ)) → path_of p.now.paths e ≡ Some path → IsConsecutive 0 path }
     ensures { rebuilt p.now x.now recorded.now n ≡ option_map (λ at. record x.now { log = take at.1 (path_in p.now at.0) }) result }
@@ -232,7 +232,7 @@ fn follow_first(p: &State, x: &Broker, answer: &Answer) -> bool
     }
 }
 
-/// Whether the batches behind the first so many, up to others, are one, or several that fit the limit.
+/// Whether the batches after the first so many, up to others, are one, or several that fit the limit.
 fn adds_within(limit: u64, path: &[Bytes], from: usize, to: usize) -> bool
     requires { to ≤ length path.now }
     ensures { result ≡ is_within limit (drop from (take to path.now)) }

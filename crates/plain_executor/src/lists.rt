@@ -28,7 +28,7 @@ pub(crate) fn prepend<T: Drop>(alloc: Global, row: &mut Row<T>, item: T) -> Resu
     if done { Ok(()) } else { Err(AllocError) }
 }
 
-/// Puts items behind the others.
+/// Puts items after the others.
 pub(crate) fn append<T: Drop>(
     alloc: Global,
     row: &mut Row<T>,

@@ -21,14 +21,14 @@ use plain_log::{Answer, Broker};
 use record_batch::{BatchRefusal, Rec, built_head_tells, check};
 use tier_base::OFFSET_LIMIT;
 
-/// Whether a log has room for a batch whose last offset is so far behind its first.
+/// Whether a log has room for a batch whose last offset is so far after its first.
 fn fits(x: &Broker, delta: u64) -> bool
     ensures { (batch : List ℕ) → last_offset_delta_of batch ≡ delta → has_room x.now batch ≡ result }
 {
     end(x.log.as_slice()) + u128::from(delta) + 1 <= u128::from(OFFSET_LIMIT)
 }
 
-/// Whether an answer tells of a batch at the end of a leader's log: its base, its last offset and its leader epoch.
+/// Whether an answer reports a batch at the end of a leader's log: its base, its last offset and its leader epoch.
 fn is_span(x: &Broker, delta: u64, base: u64, last: u64) -> bool
     ensures { result ≡ ((base == end_of x.now.log) && (last == base + delta)) }
 {
@@ -36,7 +36,7 @@ fn is_span(x: &Broker, delta: u64, base: u64, last: u64) -> bool
         && u128::from(last) == u128::from(base) + u128::from(delta)
 }
 
-/// What an append of the command's batch changes that is answered so.
+/// What an append of the command's batch changes that gets this answer.
 fn append_batch(x: &Broker, delta: u64, answer: &Answer) -> Option<Change>
     ensures { (p : State) (b : ℕ) (s : Replica) (command : Command) → last_offset_delta_of (batch_in command) ≡ delta
         → append_row p b x.now (batch_in command) answer.now ≡ option_map (changed p b x.now s command) result }
@@ -166,7 +166,7 @@ pub(crate) fn stop(x: &Broker, answer: &Answer) -> Option<Change>
     }
 }
 
-/// Whether the log may end here when the broker comes up, which is behind so many batches.
+/// Whether the log may end here when the broker starts, which is after so many batches.
 fn opens_at(x: &Broker, n: u64, count: usize) -> bool
     requires within { count ≤ length x.now.log }
     requires is { up_to n x.now.log ≡ take count x.now.log }

@@ -47,7 +47,7 @@ pub(crate) fn break_off(x: &mut Broker, flushed_end: u64)
     x.loose = true;
 }
 
-/// Lets a broker come up with its first batches, so many, which end here.
+/// Lets a broker start with its first batches, so many, which end here.
 pub(crate) fn open(alloc: Global, x: &mut Broker, count: usize, end: u64)
     ensures { x.new ≡ record x.old { up = true; log = take count x.old.log; flushed_end = end; loose = false } }
 {
@@ -90,7 +90,7 @@ fn lengthen(paths: &mut Row<Path>, epoch: u32, batch: Bytes) -> Result<(), Alloc
     Ok(())
 }
 
-/// Builds the batch of an append's records at its place. They make one, so only memory can be wanting.
+/// Builds the batch of an append's records at its place. They make one, so only memory can run out.
 fn build_at(alloc: Global, base: u64, epoch: u32, recs: &[Rec]) -> Result<Bytes, AllocError>
     requires { IsBuildable recs.now }
     ensures { IfOk result (λ batch. batch ≡ stamped (built recs.now) base epoch) }

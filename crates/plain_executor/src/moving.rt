@@ -29,7 +29,7 @@ pub(crate) fn expand(p: &mut State, b: usize)
     p.registry.replicas.at_mut(b).in_sync = true;
 }
 
-/// Raises the log start.
+/// Raises the log start offset.
 pub(crate) fn start(p: &mut State, offset: u64)
     ensures { p.new ≡ set_registry p.old (started p.old.registry offset) }
 {

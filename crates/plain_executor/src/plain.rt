@@ -104,7 +104,7 @@ impl Plain {
         stepping::number(&self.state, actor.0 as usize)
     }
 
-    /// Carries out an entry of a journal about an order, and answers whether it is a step of the plain log. Where it
+    /// Carries out an entry of a journal about an order, and returns whether it is a step of the plain log. Where it
     /// isn't one, nothing changes.
     pub fn step(
         &mut self,

@@ -44,7 +44,7 @@ fn is_in_range(p: &State, x: &Broker, offset: u64) -> bool
     p.registry.start <= offset && u128::from(offset) <= end(x.log.as_slice())
 }
 
-/// Whether a fetch at the offset is answered by a run.
+/// Whether a fetch at the offset returns a run.
 pub(crate) fn has_run(p: &State, x: &Broker, offset: u64, recorded: Option<&PlainSnapshot>) -> bool
     ensures { result ≡ gives_run p.now x.now offset (option_copied recorded.entry) }
 {
@@ -140,7 +140,7 @@ fn is_told_run(x: &Broker, offset: u64, limit: u64, size: u64, stop: Stop, bytes
         && is_stop(x, log, count, limit, stop)
 }
 
-/// Whether a fetch is answered so.
+/// Whether a fetch gets this answer.
 pub(crate) fn fetch(
     p: &State,
     x: &Broker,
@@ -190,7 +190,7 @@ pub(crate) fn takes_turns(which: &Which) -> bool
     matches!(which, Which::LatestTiered | Which::At(_))
 }
 
-/// The base of the first batch whose greatest timestamp isn't earlier, or the log start where that is greater.
+/// The base of the first batch whose greatest timestamp isn't earlier, or the log start offset where that is greater.
 fn first_offset(ts: i64, start: u64, log: &[Bytes]) -> Option<u64>
     ensures { result ≡ first_at ts start log.now }
 {
@@ -226,7 +226,7 @@ fn is_offset(p: &State, x: &Broker, which: &Which, answer: Option<u64>) -> bool
     }
 }
 
-/// Whether a question for an offset is answered so.
+/// Whether a question for an offset gets this answer.
 pub(crate) fn offset(
     p: &State,
     x: &Broker,

@@ -249,7 +249,7 @@ fn begin(
     Ok(true)
 }
 
-/// Carries out an entry of a journal about an order, and answers whether it is a step.
+/// Carries out an entry of a journal about an order, and returns whether it is a step.
 pub(crate) fn step(
     p: &mut State,
     alloc: Global,

@@ -24,7 +24,7 @@ fn is_leading_on(x: &Broker, recorded: &PlainSnapshot) -> bool
     recorded.stops == x.stops && is_role(recorded.role, x.role)
 }
 
-/// Whether a copy is answered so.
+/// Whether a copy gets this answer.
 pub(crate) fn copy(p: &State, x: &Broker, recorded: Option<&PlainSnapshot>, answer: &Answer) -> bool
     ensures { copy_row p.now x.now (option_copied recorded.entry) answer.now ≡ when result p.now }
 {
@@ -49,7 +49,7 @@ pub(crate) fn copy(p: &State, x: &Broker, recorded: Option<&PlainSnapshot>, answ
     }
 }
 
-/// What a trim that is answered so changes.
+/// What a trim that gets this answer changes.
 pub(crate) fn trim(
     p: &State,
     b: usize,
@@ -78,7 +78,7 @@ pub(crate) fn trim(
     }
 }
 
-/// Whether the registry answers a raise of the log start so.
+/// Whether the registry answers a raise of the log start offset so.
 fn is_raise(p: &State, epoch: u32, wanted: u64, answer: Result<u64, RegRefusal>) -> Option<Change>
     ensures { (b : ℕ) (x : Broker) (s : Replica) (command : Command)
         → left_by p.now (after_raise p.now.registry epoch wanted answer) ≡ option_map (changed p.now b x s command) result }
@@ -105,7 +105,7 @@ fn is_raise(p: &State, epoch: u32, wanted: u64, answer: Result<u64, RegRefusal>)
     }
 }
 
-/// What a raise of the log start for the broker changes.
+/// What a raise of the log start offset for the broker changes.
 fn raised(p: &State, x: &Broker, wanted: u64, answer: Result<u64, RegRefusal>) -> Option<Change>
     ensures { (b : ℕ) (s : Replica) (command : Command)
         → raised_by p.now x.now wanted answer ≡ option_map (changed p.now b x.now s command) result }
@@ -128,7 +128,7 @@ fn raise_stale(p: &State, x: &Broker, wanted: u64, n: u64) -> Option<Change>
     )
 }
 
-/// What an expiry that is answered so changes.
+/// What an expiry that gets this answer changes.
 pub(crate) fn expire(
     p: &State,
     x: &Broker,
@@ -149,7 +149,7 @@ pub(crate) fn expire(
     }
 }
 
-/// What an expiry that has begun changes, where it is answered so.
+/// What an expiry that has begun changes, where it gets this answer.
 fn expire_on(p: &State, x: &Broker, recorded: &PlainSnapshot, answer: &Answer) -> Option<Change>
     ensures { (b : ℕ) (s : Replica) (command : Command)
         → expire_row p.now x.now (Some recorded.now) answer.now ≡ option_map (changed p.now b x.now s command) result }
@@ -169,7 +169,7 @@ fn expire_on(p: &State, x: &Broker, recorded: &PlainSnapshot, answer: &Answer) -
     }
 }
 
-/// What a raise that is answered so changes.
+/// What a raise that gets this answer changes.
 pub(crate) fn raise(p: &State, x: &Broker, wanted: u64, answer: &Answer) -> Option<Change>
     ensures { (b : ℕ) (s : Replica) (command : Command)
         → raise_row p.now x.now wanted answer.now ≡ option_map (changed p.now b x.now s command) result }

@@ -53,7 +53,7 @@ fn take(
     Ok(taken)
 }
 
-/// Carries out entries up to the first that is no step of the plain log, and answers its place.
+/// Carries out entries up to the first that is no step of the plain log, and returns its place.
 pub fn take_all(
     alloc: Global,
     plain: &mut Plain,
@@ -71,7 +71,7 @@ pub fn take_all(
     Ok(None)
 }
 
-/// Answers the place of the first entry that is no step of the plain log, or none where the journal is a run of it.
+/// Returns the place of the first entry that is no step of the plain log, or none where the journal is a run of it.
 pub fn first_refused(
     alloc: Global,
     config: &Config,
@@ -89,7 +89,7 @@ pub fn first_refused(
     place
 }
 
-/// Carries out a journal, and answers the state after it, or none where an entry is no step of the plain log.
+/// Carries out a journal, and returns the state after it, or none where an entry is no step of the plain log.
 pub fn replay(
     alloc: Global,
     config: &Config,
@@ -115,7 +115,7 @@ pub fn replay(
     }
 }
 
-/// Answers whether a journal is a run of the plain log.
+/// Returns whether a journal is a run of the plain log.
 pub fn is_run(
     alloc: Global,
     config: &Config,

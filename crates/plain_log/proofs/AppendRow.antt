@@ -217,7 +217,7 @@ appends_of x batch base last e w =
     let t4 = both x.up (leads_in e x.role) t3.0 in
     record { up = t4.0; leads = t4.1; room = t3.1; base_is = eq_of base (end_of x.log) t2.1 }
 
--- an offset with room behind it is a number of 64 bits
+-- an offset with room after it is a number of 64 bits
 within_64 : (base end delta limit : ℕ) → base ≡ end → end + delta + 1 ≤ limit → limit ≤ 4611686018427387904 → base < 2 ^ 64
 within_64 base end delta limit is le small = omega (arith, is, le, small)
 

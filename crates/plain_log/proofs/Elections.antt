@@ -64,7 +64,7 @@ refused_lead : is_some (replay lists (fresh_state 1) (before ++ answered 0 6 (an
 unfolding field_at base_of epoch_of last_offset_delta_of crc_step crc32c shortest varint_bytes varlong_bytes blob_bytes optional_bytes header_bytes header_list_bytes body_bytes record_bytes all_bytes u32_bytes ts_bytes no_producer late_head early_head sealed built stamped
 refused_lead = refl
 
--- a log start that passed a follower: its log begins anew at the leader's local start
+-- a log start that passed a follower: its log restarts at the leader's local start
 
 abbrev dropped : List ActorList
 dropped =
@@ -132,7 +132,7 @@ abbrev breaking : List JournalEntry
 breaking =
     answered 0 0 (answers.OkSpan 0 0 0) ∷ answered 0 1 (answers.OkAt 1) ∷ answered 0 2 (answers.OkSpan 1 1 0) ∷ answered 0 3 answers.DiskFault ∷ []
 
--- the journal goes on so
+-- the journal continues so
 abbrev goes_on : List ActorList → ℕ → List JournalEntry → Bool
 goes_on lists others journal = is_some (replay lists (fresh_state others) journal)
 
@@ -141,7 +141,7 @@ opens : (goes_on broken 0 (breaking ++ answered 0 4 (answers.Up 2) ∷ []) ≡ t
 unfolding field_at base_of epoch_of last_offset_delta_of crc_step crc32c shortest varint_bytes varlong_bytes blob_bytes optional_bytes header_bytes header_list_bytes body_bytes record_bytes all_bytes u32_bytes ts_bytes no_producer late_head early_head sealed built stamped
 opens = (refl, refl, refl)
 
--- what a newer epoch fences: an acknowledgement and a log begun anew; and a replica out of sync isn't elected
+-- what a newer epoch fences: an acknowledgement and a log restarted; and a replica out of sync isn't elected
 
 abbrev fenced : List ActorList
 fenced =

@@ -24,7 +24,7 @@ use Rattle.plain_log.proofs.Swaps.{Swap, swap_trans, swap_stop, swap_all_stable}
 use Rattle.plain_log.proofs.Joins.{swap_cut, swap_extended, extended_ends}
 use Rattle.plain_log.proofs.Keeps.{Keeps, silent, by_when, by_broker, broker_kept, breaks_kept}
 
--- a begun join or follow whose turn goes on: the broker has the recorded role
+-- a begun join or follow whose turn continues: the broker has the recorded role
 pub still_joined : (p : State) (x : Broker) (recorded : PlainSnapshot) → goes_on p x recorded ≡ true
     → HasJoined p.registry.epoch recorded x → (e : ℕ) × (x.role ≡ Joined e)
 still_joined p x recorded t j =
@@ -40,7 +40,7 @@ abbrev pub JoinedSnapshot : State → Broker → Option PlainSnapshot → Type 0
 JoinedSnapshot p x None = Unit {0}
 JoinedSnapshot p x (Some recorded) = HasJoined p.registry.epoch recorded x
 
--- a log begun anew is the path up to n
+-- a log restarted is the path up to n
 pub swap_rebuilt : (p : State) (b : ℕ) (x : Broker) (recorded : PlainSnapshot) (n : ℕ) (y : Broker) → slice_get p.brokers b ≡ Some x → JoinedSnapshot p x (Some recorded)
     → rebuilt p x recorded n ≡ Some y → PlainSafe p → Swap p x y × (extended p x n ≡ Some y)
 swap_rebuilt p b x recorded n y at j e s =

@@ -173,7 +173,7 @@ fetch_led p b x offset limit recorded tier size stop bytes q at s e = go recorde
     go None i = made None i
     go (Some n) i = made (Some n) i
 
--- a fetch that is answered by a run
+-- a fetch that returns a run
 fetch_part : (p : State) (b : ℕ) (x : Broker) (offset limit : ℕ) (recorded : Option PlainSnapshot) (tier : Tier) (size : ℕ) (stop : Stop) (bytes : List ℕ) (q : State)
     → slice_get p.brokers b ≡ Some x → PlainSafe p → p.unclean ≡ false → fetch_row p x offset limit recorded (Run tier size stop bytes) ≡ Some q → IsPartAt offset bytes p.committed
 fetch_part p b x offset limit None tier size stop bytes q at s clean e = part_of p b x offset limit size stop bytes at s clean (both _ _ (when_some _ p q e).0).1
@@ -261,7 +261,7 @@ replay_goes lists p (entry ∷ journal) q e s =
       clean = λ u. (one.clean (more.clean u)).0;
     }
 
--- what is committed stays where no step begins it anew
+-- what is committed stays where no step begins it again
 pub replay_stays : (lists : List ActorList) (p : State) (journal : List JournalEntry) (q : State) → replay lists p journal ≡ Some q → PlainSafe p
     → AllByRecursion (IsNoRestart lists) journal → IsPrefix p.committed q.committed
 replay_stays lists p [] q e s none =

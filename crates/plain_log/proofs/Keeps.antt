@@ -23,7 +23,7 @@ pub record Keeps (p q : State) : Type 0 where
   pub grows : IsPrefix p.committed q.committed
   pub clean : q.unclean ≡ p.unclean
 
--- what any row keeps, where `anew` tells whether it begins anew what is committed
+-- what any row keeps, where `anew` reports whether it starts again what is committed
 pub record RowGoes (anew : Bool) (p q : State) : Type 0 where
   pub safe : PlainSafe q
   pub actors : q.actors ≡ p.actors
@@ -31,7 +31,7 @@ pub record RowGoes (anew : Bool) (p q : State) : Type 0 where
   pub grows : anew ≡ false → IsPrefix p.committed q.committed
   pub clean : q.unclean ≡ false → (p.unclean ≡ false) × (anew ≡ false)
 
--- a row that keeps what is committed doesn't begin it anew
+-- a row that keeps what is committed doesn't begin it again
 pub row_goes : (p q : State) → Keeps p q → RowGoes false p q
 row_goes p q k = record { safe = k.safe; actors = k.actors; wider = k.wider; grows = λ _. k.grows; clean = λ u. (sym k.clean ∙ u, refl) }
 

@@ -25,7 +25,7 @@ use Rattle.plain_log.proofs.NewEpoch.{current_none}
 
 -- a path of a new epoch
 
--- the other paths stand as they did
+-- the other paths are as they did
 pub added_has : (ps : List Path) (n : ℕ) (log : List (List ℕ)) (e : ℕ) (l : List (List ℕ)) → path_of ps n ≡ None → path_of ps e ≡ Some l
     → path_of (record { epoch = n; log = log } ∷ ps) e ≡ Some l
 added_has ps n log e l gone is = go (n == e) refl
@@ -34,7 +34,7 @@ added_has ps n log e l gone is = go (n == e) refl
     go false t = rw t is
     go true t = let same : n ≡ e = grind (arith, nat_tests, t) in absurd (cc (same, gone, is))
 
--- the new one stands there
+-- the new one is there
 pub added_new : (ps : List Path) (n : ℕ) (log : List (List ℕ)) → path_of (record { epoch = n; log = log } ∷ ps) n ≡ Some log
 added_new ps n log = go (n == n) refl
   where

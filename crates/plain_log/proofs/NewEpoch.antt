@@ -25,11 +25,11 @@ no_path p n lt s = go (path_of p.paths n) refl
     go None e = e
     go (Some l) e = absurd (let h = (s.paths n l e).below in omega (arith, h, lt))
 
--- an epoch without a path goes on from what is committed
+-- an epoch without a path continues from what is committed
 pub current_none : (paths : List Path) (n : ℕ) (c : List (List ℕ)) → path_of paths n ≡ None → current paths n c ≡ c
 current_none paths n c e = rw e refl
 
--- the rules of a part go on in a later epoch
+-- the rules of a part continue in a later epoch
 pub role_later : (paths : List Path) (m n : ℕ) (r : Role) (log : List (List ℕ)) → m ≤ n → RoleSafe paths m r log → RoleSafe paths n r log
 role_later paths m n Idle log le h = tt
 role_later paths m n (Leads e) log le h = (omega (arith, le, h.0), h.1)

@@ -30,7 +30,7 @@ replay_safe lists p (entry ∷ journal) q e s =
     let o = and_then_some (λ (w : Order). step p w entry) (order_of lists entry) m.0 m.1 in
     replay_safe lists m.0 journal q m.2 (step_safe p o.0 entry m.0 o.2 s)
 
--- a replay goes on with one entry more
+-- a replay continues with one entry more
 pub replay_more : (lists : List ActorList) (p : State) (journal : List JournalEntry) (q : State) (entry : JournalEntry) (r : State)
     → replay lists p journal ≡ Some q → entry_step lists q entry ≡ Some r → replay lists p (journal ++ entry ∷ []) ≡ Some r
 replay_more lists p [] q entry r e f = let is : p ≡ q = cc (e) in rw (subst (λ (k : State). entry_step lists k entry ≡ Some r) (sym is) f) refl
@@ -38,7 +38,7 @@ replay_more lists p (first ∷ journal) q entry r e f =
     let m = and_then_some (λ (w : State). replay lists w journal) (entry_step lists p first) q e in
     rw m.1 (replay_more lists m.0 journal q entry r m.2 f)
 
--- the actor's numbers go on by one with each answer, and with nothing else
+-- the actor's numbers continue by one with each answer, and with nothing else
 
 -- the number of the actor's next command
 abbrev pub number_of : State → ℕ → ℕ

@@ -1,4 +1,4 @@
--- What a row of the plain log does to brokers and to the log start.
+-- What a row of the plain log does to brokers and to the log start offset.
 use Rattle.log_terms.proofs.Lists.{and_then_some, get-set, length-slice_set, prefix_self}
 use Rattle.log_terms.proofs.Logs.{in_up_to}
 use Rattle.log_terms.specs.Log.{end_of, IsConsecutive}
@@ -23,7 +23,7 @@ use Rattle.registry.specs.declared.registry.Registry.{Registry}
 use Rattle.plain_log.proofs.FollowerRows.{still_joined, JoinedSnapshot}
 use Rattle.plain_log.specs.Grows.{BrokerGrows}
 
--- what a row does to brokers and to the log start
+-- what a row does to brokers and to the log start offset
 pub record RowGrows (p q : State) : Type 0 where
   pub start : p.registry.start ≤ q.registry.start
   pub count : length q.brokers ≡ length p.brokers
@@ -102,7 +102,7 @@ cut_grows p x n y is =
     subst (λ (z : Broker). BrokerGrows p.paths x z) w.1
     (record { stops = omega arith; log = inr (common_left x.log g.0); leads = λ e _ role. absurd (cc (role)) })
 
--- a follower's log that goes on is the path up to n
+-- a follower's log that continues is the path up to n
 pub record IsLonger (x y : Broker) (e : ℕ) : Type 0 where
   pub stops : y.stops ≡ x.stops
   pub role : y.role ≡ Joined e
@@ -134,7 +134,7 @@ extended_is p b x recorded n y at j t is s =
     let r = still_joined p x recorded t j in
     as_longer p x n r.0 y is r.1 (joined_has p.paths p.registry.epoch x.role r.0 x.log r.1 (s.brokers b x at).role) (λ f l h. (s.paths f l h).log_safe.consecutive)
 
--- a log begun anew
+-- a log restarted
 pub record IsBegunAnew (x y : Broker) : Type 0 where
   pub epoch : ℕ
   pub stops : y.stops ≡ x.stops

@@ -1,4 +1,4 @@
--- What each row of the plain log does to brokers and to the log start.
+-- What each row of the plain log does to brokers and to the log start offset.
 use Rattle.registry.specs.declared.refusal.RegRefusal.TheVariants as refusal
 use Rattle.log_terms.proofs.Lists.{and_then_some, prefix_self}
 use Rattle.log_terms.proofs.Logs.{up_to_prefix}

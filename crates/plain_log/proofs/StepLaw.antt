@@ -1,4 +1,4 @@
--- Each step keeps the safety rules, and what is committed, unless it begins that anew.
+-- Each step keeps the safety rules, and what is committed, unless it begins that again.
 use Rattle.std.proofs.Common.{◌≡◌, ◌≢◌, inl, inr, subst, ℕ, zero, suc, ◌==◌, List, [], ◌∷◌, Some, None, Option, slice_get, slice_set, Bool, true, false, refl, ap, sym, ◌∙◌, arith}
 use Rattle.std.specs.Prelude.{is_none, is_some}
 use Rattle.std.specs.Option.{option_and_then}
@@ -96,14 +96,14 @@ row_keeps p b x r recorded (Pack on) answer q bx br j e s = row_goes p q (silent
 row_keeps p b x r recorded (Copying on) answer q bx br j e s = row_goes p q (silent_keeps p answer q e s)
 row_keeps p b x r recorded (Offset which) answer q bx br j e s = row_goes p q (offset_keeps p x which recorded answer q e s)
 
--- what was written of an actor stands there
+-- what was written of an actor is there
 pub actor_put : (actors : List Actor) (a : ℕ) (y : Actor) → actor_at (put_actor actors a y) a ≡ y
 actor_put [] zero y = refl
 actor_put [] (suc a) y = actor_put [] a y
 actor_put (z ∷ actors) zero y = refl
 actor_put (z ∷ actors) (suc a) y = actor_put actors a y
 
--- and the others stand as they did
+-- and the others are as they did
 pub actor_kept : (actors : List Actor) (a : ℕ) (y : Actor) (c : ℕ) → c ≢ a → actor_at (put_actor actors a y) c ≡ actor_at actors c
 actor_kept [] zero y zero ne = absurd (ne refl)
 actor_kept [] zero y (suc c) ne = refl
@@ -114,7 +114,7 @@ actor_kept (z ∷ actors) zero y (suc c) ne = refl
 actor_kept (z ∷ actors) (suc a) y zero ne = refl
 actor_kept (z ∷ actors) (suc a) y (suc c) ne = actor_kept actors a y c (λ e. ne (ap suc e))
 
--- an actor that goes on keeps them, where what it noted is safe
+-- an actor that continues keeps them, where what it recorded is safe
 pub with_actor_safe : (p : State) (a : ℕ) (y : Actor)
     → ((n : PlainSnapshot) (x : Broker) → y.snapshot ≡ Some n → slice_get p.brokers n.order.broker.0 ≡ Some x → SnapshotIsSafe p.paths p.registry.epoch n x)
     → PlainSafe p → PlainSafe (with_actor a y p)
@@ -205,7 +205,7 @@ recorded_begin p order x z h = record {
   joined = λ c. let j = h.joined c in (j.0, j.1, λ _ _. refl);
 }
 
--- what a step keeps, where `anew` tells whether it begins anew what is committed
+-- what a step keeps, where `anew` reports whether it starts again what is committed
 pub record Goes (anew : Bool) (p q : State) : Type 0 where
   pub safe : PlainSafe q
   pub wider : Wider p.paths q.paths
@@ -217,7 +217,7 @@ pub record EventGoes (anew : Bool) (p : State) (a : ℕ) (q : State) : Type 0 wh
   pub goes : Goes anew p q
   pub others : (c : ℕ) → c ≢ a → actor_at q.actors c ≡ actor_at p.actors c
 
--- an actor that goes on keeps what a row does
+-- an actor that continues keeps what a row does
 with_actor_goes : (anew : Bool) (p q : State) (a : ℕ) (y : Actor)
     → ((n : PlainSnapshot) (x : Broker) → y.snapshot ≡ Some n → slice_get q.brokers n.order.broker.0 ≡ Some x → SnapshotIsSafe q.paths q.registry.epoch n x)
     → RowGoes anew p q → EventGoes anew p a (with_actor a y q)

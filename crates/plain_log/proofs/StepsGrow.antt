@@ -1,4 +1,4 @@
--- With each step paths grow, the log start doesn't fall, and logs are cut or gain batches.
+-- With each step paths grow, the log start offset doesn't fall, and logs are cut or gain batches.
 use Rattle.log_terms.proofs.Lists.{and_then_some}
 use Rattle.plain_log.proofs.Options.{when_some, map_some}
 use Rattle.plain_log.specs.Rows.{row}

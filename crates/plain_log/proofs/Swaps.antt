@@ -52,7 +52,7 @@ one_leader_set xs b x y at leads h c d v w e cv dw lv lw =
       ]
     ]
 
--- the safety rules go on where one broker is changed so
+-- the safety rules continue where one broker is changed so
 pub put_safe : (p : State) (b : ℕ) (x y : Broker) → slice_get p.brokers b ≡ Some x → Swap p x y → PlainSafe p → PlainSafe (put_broker p b y)
 put_safe p b x y at w s = record {
   marks = s.marks;
@@ -161,7 +161,7 @@ swap_all_stable p x n ends le h k = record {
   recorded = λ n a. record { stops = a.stops; up = a.up; leads = a.leads; joined = a.joined };
 }
 
--- a broker comes up again
+-- a broker starts again
 pub swap_up : (p : State) (x : Broker) (n : ℕ) → x.up ≡ false → EndsAt n x.log → x.flushed_end ≤ n
     → BrokerSafe p.paths p.registry.epoch x → KnownSafe p.unclean p.registry.epoch p.registry.mark p.committed x → Swap p x (opened x n)
 swap_up p x n off ends le h k =

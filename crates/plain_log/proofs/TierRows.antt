@@ -47,7 +47,7 @@ trim_keeps p b x (Some recorded) DiskFault q at e s = by_when p (breaks p b x) q
 trim_keeps p b x (Some recorded) (Dropped base last) q at e s = silent p q _ e s
 trim_keeps p b x (Some recorded) other q at e s = absurd (none-some q e)
 
--- the log start is at most the high watermark
+-- the log start offset is at most the high watermark
 pub start_safe : (p : State) (n : ℕ) → n ≤ p.registry.mark → PlainSafe p → PlainSafe (set_registry p (started p.registry n))
 start_safe p n le s = record {
   marks = record { start = le; consecutive = s.marks.consecutive; ends = s.marks.ends; begins = s.marks.begins; epoch = s.marks.epoch };

@@ -49,7 +49,7 @@ role_wider ps qs epoch (Leads e) log w f h = (h.0, f e refl h.1)
 role_wider ps qs epoch (Follows e) log w f h = h
 role_wider ps qs epoch (Joined e) log w f h = (h.0, has_wider ps qs e log w h.1)
 
--- a broker's rules go on, where the path of a leader is its log still
+-- a broker's rules continue, where the path of a leader is its log still
 pub broker_wider : (ps qs : List Path) (epoch : ℕ) (x : Broker) → Wider ps qs
     → ((e : ℕ) → x.role ≡ Leads e → path_of ps e ≡ Some x.log → path_of qs e ≡ Some x.log) → BrokerSafe ps epoch x → BrokerSafe qs epoch x
 broker_wider ps qs epoch x w f h = record {

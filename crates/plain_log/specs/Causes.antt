@@ -1,4 +1,4 @@
--- Why bytes are no batch: when two causes are one, with the numbers that they tell.
+-- Why bytes are no batch: when two causes are one, with the numbers that they report.
 use Rattle.std.specs.Prelude.{◌==◌, ◌&&◌, Bool, true, false}
 use Rattle.record_batch.specs.declared.refusal.BatchRefusal.{BatchRefusal}
 use Rattle.record_batch.specs.declared.refusal.BatchRefusal.TheVariants.{Short, BadMagic, BadLength, BadCrc, Compressed, Transactional, Control, BadRecords}

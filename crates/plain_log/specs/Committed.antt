@@ -18,7 +18,7 @@ use Rattle.plain_log.specs.declared.state.Path.{Path}
 use Rattle.plain_log.specs.State.{path_of}
 use Rattle.plain_log.specs.Runs.{order_of}
 
--- an unclean election is answered with a new leader epoch: what is committed begins anew
+-- an unclean election is answered with a new leader epoch: what is committed starts again
 abbrev pub restarts : Command → Event → Bool
 restarts Unclean (Answers (OkAt n)) = true
 restarts command event = false

@@ -25,7 +25,7 @@ serves x (Some recorded) = is_on x (Some recorded) && leads x.role && same_role 
 abbrev pub in_range : State → Broker → ℕ → Bool
 in_range p x offset = nat_le p.registry.start offset && nat_le offset (end_of x.log)
 
--- a fetch at the offset is answered by a run
+-- a fetch at the offset returns a run
 abbrev pub gives_run : State → Broker → ℕ → Option PlainSnapshot → Bool
 gives_run p x offset recorded = serves x recorded && in_range p x offset && nat_lt offset x.known_high_watermark
 

@@ -12,7 +12,7 @@ abbrev pub fresh_broker : Role → Broker
 fresh_broker role =
     record { up = true; stops = 0; role = role; log = []; flushed_end = 0; loose = false; known_high_watermark = 0 }
 
--- the fresh state of so many brokers behind the leader
+-- the fresh state of so many brokers after the leader
 abbrev pub fresh_state : ℕ → State
 fresh_state others = record {
   registry = fresh_registry (suc others);

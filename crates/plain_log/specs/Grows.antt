@@ -1,4 +1,4 @@
--- What a step of the plain log does to paths, logs and the log start.
+-- What a step of the plain log does to paths, logs and the log start offset.
 use Rattle.std.specs.Prelude.{◌≡◌, ◌⊎◌, ℕ, ◌≤◌, List, Some, None, length, slice_get}
 use mathlib.Core.List.{IsPrefix}
 use Rattle.plain_log.specs.declared.state.State.{State}
@@ -20,7 +20,7 @@ pub record BrokerGrows (paths : List Path) (x y : Broker) : Type 0 where
   pub leads : (e : ℕ) → y.stops ≡ x.stops → y.role ≡ Leads e
       → ((x.role ≡ Leads e) × IsPrefix x.log y.log) ⊎ (path_of paths e ≡ None)
 
--- paths grow, the log start doesn't fall, and each broker's log grows or is cut
+-- paths grow, the log start offset doesn't fall, and each broker's log grows or is cut
 pub record Grows (p q : State) : Type 0 where
   pub paths : PathsGrow p.paths q.paths
   pub start : p.registry.start ≤ q.registry.start

@@ -20,7 +20,7 @@ abbrev pub StepsKeepSafe : Type 0
 StepsKeepSafe = (p : State) (order : Order) (entry : JournalEntry) (q : State) → step p order entry ≡ Some q
     → PlainSafe p → PlainSafe q
 
--- with each step paths grow, the log start doesn't fall, and each broker's log grows or is cut
+-- with each step paths grow, the log start offset doesn't fall, and each broker's log grows or is cut
 abbrev pub StepsGrow : Type 0
 StepsGrow = (p : State) (order : Order) (entry : JournalEntry) (q : State) → step p order entry ≡ Some q
     → PlainSafe p → Grows p q

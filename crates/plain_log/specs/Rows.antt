@@ -1,8 +1,8 @@
--- What each command is answered, and what the answer does: one function a command, by cases on the answer.
+-- What each command returns, and what the answer does: one function a command, by cases on the answer.
 --
--- A row gives the next state, or none where the answer isn't allowed. The tests of a command stand in the order
--- in which they are made: a later answer is allowed only where no earlier one is. Where a command takes several turns,
--- what was recorded at its beginning tells a later turn from the first. What a row doesn't name stays as it is.
+-- A row gives the next state, or none where the answer isn't allowed. The tests of a command are in the order in which
+-- they are made: a later answer is allowed only where no earlier one is. Where a command takes several turns, what was
+-- recorded at its beginning reports a later turn from the first. What a row doesn't name stays as it is.
 use Rattle.std.specs.Prelude.{ℕ, Option}
 use Rattle.registry.specs.declared.registry.Replica.{Replica}
 use Rattle.record_batch.specs.Build.{built}

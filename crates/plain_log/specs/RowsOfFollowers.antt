@@ -5,7 +5,7 @@
 --   follow   first Down, NotJoined, StaleEpoch, NoLeader, Level, Moved, DiskFault, Damaged; then Stopped, StaleEpoch,
 --            Passed, TooManySegments, DiskFault, Copied
 --
--- A join that cuts below the leader's local log goes on to further turns, the last of which begins the log anew. The
+-- A join that cuts below the leader's local log continues to further turns, the last of which restarts the log. The
 -- plain log sees that as the leader's path up to there.
 use Rattle.std.specs.Prelude.{ℕ, ◌==◌, ◌&&◌, not, nat_lt, nat_le, min, Bool, length, drop, Option, Some, None, option_map, unwrap_or, is_some, is_none}
 use Rattle.std.specs.Option.{option_and_then}
@@ -42,7 +42,7 @@ cut_to p x n =
     }))
     (path_of p.paths e)) (followed x.role)
 
--- a later turn goes on: no stop, no later epoch, and the log ends as it was recorded
+-- a later turn continues: no stop, no later epoch, and the log ends as it was recorded
 abbrev pub goes_on : State → Broker → PlainSnapshot → Bool
 goes_on p x recorded =
     (recorded.stops == x.stops) && not (is_stale p (followed recorded.role)) && (end_of x.log == recorded.end)
@@ -54,11 +54,11 @@ extended p x n =
     when (is_end n path && nat_lt (end_of x.log) n) (record x { log = up_to n path }))
     (path_of p.paths e)) (followed x.role)
 
--- the log start has reached n since the command began
+-- the log start offset has reached n since the command began
 abbrev pub was_passed : State → PlainSnapshot → ℕ → Bool
 was_passed p recorded n = nat_lt recorded.start n && nat_le n p.registry.start
 
--- the broker with its log begun anew at n
+-- the broker with its log restarted at n
 abbrev pub rebuilt : State → Broker → PlainSnapshot → ℕ → Option Broker
 rebuilt p x recorded n =
     option_and_then (λ y. when (goes_on p x recorded && not (was_passed p recorded n)) y) (extended p x n)

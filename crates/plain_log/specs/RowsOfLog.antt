@@ -81,7 +81,7 @@ stop_row p b x Down = when (not x.up) p
 stop_row p b x OkAnswer = when x.up (put_broker p b (stopped x))
 stop_row p b x other = None
 
--- the log may end here when the broker comes up: at its flushed end, or after a broken write at an end past it too
+-- the log may end here when the broker starts: at its flushed end, or after a broken write at an end past it too
 abbrev pub may_open_at : Broker → ℕ → Bool
 may_open_at x n =
     if x.loose then is_end n x.log && nat_le x.flushed_end n && nat_le n (end_of x.log) else n == x.flushed_end
@@ -90,7 +90,7 @@ may_open_at x n =
 abbrev pub opened : Broker → ℕ → Broker
 opened x n = record x { up = true; log = up_to n x.log; flushed_end = n; loose = false }
 
--- the broker comes up
+-- the broker starts
 abbrev pub up_row : State → ℕ → Broker → Answer → Option State
 up_row p b x IsUp = when x.up p
 up_row p b x DiskFault = when (not x.up) p

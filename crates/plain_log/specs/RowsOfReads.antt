@@ -6,8 +6,8 @@
 --            latest tiered, of a timestamp: first Down, NotLeader, MetaFault; then Stopped, NotLeader, Offset,
 --            NoOffset; of a timestamp also MetaFault, StoreFault, DiskFault, Damaged
 --
--- Nothing changes. A device's fault stands only where there would be a run or, of a question of several turns, where
--- the broker leads on.
+-- Nothing changes. A device's fault exists only where there would be a run or, of a question of several turns, where
+-- the broker still leads.
 use Rattle.std.specs.Prelude.{ℕ, ◌==◌, ◌&&◌, not, nat_le, max, int_lt, ℤ, Bool, true, false, List, [], ◌∷◌, Option, Some, None, if◌then◌else◌}
 use Rattle.log_terms.specs.Batch.{base_of, max_ts_of}
 use Rattle.log_terms.specs.Log.{end_of, up_to, from_offset}
@@ -44,12 +44,12 @@ is_long LatestTiered = true
 is_long (At ts) = true
 is_long other = false
 
--- the base of the first batch whose greatest timestamp isn't earlier, or the log start where that is greater
+-- the base of the first batch whose greatest timestamp isn't earlier, or the log start offset where that is greater
 abbrev pub first_at : ℤ → ℕ → List (List ℕ) → Option ℕ
 first_at ts start [] = None
 first_at ts start (batch ∷ log) = if int_lt (max_ts_of batch) ts then first_at ts start log else Some (max (base_of batch) start)
 
--- the offset of a timestamp: among the batches from the log start to the high watermark that the leader knows
+-- the offset of a timestamp: among the batches from the log start offset to the high watermark that the leader knows
 abbrev pub offset_at : State → Broker → ℤ → Option ℕ
 offset_at p x ts = first_at ts p.registry.start (from_offset p.registry.start (up_to x.known_high_watermark x.log))
 

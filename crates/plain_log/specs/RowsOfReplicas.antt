@@ -2,7 +2,7 @@
 --
 --   ack      Down, NotJoined, StaleEpoch, OkAt
 --   shrink   NotInSync, IsLeader, Ok
---   expand   DownBroker, Behind, Ok
+--   expand   DownBroker, After, Ok
 use Rattle.std.specs.Prelude.{ℕ, ◌==◌, ◌&&◌, not, min, Bool, Option, None, Ok, Err, List, slice_set, is_some, is_none}
 use Rattle.std.specs.Option.{option_and_then}
 use Rattle.log_terms.specs.Log.{end_of, up_to}

@@ -50,12 +50,12 @@ trim_row p b x (Some recorded) DiskFault = when ((recorded.stops == x.stops) && 
 trim_row p b x (Some recorded) (Dropped base last) = when (recorded.stops == x.stops) p
 trim_row p b x (Some recorded) other = None
 
--- the registry raises the log start for the broker, which is up and leads
+-- the registry raises the log start offset for the broker, which is up and leads
 abbrev pub raised_by : State → Broker → ℕ → Result ℕ RegRefusal → Option State
 raised_by p x wanted answer =
     option_and_then (λ e. if x.up then left_by p (after_raise p.registry e wanted answer) else None) (leading x.role)
 
--- retention raises the log start, or what is below it goes from the remote tier
+-- retention raises the log start offset, or what is below it goes from the remote tier
 abbrev pub expire_row : State → Broker → Option PlainSnapshot → Answer → Option State
 expire_row p x None Down = when (not x.up) p
 expire_row p x None NotLeader = when (x.up && not (leads x.role)) p
@@ -71,7 +71,7 @@ expire_row p x (Some recorded) StoreFault = when (keeps_lead x recorded) p
 expire_row p x (Some recorded) (Deleted id) = when (keeps_lead x recorded) p
 expire_row p x (Some recorded) other = None
 
--- the log start is raised by a command
+-- the log start offset is raised by a command
 abbrev pub raise_row : State → Broker → ℕ → Answer → Option State
 raise_row p x wanted Down = when (not x.up) p
 raise_row p x wanted NotLeader = when (x.up && not (leads x.role)) p

@@ -55,7 +55,8 @@ SharedTo n log batches = (front : List (List ℕ)) × IsPrefix front log × (end
 abbrev pub current : List Path → ℕ → List (List ℕ) → List (List ℕ)
 current paths epoch committed = unwrap_or (path_of paths epoch) committed
 
--- what a broker acknowledged is flushed and begins the current path; a replica in sync has acknowledged the mark
+-- what a broker acknowledged is flushed and begins the current path; a replica in sync has acknowledged the high
+-- watermark
 pub record AckSafe (path : List (List ℕ)) (mark : ℕ) (x : Broker) (s : Replica) : Type 0 where
   pub flushed_end : s.acked ≤ x.flushed_end
   pub shared : SharedTo s.acked x.log path
@@ -69,8 +70,8 @@ pub record MarkSafe (paths : List Path) (r : Registry) (committed : List (List �
   pub begins : IsPrefix committed (current paths r.epoch committed)
   pub epoch : r.epoch ≤ epoch_limit
 
--- what a broker knows to be committed is, while elections are clean; the leader of the current epoch knows no more
--- than the mark
+-- what a broker knows to be committed is, while elections are clean; the leader of the current epoch knows no more than
+-- the high watermark
 pub record KnownSafe (unclean : Bool) (epoch mark : ℕ) (committed : List (List ℕ)) (x : Broker) : Type 0 where
   pub shared : unclean ≡ false → SharedTo x.known_high_watermark x.log committed
   pub leader : x.role ≡ Leads epoch → x.known_high_watermark ≤ mark
@@ -83,7 +84,7 @@ is_leaders (Fetch offset limit) = true
 is_leaders (Offset which) = true
 is_leaders other = false
 
--- a command that a broker alone goes on with that has joined
+-- a command that a broker alone continues with that has joined
 abbrev pub is_followers : Command → Bool
 is_followers Join = true
 is_followers (Follow limit) = true

@@ -84,9 +84,9 @@ pub enum Answer {
     MetaFault,
     /// The remote store failed.
     StoreFault,
-    /// What was read there has no reading from this place on.
+    /// What was read there is invalid from this place on.
     Damaged(Place, u64),
-    /// The log was begun anew at this offset, what is below it being in the remote tier or below the log start.
+    /// The log was restarted at this offset, what is below it being in the remote tier or below the log start offset.
     Rebuilt(u64),
     /// The broker neither leads nor has joined the leader that it follows.
     NotJoined,

@@ -24,7 +24,7 @@ pub enum Which {
     Earliest,
     /// The high watermark that the leader knows.
     Latest,
-    /// Where the local log begins, or the log start where that is greater.
+    /// Where the local log begins, or the log start offset where that is greater.
     EarliestLocal,
     /// The last offset that the remote tier has with all before it.
     LatestTiered,
@@ -71,7 +71,7 @@ pub enum Command {
     Clock { ms: i64 },
     /// The broker stops.
     Stop,
-    /// The broker comes up.
+    /// The broker starts.
     Up,
     /// The leader gives the batches from the one on that holds the offset, as many as fit `limit` bytes, and at least
     /// one.

@@ -3,7 +3,7 @@
 use crate::answer::Answer;
 use tier_base::{ActorId, Roll};
 
-/// What an entry tells of its command.
+/// What an entry says of its command.
 #[derive(Debug, Drop)]
 pub enum Event {
     /// Its first turn left it unanswered. A join that cut its log names the new end.

@@ -7,7 +7,7 @@ pub fn steps_keep_safe()
     ensures { StepsKeepSafe }
 {}
 
-/// With each step paths grow, the log start doesn't fall, and each broker's log grows or is cut.
+/// With each step paths grow, the log start offset doesn't fall, and each broker's log grows or is cut.
 pub fn steps_grow()
     ensures { StepsGrow }
 {}

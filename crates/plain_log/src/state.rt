@@ -8,7 +8,7 @@ use tier_base::Row;
 /// What a broker does, and in which leader epoch.
 #[derive(Clone, Copy, Debug, PartialEq, Eq)]
 pub enum Role {
-    /// Nothing: it has not learned who leads since it came up.
+    /// Nothing: it has not learned who leads since it started.
     Idle,
     /// It leads this epoch.
     Leads(u32),

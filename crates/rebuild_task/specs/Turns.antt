@@ -1,13 +1,13 @@
 -- What the turn of a rebuild does that reads the remote tier.
 --
 --   turn       does                                           answers
---   Epochs     reads a remote segment's line of epochs        StoreFault, Damaged
+--   Epochs     reads a remote segment's leader epochs        StoreFault, Damaged
 --
--- The segment is the one that holds the last offset below the wanted one, by the leader's line up to there, the
--- wanted offset standing for the log's end. The local log is to begin anew with the entries of the line that was read
--- which start below the wanted offset. A view without such a segment, or whose entry of it places no epochs, is
--- damage of the metadata log. An object that isn't there is damaged at 0, one that lacks bytes of the epochs behind
--- those that it has, and a text without a reading where it begins.
+-- The segment is the one that holds the last offset below the wanted one, by the leader's leader epochs up to there,
+-- the wanted offset representing the log's end. The local log is to restart with the entries of the leader epochs that
+-- were read which start below the wanted offset. A view without such a segment, or whose entry of it places no epochs,
+-- is damage of the metadata log. An object that isn't there is damaged at 0, one that lacks bytes of the epochs after
+-- those that it has, and an invalid text where it begins.
 --
 -- Source: KIP-405, where a follower that begins at its leader's local log start offset builds its leader epochs out
 -- of the remote segment of the offset before.
@@ -38,12 +38,12 @@ use Rattle.rebuild_task.specs.declared.turn.RebuildStep.TheVariants.{Restart}
 use Rattle.rebuild_task.specs.declared.turn.RebuildTurn.{RebuildTurn}
 use Rattle.rebuild_task.specs.declared.turn.RebuildTurn.TheVariants.{Goes, Ends}
 
--- where a segment's epochs stand, by its entry
+-- where a segment's epochs are, by its entry
 abbrev pub spot_in : PartitionId → SegmentId → Option Entry → Option Spot
 spot_in partition id None = None
 spot_in partition id (Some entry) = spot_of partition id entry.packed entry.custom EpochsPart
 
--- where those of a piece's segment stand, by a view's entries
+-- where those of a piece's segment exist, by a view's entries
 abbrev pub epochs_of : PartitionId → List Entry → Option Piece → Option Spot
 epochs_of partition entries None = None
 epochs_of partition entries (Some piece) = spot_in partition piece.id (entry_of piece.id entries)
@@ -81,12 +81,12 @@ module _ {S : Type 0} (objects : S → Content) (calls : S → Control call_code
     pub gets : Gets objects calls spot.key (all_of spot) answer old new
     pub takes : Takes wanted spot answer result
 
-  -- they are read where they stand
+  -- they are read where they are
   abbrev pub EpochsRow : ℕ → Seen → Option Spot → Result RebuildTurn AllocError → S → S → Type 0
   EpochsRow wanted view None result old new = (result ≡ Ok (Ends (Damaged Meta view.notes))) × (new ≡ old)
   EpochsRow wanted view (Some spot) result old new = ReadsEpochs wanted spot result old new
 
-  -- a turn of a rebuild: what it came to, or that it wanted memory
+  -- a turn of a rebuild: what it came to, or that it ran out of memory
   abbrev pub RebuildRow : RebuildRequest → List (ℕ × ℕ) → Seen → Result RebuildTurn AllocError → S → S → Type 0
   RebuildRow wanted line view result old new =
       EpochsRow wanted.offset view

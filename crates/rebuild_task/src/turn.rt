@@ -17,7 +17,7 @@ pub struct RebuildRequest {
 pub enum RebuildStep {
     /// Read the leader epochs of a remote segment.
     Epochs,
-    /// Start the local log anew, with these leader epochs.
+    /// Restarts the local log, with these leader epochs.
     Restart(Line),
 }
 

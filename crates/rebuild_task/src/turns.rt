@@ -37,7 +37,7 @@ pub fn rebuild_turn<S: Store>(
     }
 }
 
-/// Where the epochs stand of the segment that holds the last offset below the wanted one.
+/// Where the epochs are of the segment that holds the last offset below the wanted one.
 fn epochs_of(wanted: RebuildRequest, line: &Line, view: &View) -> Option<Spot>
     ensures spot { result ≡ epochs_of wanted.partition view.now.entries
         (piece_at view.now.entries line.now wanted.offset (wanted.offset - 1)) }
@@ -84,14 +84,14 @@ fn take(
     }
 }
 
-/// A view that lacks what the notes must hold is damage of the metadata log.
+/// A view that lacks what the metadata events must hold is damage of the metadata log.
 fn lost(view: &View) -> RebuildTurn
     ensures { result ≡ Ends (Damaged Meta view.now.notes) }
 {
     RebuildTurn::Ends(Answer::Damaged(Place::Meta, view.seen()))
 }
 
-/// An object that is absent, or has no reading from a place on.
+/// An object that is absent, or is invalid from a place on.
 fn damaged(spot: &Spot, at: u64) -> RebuildTurn
     ensures { result ≡ Ends (Damaged (Key spot.now.key) at) }
 {

@@ -100,7 +100,7 @@ pub record BlobsFit (r : DeltaRec) : Type 0 where
   pub value : length (optional_bytes r.value) ≤ 1048576
   pub headers : length (header_list_bytes r.headers) ≤ 1048576
 
--- what stands before the headers of a record
+-- what precedes the headers of a record
 abbrev pub front_in : DeltaRec → DeltaFront
 front_in r = record { ts_delta = r.ts_delta; offset_delta = r.offset_delta; key = r.key; value = r.value }
 

@@ -1,4 +1,4 @@
--- The parts of a batch that was built, and what its head tells.
+-- The parts of a batch that was built, and what its head gives.
 use Rattle.std.proofs.Common.{◌≡◌, ◌∙◌, ap, refl, ℕ, ◌+◌, ◌-◌, ◌<◌, ◌≤◌, ◌^◌, FitsSigned, List, ◌++◌, length, take, drop, replicate, Ok, arith}
 use Rattle.std.specs.Int.{w64, cast_signed, cast_unsigned}
 use Rattle.std.proofs.lemmas.Int.{to_z-of_z}
@@ -62,7 +62,7 @@ unfolding max_ts_of field_at built sealed early_head late_head u32_bytes ts_byte
 max-built recs fits =
     ap (λ (n : ℕ). cast_signed w64 n) (from_be_bytes-to_be_bytes_8 (cast_unsigned w64 (greatest_ts recs)) (Fits-lt-pow {w = w64} (Fits-of_z {w = w64} fits))) ∙ to_z-of_z w64 (greatest_ts recs) fits
 
--- what the head of a batch tells
+-- what the head of a batch gives
 pub built_tells : (recs : List Rec) → IsBuildable recs → HeadTells (built recs) 0 0 recs
 built_tells recs b = record {
   base_offset = base-built recs;
@@ -71,7 +71,7 @@ built_tells recs b = record {
   size = built_long recs;
 }
 
--- what the head tells of a batch that was placed
+-- what the head says of a batch that was placed
 pub stamped_tells : (recs : List Rec) (base epoch : ℕ) → IsBuildable recs → base < 2 ^ 64 → epoch < 2 ^ 32
     → HeadTells (stamped (built recs) base epoch) base epoch recs
 stamped_tells recs base epoch b low small =

@@ -3,7 +3,7 @@ use Rattle.std.proofs.Common.{◌≡◌, ap, refl, ℕ, suc, ◌-◌, ◌<◌, �
 use Rattle.record_batch.specs.declared.rec.Header.{Header}
 use Rattle.record_batch.specs.Record.{header_at, headers_at, ◌>>=◌}
 
--- what was read, behind what was read before
+-- what was read, after what was read before
 abbrev pub behind : List Header → Option (List Header × List ℕ) → Option (List Header × List ℕ)
 behind front None = None
 behind front (Some x) = Some (front ++ x.0, x.1)

@@ -156,7 +156,7 @@ read-parts count n (Ok x) rs e =
     let parts = cons-parts x.0 (records_from count (n + 1) x.1) rs e in (x, parts.0, parts.1, parts.2)
 read-parts count n (Err left) rs e = absurd (cc)
 
--- as many records are read as the head tells
+-- as many records are read as the head says
 length-records_from : (count n : ℕ) (bytes : List ℕ) (rs : List DeltaRec) → records_from count n bytes ≡ Ok rs → length rs ≡ count
 length-records_from zero n [] rs e = let none : [] ≡ rs = cc in ap length (sym none)
 length-records_from zero n (b ∷ bytes) rs e = absurd (cc)

@@ -7,7 +7,7 @@ use Rattle.record_batch.specs.Record.{DeltaRec, record_at}
 use Rattle.record_batch.specs.Check.{rec_in, rec_shown, records_from, with_number, is_number, ◌>>=◌}
 use Rattle.record_batch.specs.Read.{all_read}
 
--- records behind those that were read before
+-- records after those that were read before
 abbrev pub joined : List Rec → Option (List Rec) → Option (List Rec)
 joined front None = None
 joined front (Some recs) = Some (front ++ recs)

@@ -4,17 +4,17 @@ use Rattle.record_batch.specs.declared.rec.Header.{Header}
 use Rattle.record_batch.specs.Record.{header_at, headers_at, ◌>>=◌}
 use Rattle.record_batch.specs.Walk.{Skips}
 
--- what stands behind what was read
+-- what follows what was read
 abbrev pub second : {A : Type 0} → Option (A × List ℕ) → Option (List ℕ)
 second None = None
 second (Some x) = Some x.1
 
--- what stands behind is what was skipped to
+-- what follows is what was skipped to
 pub skips : {A : Type 0} (rest : Option (List ℕ)) (read : Option (A × List ℕ)) → second read ≡ rest → Skips rest read
 skips rest None h = rw (← h) refl
 skips rest (Some x) h = rw (← h) (x.0, refl)
 
--- what stands behind others stands behind one more
+-- what follows others follows one more
 again : (h : Header) (o : Option (List Header × List ℕ)) → second (o >>= λ others. Some (h ∷ others.0, others.1)) ≡ second o
 again h None = refl
 again h (Some x) = refl

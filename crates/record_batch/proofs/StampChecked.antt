@@ -12,7 +12,7 @@ use Rattle.record_batch.specs.Stamp.{stamped}
 use Rattle.record_batch.proofs.StampLaws.{drop_16, later-field, kept-stamped, length_stamped}
 use Rattle.record_batch.proofs.Passing.{Passes, passes, checked_lem, batch-parts, head_long}
 
--- what stands behind the leader epoch, from any place on
+-- what follows the leader epoch, from any place on
 later-bytes : (n : ℕ) (batch : List ℕ) (base epoch : ℕ) → 16 ≤ length batch → drop (16 + n) (stamped batch base epoch) ≡ drop (16 + n) batch
 later-bytes n batch base epoch long =
     sym (drop-drop n 16 (stamped batch base epoch)) ∙ (ap (λ (t : List ℕ). drop n t) (drop_16 batch base epoch long) ∙ drop-drop n 16 batch)

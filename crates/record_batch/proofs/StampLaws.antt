@@ -18,16 +18,16 @@ stamped-put batch base epoch =
 length-kept : (batch : List ℕ) → 16 ≤ length batch → length (take 4 (drop 8 batch)) ≡ 4
 length-kept batch long = omega (arith, length-take 4 (drop 8 batch), length-drop 8 batch)
 
--- what stands from the leader epoch on
+-- what is from the leader epoch on
 drop_12 : (batch : List ℕ) (base epoch : ℕ) → 16 ≤ length batch → drop 12 (stamped batch base epoch) ≡ to_be_bytes w32 epoch ++ drop 16 batch
 unfolding stamped
 drop_12 batch base epoch long = drop_at (take 4 (drop 8 batch)) (to_be_bytes w32 epoch ++ drop 16 batch) 4 (length-kept batch long)
 
--- what stands behind the leader epoch
+-- what follows the leader epoch
 pub drop_16 : (batch : List ℕ) (base epoch : ℕ) → 16 ≤ length batch → drop 16 (stamped batch base epoch) ≡ drop 16 batch
 drop_16 batch base epoch long = sym (drop-drop 4 12 (stamped batch base epoch)) ∙ ap (λ (t : List ℕ). drop 4 t) (drop_12 batch base epoch long)
 
--- a field behind the leader epoch
+-- a field after the leader epoch
 pub later-field : (w : Width) (n : ℕ) (batch : List ℕ) (base epoch : ℕ) → 16 ≤ length batch → field_at w (16 + n) (stamped batch base epoch) ≡ field_at w (16 + n) batch
 unfolding field_at
 later-field w n batch base epoch long =

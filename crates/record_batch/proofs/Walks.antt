@@ -22,7 +22,7 @@ tested : (n i left : ℕ) (t : Bool) (x : DeltaRec × List ℕ)
 tested n i left true x = kept x.0 (records_from n (i + 1) x.1)
 tested n i left false x = refl
 
--- a first record, where it has a reading
+-- a first record, where it is valid
 read : (n i left : ℕ) (o : Option (DeltaRec × List ℕ))
     → fault_in (with_number i left o >>= λ y. (records_from n (i + 1) y.1 >>= λ others. Ok (y.0 ∷ others))) ≡ fault_by n i left (option_map numbered o)
 read n i left None = refl

@@ -1,7 +1,7 @@
 -- The batch of records that nobody has placed yet: it is built at base offset 0, in leader epoch 0.
 --
--- No compression, no transaction, no producer: attributes 0, and -1 in each of the producer's fields.
--- The head's places stand in the module Head, a record's grammar in Record.
+-- No compression, no transaction, no producer: attributes 0, and -1 in each of the producer's fields. The head's places
+-- are in the module Head, a record's grammar in Record.
 use Rattle.std.specs.Prelude.{◌≡◌, ℕ, ◌+◌, ◌-◌, ◌<◌, ◌≤◌, ℤ, pos, List, [], ◌∷◌, ◌++◌, length, replicate, All, FitsSigned, ◌^◌}
 use Rattle.std.specs.Int.{w32, w64, to_be_bytes, cast_unsigned, int_wrapping_sub, int_max}
 use Rattle.batch_prims.specs.Crc.{crc32c}
@@ -86,7 +86,7 @@ pub record IsTooLarge (recs : List Rec) : Type 0 where
   pub some : 0 < length recs
   pub large : 1048576 < length (built recs)
 
--- what the head of a batch of these records tells, at this base offset and in this leader epoch
+-- what the head of a batch of these records reports, at this base offset and in this leader epoch
 pub record HeadTells (batch : List ℕ) (base epoch : ℕ) (recs : List Rec) : Type 0 where
   pub base_offset : base_of batch ≡ base
   pub leader_epoch : epoch_of batch ≡ epoch

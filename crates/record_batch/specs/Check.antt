@@ -1,4 +1,4 @@
--- Whether bytes are a batch: twelve tests in their order, each of which tells why it fails.
+-- Whether bytes are a batch: twelve tests in their order, each of which reports why it fails.
 --
 --    1  fewer than 61 bytes                                  Short
 --    2  magic is not 2                                       BadMagic
@@ -11,8 +11,8 @@
 --    8  it is a control batch                                Control
 --    9  records_count is below 1                             BadRecords at 57
 --   10  last_offset_delta is not records_count less 1        BadRecords at 23
---   11  a record has no reading, or not its number           BadRecords at its first byte
---   12  bytes behind the last record                         BadRecords at the first of them
+--   11  a record is invalid, or not its number           BadRecords at its first byte
+--   12  bytes after the last record                         BadRecords at the first of them
 --
 -- 49 = 61 - 12 is the batch_length of a head alone, and 1,048,564 = 1,048,576 - 12 that of the largest batch.
 -- Unsigned, a negative batch_length is above 1,048,564, and a negative records_count above 2,147,483,647.
@@ -80,7 +80,7 @@ abbrev pub ◌>>=◌ : {A B E : Type 0} → Result A E → (A → Result B E) �
 (Ok x) >>= f = f x
 (Err e) >>= f = Err e
 
--- so many records, numbered from n on, and nothing behind them, or how many bytes were left at the first fault
+-- so many records, numbered from n on, and nothing after them, or how many bytes were left at the first fault
 abbrev pub records_from : ℕ → ℕ → List ℕ → Result (List DeltaRec) ℕ
 records_from zero n [] = Ok []
 records_from zero n (b ∷ bytes) = Err (suc (length bytes))
@@ -99,7 +99,7 @@ ts_in head delta =
 abbrev pub rec_in : Head → DeltaRec → Rec
 rec_in head r = record { ts = ts_in head r.ts_delta; key = r.key; value = r.value; headers = r.headers }
 
--- the same, with what stands behind the record
+-- the same, with what follows the record
 abbrev pub rec_shown : Head → DeltaRec × List ℕ → Rec × List ℕ
 rec_shown head x = (rec_in head x.0, x.1)
 
@@ -118,7 +118,7 @@ abbrev pub first : {A E : Type 0} → Option E → Result A E → Result A E
 first None next = next
 first (Some why) next = Err why
 
--- a cause that is told of a head, told of a batch
+-- a cause that is reported of a head, reported of a batch
 abbrev pub of_head : HeadRefusal → BatchRefusal
 of_head head_cause.Short = Short
 of_head head_cause.BadMagic = BadMagic
@@ -163,7 +163,7 @@ pub record IsBatchOf (bytes : List ℕ) (batch : Batch) : Type 0 where
   pub count : length batch.recs ≡ last_offset_delta_of bytes + 1
   pub few : last_offset_delta_of bytes < 2 ^ 31
 
--- bytes that are batches, one behind another, each of which passes its check
+-- bytes that are batches, one after another, each of which passes its check
 pub record AreChecked (bytes : List ℕ) : Type 0 where
   pub batches : List (List ℕ)
   pub are : bytes ≡ joined batches

@@ -1,4 +1,4 @@
--- A record batch: a head of 61 bytes, big endian, and behind it the records.
+-- A record batch: a head of 61 bytes, big endian, and after it the records.
 --
 --   at  size  field
 --    0     8  base_offset (Kafka's baseOffset): the first record's offset
@@ -9,7 +9,7 @@
 --   21     2  attributes: bits 0 to 2 the compression, 0 for none; bit 3 set where each record has the time max_ts;
 --             bit 4 set in a transaction; bit 5 set in a control batch; the others are kept, and say nothing
 --   23     4  last_offset_delta: the last record's offset less the first's
---   27     8  base_ts (Kafka's baseTimestamp): the records' timestamps are told as their distance from it
+--   27     8  base_ts (Kafka's baseTimestamp): the records' timestamps are reported as their distance from it
 --   35     8  max_ts (Kafka's maxTimestamp): the greatest timestamp
 --   43     8  producer_id
 --   51     2  producer_epoch
@@ -25,7 +25,7 @@ use Rattle.std.specs.Int.{Width, w8, w16, w32, w64, cast_signed}
 use Rattle.log_terms.specs.Batch.{field_at}
 use Rattle.record_batch.specs.declared.head.Head.{Head}
 
--- the signed number that stands at a place of the bytes
+-- the signed number that is at a place of the bytes
 abbrev pub signed_at : Width → ℕ → List ℕ → ℤ
 signed_at w at bytes = cast_signed w (field_at w at bytes)
 

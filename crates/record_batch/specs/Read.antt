@@ -17,7 +17,7 @@ abbrev pub Gives : {X Y : Type 0} → (X → Y) → Result X ReadStop → Option
 Gives view (Ok x) read = read ≡ Some (view x)
 Gives view (Err why) read = Stops why read
 
--- a record, and what stands behind it
+-- a record, and what follows it
 abbrev pub rec_behind : Rec → List ℕ → Rec × List ℕ
 rec_behind r rest = (r, rest)
 

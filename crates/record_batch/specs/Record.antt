@@ -1,7 +1,8 @@
--- A record, as it stands in a batch: each rule of the grammar as what it reads at the front of bytes, and as what it writes.
+-- A record, as it is in a batch: each rule of the grammar as what it reads at the front of bytes, and as what it
+-- writes.
 --
 --   record   = length attributes ts_delta offset_delta key value headers
---   length   = varint             the bytes behind it that are the record's: all of them are used up
+--   length   = varint             the bytes after it that are the record's: all of them are used up
 --   attributes = byte             says nothing; written as 0
 --   ts_delta = varlong            the timestamp less the head's base_ts, modulo 2 ^ 64
 --   offset_delta = varint         the offset less the head's base_offset: the record's number, from 0 on
@@ -12,7 +13,7 @@
 --   blob     = length byte ..     a varint, and so many bytes
 --   optional = blob | length      where the length is negative: none. It is written as -1
 --
--- A negative length of a record or of a header's key, a negative count, and bytes that end too early have no reading.
+-- A negative length of a record or of a header's key, a negative count, and bytes that end too early are invalid.
 --
 -- Source: Kafka's record format, magic 2.
 use Rattle.std.specs.Prelude.{ℕ, zero, suc, nat_lt, if◌then◌else◌, ℤ, pos, negsuc, List, [], ◌∷◌, ◌++◌, length, take, drop, Option, Some, None, Result, Ok, Err}
@@ -20,7 +21,7 @@ use Rattle.batch_prims.specs.Varint.{varint_at, varlong_at, varint_bytes, varlon
 use Rattle.record_batch.specs.declared.rec.Header.{Header}
 
 infixl 10 ◌>>=◌
--- what has no reading ends it
+-- what is invalid ends it
 abbrev pub ◌>>=◌ : {A B : Type 0} → Option A → (A → Option B) → Option B
 (Some x) >>= f = f x
 None >>= f = None
@@ -30,7 +31,7 @@ abbrev pub ok_of : {A E : Type 0} → Result A E → Option A
 ok_of (Ok x) = Some x
 ok_of (Err e) = None
 
--- so many bytes, and those behind them
+-- so many bytes, and those after them
 abbrev pub cut_at : ℤ → List ℕ → Option (List ℕ × List ℕ)
 cut_at (negsuc n) bytes = None
 cut_at (pos n) bytes = if nat_lt (length bytes) n then None else Some (take n bytes, drop n bytes)
@@ -45,7 +46,7 @@ blob_at bytes = do
 unfoldable pub blob_bytes : List ℕ → List ℕ
 blob_bytes blob = varint_bytes (pos (length blob)) ++ blob
 
--- so many bytes, or none at all, and those behind them
+-- so many bytes, or none at all, and those after them
 abbrev pub cut_if : ℤ → List ℕ → Option (Option (List ℕ) × List ℕ)
 cut_if (negsuc n) bytes = Some (None, bytes)
 cut_if (pos n) bytes = if nat_lt (length bytes) n then None else Some (Some (take n bytes), drop n bytes)
@@ -72,11 +73,11 @@ header_at bytes = do
 unfoldable pub header_bytes : Header → List ℕ
 header_bytes header = blob_bytes header.key ++ optional_bytes header.value
 
--- a header of these parts, and what stands behind it
+-- a header of these parts, and what follows it
 abbrev pub header_shown : List ℕ → Option (List ℕ) → List ℕ → Header × List ℕ
 header_shown key value rest = (record { key = key; value = value }, rest)
 
--- so many headers, and the bytes behind them
+-- so many headers, and the bytes after them
 abbrev pub headers_at : ℕ → List ℕ → Option (List Header × List ℕ)
 headers_at zero bytes = Some ([], bytes)
 headers_at (suc n) bytes = do
@@ -89,7 +90,7 @@ abbrev pub headers_bytes : List Header → List ℕ
 headers_bytes [] = []
 headers_bytes (header ∷ headers) = header_bytes header ++ headers_bytes headers
 
--- headers, and what stands behind them
+-- headers, and what follows them
 abbrev pub headers_shown : List Header → List ℕ → List Header × List ℕ
 headers_shown headers rest = (headers, rest)
 
@@ -108,7 +109,7 @@ header_list_at bytes = do
 unfoldable pub header_list_bytes : List Header → List ℕ
 header_list_bytes headers = varint_bytes (pos (length headers)) ++ headers_bytes headers
 
--- a record that tells its timestamp and offset as distances from its batch's
+-- a record that reports its timestamp and offset as distances from its batch's
 pub record DeltaRec : Type 0 where
   pub ts_delta : ℤ
   pub offset_delta : ℤ
@@ -116,7 +117,7 @@ pub record DeltaRec : Type 0 where
   pub value : Option (List ℕ)
   pub headers : List Header
 
--- the bytes behind the first one, whatever it is
+-- the bytes after the first one, whatever it is
 abbrev pub past_byte : List ℕ → Option (List ℕ)
 past_byte [] = None
 past_byte (b ∷ bytes) = Some bytes
@@ -126,7 +127,7 @@ abbrev pub whole : {A : Type 0} → A × List ℕ → Option A
 whole (x, []) = Some x
 whole (x, b ∷ bytes) = None
 
--- what stands before the headers
+-- what precedes the headers
 pub record DeltaFront : Type 0 where
   pub ts_delta : ℤ
   pub offset_delta : ℤ
@@ -143,7 +144,7 @@ front_at bytes = do
   value ← optional_at key.1
   Some (record { ts_delta = ts.0; offset_delta = offset.0; key = key.0; value = value.0 }, value.1)
 
--- such a front, and the headers behind it
+-- such a front, and the headers after it
 abbrev pub with_headers : DeltaFront → List Header → DeltaRec
 with_headers front headers = record {
   ts_delta = front.ts_delta;

@@ -3,7 +3,7 @@ use Rattle.std.specs.Prelude.{◌≡◌, ℕ, List, ◌++◌, length, take, drop
 use Rattle.std.specs.Int.{w32, w64, to_be_bytes}
 use Rattle.log_terms.specs.Batch.{base_of, epoch_of, last_offset_delta_of, max_ts_of}
 
--- bytes 0 to 7 and 12 to 15 are written anew, the others are the batch's own
+-- bytes 0 to 7 and 12 to 15 are rewritten, the others are the batch's own
 unfoldable pub stamped : List ℕ → ℕ → ℕ → List ℕ
 stamped batch base epoch = to_be_bytes w64 base ++ (take 4 (drop 8 batch) ++ (to_be_bytes w32 epoch ++ drop 16 batch))
 

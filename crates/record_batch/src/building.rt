@@ -166,7 +166,7 @@ pub fn build(alloc: Global, base: u64, epoch: u32, recs: &[Rec]) -> Result<Vec<u
     ensures checked { IfOk result (λ batch.
         checked batch.items ≡ Ok (record { head = head_of batch.items; recs = recs.now })) }
 
-    // Each cause. Want of memory alone is free.
+    // Each cause. Out of memory alone is free.
     ensures none { IsErrOf result BuildRefusal.NoRecords ↔ (recs.now ≡ []) }
     ensures large { IsErrOf result BuildRefusal.TooLarge ↔ IsTooLarge recs.now }
 {

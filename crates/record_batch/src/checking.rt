@@ -98,7 +98,7 @@ fn refuses_count(count: u32, last: u32) -> Option<BatchRefusal>
     None
 }
 
-/// A cause that is told of a head, told of a batch.
+/// A cause that is reported of a head, reported of a batch.
 fn of_batch(why: HeadRefusal) -> BatchRefusal
     ensures { result ≡ of_head why }
 {
@@ -109,7 +109,7 @@ fn of_batch(why: HeadRefusal) -> BatchRefusal
     }
 }
 
-/// Answers the head that the bytes begin with. What stands behind it is not looked at.
+/// Returns the head that the bytes begin with. What follows it is not looked at.
 #[tactic(auto, unfolding(crate::specs::Check::headed))]
 pub fn read_head(bytes: &[u8]) -> Result<Head, HeadRefusal>
     ensures { result ≡ headed bytes.now }
@@ -146,7 +146,7 @@ fn tested(bytes: &[u8]) -> Result<Head, BatchRefusal>
     Ok(fields_of(bytes))
 }
 
-/// Answers the head of the batch that the bytes are, or the first test that fails.
+/// Returns the head of the batch that the bytes are, or the first test that fails.
 #[tactic(auto, using(crate::proofs::Passing::head_in_ok))]
 pub fn check(bytes: &[u8]) -> Result<Head, BatchRefusal>
     ensures exact { result ≡ head_in (checked bytes.now) }

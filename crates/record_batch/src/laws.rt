@@ -22,7 +22,7 @@ pub fn stamp_again_is_one_stamp()
         → stamped (stamped batch base epoch) base_2 epoch_2 ≡ stamped batch base_2 epoch_2 }
 {}
 
-/// The head of a batch that was built tells of its records.
+/// The head of a batch that was built describes its records.
 pub fn built_head_tells()
     ensures { (recs : List Rec) → IsBuildable recs → HeadTells (built recs) 0 0 recs }
 {}
@@ -50,7 +50,7 @@ pub fn built_is_checked()
     zigzag_keeps_the_width();
 }
 
-/// Bytes that are a batch have its size, and as many records as their head tells.
+/// Bytes that are a batch have its size, and as many records as their head says.
 pub fn checked_is_batch()
     ensures { (bytes : List ℕ) (batch : Batch) → checked bytes ≡ Ok batch → IsBatchOf bytes batch }
 {}

@@ -98,7 +98,7 @@ pub(crate) fn header(bytes: &[u8]) -> Option<((&[u8], Option<&[u8]>), &[u8])>
     Some(((key, value), rest))
 }
 
-/// What stands before a record's headers.
+/// What precedes a record's headers.
 #[derive(Clone, Copy)]
 pub(crate) struct Front<'a> {
     pub ts_delta: i64,

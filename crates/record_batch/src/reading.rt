@@ -17,7 +17,7 @@ use tier_base::{Blob, Row};
 /// Why nothing was read.
 #[derive(Debug, Drop)]
 pub(crate) enum ReadStop {
-    /// The bytes have no reading.
+    /// The bytes are invalid.
     NoReading,
     /// There was no memory for what they hold.
     NoMemory,

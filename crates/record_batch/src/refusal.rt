@@ -2,13 +2,13 @@
 
 use thiserror::Error;
 
-/// Why bytes do not begin with a batch's head. The first cause in the order of the tests is told.
+/// Why bytes do not begin with a batch's head. The first cause in the order of the tests is reported.
 #[derive(Clone, Copy, Debug, PartialEq, Eq, Error)]
 pub enum HeadRefusal {
     /// There are fewer bytes than a head has.
     #[error("the bytes end inside the head")]
     Short,
-    /// The batch is of another format, whose fields stand elsewhere.
+    /// The batch is of another format, whose fields are elsewhere.
     #[error("the magic is not 2")]
     BadMagic,
     /// Its length is below that of a head alone, or above that of the largest batch.
@@ -16,13 +16,13 @@ pub enum HeadRefusal {
     BadLength,
 }
 
-/// Why bytes are no batch. The first test that fails is told.
+/// Why bytes are no batch. The first test that fails is reported.
 #[derive(Clone, Copy, Debug, PartialEq, Eq, Error)]
 pub enum BatchRefusal {
-    /// There are fewer bytes than a head has, or than this one tells.
+    /// There are fewer bytes than a head has, or than this one gives.
     #[error("the bytes end inside the batch")]
     Short,
-    /// The batch is of another format, whose fields stand elsewhere.
+    /// The batch is of another format, whose fields are elsewhere.
     #[error("the magic is not 2")]
     BadMagic,
     /// Its length is out of range, or bytes follow the batch.
@@ -40,12 +40,12 @@ pub enum BatchRefusal {
     /// The batch carries a broker's own mark and no records of a producer.
     #[error("the batch is a control batch")]
     Control,
-    /// The records from this byte on, or the count of them there, are not as the head tells.
+    /// The records from this byte on, or the count of them there, are not as the head says.
     #[error("the records are wrong at byte {at}")]
     BadRecords { at: u32 },
 }
 
-/// Why no batch was built. The first cause in this order is told.
+/// Why no batch was built. The first cause in this order is reported.
 #[derive(Clone, Copy, Debug, PartialEq, Eq, Error)]
 pub enum BuildRefusal {
     /// A batch has one record at least.

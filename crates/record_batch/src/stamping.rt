@@ -3,7 +3,7 @@
 ghost use Rattle.std.specs.Prelude.{◌≡◌, ◌≤◌, length};
 ghost use Rattle.record_batch.specs.Stamp.{stamped};
 
-/// Writes the base offset and the leader epoch of a batch anew. Its checksum stays right, since it covers neither.
+/// Overwrites the base offset and the leader epoch of a batch. Its checksum stays right, since it covers neither.
 #[tactic(auto, unfolding(crate::specs::Stamp::stamped))]
 pub fn stamp(batch: &mut [u8], base: u64, epoch: u32)
     requires { 16 ≤ length batch.old }

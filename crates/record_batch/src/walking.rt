@@ -8,7 +8,7 @@ ghost use Rattle.record_batch.specs.Walk.{Skips, numbered, fault_in};
 
 use crate::parts::{blob, body_front, header, varint};
 
-/// What stands behind so many headers.
+/// What follows so many headers.
 fn past_headers(count: u32, bytes: &[u8]) -> Option<&[u8]>
     ensures { Skips (option_map (λ x. x.now) result) (headers_at count bytes.now) }
 {
@@ -22,7 +22,7 @@ fn past_headers(count: u32, bytes: &[u8]) -> Option<&[u8]>
     Some(rest)
 }
 
-/// What stands behind a count, and so many headers.
+/// What follows a count, and so many headers.
 #[tactic(auto, unfolding(crate::specs::Record::header_list_at))]
 fn past_header_list(bytes: &[u8]) -> Option<&[u8]>
     ensures { Skips (option_map (λ x. x.now) result) (header_list_at bytes.now) }
@@ -54,7 +54,7 @@ fn number_in(body: &[u8]) -> Option<i32>
     }
 }
 
-/// A record's offset delta, and what stands behind the record.
+/// A record's offset delta, and what follows the record.
 #[tactic(auto, unfolding(crate::specs::Record::record_at))]
 fn record_number(bytes: &[u8]) -> Option<(i32, &[u8])>
     ensures within { IfSome result (λ x. length x.1.now ≤ length bytes.now) }

@@ -3,7 +3,7 @@ use Rattle.std.proofs.Common.{◌≡◌, ap, refl, ℕ, suc, ◌+◌, ◌-◌, �
 use Rattle.std.proofs.lemmas.List.{take-append-drop}
 use Rattle.registry.specs.View.{eight}
 
--- an end goes into the place behind the front
+-- an end goes into the place after the front
 set-behind : (front : List ℕ) (old p : ℕ) (back : List ℕ) → slice_set (front ++ old ∷ back) (length front) p ≡ (front ++ p ∷ []) ++ back
 set-behind [] old p back = refl
 set-behind (x ∷ front) old p back = ap (λ (t : List ℕ). x ∷ t) (set-behind front old p back)

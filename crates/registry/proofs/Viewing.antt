@@ -23,7 +23,7 @@ bits_below (s ∷ ss) =
     let twice : 2 ^ suc (length ss) ≡ 2 ^ length ss * 2 = pow-suc 2 (length ss) in
     rw twice (omega (arith, bit, more))
 
--- behind the first of eight replicas there are seven bits at most
+-- after the first of eight replicas there are seven bits at most
 pub bits_fit : (replicas : List Replica) (at : ℕ) → length replicas ≤ 8 → 0 < at → sync_bits (drop at replicas) < 128
 bits_fit replicas at few some =
     let below : sync_bits (drop at replicas) < 2 ^ length (drop at replicas) = bits_below (drop at replicas) in
@@ -49,7 +49,7 @@ ends_more replicas b d within =
     let next : b + 1 ≡ suc b = omega arith in
     rw next (ends-suc replicas b d within)
 
--- what stands at a place, and what behind it
+-- what is at a place, and what after it
 drop-suc : (ends : List ℕ) (b e : ℕ) → slice_get ends b ≡ Some e → drop b ends ≡ e ∷ drop (suc b) ends
 drop-suc [] b e is = absurd (cc)
 drop-suc (x ∷ ends) zero e is = let same : x ≡ e = cc in rw same refl

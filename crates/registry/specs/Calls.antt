@@ -1,8 +1,8 @@
 -- What each call answers, and the registry after it: one function a call, by cases on the answer.
 --
--- It gives none where the call isn't answered so. The tests of a call stand in the order in which they are made: a
--- later answer comes only where no earlier one does. A refusal leaves the registry as it was. r is the registry before
--- the call, b the broker, s that broker's replica.
+-- It gives none where the call isn't answered so. The tests of a call are in the order in which they are made: a later
+-- answer comes only where no earlier one does. A refusal leaves the registry as it was. r is the registry before the
+-- call, b the broker, s that broker's replica.
 use Rattle.std.specs.Prelude.{ℕ, ◌+◌, ◌==◌, ◌&&◌, not, nat_lt, nat_le, Bool, true, false, Option, Some, None, Result, Ok, Err}
 use Rattle.registry.specs.declared.registry.Replica.{Replica}
 use Rattle.registry.specs.declared.registry.Registry.{Registry}

@@ -13,7 +13,7 @@ abbrev pub fresh_registry : ℕ → Registry
 fresh_registry brokers =
     record { epoch = 0; leader = record { 0 = 0 }; mark = 0; start = 0; replicas = replicate brokers fresh_replica }
 
--- another replica stands in the broker's place
+-- another replica is in the broker's place
 abbrev pub put_replica : Registry → ℕ → Replica → Registry
 put_replica r b s = record r { replicas = slice_set r.replicas b s }
 

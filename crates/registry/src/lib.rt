@@ -3,8 +3,8 @@
 //!
 //! It never stops, and no call of it allocates. A call that can be refused tests its causes in a fixed order and
 //! changes the registry only if none of them holds. `specs/Calls.antt` says what each call returns and changes; the
-//! plain log's rows for elections, acknowledgements, the ISR and the log start cite the same definitions. `lead` and
-//! `lead_alone` carry out an election that the caller has already tested.
+//! plain log's rows for elections, acknowledgements, the ISR and the log start offset cite the same definitions. `lead`
+//! and `lead_alone` carry out an election that the caller has already tested.
 #![tactic(auto)]
 
 mod laws;

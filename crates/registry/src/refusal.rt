@@ -2,7 +2,8 @@
 
 use thiserror::Error;
 
-/// Why a call was refused. The first cause in the order of the call's tests is told. None of them changes the registry.
+/// Why a call was refused. The first cause in the order of the call's tests is reported. None of them changes the
+/// registry.
 #[derive(Clone, Copy, Debug, PartialEq, Eq, Error)]
 pub enum RegRefusal {
     /// No leader epoch follows the greatest.

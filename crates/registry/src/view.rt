@@ -72,7 +72,7 @@ fn replica(view: &RegView, b: u16) -> Replica
 }
 
 impl Registry {
-    /// Answers what it holds.
+    /// Returns what it holds.
     pub fn get(&self) -> RegView
         requires { length self.now.replicas ≤ 8 }
         ensures { result ≡ view_of self.now }

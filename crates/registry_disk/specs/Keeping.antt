@@ -57,7 +57,7 @@ abbrev pub refusal_of : Trouble → FindRefusal
 refusal_of trouble.Failed = find.Fault
 refusal_of trouble.NoMemory = find.NoMemory
 
--- A read of the file answers so: what it says is what was handed, and of a disk that tells what its file has.
+-- A read of the file answers so: what it says is what was returned, and of an observable disk what its file has.
 abbrev pub Finds : Content → Control call_code → Control call_code → Result (Option RegView) FindRefusal → Type 0
 Finds d c c' (Ok None) = IsTrue d.is_observable → d.files RegistryName ≡ None
 Finds d c c' (Ok (Some view)) =

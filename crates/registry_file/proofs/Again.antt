@@ -31,7 +31,7 @@ pub u64_again : (at n : ℕ) (rest : List ℕ) → n < 2 ^ 64 → number_at w64 
 unfolding number_at
 u64_again at n rest h = rw (cut_again 8 at (to_be_bytes w64 n) rest refl, from_be_bytes-to_be_bytes_8 n h) refl
 
--- what stands before the marks is read again
+-- what precedes the marks is read again
 front-again : (brokers epoch leader : ℕ) (rest : List ℕ) → 1 ≤ brokers → brokers ≤ 8 → epoch < 2 ^ 31 → leader < brokers
     → front_at (front_bytes brokers epoch leader ++ rest)
     ≡ Ok (record { brokers = brokers; epoch = epoch; leader = record { 0 = leader } }, rest)

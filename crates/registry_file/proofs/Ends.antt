@@ -3,7 +3,7 @@ use Rattle.std.proofs.Common.{◌≡◌, ◌∙◌, ap, refl, ℕ, suc, ◌+◌,
 use Rattle.registry_file.specs.declared.refusal.RegFileRefusal.{RegFileRefusal}
 use Rattle.registry_file.specs.Reading.{Read, ◌>>=◌, end_at, ends_at, eight_at}
 
--- ends behind those that were read before
+-- ends after those that were read before
 abbrev pub glue : List ℕ → Read (List ℕ) → Read (List ℕ)
 glue front (Ok x) = Ok (front ++ x.0, x.1)
 glue front (Err why) = Err why

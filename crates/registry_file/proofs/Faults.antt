@@ -6,7 +6,7 @@ use Rattle.registry_file.specs.Reading.{Read, ◌>>=◌}
 use Rattle.registry_file.specs.Faults.{field_end, IsPlace}
 use Rattle.registry_file.proofs.Inverting.{peeled, ok_same}
 
--- these bytes can go on as what the reader takes
+-- these bytes can continue as what the reader takes
 abbrev pub Fills : {A : Type 0} → (List ℕ → Read A) → (A → Type 0) → List ℕ → Type 0
 Fills {A} R P front = (more : List ℕ) × (x : A) × P x × ((t : List ℕ) → R (front ++ (more ++ t)) ≡ Ok (x, t))
 

@@ -75,7 +75,7 @@ number-short w at bytes why e =
     (λ e1. cut-short (byte_len w) at bytes why (nat_lt (length bytes) (byte_len w)) refl e1)
     (λ y e1 m1. absurd (cc))
 
--- a place is told
+-- a place is reported
 pub told : (p at : ℕ) → Bad p ≡ Bad at → p ≡ at
 told p at e = cc
 

@@ -226,7 +226,7 @@ view-stops =
 no-both : (r : Result RegView RegFileRefusal) (view : RegView) (at : ℕ) → r ≡ Ok view → r ≡ Err (Bad at) → ⊥
 no-both r view at e e' = absurd (cc)
 
--- a refusal tells the first fault
+-- a refusal reports the first fault
 pub first_fault : (bytes : List ℕ) (at : ℕ) → view_in bytes ≡ Err (Bad at) → IsFirstFault bytes at
 first_fault bytes at e =
     let is = view-stops.stop bytes at e in

@@ -1,4 +1,4 @@
--- What stood where a reading went on.
+-- What was where a reading continued.
 use Rattle.std.proofs.Common.{◌≡◌, ◌≤◌, refl, ℕ, Bool, true, false, cond, List, [], ◌∷◌, length, arith, Result, Ok, Err}
 use Rattle.registry_file.specs.declared.refusal.RegFileRefusal.{RegFileRefusal}
 use Rattle.registry_file.specs.declared.refusal.RegFileRefusal.TheVariants.{Bad}

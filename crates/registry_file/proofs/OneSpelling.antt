@@ -1,4 +1,4 @@
--- What is read as a view keeps the rules, and stands in the bytes as the view is spelled.
+-- What is read as a view keeps the rules, and is in the bytes as the view is spelled.
 use Rattle.std.proofs.Common.{◌≡◌, ◌∙◌, ap, sym, refl, ℕ, zero, suc, ◌+◌, ◌-◌, ◌*◌, ◌^◌, ◌<◌, ◌≤◌, ◌==◌, ◌↔◌, nat_lt, nat_le, true, List, [], ◌∷◌, length, take, drop, replicate, Result, Ok, Err, IfOk, arith, append-nil, length-append}
 use Rattle.std.specs.List.{All}
 use Rattle.std.specs.Int.{w16, w32, w64, to_be_bytes}

@@ -1,4 +1,4 @@
--- What the place of a refusal says: as far as there the bytes can go on as a view's file, and with the field that
+-- What the place of a refusal says: as far as there the bytes can continue as a view's file, and with the field that
 -- begins there they can't.
 use Rattle.std.specs.Prelude.{◌≡◌, ℕ, ◌+◌, ◌-◌, ◌%◌, ◌==◌, ◌<◌, ◌≤◌, nat_lt, if◌then◌else◌, List, ◌++◌, length, take, Ok}
 use Rattle.registry.specs.declared.view.RegView.{RegView}
@@ -18,7 +18,7 @@ IsPlace at = 28 < at → (at - 29) % 8 ≡ 0
 abbrev pub CanGoOn : List ℕ → Type 0
 CanGoOn front = (more : List ℕ) × (view : RegView) × (view_in (front ++ more) ≡ Ok view)
 
--- the first field that lacks or breaks a rule begins here, or the first byte that follows stands here
+-- the first field that lacks or breaks a rule begins here, or the first byte that follows is here
 pub record IsFirstFault (bytes : List ℕ) (at : ℕ) : Type 0 where
   pub place : IsPlace at
   pub there : at ≤ length bytes

@@ -1,5 +1,5 @@
 -- What bytes say as a registry's file, or their first fault: each part as what it reads at the front of bytes, with
--- what stands behind it.
+-- what follows it.
 --
 -- A fault is the place of the first field that is missing, is cut or breaks a rule, or of the first byte that follows
 -- the last field. A rule on two fields is broken at the later of them. The places are those of the table in the module
@@ -14,7 +14,7 @@ use Rattle.registry_file.specs.declared.parts.Front.{Front}
 use Rattle.registry_file.specs.declared.parts.Marks.{Marks}
 use Rattle.registry_file.specs.Spelling.{magic}
 
--- what was read at the front, and what stands behind it
+-- what was read at the front, and what follows it
 abbrev pub Read : Type 0 → Type 0
 Read A = Result (A × List ℕ) RegFileRefusal
 
@@ -52,7 +52,7 @@ count_may n = nat_lt 0 n && nat_le n 8
 abbrev pub sync_may : ℕ → ℕ → ℕ → Bool
 sync_may brokers leader bits = nat_lt bits (2 ^ brokers) && has_bit bits leader
 
--- what stands before the marks
+-- what precedes the marks
 unfoldable pub front_at : List ℕ → Read Front
 front_at bytes = do
   tag ← passing (λ n. n == magic) (Bad 0) (number_at w32 0 bytes)

@@ -18,7 +18,7 @@ use Rattle.registry.specs.declared.view.RegView.{RegView}
 abbrev pub magic : ℕ
 magic = 0x544C5231
 
--- what stands before the marks
+-- what precedes the marks
 unfoldable pub front_bytes : ℕ → ℕ → ℕ → List ℕ
 front_bytes brokers epoch leader =
     to_be_bytes w32 magic ++ (to_be_bytes w16 brokers ++ (to_be_bytes w32 epoch ++ to_be_bytes w16 leader))

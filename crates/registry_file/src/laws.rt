@@ -20,7 +20,7 @@ pub fn a_file_reads_as_what_it_spells()
         → (view_in bytes ≡ Ok view) ↔ (IsView view × (bytes ≡ view_bytes view)) }
 {}
 
-/// A refusal tells the first fault.
+/// A refusal reports the first fault.
 pub fn a_refusal_tells_the_first_fault()
     ensures { (bytes : List ℕ) (at : ℕ) → view_in bytes ≡ Err (Bad at) → IsFirstFault bytes at }
 {}

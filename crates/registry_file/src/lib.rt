@@ -1,4 +1,4 @@
-//! The registry of a partition as a file: leader, leader epoch, ISR, high watermark and log start offset.
+//! The registry of a partition as a file: leader and epoch, ISR, acknowledged ends, high watermark, log start offset.
 //!
 //! It is replaced as a whole, and has one spelling in bytes. Any view can be written, but only one that satisfies the
 //! registry's rules is read back.

@@ -2,7 +2,7 @@
 
 use tier_base::BrokerId;
 
-/// What stands before the marks.
+/// What precedes the marks.
 #[derive(Clone, Copy)]
 pub(crate) struct Front {
     pub brokers: u16,

@@ -62,7 +62,7 @@ fn joined(front: Front, marks: Marks, acked: [u64; 8]) -> RegView
     }
 }
 
-/// What stands before the marks.
+/// What precedes the marks.
 #[tactic(auto, unfolding(crate::specs::Reading::front_at))]
 fn front(bytes: &[u8]) -> Result<(Front, &[u8]), RegFileRefusal>
     ensures exact { seen (λ x. (x.0, x.1.now)) result ≡ front_at bytes.now }

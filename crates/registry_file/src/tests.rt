@@ -98,7 +98,7 @@ fn a_cut_file_tells_the_cut_field(rt: HostRuntime) {
     }
 }
 
-/// A byte of the second row, or of the bytes that stand in its place from a place on.
+/// A byte of the second row, or of the bytes that replace it from a place on.
 fn byte_at(at: usize, field: &[u8], i: usize) -> u8 {
     match field.get(i.wrapping_sub(at)) {
         Some(byte) => *byte,
@@ -115,7 +115,7 @@ fn with(alloc: Global, at: usize, field: &[u8]) -> Result<Option<RegFileRefusal>
     Ok(reg_decode(bytes.as_slice()).err())
 }
 
-/// Bytes of their own at a place of the second row, and where that is told; None where it still reads.
+/// Bytes of their own at a place of the second row, and where that is reported; None where it still reads.
 static BAD: [(usize, &[u8], Option<u32>); 23] = [
     (0, &[0x55], Some(0)),
     (3, &[0x32], Some(0)),

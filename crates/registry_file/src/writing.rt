@@ -55,7 +55,7 @@ fn push_u64(out: &mut Vec<u8>, number: u64) -> Result<(), AllocError>
     out.extend_from_slice(number.to_be_bytes().as_slice())
 }
 
-/// Writes what stands before the marks.
+/// Writes what precedes the marks.
 #[tactic(auto, unfolding(crate::specs::Spelling::front_bytes))]
 fn push_front(out: &mut Vec<u8>, view: &RegView) -> Result<(), AllocError>
     ensures { OnOk result (out.new.items

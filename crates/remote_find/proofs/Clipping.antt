@@ -104,7 +104,7 @@ span_grows (entry ∷ next ∷ line) epoch end later o up h = by (entry.0 == epo
     by true h more = h
     by false h more = more h
 
--- where an epoch lies, the line gives it
+-- where an epoch lies, the leader epochs give it
 pub own_epoch : (line : List (ℕ × ℕ)) (epoch end o : ℕ) (span : Span) → IsLine line → span_of line epoch end ≡ Some span → span.from ≤ o → o < span.to → epoch_at line o ≡ Some epoch
 own_epoch line epoch end o span rises is low high =
     let inside : in_span (span_of line epoch end) o ≡ true = rw is (within_true span.from span.to o low high) in

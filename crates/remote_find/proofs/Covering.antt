@@ -78,7 +78,7 @@ piece_there : (entries : List Entry) (line : List (ℕ × ℕ)) (log_end epoch o
 piece_there entries line log_end epoch o entry kept distinct rises below at among h =
     found_there entries line log_end epoch o kept distinct rises below at (best_passing (covers epoch o) None entries entry among h)
 
--- so has each offset behind one whose piece it is in
+-- so has each offset after one whose piece it is in
 pub piece_goes_on : (entries : List Entry) (line : List (ℕ × ℕ)) (log_end o q : ℕ) (piece : Piece) → AreKept entries → AreDistinct entries → IsLine line
     → AllByRecursion (λ (start : ℕ × ℕ). start.1 ≤ log_end) line → piece_at entries line log_end o ≡ Some piece → o ≤ q → q < piece.to → IsSome (piece_at entries line log_end q)
 piece_goes_on entries line log_end o q piece kept distinct rises all is from to =

@@ -33,7 +33,7 @@ none_all (entry ∷ next ∷ line) end none = let rest = none_all (next ∷ line
     never next [] none = absurd (cc)
     never next (more ∷ line) none = never more line none
 
--- past the log's end there is no piece, nor where the line has no epoch
+-- past the log's end there is no piece, nor where the leader epochs have no epoch
 pub past_end : (entries : List Entry) (line : List (ℕ × ℕ)) (log_end o : ℕ) → log_end ≤ o → piece_at entries line log_end o ≡ None
 past_end entries line log_end o past = rw (le-ltb o log_end past) refl
 

@@ -1,4 +1,4 @@
--- The pieces of remote segments that a log is read from, by the line of epochs of the log itself.
+-- The pieces of remote segments that a log is read from, by the leader epochs of the log itself.
 --
 -- Source: KIP-405, where an offset is looked up with the leader epoch that the reading log has for it.
 use Rattle.std.specs.Prelude.{◌≡◌, ℕ, ◌<◌, ◌≤◌, zero, suc, ◌+◌, ◌-◌, ◌==◌, nat_lt, nat_le, true, min, max}
@@ -44,7 +44,7 @@ piece_at entries line log_end offset =
     if nat_lt offset log_end then piece_below entries line log_end offset else None
 
 -- what a piece says: it holds its offset, and lies within a finished copy's offsets and in one epoch of the line and of
--- the copy's map; where the line has no start past the log's end, it ends there or before
+-- the copy's map; where the leader epochs have no start past the log's end, it ends there or before
 pub record IsPieceOf (entries : List Entry) (line : List (ℕ × ℕ)) (log_end offset epoch : ℕ) (entry : Entry)
     (piece : Piece) : Type 0 where
   pub copy : entry_of piece.id entries ≡ Some entry
@@ -55,11 +55,11 @@ pub record IsPieceOf (entries : List Entry) (line : List (ℕ × ℕ)) (log_end 
   pub of_copy : (o : ℕ) → piece.from ≤ o → o < piece.to → epoch_at entry.map o ≡ Some epoch
   pub below : AllByRecursion (λ start. start.1 ≤ log_end) line → piece.to ≤ log_end
 
--- what look-ups give: a piece for each offset that has one
+-- what lookups give: a piece for each offset that has one
 abbrev pub Pieces : Type 0
 Pieces = ℕ → Option Piece
 
--- where one goes on behind a piece that there may be
+-- where one continues after a piece that there may be
 abbrev pub beyond : ℕ → (ℕ → ℕ) → Option Piece → ℕ
 beyond at next None = at
 beyond at next (Some piece) = next piece.to
@@ -69,11 +69,11 @@ abbrev pub reached : Pieces → ℕ → ℕ → ℕ
 reached pieces zero at = at
 reached pieces (suc most) at = beyond at (λ n. reached pieces most n) (pieces at)
 
--- the end that is reached; each piece goes on by an offset at least
+-- the end that is reached; each piece continues by an offset at least
 abbrev pub covered_to : List Entry → List (ℕ × ℕ) → ℕ → ℕ → ℕ
 covered_to entries line log_end at = reached (piece_at entries line log_end) (log_end - at) at
 
--- a piece that there may be, where it ends at or below a top, and those behind it
+-- a piece that there may be, where it ends at or below a top, and those after it
 abbrev pub and_behind : ℕ → (ℕ → List Piece) → Option Piece → List Piece
 and_behind top next None = []
 and_behind top next (Some piece) = if nat_le piece.to top then piece ∷ next piece.to else []

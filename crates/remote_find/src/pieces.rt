@@ -50,7 +50,7 @@ pub(crate) fn followed(view: &View, line: &Line, log_end: u64, at: u64) -> u64
     ensures { result ≡ covered_to view.now.entries line.now log_end at }
 {
     let mut place = at;
-    // Each piece goes on by an offset at least, so there are no more of them than offsets.
+    // Each piece continues by an offset at least, so there are no more of them than offsets.
     for _ in 0..log_end.saturating_sub(at) {
         let Some(piece) = find(view, line, log_end, place) else {
             return place;

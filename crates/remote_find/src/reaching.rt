@@ -23,7 +23,8 @@ fn is_within(line: &Line, log_end: u64) -> bool
     }
 }
 
-/// How far copies go from an offset on in the epoch that the line has there. At that end another epoch may go on.
+/// How far copies go from an offset on in the epoch that the leader epochs have there. At that end another epoch may
+/// continue.
 fn end_in_epoch(view: &View, line: &Line, log_end: u64, at: u64) -> u64
     ensures from { at ≤ result }
     ensures each { (o : ℕ) → at ≤ o → o < result → IsSome (piece_at view.now.entries line.now log_end o) }

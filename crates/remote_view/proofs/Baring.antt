@@ -125,7 +125,7 @@ not_both : (f : Option Entry) → IsSome f → f ≡ None → ⊥
 not_both None some none = absurd (cc)
 not_both (Some e) some none = absurd (cc)
 
--- an entry that stands at a place is among them
+-- an entry that is at a place is among them
 among_at : (es : List Entry) (i : ℕ) (d : Entry) → i < length es → Among (get_or es i d) es
 among_at [] i d below = absurd (omega (arith, below))
 among_at (e ∷ es) zero d below = inl refl
@@ -240,7 +240,7 @@ all_bared es x q old new distinct kept here right h = record { rises = h.rises; 
         chosen true own = refl
         chosen false own = rw (other_stays es x q o distinct kept here b found own) refl
 
--- which default stands behind a list's end doesn't matter within it
+-- which default follows a list's end doesn't matter within it
 default_free : (es : List Entry) (i : ℕ) (d e : Entry) → i < length es → get_or es i d ≡ get_or es i e
 default_free [] i d e low = absurd (omega (arith, low))
 default_free (x ∷ es) zero d e low = refl

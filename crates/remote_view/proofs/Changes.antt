@@ -97,7 +97,7 @@ found_id id (e ∷ es) x here = by (bytes_eq e.id.0 id.0) refl here (λ there. f
     by true same is more = let one : e ≡ x = cc in rw (← one) (same_id e.id id same)
     by false same is more = more is
 
--- what notes come to, by whether the id is known
+-- what events come to, by whether the id is known
 pub adds_nothing : (es : List Entry) (e x : Entry) → e.state ≡ CopyStarted → entry_of e.id es ≡ Some x → es ≡ recorded es (Add e)
 adds_nothing es e x started here = rw here (by x.state e.state started)
   where

@@ -1,4 +1,4 @@
--- A fold that goes on.
+-- A fold that continues.
 use Rattle.std.specs.Prelude.{is_some}
 use Rattle.std.specs.List.{AllByRecursion}
 use Rattle.std.proofs.Common.{◌≡◌, ◌∙◌, ap, refl, subst, Bool, true, false, cond, Option, Some, None, ℕ, ◌+◌, List, [], ◌∷◌, ◌++◌, length, arith}
@@ -19,7 +19,7 @@ folded-push entries (first ∷ notes) note = folded-push (recorded entries first
 counted-push : (n m : ℕ) → m ≡ n + 1 → counted (counted 0 n) 1 ≡ counted 0 m
 counted-push n m e = omega (arith, e)
 
--- one note more
+-- one event more
 pub fed_again : (notes : List Note) (note : Note) → fed (view_of notes) note ≡ view_of (notes ++ note ∷ [])
 fed_again notes note =
     let entries = folded-push [] notes note in
@@ -27,7 +27,7 @@ fed_again notes note =
     ap (λ (es : List Entry). (let v : Seen = record { entries = es; notes = counted (counted 0 (length notes)) 1 } in v)) entries
     ∙ ap (λ (n : ℕ). (let v : Seen = record { entries = fold (notes ++ note ∷ []); notes = n } in v)) count
 
--- one note leaves the ids apart
+-- one event leaves the ids apart
 recorded_distinct : (es : List Entry) (note : Note) → IsNote note → AreDistinct es → AreDistinct (recorded es note)
 recorded_distinct es (Add e) is h = by (entry_of e.id es) refl
   where

@@ -27,7 +27,7 @@ due_behind start (suc n) (e ∷ es) h = rw (never (nat_lt e.end start)) (due_beh
     never true = rw h.0 refl
     never false = refl
 
--- one entry more, behind all
+-- one entry more, after all
 pub gone_push : (n : ℕ) (es : List Entry) (e : Entry) → BeginsGone n es → BeginsGone n (es ++ e ∷ [])
 gone_push zero es e h = tt
 gone_push (suc n) [] e h = absurd h

@@ -1,4 +1,4 @@
--- A stair that is parted at a place: the treads in front end at or below an offset, those behind it past it.
+-- A stair that is parted at a place: the treads in front end at or below an offset, those after it past it.
 use Rattle.std.proofs.Common.{zero, suc, ◌≡◌, ◌∙◌, refl, sym, ℕ, ◌+◌, ◌<◌, ◌≤◌, true, false, List, [], ◌∷◌, Option, Some, None, length, drop, get_or, arith, add-one}
 use Rattle.std.specs.Prelude.{nat_le}
 use Rattle.std.specs.List.Sorted.{IsNonDecreasingBy, IsPartitionPoint}

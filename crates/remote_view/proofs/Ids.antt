@@ -1,4 +1,4 @@
--- Ids are told apart by their bytes, and by their numbers.
+-- Ids are distinguished by their bytes, and by their numbers.
 use Rattle.std.proofs.Common.{zero, suc, ◌≡◌, ◌≢◌, ◌∙◌, refl, sym, ap, ℕ, ◌+◌, ◌*◌, ◌<◌, ◌≤◌, List, get_or, arith, true, false, inl, inr}
 use Rattle.std.specs.Str.{bytes_eq}
 use Rattle.std.specs.Int.{w128, from_be_bytes}

@@ -18,7 +18,7 @@ only_span x epoch from is = rw (is, eq-eqb epoch epoch refl) refl
 other_span : (x : Entry) (epoch from q : ℕ) → x.map ≡ (epoch, from) ∷ [] → q ≢ epoch → span_of x.map q (x.end + 1) ≡ None
 other_span x epoch from q is other = rw (is, ne_eqb epoch q (λ same. other (rw same refl))) refl
 
--- an entry that is put behind the stair of its only epoch is laid over all stairs
+-- an entry that is put after the stair of its only epoch is laid over all stairs
 pub laid_behind : (es : List Entry) (x : Entry) (epoch from : ℕ) (old new : Stairs) → IsKept x → x.map ≡ (epoch, from) ∷ [] → ((q : ℕ) → Rises (stair_on old q)) → Fits from x.id (stair_on old epoch)
     → stair_on new epoch ≡ stair_on old epoch ++ (record { from = from; to = x.end + 1; id = x.id }) ∷ [] → ((q : ℕ) → q ≢ epoch → stair_on new q ≡ stair_on old q)
     → (q : ℕ) → IsLaidIn es x q (stair_on old q) (stair_on new q)

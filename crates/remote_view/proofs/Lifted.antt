@@ -11,7 +11,7 @@ use Rattle.remote_view.specs.Stairs.{is_within, id_at, IsUnder, Rises, HasAll, b
 use Rattle.remote_view.specs.Laying.{in_place, of_others, IsLifted}
 use Rattle.remote_view.proofs.Lying.{within_says, within_below, within_past}
 
--- each tread starts at an offset or behind it
+-- each tread starts at an offset or after it
 abbrev Behind : ℕ → List Tread → Type 0
 Behind at stair = AllByRecursion (λ tread. at ≤ tread.from) stair
 
@@ -19,7 +19,7 @@ behind_weaker : (stair : List Tread) (at later : ℕ) → at ≤ later → Behin
 behind_weaker [] at later up h = tt
 behind_weaker (x ∷ stair) at later up h = (omega (arith, up, h.0), behind_weaker stair at later up h.1)
 
--- treads lie behind the one before
+-- treads lie after the one before
 rises_behind : (tread : Tread) (stair : List Tread) → Rises (tread ∷ stair) → Behind tread.to stair
 rises_behind tread [] rises = tt
 rises_behind tread (next ∷ stair) rises =
@@ -108,7 +108,7 @@ taken_first id end gone (x ∷ treads) low rises first own =
     let here = drop_more (x ∷ treads) gone x low in
     rw here (taken_front id end _ _ (rw here at rises) (rw here at first) (rw here at own))
 
--- a run behind the segment keeps its treads
+-- a run after the segment keeps its treads
 pub lifted_run : (id : SegmentId) (stair new : List Tread) (from to later end : ℕ) → IsLifted id stair new → later ≡ max from end
     → ((o : ℕ) → end ≤ o → in_place id None (id_at stair o) ≡ id_at stair o) → HasAll from to stair → HasAll later to new
 lifted_run id stair new from to later end lifted start own all o low high =

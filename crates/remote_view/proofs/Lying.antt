@@ -147,12 +147,12 @@ map_lies start end (entry ∷ line) epoch o h =
     outside None is out = refl
     outside (Some span) is out = out span is
 
--- an epoch behind the first entry is above it
+-- an epoch after the first entry is above it
 above-first : (one : ℕ × ℕ) (line : List (ℕ × ℕ)) (i : ℕ) (d : ℕ × ℕ) → IsLine (one ∷ line) → i < length line → one.0 < (get_or line i d).0
 above-first one [] i d h l = absurd (omega (arith, l))
 above-first one (two ∷ line) i d h l = let up = epochs-rise (two ∷ line) h.3 0 i d (omega arith) l in omega (arith, up, h.2.0)
 
--- the epoch that stands at a place
+-- the epoch that is at a place
 pub span_at : (line : List (ℕ × ℕ)) (i : ℕ) (d : ℕ × ℕ) (end : ℕ) → IsLine line → i < length line
     → span_of line (get_or line i d).0 end ≡ Some (record { from = (get_or line i d).1; to = start_or end (drop (suc i) line) })
 span_at [] i d end h l = absurd (omega (arith, l))
@@ -161,7 +161,7 @@ span_at (one ∷ line) (suc i) d end h l =
     let above = above-first one line i d h (omega (arith, l)) in
     rw (ne_eqb one.0 (get_or line i d).0 (λ e. omega (arith, above, e))) (span_at line i d end (rest-line one line h) (omega (arith, l)))
 
--- an epoch that stands nowhere
+-- an epoch that is nowhere
 span_nowhere : (line : List (ℕ × ℕ)) (epoch end : ℕ) → ((k : ℕ) (d : ℕ × ℕ) → k < length line → (get_or line k d).0 ≢ epoch) → span_of line epoch end ≡ None
 span_nowhere [] epoch end none = refl
 span_nowhere (one ∷ line) epoch end none =

@@ -14,12 +14,12 @@ use Rattle.remote_view.specs.Laying.{EndsBy, Fits, IsPut, split_at, IsSplit, ove
 use Rattle.remote_view.proofs.Lying.{within_true, within_below, within_past}
 use Rattle.remote_view.proofs.Treads.{nothing_past, nothing_below, ends_weaker, behind_says}
 
--- the first tread starts at an offset or behind it
+-- the first tread starts at an offset or after it
 abbrev pub StartsFrom : ℕ → List Tread → Type 0
 StartsFrom at [] = Unit {0}
 StartsFrom at (tread ∷ stair) = at ≤ tread.from
 
--- a new stair is right below an offset, and the rest of the old one lies behind it
+-- a new stair is right below an offset, and the rest of the old one lies after it
 pub record IsSoFar (entries : List Entry) (entry : Entry) (span : Span) (stair rest laid : List Tread) (at : ℕ) : Type 0 where
   pub rises : Rises laid
   pub ends : EndsBy at laid
@@ -80,7 +80,7 @@ next_starts : (tread : Tread) (rest : List Tread) → IsUnder tread rest → Sta
 next_starts tread [] under = tt
 next_starts tread (next ∷ rest) under = under.0
 
--- the gap before a tread lies behind what was laid
+-- the gap before a tread lies after what was laid
 pub gap_ends : (entries : List Entry) (entry : Entry) (span : Span) (stair rest laid : List Tread) (tread : Tread) (at from : ℕ)
     → IsSoFar entries entry span stair (tread ∷ rest) laid at → from ≡ min (max span.from at) tread.from → EndsBy from laid
 gap_ends entries entry span stair rest laid tread at from so is_from =
@@ -144,7 +144,7 @@ pub ends_with_last : (stair : List Tread) (last : Tread) (at : ℕ) → Rises st
 ends_with_last [] last at rises is up = tt
 ends_with_last (x ∷ stair) last at rises is up = ends_weaker (x ∷ stair) last.to at (ends_with x stair last rises is) up
 
--- one tread more behind the last one, of another segment
+-- one tread more after the last one, of another segment
 rises_more : (x : Tread) (stair : List Tread) (last tread : Tread) → Rises (x ∷ stair) → slice_get (x ∷ stair) (length (x ∷ stair) - 1) ≡ Some last → last.to ≤ tread.from
     → bytes_eq last.id.0 tread.id.0 ≡ false → tread.from < tread.to → Rises ((x ∷ stair) ++ tread ∷ [])
 rises_more x [] last tread rises is up other some = let same : x ≡ last = cc in rw same (rw same at rises.0, (up, λ touch. other), (some, tt, tt))
@@ -154,7 +154,7 @@ rises_more x (y ∷ stair) last tread rises is up other some =
     let there : slice_get (y ∷ stair) (suc (length stair) - 1) ≡ Some last = rw less (rw same at is) in
     (rises.0, rises.1, rises_more y stair last tread rises.2 there up other some)
 
--- a tread fits behind a stair that ends below it with another segment
+-- a tread fits after a stair that ends below it with another segment
 pub fits_behind : (stair : List Tread) (last : Tread) (from : ℕ) (id : SegmentId) → Rises stair → slice_get stair (length stair - 1) ≡ Some last → last.to ≤ from → bytes_eq last.id.0 id.0 ≡ false → Fits from id stair
 fits_behind [] last from id rises is up other = record { ends = tt; rises = λ to some. (some, tt, tt) }
 fits_behind (x ∷ stair) last from id rises is up other = record {

@@ -11,11 +11,11 @@ use Rattle.remote_view.specs.Fold.{entry_of, changed}
 use Rattle.remote_view.specs.Places.{id_cmp, place_of}
 use Rattle.remote_view.proofs.Ids.{same_id, bytes_self}
 
--- the order of ids tells them apart by their bytes
+-- the order of ids distinguishes them by their bytes
 at_is : (a b : SegmentId) → is_at (id_cmp a) b ≡ bytes_eq a.0 b.0
 at_is a b = is_eq-slice_cmp a.0 b.0
 
--- where the place stands, and what stands there
+-- where the place is, and what is there
 place-step : (t : Bool) (e : Entry) (es : List Entry) (p : Option ℕ) (rest : Option Entry) (k : ℕ) → cond t (Some zero) (option_map suc p) ≡ Some k
     → ((j : ℕ) → p ≡ Some j → (j < length es) × (slice_get es j ≡ rest)) → (k < length (e ∷ es)) × (slice_get (e ∷ es) k ≡ cond t (Some e) rest)
 place-step true e es p rest k h more = let here : k ≡ 0 = cc in rw here (omega arith, refl)
@@ -89,7 +89,7 @@ both-same a b q apart one other =
     let same : bytes_eq a.0 b.0 ≡ true = rw (a_q, b_q) (bytes_self q.0) in
     both_ways _ apart same
 
--- an entry of a new id stands behind the others
+-- an entry of a new id follows the others
 pub place_push : (q : SegmentId) (es : List Entry) (e : Entry) → place_of e.id es ≡ None
     → place_of q (es ++ e ∷ []) ≡ cond (bytes_eq e.id.0 q.0) (Some (length es)) (place_of q es)
 place_push q [] e none = refl

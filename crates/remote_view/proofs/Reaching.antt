@@ -52,14 +52,14 @@ front_gone (x ∷ stair) at (suc i) o l h up =
     rw (within_past x.from x.to o (omega (arith, low, up)))
     (front_gone stair at i o (omega (arith, l)) (λ k d low high. h.0 (suc k) d (omega arith) (omega (arith, high)), λ k d low high. h.1 (suc k) d (omega (arith, low)) (omega (arith, high))) up)
 
--- the treads behind them end past it
+-- the treads after them end past it
 first_past : (stair : List Tread) (at i : ℕ) → IsParted at stair i → FirstPast at (drop i stair)
 first_past [] at zero h = tt
 first_past [] at (suc i) h = tt
 first_past (x ∷ stair) at zero h = leb-false x.to at (h.1 0 x (omega arith) (omega arith))
 first_past (x ∷ stair) at (suc i) h = first_past stair at i (λ k d low high. h.0 (suc k) d (omega arith) (omega (arith, high)), λ k d low high. h.1 (suc k) d (omega (arith, low)) (omega (arith, high)))
 
--- so the end is found behind them
+-- so the end is found after them
 pub parted_ends : (stair : List Tread) (at i : ℕ) → Rises stair → i ≤ length stair → IsParted at stair i → IsEndFrom stair at (end_of_touching (drop i stair) at)
 parted_ends stair at i rises l h =
     let rest = touching_ends (drop i stair) at (rises_drop stair i rises) (first_past stair at i h) in

@@ -24,7 +24,7 @@ runs_on es entry run span grown old new all parts laid o low high = elim (parts 
     stays w true id some = refl
     stays w false id some = some
 
--- nor does a tread that is put behind the others
+-- nor does a tread that is put after the others
 pub runs_behind : (run grown : Span) (old : List Tread) (tread : Tread) → HasAll run.from run.to old
     → ((o : ℕ) → grown.from ≤ o → o < grown.to → ((run.from ≤ o) × (o < run.to)) ⊎ ((tread.from ≤ o) × (o < tread.to)))
     → HasAll grown.from grown.to (old ++ tread ∷ [])

@@ -115,7 +115,7 @@ module _ (spread : Spread) (es : List Entry) (id : SegmentId) (x : Entry) (broke
       by true read = let low = h.below other old read in past_apart one other (omega (arith, low, up))
       by false out = unread_apart one other out
 
-  -- a copy more, behind all others
+  -- a copy more, after all others
   behind : spread.past ≤ x.start → x.start ≤ x.end → AreSpread (record { past = x.end + 1; alone = spread.alone }) all
   behind up ordered = record {
     below = λ one there read. elim (cases one there) [
@@ -134,7 +134,7 @@ module _ (spread : Spread) (es : List Entry) (id : SegmentId) (x : Entry) (broke
     ];
   }
 
-  -- or anywhere: none starts behind all of them
+  -- or anywhere: none starts after all of them
   anywhere : x.start ≤ x.end → AreSpread (record { past = max spread.past (x.end + 1); alone = max spread.past (x.end + 1) }) all
   anywhere ordered = record {
     below = λ one there read. elim (cases one there) [

@@ -1,4 +1,4 @@
--- Treads that are put one behind another.
+-- Treads that are put one after another.
 use Rattle.std.proofs.Common.{◌≡◌, ◌∙◌, refl, sym, ap, ℕ, ◌<◌, ◌≤◌, Bool, true, false, cond, List, [], ◌∷◌, ◌++◌, Option, Some, None, Result, Ok, Err, arith, inl, inr}
 use Rattle.std.specs.Prelude.{min, max, OnOk, ◌==◌, ◌&&◌}
 use Rattle.std.specs.Str.{bytes_eq}
@@ -103,7 +103,7 @@ put_first from to id old none some = rw none (record {
   says = λ o. refl;
 })
 
--- what a tread behind the others gives
+-- what a tread after the others gives
 pub behind_says : (stair : List Tread) (tread : Tread) (o : ℕ) → EndsBy tread.from stair
     → id_at (stair ++ tread ∷ []) o ≡ cond (is_within tread.from tread.to o) (Some tread.id) (id_at stair o)
 behind_says stair tread o ends = elim (cases_lt o tread.from) [
@@ -115,7 +115,7 @@ behind_says stair tread o ends = elim (cases_lt o tread.from) [
     at_end None = refl
     at_end (Some id) = refl
 
--- a tread behind the last one
+-- a tread after the last one
 pub put_behind : (from to : ℕ) (id : SegmentId) (old front : List Tread) (last : Tread) → old ≡ front ++ last ∷ [] → Rises old → EndsBy from old → from < to
     → (last.to ≡ from → bytes_eq last.id.0 id.0 ≡ false) → IsPut from to id old ((front ++ last ∷ []) ++ record { from = from; to = to; id = id } ∷ [])
 put_behind from to id old front last is rises ends some apart =
@@ -160,7 +160,7 @@ put_joined from to id old front last is rises ends some touch same =
           ∙ sym (ap (λ (given : Option SegmentId). cond (is_within last.to to o) (Some last.id) given) (behind_says front last o before)));
     })
 
--- three ranges of a tread that lie one behind another
+-- three ranges of a tread that lie one after another
 parts : (f x y t from to o : ℕ) (own id : SegmentId) (else : Option SegmentId) → f < t → from ≤ to → x ≡ min (max from f) t → y ≡ min (max to f) t
     → cond (is_within y t o) (Some own) (cond (is_within x y o) (Some id) (cond (is_within f x o) (Some own) else))
     ≡ cond (is_within f t o) (Some (cond (is_within from to o) id own)) else
@@ -196,7 +196,7 @@ was_split tread span id x y old one two new some ordered first last ends p q r =
       ∙ parts tread.from x y tread.to span.from span.to o tread.id id (id_at old o) some ordered first last);
 }
 
--- the second part is behind the first
+-- the second part is after the first
 pub second_ends : (from x y : ℕ) (own id : SegmentId) (old one two : List Tread) → from ≤ y → x ≤ y → EndsBy from old → IsPut from x own old one → IsPut x y id one two → EndsBy y two
 second_ends from x y own id old one two low up ends p q = q.ends y (p.ends y (ends_weaker old from y ends low) up) (omega arith)
 

@@ -1,4 +1,4 @@
--- What the notes of a metadata log come to: the fold of them, in their order.
+-- What the events of a metadata log come to: the fold of them, in their order.
 --
 -- Source: KIP-405, where each broker keeps such a view of a partition's remote segments.
 use Rattle.std.specs.Prelude.{◌≡◌, ℕ, ◌^◌, ◌<◌, ◌≤◌, ℤ, if◌then◌else◌, is_some, List, [], ◌∷◌, ◌++◌, length, filter}
@@ -27,7 +27,7 @@ entry_of id (entry ∷ entries) = if bytes_eq entry.id.0 id.0 then Some entry el
 abbrev pub state_of : SegmentId → List Entry → Option State
 state_of id entries = option_map (λ entry. entry.state) (entry_of id entries)
 
--- the custom metadata after an update: a finished copy's is what the update tells, and no other update changes it
+-- the custom metadata after an update: a finished copy's is what the update gives, and no other update changes it
 abbrev pub custom_after : State → Option (List ℕ) → Option (List ℕ) → Option (List ℕ)
 custom_after CopyFinished told old = told
 custom_after state told old = old
@@ -47,7 +47,7 @@ changed id change [] = []
 changed id change (entry ∷ entries) =
     if bytes_eq entry.id.0 id.0 then change entry ∷ entries else entry ∷ changed id change entries
 
--- the entries after a note: one that makes no step changes nothing
+-- the entries after an event: one that makes no step changes nothing
 abbrev pub recorded : List Entry → Note → List Entry
 recorded entries (Add entry) =
     if is_some (next_state (state_of entry.id entries) entry.state) then entries ++ entry ∷ [] else entries
@@ -55,25 +55,25 @@ recorded entries (Update id broker event_ts state custom) =
     if is_some (next_state (state_of id entries) state) then changed id (updated broker event_ts state custom) entries
     else entries
 
--- the entries after further notes
+-- the entries after further events
 abbrev pub folded_from : List Entry → List Note → List Entry
 folded_from entries [] = entries
 folded_from entries (note ∷ notes) = folded_from (recorded entries note) notes
 
--- the fold of notes
+-- the fold of events
 abbrev pub fold : List Note → List Entry
 fold notes = folded_from [] notes
 
--- what a broker has seen of a metadata log: the entries, and the number of notes
+-- what a broker has seen of a metadata log: the entries, and the number of events
 pub record Seen : Type 0 where
   pub entries : List Entry
   pub notes : ℕ
 
--- the view after one note more
+-- the view after one event more
 abbrev pub fed : Seen → Note → Seen
 fed view note = record { entries = recorded view.entries note; notes = counted view.notes 1 }
 
--- the view of notes
+-- the view of events
 abbrev pub view_of : List Note → Seen
 view_of notes = record { entries = fold notes; notes = counted 0 (length notes) }
 

@@ -15,13 +15,13 @@ use Rattle.remote_view.specs.Stairs.{is_within, id_at, Rises}
 abbrev pub EndsBy : ℕ → List Tread → Type 0
 EndsBy at stair = AllByRecursion (λ tread. tread.to ≤ at) stair
 
--- a range of a segment was put behind a stair
+-- a range of a segment was put after a stair
 pub record IsPut (from to : ℕ) (id : SegmentId) (old new : List Tread) : Type 0 where
   pub rises : Rises new
   pub ends : (at : ℕ) → EndsBy at old → to ≤ at → EndsBy at new
   pub says : (offset : ℕ) → id_at new offset ≡ (if is_within from to offset then Some id else id_at old offset)
 
--- a tread of a segment from an offset on can be put behind a stair
+-- a tread of a segment from an offset on can be put after a stair
 pub record Fits (from : ℕ) (id : SegmentId) (stair : List Tread) : Type 0 where
   pub ends : EndsBy from stair
   pub rises : (to : ℕ) → from < to → Rises (stair ++ (record { from = from; to = to; id = id }) ∷ [])
@@ -30,7 +30,7 @@ pub record Fits (from : ℕ) (id : SegmentId) (stair : List Tread) : Type 0 wher
 abbrev pub split_at : Tread → Span → SegmentId → ℕ → SegmentId
 split_at tread span id offset = if is_within span.from span.to offset then id else tread.id
 
--- a tread was put behind a stair, with another segment in a range of it
+-- a tread was put after a stair, with another segment in a range of it
 pub record IsSplit (tread : Tread) (span : Span) (id : SegmentId) (old new : List Tread) : Type 0 where
   pub rises : Rises new
   pub ends : EndsBy tread.to new

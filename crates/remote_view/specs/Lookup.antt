@@ -66,7 +66,7 @@ pub record IsReach (epoch : ℕ) (entries : List Entry) (at end : ℕ) : Type 0 
   pub each : (offset : ℕ) → at ≤ offset → offset < end → IsSome (finished epoch offset entries)
   pub none : finished epoch end entries ≡ None
 
--- an entry ends below a log start, and its objects may still stand
+-- an entry ends below a log start, and its objects may still exist
 abbrev pub is_due : ℕ → Entry → Bool
 is_due start entry = nat_lt entry.end start && not (is_gone entry.state)
 

@@ -1,4 +1,4 @@
--- Where an id's entry stands among the entries.
+-- Where an id's entry is among the entries.
 use Rattle.std.specs.Prelude.{◌≡◌, ℕ, suc, zero, true, if◌then◌else◌, List, [], ◌∷◌, Option, Some, None, option_map}
 use Rattle.std.specs.BTreeMap.{BTreeMap, get}
 use Rattle.std.specs.Str.{bytes_eq}

@@ -1,7 +1,7 @@
 -- Where finished copies share offsets with others.
 --
--- A copy that starts behind all others shares none with them. One that doesn't may, and so may those that end before
--- it does. So two offsets tell for most copies that no other lies under them.
+-- A copy that starts after all others shares none with them. One that doesn't may, and so may those that end before it
+-- does. So two offsets report for most copies that no other lies under them.
 use Rattle.std.specs.Prelude.{◌≡◌, ◌<◌, ◌≤◌, ◌+◌, ◌⊎◌, nat_le, max, true, false, if◌then◌else◌, List, [], ◌∷◌}
 use Rattle.tier_base.specs.declared.plain.State.{State}
 use Rattle.segment_meta.specs.declared.note.Entry.{Entry}
@@ -14,7 +14,7 @@ abbrev pub IsIn : Entry → List Entry → Type 0
 IsIn one [] = ⊥
 IsIn one (entry ∷ entries) = (one ≡ entry) ⊎ IsIn one entries
 
--- no copy that can be read goes past an offset, and those that start at another or behind it share no offset
+-- no copy that can be read goes past an offset, and those that start at another or after it share no offset
 pub record AreSpread (spread : Spread) (entries : List Entry) : Type 0 where
   pub below : (one : Entry) → IsIn one entries → is_readable one.state ≡ true → one.end < spread.past
   pub alone : (one other : Entry) → IsIn one entries → IsIn other entries → is_readable one.state ≡ true

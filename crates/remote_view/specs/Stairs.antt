@@ -47,7 +47,7 @@ pub record AreLive (run : Span) (gone : ℕ) (treads : List Tread) : Type 0 wher
   pub within : gone ≤ length treads
   pub all : HasAll run.from run.to (drop gone treads)
 
--- the first tread is a segment's, and ends at an offset or behind it
+-- the first tread is a segment's, and ends at an offset or after it
 abbrev pub begins_with : SegmentId → ℕ → List Tread → Bool
 begins_with id end [] = false
 begins_with id end (tread ∷ stair) = nat_le end tread.to && bytes_eq tread.id.0 id.0

@@ -15,7 +15,7 @@ pub(crate) fn is_same(one: &SegmentId, other: &SegmentId) -> bool
     one.as_bytes() == other.as_bytes()
 }
 
-/// Sets what an update tells.
+/// Sets what an update gives.
 pub(crate) fn update(
     entry: &mut Entry,
     broker: BrokerId,

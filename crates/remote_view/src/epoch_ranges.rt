@@ -39,7 +39,7 @@ impl Model for EpochRanges {
     ghost invariant = { λ f. AreLive f.run f.gone f.treads };
 }
 
-/// A run with a range of offsets more: both, where they touch, and else the one that lies behind the other.
+/// A run with a range of offsets more: both, where they touch, and else the one that lies after the other.
 fn grown(run: Span, span: Span) -> Span
     ensures { (o : ℕ) → result.from ≤ o → o < result.to
         → ((run.from ≤ o) × (o < run.to)) ⊎ ((span.from ≤ o) × (o < span.to)) }
@@ -64,7 +64,7 @@ fn past(run: Span, at: u64) -> u64
     if run.from <= at { at.max(run.to) } else { at }
 }
 
-/// Whether the first tread is a segment's, and ends at an offset or behind it.
+/// Whether the first tread is a segment's, and ends at an offset or after it.
 fn begins_with(stair: &[Tread], id: &SegmentId, end: u64) -> bool
     ensures { result ≡ begins_with id.now end stair.now }
 {
@@ -126,7 +126,7 @@ impl EpochRanges {
         })
     }
 
-    /// Puts a tread behind the others. After an `Err` they are as before.
+    /// Puts a tread after the others. After an `Err` they are as before.
     pub fn push(&mut self, tread: Tread) -> Result<(), AllocError>
         ensures ok { OnOk result (self.new ≡ self.old ++ tread ∷ []) }
         ensures err { OnErr result (self.new ≡ self.old) }

@@ -17,7 +17,7 @@ use segment_meta::Entry;
 use std::alloc::{AllocError, Global};
 use tier_base::{SegmentId, State};
 
-/// Whether a tread of a segment from an offset on can be put behind a stair.
+/// Whether a tread of a segment from an offset on can be put after a stair.
 fn fits(stair: &[Tread], from: u64, id: &SegmentId) -> bool
     requires { Rises stair.now }
     ensures { IsTrue result → Fits from id.now stair.now }
@@ -38,7 +38,7 @@ fn only(line: &[(u32, u64)]) -> Option<(u32, u64)>
     }
 }
 
-/// Lays an entry behind the stair of its only epoch, where it can be read from now on and that stair ends below it, and
+/// Lays an entry after the stair of its only epoch, where it can be read from now on and that stair ends below it, and
 /// returns whether it did. After an `Err` nothing has changed.
 pub(crate) fn lay_behind(
     alloc: Global,

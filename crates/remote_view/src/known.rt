@@ -1,4 +1,4 @@
-//! Entries in the order of their first notes, each found by its id.
+//! Entries in the order of their first events, each found by its id.
 //!
 //! Deletions mostly come in that order too. So a count of entries in front, whose objects are all gone, spares the
 //! search for what is due a walk over them.

@@ -8,7 +8,7 @@ ghost use Rattle.segment_meta.specs.Rules.{IsNote};
 ghost use Rattle.remote_view.specs.Fold.{fold, fed, view_of, AreDistinct};
 ghost use Rattle.remote_view.specs.Lookup.{finished, IsBest};
 
-/// A view that was fed note by note is the fold of those notes.
+/// A view that was fed event by event is the fold of those events.
 #[tactic(auto, using(crate::proofs::Folding::fed_again))]
 pub fn a_view_is_the_fold()
     ensures { (notes : List Note) (note : Note) → fed (view_of notes) note ≡ view_of (notes ++ note ∷ []) }

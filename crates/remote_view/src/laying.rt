@@ -26,7 +26,7 @@ fn joins(last: &Tread, from: u64, id: &SegmentId) -> bool
     last.to == from && is_same(&last.id, id)
 }
 
-/// Puts a range of a segment behind a stair. One that is empty changes nothing.
+/// Puts a range of a segment after a stair. One that is empty changes nothing.
 fn put(stair: &mut Row<Tread>, from: u64, to: u64, id: SegmentId) -> Result<(), AllocError>
     requires rises { Rises stair.old }
     requires ends { EndsBy from stair.old }
@@ -49,7 +49,7 @@ fn put(stair: &mut Row<Tread>, from: u64, to: u64, id: SegmentId) -> Result<(), 
     stair.push(Tread { from, to, id })
 }
 
-/// Puts a tread behind a stair, with another segment in a range of it.
+/// Puts a tread after a stair, with another segment in a range of it.
 fn put_split(
     stair: &mut Row<Tread>,
     tread: &Tread,
@@ -76,7 +76,7 @@ fn winner(known: &Known, id: SegmentId, entry: &Entry) -> SegmentId
     better_of(known.get(&id), entry).id
 }
 
-/// A stair with an entry laid over a range of it, made anew by one pass.
+/// A stair with an entry laid over a range of it, rebuilt by one pass.
 pub(crate) fn lay(
     alloc: Global,
     known: &Known,

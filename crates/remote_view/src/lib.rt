@@ -4,9 +4,9 @@
 //! brokers have read. specs/Fold.antt says what events add up to, specs/Lookup.antt what is found in that.
 //!
 //! Beside its entries a view keeps, for each leader epoch, which copy is the best at which offsets, as ranges (a
-//! stair). So a lookup is a binary search, and only a finished copy or a started deletion changes the ranges, those
-//! of its epochs: at their end or front in place, where copies finish and are deleted in the order of their offsets
-//! (`in_place`), and else by ranges made anew (`stepping`). specs/Stairs.antt defines them. A stair also knows where a
+//! stair). So a lookup is a binary search, and only a finished copy or a started deletion changes the ranges, those of
+//! its epochs: at their end or front in place, where copies finish and are deleted in the order of their offsets
+//! (`in_place`), and else by ranges rebuilt (`stepping`). specs/Stairs.antt defines them. A stair also knows where a
 //! row of copies ends that follow one another without a gap.
 #![tactic(auto)]
 

@@ -39,7 +39,7 @@ pub(crate) fn better_of<'a>(best: Option<&'a Entry>, entry: &'a Entry) -> &'a En
     }
 }
 
-/// Whether an entry ends below a log start, and its objects may still stand.
+/// Whether an entry ends below a log start, and its objects may still exist.
 fn is_due(entry: &Entry, start: u64) -> bool
     ensures { result ≡ is_due start entry.now }
 {

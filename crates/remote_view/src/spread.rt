@@ -7,7 +7,7 @@ use crate::lookup::is_readable;
 use segment_meta::Entry;
 use tier_base::State;
 
-/// No finished copy reaches `past`, and those that start at `alone` or behind it share no offset with another.
+/// No finished copy reaches `past`, and those that start at `alone` or after it share no offset with another.
 #[derive(Clone, Copy, Debug)]
 pub(crate) struct Spread {
     pub past: u64,

@@ -1,7 +1,7 @@
 //! The stairs of all epochs, each found by its epoch.
 //!
-//! What replaces a stair is put where room was made for it before, which takes no memory. So all the stairs that a note
-//! changes are made first, and then they replace the old ones together.
+//! What replaces a stair is put where room was made for it before, which takes no memory. So all the stairs that an
+//! event changes are made first, and then they replace the old ones together.
 
 ghost use Rattle.std.specs.Prelude.{◌≡◌, ◌≢◌, ◌≤◌, ◌++◌, ◌∷◌, ℕ, [], true, None, OnOk, OnErr, IfOk, if◌then◌else◌, ◌==◌};
 ghost use Rattle.remote_view.specs.Stairs.{id_at, Rises, IsEndFrom};
@@ -87,7 +87,7 @@ impl Stairs {
         }
     }
 
-    /// Puts a tread behind those of an epoch's stair. After an `Err` the stairs are as before.
+    /// Puts a tread after those of an epoch's stair. After an `Err` the stairs are as before.
     pub fn push(&mut self, alloc: Global, epoch: u32, tread: Tread) -> Result<(), AllocError>
         ensures there { OnOk result (stair_on self.new epoch ≡ stair_on self.old epoch ++ tread ∷ []) }
         ensures others { (e : ℕ) → e ≢ epoch → stair_on self.new e ≡ stair_on self.old e }

@@ -48,7 +48,7 @@ due-is item others rest now keep e = by_cause (or_cases (is_old item now keep) (
     by_cause (inl old) = inl (old-is item now keep old)
     by_cause (inr enough) = inr (enough-is (rest + size_of others) keep enough)
 
--- the item behind these
+-- the item after these
 pub gone_due : (items others : List Item) (item : Item) (rest : ℕ) (now : ℤ) (keep : Keep)
     → length items < start_due (items ++ item ∷ others) rest now keep
     → IsTooOld item now keep ⊎ Reaches (rest + size_of others) keep

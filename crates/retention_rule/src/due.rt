@@ -19,7 +19,7 @@ pub fn local_due(items: &[Item], open_size: u64, now: i64, keep: Keep, start: u6
     first.last < start || is_due(first, left, now, keep)
 }
 
-/// How many of the oldest segments are due. `rest` is the size in bytes of what comes behind them.
+/// How many of the oldest segments are due. `rest` is the size in bytes of what comes after them.
 pub fn start_due(items: &[Item], rest: u64, now: i64, keep: Keep) -> usize
     ensures count { result ≡ start_due items.now rest now keep }
     ensures within { result ≤ length items.now }

@@ -1,6 +1,6 @@
 //! What the rule means for who sets the limits, each law the contract of a function that does nothing.
 //!
-//! A log is taken as its segments before one, that one, and those behind it.
+//! A log is taken as its segments before one, that one, and those after it.
 
 ghost use Rattle.std.specs.Prelude.{◌≡◌, ℕ, ◌+◌, ◌<◌, ◌≤◌, ℤ, ◌≤ℤ◌, List, ◌∷◌, ◌++◌, length, ◌⊎◌};
 ghost use Rattle.tier_base.specs.declared.plain.Item.{Item};
@@ -33,7 +33,7 @@ pub fn larger_limits_keep_more()
         → start_due items rest now more ≤ start_due items rest now keep }
 {}
 
-/// Time and bytes behind the segments let no fewer go.
+/// Time and bytes after the segments let no fewer go.
 #[tactic(auto, using(crate::proofs::Ruled::no_fewer))]
 pub fn what_is_due_stays_due()
     ensures { (items : List Item) (rest more : ℕ) (now later : ℤ) (keep : Keep) → rest ≤ more → now ≤ℤ later

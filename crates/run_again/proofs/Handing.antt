@@ -1,4 +1,4 @@
--- What a run left is what the yard hands out next.
+-- What a run left is what the environment provides next.
 use Rattle.std.proofs.Common.{◌≡◌, inl, inr, ◌∙◌, sym, ap, subst, refl, ℕ, zero, suc, List, [], ◌∷◌, length, slice_get, Option, Some, None, IsTrue, arith}
 use Rattle.std.specs.Prelude.{Ok, IsSomeAnd}
 use Rattle.tier_base.specs.declared.names.PartitionId.{PartitionId}
@@ -40,7 +40,7 @@ module _ {D : Type 0} (content : D → disk_content.Content) where
   are_cut [] (e ∷ nows) long each = absurd (omega (arith, long))
   are_cut (d ∷ disks) [] long each = absurd (omega (arith, long))
 
-  -- a disk that is handed out with what was held
+  -- a disk that is provided with what was held
   handed_cut : (o : Option D) (d e : D) → o ≡ Some d → HandsDisk content o (content e) → IsCutDisk (content d) (content e)
   handed_cut o d e is hands =
       let k : disk_content.Keeps (content d) (content e) = subst (λ (p : Option D). HandsDisk content p (content e)) is hands in
@@ -56,7 +56,7 @@ module _ {D : Type 0} (content : D → disk_content.Content) where
   handed_file (Some x) d e holds hands = hands.files Registry ∙ holds.files Registry
 
 module _ {D S M : Type 0} (disk : DiskGhosts D) (store : StoreGhosts S) (meta : MetaGhosts M) where
-  -- what a run left stands for a state, and so does what is handed out next
+  -- what a run left represents a state, and so does what is provided next
   pub next_stands : (count : ℕ) (p : PartitionId) (held : YardContent D S M) (back : Devices D S M) (kept : D) (q : State) → length back.disks.items ≡ count → HoldsAll disk.content p back kept held
       → StandsFor disk store meta p back.disks.items back.store back.meta kept q → StandsIn disk store meta count held p q
   next_stands count p held back kept q many holds stands = λ devices registry so hands.
@@ -82,7 +82,7 @@ module _ {D S M : Type 0} (disk : DiskGhosts D) (store : StoreGhosts S) (meta : 
     stand = next_stands config.brokers part.partition held is.back is.kept (cold_of (is.is.log_run q at).last) many (is.holds now) (is.is.stand q at);
   }
 
-  -- as many disks were handed in
+  -- as many disks were passed in
   last_long : (disks nows : List D) → AllLast disk.control disks nows → length nows ≡ length disks
   last_long [] [] last = refl
   last_long (d ∷ disks) (e ∷ nows) last = ap suc (last_long disks nows last.1)

@@ -1,4 +1,4 @@
--- What a refused run left is what the yard hands out next.
+-- What a refused run left is what the environment provides next.
 use Rattle.std.proofs.Common.{◌≡◌, ◌≢◌, inl, inr, ◌∙◌, sym, subst, refl, ℕ, ◌≤◌, List, [], length, Option, Some, None, IsTrue, arith}
 use Rattle.std.specs.Prelude.{IsSome}
 use Rattle.std.proofs.lemmas.Bool.{false≢true}
@@ -50,7 +50,7 @@ none_some None is some = false≢true some
 none_some (Some x) is some = absurd (let no : ◌≡◌ {A = Option _} (Some x) None = is in cc)
 
 module _ {D S M : Type 0} (disk : DiskGhosts D) (store : StoreGhosts S) (meta : MetaGhosts M) where
-  -- what is handed out where all is as it was might have been handed out before
+  -- what is provided where all is as it was might have been provided before
   disk_still : ((d : D) → disk_content.Lawful (disk.content d)) → (a b : Option D) (e : D) → DiskRests disk.content a b → HandsDisk disk.content b (disk.content e) → HandsDisk disk.content a (disk.content e)
   disk_still lawful None None e rests hands = hands
   disk_still lawful None (Some x) e rests hands = record { is_observable = subst IsTrue (sym hands.is_observable) rests.is_observable; files = λ n. hands.files n ∙ rests.files n; images = λ c at n. rests.images c (hands.images c at) n }

@@ -1,11 +1,11 @@
--- Runs over a yard one after another.
+-- Runs over an environment one after another.
 --
 --   form                 says
---   StandsIn n held p q  whatever the yard hands out of the partition, with so many disks, stands for the plain state q
---   GoesOn .. q journal  the journal is a run of the plain log from q, and the yard holds what is left of the state it leads to
---   RunsContinue         each run over a yard is so from each state that what the yard held stands for
---   IsLedOn .. q         the yard holds what is left of a state to which commands lead from q
---   RefusalsContinue     a refused run leaves what stands for the same state, or is so
+--   StandsIn n held p q  whatever the environment provides of the partition, with so many disks, represents the plain state q
+--   GoesOn .. q journal  the journal is a run of the plain log from q, and the environment holds what is left of the state it leads to
+--   RunsContinue         each run over an environment is so from each state that what the environment held represents
+--   IsLedOn .. q         the environment holds what is left of a state to which commands lead from q
+--   RefusalsContinue     a refused run leaves what represents the same state, or is so
 use Rattle.std.specs.Prelude.{◌≡◌, ◌⊎◌, ℕ, List, None, Some, length, IsTrue}
 use Rattle.tier_base.specs.declared.names.PartitionId.{PartitionId}
 use Rattle.disk_model.specs.declared.disk.Disk.{Ghosts as DiskGhosts}
@@ -30,18 +30,21 @@ use Rattle.run_yard.specs.Runs.{IsRunIn}
 use Rattle.run_yard.specs.Stopped.{RestsIn, IsStoppedIn}
 
 module _ {D S M : Type 0} (disk : DiskGhosts D) (store : StoreGhosts S) (meta : MetaGhosts M) where
-  -- whatever devices, so many disks among them, have what the yard holds of the partition, they stand for this plain state
+  -- whatever devices, so many disks among them, have what the environment holds of the partition, they represent this
+  -- plain state
   abbrev pub StandsIn : ℕ → YardContent D S M → PartitionId → State → Type 0
   StandsIn count held partition q = (devices : Devices D S M) (registry : D) → length devices.disks.items ≡ count
       → HandsDevices disk store meta partition devices registry held
       → StandsFor disk store meta partition devices.disks.items devices.store devices.meta registry q
 
-  -- the journal is a run of the plain log from this state, and the yard holds what is left of the state that it leads to
+  -- the journal is a run of the plain log from this state, and the environment holds what is left of the state that it
+  -- leads to
   pub record GoesOn (config : Config) (part : PartScript) (held : YardContent D S M) (journal : List JournalEntry) (q : State) : Type 0 where
     pub log_run : IsLogRun q part.lists journal
     pub stand : StandsIn config.brokers held part.partition (cold_of log_run.last)
 
-  -- each run over an observable yard goes on from each state that what was held stands for, and else from the fresh one
+  -- each run over an observable environment continues from each state that what was held represents, and else from the
+  -- fresh one
   pub record Continues (config : Config) (part : PartScript) (was held : YardContent D S M) (journal : List JournalEntry) : Type 0 where
     pub from : (q : State) → StandsIn config.brokers was part.partition q → GoesOn config part held journal q
     pub begun : file_in disk.content (was.registries part.partition) ≡ None → GoesOn config part held journal (fresh config)
@@ -50,7 +53,8 @@ module _ {D S M : Type 0} (disk : DiskGhosts D) (store : StoreGhosts S) (meta : 
   RunsContinue = (config : Config) (part : PartScript) (was held : YardContent D S M) (run : ℕ × List JournalEntry) (came : List Came)
       → IsRunIn disk store meta config part was held run came → IsTrue was.is_observable → IsTrue held.is_observable → Continues config part was held run.1
 
-  -- the yard holds what is left of a state with the safety rules, to which entries of the lists lead from this one
+  -- the environment holds what is left of a state with the safety rules, to which entries of the lists lead from this
+  -- one
   pub record IsLedOn (config : Config) (part : PartScript) (held : YardContent D S M) (q : State) : Type 0 where
     pub journal : List JournalEntry
     pub last : State
@@ -58,12 +62,12 @@ module _ {D S M : Type 0} (disk : DiskGhosts D) (store : StoreGhosts S) (meta : 
     pub safe : PlainSafe last
     pub stand : StandsIn config.brokers held part.partition (cold_of last)
 
-  -- the partition has no registry, and no object and no note: a run begins in the fresh state
+  -- the partition has no registry, and no object and no metadata event: a run begins in the fresh state
   pub record IsUnbegun (held : YardContent D S M) (p : PartitionId) : Type 0 where
     pub file : file_in disk.content (held.registries p) ≡ None
     pub tierless : HasTier disk.content store.content meta.content held p → ⊥
 
-  -- what the yard held of the partition stands for a state: it does still, or it is led on from there
+  -- what the environment held of the partition represents a state: it does still, or it is led on from there
   pub record StaysOrIsLed (config : Config) (part : PartScript) (was held : YardContent D S M) : Type 0 where
     pub from : (q : State) → StandsIn config.brokers was part.partition q
         → StandsIn config.brokers held part.partition q ⊎ IsLedOn config part held q

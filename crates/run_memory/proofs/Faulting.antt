@@ -1,4 +1,5 @@
--- A fault that a journal tells of was met by a call that a fault line names: the device has counted it, and counts those calls alone.
+-- A fault that a journal reports was met by a call that a fault line names: the device has counted it, and counts those
+-- calls alone.
 use Rattle.std.proofs.Common.{◌≡◌, ◌∙◌, sym, ap, subst, refl, ℕ, zero, suc, ◌+◌, ◌≤◌, Bool, true, false, List, [], ◌∷◌, ◌++◌, slice_get, Some, None, Option, IsSomeAnd, arith}
 use Rattle.std.specs.Prelude.{IsTrue, ◌-◌, ◌^◌, ◌&&◌, min, not, is_some, nat_le, if◌then◌else◌}
 use Rattle.std.specs.List.{AllByRecursion}
@@ -170,6 +171,6 @@ module _ {D S M : Type 0} (disk : DiskGhosts D) (store : StoreGhosts S) (meta : 
   entries_met [] counted = tt
   entries_met (entry ∷ entries) counted = (entry_met entry (order_of w'.lists entry) counted.0, entries_met entries counted.1)
 
-  -- the faults that are told, each of which has been counted
+  -- the faults that are reported, each of which has been counted
   pub faults_planned : FaultsAreCounted disk store meta w w' → FaultsArePlanned disk store meta faults w'
   faults_planned counted = entries_met w'.journal.items counted

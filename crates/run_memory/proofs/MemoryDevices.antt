@@ -1,4 +1,4 @@
--- What the devices in memory tell that a partition has.
+-- What the devices in memory report that a partition has.
 use Rattle.std.proofs.Common.{subst, ℕ, ◌+◌, List, [], ◌∷◌, ◌++◌, length, arith}
 use Rattle.std.specs.Prelude.{IsTrue}
 use Rattle.tier_base.specs.Device.{Control}

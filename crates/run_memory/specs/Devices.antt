@@ -15,7 +15,7 @@ module _ {D S M : Type 0} (disk : DiskGhosts D) (store : StoreGhosts S) (meta : 
     pub store_plan_is : IsPlanned (store_plan faults) (store.control s)
     pub meta_plan_is : IsPlanned (meta_plan faults) (meta.control m)
 
-  -- they tell, and have no files, no objects and no notes
+  -- they report, and have no files, no objects and no metadata events
   pub record AreBlank (disks : List D) (s : S) (m : M) : Type 0 where
     pub fresh : AreFreshDisks disk.content disk.control disks
     pub disks_tell : DisksTell disk.content disks

@@ -1,4 +1,4 @@
--- Faults of devices that a journal tells of, and the calls that the script's fault lines name.
+-- Faults of devices that a journal reports, and the calls that the script's fault lines name.
 use Rattle.std.specs.Prelude.{◌≡◌, ◌≤◌, ℕ, List, Option, Some, IsSomeAnd, slice_get}
 use Rattle.std.specs.List.{AllByRecursion}
 use Rattle.tier_base.specs.Device.{Control}
@@ -54,6 +54,6 @@ module _ {D S M : Type 0} (disk : DiskGhosts D) (store : StoreGhosts S) (meta : 
   abbrev pub HasLine : JournalEntry → Type 0
   HasLine entry = IsSomeAnd (order_of w.lists entry) (λ order. (answer : Answer) → entry.event ≡ Answers answer → MetAs order answer)
 
-  -- the journal tells of a fault of those devices alone of which a call was made that a fault line names
+  -- the journal reports a fault of those devices alone of which a call was made that a fault line names
   abbrev pub FaultsArePlanned : Type 0
   FaultsArePlanned = AllByRecursion HasLine w.journal.items

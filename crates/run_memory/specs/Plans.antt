@@ -72,8 +72,8 @@ abbrev pub meta_plan : List Fault → List (Planned MetaCall)
 meta_plan faults = planned_by meta_named faults
 
 module _ {K : Type 0} {code : K → ℕ} where
-  -- the device is as it is handed out, with this plan; nothing else decides which of its calls fail once the plan is
-  -- in force, and none can before
+  -- the device is as it is provided, with this plan; nothing else decides which of its calls fail once the plan is in
+  -- force, and none can before
   pub record IsPlanned (plan : List (Planned K)) (c : Control code) : Type 0 where
     pub fresh : IsFresh c
     pub plan_is : c.plan ≡ plan

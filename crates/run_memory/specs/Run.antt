@@ -1,6 +1,6 @@
 -- A partition's run: its journal is one of the plain log, and that of a world which its schedule reaches.
 --
--- The brokers' logs stand on disks, and what they copy in a remote store, with notes in a metadata log.
+-- The brokers' logs are on disks, and what they copy in a remote store, with metadata events in a metadata log.
 use Rattle.std.specs.Prelude.{◌≡◌, ℕ, false, List}
 use Rattle.std.specs.List.{AllByRecursion}
 use Rattle.tier_base.specs.declared.names.PartitionId.{PartitionId}
@@ -40,9 +40,9 @@ module _ {D S M : Type 0} (disk : DiskGhosts D) (store : StoreGhosts S) (meta : 
     pub fresh : IsFresh disk store meta partition config lists disks objects notes w
     pub empty : IsSeenEmpty disk store meta w
 
-  -- the journal is that of a world which the partition's schedule reaches from the fresh one over its faults; in it
-  -- the central fact holds: its logs are the plain log's, and the remote tier beside them keeps its safety rules; its
-  -- devices have counted each fault that is told and no other, and of their calls those have failed that the plans
+  -- the journal is that of a world which the partition's schedule reaches from the fresh one over its faults; in it the
+  -- central fact holds: its logs are the plain log's, and the remote tier beside them keeps its safety rules; its
+  -- devices have counted each fault that is reported and no other, and of their calls those have failed that the plans
   -- name of those that were made
   pub record IsReached (config : Config) (part : PartScript) (journal : List JournalEntry) : Type 0 where
     pub first : Whole D S M

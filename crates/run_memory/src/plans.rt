@@ -70,7 +70,7 @@ fn meta_named(fault: Fault) -> Option<MetaCall>
     }
 }
 
-/// Puts a fault behind a device's plan, where it names a call of it.
+/// Puts a fault after a device's plan, where it names a call of it.
 fn add_call<K: Copy + Drop>(
     plan: &mut Vec<Planned<K>>,
     fault: Fault,

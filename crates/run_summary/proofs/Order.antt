@@ -2,7 +2,7 @@
 use Rattle.std.proofs.Common.{◌≡◌, refl, ℕ, zero, suc, ◌<◌, ◌≤◌, List, [], ◌∷◌, length, drop, true, arith}
 use Rattle.load_gen.specs.Summary.{stands_before}
 
--- a word that ends here stands before one that goes on
+-- a word that ends here precedes one that continues
 first_before : (w : List ℕ) (i : ℕ) → i < length w → stands_before [] (drop i w) ≡ true
 first_before [] i l = absurd (omega arith)
 first_before (b ∷ w) zero l = refl

@@ -1,4 +1,4 @@
--- What the journals of a run come to, as its summary tells it.
+-- What the journals of a run come to, as its summary reports it.
 use Rattle.std.specs.Prelude.{ℕ, List, [], ◌∷◌, map, flat_map, sum_by, Option, Some, option_map, unwrap_or, slice_get}
 use Rattle.log_terms.specs.Log.{end_of}
 use Rattle.load_gen.specs.Summary.{Answered, Ended, summary_of}
@@ -26,7 +26,7 @@ first_word (word ∷ words) = word
 abbrev pub command_name : Command → List ℕ
 command_name command = first_word (command_words command)
 
--- what an entry tells: an answer with its command's name, or that a command begins
+-- what an entry gives: an answer with its command's name, or that a command begins
 abbrev pub answer_in : Option Order → Event → List Answered
 answer_in (Some order) (Answers answer) = record { command = command_name order.command; word = name_of answer } ∷ []
 answer_in order event = []

@@ -11,7 +11,7 @@ use crate::told::Told;
 use std::alloc::{AllocError, Global};
 use std::fmt::Write;
 
-/// Puts answers behind others.
+/// Puts answers after others.
 fn push_all(all: &mut Vec<Given>, more: &[Given]) -> Result<(), AllocError>
     ensures { OnOk result (all.new.items ≡ all.old.items ++ more.now) }
 {

@@ -22,7 +22,7 @@ pub struct Told {
     pub end: End,
 }
 
-/// What an entry about an order tells.
+/// What an entry about an order reports.
 fn answer_of(order: Option<&Order>, event: &Event) -> Option<Given>
     ensures { option_to_list result ≡ answer_in (option_copied order.entry) event.now }
 {
@@ -98,7 +98,7 @@ fn end_of(plain: &Plain, partition: PartitionId) -> End
     }
 }
 
-/// Replays a partition's journal, and tells what it comes to, or nothing where it is no run of the plain log.
+/// Replays a partition's journal, and returns what it comes to, or nothing where it is no run of the plain log.
 pub fn tell(
     alloc: Global,
     config: &Config,

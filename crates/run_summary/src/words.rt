@@ -22,7 +22,7 @@ impl Model for Word {
     ghost view = { λ word. word.text.now };
 }
 
-/// Whether a word stands before another.
+/// Whether a word precedes another.
 fn is_before(word: &[u8], other: &[u8]) -> bool
     ensures { result ≡ stands_before word.now other.now }
 {

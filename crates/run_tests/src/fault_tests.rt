@@ -78,7 +78,7 @@ fn traced(rt: HostRuntime, script: &str) -> Option<Vec<u8>> {
     }
 }
 
-/// A script with the line of a fault behind it.
+/// A script with the line of a fault after it.
 fn with_fault(
     alloc: Global,
     script: &str,
@@ -126,8 +126,8 @@ fn judged_with(
 /// No run here makes so many calls of a kind.
 const MOST: u32 = 40;
 
-/// Lets the calls of a kind fail, one a run, up to the first number that no call has, and counts them. Nothing is told
-/// where a run goes wrong.
+/// Lets the calls of a kind fail, one a run, up to the first number that no call has, and counts them. Nothing is
+/// reported where a run goes wrong.
 fn count_side(rt: HostRuntime, run: (&str, &[u8]), call: &str, side: &str) -> Option<u32> {
     for before in 0..MOST {
         match judged_with(rt, run, call, before + 1, side) {
@@ -178,7 +178,7 @@ static KINDS: [&str; 19] = [
     "disk 1 list",
 ];
 
-/// The numbers of calls stand in the order of the kinds, without those that have none.
+/// The numbers of calls are in the order of the kinds, without those that have none.
 static CASES: [Case; 4] = [
     Case {
         name: "a copy with its flush and its trim, and what a broker does that a fault has stopped",

@@ -1,5 +1,5 @@
-//! Turns that are handed what was made before, of what they work on or of something else: each comes to what it comes to with
-//! nothing ready. Values worked by hand.
+//! Turns that are given what was made before, of what they work on or of something else: each comes to what it comes to
+//! with nothing ready. Values worked by hand.
 
 ghost use Rattle.std.specs.Prelude.{All};
 ghost use Rattle.plain_log.specs.Orders.{AreListsFor, IsConfig};
@@ -54,7 +54,7 @@ static RIGHT: [u8; 69] = [
     0x0e, 0, 0, 0, 1, 2, 0x61, 0, // record
 ];
 
-/// What is handed to a turn that wants a bundle.
+/// What is passed to a turn that wants a bundle.
 #[derive(Clone, Copy, PartialEq, Eq)]
 enum Handed {
     /// Nothing.
@@ -116,7 +116,7 @@ fn shorter(alloc: Global, closed: &Closed, line: &Line, interval: u32) -> Option
     }
 }
 
-/// What a turn is handed that wants the bundle of a segment.
+/// What a turn gets that needs the bundle of a segment.
 fn handed_bundle(
     alloc: Global,
     closed: Closed,
@@ -144,7 +144,7 @@ fn right_check(alloc: Global) -> Option<Ready> {
     Some(Ready::Checked(Checked::of(bytes)))
 }
 
-/// What the actor's next turn is handed, and whether it wants a bundle.
+/// What the actor's next turn gets, and whether it needs a bundle.
 fn handed_next(alloc: Global, world: &MemoryWorld, handed: Handed) -> Option<(Ready, bool)> {
     match world.wanted(alloc, ACTOR) {
         Ok(
@@ -176,7 +176,7 @@ fn run(alloc: Global, world: &mut MemoryWorld, handed: Handed) -> Option<u32> {
     None
 }
 
-/// The objects of a store, one behind another.
+/// The objects of a store, one after another.
 fn objects(alloc: Global, store: &mut MemoryStore) -> Option<Vec<u8>> {
     let mut all = Vec::new(alloc);
     match store.keys() {
@@ -203,8 +203,8 @@ fn outcome(alloc: Global, script: &str, handed: Handed) -> Option<(Vec<u8>, Vec<
     Some((text, objects, wanting))
 }
 
-/// Whether a run that is handed this has the journal and the objects of one that is handed nothing, and how many of its turns want a
-/// bundle.
+/// Whether a run that is given this has the journal and the objects of one that is given nothing, and how many of its
+/// turns want a bundle.
 fn same_as_with_nothing(alloc: Global, handed: Handed) -> Option<(bool, u32)> {
     let (text, objects, wanting) = outcome(alloc, COPIES, handed)?;
     let (plain_text, plain_objects, _) = outcome(alloc, COPIES, Handed::Nothing)?;

@@ -1,4 +1,4 @@
-//! Runs over a yard in memory that earlier runs, or a power cut, left: each begins where the one before ended.
+//! Runs over an environment in memory that earlier runs, or a power cut, left: each begins where the one before ended.
 //!
 //! The answers and the registry's bytes are worked by hand from the documents; the batches come from a writer of record batches
 //! that was made apart from this repository.
@@ -18,7 +18,7 @@ static COMMITTED: &str =
 static COMMITTED_TRACE: &str =
     "0 0 0 = Ok 0 0 0\n0 0 1 = Ok 1 1 0\n0 0 2 = Ok 2 2 0\n0 0 3 = Ok 3\n0 0 4 = Ok 3\n";
 
-/// The broker comes up, leads the next epoch, serves what was committed, and copies it.
+/// The broker starts, leads the next epoch, serves what was committed, and copies it.
 static AGAIN: &str =
     "segment_bytes 200\n0 0 0 elect\n0 0 0 up\n0 0 0 learn\n0 0 0 elect\n0 0 0 learn\n0 0 0 fetch 0 1000\n0 0 0 copy\n";
 
@@ -90,7 +90,7 @@ fn is_file(bytes: &[u8]) -> bool {
 /// What a run came to: its status, and what it wrote.
 type Ran = (Status, Vec<u8>);
 
-/// Runs a script over a yard.
+/// Runs a script over an environment.
 fn run(rt: HostRuntime, yard: &mut MemoryYard, script: &str) -> Option<Ran> {
     let words = words_of(rt.alloc(), &["run", "yard"])?;
     let mut source = source_of(rt.alloc(), script.as_bytes(), &[])?;
@@ -123,7 +123,7 @@ fn is_refused(alloc: Global, ran: &Option<Ran>, number: u8, told: &str) -> bool 
     }
 }
 
-/// A yard in which the first run has ended.
+/// An environment in which the first run has ended.
 fn snapshot(rt: HostRuntime) -> Option<MemoryYard> {
     let mut yard = new_yard(rt.alloc());
     let ran = run(rt, &mut yard, COMMITTED);
@@ -222,7 +222,8 @@ fn registries_are_read_before_anything_runs(rt: HostRuntime) {
     );
 }
 
-/// Whether a run over a yard whose registry has this file is refused at this place, or isn't refused for it, and leaves the file.
+/// Whether a run over an environment whose registry has this file is refused at this place, or isn't refused for it,
+/// and leaves the file.
 fn is_told_at(rt: HostRuntime, file: &[u8], at: Option<u32>) -> bool {
     let Some(mut yard) = snapshot(rt) else {
         return false;
@@ -299,7 +300,7 @@ fn files_without_a_registry_are_begun_anew(rt: HostRuntime) {
     );
 }
 
-/// A registry whose store was lost: the run goes on, and tells that what was copied is damaged.
+/// A registry whose store was lost: the run continues, and reports that what was copied is damaged.
 #[test]
 fn a_registry_without_its_store_is_told_by_answers(rt: HostRuntime) {
     let mut yard = snapshot(rt).expect(&rt, "a first run");
@@ -331,7 +332,7 @@ static TIERED: &str =
 static REST: &str =
     "segment_bytes 200\n0 0 0 up\n0 0 0 learn\n0 0 0 elect\n0 0 0 learn\n0 0 0 fetch 0 1000\n";
 
-/// Whether this stands somewhere in a text.
+/// Whether this is somewhere in a text.
 fn has(text: &[u8], part: &[u8]) -> bool {
     for at in 0..text.len() {
         if text[at..].starts_with(part) {

@@ -11,7 +11,7 @@ static SCRIPT: &str =
 /// What is done in the folder.
 #[derive(Clone, Copy)]
 enum Step {
-    /// A call of the program with this word and the folder: what it tells, writes, and its number.
+    /// A call of the program with this word and the folder: what it reports, writes, and its number.
     Call(&'static str, &'static str, &'static str, u8),
     /// A file with these bytes is put there.
     Put(&'static str, &'static str),

@@ -1,4 +1,4 @@
-//! What the documents show as refused, and of a shell. Made by docs/snippets.py, which tells where it is another.
+//! What the documents show as refused, and of a shell. Made by docs/snippets.py, which also reports a difference.
 
 /// Words, texts of the input, each with how often it comes, the status, what standard error has, and the end of what is written.
 pub(crate) static SHELL: [(&[&str], &[(u32, &str)], u8, &str, &str); 6] = [

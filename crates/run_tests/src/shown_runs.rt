@@ -1,4 +1,4 @@
-//! What the documents and the examples show as run. Made by docs/snippets.py, which tells where it is another.
+//! What the documents and the examples show as run. Made by docs/snippets.py, which also reports a difference.
 
 mod part_1;
 mod part_2;

@@ -45,7 +45,7 @@ pub(crate) fn sink_of(alloc: Global, (room, most, plan): Room) -> Option<MemoryS
     }
 }
 
-/// What a call is to tell on standard error, and to write.
+/// What a call is to report on standard error, and to write.
 #[derive(Clone, Copy)]
 pub(crate) enum Wanted<'a> {
     /// The line of its status, and all that is written.
@@ -61,7 +61,7 @@ fn is_text(text: Result<String, AllocError>, wanted: &str) -> bool {
     }
 }
 
-/// Whether a text with another one behind it is this.
+/// Whether a text with another one after it is this.
 fn is_joined(text: String, more: &str, wanted: &str) -> bool {
     let mut text = text;
     match text.push_str(more) {
@@ -78,7 +78,7 @@ fn is_explained(alloc: Global, status: &Status, wanted: &str) -> bool {
     }
 }
 
-/// Whether a status is told, and bytes are written, as they should be.
+/// Whether a status is reported, and bytes are written, as they should be.
 pub(crate) fn is_wanted(
     alloc: Global,
     status: &Status,
@@ -91,7 +91,7 @@ pub(crate) fn is_wanted(
     }
 }
 
-/// What a call of the program comes to, with a yard over the folder that the words name.
+/// What a call of the program comes to, with an environment over the folder that the words name.
 pub(crate) fn made(
     rt: HostRuntime,
     words: &[String],
@@ -104,7 +104,7 @@ pub(crate) fn made(
     }
 }
 
-/// The number of a call's status, and whether what is told and written is as it should be.
+/// The number of a call's status, and whether what is reported and written is as it should be.
 fn ended(
     rt: HostRuntime,
     words: &[String],
@@ -135,8 +135,8 @@ fn ended_of(
     }
 }
 
-/// Makes a call with these words and this input, whose calls of the plan fail: the number of its status, and whether what is
-/// told and written is as it should be.
+/// Makes a call with these words and this input, whose calls of the plan fail: the number of its status, and whether
+/// what is reported and written is as it should be.
 pub(crate) fn called(
     rt: HostRuntime,
     list: &[&str],
@@ -153,7 +153,7 @@ pub(crate) fn called(
     }
 }
 
-/// A call that ends with this number, and tells and writes what it should.
+/// A call that ends with this number, and reports and writes what it should.
 pub(crate) fn well(number: u8) -> Option<(u8, bool, bool)> {
     Some((number, true, true))
 }
@@ -436,7 +436,7 @@ fn status(alloc: Global, number: u8) -> Option<Status> {
     }
 }
 
-/// The status that tells of this name.
+/// The status that reports this name.
 fn named(alloc: Global, name: &[u8]) -> Option<Status> {
     match Blob::from_slice(alloc, name) {
         Ok(name) => Some(Status::NotEmpty { name }),
@@ -486,7 +486,7 @@ fn each_status_has_its_number_and_line(rt: HostRuntime) {
     assert_eq!(rt; first_wrong_line(rt.alloc()), None);
 }
 
-/// Names of what may stand in a folder, and the line that tells of each. Worked by hand, by the escapes of Rust's `char`.
+/// Names of what may be in a folder, and the line that reports each. Worked by hand, by the escapes of Rust's `char`.
 static NAMES: [(&[u8], &str); 6] = [
     (b"it's a \\n", "tiered: folder not empty: it's a \\n\n"),
     (
@@ -521,8 +521,8 @@ fn a_name_breaks_no_line(rt: HostRuntime) {
     assert_eq!(rt; first_wrong_name(rt.alloc()), None);
 }
 
-/// A status's number, bytes that were kept of a script, and what follows the status's line. Of a bad script the second line
-/// has a word without a reading.
+/// A status's number, bytes that were kept of a script, and what follows the status's line. Of a bad script the second
+/// line has an invalid word.
 static EXPLAINED: [(u8, &str, &str); 4] = [
     (
         3,
@@ -668,7 +668,7 @@ fn runs_over(rt: HostRuntime, dir: &str, wanted: Wanted) -> Option<(u8, bool, bo
     called(rt, &["run", dir], script, (10_000, 100, &[]), wanted)
 }
 
-/// Files that stand in the folder then.
+/// Files that are in the folder then.
 static FILES: [&str; 4] = [
     "broker_run/p0/b0/manifest",
     "broker_run/p0/b1/manifest",

@@ -35,7 +35,7 @@ impl Hold {
         }
     }
 
-    /// Notes that the other call is made.
+    /// Records that the other call is made.
     fn note(&self, call: Call) {
         if call == self.until {
             self.came.store(true, Ordering::SeqCst);
@@ -56,7 +56,7 @@ impl Hold {
         }
     }
 
-    /// Whether the held call went on because the other one came.
+    /// Whether the held call continued because the other one came.
     fn has_seen(&self) -> bool {
         self.saw.load(Ordering::SeqCst)
     }
@@ -87,7 +87,7 @@ impl Meeting {
         }
     }
 
-    /// Notes the call, and holds it if it is one of the two.
+    /// Records the call, and holds it if it is one of the two.
     fn meet(&self, call: Call) {
         self.one.note(call);
         self.other.note(call);
@@ -95,7 +95,7 @@ impl Meeting {
         self.other.hold(call);
     }
 
-    /// Whether each of the held calls went on because the other one came.
+    /// Whether each of the held calls continued because the other one came.
     fn have_met(&self) -> bool {
         self.one.has_seen() && self.other.has_seen()
     }
@@ -121,15 +121,15 @@ impl Gate for Makers {
     }
 }
 
-/// Two actors, of which one makes what the other has appended stable.
+/// Two actors, of which one makes what the other has appended durable.
 const TWO: &str = "0 0 0 flush\n1 0 0 append 1000,-,:a\n";
 
 /// Two actors of one partition, each with a batch from outside.
 const RAW: &str =
     "0 0 0 raw 0000000000000000000000390000000002ebf1884b00000000000000000000000003e800000000000003e8ffffffffffffffffffffffffffff000000010e00000001026100\n1 0 0 raw 0000000000000000000000390000000002ebf1884b00000000000000000000000003e800000000000003e8ffffffffffffffffffffffffffff000000010e00000001026100\n";
 
-/// Makes a call of the program that runs a script by threads, which pass this gate: the number of its status, and whether what is
-/// told and written is as it should be.
+/// Makes a call of the program that runs a script by threads, which pass this gate: the number of its status, and
+/// whether what is reported and written is as it should be.
 fn called<H: AllocGlobal + Threads + Wait + Sync, G: Gate + Sync>(
     rt: &H,
     gate: &G,

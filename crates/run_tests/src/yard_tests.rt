@@ -1,4 +1,4 @@
-//! Runs over a yard and over devices in memory. The traces are worked by hand from the language's page.
+//! Runs over an environment and over devices in memory. The traces are worked by hand from the language's page.
 
 ghost use Rattle.std.specs.Prelude.{All, IfSome};
 ghost use Rattle.plain_log.specs.Orders.{AreListsFor, IsConfig};
@@ -45,8 +45,8 @@ pub(crate) fn read(alloc: Global, text: &str) -> Option<Script>
     }
 }
 
-/// Runs the partitions of a script over a new yard, and tells how that ends, how many faults the yard counts, and how many
-/// devices come back.
+/// Runs the partitions of a script over a new environment, and returns how that ends, how many faults the environment
+/// counts, and how many devices come back.
 fn over_a_yard(
     alloc: Global,
     failing: Vec<u32>,
@@ -69,7 +69,7 @@ fn over_a_yard(
     (end, yard.faults(), yard.returned().len())
 }
 
-/// Reads a script, and runs it over a yard, whose calls with these numbers fail.
+/// Reads a script, and runs it over an environment, whose calls with these numbers fail.
 fn run(alloc: Global, script: &str, failing: &[u32], trace: &str) -> (End, u64, usize) {
     match (read(alloc, script), Vec::from_slice(alloc, failing)) {
         (Some(script), Ok(failing)) => {
@@ -79,7 +79,8 @@ fn run(alloc: Global, script: &str, failing: &[u32], trace: &str) -> (End, u64, 
     }
 }
 
-/// Two partitions of two brokers. A follow goes on when its actor's turn comes; the line of a fault is for other devices.
+/// Two partitions of two brokers. A follow continues when its actor's turn comes; the line of a fault is for other
+/// devices.
 static TWO: &str =
     "brokers 2\npartitions 2\nfault 0 disk 0 append 1 before\n0 0 0 append 1000,-,:a\nlater 2 0 1 follow 1\nturn 2 1\n1 1 1 append 1000,-,:b\n0 0 0 flush\nturn 2 1\n1 1 0 append 1000,-,:c\n";
 
@@ -94,7 +95,8 @@ fn each_partition_is_run_by_its_schedule(rt: HostRuntime) {
     );
 }
 
-/// Both registries are handed out first. Then, for each partition, two disks are, a store, a metadata log and the registry.
+/// Both registries are provided first. Then, for each partition, two disks are, a store, a metadata log and the
+/// registry.
 #[test]
 fn what_was_handed_out_is_back_after_a_fault(rt: HostRuntime) {
     for before in 0..12u32 {
@@ -107,8 +109,8 @@ fn what_was_handed_out_is_back_after_a_fault(rt: HostRuntime) {
     }
 }
 
-/// Makes a call of the program that runs a script over a yard: the number of its status, and whether what is told and written is
-/// as it should be.
+/// Makes a call of the program that runs a script over an environment: the number of its status, and whether what is
+/// reported and written is as it should be.
 fn called(
     rt: HostRuntime,
     yard: &mut MemoryYard,
@@ -126,7 +128,7 @@ fn called(
     }
 }
 
-/// The same of the script of two partitions, over a new yard, whose call with this number fails.
+/// The same of the script of two partitions, over a new environment, whose call with this number fails.
 fn called_over(rt: HostRuntime, failing: u32, wanted: Wanted) -> Option<(u8, bool, bool)> {
     match (
         vec![in rt.alloc(); failing],
@@ -141,7 +143,7 @@ fn called_over(rt: HostRuntime, failing: u32, wanted: Wanted) -> Option<(u8, boo
     }
 }
 
-/// The yard is asked for its first name, and then for twelve devices.
+/// The environment is asked for its first name, and then for twelve devices.
 #[test]
 fn nothing_is_written_where_a_yard_fails(rt: HostRuntime) {
     let fault = Wanted::Whole("tiered: folder fault\n", b"");
@@ -159,7 +161,7 @@ fn a_trace_is_written_where_a_yard_goes_on(rt: HostRuntime) {
     assert!(rt; called_over(rt, 14, traced) == well(0));
 }
 
-/// Runs a part over devices in memory, of whose disk the first append fails, and tells how that ends.
+/// Runs a part over devices in memory, of whose disk the first append fails, and returns how that ends.
 fn over_devices(alloc: Global, config: Config, part: PartScript, trace: &str) -> End
     requires config { IsConfig config }
     requires fit { AreListsFor config part.lists }

@@ -1,4 +1,4 @@
--- A turn more leads on, and a run that came to its end is one of its part.
+-- A turn more still leads, and a run that came to its end is one of its part.
 use Rattle.std.proofs.Common.{◌≡◌, ◌≢◌, ◌∙◌, sym, ap, subst, refl, ℕ, List, [], ◌∷◌, ◌++◌, slice_get, Some}
 use Rattle.std.specs.Prelude.{All}
 use Rattle.std.proofs.lemmas.Option.{get_or_from_slice_get, slice_get_within}
@@ -31,7 +31,7 @@ one_more : (turns : List ActorId) (a : ActorId) → one_by_one (turns ++ a ∷ [
 one_more [] a = refl
 one_more (b ∷ turns) a = ap (λ (k : List Pace). Times b 1 ∷ k) (one_more turns a)
 
--- what holds of all holds of the one that stands at a place
+-- what holds of all holds of the one that is at a place
 all_at : {A : Type 0} (P : A → Type 0) (xs : List A) (i : ℕ) (x : A) → All P xs → slice_get xs i ≡ Some x → P x
 all_at P xs i x h at = subst P (get_or_from_slice_get xs i x x at) (h i x (slice_get_within xs i x at))
 

@@ -34,7 +34,7 @@ abbrev pub one_by_one : List ActorId → List Pace
 one_by_one [] = []
 one_by_one (actor ∷ turns) = Times actor 1 ∷ one_by_one turns
 
--- the script has a reading with this configuration, and at this place with this partition
+-- the script is valid with this configuration, and at this place with this partition
 pub record IsPart (script : List ℕ) (place : ℕ) (config : Config) (part : PartScript) : Type 0 where
   pub read : Script
   pub reads : script_in script ≡ Ok read
@@ -58,7 +58,7 @@ module _ {D S M : Type 0} where
     pub place : t'.place ≡ t.place
     pub partition : t'.partition ≡ t.partition
 
-  -- it is, and goes on
+  -- it is, and continues
   pub record GoesOn (t t' : Trace D S M) : Type 0 where
     pub same : IsSamePart t t'
     pub goes : t'.ended ≡ false
@@ -83,7 +83,7 @@ module _ {D S M : Type 0} (disk : DiskGhosts D) (store : StoreGhosts S) (meta : 
   abbrev pub IsRunByThreads : Config → PartScript → ℕ × List JournalEntry → Type 0
   IsRunByThreads config part run = (schedule : List Pace) × IsRunOf disk store meta config (by_schedule schedule part) run
 
-  -- such a run of the partition that stands at this place of the script
+  -- such a run of the partition that is at this place of the script
   pub record IsThreadedRun (script : List ℕ) (place : ℕ) (run : ℕ × List JournalEntry) : Type 0 where
     pub config : Config
     pub part : PartScript

@@ -5,7 +5,7 @@ use tier_base::ActorId;
 /// Called by the thread of an actor before each of its turns, without a lock, the last call among them, which finds the
 /// list at its end. It means nothing to the run; a test holds threads there.
 pub trait Gate {
-    /// Lets the thread of an actor go on to its n-th call, counted from 1. For an actor that no thread could be made
+    /// Lets the thread of an actor continue to its n-th call, counted from 1. For an actor that no thread could be made
     /// for, the caller of the run makes these calls; a gate that waits for another actor may then wait for good.
     fn pass(&self, actor: ActorId, turn: u64);
 

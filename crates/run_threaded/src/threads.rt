@@ -72,7 +72,7 @@ fn run_actor<H: AllocGlobal + Wait, D: Disk, S: Store, M: MetaLog, G: Gate>(
     }
 }
 
-/// What an actor's next turn wants. Without memory to tell it is nothing, and the turn makes what it needs.
+/// What an actor's next turn wants. Without memory to report it is nothing, and the turn makes what it needs.
 fn asked<H: AllocGlobal + Wait, D: Disk, S: Store, M: MetaLog>(
     rt: &H,
     lock: &Mutex<Traced<D, S, M>>,

@@ -48,7 +48,7 @@ impl<D: Disk, S: Store, M: MetaLog> Model for Traced<D, S, M> {
 }
 
 impl<D: Disk, S: Store, M: MetaLog> Traced<D, S, M> {
-    /// Begins a run with the fresh world of the partition that stands at this place of a script.
+    /// Begins a run with the fresh world of the partition that is at this place of a script.
     pub fn of(
         alloc: Global,
         script: Bytes,
@@ -69,14 +69,14 @@ impl<D: Disk, S: Store, M: MetaLog> Traced<D, S, M> {
         }
     }
 
-    /// Answers whether this is a run of the partition that stands at this place of this script.
+    /// Returns whether this is a run of the partition that is at this place of this script.
     pub fn is_of(&self, script: &Bytes, place: usize) -> bool
         ensures { IsTrue result ↔ IsOf self.now script.now place }
     {
         self.place == place && self.script.as_slice() == script.as_slice()
     }
 
-    /// Answers the partition's number.
+    /// Returns the partition's number.
     pub fn partition(&self) -> PartitionId
         ensures { result ≡ self.now.partition }
     {
@@ -99,7 +99,7 @@ impl<D: Disk, S: Store, M: MetaLog> Traced<D, S, M> {
         self.turns.as_slice()
     }
 
-    /// Answers whether a turn found no memory. From then on each does.
+    /// Returns whether a turn found no memory. From then on each does.
     pub fn ended(&self) -> bool
         ensures { result ≡ self.now.ended }
     {
@@ -117,7 +117,8 @@ impl<D: Disk, S: Store, M: MetaLog> Traced<D, S, M> {
         self.step_with(alloc, actor, Ready::Nothing)
     }
 
-    /// Takes the next turn of an actor's commands, with what is ready for it. Room for the turn's note is taken first.
+    /// Takes the next turn of an actor's commands, with what is ready for it. Room for recording the turn is taken
+    /// first.
     pub fn step_with(&mut self, alloc: Global, actor: ActorId, ready: Ready) -> Stepped
         ensures steps { result ≢ NoMemory → Steps D.Disk S.Store M.MetaLog self.old.world actor.0 result self.new.world }
         ensures central { result ≢ NoMemory → KeepsCentral D.Disk S.Store M.MetaLog self.old.world self.new.world }

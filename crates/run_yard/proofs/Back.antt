@@ -1,4 +1,4 @@
--- What a yard holds and counts as devices come back one after another.
+-- What an environment holds and counts as devices come back one after another.
 use Rattle.std.proofs.Common.{◌≡◌, inl, inr, ◌∙◌, sym, ap, subst, refl, ℕ, zero, suc, ◌+◌, ◌≤◌, List, [], ◌∷◌, ◌++◌, map, length, slice_get, Option, Some, None, IsTrue, if◌then◌else◌, arith, append_assoc, append-nil}
 use Rattle.std.specs.Prelude.{◌⊎◌}
 use Rattle.std.proofs.lemmas.Option.{slice_get_within}
@@ -37,14 +37,14 @@ came_more came one a b c so t = record {
   out = (let long = length_snoc came one in let was = so.out in let now = t.out in omega (arith, long, was, now));
 }
 
--- what stands at a place of a list with one item more
+-- what is at a place of a list with one item more
 pub get_snoc : {A : Type 0} (xs : List A) (x : A) (i : ℕ) (y : A) → slice_get (xs ++ x ∷ []) i ≡ Some y → (slice_get xs i ≡ Some y) ⊎ ((i ≡ length xs) × (y ≡ x))
 get_snoc [] x zero y is = inr (refl, cc)
 get_snoc [] x (suc i) y is = absurd (let no : ◌≡◌ {A = Option _} None (Some y) = is in cc)
 get_snoc (z ∷ xs) x zero y is = inl is
 get_snoc (z ∷ xs) x (suc i) y is = elim (get_snoc xs x i y is) [ inl old ↦ inl old | inr new ↦ inr (ap suc new.0, new.1) ]
 
--- a place where something stands lies within
+-- a place where something is lies within
 get_within : {A : Type 0} (xs : List A) (i : ℕ) (y : A) → slice_get xs i ≡ Some y → i ≡ length xs → ⊥
 get_within xs i y is at = let within = slice_get_within xs i y is in omega (arith, within, at)
 
@@ -162,7 +162,7 @@ module _ {D S M : Type 0} where
   pub keeps_all : (p : PartitionId) (done all : List D) (a b : YardContent D S M) → done ≡ all → KeepsDisks p done a b → KeepsDisks p all a b
   keeps_all p done all a b same so = subst (λ (l : List D). KeepsDisks p l a b) same so
 
--- devices that come back one batch behind another
+-- devices that come back one batch after another
 pub came_then : (x y : List Came) (a b c : Control) → CameBack x a b → CameBack y b c → CameBack (x ++ y) a c
 came_then x y a b c f g = record {
   faults = g.faults ∙ (ap (faults_with y) f.faults ∙ sym (faults_append x y a.faults));
@@ -175,7 +175,7 @@ pub came_one : (one : Came) (a b : Control) → TakesBack one a b → CameBack (
 came_one one a b t = record { faults = t.faults; named = t.named; returned = t.returned; out = t.out }
 
 module _ {D S M : Type 0} where
-  -- a partition's devices, the store behind its disks and the metadata log behind the store
+  -- a partition's devices, the store after its disks and the metadata log after the store
   pub keeps_devices : (p : PartitionId) (disks : List D) (s : S) (m : M) (devices : Devices D S M) (a b c d : YardContent D S M) → devices.disks.items ≡ disks → devices.store ≡ s → devices.meta ≡ m
       → KeepsDisks p disks a b → c.is_observable ≡ b.is_observable → (IsTrue b.is_observable → StoreIs p (Some s) b c) → d.is_observable ≡ c.is_observable → (IsTrue c.is_observable → LogIs p (Some m) c d) → KeepsDevices p devices a d
   keeps_devices p disks s m devices a b c d items its log keeps stored store recorded logs = record {

@@ -46,7 +46,7 @@ use Rattle.script_lang.specs.declared.script.PartScript.{PartScript}
 use Rattle.run_yard.specs.Opens.{OpensAt}
 use Rattle.run_yard.specs.Run.{IsLogRun, AreOf, IsRun}
 
--- what holds of all holds of the one that stands at a place
+-- what holds of all holds of the one that is at a place
 all_at : {A : Type 0} (P : A → Type 0) (xs : List A) (i : ℕ) (x : A) → All P xs → slice_get xs i ≡ Some x → P x
 all_at P xs i x h at = subst P (get_or_from_slice_get xs i x x at) (h i x (slice_get_within xs i x at))
 

@@ -1,4 +1,4 @@
--- Counts of faults that go on: they never fall, and a rise stays.
+-- Counts of faults that continue: they never fall, and a rise stays.
 use Rattle.std.proofs.Common.{ℕ, ◌≤◌, List, [], ◌∷◌, Bool, true, false, if◌then◌else◌, arith}
 use Rattle.tier_base.specs.Counts.{counted, Rose}
 use Rattle.device_yard.specs.declared.came.Came.{Came}

@@ -117,7 +117,7 @@ module _ {D : Type 0} (files : D → disk.Content) where
   keeps_rests (Some d) None k = absurd k
   keeps_rests (Some d) (Some e) k = record { is_observable = k.is_observable; files = k.files; images = k.images }
 
-  -- a disk that was handed out, read, and is held again
+  -- a disk that was provided, read, and is held again
   pub handed_read : (a b : Option D) (d e : D) → HandsDisk files a (files d) → disk.Keeps (files d) (files e) → HoldsDisk files e b → RestsOn files a b
   handed_read None None d e gives kept held = absurd held
   handed_read (Some y) None d e gives kept held = absurd held
@@ -204,7 +204,7 @@ module _ {D S M : Type 0} (files : D → disk.Content) (objects : S → store.Co
     registries = λ p. keeps_rests files (a.registries p) (b.registries p) (s.registries p);
   }
 
-  -- a registry's disk was handed out, read, and is back
+  -- a registry's disk was provided, read, and is back
   pub registry_read : (p : PartitionId) (h h1 h2 : YardContent D S M) (d e : D) → IsTrue h.is_observable → h1.is_observable ≡ h.is_observable → (IsTrue h.is_observable → RegistryIs p IsOut h h1)
       → h2.is_observable ≡ h1.is_observable → (IsTrue h1.is_observable → RegistryIs p (HoldsDisk files e) h1 h2) → (IsTrue h.is_observable → HandsDisk files (h.registries p) (files d))
       → disk.Keeps (files d) (files e) → AreRead files objects notes h h2
@@ -258,7 +258,7 @@ module _ {D S M : Type 0} (files : D → disk.Content) (objects : S → store.Co
       was (inl there) = inl (tier_store (a.stores p) (b.stores p) (r.stores p) there)
       was (inr told) = inr (tier_log (a.logs p) (b.logs p) (r.logs p) told)
 
-  -- a look at the partition's registry: these bytes were handed, of a disk with this content
+  -- a look at the partition's registry: these bytes were returned, of a disk with this content
   pub record Looks (p : PartitionId) (asked : ℕ) (h h' : YardContent D S M) (c c' : Control) (d : D) (last_read : List ℕ) : Type 0 where
     pub read : ReadsLast p last_read c c'
     pub there : IsTrue h.is_observable → (files d).files Registry ≡ file_in files (h.registries p)
@@ -330,7 +330,7 @@ module _ {D S M : Type 0} (files : D → disk.Content) (objects : S → store.Co
   }
   refused_then asked h h1 h2 c c1 c2 yard.NoMemory same read more falls is = tt
 
--- a call of the yard for a registry's disk went wrong
+-- a call of the environment for a registry's disk went wrong
 pub wrong_uses : (t : Trouble) (c c' : Control) → Hands (fate_of_trouble t) c c' → Uses [] c c'
 wrong_uses t c c' h = record {
   never_falls = (went_wrong (fate_of_trouble t) c c' (no t) h).0;
@@ -353,7 +353,7 @@ pub one_used : (one : Came) (r : ReadRegistry) (a b c : Control) → Hands Went 
 one_used one r a b c out back =
     uses_all 1 (one ∷ []) a b c refl (one_more 0 a a b (record { faults = refl; named = refl; returned = refl; out = omega arith }) out) (came_registry one r b c back)
 
--- one of whose calls failed raises the yard's count
+-- one of whose calls failed raises the environment's count
 pub one_risen : (k k' : DeviceControl call_code) (r : ReadRegistry) (a b c : Control) → IsFresh k → Lasts k k' → Hands Went a b → TakesRegistry (record { faults = k'.faults; armed = k'.armed }) r b c
     → Rose k.faults k'.faults → Rose a.faults c.faults
 one_risen k k' r a b c fresh lasts out back rose =

@@ -1,4 +1,4 @@
--- A partition's devices, as they are handed out one after another.
+-- A partition's devices, as they are provided one after another.
 use Rattle.std.proofs.Common.{◌≡◌, inl, inr, ◌∙◌, sym, ap, subst, refl, ℕ, zero, suc, ◌+◌, ◌≤◌, List, [], ◌∷◌, ◌++◌, map, length, Option, Some, None, All, IsTrue, arith}
 use Rattle.std.specs.Prelude.{IsErrOf, Err}
 use Rattle.std.proofs.lemmas.List.Elements.{All-append}
@@ -25,7 +25,7 @@ pub all_one : {A : Type 0} (P : A → Type 0) (x : A) → P x → All P (x ∷ [
 all_one P x h zero y within = h
 all_one P x h (suc i) y within = absurd (omega (arith, within))
 
--- a call that went wrong took no fault away, and handed nothing out
+-- a call that went wrong took no fault away, and provided nothing
 pub went_wrong : (fate : Fate) (c c' : Control) → (fate ≡ Went → ⊥) → Hands fate c c' → (counted c.faults 0 ≤ c'.faults) × (c'.out ≡ c.out)
 went_wrong Went c c' wrong h = absurd (wrong refl)
 went_wrong Fault c c' wrong h = (let one = h.faults.fault refl in let more = counts_one c.faults in omega (arith, one, more), h.out)
@@ -133,7 +133,7 @@ one_more n c0 c c' so hands = record {
   out = (let was = so.out in let now = hands.out in omega (arith, was, now));
 }
 
--- the counts of one device behind others
+-- the counts of one device after others
 pub came_more_out : (came : List Came) (one : Came) (c0 c c' : Control) → HandedOut (length came) c0 c → Hands Went c c' → HandedOut (length (came ++ one ∷ [])) c0 c'
 came_more_out came one c0 c c' so hands = subst (λ (n : ℕ). HandedOut n c0 c') (sym (length_snoc came one)) (one_more (length came) c0 c c' so hands)
 
@@ -147,7 +147,7 @@ pub as_fault : {T : Type 0} (trouble : Trouble) (c c' : Control) → IsErrOf {T 
 as_fault trouble c c' is h = subst (λ (t : Trouble). Hands (fate_of_trouble t) c c') (let same : trouble ≡ Failed = cc in same) h
 
 module _ {D S M : Type 0} (disk : DiskGhosts D) (store : StoreGhosts S) (meta : MetaGhosts M) where
-  -- store and metadata log are out behind the disks
+  -- store and metadata log are out after the disks
   pub all_out : (p : PartitionId) (count : ℕ) (devices : Devices D S M) (h0 h1 h2 : YardContent D S M) → AreHandedDisks disk store meta p count devices.disks.items h0
       → h1.is_observable ≡ h0.is_observable → h2.is_observable ≡ h1.is_observable → (IsTrue h0.is_observable → KeepsRest p h0 h1) → (IsTrue h1.is_observable → StoreIs p None h1 h2)
       → (store.content devices.store).is_observable ≡ h1.is_observable → (IsTrue h1.is_observable → HandsStore store.content (h1.stores p) (store.content devices.store))

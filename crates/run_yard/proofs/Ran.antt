@@ -1,4 +1,4 @@
--- The run of a partition over its devices in a yard, and of one partition behind others.
+-- The run of a partition over its devices in an environment, and of one partition after others.
 use Rattle.std.proofs.Common.{◌≡◌, ◌≢◌, ◌⊎◌, inl, inr, ◌∙◌, sym, ap, subst, refl, ℕ, zero, suc, Option, Some, None, ◌+◌, ◌≤◌, ◌<◌, ◌==◌, Bool, true, false, List, [], ◌∷◌, ◌++◌, map, length, All, IsTrue, nat_lt, if◌then◌else◌, get_or, arith, append_assoc, append-nil}
 use Rattle.std.specs.Prelude.{Result, Ok, Err, IfOk, IfErr, IsSome}
 use Rattle.tier_base.specs.declared.plain.FileName.TheVariants.{Registry}
@@ -49,7 +49,7 @@ ok_is r x P is h = subst (λ (k : Result _ _). IfOk k P) is h
 pub err_is : {T E : Type 0} (r : Result T E) (e : E) (P : E → Type 0) → r ≡ Err e → IfErr r P → P e
 err_is r e P is h = subst (λ (k : Result _ _). IfErr k P) is h
 
--- a device of which a call failed before its plan was in force is a fault of the yard, as it comes back
+-- a device of which a call failed before its plan was in force is a fault of the environment, as it comes back
 counted_came : (came : Came) → came.armed ≡ false → 1 ≤ came.faults → is_yard_fault came ≡ true
 counted_came came unarmed some = let some_fault : nat_lt 0 came.faults ≡ true = lt-ltb 0 came.faults (omega (arith, some)) in rw unarmed some_fault
 
@@ -83,14 +83,14 @@ module _ {D S M : Type 0} (disk : DiskGhosts D) (store : StoreGhosts S) (meta : 
       let disks = length_map (came_of disk.control) devices.disks.items in
       omega (arith, whole, half, disks, many)
 
-  -- disks that were handed out are unarmed
+  -- disks that were provided are unarmed
   pub unarmed_disks : (h : YardContent D S M) (disks : List D) → All (IsHandedDisk disk store meta h) disks → AreUnarmed disk.control disks
   unarmed_disks h [] all = tt
   unarmed_disks h (d ∷ disks) all =
       let one = (all 0 d (omega arith)).fresh in
       (record { unarmed = one.armed; unmade = one.made }, unarmed_disks h disks (λ i e within. all (suc i) e (omega (arith, within))))
 
-  -- of a yard that tells they tell
+  -- of an observable environment they report
   disks_tell : (h : YardContent D S M) (disks : List D) → IsTrue h.is_observable → All (IsHandedDisk disk store meta h) disks → DisksTell disk.content disks
   disks_tell h [] t all = tt
   disks_tell h (d ∷ disks) t all = (subst IsTrue (sym (all 0 d (omega arith)).is_observable) t, disks_tell h disks t (λ i e within. all (suc i) e (omega (arith, within))))
@@ -145,7 +145,7 @@ module _ {D S M : Type 0} (disk : DiskGhosts D) (store : StoreGhosts S) (meta : 
       either true = counts_one n
       either false = omega arith
 
-  -- so the yard's count rose
+  -- so the environment's count rose
   device_risen : (p : PartitionId) (h : YardContent D S M) (given back : Devices D S M) (kept : D) (count n : ℕ) → AreHanded disk store meta p count given h
       → DeviceFailed disk meta given back → Rose n (faults_with (cames_of disk store meta back kept) n)
   device_risen p h given back kept count n handed failed = by failed.one
@@ -172,7 +172,7 @@ module _ {D S M : Type 0} (disk : DiskGhosts D) (store : StoreGhosts S) (meta : 
           append_assoc front (came_of store.control back.store ∷ one ∷ []) (came_of disk.control kept ∷ []) ∙ sym (append_assoc front (came_of store.control back.store ∷ []) (one ∷ came_of disk.control kept ∷ [])) in
           subst (λ (l : List Came). Rose n (faults_with l n)) (sym same) (fault_rises (front ++ came_of store.control back.store ∷ []) (came_of disk.control kept ∷ []) one n is)
 
-  -- what a refused run of the partition comes of, over the yard
+  -- what a refused run of the partition comes of, over the environment
   pub refused_of : (asked : ℕ) (p : PartitionId) (count n : ℕ) (h h2 : YardContent D S M) (c c1 c2 : Control) (given back : Devices D S M) (reg kept : D) (why : ColdRefusal)
       → (IsTrue h.is_observable → IsReady disk.content store.content meta.content asked h p) → AreAllHanded disk store meta p count given reg h → HandedOut n c c1 → CameBack (cames_of disk store meta back kept) c1 c2
       → c1.registries ≡ c.registries → c2.registries ≡ c1.registries ++ record { partition = p; last_read = (disk.control kept).last_read } ∷ [] → (disk.control kept).armed ≡ false
@@ -255,7 +255,7 @@ module _ {D S M : Type 0} (disk : DiskGhosts D) (store : StoreGhosts S) (meta : 
     holds = λ t. let told : IsTrue a.is_observable = subst IsTrue only.is_observable t in holds_on p part.partition is.back is.kept a b told other only (is.holds told);
   }
 
-  -- the runs of partitions with lower numbers go on
+  -- the runs of partitions with lower numbers continue
   runs_on : (config : Config) (p : PartitionId) (n : ℕ) (h0 a b : YardContent D S M) (parts : List PartScript) (runs : List (ℕ × List JournalEntry)) (came : List Came) → AreNumbered n parts → n + length parts ≤ p.0 → OnlyOf p a b
       → AreRunsIn disk store meta config h0 a parts runs came → AreRunsIn disk store meta config h0 b parts runs came
   runs_on config p n h0 a b [] [] came numbered below only are = are
@@ -316,7 +316,7 @@ module _ {D S M : Type 0} (disk : DiskGhosts D) (store : StoreGhosts S) (meta : 
     uses = uses_then t.came adds.came c0 c c' t.uses adds.uses;
   }
 
-  -- numbers of partitions one behind another
+  -- numbers of partitions one after another
   pub numbered_snoc : (n : ℕ) (parts : List PartScript) (part : PartScript) → AreNumbered n parts → part.partition.0 ≡ n + length parts → AreNumbered n (parts ++ part ∷ [])
   numbered_snoc n [] part numbered is = (omega (arith, is), tt)
   numbered_snoc n (first ∷ parts) part numbered is = (numbered.0, numbered_snoc (n + 1) parts part numbered.1 (omega (arith, is)))
@@ -385,7 +385,7 @@ module _ {D S M : Type 0} (disk : DiskGhosts D) (store : StoreGhosts S) (meta : 
   }
   refused_late asked h0 h h' c0 c c' yard.NoMemory same more falls of is = tt
 
-  -- the numbers of those behind
+  -- the numbers of those after
   numbered_get : (n : ℕ) (parts : List PartScript) (i : ℕ) (q : PartScript) → AreNumbered n parts → i < length parts → n ≤ (get_or parts i q).partition.0
   numbered_get n [] i q numbered within = absurd (omega (arith, within))
   numbered_get n (part ∷ parts) zero q numbered within = let is = numbered.0 in omega (arith, is)

@@ -1,4 +1,4 @@
--- What a refused run leaves: of a partition's devices, and of what a yard holds.
+-- What a refused run leaves: of a partition's devices, and of what an environment holds.
 use Rattle.std.proofs.Common.{◌≡◌, ◌≢◌, ◌⊎◌, inl, inr, ◌∙◌, sym, ap, subst, refl, ℕ, zero, suc, ◌≤◌, List, [], ◌∷◌, ◌++◌, length, slice_get, Option, Some, None, IsTrue, arith}
 use Rattle.std.specs.Prelude.{Result, Ok, Err, IfErr, OnErr, false}
 use Rattle.tier_base.specs.declared.names.BrokerId.{BrokerId}
@@ -51,14 +51,14 @@ pub on_err_map : {T E : Type 0} (r : Result T E) (A B : Type 0) → (A → B) �
 on_err_map (Ok x) A B map h = tt
 on_err_map (Err e) A B map h = map h
 
--- nothing is at a place behind the last
+-- nothing is at a place after the last
 none_past : {A : Type 0} (xs : List A) (i : ℕ) → slice_get xs i ≡ None → length xs ≤ i
 none_past [] i at = omega arith
 none_past (x ∷ xs) zero at = absurd (let no : ◌≡◌ {A = Option _} (Some x) None = at in cc)
 none_past (x ∷ xs) (suc i) at = let more = none_past xs i at in omega (arith, more)
 
 module _ {D S M : Type 0} (disk : DiskGhosts D) (store : StoreGhosts S) (meta : MetaGhosts M) where
-  -- devices that stand for what is left of the plain state that a world's journal has come to
+  -- devices that represent what is left of the plain state that a world's journal has come to
   led : (config : Config) (part : PartScript) (w : Whole D S M) (back : Devices D S M) (kept : D) (q : PartitionId) (p : State) (c : IsCentralLeft disk store meta p w) → w.lists ≡ part.lists → q ≡ part.partition
       → StandsFor disk store meta q back.disks.items back.store back.meta kept (cold_of (plain_in disk store meta p w c)) → IsLedFrom disk store meta part.partition part.lists back kept p
   led config part w back kept q p c lists there stands =
@@ -81,7 +81,7 @@ module _ {D S M : Type 0} (disk : DiskGhosts D) (store : StoreGhosts S) (meta : 
     file = subst (λ (k : D). IsCutDisk (disk.content reg) (disk.content k)) (sym same) (uncut (disk.content reg));
   }
 
-  -- steps that didn't come to their end left what stands for what is left of a state to which they led
+  -- steps that didn't come to their end left what represents what is left of a state to which they led
   halted : ClosedAreLeft disk → (config : Config) (part : PartScript) (back : Devices D S M) (kept : D) (t t' : Running D S M) (why : ColdRefusal) → t.world.partition ≡ part.partition → IsNew part.lists t.world
       → IsLater disk store meta t.world t'.world → AreDisksOf t'.world.held.nodes back.disks.items → DisksReopen disk.content t'.world.held.nodes back.disks.items → back.store ≡ t'.world.tier.store
       → back.meta ≡ t'.world.tier.meta → kept ≡ t'.reg
@@ -315,7 +315,7 @@ module _ {D S M : Type 0} (disk : DiskGhosts D) (store : StoreGhosts S) (meta : 
     end = elim (stopped (subst IsTrue (sym so.is_observable) t)) [ inl same ↦ inl same | inr one ↦ inr (part, after, steps, one) ];
   }
 
-  -- it was run, and there was no memory for its trace behind the others
+  -- it was run, and there was no memory for its trace after the others
   pub stopped_behind : (config : Config) (parts rest after : List PartScript) (part : PartScript) (h0 h h' : YardContent D S M) (c0 c c' : Control) (text printed : List ℕ) → rest ≡ part ∷ after
       → SoFar disk store meta config parts rest h0 h c0 c text → OnlyOf part.partition h h' → ReadsMore c c' → RunsIn disk store meta config part h h' printed c c' → IsTrue h0.is_observable → AreStopped disk store meta config parts h0 h'
   stopped_behind config parts rest after part h0 h h' c0 c c' text printed steps so only reads adds t =

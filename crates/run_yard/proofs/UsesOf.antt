@@ -1,4 +1,4 @@
--- Devices that went out of a yard and came back.
+-- Devices that went out of an environment and came back.
 use Rattle.std.proofs.Common.{◌≡◌, ◌∙◌, sym, ap, refl, ℕ, List, [], ◌++◌, length, arith, append_assoc, append-nil}
 use Rattle.device_yard.specs.declared.came.Came.{Came}
 use Rattle.device_yard.specs.Control.{Control}
@@ -14,7 +14,7 @@ uses_all n came a b c many out back = record {
   out = (let o = out.out in let k = back.out in omega (arith, many, o, k));
 }
 
--- one use behind another
+-- one use after another
 pub uses_then : (x y : List Came) (a b c : Control) → Uses x a b → Uses y b c → Uses (x ++ y) a c
 uses_then x y a b c f g = record {
   never_falls = goes_on a.faults b.faults c.faults f.never_falls g.never_falls;

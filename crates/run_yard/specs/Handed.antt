@@ -1,6 +1,6 @@
--- The devices of a partition as a yard hands them out.
+-- The devices of a partition as an environment provides them.
 --
--- They are fresh, and tell what they hold where the yard does: what it held.
+-- They are fresh, and report what they hold where the environment is observable: what it held.
 use Rattle.std.specs.Prelude.{◌≡◌, ℕ, List, Some, slice_get, length, All, IsTrue}
 use Rattle.tier_base.specs.Device.{IsFresh}
 use Rattle.tier_base.specs.declared.names.BrokerId.{BrokerId}
@@ -17,11 +17,11 @@ module _ {D S M : Type 0} (disk : DiskGhosts D) (store : StoreGhosts S) (meta : 
     pub fresh : IsFresh (disk.control d)
     pub is_observable : (disk.content d).is_observable ≡ held.is_observable
 
-  -- each of the disks of its first brokers has what the yard held as that broker's
+  -- each of the disks of its first brokers has what the environment held as that broker's
   abbrev pub HandsDisks : PartitionId → List D → YardContent D S M → Type 0
   HandsDisks partition disks held = (b : BrokerId) (d : D) → slice_get disks b.0 ≡ Some d → HandsDisk disk.content (held.disks partition b) (disk.content d)
 
-  -- each of the partition's devices has what the yard held
+  -- each of the partition's devices has what the environment held
   pub record HandsDevices (partition : PartitionId) (devices : Devices D S M) (registry : D) (held : YardContent D S M) : Type 0 where
     pub logs : HandsDisks partition devices.disks.items held
     pub objects : HandsStore store.content (held.stores partition) (store.content devices.store)

@@ -2,7 +2,7 @@
 --
 --   form                says
 --   OpensFresh .. p     the devices hold nothing of a partition, and p is the fresh state
---   OpensAt .. p        they stand for p, or hold nothing of a partition and p is the fresh state
+--   OpensAt .. p        they represent p, or hold nothing of a partition and p is the fresh state
 use Rattle.std.specs.Prelude.{◌≡◌, ◌⊎◌}
 use Rattle.tier_base.specs.declared.names.PartitionId.{PartitionId}
 use Rattle.disk_model.specs.declared.disk.Disk.{Ghosts as DiskGhosts}
@@ -16,7 +16,7 @@ use Rattle.partition_world.specs.declared.tier.Devices.{Devices}
 use Rattle.cold_start.specs.Stands.{StandsFor, IsBlank}
 
 module _ {D S M : Type 0} (disk : DiskGhosts D) (store : StoreGhosts S) (meta : MetaGhosts M) where
-  -- they tell, and no registry, object or note of the partition was ever kept
+  -- they report, and no registry, object or metadata event of the partition was ever kept
   pub record OpensFresh (config : Config) (devices : Devices D S M) (registry : D) (p : State) : Type 0 where
     pub state : p ≡ fresh config
     pub disks_tell : DisksTell disk.content devices.disks.items

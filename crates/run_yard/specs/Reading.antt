@@ -1,4 +1,4 @@
--- What a yard's registries say of a run, and what reading them changes.
+-- What an environment's registries say of a run, and what reading them changes.
 --
 --   form                    says
 --   Rests d e               a disk reads as it did
@@ -6,8 +6,8 @@
 --   AreRead old new         nothing has changed, but that registries may have been read
 --   said asked file         what a registry's file makes of a run with so many brokers: a refusal, or none
 --   Suits asked held p      the partition's makes none of it
---   judged asked found      what a run with so many brokers is answered where the registry was found so
---   IsReady asked held p    and it is there, or the partition has no object and no note
+--   judged asked found      what a run with so many brokers returns where the registry was found so
+--   IsReady asked held p    and it is there, or the partition has no object and no metadata event
 --   ReadsLast p bytes c c'  this partition's registry was read last, as these bytes
 --   IsRefusedSo ..          a refusal comes of this
 use Rattle.std.specs.Prelude.{◌≡◌, ◌++◌, ◌∷◌, [], ℕ, ◌<◌, ◌==◌, if◌then◌else◌, List, Option, Some, None, Ok, Err, IsTrue}
@@ -56,7 +56,7 @@ abbrev pub said : ℕ → Option (List ℕ) → Option ColdRefusal
 said asked None = None
 said asked (Some bytes) = says asked (view_in bytes)
 
--- a registry that was found so goes on with so many brokers, or is refused for this
+-- a registry that was found so continues with so many brokers, or is refused for this
 abbrev pub judged : ℕ → Result (Option RegView) FindRefusal → Result (Unit {0}) ColdRefusal
 judged asked (Ok None) = Ok tt
 judged asked (Ok (Some view)) = if view.brokers == asked then Ok tt else Err (cold.Brokers view.brokers asked)
@@ -86,13 +86,13 @@ module _ {D S M : Type 0} (files : D → disk.Content) (objects : S → store.Co
   abbrev pub Suits : ℕ → YardContent D S M → PartitionId → Type 0
   Suits asked held p = said asked (file_in files (held.registries p)) ≡ None
 
-  -- and where there is none, there is no object and no note either
+  -- and where there is none, there is no object and no metadata event either
   pub record IsReady (asked : ℕ) (held : YardContent D S M) (p : PartitionId) : Type 0 where
     pub suits : Suits asked held p
     pub bare : IsBare files objects notes held p → ⊥
 
-  -- A partition's registry refuses the run: the bytes that its disk handed last say so, and where the yard tells they are its file,
-  -- no partition before it is refused, and nothing has changed.
+  -- A partition's registry refuses the run: the bytes that its disk last returned say so, and where the environment
+  -- reports they are its file, no partition before it is refused, and nothing has changed.
   pub record IsSaidOf (partition : PartitionId) (asked : ℕ) (why : ColdRefusal) (old new : YardContent D S M) (c c' : Control) : Type 0 where
     pub bytes : List ℕ
     pub read : ReadsLast partition bytes c c'

@@ -1,4 +1,4 @@
--- Which refusal of a run over a yard stands for another, and what a partition's refusal comes of.
+-- Which refusal of a run over an environment represents another, and what a partition's refusal comes of.
 use Rattle.std.specs.Prelude.{◌≡◌, ◌⊎◌, ◌<◌, ℕ, Some, IsTrue}
 use Rattle.tier_base.specs.Counts.{Rose}
 use Rattle.tier_base.specs.Device.{Lasts}
@@ -17,7 +17,7 @@ use Rattle.cold_start.specs.declared.refusal.ColdRefusal.TheVariants as cold
 use Rattle.run_yard.specs.declared.refusal.YardRefusal.{YardRefusal}
 use Rattle.run_yard.specs.declared.refusal.YardRefusal.TheVariants.{Fault, Mismatch, BadRegistry, NoMemory}
 
--- a call of the yard
+-- a call of the environment
 abbrev pub of_trouble : Trouble → YardRefusal
 of_trouble trouble.Failed = Fault
 of_trouble trouble.NoMemory = NoMemory
@@ -37,19 +37,19 @@ IsOfDevices NoMemory = Unit {0}
 IsOfDevices other = ⊥
 
 module _ {D : Type 0} (disk : DiskGhosts D) where
-  -- what the registry's disk handed last refuses the run, and where it tells that is its file
+  -- what the registry's disk last returned refuses the run, and where it is observable that is its file
   pub record IsOfFile (asked : ℕ) (registry kept : D) (why : ColdRefusal) : Type 0 where
     pub says : says asked (view_in (disk.control kept).last_read) ≡ Some why
     pub file : IsTrue (disk.content registry).is_observable → (disk.content registry).files Registry ≡ Some (disk.control kept).last_read
 
 module _ {D S M : Type 0} (disk : DiskGhosts D) (meta : MetaGhosts M) where
-  -- a device failed, of those that were handed in unarmed and came back so
+  -- a device failed, of those that were passed in unarmed and came back so
   pub record DeviceFailed (devices back : Devices D S M) : Type 0 where
     pub disks : AllLast disk.control devices.disks.items back.disks.items
     pub notes : Lasts (meta.control devices.meta) (meta.control back.meta)
     pub one : OneFailed disk.control devices.disks.items back.disks.items ⊎ Rose (meta.control devices.meta).faults (meta.control back.meta).faults
 
-  -- a partition's run with so many brokers was refused for this: with its devices handed in, and given back
+  -- a partition's run with so many brokers was refused for this: with its devices passed in, and given back
   abbrev pub IsRefused : ℕ → Devices D S M → D → Devices D S M → D → ColdRefusal → Type 0
   IsRefused asked devices registry back kept cold.RegistryFault = 0 < (disk.control kept).faults
   IsRefused asked devices registry back kept cold.DeviceFault = DeviceFailed devices back

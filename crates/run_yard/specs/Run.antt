@@ -50,10 +50,10 @@ module _ {D S M : Type 0} (disk : DiskGhosts D) (store : StoreGhosts S) (meta : 
     pub store_is : s ≡ w.tier.store
     pub meta_is : m ≡ w.tier.meta
 
-  -- The journal is that of a world which the partition's schedule reaches from the one that was opened over the devices, and the
-  -- devices that come back are that world's, which have counted each fault that it tells of and no other. For each plain state in
-  -- which a run may begin over the devices that were handed in, it is a run of the plain log from there, and the devices that come
-  -- back stand for what is left of the state that it leads to.
+  -- The journal is that of a world which the partition's schedule reaches from the one that was opened over the
+  -- devices, and the devices that come back are that world's, which have counted each fault that it reports and no
+  -- other. For each plain state in which a run may begin over the devices that were passed in, it is a run of the plain
+  -- log from there, and the devices that come back represent what is left of the state that it leads to.
   pub record IsRun (config : Config) (part : PartScript) (devices : Devices D S M) (registry : D) (journal : List JournalEntry)
       (back : Devices D S M) (kept : D) : Type 0 where
     pub first : Running D S M

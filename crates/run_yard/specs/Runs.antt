@@ -1,4 +1,4 @@
--- What came of the run of a script over a yard.
+-- What came of the run of a script over an environment.
 use Rattle.std.specs.Prelude.{◌≡◌, ℕ, List, [], ◌∷◌, ◌++◌, None, All, IsTrue}
 use Rattle.disk_model.specs.declared.disk.Disk.{Ghosts as DiskGhosts}
 use Rattle.object_store.specs.declared.store.Store.{Ghosts as StoreGhosts}
@@ -19,8 +19,9 @@ use Rattle.run_yard.specs.Reading.{AreRead, Suits, file_in}
 use Rattle.run_yard.specs.Yard.{cames_of, HoldsAll, Uses, IsUsed}
 
 module _ {D S M : Type 0} (disk : DiskGhosts D) (store : StoreGhosts S) (meta : MetaGhosts M) where
-  -- A partition's number and journal: it was run on devices that came back with these counts. Where the yard is observable, they had what it
-  -- held before, and it holds now what came back; and where no registry was there, the run began in the fresh state.
+  -- A partition's number and journal: it was run on devices that came back with these counts. Where the environment is
+  -- observable, they had what it held before, and it holds now what came back; and where no registry was there, the run
+  -- began in the fresh state.
   pub record IsRunIn (config : Config) (part : PartScript) (was held : YardContent D S M) (run : ℕ × List JournalEntry) (came : List Came) : Type 0 where
     pub partition : run.0 ≡ part.partition.0
     pub devices : Devices D S M
@@ -34,7 +35,7 @@ module _ {D S M : Type 0} (disk : DiskGhosts D) (store : StoreGhosts S) (meta : 
         → OpensFresh disk store meta config devices registry (fresh config)
     pub holds : IsTrue held.is_observable → HoldsAll disk.content part.partition back kept held
 
-  -- the text is the trace of such a run, and each device that was handed out is back
+  -- the text is the trace of such a run, and each device that was provided is back
   pub record RunsIn (config : Config) (part : PartScript) (was held : YardContent D S M) (text : List ℕ) (old new : Control) : Type 0 where
     pub run : ℕ × List JournalEntry
     pub came : List Came
@@ -50,7 +51,7 @@ module _ {D S M : Type 0} (disk : DiskGhosts D) (store : StoreGhosts S) (meta : 
   AreRunsIn config was held [] (run ∷ runs) came = ⊥
   AreRunsIn config was held (part ∷ parts) [] came = ⊥
 
-  -- the text is the trace of a run of each partition, and each device that was handed out is back, in their order
+  -- the text is the trace of a run of each partition, and each device that was provided is back, in their order
   pub record IsRunText (config : Config) (parts : List PartScript) (was held : YardContent D S M) (text : List ℕ) (old new : Control) : Type 0 where
     pub runs : List (ℕ × List JournalEntry)
     pub came : List Came

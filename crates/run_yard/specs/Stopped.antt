@@ -1,7 +1,7 @@
--- What a refused run leaves: of one partition over its devices, and of a script over a yard.
+-- What a refused run leaves: of one partition over its devices, and of a script over an environment.
 --
 --   form                        says
---   IsLedFrom .. p              devices stand for what is left of a state to which commands lead from p
+--   IsLedFrom .. p              devices represent what is left of a state to which commands lead from p
 --   IsStopped d r back kept     a run over these devices stopped, and left those
 --   RestsIn p, AllRest          what is held of a partition is as it was, and of all
 --   IsStoppedIn part was held   the partition's run was refused over its devices, which are held again
@@ -52,7 +52,7 @@ StoreRests store None (Some t) = IsEmptyStore (store t)
 StoreRests store (Some s) (Some t) = stored.Keeps (store s) (store t)
 StoreRests store (Some s) None = ⊥
 
--- of a metadata log, one without notes
+-- of a metadata log, one without metadata events
 abbrev pub LogRests : {M : Type 0} → (M → recorded.Content) → Option M → Option M → Type 0
 LogRests meta None None = Unit {0}
 LogRests meta None (Some n) = IsEmptyLog (meta n)
@@ -60,12 +60,12 @@ LogRests meta (Some m) (Some n) = recorded.Keeps (meta m) (meta n)
 LogRests meta (Some m) None = ⊥
 
 module _ {D S M : Type 0} (disk : DiskGhosts D) (store : StoreGhosts S) (meta : MetaGhosts M) where
-  -- a partition's devices stand for this state
+  -- a partition's devices represent this state
   abbrev pub StandAs : PartitionId → Devices D S M → D → State → Type 0
   StandAs partition devices registry p =
       StandsFor disk store meta partition devices.disks.items devices.store devices.meta registry p
 
-  -- they stand for what is left of a state with the safety rules, to which entries of the lists lead from p
+  -- they represent what is left of a state with the safety rules, to which entries of the lists lead from p
   pub record IsLedFrom (partition : PartitionId) (lists : List ActorList) (devices : Devices D S M) (registry : D)
       (p : State) : Type 0 where
     pub journal : List JournalEntry
@@ -74,9 +74,9 @@ module _ {D S M : Type 0} (disk : DiskGhosts D) (store : StoreGhosts S) (meta : 
     pub safe : PlainSafe last
     pub stand : StandAs partition devices registry (cold_of last)
 
-  -- A run over these devices stopped, before its first turn or after one, and left those. They stand for each state that the
-  -- devices stood for, or for what is left of one to which commands lead from there. Where the devices held nothing, they still
-  -- do, or the run began in the fresh state.
+  -- A run over these devices stopped, before its first turn or after one, and left those. They represent each state
+  -- that the devices represented, or what is left of one to which commands lead from there. Where the devices held
+  -- nothing, they still do, or the run began in the fresh state.
   pub record IsStopped (config : Config) (part : PartScript) (devices : Devices D S M) (registry : D)
       (back : Devices D S M) (kept : D) : Type 0 where
     pub from : (p : State) → StandAs part.partition devices registry p
@@ -97,8 +97,8 @@ module _ {D S M : Type 0} (disk : DiskGhosts D) (store : StoreGhosts S) (meta : 
   abbrev pub AllRest : YardContent D S M → YardContent D S M → Type 0
   AllRest old new = (p : PartitionId) → RestsIn p old new
 
-  -- A partition's run was refused once its devices were out: they had what the yard held before, and it holds now what
-  -- came back.
+  -- A partition's run was refused once its devices were out: they had what the environment held before, and it holds
+  -- now what came back.
   pub record IsStoppedIn (config : Config) (part : PartScript) (was held : YardContent D S M) : Type 0 where
     pub devices : Devices D S M
     pub registry : D

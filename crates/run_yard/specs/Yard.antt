@@ -1,4 +1,4 @@
--- What a run does to a yard: a partition's devices go out and come back, and those of others rest.
+-- What a run does to an environment: a partition's devices go out and come back, and those of others rest.
 --
 --   form                        says
 --   SameOf p old new            of partition p the same devices are held
@@ -30,7 +30,7 @@ module _ {D S M : Type 0} (disk : DiskGhosts D) (store : StoreGhosts S) (meta : 
   cames_of devices registry = (map (came_of disk.control) devices.disks.items ++ came_of store.control devices.store ∷ came_of meta.control devices.meta ∷ [])
       ++ came_of disk.control registry ∷ []
 
--- the faults of a yard after devices came back so
+-- the faults of an environment after devices came back so
 abbrev pub faults_with : List Came → ℕ → ℕ
 faults_with [] n = n
 faults_with (came ∷ more) n = faults_with more (if is_fault came then counted n 1 else n)
@@ -49,7 +49,7 @@ pub record CameBack (came : List Came) (old new : Control) : Type 0 where
   pub returned : new.returned ≡ old.returned ++ came
   pub out : new.out + length came ≡ old.out
 
--- as many are out as before; the count of faults, which stands still at its type's end, doesn't fall
+-- as many are out as before; the count of faults, which stays at its type's greatest value, doesn't fall
 pub record Uses (came : List Came) (old new : Control) : Type 0 where
   pub never_falls : counted old.faults 0 ≤ new.faults
   pub named : new.named ≡ old.named
@@ -68,7 +68,7 @@ module _ {D S M : Type 0} where
     pub log : new.logs p ≡ old.logs p
     pub registry : new.registries p ≡ old.registries p
 
-  -- it goes on telling or not, and where it tells
+  -- it continues reporting or not, and where it is observable
   pub record OnlyOf (partition : PartitionId) (old new : YardContent D S M) : Type 0 where
     pub is_observable : new.is_observable ≡ old.is_observable
     pub others : IsTrue old.is_observable → (p : PartitionId) → p ≢ partition → SameOf p old new
@@ -90,7 +90,7 @@ module _ {D S M : Type 0} where
     pub past : IsTrue old.is_observable → KeepsFrom partition (length disks) old new
     pub rest : IsTrue old.is_observable → KeepsRest partition old new
 
-  -- the yard holds these devices of the partition, but for the disk of its registry
+  -- the environment holds these devices of the partition, but for the disk of its registry
   pub record Holds (partition : PartitionId) (devices : Devices D S M) (held : YardContent D S M) : Type 0 where
     pub disks : (b : BrokerId) (disk : D) → slice_get devices.disks.items b.0 ≡ Some disk → held.disks partition b ≡ Some disk
     pub store : held.stores partition ≡ Some devices.store

@@ -16,7 +16,7 @@ use registry_disk::{FindRefusal, find_registry};
 use script_lang::PartScript;
 use tier_base::PartitionId;
 
-/// Whether a run with so many brokers goes on from what was found.
+/// Whether a run with so many brokers continues from what was found.
 fn judge(found: Result<Option<RegView>, FindRefusal>, asked: u16) -> Result<(), ColdRefusal>
     ensures { result ≡ judged asked found }
 {
@@ -31,7 +31,7 @@ fn judge(found: Result<Option<RegView>, FindRefusal>, asked: u16) -> Result<(), 
     }
 }
 
-/// Reads a partition's registry, and refuses one that no run with so many brokers goes on from.
+/// Reads a partition's registry, and refuses one that no run with so many brokers continues from.
 fn check_one<Y: Yard>(yard: &mut Y, partition: PartitionId, asked: u16) -> Result<(), YardRefusal>
     requires before { IsTrue (Y.held yard.old).is_observable → (q : Id) → q.0 < partition.0
         → Suits Y.D.content Y.S.content Y.M.content asked (Y.held yard.old) q }
@@ -59,7 +59,8 @@ fn check_one<Y: Yard>(yard: &mut Y, partition: PartitionId, asked: u16) -> Resul
     }
 }
 
-/// Reads the registry of each partition, in rising order, and refuses the first that no run with so many brokers goes on from.
+/// Reads the registry of each partition, in rising order, and refuses the first that no run with so many brokers
+/// continues from.
 pub(crate) fn check_all<Y: Yard>(
     yard: &mut Y,
     parts: &[PartScript],

@@ -1,6 +1,6 @@
-//! Handing out a partition's devices.
+//! Providing a partition's devices.
 //!
-//! Where one of them can't be had, those that were handed out so far go back.
+//! Where one of them can't be had, those that were provided so far go back.
 
 ghost use Rattle.std.specs.Prelude.{◌≡◌, ◌+◌, ◌≤◌, List, length, IfOk, OnOk, OnErr, IsErrOf, IsTrue};
 ghost use Rattle.tier_base.specs.Counts.{Rose};
@@ -16,7 +16,7 @@ use partition_world::Devices;
 use std::alloc::Global;
 use tier_base::{BrokerId, PartitionId, Trouble};
 
-/// Hands out the disks of a partition's first so many brokers, in their order.
+/// Provides the disks of a partition's first so many brokers, in their order.
 fn hand_disks<Y: Yard>(
     alloc: Global,
     yard: &mut Y,
@@ -49,7 +49,7 @@ fn hand_disks<Y: Yard>(
     Ok(disks)
 }
 
-/// Hands out a partition's devices but the disk of its registry, so many disks among them.
+/// Provides a partition's devices but the disk of its registry, so many disks among them.
 fn hand_devices<Y: Yard>(
     alloc: Global,
     yard: &mut Y,
@@ -88,7 +88,7 @@ fn hand_devices<Y: Yard>(
     }
 }
 
-/// Hands out a partition's devices, so many disks among them, and the disk of its registry.
+/// Provides a partition's devices, so many disks among them, and the disk of its registry.
 pub(crate) fn hand_out<Y: Yard>(
     alloc: Global,
     yard: &mut Y,

@@ -1,4 +1,4 @@
-//! Giving a partition's devices back to their yard.
+//! Giving a partition's devices back to their environment.
 
 ghost use Rattle.std.specs.Prelude.{◌≡◌, ◌+◌, ◌≤◌, ◌++◌, ◌∷◌, [], List, map, length, IsTrue};
 ghost use Rattle.run_yard.specs.Yard.{came_of, cames_of, CameBack, KeepsDisks, KeepsDevices, KeepsAll};

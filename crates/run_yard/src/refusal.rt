@@ -1,4 +1,4 @@
-//! Why a script could not be run over a yard.
+//! Why a script could not be run over an environment.
 
 ghost use Rattle.std.specs.Prelude.{◌≡◌};
 ghost use Rattle.run_yard.specs.Refusals.{of_trouble, of_cold};
@@ -6,11 +6,11 @@ ghost use Rattle.run_yard.specs.Refusals.{of_trouble, of_cold};
 use cold_start::ColdRefusal;
 use tier_base::{PartitionId, Trouble};
 
-/// Why a script could not be run over a yard. Each device that was handed out is back.
+/// Why a script could not be run over an environment. Each device that was provided is back.
 #[derive(Clone, Copy, Debug, PartialEq, Eq)]
 pub enum YardRefusal {
-    /// A call of the yard failed, or one of the disk of a partition's registry; or one of another device of a partition, before
-    /// its first command.
+    /// A call of the environment failed, or one of the disk of a partition's registry; or one of another device of a
+    /// partition, before its first command.
     Fault,
     /// The registry of this partition, the first such, was kept for another count of brokers than the script has.
     Mismatch {

@@ -52,9 +52,9 @@ fn trace<D: Disk, S: Store, M: MetaLog>(
     }
 }
 
-/// Runs a partition's lists over its devices and the disk of its registry, by its schedule, and gives them back with the trace.
-/// It goes on where an earlier run ended, and begins at the beginning where nothing was ever kept. What faults the script plans
-/// isn't looked at: the devices have their own.
+/// Runs a partition's lists over its devices and the disk of its registry, by its schedule, and gives them back with
+/// the trace. It continues where an earlier run ended, and begins at the beginning where nothing was ever kept. What
+/// faults the script plans isn't looked at: the devices have their own.
 pub fn run_on<D: Disk, S: Store, M: MetaLog>(
     alloc: Global,
     config: Config,
@@ -72,7 +72,7 @@ pub fn run_on<D: Disk, S: Store, M: MetaLog>(
         result.0 result.1) }
     ensures refused { IfErr result.2 (λ why. IsRefused D.Disk M.MetaLog config.brokers devices registry result.0 result.1 why) }
 
-    // A refusal leaves devices that stand for the state before the run, or for what is left of one to which commands led.
+    // A refusal leaves devices that represent the state before the run, or what is left of one to which commands led.
     ensures stopped { OnErr result.2 (IsStopped D.Disk S.Store M.MetaLog config part devices registry
         result.0 result.1) }
 

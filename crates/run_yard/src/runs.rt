@@ -1,4 +1,4 @@
-//! Runs over a yard: of a partition, and of a whole script.
+//! Runs over an environment: of a partition, and of a whole script.
 
 ghost use Rattle.std.specs.Prelude.{◌≡◌, ◌⊎◌, ◌++◌, All, IfOk, IfErr, OnOk, OnErr, IsTrue};
 ghost use Rattle.tier_base.specs.declared.names.PartitionId.{PartitionId as Id};
@@ -22,7 +22,7 @@ use script_lang::PartScript;
 use std::alloc::{AllocError, Global};
 use tier_base::Row;
 
-/// Runs a partition over its devices in the yard, and answers the trace.
+/// Runs a partition over its devices in the environment, and returns the trace.
 fn run_part<Y: Yard>(
     alloc: Global,
     yard: &mut Y,
@@ -60,7 +60,7 @@ fn run_part<Y: Yard>(
     }
 }
 
-/// Puts a text behind another.
+/// Puts a text after another.
 pub fn joined(front: Vec<u8>, back: Vec<u8>) -> Result<Vec<u8>, AllocError>
     ensures { IfOk result (λ text. text.items ≡ front.items ++ back.items) }
 {
@@ -72,7 +72,7 @@ pub fn joined(front: Vec<u8>, back: Vec<u8>) -> Result<Vec<u8>, AllocError>
     Ok(text)
 }
 
-/// Runs each partition over its devices in a yard, in rising order, and answers the trace.
+/// Runs each partition over its devices in an environment, in rising order, and returns the trace.
 fn run_parts<Y: Yard>(
     alloc: Global,
     yard: &mut Y,
@@ -107,9 +107,9 @@ fn run_parts<Y: Yard>(
     Ok(text)
 }
 
-/// Runs each partition of a script over its devices in a yard, in rising order, and answers the trace. The registries are read
-/// first, and where one of them refuses the run nothing is run. What faults the script plans isn't looked at: the devices have
-/// their own. Each device that is handed out comes back.
+/// Runs each partition of a script over its devices in an environment, in rising order, and returns the trace. The
+/// registries are read first, and where one of them refuses the run nothing is run. What faults the script plans isn't
+/// looked at: the devices have their own. Each device that is provided comes back.
 pub fn run_in_yard<Y: Yard>(
     alloc: Global,
     yard: &mut Y,
@@ -124,7 +124,8 @@ pub fn run_in_yard<Y: Yard>(
         → IsBare Y.D.content Y.S.content Y.M.content (Y.held yard.old) p → ⊥ }
     ensures text { IfOk result (λ text. IsReadAndRun Y.D.Disk Y.S.Store Y.M.MetaLog config parts (Y.held yard.old) (Y.held yard.new) text.items (Y.control yard.old) (Y.control yard.new)) }
 
-    // Each refusal has its cause: a fault the yard has counted, another count of brokers or a damaged file was read.
+    // Each refusal has its cause: a fault the environment has counted, another count of brokers or a damaged file was
+    // read.
     ensures refused { IfErr result (IsRefusedSo Y.D.content Y.S.content Y.M.content config.brokers (Y.held yard.old) (Y.held yard.new)
         (Y.control yard.old) (Y.control yard.new)) }
 

@@ -14,7 +14,7 @@ is_later_cause Field = false
 is_later_cause Hex = false
 is_later_cause other = true
 
--- the words of the lines have a reading, up to the first line that is refused for another cause
+-- the words of the lines are valid, up to the first line that is refused for another cause
 abbrev pub words_read : Result Script (ℕ × Why) → Bool
 words_read (Ok script) = true
 words_read (Err (line, why)) = is_later_cause why
@@ -23,11 +23,11 @@ words_read (Err (line, why)) = is_later_cause why
 abbrev pub HasWords : List ℕ → Type 0
 HasWords script = words_read (script_in script) ≡ true
 
--- the last line can go on to one whose words have a reading
+-- the last line can continue to one whose words are valid
 pub record GoesOn (script : List ℕ) : Type 0 where
   pub tail : List ℕ
   pub reads : HasWords (script ++ tail)
 
--- a word behind a text
+-- a word after a text
 abbrev pub then_word : List ℕ → List ℕ → List ℕ
 then_word head word = head ++ 32 ∷ word

@@ -16,7 +16,7 @@ pub record IsHead (text head : List ℕ) : Type 0 where
   pub some : 0 < length head
   pub last : is_blank (slice_index_or head (length head - 1) 32) ≡ false
 
--- a word of the text begins there: no blank stands there, and a blank or nothing right before
+-- a word of the text begins there: no blank is there, and a blank or nothing right before
 pub record BeginsWord (text : List ℕ) (at : ℕ) : Type 0 where
   pub within : at < length text
   pub own : is_blank (slice_index_or text at 32) ≡ false

@@ -17,7 +17,7 @@ shown_byte b = if b == 9 then 32 else if nat_le 32 b && nat_le b 126 then b else
 abbrev pub line_shown : List ℕ → ℕ → List ℕ
 line_shown part at = codes "    " ++ map shown_byte part ++ 10 ∷ codes "    " ++ replicate at 32 ++ 94 ∷ 10 ∷ []
 
--- the part of a text that is shown, and where one of the text's columns stands in it
+-- the part of a text that is shown, and where one of the text's columns is in it
 pub record IsWindow (text : List ℕ) (column : ℕ) (part : List ℕ) (at : ℕ) : Type 0 where
   pub left : List ℕ
   pub right : List ℕ
@@ -37,7 +37,7 @@ pub record IsEnded (text : List ℕ) : Type 0 where
   pub parts : text ≡ body ++ 10 ∷ []
 
 -- the text shows a line of the script with a caret under a word or at the line's end, where no byte is at fault, and
--- goes on to the end of a line
+-- continues to the end of a line
 pub record Explains (script : List ℕ) (why : Why) (text : List ℕ) : Type 0 where
   pub line : List ℕ
   pub of_script : IsPart line script

@@ -1,9 +1,9 @@
--- What may be told as right behind a script's bytes so far: only what leads on to a line that has a reading.
+-- What may be reported as right after a script's bytes so far: only what still leads to a line that is valid.
 use Rattle.std.specs.Prelude.{◌≡◌, ℕ, true, List, All, IfSome, codes, string_bytes}
 use Rattle.script_help.specs.declared.wanted.Wanted.{Wanted}
 use Rattle.script_help.specs.Asked.{HasWords, GoesOn, then_word}
 
--- each word, the ends of the range, a record and digits lead on, and the line may end where that is told
+-- each word, the ends of the range, a record and digits lead on, and the line may end where that is reported
 pub record LeadsOn (head : List ℕ) (wanted : Wanted) : Type 0 where
   pub words : All (λ word. GoesOn (then_word head word.now)) wanted.words.items
   pub low : IfSome wanted.numbers (λ numbers. GoesOn (then_word head (string_bytes numbers.low)))

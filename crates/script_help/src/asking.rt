@@ -20,11 +20,11 @@ fn is_later_cause(why: Why) -> bool
 /// What the reader says of the words of a script's lines.
 #[derive(Clone, Copy, PartialEq, Eq)]
 enum Answer {
-    /// They have a reading.
+    /// They are valid.
     Read,
     /// A word is unknown, missing, or one too many: a further one may be what is missing.
     Word,
-    /// A word or a byte that is there has no reading, or none was asked for, of 2^31 bytes and more.
+    /// A word or a byte that is there is invalid, or none was asked for, of 2^31 bytes and more.
     Never,
 }
 
@@ -44,7 +44,7 @@ fn ask_reader(alloc: Global, script: &[u8]) -> Result<Answer, AllocError>
     }
 }
 
-/// Whether the words of a script's lines have a reading. Of 2^31 bytes and more that isn't told.
+/// Whether the words of a script's lines are valid. Of 2^31 bytes and more that isn't reported.
 pub fn has_words(alloc: Global, script: &[u8]) -> Result<bool, AllocError>
     ensures { IfOk result (λ yes. yes ≡ true → HasWords script.now) }
 {
@@ -54,7 +54,7 @@ pub fn has_words(alloc: Global, script: &[u8]) -> Result<bool, AllocError>
     }
 }
 
-/// A text with another one behind it.
+/// A text with another one after it.
 pub fn with_text(alloc: Global, head: &[u8], text: &str) -> Result<Vec<u8>, AllocError>
     ensures { IfOk result (λ all. all.items ≡ head.now ++ text.now) }
 {
@@ -63,7 +63,7 @@ pub fn with_text(alloc: Global, head: &[u8], text: &str) -> Result<Vec<u8>, Allo
     Ok(all)
 }
 
-/// A text with a word behind it.
+/// A text with a word after it.
 pub fn with_word(alloc: Global, head: &[u8], word: &str) -> Result<Vec<u8>, AllocError>
     ensures { IfOk result (λ all. all.items ≡ then_word head.now word.now) }
 {
@@ -72,7 +72,7 @@ pub fn with_word(alloc: Global, head: &[u8], word: &str) -> Result<Vec<u8>, Allo
     Ok(all)
 }
 
-/// One of the tails by which the last line of a script goes on to one that has a reading, if there is one.
+/// One of the tails by which the last line of a script continues to one that is valid, if there is one.
 pub fn find_tail(alloc: Global, head: &[u8]) -> Result<Option<&'static str>, AllocError>
     ensures { IfOk result (λ found. IfSome found (λ tail. HasWords (head.now ++ tail.now))) }
 {
@@ -80,7 +80,7 @@ pub fn find_tail(alloc: Global, head: &[u8]) -> Result<Option<&'static str>, All
         let script = with_text(alloc, head, tail)?;
         match ask_reader(alloc, script.as_slice())? {
             Answer::Read => return Ok(Some(*tail)),
-            // The head itself has no reading, so no tail gives it one.
+            // The head itself is invalid, so no tail gives it one.
             Answer::Never if tail.is_empty() => return Ok(None),
             _ => {}
         }
@@ -88,7 +88,7 @@ pub fn find_tail(alloc: Global, head: &[u8]) -> Result<Option<&'static str>, All
     Ok(None)
 }
 
-/// Whether the last line of a script can go on to one that has a reading.
+/// Whether the last line of a script can continue to one that is valid.
 pub fn goes_on(alloc: Global, head: &[u8]) -> Result<bool, AllocError>
     ensures { IfOk result (λ yes. yes ≡ true → GoesOn head.now) }
 {
@@ -98,7 +98,7 @@ pub fn goes_on(alloc: Global, head: &[u8]) -> Result<bool, AllocError>
     }
 }
 
-/// Whether the last line of a script can go on by a word.
+/// Whether the last line of a script can continue by a word.
 pub fn goes_on_with(alloc: Global, head: &[u8], word: &str) -> Result<bool, AllocError>
     ensures { IfOk result (λ yes. yes ≡ true → GoesOn (then_word head.now word.now)) }
 {

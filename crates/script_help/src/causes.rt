@@ -4,7 +4,7 @@ use crate::line::{first_word, last_word};
 use crate::words::{COMMANDS, OPTIONS};
 use script_lang::Why;
 
-/// What is wrong, where a word stands at the place or none does, and where the line may only end there.
+/// What is wrong, where a word is at the place or none does, and where the line may only end there.
 pub fn cause(why: Why, is_there: bool, is_end: bool) -> &'static str {
     match why {
         Why::NotText => "this byte isn't allowed: a line has printable ASCII, spaces and tabs",
@@ -36,7 +36,7 @@ fn among(table: &[&'static str], word: &[u8]) -> Option<&'static str> {
     None
 }
 
-/// The section that speaks of a line whose words have no reading, by its words before the bad one.
+/// The section that speaks of a line whose words are invalid, by its words before the bad one.
 fn section_of_words(text: &[u8], heads: &[&[u8]]) -> &'static str {
     let word = first_word(text);
     if among(&OPTIONS, word).is_some() {

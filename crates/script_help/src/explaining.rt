@@ -46,7 +46,7 @@ fn are_commands(words: &[&'static str]) -> bool {
     1 < words.len() && words.iter().all(|word| COMMANDS.contains(word))
 }
 
-/// What stands before the first thing.
+/// What precedes the first thing.
 fn lead(wanted: &Wanted) -> &'static str {
     if are_commands(wanted.words.as_slice()) {
         "expected a command, one of "
@@ -55,7 +55,7 @@ fn lead(wanted: &Wanted) -> &'static str {
     }
 }
 
-/// What stands before the i-th of so many things, where there are things before it.
+/// What precedes the i-th of so many things, where there are things before it.
 fn between(i: usize, count: usize) -> &'static str
     requires { i < count }
 {
@@ -94,7 +94,7 @@ fn wanted_at(
     script.extend_from_slice(place.head)?;
     let mut wanted = ask(alloc, script.as_slice())?;
     if place.head.is_empty() {
-        // An empty line has a reading, but nobody wants to be told so.
+        // An empty line is valid, but nobody needs to know that.
         wanted.may_end = false;
     }
     Ok(wanted)
@@ -112,7 +112,7 @@ fn told(alloc: Global, cause: &str, wanted: &Wanted, section: &str) -> Result<St
     Ok(text)
 }
 
-/// A line with a caret under a column, and a text behind them.
+/// A line with a caret under a column, and a text after them.
 fn joined(alloc: Global, text: &[u8], column: usize, told: &str) -> Result<String, AllocError>
     requires { IsEnded told.now }
     ensures { (script : List ℕ) (why : Why) → IsPart text.now script → (why ≢ Why.NotText → IsUnder text.now column)
@@ -124,8 +124,8 @@ fn joined(alloc: Global, text: &[u8], column: usize, told: &str) -> Result<Strin
     Ok(out)
 }
 
-/// Explains why the line of this number is the first of a script that has no reading: the line, a caret under the word
-/// that is wrong, the cause, what would be right there, and where to read of it.
+/// Explains why the line of this number is the first of a script that is invalid: the line, a caret under the word that
+/// is wrong, the cause, what would be right there, and where to read of it.
 pub fn explanation(alloc: Global, script: &[u8], line: u32, why: Why) -> Result<String, AllocError>
     ensures { IfOk result (λ out. Explains script.now why (string_bytes out)) }
 {

@@ -1,12 +1,12 @@
-//! A source that keeps what it hands over.
+//! A source that keeps what it passes on.
 
 ghost use Rattle.std.specs.Prelude.{◌≡◌};
 
 use std::alloc::Global;
 use tier_base::{Failed, Source};
 
-/// A source over another one, which keeps what that one gives, or passes it on alone. After want of memory it keeps
-/// nothing more.
+/// A source over another one, which keeps what that one gives, or passes it on alone. After running out of memory it
+/// keeps nothing more.
 #[derive(Drop)]
 pub struct KeptSource<R: Source + Drop> {
     inner: R,
@@ -44,7 +44,7 @@ impl<R: Source + Drop> KeptSource<R> {
     }
 }
 
-/// Bytes with more behind them, or nothing where there is no memory for them.
+/// Bytes with more after them, or nothing where there is no memory for them.
 fn with_more(kept: Option<Vec<u8>>, more: &[u8]) -> Option<Vec<u8>> {
     let mut bytes = kept?;
     match bytes.extend_from_slice(more) {

@@ -7,7 +7,7 @@ ghost use Rattle.script_help.specs.Places.{IsPart, IsHead};
 
 use std::alloc::{AllocError, Global};
 
-/// Whether a byte stands between words.
+/// Whether a byte is between words.
 fn is_blank(byte: u8) -> bool
     ensures { result ≡ is_blank byte }
 {
@@ -52,7 +52,7 @@ fn without_return(line: &[u8]) -> &[u8]
     }
 }
 
-/// The first line, without its end, and the lines behind it.
+/// The first line, without its end, and the lines after it.
 pub fn first_line(bytes: &[u8]) -> (&[u8], &[u8])
     ensures line { IsPart result.0.now bytes.now }
     ensures shorter { 0 < length bytes.now → length result.1.now < length bytes.now }
@@ -104,7 +104,7 @@ pub fn heads<'a>(alloc: Global, text: &'a [u8]) -> Result<Vec<&'a [u8]>, AllocEr
     Ok(heads)
 }
 
-/// Where the last word of a text begins. A blank at its end is behind the last word.
+/// Where the last word of a text begins. A blank at its end is after the last word.
 pub fn last_word_at(text: &[u8]) -> usize
     ensures place { IsAfterLastMatch is_blank text.now result }
     ensures within { result ≤ length text.now }
@@ -123,7 +123,7 @@ pub fn last_word(text: &[u8]) -> &[u8] {
     text.split_at(last_word_at(text)).1
 }
 
-/// What stands before the first blank.
+/// What precedes the first blank.
 fn front_word(text: &[u8]) -> &[u8] {
     for (i, byte) in text.iter().enumerate() {
         if is_blank(*byte) {

@@ -6,7 +6,7 @@ ghost use Rattle.script_help.specs.Asked.{HasWords, GoesOn, then_word};
 use crate::asking::{find_tail, has_words, with_text, with_word};
 use std::alloc::{AllocError, Global};
 
-/// Two numbers by which a line can go on, and by which it can where one lies between.
+/// Two numbers by which a line can continue, and by which it can where one lies between.
 #[derive(Drop)]
 pub struct Numbers {
     pub low: String,
@@ -26,7 +26,7 @@ fn spelled(alloc: Global, number: u64) -> Result<String, AllocError>
     format!(in alloc; "{number}")
 }
 
-/// Whether a line goes on by a word and this tail.
+/// Whether a line continues by a word and this tail.
 fn goes_by(alloc: Global, head: &[u8], word: &str, tail: &str) -> Result<bool, AllocError>
     ensures { IfOk result (λ yes. yes ≡ true → HasWords (then_word head.now word.now ++ tail.now)) }
 {
@@ -35,7 +35,7 @@ fn goes_by(alloc: Global, head: &[u8], word: &str, tail: &str) -> Result<bool, A
     has_words(alloc, script.as_slice())
 }
 
-/// The least number by which the line goes on, where this is one.
+/// The least number by which the line continues, where this is one.
 fn least(alloc: Global, head: &[u8], tail: &str, some: u64) -> Result<String, AllocError>
     requires { HasWords (then_word head.now (decimal some) ++ tail.now) }
     ensures { IfOk result (λ low. HasWords (then_word head.now (string_bytes low) ++ tail.now)) }
@@ -48,7 +48,7 @@ fn least(alloc: Global, head: &[u8], tail: &str, some: u64) -> Result<String, Al
     spelled(alloc, some)
 }
 
-/// The greatest number by which the line goes on, where this is one.
+/// The greatest number by which the line continues, where this is one.
 fn greatest(alloc: Global, head: &[u8], tail: &str, some: u64) -> Result<String, AllocError>
     requires within { some < 2 ^ 63 }
     requires goes { HasWords (then_word head.now (decimal some) ++ tail.now) }
@@ -68,7 +68,7 @@ fn greatest(alloc: Global, head: &[u8], tail: &str, some: u64) -> Result<String,
     spelled(alloc, good)
 }
 
-/// The numbers by which a line can go on where this is one, if it is.
+/// The numbers by which a line can continue where this is one, if it is.
 fn numbers_round(alloc: Global, head: &[u8], some: u64) -> Result<Option<Numbers>, AllocError>
     requires { some < 2 ^ 63 }
     ensures low { IfOk result (λ found. IfSome found (λ n. GoesOn (then_word head.now (string_bytes n.low)))) }
@@ -84,7 +84,7 @@ fn numbers_round(alloc: Global, head: &[u8], some: u64) -> Result<Option<Numbers
     Ok(Some(Numbers { low, high }))
 }
 
-/// The numbers by which a line can go on, if there are some. Each range has one of those that are asked for first.
+/// The numbers by which a line can continue, if there are some. Each range has one of those that are asked for first.
 pub fn numbers_at(alloc: Global, head: &[u8]) -> Result<Option<Numbers>, AllocError>
     ensures low { IfOk result (λ found. IfSome found (λ n. GoesOn (then_word head.now (string_bytes n.low)))) }
     ensures high { IfOk result (λ found. IfSome found (λ n. GoesOn (then_word head.now (string_bytes n.high)))) }

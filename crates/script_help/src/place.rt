@@ -19,7 +19,7 @@ fn gives_count(word: &[u8]) -> bool {
     word == b"brokers".as_slice() || word == b"partitions".as_slice()
 }
 
-/// Adds a line's first two words, with one blank behind each, however many the line has there.
+/// Adds a line's first two words, with one blank after each, however many the line has there.
 fn push_count(alloc: Global, counts: &mut Vec<u8>, line: &[u8]) -> Result<(), AllocError> {
     let heads = heads(alloc, line)?;
     for head in heads.split_at(heads.len().min(2)).0 {
@@ -44,7 +44,7 @@ pub fn counts_of(alloc: Global, lines: &[u8]) -> Result<Vec<u8>, AllocError> {
     Ok(counts)
 }
 
-/// Where the first byte is that can't stand in a line.
+/// Where the first byte is that can't be in a line.
 fn bad_byte_at(text: &[u8]) -> usize
     ensures { result ≤ length text.now }
 {
@@ -56,7 +56,7 @@ fn bad_byte_at(text: &[u8]) -> usize
     text.len()
 }
 
-/// Whether a script can go on behind the lines of these counts and a part of its line.
+/// Whether a script can continue after the lines of these counts and a part of its line.
 fn goes_on_behind(alloc: Global, counts: &[u8], head: &[u8]) -> Result<bool, AllocError>
     ensures { IfOk result (λ yes. yes ≡ true → GoesOn (counts.now ++ head.now)) }
 {
@@ -65,7 +65,7 @@ fn goes_on_behind(alloc: Global, counts: &[u8], head: &[u8]) -> Result<bool, All
     goes_on(alloc, script.as_slice())
 }
 
-/// How many of a line's first words have a reading, `most` at most: up to the last one behind which the line can go on.
+/// How many of a line's first words are valid, `most` at most: up to the last one after which the line can continue.
 fn count_first(
     alloc: Global,
     counts: &[u8],
@@ -90,12 +90,12 @@ fn count_first(
     Ok(good)
 }
 
-/// What stands in a text behind as many bytes as another one has.
+/// What is in a text after as many bytes as another one has.
 fn behind<'a>(text: &'a [u8], front: &[u8]) -> &'a [u8] {
     text.split_at(front.len().min(text.len())).1
 }
 
-/// Whether a line's first words can go on by others of its words alone.
+/// Whether a line's first words can continue by others of its words alone.
 fn goes_on_by(
     alloc: Global,
     counts: &[u8],
@@ -107,8 +107,8 @@ fn goes_on_by(
     goes_on_behind(alloc, counts, head.as_slice())
 }
 
-/// How many words of a line have a reading where its first ones, so many, have and each further one is read by itself.
-/// What was read isn't asked for again, so this takes no longer than the line is read once.
+/// How many words of a line are valid where its first ones, so many, have and each further one is read by itself. What
+/// was read isn't asked for again, so this takes no longer than the line is read once.
 fn count_further(
     alloc: Global,
     counts: &[u8],
@@ -134,8 +134,8 @@ fn count_further(
     Ok(good)
 }
 
-/// How many words of a line have a reading: up to the last one behind which the line can go on. A line that has one
-/// with more than a few words is an append, and each further word a record.
+/// How many words of a line are valid: up to the last one after which the line can continue. A line that has one with
+/// more than a few words is an append, and each further word a record.
 fn count_readable(alloc: Global, counts: &[u8], heads: &[&[u8]]) -> Result<usize, AllocError>
     ensures within { IfOk result (λ count. count ≤ length heads.now) }
     ensures goes { IfOk result (λ count. 0 < count
@@ -173,9 +173,9 @@ fn word_of(why: Why, heads: &[&[u8]]) -> usize {
 pub struct TextPlace<'a> {
     /// The text up to the end of the word before.
     pub head: &'a [u8],
-    /// Where the caret stands in the text.
+    /// Where the caret is in the text.
     pub column: usize,
-    /// Whether a word, or a bad byte, stands there.
+    /// Whether a word, or a bad byte, is there.
     pub is_there: bool,
 }
 
@@ -215,7 +215,7 @@ fn number_of(alloc: Global, counts: &[u8], heads: &[&[u8]], why: Why) -> Result<
     }
 }
 
-/// Finds the place of a cause in a line's text, behind these counts.
+/// Finds the place of a cause in a line's text, after these counts.
 pub fn find_place<'a>(
     alloc: Global,
     counts: &[u8],

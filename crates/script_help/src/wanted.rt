@@ -49,7 +49,7 @@ impl Wanted {
     }
 }
 
-/// The words, and those of a table by which a line can go on.
+/// The words, and those of a table by which a line can continue.
 fn with_words(
     alloc: Global,
     words: Vec<&'static str>,
@@ -76,7 +76,7 @@ fn ends_line(head: &[u8]) -> bool {
     }
 }
 
-/// The words by which a line can go on. Some are worth asking for only where it begins, the others only behind that.
+/// The words by which a line can continue. Some are worth asking for only where it begins, the others only after that.
 fn words_at(alloc: Global, head: &[u8]) -> Result<Vec<&'static str>, AllocError>
     ensures { IfOk result (λ words. All (λ word. GoesOn (then_word head.now word.now)) words.items) }
 {
@@ -89,7 +89,7 @@ fn words_at(alloc: Global, head: &[u8]) -> Result<Vec<&'static str>, AllocError>
     with_words(alloc, words, head, &OTHERS)
 }
 
-/// What would be right behind a script's bytes so far, whose last line isn't ended: only what leads on to a reading.
+/// What would be right after a script's bytes so far, whose last line isn't ended: only what leads to a valid line.
 pub fn ask(alloc: Global, head: &[u8]) -> Result<Wanted, AllocError>
     ensures { IfOk result (LeadsOn head.now) }
 {

@@ -22,7 +22,7 @@ pub static COMMANDS: [&str; 23] = [
     "clock", "stop", "up",
 ];
 
-/// The words behind others.
+/// The words after others.
 pub static OTHERS: [&str; 20] = [
     "-",
     "earliest",
@@ -46,7 +46,7 @@ pub static OTHERS: [&str; 20] = [
     "after",
 ];
 
-/// What may stand behind the words so far of some line, for each place of each form.
+/// What may follow the words so far of some line, for each place of each form.
 pub static TAILS: [&str; 20] = [
     "",
     " 1",

@@ -5,7 +5,7 @@ use Rattle.script_lang.specs.Words.{value_of}
 step-same : (n k m : ℕ) → min (10 * min n m + k) m ≡ min (10 * n + k) m
 step-same n k m = omega arith
 
--- what was stopped before a digit stops behind it
+-- what was stopped before a digit stops after it
 value_of-capped : (ds : List ℕ) (n m : ℕ) → min (value_of (min n m) ds) m ≡ min (value_of n ds) m
 value_of-capped [] n m = omega arith
 value_of-capped (d ∷ ds) n m =

@@ -35,7 +35,7 @@ pub line-none : (t : Told) (n : ℕ) (bs : List ℕ) (why : Why) (all : Result T
     → lines_behind t n (lines_of bs) ≡ all → all ≡ Err (n, why)
 line-none t n bs why all some is read = sym read ∙ reading-first t n bs (Err why) some is
 
--- no line more, as the reader of a line tells it
+-- no line more, as the reader of a line reports it
 pub line-refused : (t : Told) (n : ℕ) (bs line : List ℕ) (refusal : ScriptRefusal) (all : Result Told (ℕ × Why)) → 0 < length bs → line ≡ take (line_len bs) bs
     → ReadsLine n (Err refusal) (line_behind t line) → lines_behind t n (lines_of bs) ≡ all → ReadsScript (Err refusal) all
 line-refused t n bs line (Bad number why) all some is reads read = rw (reads.0) (line-none t n bs why all some (ap (line_behind t) (sym is) ∙ reads.1) read)

@@ -14,7 +14,7 @@ front-cases : (is : ℕ → Bool) (t : Bool) (b k : ℕ) (bs : List ℕ) → sli
 front-cases is true b k bs h = refl
 front-cases is false b k bs h = rw (h, add-one k) refl
 
--- the first part, and those behind it
+-- the first part, and those after it
 pub split-front : (is : ℕ → Bool) (bs : List ℕ) → slice_split is bs ≡ take (front_len is bs) bs ∷ behind is (drop (front_len is bs) bs)
 split-front is [] = refl
 split-front is (b ∷ bs) = front-cases is (is b) b (front_len is bs) bs (split-front is bs)
@@ -50,7 +50,7 @@ pub front_len-le : (is : ℕ → Bool) (bs : List ℕ) → front_len is bs ≤ l
 front_len-le is [] = omega arith
 front_len-le is (b ∷ bs) = omega (arith, len-cases (is b) (front_len is bs) (length bs) (front_len-le is bs))
 
--- the first word, and those behind it
+-- the first word, and those after it
 pub words_of-front : (bs : List ℕ) → 0 < front_len is_blank bs → words_of bs ≡ take (front_len is_blank bs) bs ∷ words_of (drop (front_len is_blank bs) bs)
 unfolding words_of
 words_of-front bs h =
@@ -67,7 +67,7 @@ nonempty : (bs : List ℕ) → (length bs == 0) ≡ false → 0 < length bs
 nonempty [] h = cc
 nonempty (b ∷ bs) h = omega arith
 
--- the words left, from what stands behind the blanks
+-- the words left, from what follows the blanks
 pub first_word : (self : List (List ℕ)) (old rest : List ℕ) (why : Why) → self ≡ words_of old → words_of rest ≡ words_of old → (length rest == 0) ≡ false → (0 < length rest → 0 < front_len is_blank rest)
     → first_of self why ≡ Ok (take (front_len is_blank rest) rest, words_of (drop (front_len is_blank rest) rest))
 first_word self old rest why is same some h = ap (λ ws. first_of ws why) (is ∙ (sym same ∙ words_of-front rest (h (nonempty rest some))))

@@ -85,7 +85,7 @@ abbrev pub FitsBatch : Form → Type 0
 FitsBatch (Placed actor partition order at_once) = size_of order.command ≤ 1048576
 FitsBatch other = Unit {0}
 
--- counts behind these, with a form
+-- counts after these, with a form
 pub record AreCountsWith (before : Counts) (form : Form) (counts : Counts) : Type 0 where
   pub small : AreSmall counts
   pub commands : counts.commands ≡ before.commands + commands_of form

@@ -228,7 +228,7 @@ nothing_told = record {
   parts = empty_parts 0 64;
 }
 
--- a bound of the local log: -2 stands for the whole log's
+-- a bound of the local log: -2 represents the whole log's
 abbrev pub local_or_whole : ℤ → ℤ → ℤ
 local_or_whole local whole = if int_eq local (negsuc 1) then whole else local
 

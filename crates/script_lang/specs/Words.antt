@@ -72,7 +72,7 @@ signed_in below high word why =
     else if nat_le 2 below && bytes_eq word (codes "-2") then Ok (negsuc 1)
     else number_in 0 high word why >>= λ n. Ok (pos n)
 
--- the number that is the first word, and the words behind it
+-- the number that is the first word, and the words after it
 unfoldable pub number_first : ℕ → ℕ → List (List ℕ) → Result (ℕ × List (List ℕ)) Why
 number_first low high words = do
   word ← first_of words Word
@@ -86,7 +86,7 @@ only_number low high words = do
   end ← end_of number.1 Word
   Ok number.0
 
--- the same, where -1 or -2 may stand
+-- the same, where -1 or -2 may exist
 unfoldable pub only_signed : ℕ → ℕ → List (List ℕ) → Result ℤ Why
 only_signed below high words = do
   word ← first_of words Word

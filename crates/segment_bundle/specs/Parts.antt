@@ -5,7 +5,7 @@
 --   Index       its offset index
 --   TimeIndex   its time index, as closing the segment makes it
 --   Epochs      the text of the leader epochs that start at or below the segment's last offset
---   Pack        these four, one behind another
+--   Pack        these four, one after another
 --
 -- Source: KIP-405, LogSegmentData. The formats of the indexes and of the epochs are in the modules Offsets and Times of
 -- sparse_index and Text of epoch_line. The pack is ours: its layout (the module Layout of tier_base) is what KIP-917

@@ -115,7 +115,7 @@ impl Bundle {
         })
     }
 
-    /// The four parts, one behind another.
+    /// The four parts, one after another.
     fn pack(&self, alloc: Global) -> Result<Bytes, AllocError>
         ensures { IfOk result (λ bytes. bytes ≡ part_in self.now.parts Pack) }
     {

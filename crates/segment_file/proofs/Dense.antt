@@ -25,7 +25,7 @@ contains_last [] x e = absurd (cc)
 contains_last (y ∷ []) x e = subst (λ z. Contains (y ∷ []) z) (same_Some y x e) (contains_one y)
 contains_last (y ∷ z ∷ xs) x e = Contains-append_right (y ∷ []) (z ∷ xs) x (contains_last (z ∷ xs) x e)
 
--- no entry begins behind the bytes so far
+-- no entry begins after the bytes so far
 abbrev pub IsLow : Marks → Type 0
 IsLow marks = begun_at (last_of marks.entries) ≤ marks.size
 

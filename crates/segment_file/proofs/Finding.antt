@@ -1,4 +1,4 @@
--- A batch is found where it stands, and what is found stands there.
+-- A batch is found where it is, and what is found is there.
 use Rattle.std.proofs.Common.{◌≡◌, ◌∙◌, sym, refl, ℕ, zero, suc, ◌-◌, ◌==◌, ◌^◌, ◌<◌, ◌≤◌, nat_lt, Bool, true, false, List, [], ◌∷◌, ◌++◌, length, drop, slice_index, Result, Ok, Err, IsOk, arith, length-append, le-ltb}
 use Rattle.std.specs.Int.{w32}
 use Rattle.std.proofs.lemmas.Bool.{eqb-true}
@@ -12,7 +12,7 @@ use Rattle.record_batch.proofs.Passing.{passes, is_batch_of}
 use Rattle.segment_file.specs.declared.walking.Found.TheVariants as found
 use Rattle.segment_file.specs.Walk.{size_in, found_at}
 
--- what bytes behind a batch leave as it is
+-- what bytes after a batch leave as it is
 pub drop_append : (n : ℕ) (xs ys : List ℕ) → n ≤ length xs → drop n (xs ++ ys) ≡ drop n xs ++ ys
 drop_append zero xs ys h = refl
 drop_append (suc n) [] ys h = absurd (omega (arith, h))
@@ -44,7 +44,7 @@ head_kept batch rest long =
     let two : nat_lt (length batch) 61 ≡ false = le-ltb (length batch) 61 long in
     rw (one, two, index_append 16 batch rest (omega (arith, long)), length_field batch rest long) refl
 
--- a head tells the size of its batch
+-- a head gives the size of its batch
 pub size_told : (batch : List ℕ) (b : Batch) → checked batch ≡ Ok b → size_in (head_of batch) ≡ length batch
 unfolding head_of
 size_told batch b e =
@@ -70,7 +70,7 @@ not_empty n h = go (n == 0) refl
     go false e = e
     go true e = let none : n ≡ 0 = eqb-true n 0 e in absurd (omega (arith, h, none))
 
--- a batch is found where it stands
+-- a batch is found where it is
 found_front : (at : ℕ) (batch rest : List ℕ) (b : Batch) → checked batch ≡ Ok b → found_at at (batch ++ rest) ≡ found.Batch (head_of batch)
 unfolding found_at
 found_front at batch rest b e =
@@ -87,7 +87,7 @@ batch_found at batch rest ok = go (checked batch) refl ok
     go (Ok b) e ok = found_front at batch rest b e
     go (Err why) e ok = absurd (cc)
 
--- its head tells its size
+-- its head gives its size
 pub head_sized : (batch : List ℕ) → IsOk (checked batch) → size_in (head_of batch) ≡ length batch
 head_sized batch ok = go (checked batch) refl ok
   where

@@ -31,7 +31,7 @@ tos-adjacent first at (one ∷ two ∷ batches) (suc k) d laid l = tos-adjacent 
 tos-rise : (first at : ℕ) (batches : List Placed) → AreLaid first at batches → IsNonDecreasingBy (λ (b : Placed). b.to) batches
 tos-rise first at batches laid = IsNonDecreasingBy-from_all_adjacent (λ (b : Placed). b.to) batches (λ k d l. rw add-one (tos-adjacent first at batches k d laid (omega (arith, l))))
 
--- those that fit stand in front
+-- those that fit come first
 pub fits-parted : (first at bound top : ℕ) (batches : List Placed) → AreLaid first at batches → IsPartitionedBy (fits bound top) batches
 fits-parted first at bound top batches laid = λ i j d le lt both.
     let b = and_both _ _ both in
@@ -101,7 +101,7 @@ run_up bound top end at (b ∷ bs) laid = go (fits bound top b) refl (run_up bou
     go true e more = rw e (omega (arith, more, laid.1))
     go false e more = ended (nat_lt end bound) e refl
 
--- what stands behind the batches that end by an offset
+-- what follows the batches that end by an offset
 pub record Behind (base end : ℕ) (batches rest : List Placed) : Type 0 where
   pub laid : AreLaid (end_after base (ending_by end batches)) (size_after 0 (ending_by end batches)) rest
   pub end_is : end_after (end_after base (ending_by end batches)) rest ≡ end_after base batches

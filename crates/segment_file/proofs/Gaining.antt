@@ -100,7 +100,7 @@ line_push base (x ∷ xs) batch row =
     ap (λ es. (epoch_of x, base_of x) ∷ es) (line_after_push (epoch_of x) xs batch)
     ∙ sym (with_by (line_of (x ∷ xs)) (epoch_after (epoch_of x) xs) last.0 (epoch_of batch) (base_of batch) last.1)
 
--- a batch that may go on by its head does
+-- a batch that may continue by its head does
 goes_on : (base : ℕ) (bytes : List ℕ) (front : Gathered) (batch : List ℕ) (head : Head) → (g : IsGathered base bytes front) → IsOk (checked batch) → Tells batch head → MayGoOn base front.at front.end front.epoch head
     → GoesOn base g.batches batch
 goes_on base bytes front batch head g ok t m = record {
@@ -147,7 +147,7 @@ gathered_more base bytes front head g o =
           rw (g.epochs_are, t.epoch, start) (sym (line_push base g.batches batch g.is.consecutive)));
     }
 
--- no batch goes on, before the bytes' end
+-- no batch continues, before the bytes' end
 pub bad_place : (base : ℕ) (bytes : List ℕ) (front : Gathered) → AreBytes bytes → IsGathered base bytes front → NothingAt base bytes front → front.at < length bytes → IsBadPlace base bytes front.at
 bad_place base bytes front clean g nothing within =
     let rest = drop front.at bytes in

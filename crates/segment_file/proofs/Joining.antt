@@ -54,7 +54,7 @@ pub epoch_push : (epoch : ℕ) (xs : List (List ℕ)) (batch : List ℕ) → epo
 epoch_push epoch [] batch = refl
 epoch_push epoch (x ∷ xs) batch = epoch_push (epoch_of x) xs batch
 
--- a batch that goes on
+-- a batch that continues
 pub record GoesOn (base : ℕ) (batches : List (List ℕ)) (batch : List ℕ) : Type 0 where
   pub is : IsOk (checked batch)
   pub begins : base_of batch ≡ end_from base batches
@@ -110,7 +110,7 @@ segment_front base front rest s =
 pub nothing_joined : (base : ℕ) → base ≤ 2 ^ 62 → IsSegment base []
 nothing_joined base fits = record { checked = tt; consecutive = tt; epochs = tt; near = omega arith; low = fits; small = omega arith }
 
--- two lists that go on differently don't begin alike
+-- two lists that continue differently don't begin alike
 front_same : (xs ys cs ds : List ℕ) → length xs ≡ length ys → xs ++ cs ≡ ys ++ ds → (xs ≡ ys) × (cs ≡ ds)
 front_same [] [] cs ds l e = (refl, e)
 front_same [] (y ∷ ys) cs ds l e = absurd (omega (arith, l))
@@ -128,7 +128,7 @@ batch_same x y cs ds okx oky e =
     let same : head_of x ≡ head_of y = same_head (head_of x) (head_of y) (sym one ∙ (ap (found_at 0) e ∙ two)) in
     front_same x y cs ds (sym (head_sized x okx) ∙ (ap size_in same ∙ head_sized y oky)) e
 
--- what comes behind batches that stand at the front of others
+-- what comes after batches that are at the front of others
 pub parts_same : (xs ys : List (List ℕ)) (rest : List ℕ) → AllByRecursion (λ (b : List ℕ). IsOk (checked b)) xs → AllByRecursion (λ (b : List ℕ). IsOk (checked b)) ys
     → joined ys ≡ joined xs ++ rest → (more : List (List ℕ)) × (ys ≡ xs ++ more) × (rest ≡ joined more)
 parts_same [] ys rest okx oky e = (ys, refl, sym e)

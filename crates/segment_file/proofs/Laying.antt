@@ -12,7 +12,7 @@ use Rattle.segment_file.specs.declared.placed.Placed.{Placed}
 use Rattle.segment_file.specs.Index.{Marks, is_due, with_offset, unmarked, marked, marked_by, index_of}
 use Rattle.segment_file.specs.Growing.{end_after, size_after, ending_by, latest_from, latest_ts, AreLaid, IsGrowing}
 
--- the last batch tells where all of them end
+-- the last batch gives where all of them end
 pub last_size : (at : ℕ) (batches : List Placed) (batch : Placed) → slice_get batches (length batches - 1) ≡ Some batch → size_after at batches ≡ batch.to
 last_size at [] batch e = absurd (cc)
 last_size at (one ∷ []) batch e = ap (λ (b : Placed). b.to) (same_Some one batch e)
@@ -116,7 +116,7 @@ index_push base interval batches batch =
     table_in : ℕ → List (ℕ × ℕ) → OffsetTable
     table_in base entries = record { base = base; entries = entries }
 
--- the batches that end by an offset stand in front
+-- the batches that end by an offset come first
 lasts-adjacent : (first at : ℕ) (batches : List Placed) (k : ℕ) (d : Placed) → AreLaid first at batches → suc k < length batches → (get_or batches k d).last ≤ (get_or batches (suc k) d).last
 lasts-adjacent first at [] k d laid l = absurd (omega (arith, l))
 lasts-adjacent first at (one ∷ []) k d laid l = absurd (omega (arith, l))

@@ -62,7 +62,7 @@ from_above n batch h = go (nat_lt (last_of batch) n) refl
     go true is = let below : last_of batch < n = ltb-true (last_of batch) n is in absurd (omega (arith, h, below))
     go false is = rw is refl
 
--- one batch more stands
+-- one batch more exists
 stand_push : (offset bound : ℕ) (bytes : List ℕ) (batches : List (List ℕ)) (at to end : ℕ) (last : Option ℕ) → Stand offset bound bytes batches (drop at bytes) at
     → end_after None batches ≡ last → (n : IsNext last offset bound bytes at to end) → Stand offset bound bytes (batches ++ n.batch ∷ []) (drop to bytes) to
 stand_push offset bound bytes batches at to end last s ends n =
@@ -139,12 +139,12 @@ begun_here offset bound limit bytes at to end last going p n holds from-is to-is
       below = rw (end-is, is) below;
     }
 
--- a base that may stand there is below the bound
+-- a base that may be there is below the bound
 pub begins_low : (last : Option ℕ) (offset bound base : ℕ) → offset < bound → ForSome last (λ end. end < bound) → Begins last offset base → base < bound
 begins_low None offset bound base h low b = omega (arith, h, b)
 begins_low (Some end) offset bound base h low b = let l : end < bound = low end refl in omega (arith, l, b)
 
--- the head of a batch that stands there tells its size
+-- the head of a batch that is there reports its size
 pass_of : (limit size : ℕ) (batch more : List ℕ) → IsOk (checked batch) → would_pass limit size (headed (batch ++ more)) ≡ nat_lt limit (size + length batch)
 pass_of limit size batch more ok = go (checked batch) refl ok
   where
@@ -159,7 +159,7 @@ fits_of limit [] h = tt
 fits_of limit (batch ∷ []) h = tt
 fits_of limit (batch ∷ next ∷ run) h = h
 
--- a run that goes on by a batch
+-- a run that continues by a batch
 pub going_more : (bytes : List ℕ) (offset limit bound to end : ℕ) (going more : Going) → IsGoing bytes offset limit bound going
     → IsNext (Some going.end) offset bound bytes going.to to end → would_pass limit (going.to - going.from) (headed (drop going.to bytes)) ≡ false
     → more.from ≡ going.from → more.to ≡ to → more.end ≡ end → IsGoing bytes offset limit bound more
@@ -185,7 +185,7 @@ going_more bytes offset limit bound to end going more g n passes from-is to-is e
       below = rw (end-is, is) below;
     }
 
--- none follows behind a run that hasn't ended
+-- none follows after a run that hasn't ended
 pub going_bad : (bytes : List ℕ) (offset limit bound : ℕ) (going : Going) → IsGoing bytes offset limit bound going → going.end < bound
     → would_pass limit (going.to - going.from) (headed (drop going.to bytes)) ≡ false → NoBatch (Some going.end) offset bound (drop going.to bytes)
     → IsBadAt bytes offset limit bound going.to
@@ -208,7 +208,7 @@ going_done bytes offset limit bound going g stops =
     let size : going.to - going.from ≡ length (joined (g.first ∷ g.others)) = omega (arith, g.from) in
     record { is = g; stops = λ below. rw size at (stops below) }
 
--- why it ends, by the marks that it ends at
+-- why it ends, by the high watermarks that it ends at
 less_of : (end mark piece_end : ℕ) → end ≢ mark → end ≢ piece_end → end ≤ min mark piece_end → end < min mark piece_end
 less_of end mark piece_end h h' below = grind (arith, h, h', below)
 

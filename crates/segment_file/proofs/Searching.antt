@@ -80,7 +80,7 @@ search_from base interval offset batches (Some entry) laid is =
 pub search_begins : (base interval offset : ℕ) (batches : List Placed) → AreLaid base 0 batches → BeginsSearch base batches offset (find (index_of base interval batches) offset).1
 search_begins base interval offset batches laid = search_from base interval offset batches (floor_of (index_of base interval batches) offset) laid refl
 
--- entries of batches that come later stand later
+-- entries of batches that come later are later
 pub record Later (entries more : List (ℕ × ℕ)) (size : ℕ) : Type 0 where
   pub added : List (ℕ × ℕ)
   pub parts : more ≡ entries ++ added
@@ -104,7 +104,7 @@ later base interval size first marks (one ∷ rest) up laid =
     later_by base interval size marks.entries (marked_by base interval marks (one ∷ rest)).entries marks.size one.last (is_due interval marks.entries marks.size) refl up
     (later base interval size (one.last + 1) (marked base interval marks one) rest (omega (arith, up, laid.1)) laid.2)
 
--- entries of batches that come earlier stand earlier
+-- entries of batches that come earlier are earlier
 weaker : (m n : ℕ) (entries : List (ℕ × ℕ)) → m ≤ n → AllByRecursion (λ entry. entry.1 < m) entries → AllByRecursion (λ entry. entry.1 < n) entries
 weaker m n [] up all = tt
 weaker m n (entry ∷ entries) up all = (omega (arith, up, all.0), weaker m n entries up all.1)
@@ -125,7 +125,7 @@ filter_front : (n : ℕ) (xs ys : List (ℕ × ℕ)) → AllByRecursion (λ entr
 filter_front n [] ys low high = filter_none n ys high
 filter_front n (x ∷ xs) ys low high = rw (lt-ltb x.1 n low.0) (ap (λ zs. x ∷ zs) (filter_front n xs ys low.1 high))
 
--- those that end by an offset stand in front
+-- those that end by an offset come first
 pub ending_front : (end : ℕ) (batches : List Placed) → (rest : List Placed) × (batches ≡ ending_by end batches ++ rest)
 ending_front end [] = ([], refl)
 ending_front end (one ∷ batches) = go (nat_lt one.last end) refl (ending_front end batches)

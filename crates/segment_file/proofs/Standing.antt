@@ -1,4 +1,4 @@
--- What is found stands there, with the numbers that its head tells.
+-- What is found is there, with the numbers that its head gives.
 use Rattle.std.proofs.Common.{◌≡◌, ◌∙◌, ap, sym, refl, ℕ, zero, suc, ◌+◌, ◌-◌, ◌==◌, ◌^◌, ◌<◌, ◌≤◌, nat_lt, Bool, true, false, cond, List, [], ◌∷◌, ◌++◌, length, take, drop, get_or, ℤ, Result, Ok, Err, IsOk, arith, length-drop}
 use Rattle.std.specs.Int.{w32, w64, from_be_bytes, cast_signed, cast_unsigned}
 use Rattle.std.proofs.lemmas.Bool.{ltb-false}
@@ -51,7 +51,7 @@ below_64 bs h =
       h 7,
     )
 
--- the base offset that a head tells
+-- the base offset that a head gives
 pub base_told : (batch : List ℕ) → AreBytes batch → cast_unsigned w64 (head_of batch).base_offset ≡ base_of batch
 unfolding head_of base_of field_at
 base_told batch h =
@@ -116,7 +116,7 @@ base_fits batch h = below_64 (take 8 (drop 0 batch)) (bytes_take 8 (drop 0 batch
 delta_fits : (batch : List ℕ) (b : Batch) → checked batch ≡ Ok b → last_offset_delta_of batch < 2 ^ 32
 delta_fits batch b e = let few = (is_batch_of batch b e).few in omega (arith, few)
 
--- a batch that stands at a place, and its head
+-- a batch that is at a place, and its head
 pub record Standing (at : ℕ) (bytes : List ℕ) (head : Head) : Type 0 where
   pub batch : List ℕ
   pub head_is : head ≡ head_of batch
@@ -153,7 +153,7 @@ standing at bytes head clean fits e =
       delta = again_32 head.last_offset_delta (last_offset_delta_of batch) (ap (λ (h : Head). cast_unsigned w32 h.last_offset_delta) same ∙ delta_told batch t.batch t.is) (delta_fits batch t.batch t.is);
     }
 
--- the numbers of any batch that stands there
+-- the numbers of any batch that is there
 pub record Numbers (batch : List ℕ) (head : Head) : Type 0 where
   pub base : cast_unsigned w64 (cast_signed w64 (cast_unsigned w64 head.base_offset)) ≡ base_of batch
   pub delta : cast_unsigned w32 (cast_signed w32 (cast_unsigned w32 head.last_offset_delta)) ≡ last_offset_delta_of batch

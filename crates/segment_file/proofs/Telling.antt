@@ -1,4 +1,4 @@
--- What a batch's head tells of it.
+-- What a batch's head says of it.
 use Rattle.std.proofs.Common.{◌≡◌, refl, ℕ, ◌^◌, ◌<◌, List, take, drop, Result, Ok, Err, IsOk, get_or, arith}
 use Rattle.std.specs.Int.{w32, from_be_bytes, cast_unsigned}
 use Rattle.std.proofs.lemmas.Int.{of_z-to_z}
@@ -15,7 +15,7 @@ use Rattle.segment_file.proofs.Standing.{AreBytes, bytes_take, bytes_drop, base_
 below_32 : (bs : List ℕ) → AreBytes bs → from_be_bytes w32 bs < 2 ^ 32
 below_32 bs h = omega (arith, h 0, h 1, h 2, h 3)
 
--- the leader epoch that a head tells
+-- the leader epoch that a head gives
 epoch_told : (batch : List ℕ) → AreBytes batch → cast_unsigned w32 (head_of batch).leader_epoch ≡ epoch_of batch
 unfolding head_of epoch_of field_at
 epoch_told batch h =
@@ -35,7 +35,7 @@ tells_by batch b clean e = record {
   max_ts = ts_told batch;
 }
 
--- a head tells its batch's numbers
+-- a head gives its batch's numbers
 pub is_observable : (batch : List ℕ) → AreBytes batch → IsOk (checked batch) → Tells batch (head_of batch)
 is_observable batch clean ok = go (checked batch) refl ok
   where
@@ -43,7 +43,7 @@ is_observable batch clean ok = go (checked batch) refl ok
     go (Ok b) e ok = tells_by batch b clean e
     go (Err why) e ok = absurd (cc)
 
--- so it tells how the batch is placed
+-- so it reports how the batch is placed
 pub placed_same : (at : ℕ) (batch : List ℕ) (head : Head) → Tells batch head → placed_in at head ≡ placed at batch
 placed_same at batch head t = rw (t.base, t.delta, t.max_ts, t.size) refl
 

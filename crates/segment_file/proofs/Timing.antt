@@ -52,7 +52,7 @@ time_more base batches batch entry t = record {
   is = t.is;
 }
 
--- what the marks tell of the batches so far
+-- what the high watermarks report the batches so far
 record Timed (base : ℕ) (batches : List (List ℕ)) (marks : Marks) : Type 0 where
   size : marks.size ≡ length (joined batches)
   top : (marks.top.0 ≡ negsuc 0) ⊎ IsTimeOf base batches (marks.top.0, marks.top.1 - base)
@@ -93,7 +93,7 @@ least_with base moments top least = go (int_lt (time_of (last_of moments)) top.0
     go true e = rw (last_push moments (top.0, top.1 - base)) (let low : negsuc 0 ≤ℤ time_of (last_of moments) = least in omega (arith, ints, low, e))
     go false e = least
 
--- the marks with a batch more
+-- the high watermarks with a batch more
 timed_step : (base interval : ℕ) (batches : List (List ℕ)) (batch : List ℕ) (marks : Marks) → Timed base batches marks → Timed base (batches ++ batch ∷ []) (marked base interval marks (placed marks.size batch))
 timed_step base interval batches batch marks t = record {
   size = let more = ap length (joined_push batches batch) ∙ length-append (joined batches) batch in omega (arith, more, t.size);

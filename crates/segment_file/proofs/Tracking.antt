@@ -1,4 +1,4 @@
--- Both indexes on their way, over the batches that stand in a segment's bytes.
+-- Both indexes on their way, over the batches that are in a segment's bytes.
 use Rattle.std.proofs.Common.{◌≡◌, ◌∙◌, ap, sym, refl, subst, ℕ, zero, suc, ◌+◌, ◌-◌, ◌^◌, ◌<◌, ◌≤◌, Bool, true, false, ℤ, List, [], ◌∷◌, ◌++◌, length, drop, slice_index, Some, Result, Ok, Err, IsOk, arith, append_assoc, append-nil, length-append}
 use Rattle.std.specs.Prelude.{int_lt, pos, ◌≤ℤ◌}
 use Rattle.std.specs.Int.{Width, w16, w32, w64, byte_len}
@@ -71,7 +71,7 @@ head_front batch rest long =
       field_kept w32 57 batch rest (omega (arith, long)),
     ) refl
 
--- the head is read where a batch stands
+-- the head is read where a batch exists
 pub head_read : (batch rest : List ℕ) → IsOk (checked batch) → headed (batch ++ rest) ≡ Ok (head_of batch)
 head_read batch rest ok = go (checked batch) refl ok
   where
@@ -179,7 +179,7 @@ may_mark base interval front rest batch s =
       later = omega (arith, before, next);
     }
 
--- the batch that stands next
+-- the batch that is next
 pub record NextIn (base : ℕ) (bytes : List ℕ) (interval at : ℕ) (marking : Marking) : Type 0 where
   pub front : List (List ℕ)
   pub batch : List ℕ

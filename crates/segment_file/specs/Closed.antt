@@ -33,7 +33,7 @@ pub record IsWhole (segment : Whole) : Type 0 where
   pub max_ts_is : segment.max_ts ≡ greatest_ts batches
   pub epochs_are : segment.epochs ≡ line_of batches
 
--- the first place where no batch goes on, or the bytes end before the first batch
+-- the first place where no batch continues, or the bytes end before the first batch
 pub record IsBadPlace (base : ℕ) (bytes : List ℕ) (at : ℕ) : Type 0 where
   pub batches : List (List ℕ)
   pub rest : List ℕ

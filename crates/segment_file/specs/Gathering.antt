@@ -17,12 +17,12 @@ use Rattle.segment_file.specs.Walk.{size_in}
 use Rattle.segment_file.specs.Segment.{IsSegment, greatest_ts}
 use Rattle.segment_file.specs.Closed.{IsBadPlace}
 
--- the last batch's epoch, of batches that come behind one of this epoch
+-- the last batch's epoch, of batches that come after one of this epoch
 abbrev pub epoch_after : ℕ → List (List ℕ) → ℕ
 epoch_after epoch [] = epoch
 epoch_after epoch (batch ∷ batches) = epoch_after (epoch_of batch) batches
 
--- a batch of this head may go on batches that take so many bytes and end there
+-- a batch of this head may continue batches that take so many bytes and end there
 pub record MayGoOn (base at end epoch : ℕ) (head : Head) : Type 0 where
   pub begins : cast_unsigned w64 head.base_offset ≡ end
   pub near : end + cast_unsigned w32 head.last_offset_delta < base + 2 ^ 31
@@ -43,7 +43,7 @@ pub record IsGathered (base : ℕ) (bytes : List ℕ) (front : Gathered) : Type 
   pub max_ts_is : front.max_ts ≡ greatest_ts batches
   pub epochs_are : front.epochs ≡ line_of batches
 
--- the head tells the batch's numbers
+-- the head gives the batch's numbers
 pub record Tells (batch : List ℕ) (head : Head) : Type 0 where
   pub size : size_in head ≡ length batch
   pub base : cast_unsigned w64 head.base_offset ≡ base_of batch
@@ -51,7 +51,7 @@ pub record Tells (batch : List ℕ) (head : Head) : Type 0 where
   pub epoch : cast_unsigned w32 head.leader_epoch ≡ epoch_of batch
   pub max_ts : head.max_ts ≡ max_ts_of batch
 
--- a batch of this head stands there and goes on
+-- a batch of this head is there and continues
 pub record GoesOnAt (base : ℕ) (bytes : List ℕ) (front : Gathered) (head : Head) : Type 0 where
   pub batch : List ℕ
   pub is : IsOk (checked batch)
@@ -60,7 +60,7 @@ pub record GoesOnAt (base : ℕ) (bytes : List ℕ) (front : Gathered) (head : H
   pub may : MayGoOn base front.at front.end front.epoch head
   pub inside : front.at + size_in head ≤ length bytes
 
--- no batch that stands there goes on
+-- no batch that is there continues
 abbrev pub NothingAt : ℕ → List ℕ → Gathered → Type 0
 NothingAt base bytes front =
     (batch more : List ℕ) → drop front.at bytes ≡ batch ++ more → IsOk (checked batch)

@@ -7,7 +7,7 @@ use Rattle.segment_file.specs.declared.taking.Going.{Going}
 use Rattle.segment_file.specs.declared.taking.BadAt.{BadAt}
 use Rattle.segment_file.specs.Run.{end_after, Follows, Stand, Fits, would_pass, IsBadAt}
 
--- a batch that follows stands from one place to another, and ends before this offset
+-- a batch that follows is from one place to another, and ends before this offset
 pub record IsNext (last : Option ℕ) (offset bound : ℕ) (bytes : List ℕ) (at to end : ℕ) : Type 0 where
   pub batch : List ℕ
   pub follows : Follows last offset bound batch

@@ -23,7 +23,7 @@ abbrev pub end_after : ℕ → List Placed → ℕ
 end_after first [] = first
 end_after first (batch ∷ batches) = end_after (batch.last + 1) batches
 
--- the bytes up to the last batch's end, of batches that come behind so many
+-- the bytes up to the last batch's end, of batches that come after so many
 abbrev pub size_after : ℕ → List Placed → ℕ
 size_after at [] = at
 size_after at (batch ∷ batches) = size_after batch.to batches
@@ -72,7 +72,7 @@ pub record BeginsSearch (base : ℕ) (batches : List Placed) (offset position : 
   pub place : size_after 0 front ≡ position
   pub before : base ≤ offset → end_after base front ≤ offset
 
--- the batches of a segment, where they are told in two parts
+-- the batches of a segment, where they are observable in two parts
 pub record AreParted (at : ℕ) (batches : List (List ℕ)) (front rest : List Placed) : Type 0 where
   pub former : List (List ℕ)
   pub latter : List (List ℕ)

@@ -18,11 +18,11 @@ use Rattle.sparse_index.specs.Times.{TimeTable}
 use Rattle.segment_file.specs.declared.placed.Placed.{Placed}
 use Rattle.segment_file.specs.Walk.{size_in}
 
--- a batch behind so many bytes of its segment
+-- a batch after so many bytes of its segment
 abbrev pub placed : ℕ → List ℕ → Placed
 placed at batch = record { last = last_of batch; max_ts = max_ts_of batch; to = at + length batch }
 
--- the same, as the batch's head tells it
+-- the same, as the batch's head gives it
 abbrev pub placed_in : ℕ → Head → Placed
 placed_in at head = record {
   last = cast_unsigned w64 head.base_offset + cast_unsigned w32 head.last_offset_delta;
@@ -30,7 +30,7 @@ placed_in at head = record {
   to = at + size_in head;
 }
 
--- batches one after another, the first behind so many bytes
+-- batches one after another, the first after so many bytes
 abbrev pub placed_from : ℕ → List (List ℕ) → List Placed
 placed_from at [] = []
 placed_from at (batch ∷ batches) = placed at batch ∷ placed_from (at + length batch) batches

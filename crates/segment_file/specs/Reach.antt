@@ -1,7 +1,7 @@
 -- How far a reader of a run needs a segment's bytes.
 --
 -- A run has the batch that holds an offset, and further ones that end at or below a bound and a position. Where these
--- end below the bound, the next batch would pass the position. Its head is needed too, since it tells so.
+-- end below the bound, the next batch would pass the position. Its head is needed too, since it reports so.
 use Rattle.std.specs.Prelude.{ℕ, ◌+◌, ◌&&◌, nat_lt, nat_le, if◌then◌else◌, List, [], ◌∷◌, length, drop}
 use Rattle.segment_file.specs.declared.placed.Placed.{Placed}
 use Rattle.segment_file.specs.Growing.{size_after, ending_by}
@@ -12,7 +12,7 @@ fitting bound top [] = []
 fitting bound top (batch ∷ batches) =
     if nat_lt batch.last bound && nat_le batch.to top then batch ∷ fitting bound top batches else []
 
--- up to where a run is needed that ends at an offset and a position by now, with these batches behind it
+-- up to where a run is needed that ends at an offset and a position by now, with these batches after it
 abbrev pub run_reach : ℕ → ℕ → ℕ → ℕ → List Placed → ℕ
 run_reach bound top end at [] = at
 run_reach bound top end at (batch ∷ batches) =

@@ -1,7 +1,7 @@
 -- The run that is cut out of a log segment's bytes, and where none can be cut out.
 --
 -- A run begins with the batch that holds an offset. It is one batch, or several that fit a limit. No batch up to its
--- end ends past a bound, the smaller of the mark and the end of the piece.
+-- end ends past a bound, the smaller of the high watermark and the end of the piece.
 use Rattle.std.specs.Prelude.{◌≡◌, ◌≢◌, ℕ, ◌+◌, ◌<◌, ◌≤◌, min, nat_lt, Bool, true, false, List, [], ◌∷◌, ◌++◌, length, Option, Some, None, Result, Ok, Err, IsOk}
 use Rattle.std.specs.Option.{ForSome}
 use Rattle.tier_base.specs.declared.plain.Stop.{Stop}
@@ -15,7 +15,7 @@ use Rattle.segment_file.specs.declared.taking.Cutout.{Cutout}
 use Rattle.segment_file.specs.declared.taking.BadAt.{BadAt}
 use Rattle.segment_file.specs.Walk.{size_in}
 
--- the offset after batches that come behind one which ends there
+-- the offset after batches that come after one which ends there
 abbrev pub end_after : Option ℕ → List (List ℕ) → Option ℕ
 end_after last [] = last
 end_after last (batch ∷ batches) = end_after (Some (last_of batch + 1)) batches
@@ -37,7 +37,7 @@ AreBatches last offset bound [] = Unit {0}
 AreBatches last offset bound (batch ∷ batches) =
     Follows last offset bound batch × AreBatches (Some (last_of batch + 1)) offset bound batches
 
--- batches that follow stand at the front of bytes, up to a place
+-- batches that follow are at the front of bytes, up to a place
 pub record Stand (offset bound : ℕ) (bytes : List ℕ) (batches : List (List ℕ)) (rest : List ℕ) (at : ℕ) : Type 0 where
   pub parts : bytes ≡ joined batches ++ rest
   pub follow : AreBatches None offset bound batches
@@ -48,7 +48,7 @@ abbrev pub NoBatch : Option ℕ → ℕ → ℕ → List ℕ → Type 0
 NoBatch last offset bound bytes =
     (batch more : List ℕ) → bytes ≡ batch ++ more → Follows last offset bound batch → ⊥
 
--- behind so many bytes the batch of the next head would pass the limit
+-- after so many bytes the batch of the next head would pass the limit
 abbrev pub would_pass : ℕ → ℕ → Result Head HeadRefusal → Bool
 would_pass limit size (Ok head) = nat_lt limit (size + size_in head)
 would_pass limit size (Err why) = false
@@ -59,13 +59,13 @@ Fits limit [] = Unit {0}
 Fits limit (batch ∷ []) = Unit {0}
 Fits limit (batch ∷ next ∷ run) = length (joined (batch ∷ next ∷ run)) ≤ limit
 
--- a run that has begun goes on: it ends below the bound, and the next batch wouldn't pass the limit
+-- a run that has begun continues: it ends below the bound, and the next batch wouldn't pass the limit
 abbrev pub GoesOn : ℕ → ℕ → Option ℕ → List (List ℕ) → List ℕ → Type 0
 GoesOn limit bound last [] rest = Unit {0}
 GoesOn limit bound last (first ∷ run) rest =
     ForSome last (λ end. end < bound) × (would_pass limit (length (joined (first ∷ run))) (headed rest) ≡ false)
 
--- why a run ends: the first that holds of the mark, the piece's end and the limit
+-- why a run ends: the first that holds of the high watermark, the piece's end and the limit
 abbrev pub StopIs : Stop → ℕ → ℕ → ℕ → Bool → Type 0
 StopIs Mark end mark piece_end passes = end ≡ mark
 StopIs Piece end mark piece_end passes = (end ≢ mark) × (end ≡ piece_end)
@@ -84,7 +84,7 @@ pub record IsRun (bytes : List ℕ) (offset limit mark piece_end : ℕ) (cut : C
   pub ends : end_after None batches ≡ Some cut.next
   pub stop_is : StopIs cut.stop cut.next mark piece_end (would_pass limit (length (joined (first ∷ others))) (headed rest))
 
--- the run hasn't ended, and at this place no batch stands that follows
+-- the run hasn't ended, and at this place no batch follows
 pub record IsBadAt (bytes : List ℕ) (offset limit bound at : ℕ) : Type 0 where
   pub batches : List (List ℕ)
   pub rest : List ℕ

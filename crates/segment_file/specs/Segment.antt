@@ -1,4 +1,4 @@
--- What a log segment's bytes are: batches, each of which goes on what stands before it.
+-- What a log segment's bytes are: batches, each of which continues what precedes it.
 use Rattle.std.specs.Prelude.{ℕ, ◌+◌, ◌^◌, ◌<◌, ◌≤◌, ℤ, negsuc, List, [], ◌∷◌, length, IsOk}
 use Rattle.std.specs.Int.{int_max}
 use Rattle.std.specs.List.{AllByRecursion}

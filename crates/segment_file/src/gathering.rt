@@ -63,7 +63,7 @@ fn nothing_yet(alloc: Global, base: u64) -> Gathered
     }
 }
 
-/// The head of the batch that stands next and goes on.
+/// The head of the batch that is next and continues.
 fn next_head(base: u64, bytes: &[u8], front: &Gathered) -> Option<Head>
     requires base_fits { base ≤ 2 ^ 62 }
     requires front { IsGathered base bytes.now front.now }
@@ -80,7 +80,7 @@ fn next_head(base: u64, bytes: &[u8], front: &Gathered) -> Option<Head>
     }
 }
 
-/// Whether a batch of this head goes on.
+/// Whether a batch of this head continues.
 fn may_go_on(base: u64, front: &Gathered, head: &Head) -> bool
     requires base_fits { base ≤ 2 ^ 62 }
     requires end_fits { front.now.end ≤ 2 ^ 62 }
@@ -105,7 +105,7 @@ fn may_go_on(base: u64, front: &Gathered, head: &Head) -> bool
     ((front.at + size_in(head)) as u64) < REACH
 }
 
-/// Adds the batch of a head that goes on.
+/// Adds the batch of a head that continues.
 fn gain(base: u64, front: &mut Gathered, head: &Head) -> Result<(), AllocError>
     requires may { MayGoOn base front.old.at front.old.end front.old.epoch head.now }
     requires epochs { ForSome (last_entry front.old.epochs) (λ entry. (entry.0 ≡ front.old.epoch) × (entry.1 < front.old.end)) }

@@ -218,7 +218,7 @@ fn latest_in(batches: &[Placed], kept: usize, latest: i64) -> i64
     }
 }
 
-/// The greatest timestamp with a batch more, behind others or as the first one.
+/// The greatest timestamp with a batch more, after others or as the first one.
 fn later(first: bool, latest: i64, own: i64) -> i64
     ensures { result ≡ (if first then own else int_max latest own) }
 {

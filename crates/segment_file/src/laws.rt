@@ -15,7 +15,7 @@ ghost use Rattle.segment_file.specs.Index.{placed, placed_in, placed_from, index
 ghost use Rattle.segment_file.specs.Density.{IsNear, IsTimeOf, IsTimed};
 ghost use Rattle.segment_file.specs.Growing.{end_after, size_after, ending_by, AreParted};
 
-/// A batch is found where it stands, whatever stands behind it.
+/// A batch is found where it is, whatever follows it.
 #[tactic(auto, using(crate::proofs::Finding::batch_found))]
 pub fn a_batch_is_found()
     ensures { (at : ℕ) (batch rest : List ℕ) → IsOk (checked batch)
@@ -29,13 +29,13 @@ pub fn a_segment_is_read_in_one_way()
         → joined batches ≡ joined others → batches ≡ others }
 {}
 
-/// A head tells how its batch is placed.
+/// A head shows how its batch is placed.
 pub fn a_head_places_its_batch()
     ensures { (at : ℕ) (batch : List ℕ) → IsOk (checked batch) → ((i : ℕ) → slice_index_or batch i 0 < 2 ^ 8)
         → placed_in at (head_of batch) ≡ placed at batch }
 {}
 
-/// A batch more is placed behind the others.
+/// A batch more is placed after the others.
 #[tactic(auto, using(crate::proofs::Placing::placed_push))]
 pub fn a_batch_is_placed_last()
     ensures { (at : ℕ) (batches : List (List ℕ)) (batch : List ℕ)
@@ -66,7 +66,7 @@ pub fn placed_batches_part()
         → AreParted at batches front rest }
 {}
 
-/// No batch begins more than the interval's bytes behind an entry of the offset index, or behind the segment's beginning.
+/// No batch begins more than the interval's bytes after an entry of the offset index, or after the segment's beginning.
 pub fn each_batch_has_an_entry_near()
     ensures { (base interval : ℕ) (front rest : List (List ℕ)) (batch : List ℕ)
         → IsNear interval (index_of base interval (placed_from 0 (front ++ batch ∷ rest))).entries
@@ -86,8 +86,8 @@ pub fn each_time_entry_is_the_greatest_so_far()
         → Contains (time_index_of base interval (placed_from 0 batches)).entries entry → IsTimeOf base batches entry }
 {}
 
-/// The time index reaches each batch's timestamp by a batch that follows none which begins more than the interval's bytes
-/// behind it.
+/// The time index reaches each batch's timestamp by a batch that follows none which begins more than the interval's
+/// bytes after it.
 pub fn each_batch_has_a_time_entry_near()
     ensures { (base interval : ℕ) (front rest : List (List ℕ)) (batch : List ℕ)
         → IsTimed base (front ++ batch ∷ rest)

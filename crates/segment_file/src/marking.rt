@@ -51,7 +51,7 @@ pub(crate) fn indexes_of(
     Ok((marking.offsets, times))
 }
 
-/// The head that stands at a place.
+/// The head that is at a place.
 fn head_at(bytes: &[u8], at: usize) -> Head
     requires inside { at ≤ length bytes.now }
     requires stands { IsOk (headed (drop at bytes.now)) }
@@ -64,7 +64,7 @@ fn head_at(bytes: &[u8], at: usize) -> Head
     head
 }
 
-/// Adds a batch, behind so many bytes.
+/// Adds a batch, after so many bytes.
 fn add(
     base: u64,
     marking: &mut Marking,

@@ -16,7 +16,7 @@ pub struct Placed {
     pub to: u32,
 }
 
-/// The batch of a head, behind so many bytes of its segment.
+/// The batch of a head, after so many bytes of its segment.
 pub(crate) fn place(head: &Head, at: u32) -> Placed
     requires small { at + size_in head.now < 2 ^ 31 }
     requires last_fits { cast_unsigned w64 head.now.base_offset + cast_unsigned w32 head.now.last_offset_delta < 2 ^ 64 }

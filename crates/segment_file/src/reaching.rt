@@ -27,7 +27,7 @@ pub(crate) fn reach_from(first: u64, at: u32, batches: &[Placed], bound: u64, to
     run_reach(one.last + 1, one.to, others, bound, top)
 }
 
-/// Up to which position a run is needed that ends at an offset and a position by now, with these batches behind it.
+/// Up to which position a run is needed that ends at an offset and a position by now, with these batches after it.
 fn run_reach(end: u64, at: u32, behind: &[Placed], bound: u64, top: u64) -> u32
     requires laid { AreLaid end at behind.now }
     requires near { end_after end behind.now < 2 ^ 64 }

@@ -1,8 +1,8 @@
 //! The run of batches that is cut out of a segment's bytes. The module Run of specs/ says which.
 //!
 //! The batches are gone through from the first one on: up to the one that holds the offset, and then as far as the
-//! bound and the limit allow. The bound is the smaller of the mark and the piece's end. Whether the run has ended is
-//! known before the next batch is checked, by its head.
+//! bound and the limit allow. The bound is the smaller of the high watermark and the piece's end. Whether the run has
+//! ended is known before the next batch is checked, by its head.
 
 ghost use Rattle.std.specs.Prelude.{◌≡◌, ◌≢◌, ◌↔◌, ◌-◌, ◌<◌, ◌≤◌, length, drop, min, Some, None, ℕ, IsTrue, IfSome};
 ghost use Rattle.std.specs.Option.{ForSome};
@@ -24,7 +24,7 @@ pub struct Cutout {
     pub stop: Stop,
 }
 
-/// The first place, before the run's end, where no batch stands that follows on the one before.
+/// The first place, before the run's end, where no batch follows the one before.
 #[derive(Clone, Copy, Debug, PartialEq, Eq)]
 pub struct BadAt {
     pub at: usize,
@@ -103,7 +103,7 @@ fn extended(bytes: &[u8], offset: u64, limit: u64, bound: u64, first: Going) -> 
     Ok(run)
 }
 
-/// Whether the batch of the head at a place would pass the limit, behind so many bytes.
+/// Whether the batch of the head at a place would pass the limit, after so many bytes.
 fn would_pass(bytes: &[u8], at: usize, size: usize, limit: u64) -> bool
     requires at { at ≤ length bytes.now }
     requires size { size ≤ at }
@@ -116,7 +116,7 @@ fn would_pass(bytes: &[u8], at: usize, size: usize, limit: u64) -> bool
     }
 }
 
-/// Whether a batch with this base may stand behind one that ends there.
+/// Whether a batch with this base may follow one that ends there.
 fn begins(last: Option<u64>, offset: u64, base: u64) -> bool
     ensures { IsTrue result ↔ Begins last offset base }
 {
@@ -126,7 +126,7 @@ fn begins(last: Option<u64>, offset: u64, base: u64) -> bool
     }
 }
 
-/// Where a batch ends that stands at a place and follows, and the offset after it.
+/// Where a batch ends that is at a place and follows, and the offset after it.
 fn follower(
     bytes: &[u8],
     at: usize,

@@ -6,7 +6,7 @@ ghost use Rattle.segment_file.specs.Walk.{size_in, tested_at, found_at};
 
 use record_batch::{Head, HeadRefusal, check, read_head};
 
-/// What stands at a place.
+/// What is at a place.
 #[derive(Clone, Copy, Debug, PartialEq, Eq)]
 pub enum Found {
     /// A batch, whole and checked.
@@ -19,7 +19,7 @@ pub enum Found {
     Bad { at: usize },
 }
 
-/// The bytes of the batch that a head tells.
+/// The bytes of the batch that a head gives.
 pub(crate) fn size_in(head: &Head) -> usize
     ensures { result ≡ size_in head.now }
 {
@@ -36,7 +36,7 @@ fn tested(batch: &[u8], at: usize) -> Found
     }
 }
 
-/// What bytes begin with, which stand at a place.
+/// What bytes begin with, which are at a place.
 #[tactic(auto, unfolding(crate::specs::Walk::found_at))]
 fn at_front(bytes: &[u8], at: usize) -> Found
     ensures { result ≡ found_at at bytes.now }
@@ -57,7 +57,7 @@ fn at_front(bytes: &[u8], at: usize) -> Found
     tested(batch, at)
 }
 
-/// Tells what stands at a place.
+/// Returns what is at a place.
 pub fn walk(bytes: &[u8], at: usize) -> Found
     requires { at ≤ length bytes.now }
     ensures { result ≡ found_at at (drop at bytes.now) }

@@ -1,4 +1,4 @@
--- What was written of a note is read as that note.
+-- What was written of an event is read as that event.
 use Rattle.std.proofs.Common.{◌≡◌, ◌≢◌, ◌∙◌, ap, sym, refl, ℕ, ◌+◌, ◌*◌, ◌^◌, ◌<◌, ◌≤◌, nat_lt, Bool, true, false, ℤ, List, [], ◌∷◌, ◌++◌, length, Option, Some, None, is_some, Ok, arith, append_assoc, append-nil, length-append, eq-eqb, le-ltb, FitsSigned}
 use Rattle.std.specs.List.{AllByRecursion}
 use Rattle.std.specs.Int.{w16, w32, w64, to_be_bytes, cast_unsigned}
@@ -95,7 +95,7 @@ front-again entry rest fits rules =
       u32-again entry.size r7 fits.size,
     ) refl
 
--- an epoch behind another is read again
+-- an epoch after another is read again
 pair-again : (start end at : ℕ) (l p : ℕ × ℕ) (rest : List ℕ) → p.0 < 2 ^ 31 → p.1 ≤ 2 ^ 62 → l.0 < p.0 → l.1 < p.1 → p.1 ≤ end
     → pair_at start end at (Some l) (pair_bytes p ++ rest) ≡ Ok (p, rest)
 unfolding pair_at pair_bytes
@@ -123,7 +123,7 @@ first-again start end at p rest fits fits' begins =
       eq-eqb p.1 start begins,
     ) refl
 
--- epochs behind another are read again
+-- epochs after another are read again
 pairs-again : (start end at : ℕ) (l : ℕ × ℕ) (pairs : List (ℕ × ℕ)) (rest : List ℕ) → IsLine (l ∷ pairs) → AllByRecursion (λ pair. pair.1 ≤ end) pairs
     → pairs_at start end (length pairs) at (Some l) (pairs_bytes pairs ++ rest) ≡ Ok (pairs, rest)
 pairs-again start end at l [] rest line within = refl
@@ -237,7 +237,7 @@ unfolding note_in
 version-again false bytes = refl
 version-again true bytes = refl
 
--- what was written of a note is read as that note
+-- what was written of an event is read as that event
 pub note_again : (note : Note) → IsNote note → NoteFits note → note_in (note_bytes note) ≡ Ok note
 unfolding note_bytes
 note_again (Add entry) rules fits =

@@ -9,7 +9,7 @@ use Rattle.segment_meta.specs.declared.refusal.NoteRefusal.TheVariants.{Bad}
 use Rattle.segment_meta.specs.Reading.{Read, passing, ◌>>=◌, number_at, epoch_may, start_may, pair_at, pairs_at}
 use Rattle.segment_meta.proofs.Inverting.{bound, passed, ok_same}
 
--- epochs behind those that were read before
+-- epochs after those that were read before
 abbrev pub glue : List (ℕ × ℕ) → Read (List (ℕ × ℕ)) → Read (List (ℕ × ℕ))
 glue front (Ok x) = Ok (front ++ x.0, x.1)
 glue front (Err why) = Err why

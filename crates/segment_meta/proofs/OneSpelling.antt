@@ -1,4 +1,4 @@
--- What is read as a note keeps the rules, and stands in the bytes as the note is spelled.
+-- What is read as an event keeps the rules, and is in the bytes as the event is spelled.
 use Rattle.std.proofs.Common.{◌≡◌, ◌≢◌, ◌∙◌, ap, refl, ℕ, zero, suc, ◌+◌, ◌*◌, ◌^◌, ◌<◌, ◌≤◌, ◌==◌, ◌&&◌, nat_lt, nat_le, true, false, Bool, cond, List, [], ◌∷◌, ◌++◌, length, Option, Some, None, Result, Ok, Err, IfOk, arith, append_assoc, append-nil, is_some}
 use Rattle.std.specs.List.{All, AllByRecursion}
 use Rattle.std.specs.Int.{w16, w32, w64, to_be_bytes}
@@ -44,7 +44,7 @@ range-read bytes range rest e =
           rw (← value, ← back) (both first.stands second.stands);
     }))
 
--- a front's fields behind the offsets
+-- a front's fields after the offsets
 abbrev late_bytes : Front → List ℕ
 late_bytes front =
     ts_bytes front.max_ts ++ (to_be_bytes w16 front.broker.0 ++ (ts_bytes front.event_ts ++ (to_be_bytes w32 front.size ++ 0 ∷ [])))
@@ -104,7 +104,7 @@ pair-read start end at last bytes p rest e h =
     let s2 = (u64_stands epoch.1 first.0 first.1 s1.left is2.0).stands in
     rw (← value, ← back) (both s1 s2)))
 
--- each epoch may stand behind the one before
+-- each epoch may follow the one before
 abbrev Behind : ℕ → ℕ → Option (ℕ × ℕ) → List (ℕ × ℕ) → Type 0
 Behind start end last [] = Unit {0}
 Behind start end last (p ∷ pairs) = Follows start end last p × Behind start end (Some p) pairs
@@ -136,7 +136,7 @@ pairs-read start end (suc count) at last bytes pairs rest e =
       stands = λ h. let s = pair-read start end at last bytes p.0 p.1 e1 h in both s (more.stands s.left);
     })))
 
--- epochs behind a last one are a line with it
+-- epochs after a last one are a line with it
 behind-line : (start end : ℕ) (l : ℕ × ℕ) (pairs : List (ℕ × ℕ)) → end < 2 ^ 62 → l.0 < 2 ^ 31 → l.1 ≤ end
     → Behind start end (Some l) pairs → IsLine (l ∷ pairs) × AllByRecursion (λ pair. pair.1 ≤ end) pairs
 behind-line start end l [] high fits fits' h = ((fits, omega (arith, high, fits'), tt, tt), tt)
@@ -210,7 +210,7 @@ custom-read true state bytes custom e =
           (both s1 s2.stands).parts ∙ (rw (end.1, long) (append-nil (to_be_bytes w16 size.0 ++ field.0)));
     })))
 
--- a note that was read
+-- an event that was read
 record NoteRead (note : Note) (bytes : List ℕ) : Type 0 where
   rules : IsNote note
   spelled : AreBytes bytes → bytes ≡ note_bytes note
@@ -249,7 +249,7 @@ added-read packed bytes note e =
           ap (λ (t : List ℕ). version_of packed ∷ 0 ∷ t) (all.parts ∙ (rw (tail, map.long) refl));
     }))))))
 
--- a state that an update told
+-- a state that an update reported
 later-by : (a b c : Bool) (code : ℕ) (s : State) → (code == 1) ≡ a → (code == 2) ≡ b → (code == 3) ≡ c
     → cond {A = Result State NoteRefusal} a (Ok CopyFinished) (cond b (Ok DeleteStarted) (cond c (Ok DeleteFinished) (Err BadState))) ≡ Ok s
     → (code ≡ state_code s) × (s ≢ CopyStarted)
@@ -264,7 +264,7 @@ later-by false false true code s is1 is2 is3 e =
     rw (← same) (eqb-true code 3 is3, λ wrong. absurd (cc))
 later-by false false false code s is1 is2 is3 e = absurd (cc)
 
--- an update's fields, and what stands behind them
+-- an update's fields, and what follows them
 regrouped : (a b c : List ℕ) (code : ℕ) (rest : List ℕ) → (a ++ (b ++ (c ++ code ∷ []))) ++ rest ≡ a ++ (b ++ (c ++ code ∷ rest))
 regrouped a b c code rest =
     append_assoc a (b ++ (c ++ code ∷ [])) rest
@@ -335,6 +335,6 @@ pub updated_rules : (packed : Bool) (bytes : List ℕ) (r : Result Note NoteRefu
 updated_rules packed bytes (Ok note) h = (updated-read packed bytes note h).rules
 updated_rules packed bytes (Err why) h = tt
 
--- what was read stands in the bytes as it is spelled
+-- what was read is in the bytes as it is spelled
 pub one_spelling : (bytes : List ℕ) (note : Note) → All (λ b. b < 256) bytes → note_in bytes ≡ Ok note → bytes ≡ note_bytes note
 one_spelling bytes note h e = (note-read bytes note e).spelled h

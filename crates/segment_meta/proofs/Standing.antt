@@ -1,4 +1,4 @@
--- A field that was read stands at the front of the bytes as it is spelled.
+-- A field that was read is at the front of the bytes as it is spelled.
 use Rattle.std.proofs.Common.{◌≡◌, ◌∙◌, ap, sym, refl, ℕ, zero, suc, ◌^◌, ◌<◌, ◌≤◌, nat_lt, true, false, Bool, cond, ℤ, List, [], ◌∷◌, ◌++◌, length, take, drop, get_or, Ok, Err, arith, append_assoc, length-take}
 use Rattle.std.specs.List.{All}
 use Rattle.std.specs.Int.{Width, w16, w32, w64, byte_len, to_be_bytes, from_be_bytes, cast_signed, cast_unsigned}
@@ -16,12 +16,12 @@ use Rattle.segment_meta.proofs.Inverting.{peeled, ok_same}
 abbrev pub AreBytes : List ℕ → Type 0
 AreBytes bytes = All (λ b. b < 256) bytes
 
--- a spelling stands at the front of bytes, and these bytes behind it
+-- a spelling is at the front of bytes, and these bytes after it
 pub record Stands (spelling bytes rest : List ℕ) : Type 0 where
   pub parts : bytes ≡ spelling ++ rest
   pub left : AreBytes rest
 
--- two that stand one after another are one
+-- two that are one after another are one
 pub both : {a b bytes mid rest : List ℕ} → Stands a bytes mid → Stands b mid rest → Stands (a ++ b) bytes rest
 both {a} {b} {bytes} {mid} {rest} first then = record {
   parts = first.parts ∙ (ap (λ (t : List ℕ). a ++ t) then.parts ∙ sym (append_assoc a b rest));

@@ -1,5 +1,5 @@
--- What bytes say as a note, or the first fault from the left: each rule of the grammar as what it reads at the front of
--- bytes, with what stands behind it. The places are those of the table in the module Spelling.
+-- What bytes say as an event, or the first fault from the left: each rule of the grammar as what it reads at the front
+-- of bytes, with what follows it. The places are those of the table in the module Spelling.
 --
 --   no byte, or the bytes end inside a field         Short
 --   a version that is neither 0 nor 1                BadVersion
@@ -22,7 +22,7 @@ use Rattle.segment_meta.specs.declared.note.Note.TheVariants.{Add, Update}
 use Rattle.segment_meta.specs.declared.refusal.NoteRefusal.{NoteRefusal}
 use Rattle.segment_meta.specs.declared.refusal.NoteRefusal.TheVariants.{Short, BadVersion, BadState, Bad, NoMemory}
 
--- what was read at the front, and what stands behind it
+-- what was read at the front, and what follows it
 abbrev pub Read : Type 0 → Type 0
 Read A = Result (A × List ℕ) NoteRefusal
 
@@ -94,17 +94,17 @@ front_at bytes = do
     state.1,
   )
 
--- an epoch may stand behind the last one
+-- an epoch may follow the last one
 abbrev pub epoch_may : Option (ℕ × ℕ) → ℕ → Bool
 epoch_may None epoch = nat_lt epoch (2 ^ 31)
 epoch_may (Some last) epoch = nat_lt epoch (2 ^ 31) && nat_lt last.0 epoch
 
--- a start may stand behind the last one, in a segment from start to end
+-- a start may follow the last one, in a segment from start to end
 abbrev pub start_may : ℕ → ℕ → Option (ℕ × ℕ) → ℕ → Bool
 start_may start end None n = n == start
 start_may start end (Some last) n = nat_lt last.1 n && nat_le n end
 
--- an epoch and its start, at a place, behind the last ones
+-- an epoch and its start, at a place, after the last ones
 unfoldable pub pair_at : ℕ → ℕ → ℕ → Option (ℕ × ℕ) → List ℕ → Read (ℕ × ℕ)
 pair_at start end at last bytes = do
   epoch ← passing (epoch_may last) (Bad at) (number_at w32 bytes)
@@ -148,7 +148,7 @@ entry_of packed id front pairs = record {
   custom = None;
 }
 
--- a note that adds an entry, packed or not, behind version and kind
+-- an event that adds an entry, packed or not, after version and kind
 unfoldable pub added_in : Bool → List ℕ → Result Note NoteRefusal
 added_in packed bytes = do
   id ← id_at bytes
@@ -158,13 +158,13 @@ added_in packed bytes = do
   end ← packed_in packed (63 + 12 * count.0) pairs.1
   Ok (Add (entry_of packed id.0 front.0 pairs.0))
 
--- a state that an update may tell
+-- a state that an update may report
 abbrev pub later_state : ℕ → Result State NoteRefusal
 later_state code =
     if code == 1 then Ok CopyFinished else if code == 2 then Ok DeleteStarted
     else if code == 3 then Ok DeleteFinished else Err BadState
 
--- custom metadata of so many bytes may stand in an update to a state
+-- custom metadata of so many bytes may be in an update to a state
 abbrev pub size_may : State → ℕ → Bool
 size_may CopyFinished n = nat_le n 128
 size_may state n = n == 0
@@ -177,7 +177,7 @@ custom_in true state bytes = do
   custom ← cut_at size.0 size.1
   whole (31 + size.0) (Some custom.0) custom.1
 
--- a note that updates an entry, packed or not, behind version and kind
+-- an event that updates an entry, packed or not, after version and kind
 unfoldable pub updated_in : Bool → List ℕ → Result Note NoteRefusal
 updated_in packed bytes = do
   id ← id_at bytes
@@ -188,13 +188,13 @@ updated_in packed bytes = do
   custom ← custom_in packed state code.1
   Ok (Update id.0 (record { 0 = broker.0 }) event_ts.0 state custom)
 
--- the rest of a note of a segment that is packed or not, behind its version
+-- the rest of an event of a segment that is packed or not, after its version
 abbrev pub kind_in : Bool → List ℕ → Result Note NoteRefusal
 kind_in packed [] = Err Short
 kind_in packed (kind ∷ bytes) =
     if kind == 0 then added_in packed bytes else if kind == 1 then updated_in packed bytes else Err (Bad 1)
 
--- the note that bytes are, or why they are none
+-- the event that bytes are, or why they are none
 unfoldable pub note_in : List ℕ → Result Note NoteRefusal
 note_in [] = Err Short
 note_in (version ∷ bytes) = if nat_le version 1 then kind_in (version == 1) bytes else Err BadVersion

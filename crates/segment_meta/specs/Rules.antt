@@ -1,4 +1,4 @@
--- What a note must say.
+-- What an event must say.
 use Rattle.std.specs.Prelude.{◌≡◌, ◌≢◌, ℕ, ◌^◌, ◌<◌, ◌≤◌, Bool, true, false, List, [], ◌∷◌, length, Option, Some, None, FitsSigned}
 use Rattle.std.specs.Int.{w64}
 use Rattle.std.specs.List.{All, AllByRecursion}
@@ -23,7 +23,7 @@ pub record IsMap (start end : ℕ) (pairs : List (ℕ × ℕ)) : Type 0 where
   pub within : AllByRecursion (λ pair. pair.1 ≤ end) pairs
   pub few : length pairs ≤ 67108864
 
--- an entry that a note may add: its copy has started
+-- an entry that an event may add: its copy has started
 pub record IsAdded (entry : Entry) : Type 0 where
   pub started : entry.state ≡ CopyStarted
   pub ordered : entry.start ≤ entry.end
@@ -31,22 +31,22 @@ pub record IsAdded (entry : Entry) : Type 0 where
   pub map : IsMap entry.start entry.end entry.map
   pub bare : entry.custom ≡ None
 
--- custom metadata that an update to a state may tell: short, and empty unless the copy is finished
+-- custom metadata that an update to a state may report: short, and empty unless the copy is finished
 pub record IsCustom (state : State) (bytes : List ℕ) : Type 0 where
   pub few : length bytes ≤ 128
   pub bare : state ≢ CopyFinished → bytes ≡ []
 
--- and so where it tells any
+-- and so where it is observable
 abbrev pub MayTell : State → Option (List ℕ) → Type 0
 MayTell state None = Unit {0}
 MayTell state (Some bytes) = IsCustom state bytes
 
--- the custom metadata of an update that tells nothing of it, of a segment that is packed or not
+-- the custom metadata of an update that reports nothing of it, of a segment that is packed or not
 abbrev pub bare_custom : Bool → Option (List ℕ)
 bare_custom false = None
 bare_custom true = Some []
 
--- the rules of a note
+-- the rules of an event
 abbrev pub IsNote : Note → Type 0
 IsNote (Add entry) = IsAdded entry
 IsNote (Update id broker event_ts state custom) = (state ≢ CopyStarted) × MayTell state custom
@@ -60,7 +60,7 @@ pub record EntryFits (entry : Entry) : Type 0 where
   pub event_ts : FitsSigned w64 entry.event_ts
   pub size : entry.size < 2 ^ 32
 
--- a note as a program holds it
+-- an event as a program holds it
 abbrev pub NoteFits : Note → Type 0
 NoteFits (Add entry) = EntryFits entry
 NoteFits (Update id broker event_ts state custom) =

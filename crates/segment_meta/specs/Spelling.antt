@@ -1,6 +1,6 @@
--- The bytes of a note: big endian, and nothing follows. Version 1 is of a packed segment, and has a field more.
+-- The bytes of an event: big endian, and nothing follows. Version 1 is of a packed segment, and has a field more.
 --
--- A note that adds a remote segment:
+-- An event that adds a remote segment:
 --
 --   at  size  field
 --    0     1  version: 0 or 1
@@ -18,7 +18,7 @@
 --   63   4+8  epoch, below 2^31, and where it starts, at most at end. Both rise, and the first start is start
 --   then  2  length of the custom metadata: 0. In version 1 alone
 --
--- A note that updates one:
+-- An event that updates one:
 --
 --   at  size  field
 --    0     1  version: 0 or 1
@@ -63,7 +63,7 @@ pair_bytes pair = to_be_bytes w32 pair.0 ++ to_be_bytes w64 pair.1
 abbrev pub pairs_bytes : List (ℕ × ℕ) → List ℕ
 pairs_bytes pairs = concat (map pair_bytes pairs)
 
--- which segment an entry tells of, and its offsets
+-- which segment an entry describes, and its offsets
 unfoldable pub span_bytes : Entry → List ℕ
 span_bytes entry =
     entry.id.0 ++ (to_be_bytes w16 entry.partition.0 ++ (to_be_bytes w64 entry.start ++ to_be_bytes w64 entry.end))
@@ -79,7 +79,7 @@ unfoldable pub entry_bytes : Entry → List ℕ
 entry_bytes entry =
     span_bytes entry ++ (event_bytes entry ++ (to_be_bytes w32 (length entry.map) ++ pairs_bytes entry.map))
 
--- the version of a note, of a packed segment or not
+-- the version of an event, of a packed segment or not
 abbrev pub version_of : Bool → ℕ
 version_of false = 0
 version_of true = 1
@@ -89,17 +89,17 @@ abbrev pub custom_bytes : Option (List ℕ) → List ℕ
 custom_bytes None = []
 custom_bytes (Some bytes) = to_be_bytes w16 (length bytes) ++ bytes
 
--- what stands behind the map of an entry that is packed or not: no custom metadata
+-- what follows the map of an entry that is packed or not: no custom metadata
 abbrev pub packed_bytes : Bool → List ℕ
 packed_bytes false = []
 packed_bytes true = to_be_bytes w16 0
 
--- an update's fields behind its version and kind
+-- an update's fields after its version and kind
 unfoldable pub update_bytes : SegmentId → BrokerId → ℤ → State → Option (List ℕ) → List ℕ
 update_bytes id broker event_ts state custom =
     id.0 ++ (to_be_bytes w16 broker.0 ++ (ts_bytes event_ts ++ (state_code state ∷ custom_bytes custom)))
 
--- a note
+-- an event
 unfoldable pub note_bytes : Note → List ℕ
 note_bytes (Add entry) = version_of entry.packed ∷ 0 ∷ (entry_bytes entry ++ packed_bytes entry.packed)
 note_bytes (Update id broker event_ts state custom) =

@@ -1,7 +1,7 @@
 //! The metadata of remote segments: an entry for each segment, its states, and the events that change them.
 //!
 //! The first event of a segment adds its entry, when its copy starts; each further one moves it to the next state
-//! (KIP-405). An event is called a note here, and has one spelling in bytes.
+//! (KIP-405). The type of an event is called `Event`; it has one spelling in bytes.
 #![tactic(auto)]
 
 mod custom;

@@ -70,7 +70,7 @@ pub enum Note {
     },
 }
 
-/// An entry's fields between its id and its map, as they stand in a note.
+/// An entry's fields between its id and its map, as they are in an event.
 #[derive(Clone, Copy)]
 pub(crate) struct Front {
     pub partition: PartitionId,

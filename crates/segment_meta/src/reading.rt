@@ -84,7 +84,7 @@ fn front(bytes: &[u8]) -> Result<(Front, &[u8]), NoteRefusal>
     Ok((front, rest))
 }
 
-/// Whether an epoch may stand behind the last one.
+/// Whether an epoch may follow the last one.
 fn epoch_may(last: Option<(u32, u64)>, epoch: u32) -> bool
     ensures { result ≡ epoch_may last epoch }
 {
@@ -94,7 +94,7 @@ fn epoch_may(last: Option<(u32, u64)>, epoch: u32) -> bool
     }
 }
 
-/// Whether a start may stand behind the last one.
+/// Whether a start may follow the last one.
 fn start_may(range: (u64, u64), last: Option<(u32, u64)>, start: u64) -> bool
     ensures { result ≡ start_may range.0 range.1 last start }
 {
@@ -104,7 +104,7 @@ fn start_may(range: (u64, u64), last: Option<(u32, u64)>, start: u64) -> bool
     }
 }
 
-/// An epoch of the map and its start, which stand at a place behind the last ones.
+/// An epoch of the map and its start, which are at a place after the last ones.
 #[tactic(auto, unfolding(crate::specs::Reading::pair_at))]
 fn pair(
     range: (u64, u64),
@@ -159,7 +159,7 @@ fn whole(at: u32, bytes: &[u8]) -> Result<(), NoteRefusal>
     }
 }
 
-/// Nothing, where these bytes, which begin at this place, are what stands behind an entry's map.
+/// Nothing, where these bytes, which begin at this place, are what follows an entry's map.
 #[tactic(auto, unfolding(crate::specs::Reading::packed_in))]
 fn packed_end(packed: bool, at: u32, bytes: &[u8]) -> Result<(), NoteRefusal>
     requires { at ≤ 805306431 }
@@ -175,7 +175,7 @@ fn packed_end(packed: bool, at: u32, bytes: &[u8]) -> Result<(), NoteRefusal>
     whole(at + 2, rest)
 }
 
-/// A note that adds an entry, packed or not, behind version and kind.
+/// An event that adds an entry, packed or not, after version and kind.
 #[tactic(auto, unfolding(crate::specs::Reading::added_in, crate::specs::Reading::id_at))]
 fn added(alloc: Global, packed: bool, bytes: &[u8]) -> Result<Note, NoteRefusal>
     ensures { Answers (λ note. note) result (added_in packed bytes.now) }
@@ -211,7 +211,7 @@ fn entry(packed: bool, id: SegmentId, front: Front, map: Line) -> Entry
     }
 }
 
-/// The state that an update may tell by this number.
+/// The state that an update may report by this number.
 fn later_state(code: u8) -> Result<State, NoteRefusal>
     ensures { result ≡ later_state code }
 {
@@ -223,7 +223,7 @@ fn later_state(code: u8) -> Result<State, NoteRefusal>
     }
 }
 
-/// Whether custom metadata of so many bytes may stand in an update to a state.
+/// Whether custom metadata of so many bytes may be in an update to a state.
 fn size_may(state: State, size: u16) -> bool
     ensures { result ≡ size_may state size }
 {
@@ -256,7 +256,7 @@ fn custom(
     Ok(Some(Blob::from_slice(alloc, custom)?))
 }
 
-/// A note that updates an entry, packed or not, behind version and kind.
+/// An event that updates an entry, packed or not, after version and kind.
 #[tactic(auto, unfolding(crate::specs::Reading::updated_in, crate::specs::Reading::id_at))]
 fn updated(alloc: Global, packed: bool, bytes: &[u8]) -> Result<Note, NoteRefusal>
     ensures { Answers (λ note. note) result (updated_in packed bytes.now) }

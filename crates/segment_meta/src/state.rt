@@ -10,8 +10,8 @@
 //!       delete finished
 //! ```
 //!
-//! Each arrow is a step, and so is the first note, to copy started. Any other note changes nothing: so a copy that ends
-//! late can't revive a segment whose deletion has begun.
+//! Each arrow is a step, and so is the first event, to copy started. Any other event changes nothing: so a copy that
+//! ends late can't revive a segment whose deletion has begun.
 
 ghost use Rattle.std.specs.Prelude.{◌≡◌};
 ghost use Rattle.segment_meta.specs.Steps.{next_state};

@@ -43,7 +43,7 @@ pub fn encode(alloc: Global, note: &Note) -> Result<Vec<u8>, AllocError>
     Ok(out)
 }
 
-/// The version of a note.
+/// The version of an event.
 fn version(packed: bool) -> u8
     ensures { result ≡ version_of packed }
 {
@@ -121,7 +121,7 @@ fn push_pairs(out: &mut Vec<u8>, pairs: &[(u32, u64)]) -> Result<(), AllocError>
     Ok(())
 }
 
-/// Writes which segment an entry tells of, and its offsets.
+/// Writes which segment an entry describes, and its offsets.
 #[tactic(auto, unfolding(crate::specs::Spelling::span_bytes))]
 fn push_span(out: &mut Vec<u8>, entry: &Entry) -> Result<(), AllocError>
     ensures { OnOk result (out.new.items ≡ out.old.items ++ span_bytes entry.now) }
@@ -158,7 +158,7 @@ fn push_entry(out: &mut Vec<u8>, entry: &Entry) -> Result<(), AllocError>
     push_pairs(out, pairs)
 }
 
-/// Writes what stands behind the map of an entry.
+/// Writes what follows the map of an entry.
 fn push_packed(out: &mut Vec<u8>, packed: bool) -> Result<(), AllocError>
     ensures { OnOk result (out.new.items ≡ out.old.items ++ packed_bytes packed) }
 {

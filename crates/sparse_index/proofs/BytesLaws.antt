@@ -1,4 +1,4 @@
--- The bytes of entries tell the entries.
+-- The bytes of entries give the entries.
 use Rattle.std.proofs.Common.{suc, ◌≡◌, ◌≢◌, ◌∙◌, sym, ap, refl, subst, ℕ, ◌+◌, ◌*◌, ◌<◌, List, [], ◌∷◌, ◌++◌, length, arith, append_assoc, append-nil, length-append, take, drop, Result, Ok, Err, OnOk}
 use Rattle.std.proofs.lemmas.List.{take-append-drop}
 use Rattle.std.specs.List.{AllByRecursion}
@@ -66,7 +66,7 @@ module _ {X : Type 0} (spelling : X → List ℕ) (n : ℕ) (some : 0 < n) (long
 pub cut-front : (k : ℕ) (rest front behind one : List ℕ) → front ≡ take k rest → behind ≡ drop k rest → one ≡ front → rest ≡ one ++ behind
 cut-front k rest front behind one f b e = sym (take-append-drop k rest) ∙ (ap (λ x. x ++ drop k rest) (sym f ∙ sym e) ∙ ap (λ y. one ++ y) (sym b))
 
--- two pieces, one behind the other
+-- two pieces, one after the other
 pub ok-join : {A E : Type 0} (r : Result A E) (new mid old a b : List ℕ) → OnOk r (new ≡ mid ++ b) → mid ≡ old ++ a → OnOk r (new ≡ old ++ (a ++ b))
 ok-join (Ok x) new mid old a b h e = h ∙ (ap (λ m. m ++ b) e ∙ append_assoc old a b)
 ok-join (Err x) new mid old a b h e = tt

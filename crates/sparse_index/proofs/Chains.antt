@@ -52,7 +52,7 @@ module _ {X : Type 0} (Fits : X → Type 0) (R : X → X → Type 0) (p : X → 
   chain-parted (x ∷ xs) h (suc i) zero d up within t = absurd (omega (arith, up))
   chain-parted (x ∷ xs) h (suc i) (suc j) d up within t = chain-parted xs h.2 i j d (omega (arith, up)) (omega (arith, within)) t
 
--- a chain grows by an entry that the last one stands before
+-- a chain grows by an entry that the last one precedes
 pub chain-push : {X : Type 0} (Fits : X → Type 0) (R : X → X → Type 0) (xs : List X) (x : X) → IsChain Fits R xs → Fits x → ForSome (last_of xs) (λ last. R last x) → IsChain Fits R (xs ++ x ∷ [])
 chain-push Fits R [] x h fits above = (fits, tt, tt)
 chain-push Fits R (y ∷ []) x h fits above = (h.0, above y refl, (fits, tt, tt))
@@ -74,13 +74,13 @@ last-counted p xs k d h e =
 pub last-none : {X : Type 0} (p : X → Bool) (xs : List X) → IsPartitionedBy p xs → count_by p xs ≡ 0 → last_passing p xs ≡ None
 last-none p xs h e = ap last_of (filter-take p xs h ∙ ap (λ n. take n xs) e)
 
--- the last of a chain that grew: it fits, and the one before stands before it
+-- the last of a chain that grew: it fits, and the one before precedes it
 pub chain-last : {X : Type 0} (Fits : X → Type 0) (R : X → X → Type 0) (xs : List X) (x : X) → IsChain Fits R (xs ++ x ∷ []) → Fits x × ForSome (last_of xs) (λ last. R last x)
 chain-last Fits R [] x h = (h.0, λ last e. absurd (cc))
 chain-last Fits R (y ∷ []) x h = (h.2.0, λ last e. (let same : y ≡ last = same_Some y last e in subst (λ z. R z x) same h.1))
 chain-last Fits R (y ∷ z ∷ xs) x h = chain-last Fits R (z ∷ xs) x h.2
 
--- the last entry stands at the last place
+-- the last entry is at the last place
 pub last-index : {X : Type 0} (xs : List X) (k : ℕ) → k + 1 ≡ length xs → last_of xs ≡ slice_get xs k
 last-index [] k h = absurd (omega (arith, h))
 last-index (x ∷ []) zero h = refl

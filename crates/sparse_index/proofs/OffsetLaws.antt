@@ -1,4 +1,4 @@
--- Look-ups in an offset index, by its columns.
+-- Lookups in an offset index, by its columns.
 use Rattle.std.proofs.Common.{◌≡◌, ◌∙◌, sym, ap, refl, ℕ, ◌+◌, ◌-◌, ◌^◌, ◌<◌, ◌≤◌, List, Some, None, true, false, length, get_or, take, ◌%◌, arith, subst, Result, Ok, Err, ◌++◌, ◌∷◌, [], OnOk, OnErr}
 use Rattle.std.specs.Prelude.{◌≢◌, Bool, drop, count_by, nat_le, nat_lt}
 use Rattle.std.specs.List.{zip}
@@ -25,7 +25,7 @@ use Rattle.sparse_index.proofs.Chains.{count-firsts, parted-firsts, chain-fits, 
 pub long : (offsets positions : List ℕ) → length offsets ≡ length positions → length (zip offsets positions) ≡ length offsets
 long offsets positions even = omega (arith, length-zip offsets positions, even)
 
--- what stands up to an offset stands in front
+-- what is up to an offset comes first
 pub up-to-parted : (base offset : ℕ) (entries : List (ℕ × ℕ)) → AreOffsets entries → IsPartitionedBy (is_up_to base offset) entries
 up-to-parted base offset entries h = chain-parted FitsEntry Rises (is_up_to base offset) (λ x y r t. (let le = leb-true _ _ t in le-leb _ _ (omega (arith, le, r.0)))) entries h
 
@@ -35,11 +35,11 @@ column-parted top offsets positions even h =
     parted-firsts (λ item. nat_le item top) offsets positions 0 even
     (chain-parted FitsEntry Rises (λ e. nat_le e.0 top) (λ x y r t. (let le = leb-true _ _ t in le-leb _ _ (omega (arith, le, r.0)))) (zip offsets positions) h)
 
--- none stands below the base
+-- none is below the base
 pub none-below : (base offset : ℕ) (entries : List (ℕ × ℕ)) → offset < base → count_by (is_up_to base offset) entries ≡ 0
 none-below base offset entries l = count-none (is_up_to base offset) entries (λ k d within. lt-leb _ _ (omega (arith, l)))
 
--- all stand below what is too far for a relative offset
+-- all are below what is too far for a relative offset
 pub all-far : (base offset : ℕ) (offsets positions : List ℕ) → AreColumns base offsets positions → base ≤ offset → 2 ^ 31 - 1 < offset - base → count_by (is_up_to base offset) (zip offsets positions) ≡ length offsets
 all-far base offset offsets positions h low far =
     count-all (is_up_to base offset) (zip offsets positions) (λ k d within. (let fits = chain-fits FitsEntry Rises (zip offsets positions) h.entries k d within in le-leb _ _ (omega (arith, fits.0, low, far))))
@@ -119,7 +119,7 @@ follows entries entry h t = let parts = test-parts (last_of entries) entry t in 
 pub falls : (entries : List (ℕ × ℕ)) (entry : ℕ × ℕ) → may_follow (last_of entries) entry ≡ false → AreOffsets (entries ++ entry ∷ []) → ⊥
 falls entries entry t h = let parts = chain-last FitsEntry Rises entries entry h in let yes = test-from (last_of entries) entry parts.0 parts.1 in cc
 
--- an entry's bytes are eight, and tell it
+-- an entry's bytes are eight, and report it
 pub entry-long : (entry : ℕ × ℕ) → length (entry_bytes entry) ≡ 8
 entry-long entry = refl
 
@@ -156,7 +156,7 @@ bytes-more offsets positions i even l =
 pub bytes-all : (offsets positions : List ℕ) (i : ℕ) → length offsets ≡ length positions → length offsets ≤ i → bytes_of entry_bytes (take i (zip offsets positions)) ≡ bytes_of entry_bytes (zip offsets positions)
 bytes-all offsets positions i even l = ap (bytes_of entry_bytes) (take_all i (zip offsets positions) (omega (arith, l, long offsets positions even)))
 
--- what begins before a position stands in front
+-- what begins before a position comes first
 before-parted : (position : ℕ) (entries : List (ℕ × ℕ)) → AreOffsets entries → IsPartitionedBy (λ e. nat_lt e.1 position) entries
 before-parted position entries h = chain-parted FitsEntry Rises (λ e. nat_lt e.1 position) (λ x y r t. (let l = ltb-true _ _ t in lt-ltb _ _ (omega (arith, l, r.1)))) entries h
 

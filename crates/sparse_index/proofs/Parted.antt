@@ -47,7 +47,7 @@ module _ {X : Type 0} (p : X → Bool) where
       let short = length-take-le k xs (omega (arith, l)) in
       count-all (take k xs) (λ j d within. ap p (get_or-take k xs j d (omega (arith, within, short))) ∙ h j k d (omega (arith, within, short)) l (ap p (get_or_default xs k d e l) ∙ t)) ∙ short
 
-  -- the item at a place fails, so all behind it do
+  -- the item at a place fails, so all after it do
   pub count-back : (k : ℕ) (xs : List X) (e : X) → k < length xs → IsPartitionedBy p xs → p (get_or xs k e) ≡ false → count_by p (drop k xs) ≡ 0
   count-back k xs e l h t =
       let long = length-drop k xs in
@@ -95,7 +95,7 @@ half-passes p rest front back k passed total e l h is-front is-back t count =
     let long : length front ≡ k = ap length is-front ∙ length-take-le k rest (omega (arith, l)) in
     omega (arith, parts, all, same, long, count)
 
--- one half behind that fails whole
+-- one half after that fails whole
 pub half-fails : {X : Type 0} (p : X → Bool) (rest front back : List X) (k passed total : ℕ) (e : X) → k < length rest → IsPartitionedBy p rest → front ≡ take k rest → back ≡ drop k rest → p (get_or back 0 e) ≡ false
     → passed + count_by p rest ≡ total → passed + count_by p front ≡ total
 half-fails p rest front back k passed total e l h is-front is-back t count =

@@ -1,4 +1,4 @@
--- Look-ups in a time index, by its columns, and its bytes.
+-- Lookups in a time index, by its columns, and its bytes.
 use Rattle.std.proofs.Common.{◌≡◌, ◌∙◌, sym, ap, refl, ℕ, ◌+◌, ◌^◌, ◌<◌, ◌≤◌, ◌%◌, List, [], ◌∷◌, ◌++◌, Some, None, Ok, Err, Bool, true, false, Result, OnOk, OnErr, length, take, get_or, arith, subst}
 use Rattle.std.specs.Prelude.{count_by, ℤ, pos, ◌+ℤ◌, ◌<ℤ◌, ◌≤ℤ◌, int_le, int_lt, FitsSigned}
 use Rattle.std.specs.List.{zip}
@@ -25,14 +25,14 @@ use Rattle.sparse_index.proofs.BytesLaws.{pieces-same, bytes-push, bytes-length,
 pub long : (times : List ℤ) (offsets : List ℕ) → length times ≡ length offsets → length (zip times offsets) ≡ length times
 long times offsets even = omega (arith, length-zip times offsets, even)
 
--- what stands up to a timestamp stands in front
+-- what is up to a timestamp comes first
 pub up-to-parted : (ts : ℤ) (entries : List (ℤ × ℕ)) → AreMoments entries → IsPartitionedBy (λ e. int_le e.0 ts) entries
 up-to-parted ts entries h = chain-parted FitsMoment RisesInTime (λ e. int_le e.0 ts) (λ x y r t. falls-le x.0 y.0 ts r.0 t) entries h
   where
     falls-le : (a b t : ℤ) → a <ℤ b → int_le b t ≡ true → int_le a t ≡ true
     falls-le a b t l h = grind (arith, ints)
 
--- so does what stands before it
+-- so does what precedes it
 pub before-parted : (ts : ℤ) (entries : List (ℤ × ℕ)) → AreMoments entries → IsPartitionedBy (λ e. int_lt e.0 ts) entries
 before-parted ts entries h = chain-parted FitsMoment RisesInTime (λ e. int_lt e.0 ts) (λ x y r t. falls-lt x.0 y.0 ts r.0 t) entries h
   where
@@ -134,7 +134,7 @@ follows entries entry h wide t = let parts = test-parts (last_of entries) entry 
 pub falls : (entries : List (ℤ × ℕ)) (entry : ℤ × ℕ) → moment_follows (last_of entries) entry ≡ false → AreMoments (entries ++ entry ∷ []) → ⊥
 falls entries entry t h = let parts = chain-last FitsMoment RisesInTime entries entry h in let yes = test-from (last_of entries) entry parts.0 parts.1 in cc
 
--- an entry's bytes are twelve, and tell it
+-- an entry's bytes are twelve, and report it
 pub moment-long : (entry : ℤ × ℕ) → length (moment_bytes entry) ≡ 12
 moment-long entry = refl
 

@@ -10,7 +10,7 @@ bytes_of spelling entries = concat (map spelling entries)
 abbrev pub IsUnread : {X : Type 0} → (List X → Type 0) → (X → List ℕ) → List ℕ → Type 0
 IsUnread {X} Are spelling bytes = (entries : List X) → Are entries → bytes ≢ bytes_of spelling entries
 
--- the first entry that can't stand behind those before it; a place past 2^32 - 2 is told as 2^32 - 1
+-- the first entry that can't follow those before it; a place past 2^32 - 2 is reported as 2^32 - 1
 pub record IsFirstFall {X : Type 0} (Are : List X → Type 0) (spelling : X → List ℕ) (bytes : List ℕ) (at : ℕ) : Type 0 where
   pub before : List X
   pub entry : X

@@ -2,12 +2,12 @@
 use Rattle.std.specs.Prelude.{Bool, List, [], ◌∷◌, filter, Some, None}
 use Rattle.std.specs.declared.option.Option.{Option}
 
--- an entry stands so to the first of those behind it
+-- an entry is related to the first of those after it
 abbrev pub StandsBefore : {X : Type 0} → (X → X → Type 0) → X → List X → Type 0
 StandsBefore R entry [] = Unit {0}
 StandsBefore R entry (next ∷ entries) = R entry next
 
--- each entry fits, and stands so to the next
+-- each entry fits, and is related to the next
 abbrev pub IsChain : {X : Type 0} → (X → Type 0) → (X → X → Type 0) → List X → Type 0
 IsChain Fits R [] = Unit {0}
 IsChain Fits R (entry ∷ entries) = Fits entry × StandsBefore R entry entries × IsChain Fits R entries

@@ -33,7 +33,7 @@ Rises entry next = (entry.0 < next.0) × (entry.1 < next.1)
 abbrev pub AreOffsets : List (ℕ × ℕ) → Type 0
 AreOffsets entries = IsChain FitsEntry Rises entries
 
--- the entry stands at or below an offset
+-- the entry is at or below an offset
 abbrev pub is_up_to : ℕ → ℕ → ℕ × ℕ → Bool
 is_up_to base offset entry = nat_le (base + entry.0) offset
 
@@ -58,7 +58,7 @@ cut_to index position = record index { entries = filter (λ entry. nat_lt entry.
 abbrev pub entry_bytes : ℕ × ℕ → List ℕ
 entry_bytes entry = to_be_bytes w32 entry.0 ++ to_be_bytes w32 entry.1
 
--- whether an entry may stand behind the last one
+-- whether an entry may follow the last one
 abbrev pub may_follow : Option (ℕ × ℕ) → ℕ × ℕ → Bool
 may_follow None entry = nat_lt entry.0 (2 ^ 31) && nat_lt entry.1 (2 ^ 31)
 may_follow (Some last) entry =

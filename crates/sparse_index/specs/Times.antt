@@ -61,7 +61,7 @@ below_time index ts = option_map (moment_of index.base) (last_passing (λ entry.
 abbrev pub moment_bytes : ℤ × ℕ → List ℕ
 moment_bytes entry = to_be_bytes w64 (cast_unsigned w64 entry.0) ++ to_be_bytes w32 entry.1
 
--- whether an entry may stand behind the last one
+-- whether an entry may follow the last one
 abbrev pub moment_follows : Option (ℤ × ℕ) → ℤ × ℕ → Bool
 moment_follows None entry = int_le (pos 0) entry.0 && nat_lt entry.1 (2 ^ 31)
 moment_follows (Some last) entry =

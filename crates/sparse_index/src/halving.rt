@@ -1,4 +1,4 @@
-//! How many items of a column pass a test that no item passes behind one that fails.
+//! How many items of a column pass a test that no item passes after one that fails.
 //!
 //! The column is halved down to a block, and the block is counted by vectors.
 

@@ -21,7 +21,7 @@ const ENTRY_BYTES: usize = 8;
 /// The greatest relative offset, and the greatest position.
 const LAST_OFFSET: u32 = (1 << 31) - 1;
 
-/// Where batches of a segment stand, by their last offsets.
+/// Where batches of a segment exist, by their last offsets.
 #[derive(Debug, Drop)]
 pub struct OffsetIndex {
     base: u64,
@@ -157,7 +157,7 @@ fn find_in(base: u64, offsets: &[u32], positions: &[u32], offset: u64) -> (u64, 
     (base + offsets[count - 1] as u64, positions[count - 1])
 }
 
-/// How many entries stand at or below an offset: those in front.
+/// How many entries are at or below an offset: those in front.
 fn count_in(base: u64, offsets: &[u32], positions: &[u32], offset: u64) -> usize
     requires { AreColumns base offsets.now positions.now }
     ensures count { result ≡ count_by (is_up_to base offset) (zip offsets.now positions.now) }
@@ -197,7 +197,7 @@ fn last_of(offsets: &[u32], positions: &[u32]) -> Option<(u32, u32)>
     Some((offsets[count - 1], positions[count - 1]))
 }
 
-/// Whether an entry may stand behind the last one.
+/// Whether an entry may follow the last one.
 fn may_follow(last: Option<(u32, u32)>, entry: (u32, u32)) -> bool
     ensures { result ≡ may_follow last entry }
 {

@@ -2,7 +2,7 @@
 
 use thiserror::Error;
 
-/// Why bytes are no index. The first cause in this order is told.
+/// Why bytes are no index. The first cause in this order is reported.
 #[derive(Clone, Copy, Debug, PartialEq, Eq, Drop, Error)]
 pub enum IndexRefusal {
     /// The length is no multiple of an entry's.

@@ -166,7 +166,7 @@ fn below_in(base: u64, times: &[i64], offsets: &[u32], ts: i64) -> Option<(i64, 
     Some((times[count - 1], base + offsets[count - 1] as u64))
 }
 
-/// How many entries stand at or below a timestamp: those in front.
+/// How many entries are at or below a timestamp: those in front.
 fn count_up_to(times: &[i64], offsets: &[u32], ts: i64) -> usize
     requires even { length times.now ≡ length offsets.now }
     requires entries { AreMoments (zip times.now offsets.now) }
@@ -191,7 +191,7 @@ fn last_of(times: &[i64], offsets: &[u32]) -> Option<(i64, u32)>
     Some((times[count - 1], offsets[count - 1]))
 }
 
-/// Whether an entry may stand behind the last one.
+/// Whether an entry may follow the last one.
 fn may_follow(last: Option<(i64, u32)>, entry: (i64, u32)) -> bool
     ensures { result ≡ moment_follows last entry }
 {

@@ -5,7 +5,7 @@ use script_lang::{ScriptRefusal, Why, parse};
 use std::alloc::{AllocError, Global};
 use tier_base::{MemorySource, Source};
 
-/// Scripts without a reading, and what is told of them.
+/// Invalid scripts, and what is reported of them.
 static ROWS: [(&str, &str, &str); 33] = [
     (
         "an unknown command",
@@ -174,7 +174,7 @@ static ROWS: [(&str, &str, &str); 33] = [
     ),
 ];
 
-/// What is told of a line for a cause that only a long script has, or that it hasn't.
+/// What is reported of a line for a cause that only a long script has, or that it hasn't.
 static GIVEN: [(&str, &str, u32, Why, &str); 4] = [
     (
         "too many commands",
@@ -206,7 +206,7 @@ static GIVEN: [(&str, &str, u32, Why, &str); 4] = [
     ),
 ];
 
-/// What is told of a script that has no reading.
+/// What is reported of a script that is invalid.
 fn told_of(alloc: Global, text: &str) -> Result<String, AllocError> {
     if text.len() > 1000 {
         return Ok(String::new(alloc));
@@ -217,7 +217,7 @@ fn told_of(alloc: Global, text: &str) -> Result<String, AllocError> {
     }
 }
 
-/// Whether this is told of a script that has no reading.
+/// Whether this is reported of a script that is invalid.
 fn is_told(alloc: Global, text: &str, told: &str) -> bool {
     match told_of(alloc, text) {
         Ok(found) => found.as_str() == told,
@@ -225,7 +225,7 @@ fn is_told(alloc: Global, text: &str, told: &str) -> bool {
     }
 }
 
-/// Whether this is told of a line for a cause.
+/// Whether this is reported of a line for a cause.
 fn is_explained(alloc: Global, text: &str, line: u32, why: Why, told: &str) -> bool {
     match explanation(alloc, text.as_bytes(), line, why) {
         Ok(found) => found.as_str() == told,

@@ -31,11 +31,11 @@ enum Step {
     Flush { broker: u16, number: u32, end: u64 },
     /// The broker stops.
     Stop { broker: u16, number: u32 },
-    /// It comes up with this end.
+    /// It starts with this end.
     Up { broker: u16, number: u32, end: u64 },
 }
 
-/// Takes a step, and answers whether it was one.
+/// Takes a step, and returns whether it was one.
 fn take(alloc: Global, plain: &mut Plain, step: Step) -> Result<bool, AllocError> {
     let (broker, number, command, answer) = match step {
         Step::Flush {
@@ -131,7 +131,7 @@ fn run_fresh(alloc: Global, rows: &[(Step, bool)]) -> usize {
     }
 }
 
-/// The first end, and the first known mark.
+/// The first end, and the first known high watermark.
 fn first_of(plain: &Plain) -> Option<(u128, u64)> {
     if plain.count() == 0 {
         return None;
@@ -139,7 +139,7 @@ fn first_of(plain: &Plain) -> Option<(u128, u64)> {
     Some((plain.end(BrokerId(0)), plain.known(BrokerId(0))))
 }
 
-/// The mark, the log start, an actor's number, and how many brokers there are.
+/// The mark, the log start offset, an actor's number, and how many brokers there are.
 fn told(plain: &Plain) -> (u64, u64, u32, usize) {
     (
         plain.mark(),
@@ -149,7 +149,7 @@ fn told(plain: &Plain) -> (u64, u64, u32, usize) {
     )
 }
 
-/// What is told of a fresh state.
+/// What is reported of a fresh state.
 fn told_fresh(alloc: Global) -> Option<(Option<(u128, u64)>, (u64, u64, u32, usize))> {
     match Plain::fresh(alloc, &config()) {
         Ok(plain) => Some((first_of(&plain), told(&plain))),

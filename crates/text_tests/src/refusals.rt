@@ -3,7 +3,7 @@
 
 use crate::scripts::is_told;
 
-/// Scripts with a reading.
+/// Valid scripts.
 static GOOD: [(&str, &str); 30] = [
     ("", "no line"),
     ("\n", "an empty line"),
@@ -100,7 +100,7 @@ static GOOD: [(&str, &str); 30] = [
     ),
 ];
 
-/// Scripts without one, and what is told of them.
+/// Scripts without one, and what is reported of them.
 static BAD: [(&str, &str); 145] = [
     // bytes that no line has
     ("# \x7f\n", "line 1: NotText"),
@@ -110,7 +110,7 @@ static BAD: [(&str, &str); 145] = [
     ("\r\r\n", "line 1: NotText"),
     ("0 0 0 flush\x00\n", "line 1: NotText"),
     ("0 0 0 frob\x0b\n", "line 1: NotText"),
-    // words that cannot stand there
+    // words that cannot be there
     ("# c\n0 0 0 frob\n", "line 2: Word"),
     ("brokers 1\n# c\n0 0 0 frob\n", "line 3: Word"),
     ("\n0 0 - flush\n", "line 2: Word"),
@@ -210,7 +210,7 @@ static BAD: [(&str, &str); 145] = [
     ("fault 0 disk 1 read 1 after\n", "line 1: Number"),
     ("fault 0 store put 0 before\n", "line 1: Number"),
     ("fault 0 store put 4294967296 before\n", "line 1: Number"),
-    // records without a reading
+    // invalid records
     ("0 0 0 append 1\n", "line 1: Field"),
     ("0 0 0 append 1,-\n", "line 1: Field"),
     ("0 0 0 append x,-,-\n", "line 1: Field"),
@@ -234,7 +234,7 @@ static BAD: [(&str, &str); 145] = [
     ("0 0 0 raw 0g\n", "line 1: Hex"),
     ("0 0 0 raw x00\n", "line 1: Hex"),
     ("0 0 0 raw 0 1\n", "line 1: Hex"),
-    // options behind a command
+    // options after a command
     ("0 0 0 flush\npartitions 1\n", "line 2: TooLate"),
     ("0 0 0 flush\nbrokers 1\n", "line 2: TooLate"),
     ("later 0 0 0 trim\nretention_ms -1\n", "line 2: TooLate"),
@@ -297,7 +297,7 @@ static BAD: [(&str, &str); 145] = [
     ),
 ];
 
-/// Bytes that are no text, and what is told of them.
+/// Bytes that are no text, and what is reported of them.
 static BYTES: [(&[u8], &str); 2] = [
     (b"\x80\n", "line 1: NotText"),
     (b"#\n\n#\xff\n0 x\n", "line 3: NotText"),

@@ -12,7 +12,7 @@ pub(crate) fn read(alloc: Global, text: &[u8]) -> Result<Script, ScriptRefusal> 
     }
 }
 
-/// What is told of a script, where it isn't read.
+/// What is reported of a script, where it isn't read.
 fn told_of(alloc: Global, text: &[u8]) -> Result<String, AllocError> {
     match read(alloc, text) {
         Ok(_) => Ok(String::new(alloc)),
@@ -20,7 +20,7 @@ fn told_of(alloc: Global, text: &[u8]) -> Result<String, AllocError> {
     }
 }
 
-/// Whether this is told of a script.
+/// Whether this is reported of a script.
 pub(crate) fn is_told(alloc: Global, text: &[u8], told: &str) -> bool {
     match told_of(alloc, text) {
         Ok(found) => found.as_str() == told,
@@ -44,8 +44,8 @@ fn padded(
     Ok(script)
 }
 
-/// Long scripts: a front, a text so many times, and an end; and what is told of them. 1,048,576 bytes of a batch are
-/// 61 of the head, 3 of the record's length, 8 of its fields, and the value.
+/// Long scripts: a front, a text so many times, and an end; and what is reported of them. 1,048,576 bytes of a batch
+/// are 61 of the head, 3 of the record's length, 8 of its fields, and the value.
 static LONG: [(&str, &str, u32, &str, &str); 13] = [
     ("0 0 0 append 1,-,:", "v", 1_048_504, "\n", ""),
     (
@@ -120,7 +120,7 @@ fn the_local_log_keeps_its_own_or_the_whole_bound(rt: HostRuntime) {
     }
 }
 
-/// Whether this is told of a script of a front, a text so many times, and an end.
+/// Whether this is reported of a script of a front, a text so many times, and an end.
 fn is_told_long(alloc: Global, front: &str, text: &str, times: u32, end: &str, told: &str) -> bool {
     match padded(alloc, front, text, times, end) {
         Ok(script) => is_told(alloc, script.as_slice(), told),

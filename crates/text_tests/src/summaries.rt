@@ -119,7 +119,7 @@ static ANSWERS: [(&str, &str); 7] = [
     ("fetch", "Run"),
 ];
 
-/// A partition that was told so.
+/// A partition that was reported so.
 fn part(
     alloc: Global,
     answers: &[(&'static str, &'static str)],

@@ -298,7 +298,7 @@ static BAD: [(&str, u32); 38] = [
     ("0 0 0 = Overtaken copy-started\n", 1),
 ];
 
-/// Whether a text is read as this, or this is told of it.
+/// Whether a text is read as this, or this is reported of it.
 fn is_shown(alloc: Global, text: &str, wanted: &str) -> bool {
     match shown(alloc, text.as_bytes()) {
         Ok(found) => found.as_str() == wanted,
@@ -306,7 +306,7 @@ fn is_shown(alloc: Global, text: &str, wanted: &str) -> bool {
     }
 }
 
-/// Whether this line of a text is told to be no line of a trace.
+/// Whether this line of a text is reported to be no line of a trace.
 fn is_bad(alloc: Global, text: &str, line: u32) -> bool {
     match format!(in alloc; "line {line} is no line of a trace") {
         Ok(wanted) => is_shown(alloc, text, wanted.as_str()),

@@ -1,4 +1,4 @@
--- Entries that are found one behind the other in a chain.
+-- Entries that are found one after the other in a chain.
 use Rattle.std.proofs.Common.{◌≡◌, ◌≢◌, ◌⊎◌, ◌∙◌, ap, sym, refl, subst, inl, inr, ℕ, ◌-◌, ◌%◌, ◌<◌, List, [], ◌∷◌, ◌++◌, length, Option, Some, None, arith, append_assoc, append-nil, length-append}
 use Rattle.std.specs.List.{AllByRecursion}
 use Rattle.std.proofs.lemmas.Option.{same_Some}
@@ -36,19 +36,19 @@ last_in (x ∷ []) last e = inl (sym (same_Some x last e))
 last_in (x ∷ y ∷ xs) last e = inr (last_in (y ∷ xs) last e)
 
 module _ {X : Type 0} (Fits : X → Type 0) (R : X → X → Type 0) (along : (x y z : X) → R x y → R y z → R x z) (never : (x : X) → R x x → ⊥) where
-  -- the first of a chain stands before each behind it
+  -- the first of a chain precedes each after it
   first_before : (x : X) (xs : List X) → IsChain Fits R (x ∷ xs) → (item : X) → In item xs → R x item
   first_before x [] h item there = absurd there
   first_before x (y ∷ xs) h item (inl e) = subst (R x) (sym e) h.1
   first_before x (y ∷ xs) h item (inr there) = along x y item h.1 (first_before y xs h.2 item there)
 
-  -- each of a front stands before each of the rest
+  -- each of a front precedes each of the rest
   parts_before : (xs ys : List X) → IsChain Fits R (xs ++ ys) → (x y : X) → In x xs → In y ys → R x y
   parts_before [] ys h x y here there = absurd here
   parts_before (z ∷ xs) ys h x y (inl e) there = subst (λ w. R w y) (sym e) (first_before z (xs ++ ys) h y (in_back y xs ys there))
   parts_before (z ∷ xs) ys h x y (inr here) there = parts_before xs ys h.2 x y here there
 
-  -- each of a chain is the last one or stands before it
+  -- each of a chain is the last one or precedes it
   last_reached : (xs : List X) (item last : X) → IsChain Fits R xs → In item xs → last_of xs ≡ Some last → (item ≡ last) ⊎ R item last
   last_reached [] item last h there e = absurd there
   last_reached (x ∷ []) item last h (inl is) e = inl (is ∙ same_Some x last e)
@@ -65,7 +65,7 @@ module _ {X : Type 0} (Fits : X → Type 0) (R : X → X → Type 0) (along : (x
   abbrev Are : List X → List X → Type 0
   Are items entries = IsChain Fits R entries × AllByRecursion (λ entry. In entry items) entries
 
-  -- an entry goes on where it is one of those that are left
+  -- an entry continues where it is one of those that are left
   goes_on : (items left before : List X) (item : X) → IsChain Fits R items → IsLeft items left before → Are items before → In item left → Are items (before ++ item ∷ [])
   goes_on items left before item chain l are there =
       let row : IsChain Fits R (l.passed ++ left) = subst (IsChain Fits R) l.parts chain in
@@ -155,7 +155,7 @@ module _ {X : Type 0} (Fits : X → Type 0) (R : X → X → Type 0) (along : (x
         let found = longer spelling n some long Raw same (r.before ++ item ∷ []) entries behind (all_push Raw r.before item (raws items r.before r.are) raw) (raws items entries are) front in
         none (only_left items left r.before item chain r.left_is (front_are items (r.before ++ item ∷ []) found.0 (subst (Are items) found.1 are)))
 
-    -- and the place is told
+    -- and the place is reported
     pub first_bad : (items : List X) (bytes rest behind : List ℕ) (left : List X) (item : X) (at : ℕ) → IsChain Fits R items → (r : Reads items bytes rest left) → rest ≡ spelling item ++ behind → Raw item → (In item left → ⊥)
         → at ≡ length bytes - length rest → IsFirstBad (bytes_of spelling) (Are items) bytes at
     first_bad items bytes rest behind left item at chain r parts raw none is = record {

@@ -1,4 +1,4 @@
--- Calls of a store that is asked, one behind the other.
+-- Calls of a store that is asked, one after the other.
 use Rattle.std.proofs.Common.{◌≡◌, ◌≢◌, refl, sym, subst, inl, inr, ⊎_elim}
 use Rattle.tier_base.specs.Device.{Control, Ran, RanQuietly, Fate, Went, Fault, Dry}
 use Rattle.object_store.specs.declared.call.StoreCall.TheVariants.{Get, Keys}
@@ -26,7 +26,7 @@ reads_all old new r = ⊎_elim (λ ran. OneRead r.mid new r.before ran) (λ none
 pub reads_then : (fate : Fate) (old mid new : Control call_code) → Reads Went old mid → Reads fate mid new → Reads fate old new
 reads_then fate old mid new first second = record { mid = second.mid; before = all_then old mid second.mid (reads_all old mid first) second.before; last = second.last }
 
--- reads that went, behind which there is no fault
+-- reads that went, after which there is no fault
 pub reads_ended : (fate : Fate) (old new : Control call_code) → fate ≢ Fault → Reads Went old new → Reads fate old new
 reads_ended fate old new not first = record { mid = new; before = reads_all old new first; last = inr (not, refl) }
 

@@ -64,7 +64,7 @@ no_place entry part none = by entry.packed refl none
     by false is e = absurd (cc)
     by true is e = (is, told (told_layout entry.custom) e)
 
--- how far an object reaches of which a part stands whole
+-- how far an object reaches of which a part is whole
 enough : (at owed got : ℕ) → short_at at (Some owed) got ≡ None → owed ≤ got
 enough at owed got none = by (nat_lt got owed) refl none
   where
@@ -79,7 +79,7 @@ reaches at owed object some from =
     grind (arith, taken, dropped, some, from)
 
 module _ (objects : Objects) (entry : Entry) (batches : List (List ℕ)) where
-  -- a part that stands has one object
+  -- a part that is has one object
   same_spot : (part : Part) (s : Stands objects entry batches part) (spot : Spot) → place_of entry part ≡ Some spot → s.spot ≡ spot
   same_spot part s spot place = same_Some s.spot spot (sym s.place ∙ place)
 
@@ -94,7 +94,7 @@ module _ (objects : Objects) (entry : Entry) (batches : List (List ℕ)) where
       subst (λ (o : List ℕ). (short_of spot (all_of spot o) ≡ None) × IsRight entry batches part (all_of spot o)) (same_object part s spot object place there)
       (subst (λ (q : Spot). (short_of q (all_of q s.object) ≡ None) × IsRight entry batches part (all_of q s.object)) (same_spot part s spot place) (s.whole, s.right))
 
-  -- the parts before one that stands in the same object reach up to it
+  -- the parts before one that is in the same object reach up to it
   module _ (l : Layout) (packed : entry.packed ≡ true) (told : told_layout entry.custom ≡ Some l) (object : List ℕ) (there : objects (key_of entry.partition entry.id Pack) ≡ Some object) where
     placed : (part : Part) → place_of entry part ≡ Some (part_of (key_of entry.partition entry.id Pack) l part)
     placed part = rw (packed, told) refl
@@ -104,7 +104,7 @@ module _ (objects : Objects) (entry : Entry) (batches : List (List ℕ)) where
         let so = stands_so part s (part_of (key_of entry.partition entry.id Pack) l part) object (placed part) there in
         reaches (at_in l part) (length_in l part) object (enough (at_in l part) (length_in l part) (length (take (length_in l part) (drop (at_in l part) object))) so.0) from
 
-  -- the object of a part begins before it, where the parts before stand
+  -- the object of a part begins before it, where the parts before are
   from_part : (part : Part) → ((l : Layout) (object : List ℕ) → entry.packed ≡ true → told_layout entry.custom ≡ Some l → objects (key_of entry.partition entry.id Pack) ≡ Some object → at_in l part ≤ length object)
       → (spot : Spot) (object : List ℕ) → place_of entry part ≡ Some spot → objects spot.key ≡ Some object → spot.at ≤ length object
   from_part part far spot object place there = by entry.packed refl place
@@ -120,7 +120,7 @@ module _ (objects : Objects) (entry : Entry) (batches : List (List ℕ)) where
       by false is e = subst (λ (q : Spot). q.at ≤ length object) (same_Some (whole (key_of entry.partition entry.id part)) spot e) (omega arith)
       by true is e = told (told_layout entry.custom) refl is e
 
-  -- so its end is told as the object's
+  -- so its end is reported as the object's
   end_told : (spot : Spot) (object : List ℕ) (within : ℕ) → spot.at ≤ length object → from_rest spot (drop spot.at object) within ≡ in_object spot object within
   end_told spot object within from = by (within == length (all_of spot object))
     where
@@ -166,7 +166,7 @@ module _ (objects : Objects) (entry : Entry) (spot : Spot) (place : place_of ent
             (λ batches d s. (let so = stands_so objects entry batches Log s spot object place there in r.0 batches d so.1))
             (subst (λ (short : Option ℕ). IsPlaceIn objects entry Log short (all_of spot object) within) (sym is) r.1)
 
--- what stands behind a place in an object that was given
+-- what follows a place in an object that was given
 given_of : (at : ℕ) (rest : List ℕ) (o : Option (List ℕ)) → Some rest ≡ option_map (drop at) o → (object : List ℕ) × (o ≡ Some object) × (rest ≡ drop at object)
 given_of at rest None e = absurd (cc (e))
 given_of at rest (Some object) e = (object, refl, same_Some rest (drop at object) e)
@@ -221,7 +221,7 @@ module _ (objects : Objects) (entry : Entry) (log : List (List ℕ)) (has : HasL
   hold_all : (front : List Part) → AllByRecursion (Stands objects entry log) (Log ∷ front) → Hold objects entry (Log ∷ front)
   hold_all front all = (log, has.describes, all)
 
-  -- a flaw of a part is the copy's, where the parts before it stand
+  -- a flaw of a part is the copy's, where the parts before it are
   module _ (part : Part) (own : part ≢ Pack) (front : List Part) (is : parts_before part ≡ Log ∷ front) (all : AllByRecursion (Stands objects entry log) (Log ∷ front))
       (far : (l : Layout) (object : List ℕ) → entry.packed ≡ true → told_layout entry.custom ≡ Some l → objects (key_of entry.partition entry.id Pack) ≡ Some object → at_in l part ≤ length object) where
     abbrev at_part : (spot : Spot) → place_of entry part ≡ Some spot → IsAtPart objects entry spot.key

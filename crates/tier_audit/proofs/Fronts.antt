@@ -311,7 +311,7 @@ not_right entry bytes front s none batches d e =
         let whole : batches ≡ (s.is.batches ++ m ∷ []) ++ more = is ∙ sym (append_assoc s.is.batches (m ∷ []) more) in
         s.stops m (joined more) (e ∙ (ap joined whole ∙ joined_append (s.is.batches ++ m ∷ []) more)) (describes_begins entry (s.is.batches ++ m ∷ []) more (subst (Describes entry) whole d))
 
--- and this place is told of it
+-- and this place is reported of it
 pub first_bad : (entry : Entry) (bytes : List ℕ) (front : Front) → IsStopped entry bytes front → IsFirstBad joined (MayBegin entry) bytes front.at
 first_bad entry bytes front s = record {
   before = s.is.batches;

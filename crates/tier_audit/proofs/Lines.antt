@@ -14,7 +14,7 @@ use Rattle.epoch_line.specs.Line.{IsLine, last_entry, last_epoch}
 use Rattle.segment_file.specs.Gathering.{epoch_after, with_epoch}
 use Rattle.segment_file.proofs.Joining.{consecutive_up}
 
--- the entry that a batch of this epoch begins behind one of another
+-- the entry that a batch of this epoch begins after one of another
 abbrev snapshot : ℕ → ℕ → ℕ → List (ℕ × ℕ)
 snapshot epoch last base = cond (epoch == last) [] ((epoch, base) ∷ [])
 
@@ -135,7 +135,7 @@ pub epochs_up : (line : List (ℕ × ℕ)) (n : ℕ) (xs : List (List ℕ)) (epo
     → (epoch_after 0 xs ≤ epoch) × (epoch < 2 ^ 31)
 epochs_up line n xs epoch start is row all below at = (rises_to line 0 n xs epoch start is row all below at (omega arith), fits_in line epoch start is at)
 
--- the line of batches behind one of an epoch has that epoch at offsets before them
+-- the line of batches after one of an epoch has that epoch at offsets before them
 before_them : (e s n o : ℕ) (xs : List (List ℕ)) → IsConsecutive n xs → s ≤ o → o < n → epoch_at ((e, s) ∷ line_after e xs) o ≡ Some e
 before_them e s n o [] row from below = rw (le-leb s o from) refl
 before_them e s n o (x ∷ xs) row from below = go (epoch_of x == e) refl (before_them e s (last_of x + 1) o xs row.1 from (omega (arith, row.0, below)))
@@ -144,7 +144,7 @@ before_them e s n o (x ∷ xs) row from below = go (epoch_of x == e) refl (befor
     go true t rest = rw t rest
     go false t rest = rw t (rw (lt_false o s from, lt_true o (base_of x) (omega (arith, row.0, below))) refl)
 
--- an entry more in front, which starts below the next one, changes nothing of the batches behind both
+-- an entry more in front, which starts below the next one, changes nothing of the batches after both
 behind_entry : (e s x b m : ℕ) (ys : List (List ℕ)) (line : List (ℕ × ℕ)) → IsConsecutive m ys → s ≤ b → b ≤ m → AllByRecursion (Has ((x, b) ∷ line)) ys → AllByRecursion (Has ((e, s) ∷ (x, b) ∷ line)) ys
 behind_entry e s x b m [] line row from low all = tt
 behind_entry e s x b m (y ∷ ys) line row from low all = (

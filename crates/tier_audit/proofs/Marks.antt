@@ -22,7 +22,7 @@ pub record AreNear (base first at : ℕ) (batches : List Placed) : Type 0 where
   pub near : end_after first batches ≤ base + 2 ^ 31
   pub small : size_after at batches < 2 ^ 31
 
--- so are those behind the first
+-- so are those after the first
 pub near_rest : (base first at : ℕ) (batch : Placed) (batches : List Placed) → AreNear base first at (batch ∷ batches) → AreNear base (batch.last + 1) batch.to batches
 near_rest base first at batch batches n =
     let from = n.from in
@@ -63,7 +63,7 @@ marks_rise base first at (batch ∷ next ∷ batches) n =
 abbrev pub FitsBare : ℤ × ℕ → Type 0
 FitsBare moment = (pos 0 ≤ℤ moment.0) × (moment.1 < 2 ^ 31)
 
--- the moments rise, and stand behind one that is no later and no further
+-- the moments rise, and follow one that is no later and no further
 abbrev pub Rising : ℕ → ℕ → ℤ → List Placed → Type 0
 Rising base first ts batches =
     IsChain FitsBare RisesInTime (heights_of base ts batches)

@@ -18,7 +18,7 @@ no_entry : {X : Type 0} (o : Option X) → IsSome o → o ≡ None → ⊥
 no_entry None some e = cc
 no_entry (Some x) some e = cc
 
--- each part of a readable copy stands, beside those before it
+-- each part of a readable copy exists, beside those before it
 holds_to : (objects : Objects) (entry : Entry) (part : Part) → part ≢ Pack → Hold objects entry all_parts → Hold objects entry (parts_before part ++ part ∷ [])
 holds_to objects entry Log own h = (h.0, h.1, (h.2.0, tt))
 holds_to objects entry Index own h = (h.0, h.1, (h.2.0, (h.2.1.0, tt)))

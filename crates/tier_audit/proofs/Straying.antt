@@ -19,14 +19,14 @@ use Rattle.tier_audit.specs.Flaws.{is_stray, IsUpTo}
 use Rattle.tier_audit.specs.Strays.{goes, IsFirstIn, IsBehind, Offers, flaw_of, FindsStray}
 use Rattle.tier_audit.proofs.Among.{in_front, in_parts}
 
--- a text doesn't come behind itself
+-- a text doesn't come after itself
 itself : (text : List ℕ) → IsUpTo text text
 itself text = ap is_gt (tied_itself nat_list_cmp_total text)
 
 along : (a b c : List ℕ) → IsUpTo a b → IsUpTo b c → IsUpTo a c
 along = upto nat_list_cmp_total
 
--- of two texts one doesn't come behind the other
+-- of two texts one doesn't come after the other
 either : (a b : List ℕ) → (IsUpTo a b → ⊥) → IsUpTo b a
 either a b none = go (slice_cmp nat_cmp a b) refl
   where
@@ -106,7 +106,7 @@ first_more entries keys i none first within h = subst (λ (ks : List ObjectKey).
 pub first_all : (entries : List Entry) (keys : List ObjectKey) (i : ℕ) (first : Option Stray) → length keys ≤ i → IsFirstIn entries (take i keys) first → IsFirstIn entries keys first
 first_all entries keys i first all h = subst (λ (ks : List ObjectKey). IsFirstIn entries ks first) (take_all i keys all) h
 
--- what is told of the first one
+-- what is reported of the first one
 pub stray_found : (entries : List Entry) (keys : List ObjectKey) (stray : Stray) → IsFirstIn entries keys (Some stray) → FindsStray entries keys (Some (flaw_of (state_of stray.key.id entries) stray.key))
 stray_found entries keys stray h = by (entry_of stray.key.id entries) refl h.1
   where

@@ -1,4 +1,4 @@
--- The texts of leader epochs: where their lines begin, and that a text has one line of epochs.
+-- The texts of leader epochs: where their leader epochs begin, and that a text has one leader epochs.
 use Rattle.std.proofs.Common.{◌≡◌, ◌∙◌, ap, sym, refl, subst, ℕ, zero, suc, ◌+◌, ◌-◌, ◌^◌, ◌==◌, ◌&&◌, ◌<◌, ◌≤◌, Bool, true, false, List, [], ◌∷◌, ◌++◌, length, map, drop, arith, append_assoc, append-nil, length-append}
 use Rattle.std.specs.List.{AllByRecursion, concat}
 use Rattle.std.specs.Fmt.{decimal}
@@ -74,12 +74,12 @@ lines_are (version ∷ count ∷ entries) can = (
   (subst IsTextLine (sym can.1.2) (count_is can.1.0 can.1.1), subst (AllByRecursion IsTextLine) (sym can.1.3.spelled) (entries_are can.1.3.line can.1.3.rises)),
 )
 
--- the place behind a line
+-- the place after a line
 behind_line : (front : List ℕ) (lines : ℕ) (rest : List ℕ) → NoFeed front → place_behind (suc lines) ((front ++ 10 ∷ []) ++ rest) ≡ length (front ++ 10 ∷ []) + place_behind lines rest
 behind_line [] lines rest none = omega arith
 behind_line (b ∷ front) lines rest none = rw none.0 (let more = behind_line front lines rest none.1 in omega (arith, more))
 
--- behind so many lines
+-- after so many lines
 behind_lines : (lines : List (List ℕ)) (rest : List ℕ) → AllByRecursion IsTextLine lines → place_behind (length lines) (concat lines ++ rest) ≡ length (concat lines)
 behind_lines [] rest are = refl
 behind_lines (line ∷ lines) rest are =
@@ -95,7 +95,7 @@ concat_push : (lines : List (List ℕ)) (line : List ℕ) → concat (lines ++ l
 concat_push [] line = append-nil line
 concat_push (x ∷ lines) line = ap (λ t. x ++ t) (concat_push lines line) ∙ sym (append_assoc x (concat lines) line)
 
--- a text that other read: it is wrong, and the place is told
+-- a text that other read: it is wrong, and the place is reported
 pub bad_text : (entry : Entry) (bytes : List ℕ) (number at : ℕ) → text.IsFirstBad bytes number → at ≡ place_behind (number - 1) bytes
     → ((line : List (ℕ × ℕ)) → HasMap entry bytes line → ⊥) × IsFirstBad concat CanBegin bytes at
 bad_text entry bytes number at bad is =
@@ -120,7 +120,7 @@ count_text n rest = append_assoc (decimal n) (10 ∷ []) rest
 text_parts : (line : List (ℕ × ℕ)) → text_of line ≡ version_line ++ (count_line (length line) ++ concat (map entry_line line))
 text_parts line = append_assoc version_line (count_line (length line)) (concat (map entry_line line))
 
--- a text has one line of epochs
+-- a text has one leader epochs
 pub text_same : (one other : List (ℕ × ℕ)) → IsLine one → IsLine other → text_of one ≡ text_of other → one ≡ other
 text_same one other h k e =
     let whole : version_line ++ (count_line (length one) ++ concat (map entry_line one)) ≡ version_line ++ (count_line (length other) ++ concat (map entry_line other)) = sym (text_parts one) ∙ (e ∙ text_parts other) in
@@ -188,7 +188,7 @@ none_on left at total bytes all e = by left (drop at bytes) (short at bytes all)
     by (suc left) [] none e = omega (arith, e)
     by (suc left) (x ∷ rest) none e = absurd (cc)
 
--- pairs that a test tells apart
+-- pairs that a test distinguishes
 pub pair_decides : (x y : ℕ × ℕ) → ((x.0 == y.0) && (x.1 == y.1) ≡ true → x ≡ y) × (x ≡ y → (x.0 == y.0) && (x.1 == y.1) ≡ true)
 pair_decides x y = (
   λ t. (let both = and_parts (x.0 == y.0) (x.1 == y.1) t in ap (λ n. (n, x.1)) (eqb-true x.0 y.0 both.0) ∙ ap (λ n. (y.0, n)) (eqb-true x.1 y.1 both.1)),

@@ -5,7 +5,7 @@
 --   Reads f old new             objects were read: each call went, but the last may have ended so
 --   Audits f old new            the store was listed once, and objects were read then
 --
--- So no call is made again where it failed, and what failed is told.
+-- So no call is made again where it failed, and what failed is reported.
 use Rattle.std.specs.Prelude.{◌≡◌, ◌≢◌, ◌⊎◌, Ok, Err}
 use Rattle.std.specs.declared.result.Result.{Result}
 use Rattle.tier_base.specs.Device.{Control, Ran, RanQuietly, Lasts, Fate, Went, Fault, Dry}
@@ -25,24 +25,24 @@ module _ {S : Type 0} (objects : S → Content) (calls : S → Control call_code
     pub cause : fate ≡ Fault → Rose (calls old).faults (calls new).faults
     pub content : Keeps (objects old) (objects new)
 
--- reads of objects that all went, one behind the other
+-- reads of objects that all went, one after the other
 pub data AllRead (old : Control call_code) : Control call_code → Type 0 where
   NoRead : AllRead old old
   OneRead : (mid new : Control call_code) → AllRead old mid → Ran Get Went mid new → AllRead old new
 
--- reads of objects that all went, and a last one that ended so; none such where no fault is told
+-- reads of objects that all went, and a last one that ended so; none such where no fault is reported
 pub record Reads (fate : Fate) (old new : Control call_code) : Type 0 where
   pub mid : Control call_code
   pub before : AllRead old mid
   pub last : Ran Get fate mid new ⊎ ((fate ≢ Fault) × (new ≡ mid))
 
--- one listing that went, and reads behind it
+-- one listing that went, and reads after it
 pub record ListsFirst (fate : Fate) (old new : Control call_code) : Type 0 where
   pub mid : Control call_code
   pub lists : RanQuietly Keys Went old mid
   pub reads : Reads fate mid new
 
--- one listing, and reads behind it where it went
+-- one listing, and reads after it where it went
 abbrev pub Audits : Fate → Control call_code → Control call_code → Type 0
 Audits fate old new = RanQuietly Keys fate old new ⊎ ListsFirst fate old new
 

@@ -26,13 +26,13 @@ use Rattle.tier_audit.specs.declared.log_part.LogPart.{LogPart}
 use Rattle.tier_audit.specs.declared.log_part.LogPart.TheVariants as log_part
 use Rattle.tier_audit.specs.Flaws.{IsFirstBad, MayBegin, IsEntryPlace, HasLog, IsCopyFlaw}
 
--- the batches of a copy's log, as they stand in it
+-- the batches of a copy's log, as they are in it
 pub record HasPlaced (objects : Objects) (entry : Entry) (found : List Placed) : Type 0 where
   pub batches : List (List ℕ)
   pub log : HasLog objects entry batches
   pub found_are : found ≡ placed_from 0 batches
 
--- the place that is told of a part beside these batches
+-- the place that is reported of a part beside these batches
 abbrev pub IsPlaceBeside : Entry → List (List ℕ) → Part → List ℕ → ℕ → Type 0
 IsPlaceBeside entry batches Log bytes at = IsFirstBad joined (MayBegin entry) bytes at
 IsPlaceBeside entry batches Index bytes at = IsEntryPlace 8 (bytes_of entry_bytes) (AreMarks entry.start batches) bytes at
@@ -40,7 +40,7 @@ IsPlaceBeside entry batches TimeIndex bytes at = IsEntryPlace 12 (bytes_of momen
 IsPlaceBeside entry batches Epochs bytes at = IsFirstBad concat CanBegin bytes at
 IsPlaceBeside entry batches Pack bytes at = ⊥
 
--- what is found of a part's bytes beside these batches: that they are right, or the place that is told
+-- what is found of a part's bytes beside these batches: that they are right, or the place that is reported
 abbrev pub ReadsPart : Entry → List (List ℕ) → Part → List ℕ → Option ℕ → Type 0
 ReadsPart entry batches part bytes None = IsRight entry batches part bytes
 ReadsPart entry batches part bytes (Some at) = (IsRight entry batches part bytes → ⊥) × IsPlaceBeside entry batches part bytes at
@@ -55,17 +55,17 @@ abbrev pub ReadsLogSpot : Entry → Option ℕ → List ℕ → LogPart → Type
 ReadsLogSpot entry (Some end) bytes found = found ≡ log_part.Wrong (length bytes)
 ReadsLogSpot entry None bytes found = ReadsLog entry bytes found
 
--- the place that is told of a log's bytes stands within them
+-- the place that is reported of a log's bytes is within them
 abbrev pub IsWithin : List ℕ → LogPart → Type 0
 IsWithin bytes (log_part.Right found) = Unit {0}
 IsWithin bytes (log_part.Wrong at) = at ≤ length bytes
 
--- a place in a part, told as one in its object, of which these are the bytes from the part on: the part's end as the
--- object's
+-- a place in a part, reported as one in its object, of which these are the bytes from the part on: the part's end as
+-- the object's
 abbrev pub from_rest : Spot → List ℕ → ℕ → ℕ
 from_rest spot rest at = spot.at + (if at == length (capped spot.len rest) then length rest else at)
 
--- the object of a part stands, and something is found of the part
+-- the object of a part exists, and something is found of the part
 pub record IsWrongBeside (objects : Objects) (entry : Entry) (batches : List (List ℕ)) (part : Part) (spot : Spot) (at : ℕ) : Type 0 where
   pub object : List ℕ
   pub there : objects spot.key ≡ Some object
@@ -73,7 +73,7 @@ pub record IsWrongBeside (objects : Objects) (entry : Entry) (batches : List (Li
   pub reads : ReadsSpot entry batches part (short_of spot (all_of spot object)) (all_of spot object) (Some within)
   pub at_is : at ≡ from_rest spot (drop spot.at object) within
 
--- what is found of a part beside these batches, by where it stands
+-- what is found of a part beside these batches, by where it is
 abbrev pub FindsAt : Objects → Entry → List (List ℕ) → Part → Option Spot → Option Flaw → Type 0
 FindsAt objects entry batches part spot None = Stands objects entry batches part
 FindsAt objects entry batches part None (Some (Custom id)) = id ≡ entry.id

@@ -6,24 +6,24 @@ use Rattle.segment_file.specs.Index.{placed_from}
 use Rattle.sparse_index.specs.Entries.{last_of}
 use Rattle.tier_audit.specs.Flaws.{IsEntryPlace}
 
--- the batches of a segment, as they stand in it
+-- the batches of a segment, as they are in it
 pub record ArePlaced (base : ℕ) (found : List Placed) : Type 0 where
   pub batches : List (List ℕ)
   pub is : IsSegment base batches
   pub found_are : found ≡ placed_from 0 batches
 
--- what is found of entries of one width: that they are right, or the place that is told
+-- what is found of entries of one width: that they are right, or the place that is reported
 abbrev pub ReadsEntries : {X : Type 0} → ℕ → (List X → List ℕ) → (List X → Type 0) → List ℕ → Option ℕ → Type 0
 ReadsEntries {X} width spelled Are bytes None = (entries : List X) × Are entries × (bytes ≡ spelled entries)
 ReadsEntries {X} width spelled Are bytes (Some at) =
     ((entries : List X) → Are entries → bytes ≢ spelled entries) × IsEntryPlace width spelled Are bytes at
 
--- an item stands in a list in front of these
+-- an item is in a list in front of these
 pub record IsBehind {X : Type 0} (item : X) (items left : List X) : Type 0 where
   pub front : List X
   pub parts : items ≡ front ++ item ∷ left
 
--- these are left of a list, behind the last of the entries so far
+-- these are left of a list, after the last of the entries so far
 pub record IsLeft {X : Type 0} (items left before : List X) : Type 0 where
   pub passed : List X
   pub parts : items ≡ passed ++ left

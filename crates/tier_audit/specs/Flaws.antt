@@ -2,14 +2,14 @@
 --
 -- Flaws have an order: first those of keys, by the keys' texts; then those of finished copies, in the order of their
 -- entries. Of one copy the custom metadata comes first, and then its parts in their order. Of a part that isn't right
--- the place in its object is told of the first batch, index entry or text line that can't stand: the front before it
--- can, and with it no longer. Where no single one breaks it, or something lacks, that is the object's end; so it is
+-- the place in its object is reported of the first batch, index entry or text line that can't exist: the front before
+-- it can, and with it no longer. Where no single one breaks it, or something lacks, that is the object's end; so it is
 -- where an index isn't cut into whole entries, and where the object ends before the part does. A batch has the epoch
--- that the entry's map has at its base offset, or it can't stand.
+-- that the entry's map has at its base offset, or it can't exist.
 --
 --   form                                 says
---   IsFirstBad spelled MayBegin b at     the first place in bytes at which an item can't stand
---   IsWrong objects entry part at        a part stands and isn't right, and this place is told of it
+--   IsFirstBad spelled MayBegin b at     the first place in bytes at which an item can't exist
+--   IsWrong objects entry part at        a part exists and isn't right, and this place is reported of it
 --   IsFirstFlaw objects entries flaw     the first flaw
 --   IsVerdict objects entries verdict    what an audit says
 use Rattle.std.specs.Prelude.{◌≡◌, ◌≢◌, ◌⊎◌, ℕ, ◌+◌, ◌≤◌, ◌%◌, ◌==◌, if◌then◌else◌, Bool, true, false, ◌≤ℤ◌, List, [], ◌∷◌, ◌++◌, length, Option, Some, None, IsSome}
@@ -43,7 +43,7 @@ use Rattle.tier_audit.specs.declared.verdict.Verdict.{Verdict}
 use Rattle.tier_audit.specs.declared.verdict.Verdict.TheVariants.{Sound, Unsound}
 use Rattle.tier_audit.specs.Whole.{Describes, AreMarks, AreHeights, place_of, Stands, Hold, AreReadable, IsWhole}
 
--- the items before a place may begin bytes, and with one more that stands there they may not
+-- the items before a place may begin bytes, and with one more that is there they may not
 pub record IsFirstBad {X : Type 0} (spelled : List X → List ℕ) (MayBegin : List X → Type 0) (bytes : List ℕ) (at : ℕ) : Type 0 where
   pub before : List X
   pub rest : List ℕ
@@ -60,7 +60,7 @@ pub record MayBegin (entry : Entry) (batches : List (List ℕ)) : Type 0 where
   pub epochs : AllByRecursion (λ batch. epoch_at entry.map (base_of batch) ≡ Some (epoch_of batch)) batches
   pub times : AllByRecursion (λ batch. max_ts_of batch ≤ℤ entry.max_ts) batches
 
--- the place that is told of entries of one width
+-- the place that is reported of entries of one width
 abbrev pub IsEntryPlace : {X : Type 0} → ℕ → (List X → List ℕ) → (List X → Type 0) → List ℕ → ℕ → Type 0
 IsEntryPlace width spelled MayBegin bytes at =
     ((length bytes % width ≢ 0) × (at ≡ length bytes)) ⊎ ((length bytes % width ≡ 0) × IsFirstBad spelled MayBegin bytes at)
@@ -70,7 +70,7 @@ pub record HasLog (objects : Objects) (entry : Entry) (batches : List (List ℕ)
   pub describes : Describes entry batches
   pub log : Stands objects entry batches Log
 
--- the place that is told of a part's bytes
+-- the place that is reported of a part's bytes
 abbrev pub IsPlace : Objects → Entry → Part → List ℕ → ℕ → Type 0
 IsPlace objects entry Log bytes at = IsFirstBad joined (MayBegin entry) bytes at
 IsPlace objects entry Index bytes at =
@@ -87,7 +87,7 @@ abbrev pub IsPlaceIn : Objects → Entry → Part → Option ℕ → List ℕ �
 IsPlaceIn objects entry part (Some end) bytes at = at ≡ length bytes
 IsPlaceIn objects entry part None bytes at = IsPlace objects entry part bytes at
 
--- a place in a part, told as one in its object: the part's end as the object's
+-- a place in a part, reported as one in its object: the part's end as the object's
 abbrev pub in_object : Spot → List ℕ → ℕ → ℕ
 in_object spot object at = if at == length (all_of spot object) then length object else spot.at + at
 
@@ -99,7 +99,7 @@ parts_before TimeIndex = Log ∷ Index ∷ []
 parts_before Epochs = Log ∷ Index ∷ TimeIndex ∷ []
 parts_before Pack = []
 
--- the object of a part stands and the part isn't right, and this place in the object is told of it
+-- the object of a part exists and the part isn't right, and this place in the object is reported of it
 pub record IsWrong (objects : Objects) (entry : Entry) (part : Part) (spot : Spot) (at : ℕ) : Type 0 where
   pub object : List ℕ
   pub there : objects spot.key ≡ Some object
@@ -108,7 +108,7 @@ pub record IsWrong (objects : Objects) (entry : Entry) (part : Part) (spot : Spo
   pub place : IsPlaceIn objects entry part (short_of spot (all_of spot object)) (all_of spot object) within
   pub at_is : at ≡ in_object spot object within
 
--- the key is that of the object in which a part of the copy stands, and the parts before it are right
+-- the key is that of the object in which a part of the copy exists, and the parts before it are right
 pub record IsAtPart (objects : Objects) (entry : Entry) (key : ObjectKey) : Type 0 where
   pub part : Part
   pub own : part ≢ Pack
@@ -132,11 +132,11 @@ is_stray None = true
 is_stray (Some DeleteFinished) = true
 is_stray state = false
 
--- a text doesn't come behind another
+-- a text doesn't come after another
 abbrev pub IsUpTo : List ℕ → List ℕ → Type 0
 IsUpTo text other = is_gt (slice_cmp nat_cmp text other) ≡ false
 
--- an object stands under this key, and under none before it one that is to go
+-- an object is under this key, and under none before it one that is to go
 pub record IsFirstStray (objects : Objects) (entries : List Entry) (key : ObjectKey) : Type 0 where
   pub there : IsSome (objects key)
   pub least : (other : ObjectKey) → IsSome (objects other) → is_stray (state_of other.id entries) ≡ true

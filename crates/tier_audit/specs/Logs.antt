@@ -50,7 +50,7 @@ pub record IsNear (entry : Entry) (front : Front) (head : Head) : Type 0 where
   pub small : front.at + size_in head < 2 ^ 31
   pub times : head.max_ts ≤ℤ entry.max_ts
 
--- a batch may come behind the front
+-- a batch may come after the front
 pub record MayCome (entry : Entry) (front : Front) (batch : List ℕ) : Type 0 where
   pub begins : base_of batch ≡ front.end
   pub within : last_of batch ≤ entry.end
@@ -59,7 +59,7 @@ pub record MayCome (entry : Entry) (front : Front) (batch : List ℕ) : Type 0 w
   pub times : max_ts_of batch ≤ℤ entry.max_ts
   pub epochs : epoch_at entry.map (base_of batch) ≡ Some (epoch_of batch)
 
--- such a batch stands behind the front: how it is placed, and how many epochs have begun with it
+-- such a batch follows the front: how it is placed, and how many epochs have begun with it
 pub record ComesNext (entry : Entry) (bytes : List ℕ) (front : Front) (next : Placed × Option ℕ) : Type 0 where
   pub batch : List ℕ
   pub is : IsOk (checked batch)
@@ -96,7 +96,7 @@ pub record IsAll (entry : Entry) (size : ℕ) (front : Front) : Type 0 where
   pub begun_is : front.snapshot ≡ Some (length entry.map)
   pub max_ts_is : front.max_ts ≡ entry.max_ts
 
--- the batches of a right log, as they stand in it
+-- the batches of a right log, as they are in it
 pub record HasBatches (entry : Entry) (bytes : List ℕ) (found : List Placed) : Type 0 where
   pub batches : List (List ℕ)
   pub describes : Describes entry batches

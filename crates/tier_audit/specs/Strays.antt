@@ -27,12 +27,12 @@ IsFirstIn entries keys None = (key : ObjectKey) → In key keys → goes entries
 IsFirstIn entries keys (Some stray) =
     IsLeast entries keys stray.key × (goes entries stray.key ≡ true) × (stray.text.items ≡ key_text stray.key)
 
--- the first one so far doesn't come behind a text
+-- the first one so far doesn't come after a text
 abbrev pub IsBehind : List ℕ → Option Stray → Type 0
 IsBehind text None = ⊥
 IsBehind text (Some stray) = IsUpTo stray.text.items text
 
--- what is told of an object of an id in this state that is to go
+-- what is reported of an object of an id in this state that is to go
 abbrev pub flaw_of : Option State → ObjectKey → Flaw
 flaw_of None key = NoEntry key
 flaw_of (Some state) key = Left key
@@ -42,7 +42,7 @@ abbrev pub IsOf : ObjectKey → Option Stray → Type 0
 IsOf key None = ⊥
 IsOf key (Some stray) = (stray.key ≡ key) × (stray.text.items ≡ key_text key)
 
--- the key has become the first one, unless that doesn't come behind it
+-- the key has become the first one, unless that doesn't come after it
 abbrev pub Offers : ObjectKey → Option Stray → Option Stray → Type 0
 Offers key old new = ((new ≡ old) × IsBehind (key_text key) old) ⊎ (IsOf key new × (IsBehind (key_text key) old → ⊥))
 

@@ -12,12 +12,12 @@ pub record HasMap (entry : Entry) (bytes : List ℕ) (line : List (ℕ × ℕ)) 
   pub bytes_are : bytes ≡ text_of line
   pub map_is : within line entry.start entry.end ≡ entry.map
 
--- what is found of the text: that it is right, or the place that is told
+-- what is found of the text: that it is right, or the place that is reported
 abbrev pub ReadsEpochs : Entry → List ℕ → Option ℕ → Type 0
 ReadsEpochs entry bytes None = (line : List (ℕ × ℕ)) × HasMap entry bytes line
 ReadsEpochs entry bytes (Some at) = ((line : List (ℕ × ℕ)) → HasMap entry bytes line → ⊥) × IsFirstBad concat CanBegin bytes at
 
--- the place behind so many line feeds
+-- the place after so many line feeds
 abbrev pub place_behind : ℕ → List ℕ → ℕ
 place_behind zero bytes = 0
 place_behind (suc lines) [] = 0

@@ -2,15 +2,15 @@
 -- finished copy is readable and of one piece.
 --
 --   part        it holds
---   Log         the batches that the entry tells of, one after another
+--   Log         the batches that the entry describes, one after another
 --   Index       entries, each of them the mark of a batch: its last offset and where it begins
 --   TimeIndex   moments, each of them a batch's whose timestamp is above those of all batches before it
 --   Epochs      the text of a line whose part within the segment is the entry's map
 --
 --   form                           says
---   Describes entry batches        a copy's entry tells of these batches
+--   Describes entry batches        a copy's entry describes these batches
 --   IsRight entry batches p bytes  these bytes are a right part of the copy
---   Hold objects entry parts       these parts of a copy stand whole, and are right
+--   Hold objects entry parts       these parts of a copy are whole, and are right
 --   ArePut objects entry parts     a copy's objects hold these parts
 --   IsWhole objects entries        all is right
 --
@@ -43,7 +43,7 @@ use Rattle.object_store.specs.declared.placing.Spot.{Spot}
 use Rattle.object_store.specs.Place.{spot_of, keys_of, all_of, short_of}
 use Rattle.tier_sweep.specs.Rest.{AreNamed, NoneIsLeft}
 
--- a copy's entry tells of these batches
+-- a copy's entry describes these batches
 pub record Describes (entry : Entry) (batches : List (List ℕ)) : Type 0 where
   pub some : batches ≢ []
   pub is : IsSegment entry.start batches
@@ -52,7 +52,7 @@ pub record Describes (entry : Entry) (batches : List (List ℕ)) : Type 0 where
   pub max_ts_is : entry.max_ts ≡ greatest_ts batches
   pub size_is : entry.size ≡ length (joined batches)
 
--- the marks of batches, the first behind so many bytes: the last offset, less the segment's base, and the position
+-- the marks of batches, the first after so many bytes: the last offset, less the segment's base, and the position
 abbrev pub marks_of : ℕ → ℕ → List Placed → List (ℕ × ℕ)
 marks_of base at [] = []
 marks_of base at (batch ∷ batches) = (batch.last - base, at) ∷ marks_of base batch.to batches
@@ -92,11 +92,11 @@ IsRight entry batches Epochs bytes =
     (line : List (ℕ × ℕ)) × IsLine line × (bytes ≡ text_of line) × (within line entry.start entry.end ≡ entry.map)
 IsRight entry batches Pack bytes = ⊥
 
--- where a part of a copy stands
+-- where a part of a copy exists
 abbrev pub place_of : Entry → Part → Option Spot
 place_of entry part = spot_of entry.partition entry.id entry.packed entry.custom part
 
--- a part of a copy stands whole, and is right
+-- a part of a copy is whole, and is right
 pub record Stands (objects : Objects) (entry : Entry) (batches : List (List ℕ)) (part : Part) : Type 0 where
   pub spot : Spot
   pub place : place_of entry part ≡ Some spot
@@ -105,7 +105,7 @@ pub record Stands (objects : Objects) (entry : Entry) (batches : List (List ℕ)
   pub whole : short_of spot (all_of spot object) ≡ None
   pub right : IsRight entry batches part (all_of spot object)
 
--- these parts of a copy stand whole and are right, all of the same batches
+-- these parts of a copy are whole and are right, all of the same batches
 abbrev pub Hold : Objects → Entry → List Part → Type 0
 Hold objects entry [] = Unit {0}
 Hold objects entry (part ∷ parts) =

@@ -136,7 +136,7 @@ fn check_parts<S: Store>(
     check_part(alloc, entry, batches, Part::Epochs, store)
 }
 
-/// Finds the flaw of a part behind the log.
+/// Finds the flaw of a part after the log.
 fn check_part<S: Store>(
     alloc: Global,
     entry: &Entry,
@@ -185,8 +185,8 @@ fn read_log_at(
     read_log(alloc, entry, bytes)
 }
 
-/// Reads a part behind the log, of whose object these are the bytes from there on: none where it is right, or the
-/// place in the part that is told.
+/// Reads a part after the log, of whose object these are the bytes from there on: none where it is right, or the place
+/// in the part that is reported.
 fn read_at(
     alloc: Global,
     entry: &Entry,
@@ -211,7 +211,7 @@ fn read_at(
     read_part(alloc, entry, batches, part, bytes)
 }
 
-/// Reads a part behind the log: none where it is right, or the place that is told.
+/// Reads a part after the log: none where it is right, or the place that is reported.
 fn read_part(
     alloc: Global,
     entry: &Entry,
@@ -234,7 +234,7 @@ fn read_part(
     }
 }
 
-/// Where a part of a copy stands.
+/// Where a part of a copy exists.
 fn place_of(entry: &Entry, part: Part) -> Option<Spot>
     ensures spot { result ≡ place_of entry.now part }
     ensures low { IfSome result (λ spot. spot.at < 2 ^ 34) }

@@ -8,7 +8,7 @@ use epoch_line::{Line, TextRefusal};
 use segment_meta::Entry;
 use std::alloc::{AllocError, Global};
 
-/// Reads a copy's leader epochs: none where they are right, or the place that is told.
+/// Reads a copy's leader epochs: none where they are right, or the place that is reported.
 pub(crate) fn read_epochs(
     alloc: Global,
     entry: &Entry,
@@ -31,7 +31,7 @@ pub(crate) fn read_epochs(
     }
 }
 
-/// The place behind so many line feeds.
+/// The place after so many line feeds.
 fn place_behind(bytes: &[u8], lines: u32) -> usize
     ensures { result ≡ place_behind lines bytes.now }
 {

@@ -17,7 +17,7 @@ use std::alloc::{AllocError, Global};
 /// The bytes of an entry.
 const ENTRY_BYTES: usize = 8;
 
-/// Reads a copy's offset index: none where it is right, or the place that is told.
+/// Reads a copy's offset index: none where it is right, or the place that is reported.
 pub(crate) fn read_index(
     alloc: Global,
     base: u64,
@@ -45,7 +45,7 @@ fn marks_of(alloc: Global, base: u64, batches: &[Placed]) -> Result<Vec<(u32, u3
     Ok(marks)
 }
 
-/// The place that is told of an index of which these are the marks, or none where it is right.
+/// The place that is reported of an index of which these are the marks, or none where it is right.
 fn place_in(marks: &[(u32, u32)], bytes: &[u8]) -> Option<usize>
     requires { AreOffsets marks.now }
     ensures { ReadsEntries 8 (bytes_of entry_bytes) (AreOf marks.now) bytes.now result }

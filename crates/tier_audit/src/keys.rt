@@ -49,7 +49,7 @@ fn is_stray(state: Option<State>) -> bool
     }
 }
 
-/// What is told of such an object.
+/// What is reported of such an object.
 fn flaw_of(state: Option<State>, key: ObjectKey) -> Flaw
     ensures { result ≡ flaw_of state key }
 {
@@ -59,7 +59,7 @@ fn flaw_of(state: Option<State>, key: ObjectKey) -> Flaw
     }
 }
 
-/// Makes a key the first one, unless that doesn't come behind it.
+/// Makes a key the first one, unless that doesn't come after it.
 fn offer(alloc: Global, first: &mut Option<Stray>, key: &ObjectKey) -> Result<(), AllocError>
     ensures { OnOk result (Offers key.now first.old first.new) }
 {
@@ -70,7 +70,7 @@ fn offer(alloc: Global, first: &mut Option<Stray>, key: &ObjectKey) -> Result<()
     Ok(())
 }
 
-/// Whether the first one so far doesn't come behind a text.
+/// Whether the first one so far doesn't come after a text.
 fn is_behind(text: &[u8], first: &Option<Stray>) -> bool
     ensures { IsTrue result ↔ IsBehind text.now first.now }
 {
@@ -80,7 +80,7 @@ fn is_behind(text: &[u8], first: &Option<Stray>) -> bool
     }
 }
 
-/// Whether a text doesn't come behind another.
+/// Whether a text doesn't come after another.
 fn is_up_to(text: &[u8], other: &[u8]) -> bool
     ensures { IsTrue result ↔ IsUpTo text.now other.now }
 {

@@ -17,8 +17,8 @@ pub fn an_audit_says_one_thing()
         → IsFirstFlaw objects entries flaw → ⊥ }
 {}
 
-/// The parts that a copy puts are right, at any interval of its indexes, with an object each or packed into one: of
-/// an entry that tells of the batches, and of a line that has the entry's map within the segment.
+/// The parts that a copy puts are right, at any interval of its indexes, with an object each or packed into one: of an
+/// entry that describes the batches, and of leader epochs that have the entry's map within the segment.
 pub fn what_a_copy_puts_is_sound()
     ensures { (objects : Objects) (entry : Entry) (batches : List (List ℕ)) (line : List (ℕ × ℕ)) (interval : ℕ)
         → Describes entry batches → FitsSigned w64 entry.max_ts → IsLine line

@@ -26,7 +26,7 @@ use std::alloc::{AllocError, Global};
 const REACH: u64 = 1 << 31;
 
 /// What the batches up to a place come to: the place, the offset after them, how many of the map's entries they begin
-/// (none where they pass one over), their greatest timestamp, and where each of them stands.
+/// (none where they pass one over), their greatest timestamp, and where each of them is.
 #[derive(Drop)]
 pub(crate) struct Front {
     pub at: u32,
@@ -41,7 +41,7 @@ pub(crate) struct Front {
 pub(crate) enum LogPart {
     /// It is right, and these are its batches.
     Right(Vec<Placed>),
-    /// It isn't, and this place is told.
+    /// It isn't, and this place is reported.
     Wrong { at: usize },
 }
 
@@ -89,7 +89,7 @@ fn nothing_yet(alloc: Global, entry: &Entry) -> Front
     }
 }
 
-/// The batch that stands next and may come there, and how many of the map's entries have begun with it.
+/// The batch that is next and may come there, and how many of the map's entries have begun with it.
 fn next_batch(entry: &Entry, front: &Front, bytes: &[u8]) -> Option<(Placed, Option<usize>)>
     requires kept { IsKept entry.now }
     requires front { IsFront entry.now bytes.now front.now }
@@ -185,14 +185,14 @@ fn last_epoch(entries: &[(u32, u64)]) -> Option<u32>
     }
 }
 
-/// The bytes of the batch that a head tells.
+/// The bytes of the batch that a head gives.
 fn size_in(head: &Head) -> u64
     ensures { result ≡ size_in head.now }
 {
     12 + head.batch_length.cast_unsigned() as u64
 }
 
-/// The batch of a head behind a front.
+/// The batch of a head after a front.
 fn place(head: &Head, front: &Front) -> Placed
     requires small { front.now.at + size_in head.now < 2 ^ 31 }
     requires last_fits { cast_unsigned w64 head.now.base_offset + cast_unsigned w32 head.now.last_offset_delta < 2 ^ 64 }

@@ -2,7 +2,7 @@
 
 use thiserror::Error;
 
-/// Why an audit says nothing. The first cause that comes is told. Nothing has changed then.
+/// Why an audit says nothing. The first cause that comes is reported. Nothing has changed then.
 #[derive(Clone, Copy, Debug, PartialEq, Eq, Drop, Error)]
 pub enum AuditRefusal {
     /// A call of the store failed.

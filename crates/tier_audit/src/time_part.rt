@@ -19,7 +19,7 @@ use std::alloc::{AllocError, Global};
 /// The bytes of an entry.
 const MOMENT_BYTES: usize = 12;
 
-/// Reads a copy's time index: none where it is right, or the place that is told.
+/// Reads a copy's time index: none where it is right, or the place that is reported.
 pub(crate) fn read_times(
     alloc: Global,
     base: u64,
@@ -51,7 +51,7 @@ fn heights_of(alloc: Global, base: u64, batches: &[Placed]) -> Result<Vec<(i64, 
     Ok(heights)
 }
 
-/// The place that is told of a time index that has some of these moments, or none where it is right.
+/// The place that is reported of a time index that has some of these moments, or none where it is right.
 fn place_in(heights: &[(i64, u32)], bytes: &[u8]) -> Option<usize>
     requires { AreMoments heights.now }
     ensures { ReadsEntries 12 (bytes_of moment_bytes) (AreTimesOf heights.now) bytes.now result }

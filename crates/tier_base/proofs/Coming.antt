@@ -115,7 +115,7 @@ module _ {K : Type 0} (code : K → ℕ) where
       ap (said_first (made + 1)) next.1 ∙ sym here ∙ sym (planned_coming call made (made + 1) plan (omega arith))
       ∙ ap (λ (n : ℕ). planned code call n plan) (sym one)
 
-  -- once more of them are made, it stands further on
+  -- once more of them are made, it is further on
   pub next_later : (kind before made at next : ℕ) (plan : List (Planned K)) → before ≤ made → IsNext code kind before plan (Some at)
       → drop next plan ≡ coming code kind made (drop at plan) → IsNext code kind made plan (Some next)
   next_later kind before made at next plan up is later =

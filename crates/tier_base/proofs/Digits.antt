@@ -53,7 +53,7 @@ some-shortest (d ∷ ds) h = omega arith
 pub decimal-value : (ds : List ℕ) → all_ascii_digits ds ≡ true → is_shortest ds ≡ true → value_of 0 ds < 2 ^ 64 → decimal (value_of 0 ds) ≡ ds
 decimal-value ds all short small = decimal-digits_value own ds all (some-shortest ds short) (zero-first ds short) small
 
--- a number at the front: its digits, and what stands behind them
+-- a number at the front: its digits, and what follows them
 pub record IsFound (n end : ℕ) (digits behind rest : List ℕ) : Type 0 where
   pub number : digits ≡ decimal n
   pub after : behind ≡ end ∷ rest
@@ -73,7 +73,7 @@ number-unique n m end r s small small' other e =
     let two = number-found m end k s bytes (take k bytes) (drop k bytes) small' other refl refl refl e in
     (decimal_injective n m small small' (sym one.number ∙ two.number), (let same : ◌≡◌ {A = List ℕ} (end ∷ r) (end ∷ s) = sym one.after ∙ two.after in cc))
 
--- what is read is what stands there
+-- what is read is what is there
 pub number-read : (number k end first : ℕ) (bytes digits behind rest : List ℕ) → k ≡ digits_len bytes → digits ≡ take k bytes → behind ≡ drop k bytes → behind ≡ first ∷ rest → first ≡ end → is_shortest digits ≡ true
     → number ≡ min (value_of 0 digits) (2 ^ 64 - 1) → number < 2 ^ 64 - 1 → bytes ≡ number_text end number rest
 number-read number k end first bytes digits behind rest counted front back after is short value small =

@@ -20,21 +20,21 @@ pub id-parsed : {E : Type 0} (r : Result (List ℕ) E) (id : SegmentId) (text : 
 unfolding id_text
 id-parsed r id text is e ok bytes = parse_gives r text id.0 ok bytes (parses_hyphenated lower id.0 (inl refl) is.size is.bytes ∙ ap parsed e)
 
--- what stands behind a key's partition
+-- what follows a key's partition
 pub key-behind : (key : ObjectKey) (n : ℕ) (rest text : List ℕ) → IsKey key → key_text key ≡ text → n ≤ 65535 → text ≡ number_text 47 n rest
     → (key.partition.0 ≡ n) × (id_text key.id ++ part_text key.part ≡ rest)
 unfolding key_text
 key-behind key n rest text is e small read =
     number-unique key.partition.0 n 47 (id_text key.id ++ part_text key.part) rest (omega (arith, is.partition)) (omega (arith, small)) refl (e ∙ read)
 
--- the id stands in front of it
+-- the id precedes it
 pub key-long : (key : ObjectKey) (rest : List ℕ) → id_text key.id ++ part_text key.part ≡ rest → 36 ≤ length rest
 key-long key rest e = let long = ap length e in omega (arith, long, length-append (id_text key.id) (part_text key.part), id-length key.id)
 
 pub key-id : (key : ObjectKey) (rest front : List ℕ) → id_text key.id ++ part_text key.part ≡ rest → front ≡ take 36 rest → id_text key.id ≡ front
 key-id key rest front e f = sym (f ∙ (ap (take 36) (sym e) ∙ take_at (id_text key.id) (part_text key.part) 36 (id-length key.id)))
 
--- and the part's ending behind it
+-- and the part's ending after it
 pub key-part : (key : ObjectKey) (rest back : List ℕ) → id_text key.id ++ part_text key.part ≡ rest → back ≡ drop 36 rest → part_text key.part ≡ back
 key-part key rest back e f = sym (f ∙ (ap (drop 36) (sym e) ∙ drop_at (id_text key.id) (part_text key.part) 36 (id-length key.id)))
 

@@ -9,7 +9,7 @@ use Rattle.std.proofs.Math.Nat.{min-le_left}
 use Rattle.tier_base.specs.Counts.{counted}
 use Rattle.tier_base.specs.Stream.{Gave, GaveUpTo, AppendsFront}
 
--- the source gave what was read, and then the next count bytes behind it
+-- the source gave what was read, and then the next count bytes after it
 pub Consumes-piece : (old mid new : Option (List ℕ)) (read count : ℕ) (before after : List ℕ)
     → Consumes old mid (take read before) → take read after ≡ take read before
     → Consumes mid new (take count (drop read after))

@@ -58,7 +58,7 @@ others_stay n m apart small = by (nat_le n (counted m 1)) (nat_le n m) refl refl
     by false true e f = (let up = later small (grind (arith, f)) in absurd (grind (arith, up, e)))
     by false false e f = refl
 
--- what is added at an item and behind it
+-- what is added at an item and after it
 swapped : (c d : Bool) (n : ℕ) → cond c (cond d (n + 1) n + 1) (cond d (n + 1) n) ≡ cond d (cond c (n + 1) n + 1) (cond c (n + 1) n)
 swapped true true n = refl
 swapped true false n = refl

@@ -1,4 +1,4 @@
--- Counts that stand still at their type's end, 2^64 - 1.
+-- Counts that stay at their type's greatest value, 2^64 - 1.
 use Rattle.std.specs.Prelude.{ℕ, ◌+◌, ◌-◌, ◌^◌, ◌≤◌, min, OnErr}
 use Rattle.std.specs.declared.result.Result.{Result}
 
@@ -6,7 +6,7 @@ use Rattle.std.specs.declared.result.Result.{Result}
 abbrev pub counted : ℕ → ℕ → ℕ
 counted before n = min (before + n) (2 ^ 64 - 1)
 
--- the count has risen, or stands at its type's end
+-- the count has risen, or is at its type's greatest value
 abbrev pub Rose : ℕ → ℕ → Type 0
 Rose before now = counted before 1 ≤ now
 

@@ -2,14 +2,14 @@
 -- and how many calls were made.
 --
 --   form                        says
---   Control code                what is observed, for the kinds of call that `code` tells apart
+--   Control code                what is observed, for the kinds of call that `code` distinguishes
 --   Ran call fate old new       a call of this kind ended so
---   RanQuietly call fate ..     and it leaves the bytes that were handed
+--   RanQuietly call fate ..     and it leaves the bytes that were returned
 --   MayBeDone call fate old b   whether it may have been done
 --   Rests old new               no call
 --   Lasts old new               any calls but `arm`
 --   Arms old new                from now on planned calls fail
---   IsFresh c                   as the device is handed out
+--   IsFresh c                   as the device is provided
 --   FailsAsPlanned c            of a scripted device: as many calls failed as its plan names of those that were made
 --
 -- Planned calls are counted from the first `arm` on. A device is infallible while no call can fail. It is scripted if
@@ -44,7 +44,7 @@ abbrev pub failing : {T : Type 0} → Result T Failed → Fate
 failing (Ok x) = Went
 failing (Err e) = Fault
 
--- what a device tells
+-- what a device reports
 pub record Control {K : Type 0} (code : K → ℕ) : Type 0 where
   -- how many calls failed
   pub faults : ℕ
@@ -87,7 +87,7 @@ module _ {K : Type 0} {code : K → ℕ} where
   abbrev pub due : K → Control code → Option Bool
   due call c = if c.armed then planned code call (counted (c.made call) 1) c.plan else None
 
-  -- as want of memory leaves it
+  -- as running out of memory leaves it
   pub record Untouched (old new : Control code) : Type 0 where
     pub faults : new.faults ≡ old.faults
     pub infallible : new.infallible ≡ old.infallible
@@ -107,7 +107,7 @@ module _ {K : Type 0} {code : K → ℕ} where
     pub infallible : IsTrue old.infallible → (fate ≢ Fault) × (new.faults ≡ old.faults)
     pub by_plan : IsTrue old.scripted → fate ≢ Dry → (fate ≡ Fault) ↔ IsSome (due call old)
 
-  -- a call that leaves what was handed
+  -- a call that leaves what was returned
   pub record RanQuietly (call : K) (fate : Fate) (old new : Control code) : Type 0 where
     pub ran : Ran call fate old new
     pub last_read : new.last_read ≡ old.last_read
@@ -150,7 +150,7 @@ module _ {K : Type 0} {code : K → ℕ} where
     pub again : IsTrue old.armed → new.infallible ≡ old.infallible
     pub still_infallible : IsTrue old.scripted → IsTrue old.infallible → old.plan ≡ [] → IsTrue new.infallible
 
-  -- a device as it is handed out: no fault, no call counted, nothing handed
+  -- a device as it is provided: no fault, no call counted, nothing returned
   pub record IsFresh (c : Control code) : Type 0 where
     pub faults : c.faults ≡ 0
     pub armed : c.armed ≡ false

@@ -20,7 +20,7 @@ pub record Faults (K : Type 0) : Type 0 where
   -- how many calls failed
   pub faults : ℕ
 
--- none is told
+-- none is reported
 abbrev pub has_none : {X : Type 0} → Option X → Bool
 has_none None = true
 has_none (Some x) = false
@@ -85,7 +85,7 @@ module _ {K : Type 0} (code : K → ℕ) where
     pub alone : IsTrue f.scripted → f.fuse ≡ None
     pub exact : f.faults ≡ faults_of f
 
-  -- what a device with these faults tells, where the last read gave these bytes
+  -- what a device with these faults reports, where the last read gave these bytes
   abbrev pub control_of : Faults K → List ℕ → Control code
   control_of f last_read =
       record {

@@ -1,4 +1,4 @@
--- The ids of remote segments, and the keys of what stands in the remote store.
+-- The ids of remote segments, and the keys of what is in the remote store.
 --
 -- An id is a UUID of these bytes, big endian, without version bits:
 --

@@ -1,4 +1,4 @@
--- What is told of the faults of every device in memory.
+-- What is reported of the faults of every device in memory.
 use Rattle.std.specs.Prelude.{◌≡◌, ℕ, Bool, true, false, List, IsTrue, if◌then◌else◌, refl}
 use Rattle.std.proofs.lemmas.Bool.{false≢true}
 use Rattle.tier_base.specs.Counts.{counted}

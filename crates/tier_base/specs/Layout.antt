@@ -1,4 +1,4 @@
--- How long the parts of a packed segment are, whose one object has them one behind another.
+-- How long the parts of a packed segment are, whose one object has them one after another.
 --
 -- The bytes of a layout, big endian:
 --
@@ -23,7 +23,7 @@ layout_bytes l =
 abbrev pub length_at : ℕ → List ℕ → ℕ
 length_at at bytes = from_be_bytes w32 (slice_range bytes at (at + 4))
 
--- the layout whose lengths stand in these fields
+-- the layout whose lengths are in these fields
 abbrev pub lengths_in : List ℕ → Layout
 lengths_in fields = record {
   log = length_at 0 fields;

@@ -1,4 +1,4 @@
--- Where the next planned call of a kind stands, so that a call needn't look through its plan.
+-- Where the next planned call of a kind is, so that a call needn't look through its plan.
 use Rattle.std.specs.Prelude.{◌≡◌, ℕ, nat_le, nat_lt, ◌==◌, ◌&&◌, Bool, true, if◌then◌else◌, List, [], ◌∷◌, drop, Option, Some, None, IsTrue}
 use Rattle.std.proofs.Math.ListN.{get_or}
 use Rattle.tier_base.specs.declared.planned.Planned.{Planned}
@@ -16,7 +16,7 @@ module _ {K : Type 0} (code : K → ℕ) where
   coming kind made (p ∷ ps) =
       if (code p.call == kind) && nat_lt made p.number then p ∷ ps else coming kind made ps
 
-  -- it stands there, where a kind's numbers don't fall along the plan
+  -- it is there, where a kind's numbers don't fall along the plan
   abbrev pub IsNext : ℕ → ℕ → List (Planned K) → Option ℕ → Type 0
   IsNext kind made plan None = Unit {0}
   IsNext kind made plan (Some at) = IsTrue (rises_from kind 0 plan) × (drop at plan ≡ coming kind made plan)

@@ -6,7 +6,7 @@ use Rattle.std.specs.Char.{is_ascii_digit}
 use Rattle.std.specs.declared.option.Option.{Option}
 use Rattle.std.specs.Borrow.{Bor}
 
--- how many digits stand at the front
+-- how many digits are at the front
 abbrev pub digits_len : List ℕ → ℕ
 digits_len [] = 0
 digits_len (b ∷ bs) = if is_ascii_digit b then digits_len bs + 1 else 0
@@ -17,12 +17,12 @@ is_shortest [] = false
 is_shortest (d ∷ []) = true
 is_shortest (d ∷ e ∷ ds) = not (d == 48)
 
--- the number of these digits behind n
+-- the number of these digits after n
 abbrev pub value_of : ℕ → List ℕ → ℕ
 value_of n [] = n
 value_of n (d ∷ ds) = value_of (10 * n + (d - 48)) ds
 
--- what a reader of a front answers: what may stand there is found by its text, with the bytes behind it
+-- what a reader of a front answers: what may be there is found by its text, with the bytes after it
 abbrev pub ReadsFront : {A : Type 0} → (A → Type 0) → (A → List ℕ → List ℕ) → List ℕ → Option (A × Bor (List ℕ)) → Type 0
 ReadsFront {A} May text bytes None = (x : A) (rest : List ℕ) → May x → bytes ≢ text x rest
 ReadsFront May text bytes (Some found) = May found.0 × (bytes ≡ text found.0 found.1.now)

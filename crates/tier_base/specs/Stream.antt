@@ -1,6 +1,6 @@
 -- What a source gave and what a sink took, over one or more calls.
 --
--- `None` stands for a stream that doesn't tell its bytes: then nothing is said of them.
+-- `None` represents a stream that isn't observable: then nothing is said of them.
 use Rattle.std.specs.Prelude.{◌≡◌, ℕ, ◌<◌, ◌≤◌, List, ◌++◌, length}
 use Rattle.std.specs.declared.option.Option.{Option}
 use Rattle.std.specs.Io.KnownBytes.{Consumes, IsAtEnd, Appends}

@@ -1,10 +1,10 @@
--- What a device tells of what it holds by name: the files of a disk, the objects of a store.
+-- What a device says of what it holds by name: the files of a disk, the objects of a store.
 --
 --   form                   says
 --   In n names             the name is in the list
 --   Names held names       the names of what is held, each once and no other
 --   OnlyAt n R old new     one goes from old to new by R, and the others stay
---   last_read_after r before  what was handed last, after a read that answered r
+--   last_read_after r before  what was last returned, after a read that answered r
 use Rattle.std.specs.Prelude.{◌≡◌, ◌≢◌, ◌⊎◌, ◌↔◌, ℕ, List, [], ◌∷◌, Option, Some, None, Ok, Err, unwrap_or, IsSome}
 use Rattle.std.specs.declared.result.Result.{Result}
 use Rattle.tier_base.specs.declared.fault.Trouble.{Trouble}
@@ -13,7 +13,7 @@ use Rattle.tier_base.specs.declared.fault.Trouble.{Trouble}
 abbrev pub bytes_in : Option (List ℕ) → List ℕ
 bytes_in held = unwrap_or held []
 
--- what was handed last: the bytes that a read gave, and none where there was nothing
+-- what was last returned: the bytes that a read gave, and none where there was nothing
 abbrev pub last_read_after : Result (Option (List ℕ)) Trouble → List ℕ → List ℕ
 last_read_after (Ok held) before = bytes_in held
 last_read_after (Err e) before = before

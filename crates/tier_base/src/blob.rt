@@ -57,7 +57,7 @@ impl Blob {
         self.bytes.len()
     }
 
-    /// Answers whether there are no bytes.
+    /// Returns whether there are no bytes.
     pub fn is_empty(&self) -> bool
         ensures { IsTrue result ↔ (self.now ≡ []) }
     {

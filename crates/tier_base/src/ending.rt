@@ -11,14 +11,14 @@ use crate::fault::{Failed, Trouble};
 pub enum Ending {
     /// It is done.
     Done,
-    /// It is done, and answers that it failed.
+    /// It is done, and returns that it failed.
     DoneAndFailed,
     /// It fails, and isn't done.
     Undone,
 }
 
 impl Ending {
-    /// Answers whether the call is done.
+    /// Returns whether the call is done.
     pub fn is_done(self) -> bool
         ensures { result ≡ is_done self }
     {
@@ -28,7 +28,7 @@ impl Ending {
         }
     }
 
-    /// Answers whether it is done and doesn't fail.
+    /// Returns whether it is done and doesn't fail.
     pub fn is_ok(self) -> bool
         ensures { result ≡ goes_well self }
     {
@@ -39,7 +39,7 @@ impl Ending {
     }
 }
 
-/// Answers the value where the call went well.
+/// Returns the value where the call went well.
 pub fn give<T: Drop>(outcome: Result<(), Failed>, value: T) -> Result<T, Trouble>
     ensures fate { fate_of result ≡ failing outcome }
     ensures value { IfOk result (λ given. given ≡ value) }

@@ -17,7 +17,7 @@ pub enum Trouble {
     /// The call failed outside, and was counted.
     #[error("failed")]
     Failed,
-    /// Memory was wanted.
+    /// Memory ran out.
     #[error("out of memory")]
     NoMemory,
 }

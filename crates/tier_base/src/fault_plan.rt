@@ -83,7 +83,7 @@ impl<K: CallKind> FaultPlan<K> {
         self.plan.as_slice()
     }
 
-    /// Answers whether planned calls fail.
+    /// Returns whether planned calls fail.
     pub fn is_armed(&self) -> bool
         ensures { result ≡ self.now.armed }
     {
@@ -104,14 +104,14 @@ impl<K: CallKind> FaultPlan<K> {
         self.counts[call.to_code()]
     }
 
-    /// Answers whether there is a fuse.
+    /// Returns whether there is a fuse.
     pub fn is_fused(&self) -> bool
         ensures { IsTrue result ↔ IsTrue (is_some self.now.fuse) }
     {
         self.fuse.is_some()
     }
 
-    /// Answers whether the plan alone decides which calls fail, and did so from the first on: whether there was no
+    /// Returns whether the plan alone decides which calls fail, and did so from the first on: whether there was no
     /// fuse.
     pub fn is_scripted(&self) -> bool
         ensures { result ≡ self.now.scripted }
@@ -137,7 +137,7 @@ impl<K: CallKind> FaultPlan<K> {
         self.armed = true;
     }
 
-    /// Answers how the next call of a kind is going to end.
+    /// Returns how the next call of a kind is going to end.
     pub fn ending(&self, call: K) -> Ending
         ensures { result ≡ ending_at K.code self.now call }
     {

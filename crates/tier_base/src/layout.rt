@@ -61,7 +61,7 @@ fn push(out: &mut Vec<u8>, length: u32) -> Result<(), AllocError>
     out.extend_from_slice(length.to_be_bytes().as_slice())
 }
 
-/// The length whose four bytes stand at a place.
+/// The length whose four bytes are at a place.
 fn length_at(fields: &[u8], at: usize) -> u32
     requires { at + 4 ≤ length fields.now }
     ensures { result ≡ length_at at fields.now }

@@ -94,7 +94,7 @@ fn skip<K: CallKind>(plan: &[Planned<K>], kind: usize, made: u64, from: usize) -
     at
 }
 
-/// What a plan says of a kind's next call, where so many were made and its next planned one stands there.
+/// What a plan says of a kind's next call, where so many were made and its next planned one is there.
 #[tactic(auto, using(crate::proofs::Coming::said_next))]
 pub(crate) fn said<K: CallKind>(
     plan: &[Planned<K>],

@@ -4,7 +4,7 @@ ghost use Rattle.std.specs.Prelude.{◌≡◌, ◌-◌, ◌<◌, ◌≤◌, ◌^
 ghost use Rattle.std.specs.Char.{is_ascii_digit};
 ghost use Rattle.tier_base.specs.Number.{digits_len, is_shortest, value_of, ReadsFront, number_text};
 
-/// How many digits stand at the front.
+/// How many digits are at the front.
 fn count_digits(bytes: &[u8]) -> usize
     ensures value { result ≡ digits_len bytes.now }
     ensures within { result ≤ length bytes.now }
@@ -41,7 +41,7 @@ fn value(digits: &[u8]) -> u64
     number
 }
 
-/// The number at the front, up to the byte that ends it, and what stands behind.
+/// The number at the front, up to the byte that ends it, and what follows.
 pub fn number(bytes: &[u8], high: u64, end: u8) -> Option<(u64, &[u8])>
     requires high { high < 2 ^ 64 - 1 }
     requires end { is_ascii_digit end ≡ false }

@@ -52,13 +52,13 @@ pub enum Stop {
 /// The state of a remote segment (Kafka's RemoteLogSegmentState).
 #[derive(Clone, Copy, Debug, PartialEq, Eq)]
 pub enum State {
-    /// A copy has begun. Its objects may stand, and nothing is read from them.
+    /// A copy has begun. Its objects may exist, and nothing is read from them.
     CopyStarted,
     /// The copy is whole, and the segment can be read.
     CopyFinished,
-    /// A deletion has begun. Objects may still stand, and nothing is read from them.
+    /// A deletion has begun. Objects may still exist, and nothing is read from them.
     DeleteStarted,
-    /// The deletion is whole, and no object stands.
+    /// The deletion is whole, and no object exists.
     DeleteFinished,
 }
 
@@ -73,7 +73,7 @@ pub enum Part {
     TimeIndex,
     /// The leader epochs up to the segment's end.
     Epochs,
-    /// The four others, one behind another, where the segment has one object.
+    /// The four others, one after another, where the segment has one object.
     Pack,
 }
 
@@ -84,9 +84,9 @@ pub enum FileName {
     Manifest,
     /// The log segment with this base offset: 20 digits and `.log`.
     Log(u64),
-    /// The metadata log's notes: `notes`.
+    /// The metadata log's events: `notes`.
     Notes,
-    /// How many bytes of the notes count: `gate`.
+    /// How many bytes of the metadata events count: `gate`.
     Gate,
     /// The partition's registry: `registry`.
     Registry,

@@ -7,7 +7,7 @@ pub trait CallKind: Copy {
     /// A number below 8 that no other kind has.
     ghost code: { Self → ℕ };
 
-    /// Answers the kind's number.
+    /// Returns the kind's number.
     fn to_code(self) -> usize
         ensures code { result ≡ code self }
         ensures small { result < 8 };

@@ -23,7 +23,7 @@ pub enum ReadRefusal {
     /// More than the limit came. One byte past it was read.
     #[error("too long")]
     TooLong,
-    /// Memory was wanted.
+    /// Memory ran out.
     #[error("out of memory")]
     NoMemory,
 }
@@ -82,7 +82,7 @@ pub fn read_all<R: Source>(
     }
 }
 
-/// Makes room behind the bytes that were read, if there is none, up to `most` bytes in all.
+/// Makes room after the bytes that were read, if there is none, up to `most` bytes in all.
 fn make_room(bytes: &mut Vec<u8>, read: usize, most: usize) -> Result<(), AllocError>
     requires within { read ≤ vec_len bytes.old }
     requires below { read < most }

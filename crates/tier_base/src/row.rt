@@ -54,7 +54,7 @@ impl<T> Row<T> {
         self.items.len()
     }
 
-    /// Answers whether there are no items.
+    /// Returns whether there are no items.
     pub fn is_empty(&self) -> bool
         ensures { IsTrue result ↔ (self.now ≡ []) }
     {
@@ -105,7 +105,7 @@ impl<T: Drop> Row<T> {
         Ok(())
     }
 
-    /// Puts an item in the place of another, and answers that one.
+    /// Puts an item in the place of another, and returns that one.
     pub fn replace(&mut self, i: usize, item: T) -> T
         requires { i < length self.old }
         ensures now { self.new ≡ slice_set self.old i item }

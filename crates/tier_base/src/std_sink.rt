@@ -9,8 +9,8 @@ use crate::fault::Failed;
 use crate::stream::Sink;
 use std::io::Write;
 
-/// A sink over any writer of std, which doesn't tell its bytes. Every error of the writer is a
-/// fault, and so is a write that takes nothing of a piece that isn't empty.
+/// A sink over any writer of std, which isn't observable. Every error of the writer is a fault, and so is a write that
+/// takes nothing of a piece that isn't empty.
 #[derive(Drop)]
 pub struct StdSink<W: Write + Drop> {
     inner: W,

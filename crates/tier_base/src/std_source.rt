@@ -11,8 +11,7 @@ use crate::fault::Failed;
 use crate::stream::Source;
 use std::io::Read;
 
-/// A source over any reader of std, which doesn't tell its bytes. Every error of the reader is a
-/// fault.
+/// A source over any reader of std, which isn't observable. Every error of the reader is a fault.
 #[derive(Drop)]
 pub struct StdSource<R: Read + Drop> {
     inner: R,

@@ -32,12 +32,11 @@ pub trait Source {
         ensures is_observable { is_some (left self.new) ≡ is_some (left self.old) }
         ensures cause { HasCause (faults self.old) (faults self.new) result };
 
-    /// The count of bytes stands still at its type's end.
+    /// The count of bytes stays at its type's greatest value.
     ghost given_fits: { (s : Self) → given s ≤ 2 ^ 64 - 1 };
 }
 
-/// What takes bytes, one behind another. A write that answers `Failed` has taken none, and another
-/// one may follow.
+/// What takes bytes, one after another. A write that answers `Failed` has taken none, and another one may follow.
 pub trait Sink {
     /// The bytes that were written, where the sink is observable.
     ghost written: { Self → Option (List ℕ) };

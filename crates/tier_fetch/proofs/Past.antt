@@ -25,7 +25,7 @@ last-all P [] x all e = absurd (cc)
 last-all P (y ∷ []) x all e = subst P (same_Some y x e) all.0
 last-all P (y ∷ z ∷ xs) x all e = last-all P (z ∷ xs) x all.1 e
 
--- what is found of offset 0 tells the base
+-- what is found of offset 0 reports the base
 pub base_found : (index : OffsetTable) → (find index 0).0 ≡ index.base
 base_found index = by (floor_of index 0) refl
   where
@@ -48,7 +48,7 @@ firsts-at [] i d = refl
 firsts-at (x ∷ entries) zero d = refl
 firsts-at (x ∷ entries) (suc i) d = firsts-at entries i d
 
--- the relative offsets up to one stand in front
+-- the relative offsets up to one come first
 pub firsts-parted : (far : ℕ) (entries : List (ℕ × ℕ)) → AreOffsets entries → IsPartitionedBy (λ last. nat_le last far) (firsts entries)
 firsts-parted far entries h i j d up within t =
     let parted = chain-parted FitsEntry Rises (λ e. nat_le e.0 far) (λ x y r t. (let le = leb-true _ _ t in le-leb _ _ (omega (arith, le, r.0)))) entries h in

@@ -2,9 +2,9 @@
 --
 -- An entry has a batch's last offset, and the position where that batch begins. So the batch that holds an offset
 -- begins at the first entry past the offset, or before it, and ends where the second one begins, or before. A run of
--- several batches goes no further than the limit behind its first position. None of its batches begins at an entry
--- that lies behind the piece. Behind the run the next batch's head is needed too, since it tells that this batch
--- would pass the limit.
+-- several batches goes no further than the limit after its first position. None of its batches begins at an entry that
+-- lies after the piece. After the run the next batch's head is needed too, since it reports that this batch would pass
+-- the limit.
 --
 -- Source: KIP-405, where a remote segment is read from the position on that its offset index gives.
 use Rattle.std.specs.Prelude.{ℕ, ◌+◌, ◌-◌, ◌^◌, nat_lt, min, max, List, map, filter, Option, Some, None, slice_get}
@@ -19,12 +19,12 @@ capped n = min n (2 ^ 64 - 1)
 abbrev pub past : OffsetTable → ℕ → List ℕ
 past index offset = filter (λ last. nat_lt offset (index.base + last)) (map (λ entry. entry.0) index.entries)
 
--- where the batch of an entry begins, as the index finds it: no position is known behind the last entry
+-- where the batch of an entry begins, as the index finds it: no position is known after the last entry
 abbrev pub begin_at : OffsetTable → Option ℕ → ℕ
 begin_at index None = 2 ^ 64 - 1
 begin_at index (Some last) = (find index (capped (index.base + last))).1
 
--- where the batch begins, at the latest, that holds an offset or comes behind it
+-- where the batch begins, at the latest, that holds an offset or comes after it
 abbrev pub first_begin : OffsetTable → ℕ → ℕ
 first_begin index offset = begin_at index (slice_get (past index offset) 0)
 

@@ -5,10 +5,10 @@
 --   Index      has the piece's index of the cache, or else reads it     StoreFault, Damaged
 --   Log        reads the part of the log that the index shows           Run, StoreFault, Damaged
 --
--- The piece is the one that holds the offset in the line of the broker's own log. A view without one, or whose entry
--- of it places no part, is damage of the metadata log. An object that isn't there is damaged at 0, one that lacks
--- bytes of what is read behind those that it has, an index without a reading where it begins, and a segment's log at
--- the first place where no batch follows before the run has ended.
+-- The piece is the one that holds the offset in the line of the broker's own log. A view without one, or whose entry of
+-- it places no part, is damage of the metadata log. An object that isn't there is damaged at 0, one that lacks bytes of
+-- what is read after those that it has, an index that is invalid where it begins, and a segment's log at the first
+-- place where no batch follows before the run has ended.
 --
 -- Source: KIP-405, fetches below the local log start offset, and RemoteIndexCache.
 use Rattle.std.specs.Prelude.{◌≡◌, ℕ, ◌+◌, ◌<◌, min, List, length, slice_range, option_map, Option, Some, None, Ok, Err, IsErr}
@@ -58,17 +58,18 @@ IsFor offset Refresh = Unit {0}
 IsFor offset (Index piece) = offset < piece.to
 IsFor offset (Log piece span) = offset < piece.to
 
--- a fetch that goes on has such a turn next
+-- a fetch that continues has such a turn next
 abbrev pub GoesFor : ℕ → FetchTurn → Type 0
 GoesFor offset (Goes next) = IsFor offset next
 GoesFor offset (Ends answer) = Unit {0}
 
--- what a refreshed view of so many notes says of an offset, by its piece: a missing one is damage of the metadata log
+-- what a refreshed view of so many metadata events says of an offset, by its piece: a missing one is damage of the
+-- metadata log
 abbrev pub chosen : ℕ → Option Piece → FetchTurn
 chosen notes None = Ends (Damaged Meta notes)
 chosen notes (Some piece) = Goes (Index piece)
 
--- the base offset of a segment and where a part of it stands, by its entry
+-- the base offset of a segment and where a part of it is, by its entry
 abbrev pub spot_in : PartitionId → SegmentId → Part → Option Entry → Option (ℕ × Spot)
 spot_in partition id part None = None
 spot_in partition id part (Some entry) =
@@ -78,7 +79,7 @@ spot_in partition id part (Some entry) =
 abbrev pub reads_by : FetchRequest → Piece → OffsetTable → FetchTurn
 reads_by wanted piece index = Goes (Log piece (span_of index wanted.offset wanted.limit piece.to))
 
--- these are the bytes of an index, which is kept, and the fetch goes on with it
+-- these are the bytes of an index, which is kept, and the fetch continues with it
 pub record IsLoaded (wanted : FetchRequest) (piece : Piece) (base : ℕ) (bytes : List ℕ) (turn : FetchTurn)
     (old new : Cache)
     : Type 0 where
@@ -160,7 +161,7 @@ module _ {S : Type 0} (objects : S → store.Content) (calls : S → Control sto
     pub gets : Gets objects calls place.1.key (all_of place.1) answer old new
     pub loads : Loads wanted piece place.0 place.1 answer result cache cache'
 
-  -- the index isn't in the cache: it is read where it stands
+  -- the index isn't in the cache: it is read where it is
   abbrev pub LoadRow : FetchRequest → Piece → Seen → Option (ℕ × Spot) → Result FetchTurn AllocError → Cache → Cache → S → S → Type 0
   LoadRow wanted piece view None result cache cache' old new =
       (result ≡ Ok (Ends (Damaged Meta view.notes))) × (cache' ≡ cache) × (new ≡ old)
@@ -181,7 +182,7 @@ module _ {S : Type 0} (objects : S → store.Content) (calls : S → Control sto
     pub gets : Gets objects calls spot.key (some_of spot span.from span.most) answer old new
     pub cuts : Cuts wanted piece spot span answer result
 
-  -- the run is read where the segment's log stands
+  -- the run is read where the segment's log is
   abbrev pub LogRow : FetchRequest → Piece → Span → Seen → Option (ℕ × Spot) → Result FetchTurn AllocError → S → S
       → Type 0
   LogRow wanted piece span view None result old new = (result ≡ Ok (Ends (Damaged Meta view.notes))) × (new ≡ old)
@@ -196,7 +197,7 @@ pub record Tiers (S M : Type 0) : Type 0 where
 
 module _ {S M : Type 0} (objects : S → store.Content) (calls : S → Control store_call.call_code)
     (notes : M → meta.Content) (notings : M → Control meta_call.call_code) where
-  -- a turn of a fetch, by what was next: what it came to, or that it wanted memory
+  -- a turn of a fetch, by what was next: what it came to, or that it ran out of memory
   abbrev pub FetchRow : FetchRequest → List (ℕ × ℕ) → FetchStep → Result FetchTurn AllocError → Tiers S M → Tiers S M
       → Type 0
   FetchRow wanted line Refresh result old new =

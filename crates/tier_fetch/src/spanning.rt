@@ -45,7 +45,7 @@ fn past(index: &OffsetIndex, offset: u64) -> &[u32]
     behind
 }
 
-/// Where the batch of an entry begins. Behind the last entry no position is known.
+/// Where the batch of an entry begins. After the last entry no position is known.
 fn begin_at(index: &OffsetIndex, entry: Option<&u32>) -> u64
     ensures { result ≡ begin_at index.now (option_copied entry.entry) }
 {

@@ -86,7 +86,7 @@ fn chosen(wanted: &FetchRequest, line: &Line, view: &View) -> FetchTurn
     }
 }
 
-/// A view that lacks what the notes must hold is damage of the metadata log.
+/// A view that lacks what the metadata events must hold is damage of the metadata log.
 fn lost(view: &View) -> FetchTurn
     ensures { result ≡ Ends (Damaged Meta view.now.notes) }
 {
@@ -152,7 +152,7 @@ fn load<S: Store>(
     }
 }
 
-/// The base offset of a piece's segment, and where a part of it stands.
+/// The base offset of a piece's segment, and where a part of it is.
 fn spot_in(wanted: &FetchRequest, piece: &Piece, view: &View, part: Part) -> Option<(u64, Spot)>
     ensures spot { result ≡ spot_in wanted.now.partition piece.now.id part (entry_of piece.now.id view.now.entries) }
     ensures low { IfSome result (λ found. found.0 ≤ 2 ^ 62) }
@@ -208,7 +208,7 @@ fn keep(
     }
 }
 
-/// An object that lacks what is read, or has no reading from a place on.
+/// An object that lacks what is read, or is invalid from a place on.
 fn damaged(spot: &Spot, at: u64) -> FetchTurn
     ensures { result ≡ Ends (Damaged (Key spot.now.key) at) }
 {

@@ -1,4 +1,4 @@
--- Logs that have one epoch at an offset are one up to there, and what an entry tells of is one.
+-- Logs that have one epoch at an offset are one up to there, and what an entry says of is one.
 use Rattle.std.proofs.Common.{◌≡◌, ◌≢◌, inl, inr, ◌∙◌, sym, ap, subst, refl, ℕ, ◌+◌, ◌<◌, ◌≤◌, List, [], ◌∷◌, ◌++◌, Some, None, Option, arith}
 use Rattle.std.proofs.lemmas.Bool.{lt-ltb, le-ltb, le-leb, lt-leb, eq-eqb, ne_eqb, cases_lt}
 use mathlib.Core.List.{IsPrefix}
@@ -74,14 +74,14 @@ agree p xs ys o e s sx sy hx hy =
 pub has_safe : (p : Plain) (e : ℕ) (xs : List (List ℕ)) → PlainSafe p → Has p.paths e xs → LogSafe p.paths xs
 has_safe p e xs s h = log_prefix p.paths xs h.0 h.2 (s.paths e h.0 h.1).log_safe
 
--- an offset behind a beginning is held by what comes after it
+-- an offset after a beginning is held by what comes after it
 pub back_at : (n : ℕ) (xs ys : List (List ℕ)) (o : ℕ) → IsConsecutive n (xs ++ ys) → end_from n xs ≤ o → epoch_holding (xs ++ ys) o ≡ epoch_holding ys o
 back_at n [] ys o c le = refl
 back_at n (x ∷ xs) ys o c le =
     let high = end_above (last_of x + 1) xs (consecutive_prefix (last_of x + 1) xs (xs ++ ys) (ys, refl) c.1) in
     rw (le-ltb o (base_of x) (omega (arith, high, le)), lt-leb o (last_of x) (omega (arith, high, le))) (back_at (last_of x + 1) xs ys o c.1 le)
 
--- the epochs of batches, by their line
+-- the epochs of batches, by their leader epochs
 
 -- a batch of the epoch before it makes no entry
 after_same : (e : ℕ) (batch : List ℕ) (log : List (List ℕ)) → epoch_of batch ≡ e → line_after e (batch ∷ log) ≡ line_after e log
@@ -182,7 +182,7 @@ front_off : (xs ys zs : List (List ℕ)) → xs ++ ys ≡ xs ++ zs → ys ≡ zs
 front_off [] ys zs e = e
 front_off (x ∷ xs) ys zs e = front_off xs ys zs (cc (e))
 
--- an entry tells of one list of batches
+-- an entry describes one list of batches
 pub describes_one : (p : Plain) (entry : Entry) (xs ys : List (List ℕ)) (l m : List (ℕ × ℕ)) → PlainSafe p → Describes p.paths entry xs l → Describes p.paths entry ys m → xs ≡ ys
 describes_one p entry xs ys l m s d f =
     let a = d.part.front ++ xs in

@@ -12,7 +12,7 @@ use Rattle.tier_safe.specs.Follow.{BrokerTierGoes, MayStep}
 use Rattle.tier_safe.specs.Laws.{AnswersKeepSafe}
 use Rattle.tier_safe.proofs.Kept.{all_kept}
 
--- sides stay where no broker changes
+-- tier states stay where no broker changes
 tier_views_stay : (c : Scene) (p q : Plain) (order : Order) (entry : JournalEntry) → step p order entry ≡ Some q → q.brokers ≡ p.brokers → TierSafe c p → MayStep c.tier_views c p q
 tier_views_stay c p q order entry is same h = record {
   order = order;

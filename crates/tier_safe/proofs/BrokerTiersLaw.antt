@@ -1,4 +1,4 @@
--- Each change leaves views those of notes, and local logs within the logs.
+-- Each change leaves views those of metadata events, and local logs within the logs.
 use Rattle.std.proofs.Common.{◌≡◌, inl, inr, ◌∙◌, sym, ap, subst, ℕ, ◌+◌, ◌≤◌, List, [], ◌∷◌, Some, slice_get, slice_set}
 use Rattle.log_terms.specs.Log.{end_of}
 use Rattle.log_terms.proofs.Lists.{get-set, each-set, prefix_more, length-slice_set}
@@ -34,7 +34,7 @@ pub views_stepped : (tier_views : List BrokerTierView) (c : Scene) (p q : Plain)
 views_stepped tier_views c p q m h = λ b tier_view at.
     (let f = followed tier_views c p q b tier_view m h at in subst (λ (v : Seen). IsViewOf c.notes v) (sym f.goes.view) (h.views b f.old f.old_is))
 
--- a site that stands, put in its place
+-- a tier view that exists, put in its place
 tier_view_set : (tier_views : List BrokerTierView) (brokers : List Broker) (b : ℕ) (old new : BrokerTierView) → slice_get tier_views b ≡ Some old
     → ((x : Broker) → slice_get brokers b ≡ Some x → BrokerTierMatches old x → BrokerTierMatches new x) → BrokerTiersMatch tier_views brokers → BrokerTiersMatch (slice_set tier_views b new) brokers
 tier_view_set tier_views brokers b old new at go h = record {

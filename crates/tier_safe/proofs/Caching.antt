@@ -48,7 +48,7 @@ cached_told paths notes more id index pre k = record {
       subst (λ (e : Entry). IsIndexOf paths e index) same (index_follows paths y.0 z.0 index z.2 (k.is y.0 y.1 (between y.0.state low high))));
 }
 
--- a site, and what it keeps
+-- a tier view, and what it keeps
 caches_tier_view : (paths : List Path) (notes : List Note) (tier_views : List BrokerTierView) (b : ℕ) (new : BrokerTierView)
     → ((id : SegmentId) (index : OffsetTable) → In (id, index) new.cache → CachedStands paths notes id index) → CachesStand paths notes tier_views → CachesStand paths notes (slice_set tier_views b new)
 caches_tier_view paths notes tier_views b new own h = λ d tier_view at id index has. elim (get-set tier_views b new d tier_view at) [

@@ -39,7 +39,7 @@ use Rattle.tier_safe.proofs.Entries.{id_in, told, told_follows, told_entry, add_
 use Rattle.tier_safe.proofs.Basics.{id_cases, nat_cases, key_cases, key_is, some_keys, one_some, some_or_none, not_finished, not_started, not_started_rises, deleted_rises}
 use Rattle.tier_safe.proofs.Lineage.{source_grows}
 
--- an entry that goes on is still the copy's
+-- an entry that continues is still the copy's
 pub entry_for_follows : (copy : Copied) (x y : Entry) → Follows x y → IsEntryFor copy x → IsEntryFor copy y
 entry_for_follows copy x y f e = record {
   partition = f.partition ∙ e.partition;
@@ -60,7 +60,7 @@ at_entries objects es new copy copying.Finish e h = record { entry = h.entry; th
 at_entries objects es new copy copying.Check e h = record { entry = h.entry; there = e ∙ h.there; is = h.is; state = h.state }
 at_entries objects es new copy (copying.Delete n) e h = record { entry = h.entry; there = e ∙ h.there; is = h.is; state = h.state }
 
--- an entry whose deletion goes on
+-- an entry whose deletion continues
 at_deleted : (objects : Objects) (es new : List Entry) (copy : Copied) (next : CopyNext) (x y : Entry) → entry_of copy.id es ≡ Some x
     → entry_of copy.id new ≡ Some y → Follows x y → (y ≡ x) ⊎ (is_deleted y.state ≡ true) → CopyAt objects es copy next → CopyAt objects new copy next
 at_deleted objects es new copy copying.Start x y old is f g h = absurd (cc (old, h))
@@ -133,7 +133,7 @@ abbrev pub CopyTask : Objects → List Path → List Entry → TierTask → Type
 CopyTask objects paths es (Copies copy next) = CopyStands objects paths es copy next
 CopyTask objects paths es other = Unit {0}
 
--- no other seat has a copy of this id
+-- no other actor's state has a copy of this id
 abbrev pub IsAlone : List TierTask → ℕ → SegmentId → Type 0
 IsAlone desk a id = (k : ℕ) (other : Copied) (next : CopyNext) → k ≢ a → slice_get desk k ≡ Some (Copies other next) → id ≢ other.id
 
@@ -144,7 +144,7 @@ AloneTask desk a other = Unit {0}
 pub alone_actor_state : (c : Scene) (p : Plain) (a : ℕ) (copy : Copied) (next : CopyNext) → TierSafe c p → slice_get c.desk a ≡ Some (Copies copy next) → IsAlone c.desk a copy.id
 alone_actor_state c p a copy next h actor_state = λ k other then ne at e. ne (sym (h.copies.apart a k copy other next then actor_state at e))
 
--- what each work stands for, after one was put in its place
+-- what each work represents, after one was put in its place
 pub copies_set : (objects : Objects) (paths : List Path) (es : List Entry) (desk : List TierTask) (a : ℕ) (w : TierTask) → CopyTask objects paths es w → AloneTask desk a w
     → ((k : ℕ) (copy : Copied) (next : CopyNext) → k ≢ a → slice_get desk k ≡ Some (Copies copy next) → CopyStands objects paths es copy next)
     → ((k j : ℕ) (copy other : Copied) (next then : CopyNext) → slice_get desk k ≡ Some (Copies copy next) → slice_get desk j ≡ Some (Copies other then) → copy.id ≡ other.id → k ≡ j)
@@ -203,7 +203,7 @@ moved_works a (Reads sought from) c p m h = (tt, tt)
 
 -- a new id
 
--- the id that a site would choose next isn't used
+-- the id that a tier view would choose next isn't used
 pub next_unused : (c : Scene) (p : Plain) (id : SegmentId) (partition b : ℕ) (tier_view : BrokerTierView) → TierSafe c p → slice_get c.tier_views b ≡ Some tier_view → tier_view.up ≡ true
     → IsIdOf id partition b tier_view.incarnation tier_view.next → IsUsed (fold c.notes) c.desk id → ⊥
 next_unused c p id partition b tier_view h at up is used =
@@ -211,7 +211,7 @@ next_unused c p id partition b tier_view h at up is used =
     let below = chosen.below up refl in
     absurd (omega (arith, below))
 
--- notes
+-- metadata events
 
 told_gone : (broker : BrokerId) (event_ts : ℤ) (state : State) (custom : Option Blob) (x : Entry) → is_deleted state ≡ true
     → (told broker event_ts state custom x ≡ x) ⊎ (is_deleted (told broker event_ts state custom x).state ≡ true)
@@ -265,7 +265,7 @@ alone_told (CopyEnds copy) a c p m h = alone_actor_state c p a copy _ h m.actor_
 alone_told (ExpiryStarts expired_segment) a c p m h = tt
 alone_told (ExpiryEnds expired_segment) a c p m h = tt
 
--- an expiry's note on a copy's id
+-- an expiry's metadata event on a copy's id
 expiry_told : (expired_segment : ExpiredSegment) (state : State) (a : ℕ) (was : ExpiryNext) (origin : EventOrigin) (c : Scene) (p : Plain) (copy : Copied) (next : CopyNext) → is_deleted state ≡ true
     → slice_get c.desk a ≡ Some (Expires expired_segment was) → TierSafe c p → expired_segment.id ≡ copy.id → CopyAt c.objects (fold c.notes) copy next
     → CopyAt c.objects (recorded (fold c.notes) (note_of expired_segment origin state)) copy next

@@ -60,7 +60,7 @@ covers_is epoch offset entry h =
 covers_follows : (epoch offset : ℕ) (x y : Entry) → Follows x y → y.state ≡ x.state → covers epoch offset x ≡ true → covers epoch offset y ≡ true
 covers_follows epoch offset x y f s h = rw (s, f.start, f.end, f.map) h
 
--- what was finished once is deleted only below the log start
+-- what was finished once is deleted only below the log start offset
 pub finished_stays : (notes more before : List Note) (start offset : ℕ) (id : SegmentId) (x y : Entry) → DeletedEnd notes start → IsPrefix before notes → IsPrefix more notes
     → entry_of id (fold before) ≡ Some x → x.state ≡ CopyFinished → start ≤ offset → offset ≤ x.end → entry_of id (fold more) ≡ Some y → Follows x y → y.state ≡ CopyFinished
 finished_stays notes more before start offset id x y ended pre post is done low high found f = elim (finished_or y.state) [
@@ -143,7 +143,7 @@ dropped b tier_view start (Restarts a rebuild) c p m safe h x bx o low high =
     let below : o < rebuild.wanted = omega (arith, high, m.why.1) in
     subst (λ (y : Broker). CoversLog (fold c.notes) y.log o) same (subst (λ (l : List (List ℕ)). CoversLog (fold c.notes) l o) front (r.covered o low below))
 
--- a site with the same local start
+-- a tier view with the same local start
 covered_set : (es : List Entry) (start : ℕ) (tier_views : List BrokerTierView) (brokers : List Broker) (b : ℕ) (new : BrokerTierView)
     → ((x : Broker) → slice_get brokers b ≡ Some x → (o : ℕ) → start ≤ o → o < new.start → CoversLog es x.log o)
     → CoveredStands es start tier_views brokers → CoveredStands es start (slice_set tier_views b new) brokers

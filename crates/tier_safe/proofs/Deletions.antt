@@ -1,4 +1,4 @@
--- Each change leaves what is deleted below the log start.
+-- Each change leaves what is deleted below the log start offset.
 use Rattle.std.proofs.Common.{◌≡◌, ◌≢◌, ◌⊎◌, inl, inr, ◌∙◌, sym, ap, subst, refl, ℕ, ◌+◌, ◌<◌, ◌≤◌, true, cond, not, List, [], ◌∷◌, ◌++◌, Option, Some, None, slice_get, slice_set, arith}
 use Rattle.std.specs.Prelude.{ℤ, is_some, nat_lt}
 use Rattle.std.proofs.lemmas.Bool.Decides.{nat_tests}
@@ -99,7 +99,7 @@ begun_rises expiring.Start old new h b = tt
 begun_rises (expiring.Delete n) old new h b = deleted_rises old new h b
 begun_rises expiring.Finish old new h b = deleted_rises old new h b
 
--- an expiry's entry after a note
+-- an expiry's entry after a metadata event
 expiry_goes : (es : List Entry) (note : Note) (start : ℕ) (expired_segment : ExpiredSegment) (next : ExpiryNext) → ExpiryStands es start expired_segment next → ExpiryStands (recorded es note) start expired_segment next
 expiry_goes es note start expired_segment next h =
     let y = entry_goes es note expired_segment.id h.entry h.there in

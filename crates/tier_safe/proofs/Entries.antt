@@ -1,4 +1,4 @@
--- What a note makes of the entry of an id.
+-- What a metadata event makes of the entry of an id.
 use Rattle.std.proofs.Common.{◌≡◌, ◌≢◌, ◌∙◌, sym, ap, subst, refl, ◌≤◌, Bool, true, false, cond, List, [], ◌∷◌, ◌++◌, Option, Some, None, arith}
 use Rattle.std.specs.Prelude.{ℤ, is_some, if◌then◌else◌}
 use Rattle.std.specs.Str.{bytes_eq}
@@ -16,7 +16,7 @@ use Rattle.segment_meta.specs.Steps.{next_state}
 use Rattle.remote_view.specs.Fold.{entry_of, state_of, changed, updated, custom_after, recorded, folded_from, fold}
 use Rattle.remote_view.proofs.Ids.{same_id, bytes_self, other_bytes}
 
--- an entry later: of the same segment, in no earlier state; once its copy isn't under way, its custom metadata stays
+-- an entry later: of the same segment, in no earlier state; once its copy isn't in progress, its custom metadata stays
 pub record Follows (old new : Entry) : Type 0 where
   pub id : new.id ≡ old.id
   pub partition : new.partition ≡ old.partition
@@ -29,7 +29,7 @@ pub record Follows (old new : Entry) : Type 0 where
   pub custom : old.state ≢ CopyStarted → new.custom ≡ old.custom
   pub state : state_code old.state ≤ state_code new.state
 
--- the id that a note speaks of
+-- the id that a metadata event speaks of
 abbrev pub id_in : Note → SegmentId
 id_in (Add entry) = entry.id
 id_in (Update id broker event_ts state custom) = id
@@ -99,7 +99,7 @@ change_own id f (y ∷ es) x k h = by (bytes_eq y.id.0 id.0) refl h (change_own 
         rw new (ap (λ (e : Entry). Some (f e)) same)
     by false is h more = rw is (more h)
 
--- a note of another id
+-- a metadata event of another id
 pub other_entry : (es : List Entry) (note : Note) (id : SegmentId) → id_in note ≢ id → entry_of id (recorded es note) ≡ entry_of id es
 other_entry es (Add e) id ne = by (is_some (next_state (state_of e.id es) e.state))
   where
@@ -112,7 +112,7 @@ other_entry es (Update own broker event_ts state custom) id ne = by (is_some (ne
     by true = change_other own id (updated broker event_ts state custom) es (λ e. refl) (other_bytes own id ne)
     by false = refl
 
--- a note that adds an entry of an unknown id
+-- a metadata event that adds an entry of an unknown id
 pub add_entry : (es : List Entry) (e : Entry) → e.state ≡ CopyStarted → entry_of e.id es ≡ None → entry_of e.id (recorded es (Add e)) ≡ Some e
 add_entry es e started none = by (is_some (next_state (state_of e.id es) e.state)) (rw (none, started) refl)
   where
@@ -132,7 +132,7 @@ told_entry es id broker event_ts state custom x h = rw h (by (is_some (next_stat
 pub follows_self : (x : Entry) → Follows x x
 follows_self x = record { id = refl; partition = refl; start = refl; end = refl; max_ts = refl; size = refl; map = refl; packed = refl; custom = λ ne. refl; state = omega arith }
 
--- a copy that isn't under way never is again
+-- a copy that isn't in progress never is again
 pub not_begun : (old new : State) → state_code old ≤ state_code new → old ≢ CopyStarted → new ≢ CopyStarted
 not_begun CopyStarted new h ne e = ne refl
 not_begun CopyFinished CopyStarted h ne e = absurd (omega (arith, h))
@@ -163,7 +163,7 @@ step_rises CopyFinished DeleteStarted h = omega arith
 step_rises DeleteStarted DeleteFinished h = omega arith
 step_rises old new h = absurd (cc)
 
--- only a copy under way is finished, so no other step changes custom metadata
+-- only a copy in progress is finished, so no other step changes custom metadata
 step_keeps : (old new : State) (told custom : Option Blob) → is_some (next_state (Some old) new) ≡ true → old ≢ CopyStarted → custom_after new told custom ≡ custom
 step_keeps CopyStarted new told custom h ne = absurd (ne refl)
 step_keeps CopyFinished CopyFinished told custom h ne = absurd (cc (h))
@@ -183,7 +183,7 @@ told_follows broker event_ts state custom x = by (is_some (next_state (Some x.st
 both : {t : Bool} → t ≡ true → t ≡ false → ⊥
 both h k = absurd (cc (h, k))
 
--- an entry goes on after any note
+-- an entry continues after any metadata event
 pub entry_goes : (es : List Entry) (note : Note) (id : SegmentId) (x : Entry) → entry_of id es ≡ Some x
     → (y : Entry) × (entry_of id (recorded es note) ≡ Some y) × Follows x y
 entry_goes es (Add e) id x h = (x, by (is_some (next_state (state_of e.id es) e.state)), follows_self x)
@@ -203,7 +203,7 @@ entry_goes es (Update own broker event_ts state custom) id x h = by (bytes_eq ow
         )
     by false is = (x, other_entry es (Update own broker event_ts state custom) id (λ same. both (ap (λ (i : SegmentId). bytes_eq i.0 id.0) same ∙ bytes_self id.0) is) ∙ h, follows_self x)
 
--- the fold of one note more
+-- the fold of one metadata event more
 folded_push : (entries : List Entry) (notes : List Note) (note : Note) → folded_from entries (notes ++ note ∷ []) ≡ recorded (folded_from entries notes) note
 folded_push entries [] note = refl
 folded_push entries (first ∷ notes) note = folded_push (recorded entries first) notes note
@@ -223,7 +223,7 @@ folded_append : (es : List Entry) (notes more : List Note) → folded_from es (n
 folded_append es [] more = refl
 folded_append es (note ∷ notes) more = folded_append (recorded es note) notes more
 
--- and after all further notes
+-- and after all further metadata events
 pub prefix_goes : (before notes : List Note) (id : SegmentId) (x : Entry) → IsPrefix before notes → entry_of id (fold before) ≡ Some x
     → (y : Entry) × (entry_of id (fold notes) ≡ Some y) × Follows x y
 prefix_goes before notes id x p h =

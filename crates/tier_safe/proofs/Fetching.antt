@@ -126,7 +126,7 @@ moved_fetch a (Finds sought piece) c p m h = found a sought piece c p m h
 moved_fetch a (Skips sought offset) c p m h = skipped a sought offset c p m h
 moved_fetch a (Reads sought from) c p m h = placed a sought from c p m h
 
--- notes
+-- metadata events
 
 describes_follows : (paths : List Path) (x y : Entry) (batches : List (List ℕ)) (line : List (ℕ × ℕ)) → Follows x y → Describes paths x batches line → Describes paths y batches line
 describes_follows paths x y batches line f d = record {
@@ -148,7 +148,7 @@ index_follows paths x y index f i = record {
   is = i.is ∙ ap (λ (n : ℕ). index_of n i.interval (placed_from 0 i.batches)) (sym f.start);
 }
 
--- a fetch after further notes
+-- a fetch after further metadata events
 fetch_told : (paths : List Path) (notes more : List Note) (start : ℕ) (tier_view : BrokerTierView) (x : Broker) (sought : Sought) → DeletedEnd notes start → IsPrefix notes more
     → FetchStands paths notes start tier_view x sought → FetchStands paths more start tier_view x sought
 fetch_told paths notes more start tier_view x sought ended pre f = record {
@@ -196,17 +196,17 @@ stored_fetch paths notes start tier_views brokers (Puts copy n key) = tt
 stored_fetch paths notes start tier_views brokers (Undoes copy n key) = undone_fetch paths notes start tier_views brokers copy (n + 1) (slice_get (copy_keys copy) (n + 1))
 stored_fetch paths notes start tier_views brokers (Deletes expired_segment n key) = tt
 
--- a copy that the one site's view sees the other's sees too
+-- a copy that the one tier view's view sees the other's sees too
 abbrev SeesOn : BrokerTierView → BrokerTierView → Type 0
 SeesOn old new = (id : SegmentId) → SeesCopy old.view.entries id → SeesCopy new.view.entries id
 
--- a view of more notes
+-- a view of more metadata events
 sees_more : (old new : BrokerTierView) (before more : List Note) → old.view ≡ view_of before → new.view ≡ view_of more → IsPrefix before more → SeesOn old new
 sees_more old new before more was is pre id k =
     let y = prefix_goes before more id k.0 pre (subst (λ (v : Seen). entry_of id v.entries ≡ Some k.0) was k.1) in
     (y.0, subst (λ (v : Seen). entry_of id v.entries ≡ Some y.0) (sym is) y.1, not_begun k.0.state y.0.state y.2.state k.2)
 
--- a site whose local start doesn't fall, and whose view has the entries that it had
+-- a tier view whose local start doesn't fall, and whose view has the entries that it had
 fetches_tier_view : (paths : List Path) (notes : List Note) (start : ℕ) (tier_views : List BrokerTierView) (brokers : List Broker) (desk : List TierTask) (b : ℕ) (old new : BrokerTierView) → slice_get tier_views b ≡ Some old
     → old.start ≤ new.start → SeesOn old new → FetchesStand paths notes start tier_views brokers desk → FetchesStand paths notes start (slice_set tier_views b new) brokers desk
 fetches_tier_view paths notes start tier_views brokers desk b old new at rises on h = λ a sought tier_view x actor_state is bx. elim (get-set tier_views b new sought.broker tier_view is) [

@@ -40,7 +40,7 @@ use Rattle.tier_safe.proofs.Lineage.{held_grows, held_same}
 custom_packed : (copy : Copied) → copy.packed ≡ true → custom_of copy ≡ Some (layout_bytes (layout_of copy.parts))
 custom_packed copy packed = rw packed refl
 
--- a copy whose objects all stand, with its entry
+-- a copy whose objects all exist, with its entry
 pub copied_held : (objects : Objects) (paths : List Path) (copy : Copied) (entry : Entry) → IsSource paths copy → IsEntryFor copy entry → entry.id ≡ copy.id
     → entry.custom ≡ custom_of copy → HasPutAll objects copy → IsStoredWhole objects paths entry
 copied_held objects paths copy entry s e id told put = record {
@@ -83,11 +83,11 @@ told_copied broker event_ts custom x = by x.state
     by DeleteStarted ne is = absurd (cc)
     by DeleteFinished ne is = absurd (cc)
 
--- a copy under way that is told as finished has the custom metadata that is told
+-- a copy in progress that is recorded as finished has the custom metadata that is reported
 told_custom : (broker : BrokerId) (event_ts : ℤ) (custom : Option Blob) (x : Entry) → x.state ≡ CopyStarted → (told broker event_ts CopyFinished custom x).custom ≡ custom
 told_custom broker event_ts custom x started = rw started refl
 
--- after a note of an expiry an entry of its id that is finished was so
+-- after a metadata event of an expiry an entry of its id that is finished was so
 expired_held : (expired_segment : ExpiredSegment) (origin : EventOrigin) (state : State) (a : ℕ) (next : ExpiryNext) (c : Scene) (p : Plain) (entry : Entry) → state ≢ CopyFinished
     → slice_get c.desk a ≡ Some (Expires expired_segment next) → TierSafe c p
     → entry_of expired_segment.id (recorded (fold c.notes) (note_of expired_segment origin state)) ≡ Some entry → entry.state ≡ CopyFinished → IsStoredWhole c.objects p.paths entry
@@ -99,7 +99,7 @@ expired_held expired_segment origin state a next c p entry ne actor_state h is d
     let was : entry ≡ s.entry = one ∙ same in
     h.finished expired_segment.id entry (subst (λ (y : Entry). entry_of expired_segment.id (fold c.notes) ≡ Some y) (sym was) s.there) done
 
--- after a note, an entry of its id is finished
+-- after a metadata event, an entry of its id is finished
 told_held : (telling : Telling) (a : ℕ) (origin : EventOrigin) (c : Scene) (p : Plain) (entry : Entry) → MayTell a telling c → TierSafe c p
     → entry_of (id_in (note_for telling origin)) (recorded (fold c.notes) (note_for telling origin)) ≡ Some entry → entry.state ≡ CopyFinished
     → IsStoredWhole c.objects p.paths entry

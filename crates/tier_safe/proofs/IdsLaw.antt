@@ -58,7 +58,7 @@ told_used (CopyEnds copy) a c m = inr (a, copy, _, m.actor_state, refl)
 told_used (ExpiryStarts expired_segment) a c m = tt
 told_used (ExpiryEnds expired_segment) a c m = tt
 
--- the id of a note was used
+-- the id of a metadata event was used
 note_used : (telling : Telling) (a : ℕ) (origin : EventOrigin) (c : Scene) (p : Plain) → MayTell a telling c → TierSafe c p → IsUsed (fold c.notes) c.desk (id_in (note_for telling origin))
 note_used (CopyStarts copy) a origin c p m h = inr (a, copy, _, m.actor_state, refl)
 note_used (CopyEnds copy) a origin c p m h = inr (a, copy, _, m.actor_state, refl)
@@ -81,7 +81,7 @@ stored_used (Puts copy n key) a objects c m = inr (a, copy, _, m.actor_state, re
 stored_used (Undoes copy n key) a objects c m = undone_used (fold c.notes) c.desk copy (n + 1) (slice_get (copy_keys copy) (n + 1)) (inr (a, copy, _, m.actor_state, refl))
 stored_used (Deletes expired_segment n key) a objects c m = tt
 
--- a site that keeps its incarnation and attempts
+-- a tier view that keeps its incarnation and attempts
 ids_tier_view : (es : List Entry) (desk : List TierTask) (tier_views : List BrokerTierView) (b : ℕ) (old new : BrokerTierView) → slice_get tier_views b ≡ Some old → new.up ≡ old.up
     → new.incarnation ≡ old.incarnation → new.next ≡ old.next → IdsStand es tier_views desk → IdsStand es (slice_set tier_views b new) desk
 ids_tier_view es desk tier_views b old new at up incarnation next h = λ id partition d inc att tier_view used is sat.
@@ -95,7 +95,7 @@ ids_tier_view es desk tier_views b old new at up incarnation next h = λ id part
       | inr there ↦ h id partition d inc att tier_view used is there.1
     ]
 
--- a site that chooses
+-- a tier view that chooses
 ids_chosen : (a b : ℕ) (tier_view : BrokerTierView) (copy : Copied) (c : Scene) (p : Plain) → MayChoose a b tier_view copy c p → TierSafe c p
     → IdsStand (fold c.notes) (slice_set c.tier_views b (record tier_view { next = tier_view.next + 1 })) (slice_set c.desk a (Copies copy copying.Start))
 ids_chosen a b tier_view copy c p m h = λ id partition d inc att s used is at. elim used [
@@ -144,7 +144,7 @@ ids_kept (Sees b tier_view view) c p m h = ids_tier_view (fold c.notes) c.desk c
 ids_kept (Caches b tier_view cache) c p m h = ids_tier_view (fold c.notes) c.desk c.tier_views b tier_view (record tier_view { cache = cache }) m.tier_view_is refl refl refl h.ids
 ids_kept (Drops b tier_view start dropping) c p m h = ids_tier_view (fold c.notes) c.desk c.tier_views b tier_view (record tier_view { start = start }) m.tier_view_is refl refl refl h.ids
 
--- a site before a step and its brokers before and after
+-- a tier view before a step and its brokers before and after
 pub record Followed (tier_views : List BrokerTierView) (c : Scene) (p q : Plain) (b : ℕ) (new : BrokerTierView) : Type 0 where
   pub old : BrokerTierView
   pub old_is : slice_get c.tier_views b ≡ Some old

@@ -70,7 +70,7 @@ kept (Sees b tier_view view) c p q m safe h = same_plain (Sees b tier_view view)
 kept (Caches b tier_view cache) c p q m safe h = same_plain (Caches b tier_view cache) c p q m safe h
 kept (Drops b tier_view start dropping) c p q m safe h = same_plain (Drops b tier_view start dropping) c p q m safe h
 
--- the plain log's rules go on with it
+-- the plain log's rules continue with it
 still_safe : (change : Change) (c : Scene) (p q : Plain) → May change c p q → PlainSafe p → PlainSafe q
 still_safe (Steps tier_views) c p q m safe = step_safe p m.order m.entry q m.is safe
 still_safe (Moves a move) c p q m safe = subst PlainSafe (sym m.0) safe

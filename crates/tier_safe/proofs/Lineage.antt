@@ -57,7 +57,7 @@ index_grows ps qs entry index w h = record {
   is = h.is;
 }
 
--- the objects of an entry stand where those under its keys do
+-- the objects of an entry exist where those under its keys do
 pub held_same : (old new : Objects) (paths : List Path) (entry : Entry) → ((n : ℕ) (key : ObjectKey) → slice_get (keys_of entry.partition entry.id entry.packed) n ≡ Some key → new key ≡ old key)
     → IsStoredWhole old paths entry → IsStoredWhole new paths entry
 held_same old new paths entry same h = record {

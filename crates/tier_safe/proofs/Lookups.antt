@@ -110,7 +110,7 @@ wanted_is_found c p a rebuild tier_view line h actor_state is done below says =
     let above = r.above in
     piece_found tier_view.view.entries line rebuild.wanted (rebuild.wanted - 1) k.epoch (omega (arith, above)) (says ∙ k.holds) k.covers
 
--- and what is found stands
+-- and what is found exists
 pub found_stands : FoundStands
 found_stands notes view line log offset piece v right is_observable made =
     let k = piece_lies view.entries line (end_of log) offset piece right.kept right.distinct is_observable.rises made in

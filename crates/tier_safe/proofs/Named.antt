@@ -21,7 +21,7 @@ named_more notes note id h =
     let more = entry_goes (fold notes) note id h.0 h.1 in
     (more.0, ap (entry_of id) (fold_push notes note) ∙ more.1)
 
--- the object of a command's turn has an entry, where it stands afterwards
+-- the object of a command's turn has an entry, where it is afterwards
 stored_named : (storing : Storing) (a : ℕ) (objects : Objects) (c : Scene) (p : Plain) (bytes : List ℕ) → MayStore a storing objects c → TierSafe c p
     → made_by storing (c.objects (key_for storing)) ≡ Some bytes → IsNamed (fold c.notes) (key_for storing).id
 stored_named (Puts copy n key) a objects c p bytes m h is =

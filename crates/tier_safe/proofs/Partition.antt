@@ -24,7 +24,7 @@ use Rattle.tier_safe.proofs.Basics.{id_cases, some_or_none, one_some, key_is, ob
 
 -- entries
 
--- where a note adds an entry, it is a copy's first note
+-- where a metadata event adds an entry, it is a copy's first metadata event
 added_of : (telling : Telling) (a : ℕ) (origin : EventOrigin) (c : Scene) (p : Plain) (y : Entry) → MayTell a telling c → TierSafe c p
     → entry_of (id_in (note_for telling origin)) (fold c.notes) ≡ None
     → entry_of (id_in (note_for telling origin)) (recorded (fold c.notes) (note_for telling origin)) ≡ Some y → y.partition ≡ c.partition
@@ -59,7 +59,7 @@ stored_of (Puts copy n key) a objects c p bytes m h is = ap (λ (k : ObjectKey).
 stored_of (Undoes copy n key) a objects c p bytes m h is = absurd (cc)
 stored_of (Deletes expired_segment n key) a objects c p bytes m h is = absurd (cc)
 
--- seats
+-- actors' states
 
 -- what an actor's state has is of the partition
 abbrev TaskOf : PartitionId → TierTask → Type 0
@@ -118,7 +118,7 @@ stored_work (Puts copy n key) a objects c p m h = h.partition.copied a copy _ m.
 stored_work (Undoes copy n key) a objects c p m h = undone_work c.partition copy (n + 1) (slice_get (copy_keys copy) (n + 1)) (h.partition.copied a copy _ m.actor_state)
 stored_work (Deletes expired_segment n key) a objects c p m h = h.partition.deleted a expired_segment _ m.actor_state
 
--- the seats after one was set
+-- the actors' states after one was set
 desk_set : (c d : Scene) (a : ℕ) (w : TierTask) (p : Plain) → TierSafe c p → TaskOf c.partition w
     → ((id : SegmentId) (entry : Entry) → entry_of id (fold d.notes) ≡ Some entry → entry.partition ≡ c.partition)
     → ((key : ObjectKey) (bytes : List ℕ) → d.objects key ≡ Some bytes → key.partition ≡ c.partition)

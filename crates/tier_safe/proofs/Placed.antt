@@ -22,7 +22,7 @@ abbrev pub IsRead : Part → Type 0
 IsRead Pack = ⊥
 IsRead part = Unit {0}
 
--- an object stands at a spot, and these are all bytes of the part there
+-- an object is at a spot, and these are all bytes of the part there
 pub record IsPlaced (objects : Objects) (spot : Spot) (bytes : List ℕ) : Type 0 where
   pub object : List ℕ
   pub there : objects spot.key ≡ Some object
@@ -37,7 +37,7 @@ pub record HasSpot (objects : Objects) (partition : PartitionId) (id : SegmentId
   pub home_is : spot.key ≡ key_of partition id home
   pub placed : IsPlaced objects spot bytes
 
--- a part that stands by itself
+-- a part that is by itself
 alone : (objects : Objects) (partition : PartitionId) (id : SegmentId) (custom : Option (List ℕ)) (part : Part) (bytes : List ℕ) → objects (key_of partition id part) ≡ Some bytes
     → HasSpot objects partition id false custom part bytes
 alone objects partition id custom part bytes there = record {

@@ -1,4 +1,4 @@
--- What a local log lacks stands in the remote tier, and what was finished stands until the log start is past it.
+-- What a local log lacks is in the remote tier, and what was finished exists until the log start offset is past it.
 use Rattle.std.proofs.Common.{arith}
 use Rattle.log_terms.proofs.Lists.{prefix_self}
 use Rattle.tier_safe.specs.Laws.{DroppedIsKept, FinishedIsKept}

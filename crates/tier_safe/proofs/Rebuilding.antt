@@ -114,7 +114,7 @@ stored_rebuild paths notes start tier_views (Puts copy n key) = tt
 stored_rebuild paths notes start tier_views (Undoes copy n key) = undone_rebuild paths notes start tier_views copy (n + 1) (slice_get (copy_keys copy) (n + 1))
 stored_rebuild paths notes start tier_views (Deletes expired_segment n key) = tt
 
--- a site changes, and what its view covers above the log start stays covered
+-- a tier view changes, and what its view covers above the log start offset stays covered
 rebuilds_tier_view : (paths : List Path) (notes : List Note) (start : ℕ) (tier_views : List BrokerTierView) (desk : List TierTask) (b : ℕ) (old new : BrokerTierView) → slice_get tier_views b ≡ Some old
     → ((log : List (List ℕ)) (o : ℕ) → start ≤ o → CoversLog old.view.entries log o → CoversLog new.view.entries log o)
     → RebuildsStand paths notes start tier_views desk → RebuildsStand paths notes start (slice_set tier_views b new) desk

@@ -1,4 +1,4 @@
--- Each change leaves the notes their rules, and so the entries theirs.
+-- Each change leaves the metadata events their rules, and so the entries theirs.
 use Rattle.std.proofs.Common.{◌≡◌, ◌≢◌, inl, inr, sym, subst, refl, ℕ, ◌+◌, ◌<◌, ◌≤◌, ◌^◌, ◌==◌, Bool, true, false, cond, List, [], ◌∷◌, ◌++◌, Option, Some, None, slice_get, slice_set, arith}
 use Rattle.std.specs.Prelude.{is_some}
 use Rattle.std.specs.List.{AllByRecursion}
@@ -58,7 +58,7 @@ pub line_rises : (n : ℕ) (bs : List (List ℕ)) → IsConsecutive n bs → Epo
 line_rises n [] c rise far = tt
 line_rises n (b ∷ bs) c rise far = rising (epoch_of b) (base_of b) (last_of b + 1) bs rise.1 (omega arith) c.1 rise.2 far
 
--- the note that a copy starts keeps the rules
+-- the metadata event that a copy starts keeps the rules
 pub started_right : (copy : Copied) (origin : EventOrigin) → IsCopied copy → IsId copy.id → IsRight (start_note copy origin)
 started_right copy origin is id =
     let line : IsLine copy.segment.epochs = subst IsLine (sym is.epochs_are) (line_rises copy.segment.base is.batches is.is.consecutive is.is.epochs is.is.low) in
@@ -67,12 +67,12 @@ started_right copy origin is id =
       id = id;
     }
 
--- a bare custom metadata may stand in any note
+-- a bare custom metadata may be in any metadata event
 bare_right : (state : State) (packed : Bool) → MayTellCustom state (bare_custom packed)
 bare_right state false = tt
 bare_right state true = record { few = omega arith; bare = λ ne. refl }
 
--- so do a command's notes
+-- so do a command's metadata events
 told_right : (telling : Telling) (a : ℕ) (origin : EventOrigin) (c : Scene) (p : Plain) → MayTell a telling c → TierSafe c p → NotesStand c.notes c.desk
     → IsRight (note_for telling origin)
 told_right (CopyStarts copy) a origin c p m h n = started_right copy origin (h.copies.each a copy _ m.actor_state).source.copied (n.ids a copy _ m.actor_state)
@@ -80,7 +80,7 @@ told_right (CopyEnds copy) a origin c p m h n = record { is = (λ e. absurd (cc 
 told_right (ExpiryStarts expired_segment) a origin c p m h n = record { is = (λ e. absurd (cc (e)), bare_right DeleteStarted expired_segment.packed); id = tt }
 told_right (ExpiryEnds expired_segment) a origin c p m h n = record { is = (λ e. absurd (cc (e)), bare_right DeleteFinished expired_segment.packed); id = tt }
 
--- the entries of such notes
+-- the entries of such metadata events
 
 right_note : (notes : List Note) → AllByRecursion IsRight notes → AllByRecursion IsNote notes
 right_note [] h = tt
@@ -119,7 +119,7 @@ seen_kept notes before desk n p =
     let r = right_prefix notes before p n.right in
     (folded_kept [] before r tt, fold_distinct before (right_note before r))
 
--- seats
+-- actors' states
 
 abbrev IdTask : TierTask → Type 0
 IdTask (Copies copy next) = IsId copy.id

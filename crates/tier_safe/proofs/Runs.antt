@@ -7,7 +7,7 @@ use Rattle.log_terms.specs.Log.{IsConsecutive, end_from, end_of, from_offset}
 use Rattle.log_terms.proofs.Logs.{end_above, nested, consecutive_prefix}
 use Rattle.tier_safe.specs.Kept.{Shares}
 
--- from an offset that a beginning goes past on, a list is the beginning from there on, and what comes behind it
+-- from an offset that a beginning goes past on, a list is the beginning from there on, and what comes after it
 from_front : (n offset : ℕ) (ws rest : List (List ℕ)) → IsConsecutive n ws → offset < end_from n ws → n ≤ offset → from_offset offset (ws ++ rest) ≡ from_offset offset ws ++ rest
 from_front n offset [] rest c past low = absurd (omega (arith, past, low))
 from_front n offset (w ∷ ws) rest c past low = elim (cases_lt (last_of w) offset) [
@@ -53,12 +53,12 @@ runs_same xs ys (r ∷ rs) offset n s c low p below =
     any [] m o e is lt = absurd (omega (arith, is, lt))
     any (f ∷ fs) m o e is lt = is
 
--- what comes behind a beginning
+-- what comes after a beginning
 behind : (xs ys zs : List (List ℕ)) → xs ++ ys ≡ xs ++ zs → ys ≡ zs
 behind [] ys zs is = is
 behind (x ∷ xs) ys zs is = behind xs ys zs (cc (is))
 
--- the batch behind such batches is the other log's too, where they end before what both share does
+-- the batch after such batches is the other log's too, where they end before what both share does
 pub next_same : (xs ys run : List (List ℕ)) (first batch : List ℕ) (rest : List (List ℕ)) (offset n : ℕ) → Shares xs ys n → IsConsecutive 0 xs → offset ≤ n
     → from_offset offset xs ≡ (first ∷ run) ++ batch ∷ rest → end_of (first ∷ run) ≤ n
     → (more : List (List ℕ)) × (from_offset offset ys ≡ (first ∷ run) ++ batch ∷ more)
@@ -96,7 +96,7 @@ next_same xs ys run first batch rest offset n s c low is below =
               ∙ ap (λ (b : List ℕ). (first ∷ run) ++ b ∷ (more ++ s.two.0)) (sym one),
         )
 
--- batches behind others
+-- batches after others
 pub from_back : (n offset : ℕ) (front xs : List (List ℕ)) → IsConsecutive n front → end_from n front ≤ offset → from_offset offset (front ++ xs) ≡ from_offset offset xs
 from_back n offset [] xs c le = refl
 from_back n offset (f ∷ front) xs c le =

@@ -27,7 +27,7 @@ use Rattle.tier_safe.proofs.Runs.{runs_same, next_same, from_back}
 
 -- a fetch
 
--- the piece's copy is finished, its objects stand, and its batches are the log's up to the piece's end
+-- the piece's copy is finished, its objects exist, and its batches are the log's up to the piece's end
 pub record FetchReads (c : Scene) (p : Plain) (x : Broker) (piece : Piece) : Type 0 where
   pub entry : Entry
   pub there : entry_of piece.id (fold c.notes) ≡ Some entry
@@ -36,7 +36,7 @@ pub record FetchReads (c : Scene) (p : Plain) (x : Broker) (piece : Piece) : Typ
   pub within : (entry.start ≤ piece.from) × (piece.to ≤ entry.end + 1)
   pub shares : Shares (whole_of held) x.log (piece.to - 1)
 
--- a piece that stands for a log has such a copy, while the log start isn't above its offset
+-- a piece that represents a log has such a copy, while the log start offset isn't above its offset
 pub piece_reads : (offset b : ℕ) (piece : Piece) (c : Scene) (p : Plain) (x : Broker) → PlainSafe p → TierSafe c p → slice_get p.brokers b ≡ Some x
     → PieceStands c.notes x.log offset piece → p.registry.start ≤ offset → FetchReads c p x piece
 piece_reads offset b piece c p x s h x_is k past =
@@ -89,7 +89,7 @@ fetch_runs c p x piece offset run s r low high pre below =
     runs_same (whole_of r.held) x.log run offset (piece.to - 1) r.shares safe.consecutive (omega (arith, high))
     (subst (λ (l : List (List ℕ)). IsPrefix run l) (sym back) pre) (omega (arith, below, high))
 
--- and the batch behind them, where they end before the piece does
+-- and the batch after them, where they end before the piece does
 pub fetch_next : (c : Scene) (p : Plain) (x : Broker) (piece : Piece) (offset : ℕ) (first batch : List ℕ) (run rest : List (List ℕ)) → PlainSafe p → (r : FetchReads c p x piece)
     → piece.from ≤ offset → offset < piece.to → from_offset offset r.held.batches ≡ (first ∷ run) ++ batch ∷ rest → end_of (first ∷ run) < piece.to
     → (more : List (List ℕ)) × (from_offset offset x.log ≡ (first ∷ run) ++ batch ∷ more)

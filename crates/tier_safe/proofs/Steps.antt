@@ -8,7 +8,7 @@ use Rattle.tier_safe.specs.Follow.{BrokerTierGoes, MayStep}
 use Rattle.plain_log.proofs.StepsGrow.{steps_grow}
 use Rattle.plain_log.specs.Safe.{PlainSafe}
 
--- paths grow, and each side follows its broker
+-- paths grow, and each tier state follows its broker
 pub record StepGoes (tier_views : List BrokerTierView) (c : Scene) (p q : Plain) : Type 0 where
   pub grows : Grows p q
   pub count : length tier_views ≡ length c.tier_views

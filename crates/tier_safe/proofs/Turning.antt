@@ -53,7 +53,7 @@ use Rattle.tier_safe.specs.May.{May, Mays, IsChanged}
 use Rattle.tier_safe.specs.Turns.{Shows, after_turn, copy_work, expiry_work, CopyTurnsChange, ExpiryTurnsChange, RefreshesChange, HaltsChange}
 use Rattle.tier_safe.proofs.Basics.{key_cases}
 
--- lists of works and sites
+-- lists of works and tier views
 
 pub set_set : {A : Type 0} (xs : List A) (i : ℕ) (x y : A) → slice_set (slice_set xs i x) i y ≡ slice_set xs i y
 set_set [] i x y = refl
@@ -80,7 +80,7 @@ prefix_taken [] ys p = refl
 prefix_taken (x ∷ xs) [] p = absurd (cc (p.1))
 prefix_taken (x ∷ xs) (y ∷ ys) p = (let more = prefix_taken xs ys (p.0, cc (p.1)) in let same : x ≡ y = cc (p.1) in cc (same, more))
 
--- changes that go on
+-- changes that continue
 
 mays_push : (ks : List Change) (c : Scene) (k : Change) (p q r : Plain) → Mays ks c p q → May k (effects ks c) q r → Mays (ks ++ k ∷ []) c p r
 mays_push [] c k p q r m h = (r, subst (λ (z : Plain). May k c z r) m h, refl)
@@ -116,7 +116,7 @@ left c p a b tier_view at =
     as_scene c (effect (Moves a Leaves) c) (after_turn c a b tier_view Free c.objects c.notes tier_view.view) p
     (scene_same _ _ refl refl refl (sym (set-same c.tier_views b tier_view at)) refl) (one_change c p (Moves a Leaves) (refl, tt))
 
--- a note
+-- a metadata event
 is_observable : (c : Scene) (p : Plain) (a b : ℕ) (tier_view : BrokerTierView) (telling : Telling) (origin : EventOrigin) → slice_get c.tier_views b ≡ Some tier_view → slice_get c.desk a ≡ Some (before_telling telling)
     → IsChanged c p (after_turn c a b tier_view (after_telling telling) c.objects (c.notes ++ note_for telling origin ∷ []) tier_view.view)
 is_observable c p a b tier_view telling origin at actor_state =
@@ -146,7 +146,7 @@ not_made key made old new m = fun_ext (λ k. elim (key_cases k key) [
 
 module _ {S M : Type 0} (objects : S → store.Content) (calls : S → Control store_call.call_code)
     (notes : M → meta.Content) (notings : M → Control meta_call.call_code) where
-  -- a note that was appended, whether the command goes on or not
+  -- a metadata event that was appended, whether the command continues or not
   told_went : (c : Scene) (p : Plain) (a b : ℕ) (tier_view : BrokerTierView) (telling : Telling) (origin : EventOrigin) (s : store.Content) (old new : M)
       → Shows c a b tier_view (before_telling telling) s (notes old) tier_view.view → Appends notes notings (note_for telling origin) Went old new
       → IsChanged c p (after_turn c a b tier_view (after_telling telling) s.objects (notes new).notes tier_view.view)
@@ -170,7 +170,7 @@ module _ {S M : Type 0} (objects : S → store.Content) (calls : S → Control s
           (leaves c p a b tier_view (after_telling telling) c.objects (c.notes ++ note_for telling origin ∷ []) tier_view.view (is_observable c p a b tier_view telling origin h.tier_view_is h.actor_state))
       by false is = renamed c p a b tier_view _ _ c.objects s.objects c.notes _ tier_view.view tier_view.view refl h.objects_are (h.notes_are ∙ sym is) refl (left c p a b tier_view h.tier_view_is)
 
-  -- an object that was changed, whether the command goes on or not
+  -- an object that was changed, whether the command continues or not
   stored_went : (c : Scene) (p : Plain) (a b : ℕ) (tier_view : BrokerTierView) (storing : Storing) (may : Bool → Type 0) (old new : S) (n : meta.Content)
       → Shows c a b tier_view (before_storing storing) (objects old) n tier_view.view → KeyStands storing → Changes (key_for storing) (made_by storing) may (objects old) (objects new)
       → ((done : Bool) → may done → IsTrue done) → IsChanged c p (after_turn c a b tier_view (after_storing storing) (objects new).objects n.notes tier_view.view)
@@ -196,7 +196,7 @@ module _ {S M : Type 0} (objects : S → store.Content) (calls : S → Control s
       by false made = renamed c p a b tier_view _ _ c.objects (objects new).objects c.notes n.notes tier_view.view tier_view.view refl
           (h.objects_are ∙ sym (not_made (key_for storing) (made_by storing) (objects old).objects (objects new).objects made)) h.notes_are refl (left c p a b tier_view h.tier_view_is)
 
-  -- what stands under a key is the part of the key
+  -- what is under a key is the part of the key
   part_under : (copied : Copied) (key : ObjectKey) (part : Part) → spot_of copied.partition copied.id false None part ≡ Some (whole key)
       → (may : Bool → Type 0) (old new : store.Content) → Changes key (replaced (part_in copied.parts part)) may old new → Changes key (replaced (part_in copied.parts key.part)) may old new
   part_under copied key part place may old new k =
@@ -252,7 +252,7 @@ module _ {S M : Type 0} (objects : S → store.Content) (calls : S → Control s
       (after_undone copied view (n + 1) (slice_get (copy_keys copied) (n + 1)) ∙ ap (copy_work copied) (sym row.0)) refl refl refl
       (stored_went c p a b tier_view (Undoes copied n key) _ old new ns h at row.1.content (λ done k. k.went refl))
 
-  -- a view takes in all notes
+  -- a view takes all metadata events
   pub sees_all : (c : Scene) (p : Plain) (a b : ℕ) (tier_view : BrokerTierView) (work : TierTask) (s : store.Content) (old : M) (view : Seen) → Shows c a b tier_view work s (notes old) tier_view.view → length c.notes < 2 ^ 64
       → IsViewOf c.notes tier_view.view → Refreshes (notes old) tier_view.view view
       → (view ≡ view_of c.notes) × IsChanged c p (after_turn c a b tier_view work c.objects c.notes view)
@@ -398,7 +398,7 @@ module _ {S M : Type 0} (objects : S → store.Content) (calls : S → Control s
       renamed c p a b tier_view _ _ (objects old.store).objects _ (notes new.meta).notes _ tier_view.view tier_view.view refl (ap (λ (t : ExpiryTiers S M). (objects t.store).objects) (sym row.0)) refl refl
       (expiry_finish c p a b tier_view expired_segment origin turn (objects old.store) old.meta new.meta h row.1)
 
-  -- turns that want memory
+  -- turns that need memory
 
   stays : (c : Scene) (p : Plain) (a b : ℕ) (tier_view : BrokerTierView) (work : TierTask) (s : store.Content) (n : meta.Content) (o : Objects) (ns : List Note) → Shows c a b tier_view work s n tier_view.view
       → o ≡ s.objects → ns ≡ n.notes → IsChanged c p (after_turn c a b tier_view work o ns tier_view.view)
@@ -427,7 +427,7 @@ module _ {S M : Type 0} (objects : S → store.Content) (calls : S → Control s
   put_dry copied n (Some key) e old new t (inl same) = ap (λ (s : S). (objects s).objects) same
   put_dry copied n (Some key) e old new t (inr row) = dry_objects key (part_in copied.parts row.part) old new t row.puts
 
-  -- a view that is fed is that of more notes
+  -- a view that is fed is that of more metadata events
   fed_view : (before more : List Note) → fed_all (view_of before) more ≡ view_of (before ++ more)
   fed_view before [] = ap view_of (sym (append-nil before))
   fed_view before (note ∷ more) =

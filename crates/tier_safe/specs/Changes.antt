@@ -1,12 +1,12 @@
 -- What may change in the tier, one thing at a time, and what is left of it.
 --
 --   change    what happens
---   Steps     the plain log takes a step, and the brokers' sides follow
---   Moves     a command takes something up, goes on, or leaves the desk
+--   Steps     the plain log takes a step, and the brokers' tier states follow
+--   Moves     a command takes something up, continues, or leaves the desk
 --   Chooses   a copy takes its segment, under its broker's next id
---   Tells     a note goes to the metadata log, and its command goes on
---   Stores    an object is put or taken away, and its command goes on
---   Sees      a broker's view takes in further notes
+--   Tells     a metadata event goes to the metadata log, and its command continues
+--   Stores    an object is put or taken away, and its command continues
+--   Sees      a broker's view takes further metadata events
 --   Caches    a broker keeps a remote index, or lets one go
 --   Drops     a local log starts later
 --
@@ -34,8 +34,8 @@ use Rattle.tier_safe.specs.Scene.{BrokerTierView, Rebuild, Sought, TierTask, Fre
 
 -- moves: changes of the desk alone
 
--- a copy finds that it was overtaken; an expiry takes its segment; a rebuild its offset, that all notes were seen,
--- and a line; a fetch its offset, a piece, a later offset in it, and the position from which it reads
+-- a copy finds that it was overtaken; an expiry takes its segment; a rebuild its offset, that all metadata events were
+-- seen, and a line; a fetch its offset, a piece, a later offset in it, and the position from which it reads
 pub data Move : Type 0 where
   Leaves : Move
   Overtakes : (copy : Copied) → Move
@@ -61,9 +61,9 @@ moved (Finds sought piece) = Seeks (record sought { piece = Some piece })
 moved (Skips sought offset) = Seeks (record sought { offset = offset })
 moved (Reads sought from) = Seeks (record sought { from = Some from })
 
--- notes
+-- metadata events
 
--- which note a command appends
+-- which metadata event a command appends
 pub data Telling : Type 0 where
   CopyStarts : (copy : Copied) → Telling
   CopyEnds : (copy : Copied) → Telling
@@ -84,7 +84,7 @@ after_telling (CopyEnds copy) = Copies copy copying.Check
 after_telling (ExpiryStarts expired_segment) = Expires expired_segment (expiring.Delete 0)
 after_telling (ExpiryEnds expired_segment) = Free
 
--- the note itself
+-- the metadata event itself
 abbrev pub note_for : Telling → EventOrigin → Note
 note_for (CopyStarts copy) origin = start_note copy origin
 note_for (CopyEnds copy) origin = finish_note copy origin
@@ -137,12 +137,12 @@ made_by (Deletes expired_segment n key) = removed
 
 -- changes
 
--- why a local log starts later: it dropped its first segments, or a rebuild of this actor began it anew
+-- why a local log starts later: it dropped its first segments, or a rebuild of this actor restarted it
 pub data Dropping : Type 0 where
   Trims : Dropping
   Restarts : (a : ℕ) → (rebuild : Rebuild) → Dropping
 
--- by actor a, at broker b, whose side was this site
+-- by actor a, at broker b, whose tier state was this tier view
 pub data Change : Type 0 where
   Steps : (tier_views : List BrokerTierView) → Change
   Moves : (a : ℕ) → (move : Move) → Change

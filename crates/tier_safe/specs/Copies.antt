@@ -1,13 +1,13 @@
--- What holds of copies, finished or under way.
+-- What holds of copies, finished or in progress.
 --
---   Finished   the objects of each finished copy stand
+--   Finished   the objects of each finished copy exist
 --   Named      each object has an entry that names it
 --   Copies     a copy on the desk is where its entry and its objects say
 --
--- Another broker's deletion may overtake a copy at any turn. So what a copy has put stands only while its entry's
--- state is still that it started.
+-- Another broker's deletion may overtake a copy at any turn. So what a copy has put exists only while its entry's state
+-- is still that it started.
 --
--- Source: KIP-405, where a copy is told as started before its objects are put, and as finished after the last.
+-- Source: KIP-405, where a copy is recorded as started before its objects are put, and as finished after the last.
 use Rattle.std.specs.Prelude.{◌≡◌, ◌≢◌, ℕ, ◌<◌, Bool, true, false, List, Some, None, length, slice_get}
 use Rattle.tier_base.specs.declared.plain.State.{State}
 use Rattle.tier_base.specs.declared.plain.State.TheVariants.{CopyStarted, CopyFinished, DeleteStarted, DeleteFinished}
@@ -27,7 +27,7 @@ use Rattle.tier_safe.specs.Views.{IsNamed}
 
 -- finished copies, and objects
 
--- the objects of each finished copy stand
+-- the objects of each finished copy exist
 abbrev pub FinishedStand : Objects → List Path → List Entry → Type 0
 FinishedStand objects paths entries =
     (id : SegmentId) (entry : Entry) → entry_of id entries ≡ Some entry → entry.state ≡ CopyFinished
@@ -40,7 +40,7 @@ ObjectsNamed objects entries =
 
 -- copies on the desk
 
--- the entry is the one that the copy told of
+-- the entry is the one that the copy reported of
 pub record IsEntryFor (copy : Copied) (entry : Entry) : Type 0 where
   pub partition : entry.partition ≡ copy.partition
   pub start : entry.start ≡ copy.segment.base
@@ -50,15 +50,15 @@ pub record IsEntryFor (copy : Copied) (entry : Entry) : Type 0 where
   pub max_ts : entry.max_ts ≡ copy.segment.max_ts
   pub packed : entry.packed ≡ copy.packed
 
--- the part under a key stands in the store
+-- the part under a key is in the store
 abbrev pub HasPut : Objects → Copied → ObjectKey → Type 0
 HasPut objects copy key = objects key ≡ Some (part_in copy.parts key.part)
 
--- the parts under the first so many keys stand
+-- the parts under the first so many keys exist
 abbrev pub HasPutBefore : Objects → Copied → ℕ → Type 0
 HasPutBefore objects copy n = (i : ℕ) (key : ObjectKey) → slice_get (keys copy) i ≡ Some key → i < n → HasPut objects copy key
 
--- all parts stand
+-- all parts exist
 abbrev pub HasPutAll : Objects → Copied → Type 0
 HasPutAll objects copy = (i : ℕ) (key : ObjectKey) → slice_get (keys copy) i ≡ Some key → HasPut objects copy key
 

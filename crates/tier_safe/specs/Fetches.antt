@@ -3,8 +3,8 @@
 --   Fetches    what a fetch on the desk has found is of the log that it reads
 --   Caches     a cached index is that of its segment
 --
--- A fetch takes several turns, and a stop, an election or a deletion may come between any two. What it has found
--- stands as long as its broker leads on and the log start isn't above its offset. Otherwise it is answered without
+-- A fetch takes several turns, and a stop, an election or a deletion may come between any two. What it has found exists
+-- as long as its broker still leads and the log start offset isn't above its offset. Otherwise it is answered without
 -- it.
 --
 -- Source: KIP-405: fetches below the local log start offset, and RemoteIndexCache.
@@ -29,8 +29,8 @@ use Rattle.tier_safe.specs.Lineage.{Describes}
 
 -- what is found
 
--- the piece holds the offset, is of a copy that was finished after the first so many notes, and copy and log have one
--- epoch in it
+-- the piece holds the offset, is of a copy that was finished after the first so many metadata events, and copy and log
+-- have one epoch in it
 pub record PieceStands (notes : List Note) (log : List (List ℕ)) (offset : ℕ) (piece : Piece) : Type 0 where
   pub before : List Note
   pub begins : IsPrefix before notes
@@ -43,7 +43,7 @@ pub record PieceStands (notes : List Note) (log : List (List ℕ)) (offset : ℕ
   pub of_log : (o : ℕ) → piece.from ≤ o → o < piece.to → epoch_holding log o ≡ Some epoch
   pub of_copy : (o : ℕ) → piece.from ≤ o → o < piece.to → epoch_at entry.map o ≡ Some epoch
 
--- the index is that of the batches that an entry tells of
+-- the index is that of the batches that an entry describes
 pub record IsIndexOf (paths : List Path) (entry : Entry) (index : OffsetTable) : Type 0 where
   pub batches : List (List ℕ)
   pub line : List (ℕ × ℕ)
@@ -61,7 +61,7 @@ abbrev pub PositionStands : List Path → List Entry → SegmentId → ℕ → �
 PositionStands paths entries id offset from = (entry : Entry) → entry_of id entries ≡ Some entry → entry.state ≡ CopyFinished
     → (index : OffsetTable) × IsIndexOf paths entry index × (from ≡ (find index offset).1)
 
--- the entries have one of this id, whose copy isn't under way any more
+-- the entries have one of this id, whose copy isn't in progress any more
 abbrev pub SeesCopy : List Entry → SegmentId → Type 0
 SeesCopy entries id = (entry : Entry) × (entry_of id entries ≡ Some entry) × (entry.state ≢ CopyStarted)
 
@@ -72,9 +72,8 @@ pub record StillLeads (sought : Sought) (x : Broker) : Type 0 where
   pub stops : x.stops ≡ sought.stops
   pub role : x.role ≡ Leads sought.epoch
 
--- a fetch on the desk: its broker's view has the entry of its piece, whose copy isn't under way any more; while that
--- broker leads as it did, its offset is below the local start until it has found a piece, and what it has found
--- stands
+-- a fetch on the desk: its broker's view has the entry of its piece, whose copy isn't in progress any more; while that
+-- broker leads as it did, its offset is below the local start until it has found a piece, and what it has found exists
 pub record FetchStands (paths : List Path) (notes : List Note) (start : ℕ) (tier_view : BrokerTierView) (x : Broker)
     (sought : Sought)
     : Type 0 where
@@ -97,7 +96,8 @@ FetchesStand paths notes start tier_views brokers desk =
 
 -- cached indexes
 
--- a cached index is of a copy that was finished after the first so many notes, and of its batches while it still is
+-- a cached index is of a copy that was finished after the first so many metadata events, and of its batches while it
+-- still is
 pub record CachedStands (paths : List Path) (notes : List Note) (id : SegmentId) (index : OffsetTable) : Type 0 where
   pub before : List Note
   pub begins : IsPrefix before notes

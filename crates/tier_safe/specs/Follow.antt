@@ -1,4 +1,4 @@
--- How the brokers' sides of the tier follow a step of the plain log.
+-- How the brokers' tier states of the tier follow a step of the plain log.
 --
 -- A stop, an opening or a cut changes a broker's local log together with its log. None raises a local start: that is
 -- a change of its own (Drops).
@@ -19,8 +19,8 @@ IdsGo old new =
     ((new.incarnation ≡ old.incarnation) × (new.up ≡ true → (old.up ≡ true) × (new.next ≡ old.next)))
     ⊎ (old.incarnation < new.incarnation)
 
--- a side follows its broker: the local start doesn't rise, and is at or below the log's end; that of one that leads
--- on stays
+-- a tier state follows its broker: the local start doesn't rise, and is at or below the log's end; that of one that
+-- still leads stays
 pub record BrokerTierGoes (old new : BrokerTierView) (x y : Broker) : Type 0 where
   pub up : new.up ≡ y.up
   pub start : new.start ≤ old.start
@@ -30,14 +30,14 @@ pub record BrokerTierGoes (old new : BrokerTierView) (x y : Broker) : Type 0 whe
   pub cache : new.cache ≡ old.cache
   pub ids : IdsGo old new
 
--- each side follows its broker from one state of the plain log to another
+-- each tier state follows its broker from one state of the plain log to another
 pub record BrokerTiersFollow (tier_views : List BrokerTierView) (c : Scene) (p q : Plain) : Type 0 where
   pub count : length tier_views ≡ length c.tier_views
   pub each : (b : ℕ) (old new : BrokerTierView) (x y : Broker) → slice_get c.tier_views b ≡ Some old
       → slice_get tier_views b ≡ Some new
       → slice_get p.brokers b ≡ Some x → slice_get q.brokers b ≡ Some y → BrokerTierGoes old new x y
 
--- the plain log takes a step, and the brokers' sides follow
+-- the plain log takes a step, and the brokers' tier states follow
 pub record MayStep (tier_views : List BrokerTierView) (c : Scene) (p q : Plain) : Type 0 where
   pub order : Order
   pub entry : JournalEntry

@@ -4,11 +4,11 @@ use Rattle.tier_base.specs.declared.object_key.ObjectKey.{ObjectKey}
 use Rattle.remote_view.specs.Fold.{view_of}
 use Rattle.tier_safe.specs.Scene.{BrokerTierView, Free, Scene}
 
--- the side of a broker that is up, whose log was opened once
+-- the tier state of a broker that is up, whose log was opened once
 abbrev pub fresh_tier_view : BrokerTierView
 fresh_tier_view = record { up = true; start = 0; incarnation = 1; next = 0; view = view_of []; cache = [] }
 
--- no object, no note, fresh brokers, and free seats
+-- no object, no metadata event, fresh brokers, and free actors' states
 pub record IsFresh (brokers actor_states : ℕ) (c : Scene) : Type 0 where
   pub objects : (key : ObjectKey) → c.objects key ≡ None
   pub notes : c.notes ≡ []

@@ -19,11 +19,11 @@ pub record Shares (xs ys : List (List ℕ)) (offset : ℕ) : Type 0 where
   pub two : IsPrefix front ys
   pub past : offset < end_of front
 
--- the batches that a remote segment holds, behind those of its path
+-- the batches that a remote segment holds, after those of its path
 abbrev pub whole_of : {objects : Objects} {paths : List Path} {entry : Entry} → IsStoredWhole objects paths entry → List (List ℕ)
 whole_of h = h.describes.part.front ++ h.batches
 
--- a finished copy, whose objects stand, holds the offset, and is one with the log up to it and past it
+-- a finished copy, whose objects exist, holds the offset, and is one with the log up to it and past it
 pub record IsKeptAt (c : Scene) (p : Plain) (log : List (List ℕ)) (offset : ℕ) : Type 0 where
   pub id : SegmentId
   pub entry : Entry

@@ -50,14 +50,15 @@ FreshIsSafe =
     (config : Config) (actor_states : ℕ) (c : Scene) → 1 ≤ config.brokers → IsFresh config.brokers actor_states c
     → BothSafe c (fresh config)
 
--- what a broker's local log lacks, from the log start on, is kept
+-- what a broker's local log lacks, from the log start offset on, is kept
 abbrev pub DroppedIsKept : Type 0
 DroppedIsKept = (b : ℕ) (tier_view : BrokerTierView) (x : Broker) (o : ℕ) (c : Scene) (p : Plain) → BothSafe c p
     → slice_get c.tier_views b ≡ Some tier_view → slice_get p.brokers b ≡ Some x → p.registry.start ≤ o
     → o < tier_view.start
     → IsKeptAt c p x.log o
 
--- what was finished once, after the first so many notes, is finished and stands, unless it ends below the log start
+-- what was finished once, after the first so many metadata events, is finished and exists, unless it ends below the log
+-- start offset
 abbrev pub FinishedIsKept : Type 0
 FinishedIsKept = (c : Scene) (p : Plain) (before : List Note) (id : SegmentId) (then : Entry) → BothSafe c p
     → IsPrefix before c.notes → entry_of id (fold before) ≡ Some then → then.state ≡ CopyFinished

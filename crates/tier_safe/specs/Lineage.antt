@@ -4,7 +4,7 @@
 -- lineage with each log that has its last batch, since logs match.
 --
 -- Source: KIP-405, whose remote segments carry the leader epochs of their offsets, and KIP-101, by which logs are
--- told apart.
+-- distinguished.
 use Rattle.std.specs.Prelude.{◌≡◌, ◌≢◌, ℕ, ◌+◌, List, [], ◌++◌, length, slice_get, Option, Some, true}
 use Rattle.tier_base.specs.declared.names.SegmentId.{SegmentId}
 use Rattle.tier_base.specs.declared.object_key.ObjectKey.{ObjectKey}
@@ -23,7 +23,7 @@ use Rattle.remote_view.specs.Fold.{entry_of}
 use Rattle.remote_view.specs.Lookup.{covers}
 use Rattle.copy_task.specs.Copying.{Copied, IsCopied}
 
--- the batches stand in a path from a base offset on, and the line has the path's epochs up to their end
+-- the batches are in a path from a base offset on, and the leader epochs have the path's epochs up to their end
 pub record IsPart (paths : List Path) (base : ℕ) (batches : List (List ℕ)) (line : List (ℕ × ℕ)) : Type 0 where
   pub epoch : ℕ
   pub front : List (List ℕ)
@@ -31,7 +31,7 @@ pub record IsPart (paths : List Path) (base : ℕ) (batches : List (List ℕ)) (
   pub begins : Has paths epoch (front ++ batches)
   pub line_is : cut_end line (end_from base batches) ≡ line_of (front ++ batches)
 
--- a remote segment's entry tells of these batches, which are a part of a path
+-- a remote segment's entry describes these batches, which are a part of a path
 pub record Describes (paths : List Path) (entry : Entry) (batches : List (List ℕ)) (line : List (ℕ × ℕ)) : Type 0 where
   pub some : batches ≢ []
   pub is : IsSegment entry.start batches
@@ -41,17 +41,17 @@ pub record Describes (paths : List Path) (entry : Entry) (batches : List (List �
   pub max_ts_is : entry.max_ts ≡ greatest_ts batches
   pub size_is : entry.size ≡ length (joined batches)
 
--- under each of these keys its part stands
+-- under each of these keys its part exists
 abbrev pub Stand : Objects → List ObjectKey → Parts → Type 0
 Stand objects keys parts =
     (n : ℕ) (key : ObjectKey) → slice_get keys n ≡ Some key → objects key ≡ Some (part_in parts key.part)
 
--- custom metadata tells where the parts stand in a packed segment's object
+-- custom metadata gives where the parts are in a packed segment's object
 pub record TellsParts (custom : Option (List ℕ)) (parts : Parts) : Type 0 where
   pub fits : can_pack parts ≡ true
   pub is : custom ≡ Some (layout_bytes (layout_of parts))
 
--- the objects of a remote segment stand, and are the parts of the batches that its entry tells of
+-- the objects of a remote segment exist, and are the parts of the batches that its entry describes
 pub record IsStoredWhole (objects : Objects) (paths : List Path) (entry : Entry) : Type 0 where
   pub batches : List (List ℕ)
   pub line : List (ℕ × ℕ)

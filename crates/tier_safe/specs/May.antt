@@ -34,7 +34,7 @@ pub record MayChoose (a b : ℕ) (tier_view : BrokerTierView) (copy : Copied) (c
   pub fits : IsId copy.id
   pub source : IsSource p.paths copy
 
--- the note is the one that the command tells next
+-- the metadata event is the one that the command reports next
 pub record MayTell (a : ℕ) (telling : Telling) (c : Scene) : Type 0 where
   pub actor_state : slice_get c.desk a ≡ Some (before_telling telling)
 
@@ -44,7 +44,7 @@ pub record MayStore (a : ℕ) (storing : Storing) (objects : Objects) (c : Scene
   pub key : KeyStands storing
   pub made : MadeAt (key_for storing) (made_by storing) c.objects objects
 
--- the view of the first notes becomes that of more of them
+-- the view of the first metadata events becomes that of more of them
 pub record MaySee (b : ℕ) (tier_view : BrokerTierView) (view : Seen) (c : Scene) : Type 0 where
   pub tier_view_is : slice_get c.tier_views b ≡ Some tier_view
   pub before : List Note

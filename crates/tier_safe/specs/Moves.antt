@@ -1,7 +1,7 @@
 -- When a command on the desk may move.
 --
--- What a view shows is said of an id's entry in it. What a fetch finds must stand only for as long as its broker
--- leads on and the log start isn't above its offset.
+-- What a view shows is said of an id's entry in it. What a fetch finds must exist only for as long as its broker still
+-- leads and the log start offset isn't above its offset.
 use Rattle.std.specs.Prelude.{◌≡◌, ℕ, ◌<◌, ◌≤◌, true, false, List, Some, None, slice_get}
 use mathlib.Core.List.{IsPrefix}
 use Rattle.tier_base.specs.declared.plain.State.{State}
@@ -33,7 +33,7 @@ pub record MayOvertake (a : ℕ) (copy : Copied) (c : Scene) : Type 0 where
   pub shows : state_of copy.id tier_view.view.entries ≡ Some state
   pub deleted : is_deleted state ≡ true
 
--- a broker's view shows the entry, which is due: it ends below the log start
+-- a broker's view shows the entry, which is due: it ends below the log start offset
 pub record MayDoom (a b : ℕ) (expired_segment : ExpiredSegment) (c : Scene) (p : Plain) : Type 0 where
   pub actor_state : slice_get c.desk a ≡ Some Free
   pub tier_view : BrokerTierView
@@ -60,13 +60,13 @@ pub record MayWant (a : ℕ) (rebuild : Rebuild) (c : Scene) (p : Plain) : Type 
   pub ends : end_of front ≡ rebuild.wanted
   pub above : rebuild.end < rebuild.wanted
 
--- the rebuild's broker has seen all notes
+-- the rebuild's broker has seen all metadata events
 pub record MayRefresh (a : ℕ) (rebuild : Rebuild) (c : Scene) : Type 0 where
   pub actor_state : slice_get c.desk a ≡ Some (Rebuilds rebuild)
   pub all : (tier_view : BrokerTierView) → slice_get c.tier_views rebuild.broker ≡ Some tier_view
       → tier_view.view ≡ view_of c.notes
 
--- below the wanted offset the line has the epochs of the epoch's path
+-- below the wanted offset the leader epochs have the epochs of the epoch's path
 pub record MayLine (a : ℕ) (rebuild : Rebuild) (line : List (ℕ × ℕ)) (c : Scene) (p : Plain) : Type 0 where
   pub actor_state : slice_get c.desk a ≡ Some (Rebuilds rebuild)
   pub log : List (List ℕ)
@@ -85,7 +85,7 @@ pub record MayAsk (a : ℕ) (sought : Sought) (c : Scene) (p : Plain) : Type 0 w
   pub path : path_of p.paths sought.epoch ≡ Some x.log
   pub below : sought.offset < tier_view.start
 
--- the piece has an entry in the broker's view, of a copy that isn't under way there, is of a finished copy, and one
+-- the piece has an entry in the broker's view, of a copy that isn't in progress there, is of a finished copy, and one
 -- with the log
 pub record MayFind (a : ℕ) (sought : Sought) (piece : Piece) (c : Scene) (p : Plain) : Type 0 where
   pub actor_state : slice_get c.desk a ≡ Some (Seeks sought)
@@ -95,7 +95,7 @@ pub record MayFind (a : ℕ) (sought : Sought) (piece : Piece) (c : Scene) (p : 
   pub gives : (x : Broker) → slice_get p.brokers sought.broker ≡ Some x → StillLeads sought x
       → p.registry.start ≤ sought.offset → PieceStands c.notes x.log sought.offset piece
 
--- the piece that the fetch has found stands for the later offset too
+-- the piece that the fetch has found represents the later offset too
 pub record MaySkip (a : ℕ) (sought : Sought) (offset : ℕ) (c : Scene) (p : Plain) : Type 0 where
   pub actor_state : slice_get c.desk a ≡ Some (Seeks sought)
   pub unread : sought.from ≡ None

@@ -1,6 +1,6 @@
--- What the tier's rules give to turns that read: look-ups find, what they find stands, and what is read is the log's.
+-- What the tier's rules give to turns that read: lookups find, what they find exists, and what is read is the log's.
 --
--- A look-up goes by the line of the reading log's leader epochs. These laws hold of any line that says in which epoch
+-- A lookup goes by the line of the reading log's leader epochs. These laws hold of any line that says in which epoch
 -- each offset of the log is.
 use Rattle.std.specs.Prelude.{◌≡◌, ℕ, ◌-◌, ◌<◌, ◌≤◌, true, List, Some, None, slice_get}
 use Rattle.std.specs.List.{AllByRecursion}
@@ -27,7 +27,7 @@ use Rattle.tier_safe.specs.Fetches.{StillLeads, PieceStands}
 use Rattle.tier_safe.specs.Safe.{TierSafe, BothSafe}
 use Rattle.tier_safe.specs.Kept.{whole_of}
 
--- look-ups
+-- lookups
 
 -- the line says in which epoch each offset of the log is, and starts nothing past the log's end
 pub record TellsEpochs (line : List (ℕ × ℕ)) (log : List (List ℕ)) : Type 0 where
@@ -40,7 +40,8 @@ pub record IsRightView (view : Seen) : Type 0 where
   pub kept : AreKept view.entries
   pub distinct : AreDistinct view.entries
 
--- each offset from the log start on that a broker's local log lacks is found in its view, where it has seen all notes
+-- each offset from the log start offset on that a broker's local log lacks is found in its view, where it has seen all
+-- metadata events
 abbrev pub LackingIsFound : Type 0
 LackingIsFound = (c : Scene) (p : Plain) (b : ℕ) (tier_view : BrokerTierView) (x : Broker) (line : List (ℕ × ℕ)) (offset : ℕ) → TierSafe c p
     → slice_get c.tier_views b ≡ Some tier_view → slice_get p.brokers b ≡ Some x → p.registry.start ≤ offset
@@ -48,7 +49,8 @@ LackingIsFound = (c : Scene) (p : Plain) (b : ℕ) (tier_view : BrokerTierView) 
     → tier_view.view ≡ view_of c.notes → TellsEpochs line x.log
     → (piece : Piece) × (piece_at tier_view.view.entries line (end_of x.log) offset ≡ Some piece)
 
--- a fetch that has no piece yet, and whose broker leads on and has seen all notes, finds what it reads from
+-- a fetch that has no piece yet, and whose broker still leads and has seen all metadata events, finds what it reads
+-- from
 abbrev pub AskedIsFound : Type 0
 AskedIsFound = (c : Scene) (p : Plain) (a : ℕ) (sought : Sought) (tier_view : BrokerTierView) (x : Broker) (line : List (ℕ × ℕ)) → TierSafe c p
     → slice_get c.desk a ≡ Some (Seeks sought) → sought.piece ≡ None
@@ -57,7 +59,7 @@ AskedIsFound = (c : Scene) (p : Plain) (a : ℕ) (sought : Sought) (tier_view : 
     → tier_view.view ≡ view_of c.notes → TellsEpochs line x.log
     → (piece : Piece) × (piece_at tier_view.view.entries line (end_of x.log) sought.offset ≡ Some piece)
 
--- what is found in a view, by a log's line, stands: a fetch may keep it
+-- what is found in a view, by a log's leader epochs, exists: a fetch may keep it
 abbrev pub FoundStands : Type 0
 FoundStands = (notes : List Note) (view : Seen) (line : List (ℕ × ℕ)) (log : List (List ℕ)) (offset : ℕ) (piece : Piece)
     → IsViewOf notes view → IsRightView view → TellsEpochs line log
@@ -79,8 +81,8 @@ WantedIsFound = (c : Scene) (p : Plain) (a : ℕ) (rebuild : Rebuild) (tier_view
 
 -- reads
 
--- the piece's segment is finished and stands, and what of its batches ends with the piece is what the log has from
--- the offset on; the position is the one that their index gives
+-- the piece's segment is finished and exists, and what of its batches ends with the piece is what the log has from the
+-- offset on; the position is the one that their index gives
 pub record IsServed (c : Scene) (p : Plain) (log : List (List ℕ)) (sought : Sought) (piece : Piece) : Type 0 where
   pub entry : Entry
   pub there : entry_of piece.id (fold c.notes) ≡ Some entry
@@ -92,14 +94,16 @@ pub record IsServed (c : Scene) (p : Plain) (log : List (List ℕ)) (sought : So
   pub from : (from : ℕ) → sought.from ≡ Some from
       → (interval : ℕ) × (from ≡ (find (index_of entry.start interval (placed_from 0 held.batches)) sought.offset).1)
 
--- what a fetch on the desk reads is its log's, while its broker leads on and the log start isn't above its offset
+-- what a fetch on the desk reads is its log's, while its broker still leads and the log start offset isn't above its
+-- offset
 abbrev pub FetchesAreServed : Type 0
 FetchesAreServed = (c : Scene) (p : Plain) (a : ℕ) (sought : Sought) (piece : Piece) (tier_view : BrokerTierView) (x : Broker) → BothSafe c p
     → slice_get c.desk a ≡ Some (Seeks sought) → slice_get c.tier_views sought.broker ≡ Some tier_view
     → slice_get p.brokers sought.broker ≡ Some x → sought.piece ≡ Some piece → StillLeads sought x
     → p.registry.start ≤ sought.offset → IsServed c p x.log sought piece
 
--- a finished copy begins with the batches below the wanted offset, and the line of its epochs is theirs up to there
+-- a finished copy begins with the batches below the wanted offset, and the leader epochs of its epochs is theirs up to
+-- there
 pub record RebuildReads (c : Scene) (p : Plain) (front : List (List ℕ)) (wanted : ℕ) (id : SegmentId) : Type 0 where
   pub entry : Entry
   pub there : entry_of id (fold c.notes) ≡ Some entry

@@ -1,7 +1,7 @@
 -- The tier's safety: what holds of the remote tier between any two turns, part by part.
 --
---   Views      notes, views, the one partition, and ids
---   Copies     finished copies, objects, and copies under way
+--   Views      metadata events, views, the one partition, and ids
+--   Copies     finished copies, objects, and copies in progress
 --   Starts     local starts, deletions, what local logs lack, and rebuilds
 --   Fetches    fetches from the tier, and cached indexes
 use Rattle.plain_log.specs.declared.state.State.{State as Plain}

@@ -1,7 +1,7 @@
 -- The remote tier of a partition as it is seen, with what its brokers and the commands on its desk know of it.
 --
--- It stands beside a state of the plain log, which has each broker's log whole, from offset 0 on, whatever of it is
--- on a disk. Of a broker that is down its disk alone says what it has. There `start` is the greatest local start and
+-- It is beside a state of the plain log, which has each broker's log whole, from offset 0 on, whatever of it is on a
+-- disk. Of a broker that is down its disk alone says what it has. There `start` is the greatest local start and
 -- `incarnation` the least one that an image of its disk may have.
 --
 -- Source: KIP-405: objects in a remote store, a log of remote segments' metadata, and on each broker a view of that
@@ -19,7 +19,7 @@ use Rattle.copy_task.specs.declared.turn.CopyStep.{CopyStep as CopyNext}
 use Rattle.expiry_task.specs.declared.turn.ExpiredSegment.{ExpiredSegment}
 use Rattle.expiry_task.specs.declared.turn.DeletionStep.{DeletionStep as ExpiryNext}
 
--- a broker's side of the tier
+-- a broker's tier state of the tier
 pub record BrokerTierView : Type 0 where
   pub up : Bool
   -- where its local log starts
@@ -31,7 +31,7 @@ pub record BrokerTierView : Type 0 where
   -- offset indexes of remote segments
   pub cache : List (SegmentId × OffsetTable)
 
--- a follower's log is to begin anew, where the leader's local log starts, with what is below in the remote tier
+-- a follower's log is to restart, where the leader's local log starts, with what is below in the remote tier
 pub record Rebuild : Type 0 where
   pub broker : ℕ
   -- the epoch that it has joined, and where its log ended
@@ -39,9 +39,9 @@ pub record Rebuild : Type 0 where
   pub end : ℕ
   -- where its local log is to start
   pub wanted : ℕ
-  -- its view has taken in all notes since
+  -- its view has taken in all metadata events since
   pub refreshed : Bool
-  -- the line that it has read beside a remote segment, once it has
+  -- the leader epochs that it has read beside a remote segment, once it has
   pub line : Option (List (ℕ × ℕ))
 
 -- a fetch below its leader's local start
@@ -63,7 +63,7 @@ pub data TierTask : Type 0 where
   Rebuilds : (rebuild : Rebuild) → TierTask
   Seeks : (sought : Sought) → TierTask
 
--- the tier of a partition: its objects and notes, its brokers, and its desk
+-- the tier of a partition: its objects and metadata events, its brokers, and its desk
 pub record Scene : Type 0 where
   pub partition : PartitionId
   pub objects : Objects

@@ -1,12 +1,12 @@
 -- What holds of the log start and of local starts.
 --
 --   Sites      a local log starts within its log
---   Deletions  what is deleted ends below the log start
---   Covered    what a local log lacks from the log start on is covered by finished copies
+--   Deletions  what is deleted ends below the log start offset
+--   Covered    what a local log lacks from the log start offset on is covered by finished copies
 --   Rebuilds   so is what a rebuild is to leave out
 --
 -- Source: KIP-405: the local log start offset, deletion by the log start offset, and followers that begin their local
--- log anew at the leader's local log start offset.
+-- log again at the leader's local log start offset.
 use Rattle.std.specs.Prelude.{◌≡◌, ◌≢◌, ℕ, ◌-◌, ◌<◌, ◌≤◌, true, List, Some, length, slice_get}
 use mathlib.Core.List.{IsPrefix}
 use Rattle.tier_base.specs.declared.plain.State.{State}
@@ -30,12 +30,12 @@ use Rattle.tier_safe.specs.Copies.{is_deleted}
 
 -- local starts
 
--- a broker's side is up where the broker is, and its local log starts at or below the log's end
+-- a broker's tier state is up where the broker is, and its local log starts at or below the log's end
 pub record BrokerTierMatches (tier_view : BrokerTierView) (x : Broker) : Type 0 where
   pub up : tier_view.up ≡ x.up
   pub within : tier_view.start ≤ end_of x.log
 
--- each broker has a side, and it stands so
+-- each broker has a tier state, and it is so
 pub record BrokerTiersMatch (tier_views : List BrokerTierView) (brokers : List Broker) : Type 0 where
   pub count : length tier_views ≡ length brokers
   pub each : (b : ℕ) (tier_view : BrokerTierView) (x : Broker) → slice_get tier_views b ≡ Some tier_view
@@ -44,13 +44,14 @@ pub record BrokerTiersMatch (tier_views : List BrokerTierView) (brokers : List B
 
 -- deletions
 
--- a copy that was finished once, after the first so many notes, and isn't any more, ends below the log start
+-- a copy that was finished once, after the first so many metadata events, and isn't any more, ends below the log start
+-- offset
 abbrev pub DeletedEnd : List Note → ℕ → Type 0
 DeletedEnd notes start =
     (id : SegmentId) (before : List Note) (then now : Entry) → IsPrefix before notes → entry_of id (fold before) ≡ Some then
     → then.state ≡ CopyFinished → entry_of id (fold notes) ≡ Some now → now.state ≢ CopyFinished → now.end < start
 
--- once an expiry's first note is told, the deletion has started
+-- once an expiry's first metadata event is reported, the deletion has started
 abbrev pub IsBegun : ExpiryNext → State → Type 0
 IsBegun expiring.Start state = Unit {0}
 IsBegun (expiring.Delete n) state = is_deleted state ≡ true
@@ -61,7 +62,7 @@ abbrev pub ExpiryHasKey : ExpiredSegment → ExpiryNext → Type 0
 ExpiryHasKey expired_segment (expiring.Delete n) = n < length (keys expired_segment)
 ExpiryHasKey expired_segment next = Unit {0}
 
--- what an expiry on the desk deletes ends below the log start
+-- what an expiry on the desk deletes ends below the log start offset
 pub record ExpiryStands (entries : List Entry) (start : ℕ) (expired_segment : ExpiredSegment)
     (next : ExpiryNext) : Type 0 where
   pub entry : Entry
@@ -79,15 +80,16 @@ pub record DeletionsStand (notes : List Note) (start : ℕ) (desk : List TierTas
 
 -- what local logs lack
 
--- each offset from the log start up to a broker's local start is covered, in the epoch that the broker's log has there
+-- each offset from the log start offset up to a broker's local start is covered, in the epoch that the broker's log has
+-- there
 abbrev pub CoveredStands : List Entry → ℕ → List BrokerTierView → List Broker → Type 0
 CoveredStands entries start tier_views brokers =
     (b : ℕ) (tier_view : BrokerTierView) (x : Broker) → slice_get tier_views b ≡ Some tier_view
     → slice_get brokers b ≡ Some x
     → (o : ℕ) → start ≤ o → o < tier_view.start → CoversLog entries x.log o
 
--- a rebuild on the desk: the batches below the wanted offset are the path's; from the log start on they are covered,
--- the last one also in the refreshed view; and the line has their epochs
+-- a rebuild on the desk: the batches below the wanted offset are the path's; from the log start offset on they are
+-- covered, the last one also in the refreshed view; and the leader epochs have their epochs
 pub record RebuildStands (paths : List Path) (notes : List Note) (start : ℕ) (tier_views : List BrokerTierView)
     (rebuild : Rebuild)
     : Type 0 where

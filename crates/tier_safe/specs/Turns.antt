@@ -1,8 +1,8 @@
 -- That each turn of a copy and of an expiry is changes of the tier.
 --
--- The tier shows what a store and a metadata log tell, a broker's view, and the state of the command. A turn whose row
--- holds leaves a tier that changes lead to: where its call went, where it failed, done or not, and where memory was
--- wanting.
+-- The tier shows what a store and a metadata log report, a broker's view, and the state of the command. A turn whose
+-- row holds leaves a tier that changes lead to: where its call went, where it failed, done or not, and where memory
+-- runs out.
 use Rattle.std.specs.Prelude.{◌≡◌, ℕ, ◌^◌, ◌<◌, List, length, Some, Ok, Err, slice_get, slice_set, IsTrue}
 use Rattle.std.specs.declared.result.Result.{Result}
 use Rattle.std.specs.declared.alloc.AllocError.{AllocError}
@@ -30,7 +30,7 @@ use Rattle.tier_safe.specs.Scene.{BrokerTierView, TierTask, Free, Copies, Expire
 use Rattle.tier_safe.specs.May.{IsChanged}
 use Rattle.tier_safe.specs.Safe.{TierSafe}
 
--- the tier has what a store and a metadata log tell, the view of broker b, and what actor a's seat keeps
+-- the tier has what a store and a metadata log report, the view of broker b, and what actor a's state keeps
 pub record Shows (c : Scene) (a b : ℕ) (tier_view : BrokerTierView) (work : TierTask) (objects : store.Content) (notes : meta.Content) (view : Seen)
     : Type 0 where
   pub objects_are : c.objects ≡ objects.objects
@@ -41,7 +41,7 @@ pub record Shows (c : Scene) (a b : ℕ) (tier_view : BrokerTierView) (work : Ti
   pub view_is : tier_view.view ≡ view
   pub actor_state : slice_get c.desk a ≡ Some work
 
--- the tier after a turn of the command in that seat
+-- the tier after a turn of the command in that actor's state
 abbrev pub after_turn : Scene → ℕ → ℕ → BrokerTierView → TierTask → store.Objects → List Note → Seen → Scene
 after_turn c a b tier_view work objects notes view = record {
   partition = c.partition;
@@ -56,7 +56,7 @@ abbrev pub copy_work : Copied → CopyTurn → TierTask
 copy_work copied (CopyGoes next) = Copies copied next
 copy_work copied (CopyEnds answer) = Free
 
--- after one that may have wanted memory, and then changed nothing
+-- after one that may have run out of memory, and then changed nothing
 abbrev pub copy_after : Copied → CopyNext → Result CopyTurn AllocError → TierTask
 copy_after copied next (Ok turn) = copy_work copied turn
 copy_after copied next (Err e) = Copies copied next
@@ -66,20 +66,20 @@ abbrev pub expiry_work : ExpiredSegment → ExpiryTurn → TierTask
 expiry_work expired_segment (ExpiryGoes next) = Expires expired_segment next
 expiry_work expired_segment (ExpiryEnds answer) = Free
 
--- after one that may have wanted memory
+-- after one that may have run out of memory
 abbrev pub expiry_after : ExpiredSegment → ExpiryNext → Result ExpiryTurn AllocError → TierTask
 expiry_after expired_segment next (Ok turn) = expiry_work expired_segment turn
 expiry_after expired_segment next (Err e) = Expires expired_segment next
 
 module _ {M : Type 0} (notes : M → meta.Content) where
-  -- a refresh of a broker's view is changes, and the view has all notes then
+  -- a refresh of a broker's view is changes, and the view has all metadata events then
   abbrev pub RefreshesChange : Type 0
   RefreshesChange = (old : M) (view : Seen) (c : Scene) (p : Plain) (a b : ℕ) (tier_view : BrokerTierView) (work : TierTask) (objects : store.Content)
       → Shows c a b tier_view work objects (notes old) tier_view.view → length c.notes < 2 ^ 64 → TierSafe c p
       → Refreshes (notes old) tier_view.view view
       → (view ≡ view_of c.notes) × IsChanged c p (after_turn c a b tier_view work c.objects c.notes view)
 
-  -- so is one that wanted memory
+  -- so is one that ran out of memory
   abbrev pub HaltsChange : Type 0
   HaltsChange = (old : M) (view : Seen) (c : Scene) (p : Plain) (a b : ℕ) (tier_view : BrokerTierView) (work : TierTask) (objects : store.Content)
       → Shows c a b tier_view work objects (notes old) tier_view.view → length c.notes < 2 ^ 64 → TierSafe c p

@@ -1,7 +1,7 @@
--- What holds of notes and views.
+-- What holds of metadata events and views.
 --
---   Notes      each note keeps its rules
---   Views      a broker's view is the fold of the first notes
+--   Notes      each metadata event keeps its rules
+--   Views      a broker's view is the fold of the first metadata events
 --   Partition  everything is of the one partition
 --   Ids        no id is used twice
 --
@@ -26,26 +26,26 @@ use Rattle.expiry_task.specs.declared.turn.ExpiredSegment.{ExpiredSegment}
 use Rattle.expiry_task.specs.declared.turn.DeletionStep.{DeletionStep as ExpiryNext}
 use Rattle.tier_safe.specs.Scene.{BrokerTierView, TierTask, Copies, Expires}
 
--- notes
+-- metadata events
 
--- what a note adds has an id
+-- what a metadata event adds has an id
 abbrev pub HasId : Note → Type 0
 HasId (Add entry) = IsId entry.id
 HasId (Update id broker event_ts state custom) = Unit {0}
 
--- a note keeps its rules
+-- a metadata event keeps its rules
 pub record IsRight (note : Note) : Type 0 where
   pub is : IsNote note
   pub id : HasId note
 
--- each note keeps its rules, and so will those of the copies on the desk
+-- each metadata event keeps its rules, and so will those of the copies on the desk
 pub record NotesStand (notes : List Note) (desk : List TierTask) : Type 0 where
   pub right : AllByRecursion IsRight notes
   pub ids : (a : ℕ) (copy : Copied) (next : CopyNext) → slice_get desk a ≡ Some (Copies copy next) → IsId copy.id
 
 -- views
 
--- the view is the fold of the first notes
+-- the view is the fold of the first metadata events
 pub record IsViewOf (notes : List Note) (view : Seen) : Type 0 where
   pub before : List Note
   pub begins : IsPrefix before notes

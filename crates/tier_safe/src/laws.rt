@@ -41,35 +41,35 @@ pub fn expiry_turns_change<S: Store, M: MetaLog>()
     ensures { ExpiryTurnsChange S.content S.control M.content M.control }
 {}
 
-/// A refresh of a broker's view is changes of the tier, and takes in all notes.
+/// A refresh of a broker's view is changes of the tier, and takes all metadata events.
 pub fn refreshes_change<S: Store, M: MetaLog>()
     ensures { RefreshesChange M.content }
 {}
 
-/// So is one that stopped for want of memory.
+/// So is one that stopped because memory ran out.
 pub fn halts_change<S: Store, M: MetaLog>()
     ensures { HaltsChange M.content }
 {}
 
-/// A finished copy of the log's own lineage has each offset, from the log start on, that a local
-/// log lacks.
+/// A finished copy of the log's own lineage has each offset, from the log start offset on, that a local log lacks.
 #[tactic(auto, using(crate::proofs::Promises::dropped_kept))]
 pub fn dropped_is_kept()
     ensures { DroppedIsKept }
 {}
 
-/// The objects of a copy that was finished stand until it ends below the log start.
+/// The objects of a copy that was finished exist until it ends below the log start offset.
 #[tactic(auto, using(crate::proofs::Promises::finished_kept))]
 pub fn finished_is_kept()
     ensures { FinishedIsKept }
 {}
 
-/// A broker that has seen all notes finds each offset, from the log start on, that its local log lacks.
+/// A broker that has seen all metadata events finds each offset, from the log start offset on, that its local log
+/// lacks.
 pub fn what_a_log_lacks_is_found()
     ensures { LackingIsFound }
 {}
 
-/// A fetch whose broker leads on and has seen all notes finds what it reads from.
+/// A fetch whose broker still leads and has seen all metadata events finds what it reads from.
 #[tactic(auto, using(crate::proofs::Lookups::asked_is_found))]
 pub fn what_is_asked_for_is_found()
     ensures { AskedIsFound }

@@ -1,4 +1,5 @@
--- A sweep that is refused: whatever of its notes is told, and of its objects taken, the same is left to a further one.
+-- A sweep that is refused: whatever of its events is reported, and of its objects taken, the same is left to a further
+-- one.
 use Rattle.std.proofs.Common.{◌≡◌, ◌≢◌, ◌⊎◌, inl, inr, ◌∙◌, refl, sym, ap, subst, ℕ, ℤ, Bool, true, false, cond, List, [], ◌∷◌, ◌++◌, map, Option, Some, None, is_some, append_assoc, arith}
 use Rattle.std.specs.Prelude.{filter, option_map}
 use Rattle.std.specs.List.{AllByRecursion}
@@ -18,13 +19,13 @@ use Rattle.tier_sweep.specs.Rest.{is_under_way, stays}
 use Rattle.tier_sweep.specs.Sweeping.{is_copying, note_of, notes_of, starts_of, ends_of, rested, MayTake, SweptTier, IsUnderSweep, Starting, Taking, Ending}
 use Rattle.tier_sweep.proofs.Rested.{folded_append, by_recursion, notes_distinct, entry_rested}
 
--- a sweep tells this state
+-- a sweep reports this state
 abbrev pub is_going : State → Bool
 is_going DeleteStarted = true
 is_going DeleteFinished = true
 is_going state = false
 
--- a note that a sweep of these entries may tell
+-- an event that a sweep of these entries may report
 pub record IsOf (es : List Entry) (note : Note) : Type 0 where
   pub entry : Entry
   pub state : State
@@ -53,7 +54,7 @@ all_of_more e es [] none h = tt
 all_of_more e es (note ∷ notes) none h = (of_more e es note none h.0, all_of_more e es notes none h.1)
 
 module _ (passes : State → Bool) (s : State) (going : is_going s ≡ true) (under : (t : State) → passes t ≡ true → is_under_way t ≡ true) where
-  -- the notes of the entries that pass are
+  -- the events of the entries that pass are
   notes_are : (es : List Entry) → AreDistinct es → AllByRecursion (IsOf es) (notes_of passes s es)
   notes_are [] apart = tt
   notes_are (e ∷ es) apart = by (passes e.state) refl (all_of_more e es (notes_of passes s es) apart.0 (notes_are es apart.1))
@@ -86,7 +87,7 @@ pub both : (P : Note → Type 0) (xs ys : List Note) → AllByRecursion P xs →
 both P [] ys h h' = h'
 both P (x ∷ xs) ys h h' = (h.0, both P xs ys h.1 h')
 
--- such a note keeps the rules of a note
+-- such an event keeps the rules of an event
 going_starts_none : (t : State) → is_going t ≡ true → t ≢ CopyStarted
 going_starts_none CopyStarted is = absurd (cc (is))
 going_starts_none CopyFinished is = absurd (cc (is))
@@ -117,7 +118,7 @@ time_rested e = by (is_under_way e.state)
     by true = refl
     by false = refl
 
--- what rests as finished is only told so
+-- what rests as finished is only reported so
 as_finished : (x : Entry) → (rested x).state ≡ DeleteFinished → rested x ≡ record x { state = DeleteFinished }
 as_finished x = by (is_under_way x.state)
   where
@@ -132,7 +133,7 @@ going_rests x CopyFinished is = absurd (cc (is))
 going_rests x DeleteStarted is = refl
 going_rests x DeleteFinished is = refl
 
--- its note keeps the custom metadata
+-- its event keeps the custom metadata
 going_kept : (x : Entry) (t : State) (told : Option (List ℕ)) → is_going t ≡ true → rested (updated x.broker x.event_ts t told x) ≡ rested (record x { state = t })
 going_kept x CopyStarted told is = absurd (cc (is))
 going_kept x CopyFinished told is = absurd (cc (is))
@@ -162,7 +163,7 @@ change_all q change (x ∷ xs) same = by (bytes_eq x.id.0 q.0) same (λ (s : (y 
 some_same : {A : Type 0} (a b : A) → Some a ≡ Some b → a ≡ b
 some_same a b e = cc (e)
 
--- one note
+-- one event
 note_rests : (es xs : List Entry) (note : Note) → IsOf es note → map rested xs ≡ map rested es → map rested (recorded xs note) ≡ map rested es
 note_rests es xs note h same = subst (λ (n : Note). map rested (recorded xs n) ≡ map rested es) (sym h.is) (by (is_some (next_state (state_of h.entry.id xs) h.state)))
   where
@@ -178,7 +179,7 @@ pub notes_rest : (es xs : List Entry) (notes : List Note) → AllByRecursion (Is
 notes_rest es xs [] h same = same
 notes_rest es xs (note ∷ notes) h same = notes_rest es (recorded xs note) notes h.1 (note_rests es xs note h.0 same)
 
--- what a refused sweep has told
+-- what a refused sweep has reported
 pub record IsTold (old new : SweptTier) : Type 0 where
   pub notes : List Note
   pub are : AllByRecursion (IsOf (fold old.notes)) notes
@@ -201,7 +202,7 @@ is_told old new apart (Ending h) = record {
     regroup : (a b c : List Note) → (a ++ b) ++ c ≡ a ++ (b ++ c)
     regroup a b c = simp append_assoc
 
--- the entries come to rest as before after any such notes
+-- the entries come to rest as before after any such events
 pub told_rests : (old notes : List Note) → AllByRecursion (IsOf (fold old)) notes → map rested (fold (old ++ notes)) ≡ map rested (fold old)
 told_rests old notes are = ap (λ (es : List Entry). map rested es) (folded_append [] old notes) ∙ notes_rest (fold old) (fold old) notes are refl
 
@@ -212,7 +213,7 @@ under_rests old new are h =
     ap (λ (ns : List Note). map rested (fold ns)) told.now
     ∙ told_rests old.notes told.notes told.are
 
--- their ids are told apart
+-- their ids are distinguished
 pub under_distinct : (old new : SweptTier) → AreNotes old.notes → IsUnderSweep old new → AreDistinct (fold new.notes)
 under_distinct old new are h =
     let told = is_told old new (notes_distinct old.notes are) h in

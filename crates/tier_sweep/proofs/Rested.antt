@@ -1,4 +1,4 @@
--- What the notes of a sweep come to: each entry under way is told as finished, and the others stay.
+-- What the events of a sweep come to: each entry in progress is recorded as finished, and the others stay.
 use Rattle.std.proofs.Common.{◌≡◌, ◌∙◌, refl, sym, ap, suc, Bool, true, false, cond, List, [], ◌∷◌, ◌++◌, map, Some, None, is_some, arith}
 use Rattle.std.specs.Prelude.{filter, option_map, All}
 use Rattle.std.specs.List.{AllByRecursion}
@@ -33,7 +33,7 @@ misses_first q e es none = by (bytes_eq e.id.0 q.0) none
     by true gone = absurd (cc (gone))
     by false gone = (refl, gone)
 
--- a note of another id leaves the first entry
+-- an event of another id leaves the first entry
 recorded_behind : (x r : Entry) (xs : List Entry) (s : State) → bytes_eq x.id.0 r.id.0 ≡ false → recorded (x ∷ xs) (note_of s r) ≡ x ∷ recorded xs (note_of s r)
 recorded_behind x r xs s other = rw other (by (is_some (next_state (state_of r.id xs) s)))
   where
@@ -42,7 +42,7 @@ recorded_behind x r xs s other = rw other (by (is_some (next_state (state_of r.i
     by false = refl
 
 module _ (passes : State → Bool) (s : State) where
-  -- and so do the notes of entries of other ids
+  -- and so do the events of entries of other ids
   all_behind : (x : Entry) (xs es : List Entry) → entry_of x.id es ≡ None → folded_from (x ∷ xs) (notes_of passes s es) ≡ x ∷ folded_from xs (notes_of passes s es)
   all_behind x xs [] none = refl
   all_behind x xs (r ∷ es) none =
@@ -60,7 +60,7 @@ module _ (passes : State → Bool) (s : State) where
   module _ (before after : Entry → Entry) (ids : (e : Entry) → (before e).id ≡ e.id)
       (steps : (e : Entry) → passes e.state ≡ true → (is_some (next_state (Some (before e).state) s) ≡ true) × (updated e.broker e.event_ts s (bare_custom e.packed) (before e) ≡ after e))
       (rests : (e : Entry) → passes e.state ≡ false → before e ≡ after e) where
-    -- the first entry's note
+    -- the first entry's event
     first_step : (e : Entry) (xs : List Entry) → passes e.state ≡ true → recorded (before e ∷ xs) (note_of s e) ≡ after e ∷ xs
     first_step e xs is =
         let here : bytes_eq (before e).id.0 e.id.0 ≡ true = rw (ids e) (bytes_self e.id.0) in
@@ -68,7 +68,7 @@ module _ (passes : State → Bool) (s : State) where
         let same = (steps e is).1 in
         rw (here, step) (ap (λ (y : Entry). y ∷ xs) same)
 
-    -- the notes of all that pass
+    -- the events of all that pass
     all_steps : (es : List Entry) → AreDistinct es → folded_from (map before es) (notes_of passes s es) ≡ map after es
     all_steps [] apart = refl
     all_steps (e ∷ es) apart = by (passes e.state) refl (all_steps es apart.1)

@@ -84,7 +84,7 @@ same_stay xs es q same = sym (stays_rested xs q) ∙ (ap (λ (ys : List Entry). 
 pub swept_entries : (old new : SweptTier) (n : ℕ) → AreNotes old.notes → IsSwept old new n → fold new.notes ≡ map rested (fold old.notes)
 swept_entries old new n are h = ap fold h.notes ∙ fold_swept old.notes (notes_distinct old.notes are)
 
--- an object that stands has a finished copy
+-- an object that is has a finished copy
 swept_finished : (old new : SweptTier) (n : ℕ) → AreNotes old.notes → IsSwept old new n → (key : ObjectKey) → IsSome (new.objects key) → state_of key.id (fold new.notes) ≡ Some CopyFinished
 swept_finished old new n are h key held =
     let es = fold old.notes in

@@ -81,7 +81,7 @@ one_may entries key result old new goes h q = elim (key_cases q key) [
     by true same away is = inr (away, is)
     by false same away is = inl (is ∙ sym same)
 
--- what stands in a list with one key more
+-- what is in a list with one key more
 in_more : (q key : ObjectKey) (keys : List ObjectKey) → In q (keys ++ key ∷ []) → In q keys ⊎ (q ≡ key)
 in_more q key [] there = elim there [
   | inl same ↦ inr same

@@ -1,4 +1,4 @@
--- Notes told one by one.
+-- Events reported one by one.
 use Rattle.std.proofs.Common.{◌≡◌, ◌∙◌, refl, sym, ap, ℕ, ◌+◌, ◌<◌, Bool, true, false, cond, List, [], ◌∷◌, ◌++◌, length, take, drop, get_or, append_assoc, Result, Ok, Err}
 use Rattle.std.specs.Prelude.{map, filter, IsErr}
 use Rattle.std.proofs.lemmas.List.{take_more, drop_more, take-append-drop, append-nil}
@@ -16,14 +16,14 @@ joined : (a b c : List Note) → (a ++ b) ++ c ≡ a ++ (b ++ c)
 joined a b c = simp append_assoc
 
 module _ (passes : State → Bool) (state : State) where
-  -- what is told of one entry before others
+  -- what is reported of one entry before others
   pub told_one : (e : Entry) (es : List Entry) → passes e.state ≡ true → notes_of passes state (e ∷ es) ≡ note_of state e ∷ notes_of passes state es
   told_one e es does = rw does refl
 
   pub told_none : (e : Entry) (es : List Entry) → passes e.state ≡ false → notes_of passes state (e ∷ es) ≡ notes_of passes state es
   told_none e es fails = rw fails refl
 
-  -- what is told of two lists, one behind the other
+  -- what is reported of two lists, one after the other
   notes_append : (xs ys : List Entry) → notes_of passes state (xs ++ ys) ≡ notes_of passes state xs ++ notes_of passes state ys
   notes_append [] ys = refl
   notes_append (x ∷ xs) ys = by (passes x.state) (notes_append xs ys)
@@ -48,14 +48,14 @@ module _ (passes : State → Bool) (state : State) where
       sym (ap (notes_of passes state) (take_more es i e low ∙ ap (λ (x : Entry). take i es ++ x ∷ []) (sym is))
       ∙ (notes_append (take i es) (e ∷ []) ∙ (ap (λ (ns : List Note). notes_of passes state (take i es) ++ ns) (told_none e [] fails) ∙ append-nil (notes_of passes state (take i es)))))
 
-  -- one note more
+  -- one event more
   pub tells_next : (es : List Entry) (i : ℕ) (e : Entry) (old mid new : List Note) → i < length es → e ≡ get_or es i e → passes e.state ≡ true
       → mid ≡ old ++ notes_of passes state (take i es) → new ≡ mid ++ note_of state e ∷ [] → new ≡ old ++ notes_of passes state (take (i + 1) es)
   tells_next es i e old mid new low is does was now =
       now ∙ (ap (λ (ns : List Note). ns ++ note_of state e ∷ []) was
       ∙ (joined old (notes_of passes state (take i es)) (note_of state e ∷ []) ∙ ap (λ (ns : List Note). old ++ ns) (sym (more_passes es i e low is does))))
 
-  -- a note that may have been told
+  -- an event that may be appended
   pub tells_some : (es : List Entry) (i : ℕ) (e : Entry) (old mid new : List Note) → i < length es → e ≡ get_or es i e → passes e.state ≡ true
       → mid ≡ old ++ notes_of passes state (take i es) → IsTelling (note_of state e ∷ []) mid new → IsTelling (notes_of passes state es) old new
   tells_some es i e old mid new low is does was h =

@@ -1,4 +1,4 @@
--- A view that is refreshed from no note on.
+-- A view that is refreshed from no event on.
 use Rattle.std.proofs.Common.{◌≡◌, ◌∙◌, refl, ap, List, [], ◌∷◌, drop}
 use Rattle.std.specs.Prelude.{IsTrue}
 use Rattle.segment_meta.specs.declared.note.Note.{Note}
@@ -11,7 +11,7 @@ fed_entries : (view : Seen) (notes : List Note) → (fed_all view notes).entries
 fed_entries view [] = refl
 fed_entries view (note ∷ notes) = fed_entries (fed view note) notes
 
--- it has the entries of all notes
+-- it has the entries of all events
 pub refreshed_entries : (log : Content) (old new : Seen) → old ≡ record { entries = []; notes = 0 } → IsTrue log.is_observable → Refreshes log old new → new.entries ≡ fold log.notes
 refreshed_entries log old new empty told h =
     let all : h.notes ≡ log.notes = h.further told ∙ ap (λ (v : Seen). drop v.notes log.notes) empty in

@@ -1,4 +1,4 @@
--- Calls that went well, one behind the other.
+-- Calls that went well, one after the other.
 use Rattle.std.proofs.Common.{◌≡◌, refl, subst, inl, inr, ℕ, Result, Ok, Err}
 use Rattle.tier_base.specs.Device.{Control, RanQuietly, Went}
 use Rattle.object_store.specs.Call.{call_code}

@@ -1,11 +1,11 @@
 -- What the parts of a sweep do to the device that they call, each a run of calls.
 --
--- What is said of content holds where the device tells it.
+-- What is said of content holds where the device is observable.
 --
 --   form                          says
 --   MetaRuns result old new       calls of the metadata log: no fault of it is hidden, whatever is answered
 --   StoreRuns result old new      the same of the store
---   Deletes result old new        so many deletions went, or the last one failed and nothing was called behind it
+--   Deletes result old new        so many deletions went, or the last one failed and nothing was called after it
 --   ListsFirst Behind old new     one listing went before all others
 use Rattle.std.specs.Prelude.{◌≡◌, ◌⊎◌, ℕ, ◌+◌, Bool, false, List, ◌++◌, None, IsOk, IsTrue, Ok, Err}
 use Rattle.std.specs.declared.result.Result.{Result}
@@ -24,19 +24,19 @@ use Rattle.tier_sweep.specs.declared.refusal.SweepRefusal.TheVariants.{StoreFaul
 use Rattle.tier_sweep.specs.Rest.{stays}
 use Rattle.tier_sweep.specs.Sweeping.{MayTake, IsTelling}
 
--- a run of calls of the metadata log is refused for its own fault, and for want of memory
+-- a run of calls of the metadata log is refused for its own fault, and because memory ran out
 abbrev pub MetaCause : {T : Type 0} → Result T SweepRefusal → ℕ → ℕ → Type 0
 MetaCause (Err StoreFault) before now = ⊥
 MetaCause (Err MetaFault) before now = Rose before now
 MetaCause result before now = Unit {0}
 
--- a run of calls of the store is refused for its own fault, and for want of memory
+-- a run of calls of the store is refused for its own fault, and because memory ran out
 abbrev pub StoreCause : {T : Type 0} → Result T SweepRefusal → ℕ → ℕ → Type 0
 StoreCause (Err StoreFault) before now = Rose before now
 StoreCause (Err MetaFault) before now = ⊥
 StoreCause result before now = Unit {0}
 
--- and so leaves the count of faults; where that fault is told, one call failed
+-- and so leaves the count of faults; where that fault is reported, one call failed
 abbrev pub MetaQuiet : {T : Type 0} → Result T SweepRefusal → ℕ → ℕ → Type 0
 MetaQuiet (Err MetaFault) before now = now ≡ counted before 1
 MetaQuiet result before now = now ≡ before
@@ -46,7 +46,7 @@ abbrev pub StoreQuiet : {T : Type 0} → Result T SweepRefusal → ℕ → ℕ �
 StoreQuiet (Err StoreFault) before now = now ≡ counted before 1
 StoreQuiet result before now = now ≡ before
 
--- calls that all went well, one behind the other
+-- calls that all went well, one after the other
 pub data AllWent {K : Type 0} {code : K → ℕ} (old : Control code) : Control code → Type 0 where
   NoCall : AllWent old old
   OneMore : (call : K) (mid new : Control code) → AllWent old mid → RanQuietly call Went mid new → AllWent old new
@@ -89,7 +89,7 @@ DeletesOne (Ok x) old new = RanQuietly Delete Went old new
 DeletesOne (Err StoreFault) old new = RanQuietly Delete Fault old new
 DeletesOne (Err e) old new = ⊥
 
--- one listing that went, and deletions behind it
+-- one listing that went, and deletions after it
 pub record ListsFirst (Behind : Control call_code → Control call_code → Type 0) (old new : Control call_code) : Type 0 where
   pub mid : Control call_code
   pub lists : RanQuietly Keys Went old mid
@@ -99,12 +99,12 @@ pub record ListsFirst (Behind : Control call_code → Control call_code → Type
 abbrev pub SomeDeleted : Control call_code → Control call_code → Type 0
 SomeDeleted old new = ((count : ℕ) × Deleted old count new) ⊎ FailsToDelete old new
 
--- these notes are told, or after a refusal some, from the first on
+-- these events are reported, or after a refusal some, from the first on
 abbrev pub Tells : {T : Type 0} → List Note → Result T SweepRefusal → List Note → List Note → Type 0
 Tells notes (Ok x) old new = new ≡ old ++ notes
 Tells notes (Err e) old new = IsTelling notes old new
 
--- and so it is of each list of notes that a power cut may leave then
+-- and so it is of each list of events that a power cut may leave then
 abbrev pub LeavesTelling : {T : Type 0} → List Note → Result T SweepRefusal → List Note → Content → Type 0
 LeavesTelling notes result old new = (left : List Note) → Left new left → Tells notes result old left
 

@@ -1,12 +1,13 @@
--- A remote tier at rest: no command is under way, and nobody else writes.
+-- A remote tier at rest: no command is in progress, and nobody else writes.
 --
 --   form                         says
 --   AreNamed objects entries     each object's id has an entry
---   NoneIsLeft objects entries   no object stands of an id whose deletion is finished
---   AllRest entries              neither a copy nor a deletion is under way
+--   NoneIsLeft objects entries   no object exists of an id whose deletion is finished
+--   AllRest entries              neither a copy nor a deletion is in progress
 --
--- Source: KIP-405, where a copy is told as started before its first object is put, and a deletion as finished after its last object
--- is gone. So what a broker that stopped for good leaves is a copy or a deletion under way, with any of its objects.
+-- Source: KIP-405, where a copy is recorded as started before its first object is put, and a deletion as finished after
+-- its last object is gone. So what a broker that stopped for good leaves is a copy or a deletion in progress, with any
+-- of its objects.
 use Rattle.std.specs.Prelude.{◌≡◌, ◌≢◌, Bool, true, false, List, Option, Some, IsSome}
 use Rattle.std.specs.List.{AllByRecursion}
 use Rattle.tier_base.specs.declared.names.SegmentId.{SegmentId}
@@ -17,7 +18,7 @@ use Rattle.segment_meta.specs.declared.note.Entry.{Entry}
 use Rattle.object_store.specs.Content.{Objects}
 use Rattle.remote_view.specs.Fold.{entry_of, state_of}
 
--- a copy or a deletion is under way
+-- a copy or a deletion is in progress
 abbrev pub is_under_way : State → Bool
 is_under_way CopyStarted = true
 is_under_way DeleteStarted = true
@@ -36,10 +37,10 @@ stays entries id = is_finished (state_of id entries)
 abbrev pub AreNamed : Objects → List Entry → Type 0
 AreNamed objects entries = (key : ObjectKey) → IsSome (objects key) → IsSome (entry_of key.id entries)
 
--- no object stands of an id whose deletion is finished
+-- no object exists of an id whose deletion is finished
 abbrev pub NoneIsLeft : Objects → List Entry → Type 0
 NoneIsLeft objects entries = (key : ObjectKey) → IsSome (objects key) → state_of key.id entries ≢ Some DeleteFinished
 
--- neither a copy nor a deletion is under way
+-- neither a copy nor a deletion is in progress
 abbrev pub AllRest : List Entry → Type 0
 AllRest entries = AllByRecursion (λ entry. is_under_way entry.state ≡ false) entries

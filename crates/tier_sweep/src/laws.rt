@@ -9,13 +9,14 @@ ghost use Rattle.remote_view.specs.Fold.{fold, entry_of, state_of};
 ghost use Rattle.tier_sweep.specs.Rest.{AreNamed, NoneIsLeft, AllRest};
 ghost use Rattle.tier_sweep.specs.Sweeping.{SweptTier, IsSwept, IsUnderSweep, kept_of, starts_of, ends_of, rested};
 
-/// What is swept rests: each object's id has an entry, no object stands of a deleted segment, and no copy or deletion is under way.
+/// What is swept rests: each object's id has an entry, no object exists of a deleted segment, and no copy or deletion
+/// is in progress.
 pub fn what_is_swept_rests()
     ensures { (old new : SweptTier) (n : ℕ) → AreNotes old.notes → IsSwept old new n
         → AreNamed new.objects (fold new.notes) × NoneIsLeft new.objects (fold new.notes) × AllRest (fold new.notes) }
 {}
 
-/// A sweep makes finished deletions of what is under way, and nothing else of the entries.
+/// A sweep makes finished deletions of what is in progress, and nothing else of the entries.
 pub fn a_sweep_ends_what_is_under_way()
     ensures { (old new : SweptTier) (n : ℕ) → AreNotes old.notes → IsSwept old new n → fold new.notes ≡ map rested (fold old.notes) }
 {}

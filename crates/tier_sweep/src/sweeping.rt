@@ -24,8 +24,8 @@ use std::alloc::Global;
 use tier_base::{Row, Trouble};
 use view_refresh::refresh;
 
-/// Takes away what copies and deletions left that were never finished, and counts the objects that it took. No command may be under
-/// way, and nobody else may write.
+/// Takes away what copies and deletions left that were never finished, and counts the objects that it took. No command
+/// may be in progress, and nobody else may write.
 pub fn sweep<S: Store, M: MetaLog>(
     alloc: Global,
     store: &mut S,
@@ -37,14 +37,15 @@ pub fn sweep<S: Store, M: MetaLog>(
     ensures err { IsTrue (S.content store.old).is_observable → IsTrue (M.content meta.old).is_observable
         → OnErr result (IsUnderSweep
         (tier_of (S.content store.old) (M.content meta.old)) (tier_of (S.content store.new) (M.content meta.new))) }
-    // What a power cut may leave afterwards, whatever the sweep answers; after one that was done no other notes than are told.
+    // What a power cut may leave afterwards, whatever the sweep answers; after one that was done no other events than
+    // are reported.
     ensures left { IsTrue (S.content store.old).is_observable → IsTrue (M.content meta.old).is_observable → LeavesUnder
         (S.content store.old) (M.content meta.old) (S.content store.new) (M.content meta.new) }
     ensures told { IsTrue (M.content meta.old).is_observable → OnOk result (notes.LeavesTold (M.content meta.new)) }
     ensures cause { HasCause result (S.control store.old).faults (S.control store.new).faults
         (M.control meta.old).faults (M.control meta.new).faults }
 
-    // Of each device whether it tells, and its calls: no fault is hidden.
+    // Of each device whether it reports, and its calls: no fault is hidden.
     ensures store_tells { (S.content store.new).is_observable ≡ (S.content store.old).is_observable }
     ensures meta_tells { (M.content meta.new).is_observable ≡ (M.content meta.old).is_observable }
     ensures store_calls { Lasts (S.control store.old) (S.control store.new) }
@@ -55,7 +56,7 @@ pub fn sweep<S: Store, M: MetaLog>(
         ListsFirst (λ old new. Deleted old swept new) (S.control store.old) (S.control store.new)) }
     ensures meta_went { OnOk result (AllWent (M.control meta.old) (M.control meta.new)) }
 
-    // Nothing is told before the store was listed.
+    // Nothing is reported before the store was listed.
     ensures listed { ListsFirst SomeDeleted (S.control store.old) (S.control store.new)
         ⊎ notes.Keeps (M.content meta.old) (M.content meta.new) }
 {
@@ -67,7 +68,7 @@ pub fn sweep<S: Store, M: MetaLog>(
     Ok(swept)
 }
 
-/// Reads what the metadata log tells.
+/// Reads what the metadata log reports.
 fn read_view<M: MetaLog>(alloc: Global, meta: &mut M) -> Result<View, SweepRefusal>
     ensures entries { IsTrue (M.content meta.old).is_observable
         → IfOk result (λ view. view.entries ≡ fold (M.content meta.old).notes) }

@@ -15,7 +15,7 @@ use segment_meta::{Entry, Note, bare_custom};
 use std::alloc::Global;
 use tier_base::{State, Trouble};
 
-/// Tells that deletions start, of the copies under way.
+/// Reports that deletions start, of the copies in progress.
 pub(crate) fn tell_starts<M: MetaLog>(
     alloc: Global,
     meta: &mut M,
@@ -36,7 +36,7 @@ pub(crate) fn tell_starts<M: MetaLog>(
     Ok(())
 }
 
-/// Tells that deletions are finished, of the copies and deletions under way.
+/// Reports that deletions are finished, of the copies and deletions in progress.
 pub(crate) fn tell_ends<M: MetaLog>(
     alloc: Global,
     meta: &mut M,
@@ -57,7 +57,7 @@ pub(crate) fn tell_ends<M: MetaLog>(
     Ok(())
 }
 
-/// Tells that an entry's segment has another state.
+/// Reports that an entry's segment has another state.
 fn tell<M: MetaLog>(
     alloc: Global,
     meta: &mut M,
@@ -92,14 +92,14 @@ fn note_of(alloc: Global, state: State, entry: &Entry) -> Note
     }
 }
 
-/// Whether a copy is under way.
+/// Whether a copy is in progress.
 fn is_copying(state: State) -> bool
     ensures { result ≡ is_copying state }
 {
     matches!(state, State::CopyStarted)
 }
 
-/// Whether a copy or a deletion is under way.
+/// Whether a copy or a deletion is in progress.
 fn is_under_way(state: State) -> bool
     ensures { result ≡ is_under_way state }
 {

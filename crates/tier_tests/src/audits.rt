@@ -56,7 +56,7 @@ static EPOCHS: &str = "0\n1\n0 0\n";
 
 static PARTS: [Part; 4] = [Part::Log, Part::Index, Part::TimeIndex, Part::Epochs];
 
-/// How an object stands.
+/// How an object exists.
 #[derive(Clone, Copy)]
 enum How {
     Right,
@@ -82,7 +82,7 @@ enum Came {
     Other,
 }
 
-/// One object that stands so, and what the audit comes to.
+/// One object that is so, and what the audit comes to.
 struct Row {
     part: Part,
     how: How,
@@ -164,7 +164,7 @@ static ROWS: [Row; 24] = [
         how: How::These(b"\0\0\0\0\0\0\x03\xe8\0\0\0\x01"),
         came: Came::Wrong(Part::TimeIndex, 0),
     },
-    // Another epoch, a line that can't stand, and epochs up to behind the copy's end.
+    // Another epoch, a line that can't exist, and epochs up to after the copy's end.
     Row {
         part: Part::Epochs,
         how: How::These(b"0\n1\n1 0\n"),
@@ -229,7 +229,7 @@ fn right(alloc: Global, part: Part) -> Result<Vec<u8>, AllocError> {
     }
 }
 
-/// The parts that aren't empty, one behind another.
+/// The parts that aren't empty, one after another.
 fn pack(alloc: Global) -> Result<Vec<u8>, AllocError> {
     let mut bytes = batches(alloc, 2)?;
     bytes.extend_from_slice(TIMES.as_slice())?;
@@ -267,7 +267,7 @@ fn takes(
     }
 }
 
-/// Whether an object stands so.
+/// Whether an object is so.
 fn stands(alloc: Global, store: &mut MemoryStore, part: Part, how: How) -> bool {
     match how {
         How::Right => takes(alloc, store, &key(part), right(alloc, part)),
@@ -278,7 +278,7 @@ fn stands(alloc: Global, store: &mut MemoryStore, part: Part, how: How) -> bool 
     }
 }
 
-/// Whether the copy's objects stand, one of them so.
+/// Whether the copy's objects exist, one of them so.
 fn holds(alloc: Global, store: &mut MemoryStore, one: Part, how: How) -> bool {
     for part in PARTS.iter() {
         let own = if *part == one { how } else { How::Right };
@@ -289,14 +289,14 @@ fn holds(alloc: Global, store: &mut MemoryStore, one: Part, how: How) -> bool {
     true
 }
 
-/// Whether the metadata log is told of the finished copy.
+/// Whether the metadata log has the event of the finished copy.
 fn told(alloc: Global, meta: &mut MemoryLog) -> bool {
     let started = tells(alloc, meta, STARTED.as_slice());
     let finished = tells(alloc, meta, FINISHED.as_slice());
     started & finished
 }
 
-/// Whether it is told of the finished copy as packed, with another first byte of its custom metadata.
+/// Whether it is reported of the finished copy as packed, with another first byte of its custom metadata.
 fn told_packed(alloc: Global, meta: &mut MemoryLog, version: u8) -> bool {
     let started = tells(alloc, meta, PACKED_STARTED.as_slice());
     let finished = tells_with(alloc, meta, PACKED_FINISHED.as_slice(), 0, CUSTOM, version);
@@ -325,7 +325,7 @@ fn audited(alloc: Global, store: &mut MemoryStore, meta: &mut MemoryLog) -> Came
     }
 }
 
-/// What the audit of a copy comes to of which one object stands so.
+/// What the audit of a copy comes to of which one object is so.
 fn row_of(alloc: Global, store: &mut MemoryStore, meta: &mut MemoryLog, row: &Row) -> Came {
     let stands = match row.part {
         Part::Pack => told_packed(alloc, meta, 1) && stands(alloc, store, row.part, row.how),
@@ -366,7 +366,7 @@ fn came_of(alloc: Global, row: &Row) -> Came {
     }
 }
 
-/// Whether an attempt's part stands.
+/// Whether an attempt's part exists.
 fn stands_of(alloc: Global, store: &mut MemoryStore, attempt: u64, part: Part) -> bool {
     let key = ObjectKey {
         partition: PartitionId(0),
@@ -388,7 +388,7 @@ fn beside(alloc: Global, store: &mut MemoryStore, meta: &mut MemoryLog) -> Came 
     }
 }
 
-/// What an audit comes to of a copy whose deletion is finished, and whose objects stand.
+/// What an audit comes to of a copy whose deletion is finished, and whose objects exist.
 fn left(alloc: Global, store: &mut MemoryStore, meta: &mut MemoryLog) -> Came {
     let stood = holds(alloc, store, Part::Log, How::Right) & told(alloc, meta);
     let stood = stood & tells_with(alloc, meta, FINISHED.as_slice(), 0, STATE, 2);
@@ -416,7 +416,7 @@ fn parted(alloc: Global, store: &mut MemoryStore, meta: &mut MemoryLog) -> Came 
 enum Tier {
     /// A whole copy beside an object of another attempt.
     Beside,
-    /// A copy whose deletion is finished, and whose objects stand.
+    /// A copy whose deletion is finished, and whose objects exist.
     Left,
     /// A whole copy whose entry has an epoch that no batch begins.
     Parted,

@@ -39,7 +39,7 @@ static STARTED: [u8; 75] = [
     0, 0, 0, 0, 0, 0, 0, 0, // its start
 ];
 
-/// Broker 1 tells at 6 milliseconds that it deletes the segment.
+/// Broker 1 reports at 6 milliseconds that it deletes the segment.
 static DELETED: [u8; 29] = [
     0, 1, // version, kind
     0, 0, 0, 0, 0, 0, 0, 1, 0, 0, 0, 0, 0, 0, 0, 0, // id
@@ -78,7 +78,7 @@ fn copying(alloc: Global, packed: bool) -> Result<Copying, AllocError> {
     }
 }
 
-/// A copy on trial, with what its turns change. A test knows nothing of it but what it is told.
+/// A copy under test, with what its turns change. A test knows nothing of it but what it is reported.
 #[derive(Drop)]
 struct Trial {
     alloc: Global,
@@ -93,7 +93,7 @@ impl Model for Trial {
 
     ghost Value = { ℕ };
 
-    // Nothing is told.
+    // Nothing is reported.
     ghost view = { λ t. 0 };
 }
 
@@ -109,7 +109,7 @@ enum Came {
     Other,
 }
 
-/// What a copy is answered, in short.
+/// What a copy returns, in short.
 fn answered(answer: &Answer) -> Came {
     match answer {
         Answer::CopiedSegment(_, base, last) => Came::Copied(*base, *last),
@@ -129,7 +129,7 @@ fn came_to(turn: &CopyTurn) -> Came {
     }
 }
 
-/// Whether a note is spelt with these bytes.
+/// Whether a metadata event is spelt with these bytes.
 fn is_spelt(alloc: Global, note: &Note, bytes: &[u8]) -> bool
     requires { IsNote note.now }
 {
@@ -139,7 +139,7 @@ fn is_spelt(alloc: Global, note: &Note, bytes: &[u8]) -> bool
     }
 }
 
-/// Whether the first of these notes is spelt with these bytes.
+/// Whether the first of these metadata events is spelt with these bytes.
 fn begin_so(alloc: Global, notes: &[Note], bytes: &[u8]) -> bool
     requires { AreNotes notes.now }
 {
@@ -191,7 +191,7 @@ impl Trial {
         (Came::Other, 10)
     }
 
-    /// Whether the object of a part that stands by itself has these bytes.
+    /// Whether the object of a part that is by itself has these bytes.
     fn holds(&mut self, part: Part, bytes: &[u8]) -> bool {
         match place(PARTITION, id(0), false, None, part) {
             Some(spot) => self.has(&spot.key, bytes),
@@ -215,7 +215,7 @@ impl Trial {
         }
     }
 
-    /// Whether the metadata log has the note of these bytes at a place.
+    /// Whether the metadata log has the metadata event of these bytes at a place.
     fn recorded(&mut self, at: u64, bytes: &[u8]) -> bool {
         match self.meta.read(at) {
             Ok(notes) => begin_so(self.alloc, notes.as_slice(), bytes),
@@ -223,13 +223,13 @@ impl Trial {
         }
     }
 
-    /// Tells the metadata log that another broker deletes the segment, or that its objects are gone.
+    /// Appends the event that another broker deletes the segment, or that its objects are gone.
     fn overtake(&mut self, gone: bool) -> bool {
         let state = if gone { 3 } else { 2 };
         tells_with(self.alloc, &mut self.meta, &DELETED, 0, STATE, state)
     }
 
-    /// Takes in what the metadata log has more.
+    /// Refreshes the view.
     fn look(&mut self) -> bool {
         refresh(&mut self.view, &mut self.meta).is_ok()
     }
@@ -256,7 +256,7 @@ static TIMES: [u8; 12] = [0, 0, 0, 0, 0, 0, 0x03, 0xe8, 0, 0, 0, 0];
 /// The line of its leader epochs.
 static EPOCHS: &str = "0\n1\n0 0\n";
 
-/// The parts that aren't empty, one behind another.
+/// The parts that aren't empty, one after another.
 fn pack(alloc: Global) -> Result<Vec<u8>, AllocError> {
     let mut bytes = batches(alloc, 2)?;
     bytes.extend_from_slice(TIMES.as_slice())?;
@@ -275,7 +275,7 @@ enum Step {
     Runs(CopyStep, CopyStep, Came, u32),
     /// The copy's entry in the view has a state.
     IsIn(State),
-    /// The metadata log has the two notes of a whole copy.
+    /// The metadata log has the two metadata events of a whole copy.
     HasNotes,
     /// It has those of a packed one.
     HasPackedNotes,
@@ -287,9 +287,9 @@ enum Step {
     HasPack,
     /// The store has so many.
     Counts(usize),
-    /// Another broker tells that it deletes the segment, or that its objects are gone.
+    /// Another broker reports that it deletes the segment, or that its objects are gone.
     Overtaken(bool),
-    /// The view takes in what there is.
+    /// The view takes what there is.
     Looks,
 }
 
@@ -318,14 +318,14 @@ impl Trial {
         }
     }
 
-    /// Whether the metadata log has the two notes of a whole copy that is packed.
+    /// Whether the metadata log has the two metadata events of a whole copy that is packed.
     fn has_packed_notes(&mut self) -> bool {
         let started = self.recorded(0, PACKED_STARTED.as_slice());
         let finished = self.recorded(1, PACKED_FINISHED.as_slice());
         started & finished
     }
 
-    /// Whether the metadata log has the two notes of a whole copy.
+    /// Whether the metadata log has the two metadata events of a whole copy.
     fn has_notes(&mut self) -> bool {
         let started = self.recorded(0, STARTED.as_slice());
         let finished = self.recorded(1, FINISHED.as_slice());
@@ -388,7 +388,7 @@ fn told(
     Ok(go_over(alloc, copying, store, meta, steps))
 }
 
-/// What is told of a copy that is packed or not.
+/// What is reported of a copy that is packed or not.
 static STORIES: [(&str, bool, &[Step]); 7] = [
     (
         "a copy is answered after its last turn, and stands between two notes",

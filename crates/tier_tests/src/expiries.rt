@@ -61,7 +61,7 @@ enum Came {
     Other,
 }
 
-/// What an expiry is answered, in short.
+/// What an expiry returns, in short.
 fn answered(answer: &Answer) -> Came {
     match answer {
         Answer::Deleted(_) => Came::Deleted,
@@ -79,7 +79,7 @@ fn came_to(turn: &ExpiryTurn) -> Came {
     }
 }
 
-/// Whether custom metadata is told as a segment wants it that is packed or not: empty, or none.
+/// Whether custom metadata is reported as a segment wants it that is packed or not: empty, or none.
 fn is_bare(custom: &Option<Blob>, packed: bool) -> bool {
     match custom {
         Some(custom) => packed && custom.is_empty(),
@@ -87,7 +87,7 @@ fn is_bare(custom: &Option<Blob>, packed: bool) -> bool {
     }
 }
 
-/// Whether a note tells of this state.
+/// Whether a metadata event reports this state.
 fn is_told(note: &Note, wanted: State, packed: bool) -> bool {
     match note {
         Note::Update {
@@ -101,7 +101,7 @@ fn is_told(note: &Note, wanted: State, packed: bool) -> bool {
     }
 }
 
-/// Whether notes tell of these states, one after another.
+/// Whether metadata events report these states, one after another.
 fn are_told(notes: &[Note], states: &[State], packed: bool) -> bool {
     for (note, state) in notes.iter().zip(states) {
         if !is_told(note, *state, packed) {
@@ -124,7 +124,7 @@ fn are_keys(found: &[ObjectKey], attempt: u64, packed: bool) -> bool {
     found.len() == count && keys.count() as usize == count
 }
 
-/// What an expiry changes. A test knows nothing of it but what it is told.
+/// What an expiry changes. A test knows nothing of it but what it is reported.
 #[derive(Drop)]
 struct Tiers {
     packed: bool,
@@ -137,7 +137,7 @@ impl Model for Tiers {
 
     ghost Value = { ℕ };
 
-    // Nothing is told.
+    // Nothing is reported.
     ghost view = { λ t. 0 };
 }
 
@@ -186,7 +186,7 @@ impl Tiers {
         (Came::Other, 10)
     }
 
-    /// Whether the metadata log tells of these states, one after another.
+    /// Whether the metadata log reports these states, one after another.
     fn tells(&mut self, states: &[State]) -> bool {
         match self.meta.read(0) {
             Ok(notes) => are_told(notes.as_slice(), states, self.packed),
@@ -204,8 +204,8 @@ impl Tiers {
 }
 
 impl Tiers {
-    /// What an expiry comes to, once the objects of two segments stand, and after how many turns; whether the
-    /// metadata log tells of both states, and the objects of the other segment are left alone.
+    /// What an expiry comes to, once the objects of two segments exist, and after how many turns; whether the metadata
+    /// log reports both states, and the objects of the other segment are left alone.
     fn expire(&mut self, alloc: Global) -> (Came, u32, bool, bool) {
         if !self.puts(alloc, 0) | !self.puts(alloc, 1) {
             return (Came::Other, 0, false, false);
@@ -302,7 +302,7 @@ fn pieces(alloc: Global, view: &View, known: u64) -> Option<Vec<Piece>> {
     }
 }
 
-/// Where the log start comes to, behind whose pieces stand 69 bytes.
+/// Where the log start offset comes to, after whose pieces are 69 bytes.
 fn raised_in(
     alloc: Global,
     view: &View,
@@ -319,7 +319,7 @@ fn raised_in(
     }
 }
 
-/// Where the log start comes to, of one whole copy.
+/// Where the log start offset comes to, of one whole copy.
 fn raised(alloc: Global, known: u64, now: i64, keep: Keep) -> Result<Option<u64>, AllocError> {
     let mut view = View::new(alloc);
     if !has_copy(alloc, &mut view) {
@@ -328,8 +328,8 @@ fn raised(alloc: Global, known: u64, now: i64, keep: Keep) -> Result<Option<u64>
     raised_in(alloc, &view, known, now, keep)
 }
 
-/// The known mark, the limits of age and size, and the time; where the log start comes to. Behind the copy stand 69
-/// bytes.
+/// The known high watermark, the limits of age and size, and the time; where the log start offset comes to. After the
+/// copy are 69 bytes.
 static RAISED: [(u64, i64, i64, i64, Option<u64>); 7] = [
     (3, 10, -1, 1010, None),
     (3, 10, -1, 1011, Some(2)),
@@ -355,8 +355,8 @@ fn a_log_start_rises_by_age_and_by_size(rt: HostRuntime) {
     }
 }
 
-/// Where the log start comes to by size, where nothing is remote, of a log that ends at 3 with an open segment of 69
-/// bytes.
+/// Where the log start offset comes to by size, where nothing is remote, of a log that ends at 3 with an open segment
+/// of 69 bytes.
 fn raised_behind(
     alloc: Global,
     closed: &[Growing],
@@ -395,7 +395,7 @@ fn raised_by_two(
     }
 }
 
-/// Whether segments are copied, the known high watermark and the limit of size; where the log start comes to.
+/// Whether segments are copied, the known high watermark and the limit of size; where the log start offset comes to.
 static UNCOPIED: [(bool, u64, i64, Option<u64>); 5] = [
     (false, 3, 69, Some(2)),
     (false, 3, 70, Some(1)),
@@ -412,7 +412,7 @@ fn closed_segments_go_where_none_is_copied(rt: HostRuntime) {
     }
 }
 
-/// The bytes behind the pieces of a log that ends there, of one whole copy, as far as it is known.
+/// The bytes after the pieces of a log that ends there, of one whole copy, as far as it is known.
 fn rest(alloc: Global, known: u64, size: u64, end: u64) -> Option<u64> {
     let mut view = View::new(alloc);
     if !has_copy(alloc, &mut view) {
@@ -424,7 +424,7 @@ fn rest(alloc: Global, known: u64, size: u64, end: u64) -> Option<u64> {
     }
 }
 
-/// The known mark, the bytes of the open segment, the log's end, and the rest.
+/// The known high watermark, the bytes of the open segment, the log's end, and the rest.
 static RESTS: [(u64, u64, u64, u64, &str); 3] = [
     (3, 69, 3, 69, "behind the piece"),
     (3, 69, 2, 0, "the log ends with the piece"),

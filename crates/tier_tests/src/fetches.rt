@@ -50,7 +50,7 @@ enum Came {
     Run(u64, Stop),
     MetaFault,
     StoreFault,
-    /// The metadata log is damaged behind so many notes.
+    /// The metadata log is damaged after so many metadata events.
     Lost(u64),
     /// A part of the copy is damaged at a place.
     Damaged(Part, u64),
@@ -83,7 +83,7 @@ fn damaged(found: &ObjectKey, at: u64) -> Came {
     }
 }
 
-/// What a fetch is answered, in short.
+/// What a fetch returns, in short.
 fn answered(answer: &Answer, held: &[u8]) -> Came {
     match answer {
         Answer::Run {
@@ -132,7 +132,7 @@ fn wanted(offset: u64, limit: u32, mark: u64) -> FetchRequest {
     }
 }
 
-/// What fetches change. A test knows nothing of it but what it is told.
+/// What fetches change. A test knows nothing of it but what it is reported.
 #[derive(Drop)]
 struct Trial<S: Store> {
     alloc: Global,
@@ -147,7 +147,7 @@ impl<S: Store> Model for Trial<S> {
 
     ghost Value = { ℕ };
 
-    // Nothing is told.
+    // Nothing is reported.
     ghost view = { λ t. 0 };
 }
 
@@ -178,7 +178,7 @@ impl<S: Store> Trial<S> {
         }
     }
 
-    /// Whether the metadata log is told of the copy.
+    /// Whether the metadata log has the event of the copy.
     fn tells(&mut self) -> bool {
         let started = tells(self.alloc, &mut self.meta, &STARTED);
         let finished = tells(self.alloc, &mut self.meta, &FINISHED);
@@ -299,7 +299,7 @@ fn told(
     Ok(go_over(alloc, cache, store, meta, segment.as_slice(), steps))
 }
 
-/// What is told of fetches, of which a read of the store or of the metadata log fails.
+/// What is reported of fetches, of which a read of the store or of the metadata log fails.
 static STORIES: [(
     &str,
     Option<(StoreCall, u32)>,
@@ -368,7 +368,7 @@ fn fetches_go_as_they_are_told(rt: HostRuntime) {
     }
 }
 
-/// What stands in the place of a segment's log.
+/// What replaces a segment's log.
 #[derive(Clone, Copy)]
 enum Log {
     Whole,
@@ -406,7 +406,7 @@ fn add(
     Ok(())
 }
 
-/// The objects of a store: each part that stands there.
+/// The objects of a store: each part that is there.
 fn objects(
     alloc: Global,
     log: Log,
@@ -424,7 +424,7 @@ fn objects(
 }
 
 impl Trial<DeafStore> {
-    /// What a fetch at offset 2 comes to, once the metadata log is told of the copy.
+    /// What a fetch at offset 2 comes to, once the metadata log has the event of the copy.
     fn comes(&mut self) -> Came {
         if !self.tells() {
             return Came::Other;
@@ -433,7 +433,7 @@ impl Trial<DeafStore> {
     }
 }
 
-/// What a fetch comes to over a store that tells nothing and has these objects.
+/// What a fetch comes to over a store that isn't observable and has these objects.
 fn damage_in(alloc: Global, cache: IndexCache, objects: Vec<(ObjectKey, Bytes)>) -> Came {
     let store = DeafStore::new(alloc, objects);
     let meta = MemoryLog::new(alloc, Vec::new(alloc));
@@ -441,14 +441,14 @@ fn damage_in(alloc: Global, cache: IndexCache, objects: Vec<(ObjectKey, Bytes)>)
     trial.comes()
 }
 
-/// What a fetch comes to, by what stands in the place of the log and of the index.
+/// What a fetch comes to, by what replaces the log and of the index.
 fn damage(alloc: Global, log: Log, index: Option<&[u8]>) -> Result<Came, AllocError> {
     let objects = objects(alloc, log, index)?;
     let cache = IndexCache::new(alloc, 64)?;
     Ok(damage_in(alloc, cache, objects))
 }
 
-/// The log and the index that stand there, and what is damaged, at which place.
+/// The log and the index that are there, and what is damaged, at which place.
 static DAMAGED: [(Log, Option<&[u8]>, Part, u64); 5] = [
     (Log::Gone, Some(&[0, 0, 0, 2, 0, 0, 0, 138]), Part::Log, 0),
     (
@@ -482,7 +482,7 @@ static SPARSE: [u8; 24] = [
     0, 0, 0, 6, 0, 0, 1, 0x9e, // 16, at 414
 ];
 
-/// The first byte that is needed, and the one behind the last.
+/// The first byte that is needed, and the one after the last.
 fn spanned(alloc: Global, offset: u64, limit: u32, end: u64) -> Option<(u64, u64)> {
     if offset >= end {
         return None;
@@ -497,7 +497,7 @@ fn spanned(alloc: Global, offset: u64, limit: u32, end: u64) -> Option<(u64, u64
     }
 }
 
-/// Offset, limit and the piece's end; the first byte that is needed, and the one behind the last, where one is known.
+/// Offset, limit and the piece's end; the first byte that is needed, and the one after the last, where one is known.
 static SPANS: [(u64, u32, u64, u64, u64); 8] = [
     (10, 100, 90, 0, 337),
     (12, 100, 90, 138, 475),

@@ -83,7 +83,7 @@ fn has_two_copies(alloc: Global, view: &mut View) -> bool {
     first & first_ends & second & second_ends
 }
 
-/// How many questions are answered so at first, of two copies and of a log's line.
+/// How many questions get this answer at first, of two copies and of a log's line.
 fn told(alloc: Global, line: &str, asks: &[Ask]) -> usize {
     let mut view = View::new(alloc);
     if !has_two_copies(alloc, &mut view) {
@@ -111,7 +111,7 @@ static STORIES: [(&str, &str, &[Ask<'static>]); 4] = [
             Ask::Finds(18, 17, Some((0, 12, 18))),
             Ask::Finds(18, 18, None),
             Ask::Covers(18, 0, 18),
-            // up to the copies' end, behind which nothing is copied
+            // up to the copies' end, after which nothing is copied
             Ask::Covers(25, 0, 20),
             Ask::Covers(25, 20, 20),
         ],

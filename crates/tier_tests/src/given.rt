@@ -91,7 +91,7 @@ pub(crate) static ONE_EPOCH: [u8; 75] = [
     0, 0, 0, 0, 0, 0, 0, 0, // its start
 ];
 
-/// Broker 2 tells a state at 7 milliseconds.
+/// Broker 2 reports a state at 7 milliseconds.
 pub(crate) static UPDATE: [u8; 29] = [
     0, 1, // version, kind
     0, 0, 0, 0, 0, 0, 0, 1, 0, 0, 0, 0, 0, 0, 0, 0, // id
@@ -100,7 +100,7 @@ pub(crate) static UPDATE: [u8; 29] = [
     1, // state
 ];
 
-/// Where an id's last byte stands in a note, an update's state, and the last byte of a copy's end.
+/// Where an id's last byte is in a metadata event, an update's state, and the last byte of a copy's end.
 const ATTEMPT: usize = 17;
 
 pub(crate) const STATE: usize = 28;
@@ -110,7 +110,7 @@ pub(crate) const END: usize = 35;
 /// Where the custom metadata begins in an update.
 pub(crate) const CUSTOM: usize = 31;
 
-/// The bytes of a note, of an attempt, with a byte of its own at a place.
+/// The bytes of a metadata event, of an attempt, with a byte of its own at a place.
 pub(crate) fn with(
     alloc: Global,
     note: &[u8],
@@ -145,7 +145,7 @@ pub(crate) fn key(part: Part) -> ObjectKey {
     }
 }
 
-/// Whether a view is fed a note of these bytes.
+/// Whether a view is fed a metadata event of these bytes.
 pub(crate) fn feeds(alloc: Global, view: &mut View, note: &[u8]) -> bool {
     match decode(alloc, note) {
         Ok(note) => view.feed(note).is_ok(),
@@ -153,7 +153,7 @@ pub(crate) fn feeds(alloc: Global, view: &mut View, note: &[u8]) -> bool {
     }
 }
 
-/// Whether a view is fed a note of an attempt, with a byte of its own at a place.
+/// Whether a view is fed a metadata event of an attempt, with a byte of its own at a place.
 pub(crate) fn takes(
     alloc: Global,
     view: &mut View,
@@ -168,7 +168,7 @@ pub(crate) fn takes(
     }
 }
 
-/// Whether a metadata log is told a note of these bytes.
+/// Whether a metadata log gets an event of these bytes.
 pub(crate) fn tells<M: MetaLog>(alloc: Global, meta: &mut M, note: &[u8]) -> bool {
     match decode(alloc, note) {
         Ok(note) => meta.append(&note).is_ok(),
@@ -176,7 +176,7 @@ pub(crate) fn tells<M: MetaLog>(alloc: Global, meta: &mut M, note: &[u8]) -> boo
     }
 }
 
-/// Whether a metadata log is told a note of an attempt, with a byte of its own at a place.
+/// Whether a metadata log gets an event of an attempt, with a byte of its own at a place.
 pub(crate) fn tells_with<M: MetaLog>(
     alloc: Global,
     meta: &mut M,

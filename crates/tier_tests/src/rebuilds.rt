@@ -31,7 +31,7 @@ static STARTED: [u8; 87] = [
     0, 0, 0, 0, 0, 0, 0, 2, // its start
 ];
 
-/// The leader's line, and the one that stands beside the copy.
+/// The leader's line, and the one that is beside the copy.
 static LINE: &str = "0\n2\n0 0\n1 2\n";
 
 /// What a rebuild came to, in short.
@@ -42,7 +42,7 @@ enum Came {
     StoreFault,
     /// The epochs are damaged at their beginning.
     DamagedEpochs,
-    /// The metadata log is damaged behind its second note.
+    /// The metadata log is damaged after its second metadata event.
     DamagedNotes,
     Other,
 }
@@ -64,7 +64,7 @@ fn damaged(place: Place, at: u64) -> Came {
     }
 }
 
-/// What a rebuild is answered, in short.
+/// What a rebuild returns, in short.
 fn answered(answer: &Answer) -> Came {
     match answer {
         Answer::StoreFault => Came::StoreFault,
@@ -130,7 +130,7 @@ fn objects(alloc: Global, epochs: Option<&str>) -> Result<Vec<(ObjectKey, Bytes)
     Ok(objects)
 }
 
-/// Reads the line up to an offset out of a store that tells nothing and holds these epochs, or none.
+/// Reads the line up to an offset out of a store that isn't observable and holds these epochs, or none.
 fn row(
     alloc: Global,
     offset: u64,
@@ -143,8 +143,8 @@ fn row(
     Ok(read(alloc, &mut store, offset, leaders, text))
 }
 
-/// The wanted offset, the leader's line, the epochs that stand there, and those that are read. Of the offset 4, of
-/// none below 0, and of epoch 3 there is no copy.
+/// The wanted offset, the leader's line, the epochs that are there, and those that are read. Of the offset 4, of none
+/// below 0, and of epoch 3 there is no copy.
 static ROWS: [(u64, &str, Option<&str>, &str, Came); 10] = [
     (
         4,

@@ -1,4 +1,4 @@
-//! Views that are refreshed from a metadata log in memory. Notes worked by hand.
+//! Views that are refreshed from a metadata log in memory. Metadata events worked by hand.
 
 use crate::given::{END, ONE_EPOCH, STATE, UPDATE, failing_log, id, tells_with};
 use meta_log::{MemoryLog, MetaCall, MetaLog};
@@ -10,13 +10,13 @@ use view_refresh::refresh;
 /// What happens to a view and its metadata log.
 #[derive(Clone, Copy)]
 enum Step {
-    /// The log is told that the copy starts, of offsets 0 to 14 of epoch 0.
+    /// The log gets the event that the copy starts, of offsets 0 to 14 of epoch 0.
     Starts,
-    /// It is told that the copy comes to a state.
+    /// It gets the event that the copy comes to a state.
     Comes(u8),
     /// The view is refreshed, which ends so.
     Looks(Result<(), Trouble>),
-    /// It has so many notes, and the copy's state.
+    /// It has so many metadata events, and the copy's state.
     Has(u64, Option<State>),
 }
 

@@ -1,4 +1,4 @@
-//! Audits and sweeps of all tiers of a yard in memory. Lines worked by hand.
+//! Audits and sweeps of all tiers of an environment in memory. Lines worked by hand.
 
 use crate::sweeps::{LEFT, Left, are_left};
 use device_yard::Yard;
@@ -7,7 +7,7 @@ use std::alloc::Global;
 use tier_base::{Part, PartitionId};
 use yard_audit::{RoundRefusal, audit_all, sweep_all};
 
-/// Whether all of it is left in the tier of a partition of a yard.
+/// Whether all of it is left in the tier of a partition of an environment.
 fn leaves<Y: Yard>(alloc: Global, yard: &mut Y, partition: u16, all: &[Left]) -> bool {
     let partition = PartitionId(partition);
     match (yard.store(partition), yard.meta(partition)) {
@@ -51,14 +51,14 @@ enum Tier {
     All,
 }
 
-/// A step of a yard, with what it should come to.
+/// A step of an environment, with what it should come to.
 #[derive(Clone, Copy)]
 enum Step {
     /// All of it is left in the tier of a partition.
     Leaves(u16, Tier),
     Audits(&'static str, Option<PartitionId>),
     Sweeps(&'static str),
-    /// An audit and a sweep fail, for the yard's partitions.
+    /// An audit and a sweep fail, for the environment's partitions.
     Fails,
 }
 
@@ -76,7 +76,7 @@ fn goes(alloc: Global, yard: &mut MemoryYard, step: Step) -> bool {
     }
 }
 
-/// How many steps go as they should at first, over a yard whose calls of these numbers fail.
+/// How many steps go as they should at first, over an environment whose calls of these numbers fail.
 fn went(alloc: Global, plan: &[u32], steps: &[Step]) -> Option<usize> {
     let plan = plan.to_vec(alloc).ok()?;
     let mut yard = MemoryYard::new(alloc, Vec::new(alloc), plan);
@@ -88,11 +88,11 @@ fn went(alloc: Global, plan: &[u32], steps: &[Step]) -> Option<usize> {
     Some(steps.len())
 }
 
-/// A copy started, and one of its objects stands.
+/// A copy started, and one of its objects exists.
 static STARTED: [Left; 2] = [Left::Started(1), Left::Stands(1, Part::Log)];
 
-/// Two tiers. What stands under the finished copy's keys are no parts of a segment, which an audit tells once nothing
-/// is to go.
+/// Two tiers. What is under the finished copy's keys are no parts of a segment, which an audit reports once nothing is
+/// to go.
 static ROUNDS: [Step; 9] = [
     Step::Audits("", None),
     Step::Sweeps(""),

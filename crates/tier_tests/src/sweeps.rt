@@ -19,7 +19,7 @@ pub(crate) enum Left {
     Packed(u8),
     /// It came to a state.
     Came(u8, u8),
-    /// An object of it stands.
+    /// An object of it exists.
     Stands(u64, Part),
 }
 
@@ -78,8 +78,8 @@ fn swept_twice(
     Ok((left, first, second))
 }
 
-/// A finished copy, a copy under way with two objects, a deletion under way with one, an object without an entry, and
-/// a packed copy under way with its object.
+/// A finished copy, a copy in progress with two objects, a deletion in progress with one, an object without an entry,
+/// and a packed copy in progress with its object.
 pub(crate) static LEFT: [Left; 16] = [
     Left::Started(0),
     Left::Came(0, 1),

@@ -9,7 +9,7 @@ use segment_meta::Entry;
 use std::alloc::Global;
 use tier_base::{BrokerId, State};
 
-/// A call of a view. Copies are told apart by their attempt.
+/// A call of a view. Copies are distinguished by their attempt.
 #[derive(Clone, Copy)]
 enum Call<'a> {
     /// A copy starts, of two epochs or of one, up to an end.
@@ -23,11 +23,11 @@ enum Call<'a> {
     HasState(u64, Option<State>),
     /// The treads of an epoch: from, to and whose.
     HasStair(u32, &'a [(u64, u64, u64)]),
-    /// How many notes were fed, and of which copies are the entries.
+    /// How many metadata events were fed, and of which copies are the entries.
     Tells(u64, &'a [u64]),
 }
 
-/// A view on trial.
+/// A view under test.
 #[derive(Drop)]
 struct Trial {
     alloc: Global,
@@ -44,7 +44,7 @@ fn is_of(entry: Option<&Entry>, attempt: Option<u64>) -> bool {
 }
 
 impl Trial {
-    /// Whether a note is fed, of an attempt, with a byte of its own at a place.
+    /// Whether a metadata event is fed, of an attempt, with a byte of its own at a place.
     fn takes(&mut self, note: &[u8], attempt: u8, at: usize, own: u8) -> bool {
         takes(self.alloc, &mut self.view, note, attempt, at, own)
     }
@@ -95,8 +95,8 @@ impl Trial {
     }
 }
 
-/// The number of the first call of a view that doesn't answer as it should, behind the notes of two copies that have
-/// finished: the first up to 19 with two epochs, the second up to 14.
+/// The number of the first call of a view that doesn't answer as it should, after the metadata events of two copies
+/// that have finished: the first up to 19 with two epochs, the second up to 14.
 fn first_wrong(alloc: Global, calls: &[Call]) -> Option<usize> {
     let view = View::new(alloc);
     let mut trial = Trial { alloc, view };

@@ -1,4 +1,4 @@
--- How an audit of a yard ends that was made, by what became of the write.
+-- How an audit of an environment ends that was made, by what became of the write.
 use Rattle.std.proofs.Common.{◌≡◌, sym, ap, refl, Option, Some, None, IsTrue}
 use Rattle.std.specs.Io.KnownBytes.{Appends}
 use Rattle.tier_base.specs.Counts.{Rose}

@@ -1,4 +1,4 @@
--- What a run over a yard comes to where a registry or the yard refuses it.
+-- What a run over an environment comes to where a registry or the environment refuses it.
 use Rattle.std.proofs.Common.{◌≡◌, ◌≢◌, ◌⊎◌, ◌∙◌, inl, inr, ⊎_elim, sym, subst, refl, ℕ, List, [], ◌++◌, codes, decimal, Option, Some, None, Ok}
 use Rattle.std.specs.Prelude.{IsSome}
 use Rattle.std.specs.declared.result.Result.{Result}
@@ -45,7 +45,8 @@ module _ {D S M : Type 0} (files : D → disk.Content) (objects : S → store.Co
   registry_on (Some d) None both has = absurd both
   registry_on (Some d) (Some e) both has = subst IsSome (sym (both.files Registry)) has
 
-  -- where nothing is named, no partition has an object or a note and no registry, nor has it once the yard was asked
+  -- where nothing is named, no partition has an object or a metadata event and no registry, nor has it once the
+  -- environment was asked
   pub still_not_bare : (held found : YardContent D S M) → Same files objects notes held found → IsFirst (IsName files objects notes held) None
       → (p : PartitionId) → IsBare files objects notes found p → ⊥
   still_not_bare held found same none p bare =
@@ -72,7 +73,7 @@ module _ {D S M : Type 0} (disk : DiskGhosts D) (store : StoreGhosts S) (meta : 
       record { asked = asked; names = names; found = found; same = same; refused = refused }
   stops_so brokers held found held' control asked control' refusal.NoMemory names same refused = tt
 
-  -- a script with a reading that stops has no trace
+  -- a valid script that stops has no trace
   pub stopped_has_none : (script : Script) (reading : Result Script (ℕ × Why)) (held held' : YardContent D S M) (control control' : Control)
       (status : Status) → reading ≡ Ok script → StopsOver disk store meta script.config.brokers held held' control control' status
       → HasNoTrace disk store meta reading held held' control control' status

@@ -1,4 +1,4 @@
--- What a script without a reading comes to.
+-- What an invalid script comes to.
 use Rattle.std.proofs.Common.{◌≡◌, ◌∙◌, sym, ap, subst, refl, ℕ, ◌<◌, ◌≤◌, List, length, Some, None, Err, Option, ◌++◌, append-nil, arith}
 use Rattle.std.specs.Prelude.{IsOk}
 use Rattle.tier_base.specs.Counts.{counted}
@@ -33,7 +33,7 @@ not_over : (bytes b : List ℕ) → b ≡ bytes → length bytes ≤ script_limi
 not_over bytes b same within more = let lengths : length b ≡ length bytes = ap length same in omega (arith, lengths, within, more)
 
 module _ {R W : Type 0} (Traces : List ℕ → List ℕ → Type 0) (source : SourceGhosts R) (sink : SinkGhosts W) where
-  -- the source was read whole, and what it gave has no reading
+  -- the source was read whole, and what it gave is invalid
   pub refuses : (script script' : R) (out : W) (bytes : List ℕ) (line : ℕ) (why : Why) → ReadsWhole (source.left script) (source.left script') bytes
       → source.given script' ≡ counted (source.given script) (length bytes) → length bytes ≤ script_limit → script_in bytes ≡ Err (line, why)
       → Simulates Traces source sink script script' out out (BadScript line why)

@@ -54,7 +54,7 @@ told_snoc config (p ∷ parts) [] told part run one are is = elim are [ ]
 told_snoc config (p ∷ parts) (r ∷ runs) [] part run one are is = elim are [ ]
 
 module _ {D S M : Type 0} (disk : DiskGhosts D) (store : StoreGhosts S) (meta : MetaGhosts M) where
-  -- one partition more was run, and told of
+  -- one partition more was run, and reported of
   pub tells_on : (config : Config) (parts before after : List PartScript) (part : PartScript) (told new : List Told) (one : Told) → before ≡ part ∷ after
       → IsToldSoFar disk store meta config parts before told → IsToldRun disk store meta config part one → new ≡ told ++ one ∷ [] → IsToldSoFar disk store meta config parts after new
   tells_on config parts before after part told new one steps so t added =

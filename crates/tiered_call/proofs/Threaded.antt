@@ -26,7 +26,7 @@ seam : {A : Type 0} (before : List A) (x : A) (after : List A) → slice_get (be
 seam [] x after = refl
 seam (y ∷ before) x after = seam before x after
 
--- the partition behind so many is the one at that place
+-- the partition after so many is the one at that place
 pub part_behind : (bytes copy : List ℕ) (script : Script) (before after rest : List PartScript) (part : PartScript) (place : ℕ) → script_in bytes ≡ Ok script → IsFit script → copy ≡ bytes
     → rest ≡ part ∷ after → before ++ rest ≡ script.parts → place ≡ length before → IsPart copy place script.config part
 part_behind bytes copy script before after rest part place reads fit same next all here = record {
@@ -40,7 +40,7 @@ part_behind bytes copy script before after rest part place reads fit same next a
       (subst (λ (n : ℕ). slice_get (before ++ part ∷ after) n ≡ Some part) (sym here) (seam before part after));
 }
 
--- one partition more stands before
+-- one partition more precedes
 pub all_behind : (before after rest parts : List PartScript) (part : PartScript) → rest ≡ part ∷ after → before ++ rest ≡ parts → (before ++ part ∷ []) ++ after ≡ parts
 all_behind before after rest parts part next all = append_assoc before (part ∷ []) after ∙ (ap (λ (k : List PartScript). before ++ k) (sym next) ∙ all)
 

@@ -60,7 +60,7 @@ module _ {R W : Type 0} (Traces : List ℕ → List ℕ → Type 0) (source : So
     -- every command of the script is answered once and in order, as the plain log allows, and all of that is written
     pub trace : status ≡ Ok
         → WritesTrace Traces (source.left script) (source.left script') (sink.written out) (sink.written out')
-    -- no other form's status comes, and each has its cause; want of memory alone is free
+    -- no other form's status comes, and each has its cause; out of memory alone is free
     pub own : IsOfSim status
     pub read_fault : status ≡ ReadFault → Rose (source.faults script) (source.faults script')
     pub long : status ≡ TooLong → source.given script' ≡ counted (source.given script) (script_limit + 1)
@@ -70,7 +70,7 @@ module _ {R W : Type 0} (Traces : List ℕ → List ℕ → Type 0) (source : So
     pub write_fault : status ≡ WriteFault → Rose (sink.faults out) (sink.faults out')
     pub front : status ≡ WriteFault
         → WritesFront Traces (source.left script) (source.left script') (sink.written out) (sink.written out')
-    -- where nothing fails, a script with a reading is run, unless memory runs out
+    -- where nothing fails, a valid script is run, unless memory runs out
     pub complete : ¬ Rose (source.faults script) (source.faults script') → ¬ Rose (sink.faults out) (sink.faults out')
         → (bytes : List ℕ) → source.left script ≡ Some bytes → length bytes ≤ script_limit → IsOk (script_in bytes)
         → IsDoneOrNoMemory status
@@ -87,14 +87,14 @@ module _ {R W : Type 0} (Traces : List ℕ → List ℕ → Type 0) (source : So
 module _ {D S M W : Type 0} (disk : DiskGhosts D) (store : StoreGhosts S) (meta : MetaGhosts M) (sink : SinkGhosts W) where
   -- `gen` of a number, to a sink
   pub record Generates (number : ℕ) (out out' : W) (status : Status) : Type 0 where
-    -- what is written tells of runs of the plain log, one for each partition of the number's script
+    -- what is written says of runs of the plain log, one for each partition of the number's script
     pub summary : status ≡ Ok → WritesSummary disk store meta (script_of number) (sink.written out) (sink.written out')
-    -- no other form's status comes, and each has its cause; want of memory alone is free
+    -- no other form's status comes, and each has its cause; out of memory alone is free
     pub own : IsOfGen status
     pub bad : (line : ℕ) (why : Why) → status ≡ BadScript line why → script_in (script_of number) ≡ Err (line, why)
     pub write_fault : status ≡ WriteFault → Rose (sink.faults out) (sink.faults out')
     pub front : status ≡ WriteFault → WritesSummaryFront disk store meta (script_of number) (sink.written out) (sink.written out')
-    -- where nothing fails, a script with a reading is run, unless memory runs out
+    -- where nothing fails, a valid script is run, unless memory runs out
     pub complete : ¬ Rose (sink.faults out) (sink.faults out') → IsOk (script_in (script_of number)) → IsDoneOrNoMemory status
     -- and one without is refused, at its first line that has none and for that line's first cause
     pub refused : (line : ℕ) (why : Why) → script_in (script_of number) ≡ Err (line, why) → IsRefusedOrNoMemory line why status

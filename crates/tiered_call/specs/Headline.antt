@@ -1,6 +1,7 @@
--- The headline: whatever the script, the written trace is a run of the plain log, and a load's summary tells of such runs.
+-- The headline: whatever the script, the written trace is a run of the plain log, and a load's summary reports such
+-- runs.
 --
--- The brokers' logs stand on disks, and what they copy in a remote store, with notes in a metadata log.
+-- The brokers' logs are on disks, and what they copy in a remote store, with metadata events in a metadata log.
 use Rattle.std.specs.Prelude.{◌≡◌, ℕ, List, [], ◌∷◌, Some, Ok, Err, IsOk}
 use Rattle.std.specs.declared.option.Option.{Option}
 use Rattle.std.specs.Io.KnownBytes.{Appends}
@@ -38,7 +39,7 @@ module _ {D S M : Type 0} (disk : DiskGhosts D) (store : StoreGhosts S) (meta : 
   AreRunsOf config [] (run ∷ runs) = ⊥
   AreRunsOf config (part ∷ parts) [] = ⊥
 
-  -- the script has a reading, and the text is the trace of a run of each of its partitions
+  -- the script is valid, and the text is the trace of a run of each of its partitions
   pub record IsTrace (bytes text : List ℕ) : Type 0 where
     pub script : Script
     pub read : script_in bytes ≡ Ok script
@@ -53,7 +54,7 @@ module _ {D S M : Type 0} (disk : DiskGhosts D) (store : StoreGhosts S) (meta : 
   AreRunsByThreads config [] (run ∷ runs) = ⊥
   AreRunsByThreads config (part ∷ parts) [] = ⊥
 
-  -- the script has a reading, and the text is the trace of such a run of each of its partitions
+  -- the script is valid, and the text is the trace of such a run of each of its partitions
   pub record IsTraceByThreads (bytes text : List ℕ) : Type 0 where
     pub script : Script
     pub read : script_in bytes ≡ Ok script
@@ -61,7 +62,7 @@ module _ {D S M : Type 0} (disk : DiskGhosts D) (store : StoreGhosts S) (meta : 
     pub are : AreRunsByThreads script.config script.parts runs
     pub spelled : text ≡ trace_of runs
 
-  -- the script has a reading, and the text sums up a run of each of its partitions
+  -- the script is valid, and the text sums up a run of each of its partitions
   pub record IsSummary (bytes text : List ℕ) : Type 0 where
     pub script : Script
     pub read : script_in bytes ≡ Ok script
@@ -101,13 +102,13 @@ module _ (Traces : List ℕ → List ℕ → Type 0) where
     pub trace : Traces script text
     pub written : AppendsFront written_old written_new text
 
--- the source was read to its end, and what it gave has a reading
+-- the source was read to its end, and what it gave is valid
 pub record ReadsGood (left_old left_new : Option (List ℕ)) : Type 0 where
   pub script : List ℕ
   pub read : ReadsWhole left_old left_new script
   pub has : IsOk (script_in script)
 
--- the source was read to its end, this line of what it gave is the first without a reading, and this is why
+-- the source was read to its end, this line of what it gave is the first that is invalid, and this is why
 pub record ReadsBad (left_old left_new : Option (List ℕ)) (line : ℕ) (why : Why) : Type 0 where
   pub script : List ℕ
   pub read : ReadsWhole left_old left_new script

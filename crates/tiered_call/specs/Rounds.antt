@@ -1,7 +1,8 @@
--- What `audit` and `sweep` over a yard write, and how they may end.
+-- What `audit` and `sweep` over an environment write, and how they may end.
 --
--- They read no script. The yard is asked for its partitions, and their stores and metadata logs are handed out, one partition after
--- another, and are back before the first byte is written. Nothing may be under way in the tiers, and nobody else may write there.
+-- They read no script. The environment is asked for its partitions, and their stores and metadata logs are provided,
+-- one partition after another, and are back before the first byte is written. Nothing may be in progress in the tiers,
+-- and nobody else may write there.
 use Rattle.std.specs.Prelude.{◌≡◌, ℕ, List, Option, Some, None, IsTrue}
 use Rattle.std.specs.Io.KnownBytes.{Appends}
 use Rattle.tier_base.specs.Counts.{Rose}
@@ -90,16 +91,16 @@ IsRefused ending.NoMemory = Unit {0}
 IsRefused other = ⊥
 
 module _ {D S M W : Type 0} (disk : DiskGhosts D) (store : StoreGhosts S) (meta : MetaGhosts M) (sink : SinkGhosts W) where
-  -- `audit`, over a yard to a sink
+  -- `audit`, over an environment to a sink
   pub record AuditsYard (held held' : YardContent D S M) (control control' : Control) (out out' : W) (status : Status) : Type 0 where
-    -- what was found is written, and the status tells of the first tier that isn't sound
+    -- what was found is written, and the status reports the first tier that isn't sound
     pub audit : IsWritten status → WritesAudit disk store meta held (sink.written out) (sink.written out') status
     -- nothing of the tiers and of the disks has changed
     pub rest : IsTrue held.is_observable → AllRest disk.content store.content meta.content held held'
     pub is_observable : held'.is_observable ≡ held.is_observable
-    -- each device that was handed out is back
+    -- each device that was provided is back
     pub back : control'.out ≡ control.out
-    -- no other form's status comes, and each has its cause; want of memory alone is free
+    -- no other form's status comes, and each has its cause; out of memory alone is free
     pub own : IsOfAudit status
     pub yard_fault : status ≡ ending.YardFault → Rose control.faults control'.faults
     pub write_fault : status ≡ ending.WriteFault → Rose (sink.faults out) (sink.faults out')
@@ -109,7 +110,7 @@ module _ {D S M W : Type 0} (disk : DiskGhosts D) (store : StoreGhosts S) (meta 
     -- nothing else touches the sink
     pub unwritten : IsRefused status → out' ≡ out
 
-  -- `sweep`, over a yard to a sink
+  -- `sweep`, over an environment to a sink
   pub record SweepsYard (held held' : YardContent D S M) (control control' : Control) (out out' : W) (status : Status) : Type 0 where
     -- each tier was swept, and how much went is written
     pub sweep : status ≡ ending.Ok → WritesSweep disk store meta held held' (sink.written out) (sink.written out')
@@ -117,9 +118,9 @@ module _ {D S M W : Type 0} (disk : DiskGhosts D) (store : StoreGhosts S) (meta 
     pub under : IsTrue held.is_observable → (p : PartitionId) → IsUnderSweepIn store.content meta.content held held' p
     pub disks : IsTrue held.is_observable → DisksRest disk.content held held'
     pub is_observable : held'.is_observable ≡ held.is_observable
-    -- each device that was handed out is back
+    -- each device that was provided is back
     pub back : control'.out ≡ control.out
-    -- no other form's status comes, and each has its cause; want of memory alone is free
+    -- no other form's status comes, and each has its cause; out of memory alone is free
     pub own : IsOfSweep status
     pub yard_fault : status ≡ ending.YardFault → Rose control.faults control'.faults
     pub write_fault : status ≡ ending.WriteFault → Rose (sink.faults out) (sink.faults out')

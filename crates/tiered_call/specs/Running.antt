@@ -13,7 +13,7 @@ use Rattle.run_memory.specs.Run.{IsRunOf}
 use Rattle.tiered_call.specs.Headline.{AreRunsOf}
 
 module _ {D S M : Type 0} (disk : DiskGhosts D) (store : StoreGhosts S) (meta : MetaGhosts M) where
-  -- the text of a run of the partition stands behind what stood there
+  -- the text of a run of the partition follows what was there
   pub record AddsRun (config : Config) (part : PartScript) (text new : List ℕ) : Type 0 where
     pub run : ℕ × List JournalEntry
     pub is : IsRunOf disk store meta config part run

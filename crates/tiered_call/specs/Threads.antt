@@ -11,7 +11,7 @@ use Rattle.run_threaded.specs.Traced.{IsThreadedRun}
 use Rattle.tiered_call.specs.Headline.{AreRunsByThreads}
 
 module _ {D S M : Type 0} (disk : DiskGhosts D) (store : StoreGhosts S) (meta : MetaGhosts M) where
-  -- the text of a run of the partition at this place of the script stands behind what stood there
+  -- the text of a run of the partition at this place of the script follows what was there
   pub record AddsThreadedRun (script : List ℕ) (place : ℕ) (text new : List ℕ) : Type 0 where
     pub run : ℕ × List JournalEntry
     pub is : IsThreadedRun disk store meta script place run

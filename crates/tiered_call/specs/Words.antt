@@ -1,4 +1,4 @@
--- The forms of the words behind the program's name.
+-- The forms of the words after the program's name.
 --
 --   sim             reads a script, runs it, and writes the trace
 --   sim --threads   the same, with a thread for each actor

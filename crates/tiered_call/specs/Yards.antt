@@ -1,6 +1,7 @@
--- What a run over a yard writes, and how it may end.
+-- What a run over an environment writes, and how it may end.
 --
--- The yard is asked for its first name before the first device is handed out: a run begins only where there is none.
+-- The environment is asked for its first name before the first device is provided: a run begins only where there is
+-- none.
 use Rattle.std.specs.Prelude.{◌≡◌, ◌≢◌, ℕ, ◌+◌, ◌<◌, ◌≤◌, List, length, Option, Some, None, Ok, Err, IsOk, IsTrue}
 use Rattle.std.specs.declared.result.Result.{Result}
 use Rattle.std.specs.Io.KnownBytes.{Appends}
@@ -26,7 +27,7 @@ use Rattle.tiered_call.specs.declared.status.Status.TheVariants as ending
 use Rattle.tiered_call.specs.Headline.{ReadsGood, ReadsBad}
 use Rattle.tiered_call.specs.Endings.{script_limit, IsOfSim, IsRefusedOrNoMemory, IsTooLongOrNoMemory}
 
--- a status whose cause is the yard, or a registry in it
+-- a status whose cause is the environment, or a registry in it
 abbrev pub IsOfYard : Status → Type 0
 IsOfYard ending.YardFault = Unit {0}
 IsOfYard (ending.NotEmpty name) = Unit {0}
@@ -34,7 +35,7 @@ IsOfYard (ending.Mismatch partition kept asked) = Unit {0}
 IsOfYard (ending.BadRegistry partition at) = Unit {0}
 IsOfYard other = ⊥
 
--- a status of `run`: the yard's, or one of `sim`
+-- a status of `run`: the environment's, or one of `sim`
 abbrev pub IsOfRun : Status → Type 0
 IsOfRun ending.YardFault = Unit {0}
 IsOfRun (ending.NotEmpty name) = Unit {0}
@@ -42,7 +43,7 @@ IsOfRun (ending.Mismatch partition kept asked) = Unit {0}
 IsOfRun (ending.BadRegistry partition at) = Unit {0}
 IsOfRun other = IsOfSim other
 
--- all was done, or the yard has this name, or a registry refuses the run, or there was no memory
+-- all was done, or the environment has this name, or a registry refuses the run, or there was no memory
 abbrev pub IsDoneOrNamed : Option (List ℕ) → Status → Type 0
 IsDoneOrNamed named ending.Ok = Unit {0}
 IsDoneOrNamed named ending.NoMemory = Unit {0}
@@ -51,14 +52,14 @@ IsDoneOrNamed named (ending.Mismatch partition kept asked) = Unit {0}
 IsDoneOrNamed named (ending.BadRegistry partition at) = Unit {0}
 IsDoneOrNamed named other = ⊥
 
--- the status of a run over a yard that was refused so
+-- the status of a run over an environment that was refused so
 abbrev pub ended : YardRefusal → Status
 ended refusal.Fault = ending.YardFault
 ended (refusal.Mismatch partition kept asked) = ending.Mismatch partition kept asked
 ended (refusal.BadRegistry partition at) = ending.BadRegistry partition at
 ended refusal.NoMemory = ending.NoMemory
 
--- the script wasn't read to its end, or has no reading
+-- the script wasn't read to its end, or is invalid
 abbrev pub IsOfScript : Status → Type 0
 IsOfScript ending.ReadFault = Unit {0}
 IsOfScript ending.TooLong = Unit {0}
@@ -66,13 +67,15 @@ IsOfScript (ending.BadScript line why) = Unit {0}
 IsOfScript other = ⊥
 
 module _ {D S M : Type 0} (disk : DiskGhosts D) (store : StoreGhosts S) (meta : MetaGhosts M) where
-  -- the yard answered this name and handed nothing out, what it holds is the same, and over one that tells the name is its first
+  -- the environment answered this name and provided nothing, what it holds is the same, and over one that reports the
+  -- name is its first
   pub record AnswersName (name : List ℕ) (held held' : YardContent D S M) (control control' : Control) : Type 0 where
     pub names : Names (Ok (Some name)) control control'
     pub same : Same disk.content store.content meta.content held held'
     pub first : IsTrue held.is_observable → IsFirst (IsName disk.content store.content meta.content held) (Some name)
 
-  -- the yard answered no name and holds what it held, and then a partition's registry refused a run with so many brokers
+  -- the environment answered no name and holds what it held, and then a partition's registry refused a run with so many
+  -- brokers
   pub record RegistryRefuses (brokers : ℕ) (why : YardRefusal) (held held' : YardContent D S M) (control control' : Control) : Type 0 where
     pub asked : Control
     pub names : Names (Ok None) control asked
@@ -80,8 +83,8 @@ module _ {D S M : Type 0} (disk : DiskGhosts D) (store : StoreGhosts S) (meta : 
     pub same : Same disk.content store.content meta.content held found
     pub refused : IsRefusedSo disk.content store.content meta.content brokers found held' asked control' why
 
-  -- why a script for so many brokers isn't run to its end: the yard has a name, or it failed, or a registry refuses it, or there was
-  -- no memory
+  -- why a script for so many brokers isn't run to its end: the environment has a name, or it failed, or a registry
+  -- refuses it, or there was no memory
   abbrev pub StopsOver : ℕ → YardContent D S M → YardContent D S M → Control → Control → Status → Type 0
   StopsOver brokers held held' control control' (ending.NotEmpty name) = AnswersName name held held' control control'
   StopsOver brokers held held' control control' ending.YardFault = Rose control.faults control'.faults
@@ -106,8 +109,8 @@ module _ {D S M : Type 0} (disk : DiskGhosts D) (store : StoreGhosts S) (meta : 
   HasNoTrace reading held held' control control' ending.NoMemory = Unit {0}
   HasNoTrace reading held held' control control' other = ReadsAndStops reading held held' control control' other
 
-  -- the yard names nothing and holds what it held, and then the text is the trace of a run of each partition of the script over
-  -- the yard's devices, which are all back
+  -- the environment names nothing and holds what it held, and then the text is the trace of a run of each partition of
+  -- the script over the environment's devices, which are all back
   pub record RunsOver (script : Script) (text : List ℕ) (held held' : YardContent D S M) (control control' : Control) : Type 0 where
     pub asked : Control
     pub names : Names (Ok None) control asked
@@ -158,15 +161,15 @@ module _ {D S M R W : Type 0} (disk : DiskGhosts D) (store : StoreGhosts S) (met
   pub record RunsInYard (script script' : R) (held held' : YardContent D S M) (control control' : Control)
       (out out' : W)
       (status : Status) : Type 0 where
-    -- every command of the script is answered once and in order, over a yard that tells as the plain log allows, and all of
-    -- that is written
+    -- every command of the script is answered once and in order, over an observable environment as the plain log
+    -- allows, and all of that is written
     pub trace : status ≡ ending.Ok
         → WritesTraceOver disk store meta (source.left script) (source.left script') held held' control control'
         (sink.written out) (sink.written out')
-    -- each device that was handed out is back
+    -- each device that was provided is back
     pub back : control'.out ≡ control.out
     pub is_observable : held'.is_observable ≡ held.is_observable
-    -- no other form's status comes, and each has its cause; want of memory alone is free
+    -- no other form's status comes, and each has its cause; out of memory alone is free
     pub own : IsOfRun status
     pub read_fault : status ≡ ending.ReadFault → Rose (source.faults script) (source.faults script')
     pub long : status ≡ ending.TooLong → source.given script' ≡ counted (source.given script) (script_limit + 1)
@@ -187,7 +190,8 @@ module _ {D S M R W : Type 0} (disk : DiskGhosts D) (store : StoreGhosts S) (met
     pub front : status ≡ ending.WriteFault
         → WritesFrontOver disk store meta (source.left script) (source.left script') held held' control control'
         (sink.written out) (sink.written out')
-    -- where nothing fails, a script with a reading is run, unless the yard has a name, a registry refuses it or memory runs out
+    -- where nothing fails, a valid script is run, unless the environment has a name, a registry refuses it or memory
+    -- runs out
     pub complete : ¬ Rose (source.faults script) (source.faults script') → ¬ Rose control.faults control'.faults
         → ¬ Rose (sink.faults out) (sink.faults out') → (bytes : List ℕ) → source.left script ≡ Some bytes
         → length bytes ≤ script_limit → IsOk (script_in bytes) → IsDoneOrNamed control'.named status
@@ -198,7 +202,7 @@ module _ {D S M R W : Type 0} (disk : DiskGhosts D) (store : StoreGhosts S) (met
     -- and one of more bytes is too long
     pub over : ¬ Rose (source.faults script) (source.faults script')
         → (bytes : List ℕ) → source.left script ≡ Some bytes → script_limit < length bytes → IsTooLongOrNoMemory status
-    -- the yard's statuses come only behind a script that has a reading
+    -- the environment's statuses come only after a script that is valid
     pub asked : IsOfYard status → ReadsGood (source.left script) (source.left script')
     -- nothing else touches the sink
     pub unwritten : status ≢ ending.Ok → status ≢ ending.WriteFault → out' ≡ out

@@ -33,7 +33,7 @@ use trace_text::print;
 /// A partition's run over devices in memory.
 type Run = Traced<MemoryDisk, MemoryStore, MemoryLog>;
 
-/// Makes the fresh world of the partition that stands at this place of a script.
+/// Makes the fresh world of the partition that is at this place of a script.
 fn begun(
     alloc: Global,
     script: Bytes,
@@ -67,7 +67,7 @@ fn all_begun(alloc: Global, bytes: &Bytes, script: Script) -> Result<Vec<Run>, A
     Ok(runs)
 }
 
-/// Ends a run, and puts its trace behind the text.
+/// Ends a run, and puts its trace after the text.
 fn add_run(alloc: Global, mut run: Run, text: Vec<u8>) -> Result<Vec<u8>, AllocError>
     ensures { IfOk result (λ new. AddsThreadedRun ⟦<MemoryDisk as Disk>⟧ ⟦<MemoryStore as Store>⟧ ⟦<MemoryLog as MetaLog>⟧
         run.script run.place text.items new.items) }
@@ -77,7 +77,7 @@ fn add_run(alloc: Global, mut run: Run, text: Vec<u8>) -> Result<Vec<u8>, AllocE
     joined(text, printed)
 }
 
-/// Ends the runs, and answers the trace, where each is of the script's partition at its place.
+/// Ends the runs, and returns the trace, where each is of the script's partition at its place.
 fn text_of(alloc: Global, bytes: &Bytes, runs: Vec<Run>) -> Result<Option<Vec<u8>>, AllocError>
     ensures { (script : ScriptOf) → script_in bytes.now ≡ Ok script → vec_len runs ≡ length script.parts
         → IfOk result (λ text. IfSome text (λ t. IsTextByThreads ⟦<MemoryDisk as Disk>⟧ ⟦<MemoryStore as Store>⟧ ⟦<MemoryLog as MetaLog>⟧
@@ -95,7 +95,7 @@ fn text_of(alloc: Global, bytes: &Bytes, runs: Vec<Run>) -> Result<Option<Vec<u8
     Ok(Some(text))
 }
 
-/// Runs the partitions of a script by threads, and answers the trace, if what came back is the script's.
+/// Runs the partitions of a script by threads, and returns the trace, if what came back is the script's.
 fn run_parts<H: AllocGlobal + Threads + Wait + Sync, G: Gate + Sync>(
     rt: &H,
     gate: &G,
@@ -112,7 +112,7 @@ fn run_parts<H: AllocGlobal + Threads + Wait + Sync, G: Gate + Sync>(
     text_of(rt.alloc(), bytes, runs)
 }
 
-/// Reads a script, runs it by threads, and answers the trace.
+/// Reads a script, runs it by threads, and returns the trace.
 fn trace_by_threads<H: AllocGlobal + Threads + Wait + Sync, G: Gate + Sync>(
     rt: &H,
     gate: &G,

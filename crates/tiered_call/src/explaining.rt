@@ -1,4 +1,4 @@
-//! What follows a status's line on standard error: an example of a call behind that on usage, and the explanation of a
+//! What follows a status's line on standard error: an example of a call after that on usage, and the explanation of a
 //! refused line.
 //!
 //! A refused line is explained to a person alone, on a terminal: what else takes standard error is given one line. So the

@@ -25,7 +25,7 @@ use script_lang::{PartScript, ScriptRefusal, Why, parse};
 use std::alloc::{AllocError, Global};
 use tier_base::{Row, Sink, write_all};
 
-/// Runs a partition, and tells what its journal comes to.
+/// Runs a partition, and returns what its journal comes to.
 fn tell_part(alloc: Global, config: Config, part: PartScript) -> Result<Told, AllocError>
     requires config { IsConfig config }
     requires fit { AreListsFor config part.lists }
@@ -47,7 +47,7 @@ fn tell_part(alloc: Global, config: Config, part: PartScript) -> Result<Told, Al
     }
 }
 
-/// Runs each partition, in rising order, and tells what its journal comes to.
+/// Runs each partition, in rising order, and returns what its journal comes to.
 fn tell_parts(
     alloc: Global,
     config: Config,
@@ -66,7 +66,7 @@ fn tell_parts(
     Ok(told)
 }
 
-/// Makes the script of a number, runs it, and answers the summary.
+/// Makes the script of a number, runs it, and returns the summary.
 fn summary_of(alloc: Global, number: u32) -> Result<Vec<u8>, ScriptRefusal>
     ensures summary { IfOk result (λ text. IsSummary ⟦<MemoryDisk as Disk>⟧ ⟦<MemoryStore as Store>⟧ ⟦<MemoryLog as MetaLog>⟧
         (script_is number) text.items) }

@@ -11,7 +11,7 @@ use std::alloc::Global;
 use tier_base::{PartitionId, Sink, write_all};
 use yard_audit::{RoundRefusal, audit_all, sweep_all};
 
-/// Audits the remote tier of each partition in a yard, and writes what was found.
+/// Audits the remote tier of each partition in an environment, and writes what was found.
 pub fn audit<Y: Yard, W: Sink>(alloc: Global, yard: &mut Y, out: &mut W) -> Status
     ensures { AuditsYard Y.D.Disk Y.S.Store Y.M.MetaLog W.Sink (Y.held yard.old) (Y.held yard.new)
         (Y.control yard.old) (Y.control yard.new) out.old out.new result }
@@ -26,7 +26,7 @@ pub fn audit<Y: Yard, W: Sink>(alloc: Global, yard: &mut Y, out: &mut W) -> Stat
     }
 }
 
-/// Sweeps the remote tier of each partition in a yard, and writes how much went.
+/// Sweeps the remote tier of each partition in an environment, and writes how much went.
 pub fn sweep<Y: Yard, W: Sink>(alloc: Global, yard: &mut Y, out: &mut W) -> Status
     ensures { SweepsYard Y.D.Disk Y.S.Store Y.M.MetaLog W.Sink (Y.held yard.old) (Y.held yard.new)
         (Y.control yard.old) (Y.control yard.new) out.old out.new result }

@@ -20,7 +20,7 @@ use script_lang::{Script, ScriptRefusal, parse};
 use std::alloc::Global;
 use tier_base::{ReadRefusal, Sink, Source, Trouble, read_all, write_all};
 
-/// Asks a yard for a name.
+/// Asks an environment for a name.
 fn ask<Y: Yard>(yard: &mut Y) -> Result<(), Status>
     ensures names { OnOk result (Names (Ok None) (Y.control yard.old) (Y.control yard.new)) }
     ensures nameless { OnOk result (IsTrue (Y.held yard.old).is_observable
@@ -59,7 +59,7 @@ fn ended(why: YardRefusal) -> Status
     }
 }
 
-/// Runs a script over a yard that has no names, and answers the trace.
+/// Runs a script over an environment that has no names, and returns the trace.
 #[tactic(auto, using(crate::proofs::Refused::stops_so))]
 fn run_over<Y: Yard>(alloc: Global, script: Script, yard: &mut Y) -> Result<Vec<u8>, Status>
     requires { IsFit script }
@@ -80,7 +80,7 @@ fn run_over<Y: Yard>(alloc: Global, script: Script, yard: &mut Y) -> Result<Vec<
     }
 }
 
-/// Reads a script, runs it over a yard that has no names, and answers the trace.
+/// Reads a script, runs it over an environment that has no names, and returns the trace.
 #[tactic(auto, using(crate::proofs::Refused::stopped_has_none))]
 fn trace_over<Y: Yard>(alloc: Global, script: &[u8], yard: &mut Y) -> Result<Vec<u8>, Status>
     requires { length script.now < 2 ^ 32 - 1 }
@@ -100,7 +100,8 @@ fn trace_over<Y: Yard>(alloc: Global, script: &[u8], yard: &mut Y) -> Result<Vec
     run_over(alloc, script, yard)
 }
 
-/// Reads a script, runs it over the devices of a yard that has no names, and writes what each of its commands was answered.
+/// Reads a script, runs it over the devices of an environment that has no names, and writes what each of its commands
+/// was answered.
 pub fn run<R: Source, Y: Yard, W: Sink>(
     alloc: Global,
     script: &mut R,

@@ -27,7 +27,7 @@ use trace_text::print;
 /// The most bytes that a script may have.
 pub const SCRIPT_LIMIT: usize = 16_777_216;
 
-/// Runs a partition, and puts its trace behind the text. The first partition's is not copied.
+/// Runs a partition, and puts its trace after the text. The first partition's is not copied.
 fn run_part(
     alloc: Global,
     config: Config,
@@ -61,7 +61,7 @@ fn run_parts(alloc: Global, config: Config, parts: Row<PartScript>) -> Result<Ve
     Ok(text)
 }
 
-/// Reads a script, runs it, and answers the trace.
+/// Reads a script, runs it, and returns the trace.
 pub(crate) fn trace_of(alloc: Global, script: &[u8]) -> Result<Vec<u8>, ScriptRefusal>
     requires { length script.now < 2 ^ 32 - 1 }
     ensures trace { IfOk result (λ text. IsTrace ⟦<MemoryDisk as Disk>⟧ ⟦<MemoryStore as Store>⟧ ⟦<MemoryLog as MetaLog>⟧

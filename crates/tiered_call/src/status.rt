@@ -6,14 +6,14 @@ use script_lang::Why;
 use std::alloc::{AllocError, Global};
 use tier_base::{Blob, PartitionId};
 
-/// How a call ends. The tests are made in this order: words, source, length, script, yard, sink.
+/// How a call ends. The tests are made in this order: words, source, length, script, environment, sink.
 #[derive(Debug, Drop)]
 pub enum Status {
-    /// All was done: a script run and its trace written, a load summed up, or each tier gone over and told.
+    /// All was done: a script run and its trace written, a load summed up, or each tier gone over and reported.
     Ok,
     /// The words have none of the forms.
     Usage,
-    /// The line of this number, from 1 on, is the first that has no reading.
+    /// The line of this number, from 1 on, is the first that is invalid.
     BadScript {
         line: u32,
         why: Why,
@@ -26,10 +26,10 @@ pub enum Status {
     NoMemory,
     /// The script has more bytes than a script may have.
     TooLong,
-    /// A call of the yard failed; or one of a device that it handed out, before its partition's first command; or one of the disk of
-    /// a partition's registry; or, in an audit or a sweep, one of a store or a metadata log.
+    /// A call of the environment failed; or one of a device that it provided, before its partition's first command; or
+    /// one of the disk of a partition's registry; or, in an audit or a sweep, one of a store or a metadata log.
     YardFault,
-    /// Something stands in the yard, and this is the first name of it in the order of bytes.
+    /// Something is in the environment, and this is the first name of it in the order of bytes.
     NotEmpty {
         name: Blob,
     },
@@ -53,7 +53,7 @@ pub enum Status {
 impl Status {
     ghost use Rattle.tiered_call.specs.Statuses.{number_of};
 
-    /// Answers the number with which the process ends.
+    /// Returns the number with which the process ends.
     pub fn number(&self) -> u8
         ensures { result ≡ number_of self.now }
     {
@@ -108,13 +108,14 @@ impl Status {
     }
 }
 
-/// The line that tells of what stands in a folder.
+/// The line that reports what is in a folder.
 fn not_empty(alloc: Global, name: &[u8]) -> Result<String, AllocError> {
     let name = on_one_line(alloc, name)?;
     format!(in alloc; "tiered: folder not empty: {name}\n")
 }
 
-/// Spells a name so that it breaks no line: U+FFFD stands for what isn't UTF-8, and an escape for each control character.
+/// Spells a name so that it breaks no line: U+FFFD represents what isn't UTF-8, and an escape for each control
+/// character.
 fn on_one_line(alloc: Global, name: &[u8]) -> Result<String, AllocError> {
     let name = String::from_utf8_lossy(alloc, name)?;
     let mut spelled = String::new(alloc);

@@ -1,4 +1,4 @@
-//! The call that the program makes: words, a source, a yard and a sink in, a status out.
+//! The call that the program makes: words, a source, an environment and a sink in, a status out.
 
 ghost use Rattle.std.specs.Prelude.{◌≡◌, ◌≢◌, ◌↔◌, ◌⊎◌, ℕ, Some, None};
 ghost use Rattle.tiered_call.specs.declared.words.Form.{Form};
@@ -43,14 +43,15 @@ pub fn tiered<H: AllocGlobal + Threads + Wait + Sync, R: Source, Y: Yard, W: Sin
         → Simulates (IsTraceByThreads ⟦<MemoryDisk as Disk>⟧ ⟦<MemoryStore as Store>⟧ ⟦<MemoryLog as MetaLog>⟧) R.Source W.Sink
         script.old script.new out.old out.new result }
 
-    // A script is run over the devices of a yard: over any yard every command is answered once and in order, and each device
-    // is given back; over one that tells the trace is a run of the plain log, and the yard holds the devices with what it left.
+    // A script is run over the devices of an environment: over any environment every command is answered once and in
+    // order, and each device is given back; over one that reports the trace is a run of the plain log, and the
+    // environment holds the devices with what it left.
     ensures runs { form_is words.now ≡ Some Form.Run
         → RunsInYard Y.D.Disk Y.S.Store Y.M.MetaLog R.Source W.Sink script.old script.new
         (Y.held yard.old) (Y.held yard.new) (Y.control yard.old) (Y.control yard.new) out.old out.new result }
     ensures unasked { form_is words.now ≡ Some Form.Run → IsOfScript result → yard.new ≡ yard.old }
 
-    // The remote tier of each partition in a yard is audited, or swept, and what was found or went is written.
+    // The remote tier of each partition in an environment is audited, or swept, and what was found or went is written.
     ensures audits { form_is words.now ≡ Some Form.Audit
         → AuditsYard Y.D.Disk Y.S.Store Y.M.MetaLog W.Sink (Y.held yard.old) (Y.held yard.new)
         (Y.control yard.old) (Y.control yard.new) out.old out.new result }

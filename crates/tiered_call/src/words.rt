@@ -1,4 +1,4 @@
-//! The words behind the program's name, and which form they have.
+//! The words after the program's name, and which form they have.
 
 ghost use Rattle.std.specs.Prelude.{◌≡◌};
 ghost use Rattle.std.specs.List.{list_all};

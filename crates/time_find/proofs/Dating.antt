@@ -38,7 +38,7 @@ GoesBy ts start offset run rest end =
 pub all_left : (ts : ℤ) (start offset : ℕ) (run : List ℕ) → GoesBy ts start offset run run offset
 all_left ts start offset run = λ clean batches ok fits are. record { left = batches; clean = clean; checked = ok; bytes_are = are; same = refl; ends = refl }
 
--- the batch that stands next, and those behind it
+-- the batch that is next, and those after it
 pub record Stands (ts : ℤ) (start offset : ℕ) (batches : List (List ℕ)) (rest : List ℕ) (head : Head) : Type 0 where
   pub batch : List ℕ
   pub more : List (List ℕ)
@@ -82,7 +82,7 @@ head_stands ts start offset batches rest end some l =
     let found = by_left ts start offset batches rest end l.left l.clean some l.checked l.bytes_are l.same l.ends in
     (found.0, found.1)
 
--- and its batch stands there
+-- and its batch is there
 pub stands_first : (ts : ℤ) (start offset : ℕ) (batches : List (List ℕ)) (rest : List ℕ) (end : ℕ) (head : Head) → 0 < length rest
     → IsLeft ts start offset batches rest end → headed rest ≡ Ok head → Stands ts start offset batches rest head
 stands_first ts start offset batches rest end head some l e =
@@ -102,7 +102,7 @@ dated_at ts start offset batches rest head base s late base_is =
     not_below : (a t : ℤ) → t ≤ℤ a → int_lt a t ≡ false
     not_below a t h = grind (arith, ints)
 
--- what is behind a batch
+-- what is after a batch
 behind : (size : ℕ) (batch rest : List ℕ) → size ≡ length batch → drop (min size (length (batch ++ rest))) (batch ++ rest) ≡ rest
 behind size batch rest is =
     let long = length-append batch rest in

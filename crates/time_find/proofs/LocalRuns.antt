@@ -20,7 +20,7 @@ starts_below (Up log) cursor at low up = omega (arith, low, up)
 starts_below (Down settings disk) cursor at low up = low
 starts_below Away cursor at low up = low
 
--- and a search that goes on from there goes on from the cursor
+-- and a search that continues from there continues from the cursor
 pub goes_from : (cursor at : ℕ) (turn : TimeTurn) → cursor ≤ at → GoesOn at turn → GoesOn cursor turn
 goes_from cursor at (Goes end Seek) up h = omega (arith, up, h)
 goes_from cursor at (Goes end next) up h = (omega (arith, up, h.0), h.1)

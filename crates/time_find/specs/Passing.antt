@@ -1,7 +1,7 @@
 -- What a search passes over: what is too early as a whole.
 --
--- A remote segment is too early where the greatest timestamp that its entry tells is below the one that is looked
--- for, and a closed segment of the local log where its own batches' is.
+-- A remote segment is too early where the greatest timestamp that its entry gives is below the one that is looked for,
+-- and a closed segment of the local log where its own batches' is.
 use Rattle.std.specs.Prelude.{◌≡◌, ℕ, ◌<◌, ◌≤◌, min, nat_lt, nat_le, ◌&&◌, if◌then◌else◌, ℤ, int_lt, Bool, true, false, List, [], ◌∷◌, Option, Some, None}
 use Rattle.segment_file.specs.Growing.{Grown, latest_ts}
 use Rattle.local_log.specs.Stored.{end_of}

@@ -1,4 +1,4 @@
--- What each turn of a search by timestamp does, from the one on that follows its first turn.
+-- What each turn of a timestamp lookup does, from the one on that follows its first turn.
 --
 --   turn     does                                                             answers
 --   Seek     below the local log: refreshes the view, and passes over          MetaFault, Damaged
@@ -8,7 +8,7 @@
 --   Index    has the segment's offset index of the cache, or else reads it     StoreFault, Damaged
 --   Log      reads what is left of the segment's log                           Offset, StoreFault, Damaged
 --
--- The time index shows a batch up to which all are too early, so the search of the segment goes on behind it. Where a
+-- The time index shows a batch up to which all are too early, so the search of the segment continues after it. Where a
 -- piece or a run has no batch that isn't too early, the cursor comes to its end.
 --
 -- Source: KIP-405, whose remote segments have time indexes, and Kafka's ListOffsets.
@@ -65,7 +65,7 @@ IsSet cursor (ReadsTimes piece) = cursor < piece.to
 IsSet cursor (Index piece from) = (cursor ≤ from) × (from < piece.to)
 IsSet cursor (Log piece from span) = (cursor ≤ from) × (from < piece.to)
 
--- a search that goes on from a cursor has such a turn next: its cursor hasn't fallen, and has risen where it has no
+-- a search that continues from a cursor has such a turn next: its cursor hasn't fallen, and has risen where it has no
 -- piece
 abbrev pub GoesOn : ℕ → TimeTurn → Type 0
 GoesOn cursor (Goes at Seek) = cursor < at
@@ -90,7 +90,7 @@ IsSearched asked offset run turn = ⊥
 
 -- the time index
 
--- from where on a segment is to be searched, as its time index shows: behind the last batch up to which all are too
+-- from where on a segment is to be searched, as its time index shows: after the last batch up to which all are too
 -- early
 abbrev pub from_of : ℕ → Option (ℤ × ℕ) → ℕ
 from_of cursor None = cursor
@@ -101,7 +101,7 @@ abbrev pub shown : Asked → ℕ → Piece → ℕ → TimeTurn
 shown asked cursor piece from =
     if nat_lt from (top_of asked piece) then Goes cursor (Index piece from) else Goes (top_of asked piece) Seek
 
--- these are the bytes of a time index, and the search goes on as it shows
+-- these are the bytes of a time index, and the search continues as it shows
 pub record IsTimed (asked : Asked) (cursor : ℕ) (piece : Piece) (base : ℕ) (bytes : List ℕ) (turn : TimeTurn) : Type 0 where
   pub index : TimeTable
   pub base_is : index.base ≡ base
@@ -168,7 +168,7 @@ module _ {S : Type 0} (objects : S → store.Content) (calls : S → Control sto
     pub gets : Gets objects calls place.1.key (all_of place.1) answer old new
     pub times : Times asked cursor piece place.0 place.1 answer result
 
-  -- the time index is read where it stands
+  -- the time index is read where it is
   abbrev pub TimesRow : Asked → ℕ → Piece → Seen → Option (ℕ × Spot) → Result TimeTurn AllocError → S → S → Type 0
   TimesRow asked cursor piece view None result old new = (result ≡ Ok (Ends (Damaged Meta view.notes))) × (new ≡ old)
   TimesRow asked cursor piece view (Some place) result old new = ReadsIndex asked cursor piece place result old new
@@ -191,7 +191,7 @@ module _ {S M : Type 0} (objects : S → store.Content) (calls : S → Control s
       × FetchRow objects calls notes notings (wanted_at asked from) line (fetching.Log piece span) turn old new
       × Searches asked from turn result))
 
-  -- a turn of a search among the remote segments, by what was next: what it came to, or that it wanted memory
+  -- a turn of a search among the remote segments, by what was next: what it came to, or that it ran out of memory
   abbrev pub TimeRow : Asked → List (ℕ × ℕ) → ℕ → SearchStep → Result TimeTurn AllocError → Tiers S M → Tiers S M
       → Type 0
   TimeRow asked line cursor Seek result old new =
@@ -212,7 +212,8 @@ module _ {D : Type 0} (content : D → disk.Content) (control : D → Control di
     pub quiet : Quiet control old new
     pub searched : IsSearched asked at out.bytes turn
 
-  -- what the disk handed in this turn has no run there, and the log is as it was: where a batch ends at the known high watermark it was read once
+  -- what the disk passed in this turn has no run there, and the log is as it was: where a batch ends at the known high
+  -- watermark it was read once
   pub record FindsDamage (old : Kept D) (asked : Asked) (at : ℕ) (name : FileName) (place : ℕ) (new : Kept D) : Type 0 where
     pub misreads : Misreads content control old new at (2 ^ 64 - 1) asked.mark name place
     pub ran : WhileUp old (λ log. is_edge (segment_at log asked.mark) asked.mark ≡ true

@@ -34,7 +34,7 @@ pub(crate) fn passed_over(closed: &[Growing], cursor: u64, ts: i64) -> u64
     at
 }
 
-/// Whether all timestamps of a piece's segment are below one, as its entry tells.
+/// Whether all timestamps of a piece's segment are below one, as its entry gives.
 fn is_early(view: &View, piece: &Piece, ts: i64) -> bool
     ensures { result ≡ is_early ts (entry_of piece.now.id view.now.entries) }
 {

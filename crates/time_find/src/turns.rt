@@ -79,21 +79,21 @@ fn refresh_and_seek<M: MetaLog>(
     }
 }
 
-/// A view that lacks what the notes must hold is damage of the metadata log.
+/// A view that lacks what the metadata events must hold is damage of the metadata log.
 fn lost(view: &View) -> TimeTurn
     ensures { result ≡ Ends (Damaged Meta view.now.notes) }
 {
     TimeTurn::Ends(Answer::Damaged(Place::Meta, view.seen()))
 }
 
-/// An object that lacks what is read, or has no reading.
+/// An object that lacks what is read, or is invalid.
 fn damaged(spot: &Spot, at: u64) -> TimeTurn
     ensures { result ≡ Ends (Damaged (Key spot.now.key) at) }
 {
     TimeTurn::Ends(Answer::Damaged(Place::Key(spot.key), at))
 }
 
-/// The base offset of a piece's segment, and where its time index stands.
+/// The base offset of a piece's segment, and where its time index exists.
 fn spot_of(asked: &Asked, piece: &Piece, view: &View) -> Option<(u64, Spot)>
     ensures spot { result ≡ spot_in asked.now.partition piece.now.id part.TimeIndex (entry_of piece.now.id view.now.entries) }
     ensures low { IfSome result (λ found. found.0 ≤ 2 ^ 62) }

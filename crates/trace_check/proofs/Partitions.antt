@@ -60,7 +60,7 @@ finished config js p q part ls j o whole count same own none reached has h =
     subst (λ (l : List ActorList). IsComplete l (journal_of js part.partition.0)) same (subst (IsComplete ls) own (h.0 has)) in
     (record { brokers = count; plain = record { last = q; replays = its }; complete = all }, left_by p q part.lists (journal_of js part.partition.0) its)
 
--- the partition that stands at a place has its number
+-- the partition that is at a place has its number
 numbered_at : (n : ℕ) (parts : List PartScript) (i : ℕ) (part : PartScript) → AreNumbered n parts → i < length parts → part ≡ get_or parts i part → part.partition.0 ≡ n + i
 numbered_at n [] i part h l is = absurd (omega (arith, l))
 numbered_at n (p ∷ parts) zero part h l is = ap (λ (k : PartScript). k.partition.0) is ∙ h.0 ∙ omega arith
@@ -96,7 +96,7 @@ pub one_more : (config : Config) (states : List State) (js : List (ℕ × List J
 one_more config states js parts i part l is all whole =
     All-more (HasWholeRun config states js) parts i part l all (subst (HasWholeRun config states js) is whole)
 
--- what is found of the partition that stands at a place
+-- what is found of the partition that is at a place
 pub part_flaw : (script : Script) (states : List State) (js : List (ℕ × List JournalEntry)) (parts : List PartScript) (i : ℕ) (part : PartScript) (flaw : Flaw)
     → parts ≡ script.parts → i < length parts → part ≡ get_or parts i part → All (HasWholeRun script.config states js) (take i parts)
     → IsPartFlaw script.config js (opening script.config states part.partition.0) part flaw → HasPartFlaw script states js flaw

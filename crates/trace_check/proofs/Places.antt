@@ -21,13 +21,13 @@ with_reaches d zero (x ∷ xs) l = omega arith
 with_reaches d (suc n) [] l = absurd (omega (arith, l))
 with_reaches d (suc n) (x ∷ xs) l = let rest = with_reaches d n xs (omega (arith, l)) in omega (arith, rest)
 
--- behind a front stands what stood there, or the item
+-- after a front is what was there, or the item
 there : {A : Type 0} (d : A) (front back : List A) → slice_get (with_one d (length front) (front ++ back)) (length front) ≡ Some (unwrap_or (slice_get back 0) d)
 there d [] [] = refl
 there d [] (x ∷ back) = refl
 there d (y ∷ front) back = there d front back
 
--- what is put there stands behind the front
+-- what is put there follows the front
 put : {A : Type 0} (d : A) (front back : List A) (y : A) → slice_set (with_one d (length front) (front ++ back)) (length front) y ≡ (front ++ y ∷ []) ++ drop 1 back
 put d [] [] y = refl
 put d [] (x ∷ back) y = refl
@@ -55,7 +55,7 @@ partly f xs i ys = map f (take i xs) ++ drop i ys
 pub partly_long : {A B : Type 0} (f : A → B) (xs : List A) (i : ℕ) (ys : List B) → i ≤ length xs → i ≤ length (partly f xs i ys)
 partly_long f xs i ys l = let n = front_long f xs i l in grind (arith, length-append, n)
 
--- at the next place stands what stood there, or the item
+-- at the next place is what was there, or the item
 pub partly_there : {A B : Type 0} (f : A → B) (xs : List A) (i : ℕ) (ys : List B) (d : B) → i ≤ length xs
     → slice_get (with_one d i (partly f xs i ys)) i ≡ Some (unwrap_or (slice_get ys i) d)
 partly_there {A} {B} f xs i ys d l =

@@ -1,4 +1,4 @@
--- Where a cause is told, the trace is no whole run.
+-- Where a cause is reported, the trace is no whole run.
 use Rattle.std.proofs.Common.{◌≡◌, ◌∙◌, refl, sym, ap, subst, ℕ, suc, ◌+◌, ◌<◌, List, [], ◌∷◌, ◌++◌, length, take, drop, get_or, Ok, Err, ◌↔◌, arith, length-take}
 use Rattle.std.specs.Prelude.{All}
 use Rattle.std.proofs.lemmas.List.{take_more}
@@ -104,7 +104,7 @@ lead_at pairs i pair mid after l is h w =
     let more : take (i + 1) pairs ≡ take i pairs ++ pair ∷ [] = take_more pairs i pair l ∙ ap (λ (z : Pair). take i pairs ++ z ∷ []) (sym is) in
     subst (λ (ps : List Pair). LeadTo [] ps after) (sym more) (lead_more (take i pairs) pair [] mid after h w)
 
--- the first that is none stands at a place
+-- the first that is none is at a place
 pub flawed_at : (pairs : List Pair) (i : ℕ) (pair : Pair) (states : List State) (flaw : Flaw) → i < length pairs → pair ≡ get_or pairs i pair
     → LeadTo [] (take i pairs) states → IsFlaw states pair.script pair.trace flaw → IsFlawed pairs (i + 1) flaw
 flawed_at pairs i pair states flaw l is h its = record {

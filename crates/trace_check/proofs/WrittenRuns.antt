@@ -103,7 +103,7 @@ has_run : (config : Config) (states : List State) (js : List (ℕ × List Journa
     → HasWholeRun config states js part
 has_run config states js part run e is = record { brokers = is.brokers; plain = subst (IsRunFrom (opening config states part.partition.0) part.lists) (sym e) is.plain; complete = subst (IsComplete part.lists) (sym e) is.complete }
 
--- a partition above has its run also behind another's
+-- a partition above has its run also after another's
 has_behind : (config : Config) (states : List State) (r : ℕ × List JournalEntry) (js : List (ℕ × List JournalEntry)) (part : PartScript) → r.0 < part.partition.0 → HasWholeRun config states js part
     → HasWholeRun config states (r ∷ js) part
 has_behind config states r js part l h =

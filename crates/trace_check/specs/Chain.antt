@@ -1,7 +1,7 @@
 -- When traces are whole runs one after another: each begins in the states that the one before it left.
 --
--- A run that was killed, or that ended with a failure, has no trace: it isn't among them, and neither is a run behind it,
--- since no trace tells in which state that one began.
+-- A run that was killed, or that ended with a failure, has no trace: it isn't among them, and neither is a run after
+-- it, since no trace reports in which state that one began.
 use Rattle.std.specs.Prelude.{◌≡◌, List, [], ◌∷◌}
 use Rattle.plain_log.specs.declared.state.State.{State}
 use Rattle.trace_check.specs.declared.pair.Pair.{Pair}

@@ -2,7 +2,7 @@
 --
 --   0   each trace is a whole run of the plain log of its script, from where the run before it ended
 --   1   one isn't
---   2   nothing could be told: a script is longer than a script may be
+--   2   nothing could be reported: a script is longer than a script may be
 --
 -- A file that can't be read, and words of another form, end with 2 too.
 use Rattle.std.specs.Prelude.{◌≡◌, ◌⊎◌, ℕ, ◌≤◌, List, length, All}

@@ -1,6 +1,6 @@
--- What is told of scripts and traces: that the traces are whole runs one after another, or the first that is none and its
--- first cause. The causes of one trace come in this order: the script's lines, the trace's lines, the script's partitions as
--- they rise, and partitions that it doesn't have.
+-- What is reported of scripts and traces: that the traces are whole runs one after another, or the first that is none
+-- and its first cause. The causes of one trace come in this order: the script's lines, the trace's lines, the script's
+-- partitions as they rise, and partitions that it doesn't have.
 use Rattle.std.specs.Prelude.{◌≡◌, ◌≢◌, ℕ, ◌+◌, ◌<◌, ◌≤◌, ◌==◌, if◌then◌else◌, List, [], ◌∷◌, ◌++◌, length, All, Option, Some, None, Err, IsOk}
 use Rattle.tier_base.specs.declared.names.PartitionId.{PartitionId}
 use Rattle.plain_log.specs.declared.command.ActorList.{ActorList}
@@ -32,7 +32,7 @@ pub record HasOthers (config : Config) (p : State) (kept asked : ℕ) : Type 0 w
   pub asked_is : asked ≡ config.brokers
   pub differ : kept ≢ asked
 
--- the partition's entry at this place is the first that is no step from this state, and stands in this line of the trace
+-- the partition's entry at this place is the first that is no step from this state, and is in this line of the trace
 pub record IsRefused (journals : List (ℕ × List JournalEntry)) (p : State) (part : PartScript) (place line : ℕ) : Type 0 where
   pub state : State
   pub refused : IsRefusedAt part.lists p (journal_of journals part.partition.0) state place
@@ -130,7 +130,7 @@ pub record IsFlawed (pairs : List Pair) (run : ℕ) (flaw : Flaw) : Type 0 where
   pub lead : LeadTo [] before states
   pub its : IsFlaw states pair.script pair.trace flaw
 
--- what is told
+-- what is reported
 abbrev pub IsVerdict : List Pair → Verdict → Type 0
 IsVerdict pairs Whole = AreWholeTraces pairs
 IsVerdict pairs (Flawed run flaw) = IsFlawed pairs run flaw

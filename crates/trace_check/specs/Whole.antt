@@ -66,7 +66,7 @@ pub record IsRead (script trace : List ℕ) (said : Script) (journals : List (�
   pub are : AreParts journals
   pub spelled : trace ≡ trace_of journals
 
--- the script has a reading, and the text is the trace of a whole run of each of its partitions, which leaves these states
+-- the script is valid, and the text is the trace of a whole run of each of its partitions, which leaves these states
 pub record IsWholeTrace (states : List State) (script trace : List ℕ) (after : List State) : Type 0 where
   pub said : Script
   pub journals : List (ℕ × List JournalEntry)

@@ -37,8 +37,8 @@ fn judge_pair(
     Ok(found)
 }
 
-/// Tells whether traces are whole runs of the plain log of their scripts, each from the states that the one before it left.
-/// If not, it tells which is the first that is none, and why.
+/// Returns whether traces are whole runs of the plain log of their scripts, each from the states that the one before it
+/// left. If not, it reports which is the first that is none, and why.
 pub fn check(alloc: Global, pairs: &[Pair]) -> Result<Verdict, AllocError>
     requires { All (λ pair. length pair.script < 2 ^ 32 - 1) pairs.now }
     ensures verdict { IfOk result (IsVerdict pairs.now) }

@@ -67,7 +67,7 @@ fn words(rt: &HostRuntime) -> io::Result<Request> {
     Ok(Request::Files(names))
 }
 
-/// Reads a file, and tells of one that can't be read.
+/// Reads a file, and returns of one that can't be read.
 fn bytes_of(rt: &HostRuntime, name: &str) -> io::Result<Option<Vec<u8>>> {
     match fs::read(rt, name) {
         Ok(bytes) => Ok(Some(bytes)),
@@ -116,7 +116,7 @@ fn are_short(pairs: &[Pair]) -> bool
     true
 }
 
-/// Prints what is told of the files' bytes, and gives the status.
+/// Prints what is reported of the files' bytes, and gives the status.
 fn told(rt: &HostRuntime, pairs: &[Pair]) -> io::Result<u8>
     ensures { IfOk result (IsStatus pairs.now) }
 {

@@ -4,11 +4,11 @@ use script_lang::Why;
 use std::fmt;
 use tier_base::PartitionId;
 
-/// Why a trace is no whole run of the plain log of a script from where the runs before it ended. The first cause is told: of
-/// the script's lines, of the trace's, of the script's partitions as they rise, and of other partitions.
+/// Why a trace is no whole run of the plain log of a script from where the runs before it ended. The first cause is
+/// reported: of the script's lines, of the trace's, of the script's partitions as they rise, and of other partitions.
 #[derive(Clone, Copy, Debug, PartialEq, Eq)]
 pub enum Flaw {
-    /// The script's line of this number, from 1 on, is the first that has no reading.
+    /// The script's line of this number, from 1 on, is the first that is invalid.
     BadScript {
         line: u32,
         why: Why,
@@ -40,7 +40,7 @@ pub enum Flaw {
     },
 }
 
-/// What is told of traces.
+/// What is reported of traces.
 #[derive(Clone, Copy, Debug, PartialEq, Eq)]
 pub enum Verdict {
     /// Each is a whole run of the plain log, from where those before it ended.

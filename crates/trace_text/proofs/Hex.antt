@@ -1,4 +1,4 @@
--- A run's bytes have one text, and it has its reading.
+-- A run's bytes have one text, and it is read back.
 use Rattle.std.proofs.Common.{◌≡◌, ◌∙◌, sym, ap, refl, ℕ, zero, suc, ◌+◌, ◌-◌, ◌*◌, ◌/◌, ◌%◌, ◌<◌, ◌≤◌, List, [], ◌∷◌, Bool, true, false, cond, Some, Result, Ok, Err, length, slice_index, All, inl, inr, ◌⊎◌, arith}
 use Rattle.std.specs.Prelude.{nat_le, ◌==◌, ◌&&◌, ◌||◌}
 use Rattle.std.specs.List.{list_all}
@@ -162,6 +162,6 @@ lower-low (c ∷ text) h =
     ] in
     All-cons (λ b. 33 ≤ b) c text low (lower-low text parts.1)
 
--- its characters stand above the space
+-- its characters are above the space
 pub hex-low : (bytes : List ℕ) → AreRunBytes bytes → All (λ b. 33 ≤ b) (encode_lower bytes)
 hex-low bytes are = lower-low (encode_lower bytes) (encode-lower bytes are.each)

@@ -17,5 +17,5 @@ pub length-spaced : (a b : List (List ℕ)) → length (spaced (a ++ b)) ≡ len
 length-spaced [] b = omega arith
 length-spaced (w ∷ a) b = omega (arith, length-spaced a b, length-append w (spaced (a ++ b)), length-append w (spaced a))
 
--- the length of what stands side by side, of bytes as digits, of zeros and of ids
+-- the length of what is side by side, of bytes as digits, of zeros and of ids
 pub ruleset lengths = (length-append, length-encode_with, length-replicate, length-id_text, length-spaced)

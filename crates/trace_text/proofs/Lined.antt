@@ -44,7 +44,7 @@ use Rattle.trace_text.proofs.Padded.{padded-digits}
 use Rattle.trace_text.proofs.Places.{counts, digit-range, id-chars, Lacks}
 use Rattle.trace_text.proofs.Answered.{answer-sound, answer-complete, small_counts}
 
--- each byte stands above the space
+-- each byte is above the space
 abbrev pub IsWord : List ℕ → Type 0
 IsWord word = All (λ b. 33 ≤ b) word
 
@@ -192,7 +192,7 @@ event-complete (Begins None) is = refl
 event-complete (Begins (Some end)) is = rw (counts.complete end is) refl
 event-complete (Answers a) is = rw (answer-complete a is) refl
 
--- an entry's line has its reading
+-- an entry's line is read back
 pub line-complete : (partition : ℕ) (entry : JournalEntry) → partition < 2 ^ 16 → IsEntry entry
     → line_in (body partition entry) ≡ Some (record { partition = record { 0 = partition }; entry = entry })
 unfolding line_in headed_in
@@ -265,7 +265,7 @@ pub line-sound : (text : List ℕ) (line : Line) → line_in text ≡ Some line 
 unfolding line_in
 line-sound text line h = words-sound (slice_split (λ b. b == 32) text) text line (join_with_byte-slice_split 32 text) h
 
--- a line, and what stands behind it
+-- a line, and what follows it
 pub line-behind : (partition : ℕ) (entry : JournalEntry) (rest : List ℕ) → entry_line partition entry ++ rest ≡ body partition entry ++ 10 ∷ rest
 unfolding entry_line
 line-behind partition entry rest =

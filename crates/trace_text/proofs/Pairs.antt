@@ -49,13 +49,13 @@ eight_pairs (a ∷ b ∷ c ∷ d ∷ e ∷ f ∷ []) long = absurd (omega (arith
 eight_pairs (a ∷ b ∷ c ∷ d ∷ e ∷ f ∷ g ∷ []) long = absurd (omega (arith, long))
 eight_pairs (a ∷ b ∷ c ∷ d ∷ e ∷ f ∷ g ∷ h ∷ i ∷ bytes) long = absurd (omega (arith, long))
 
--- one list of bytes behind another
+-- one list of bytes after another
 pub encode_append : (xs ys : List ℕ) → encode_lower (xs ++ ys) ≡ encode_lower xs ++ encode_lower ys
 unfolding encode_with
 encode_append [] ys = refl
 encode_append (x ∷ xs) ys = rw (encode_append xs ys) refl
 
--- eight bytes more in a text, and those behind them
+-- eight bytes more in a text, and those after them
 pub eight_more : (text grown digits front back rest whole : List ℕ)
     → grown ≡ text ++ digits
     → digits ≡ encode_lower front

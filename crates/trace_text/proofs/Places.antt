@@ -1,4 +1,4 @@
--- Files' names, keys and places have one text, and it has its reading.
+-- Files' names, keys and places have one text, and it is read back.
 use Rattle.std.proofs.Common.{◌≡◌, ◌≢◌, ◌∙◌, sym, ap, refl, inl, inr, ℕ, ◌-◌, ◌<◌, ◌≤◌, ◌^◌, List, [], ◌∷◌, ◌++◌, Bool, true, false, cond, Option, Some, None, length, take, drop, get_or, All, arith, length-append}
 use Rattle.std.specs.Prelude.{option_map, bytes_eq, codes, decimal, not, ◌&&◌, ◌==◌}
 use Rattle.std.specs.List.{list_all, slice_split, join_with_byte}
@@ -35,7 +35,7 @@ use Rattle.trace_text.proofs.Padded.{padded-length, padded-digits, padded-number
 use Rattle.trace_text.proofs.Readings.{bind-some, if-some, either-some, or-some, map-some, named-some, text-is, up_to-read}
 use Rattle.trace_text.proofs.Spelled.{Spells, numbers, ids}
 
--- digits stand from 48 to 57
+-- digits are from 48 to 57
 pub digit-range : (ds : List ℕ) → all_ascii_digits ds ≡ true → All (λ b. (48 ≤ b) × (b ≤ 57)) ds
 digit-range [] h = All-nil (λ b. (48 ≤ b) × (b ≤ 57))
 digit-range (d ∷ ds) h =

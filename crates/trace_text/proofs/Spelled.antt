@@ -112,7 +112,7 @@ stops = record {
   sound = λ word s h. (tt, (named-some (λ x. Unit {0}) stop_text word all_stops s (tt, (tt, (tt, tt))) h).0);
 }
 
--- a cause without numbers is told by its name
+-- a cause without numbers is reported by its name
 pub cause-sound : (word : List ℕ) (c : BatchRefusal) → cause_in word ≡ Some c → (cause_name c ≡ word) × ((cause_numbers c ≡ []) × IsCause c)
 unfolding cause_in
 cause-sound word c h =

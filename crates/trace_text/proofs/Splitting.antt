@@ -12,7 +12,7 @@ front-cases : (t : Bool) (b k : ℕ) (bs : List ℕ) → slice_split (λ c. c ==
 front-cases true b k bs h = refl
 front-cases false b k bs h = rw (h, add-one k) refl
 
--- the first word, and those behind it
+-- the first word, and those after it
 pub split-front : (bs : List ℕ) → slice_split (λ c. c == 32) bs ≡ take (front_len (λ c. c == 32) bs) bs ∷ words_behind (drop (front_len (λ c. c == 32) bs) bs)
 split-front [] = refl
 split-front (b ∷ bs) = front-cases (b == 32) b (front_len (λ c. c == 32) bs) bs (split-front bs)
@@ -30,7 +30,7 @@ clean-cases : (is : ℕ → Bool) (t : Bool) (b k : ℕ) (bs : List ℕ) → is 
 clean-cases is true b k bs e h = All-nil (λ c. is c ≡ false)
 clean-cases is false b k bs e h = rw (add-one k) (All-cons (λ c. is c ≡ false) b (take k bs) e h)
 
--- none of the kind stands before the first
+-- none of the kind precedes the first
 pub front-clean : (is : ℕ → Bool) (bs : List ℕ) → All (λ c. is c ≡ false) (take (front_len is bs) bs)
 front-clean is [] = All-nil (λ c. is c ≡ false)
 front-clean is (b ∷ bs) = clean-cases is (is b) b (front_len is bs) bs refl (front-clean is bs)
@@ -39,7 +39,7 @@ stop-cases : (is : ℕ → Bool) (t : Bool) (b k : ℕ) (bs : List ℕ) → is b
 stop-cases is true b k bs e h within = e
 stop-cases is false b k bs e h within = rw (add-one k) (h (omega arith))
 
--- and there the first stands
+-- and there the first exists
 pub front-stop : (is : ℕ → Bool) (bs : List ℕ) → front_len is bs < length bs → is (get_or bs (front_len is bs) 0) ≡ true
 front-stop is [] within = absurd (omega arith)
 front-stop is (b ∷ bs) within = stop-cases is (is b) b (front_len is bs) bs refl (front-stop is bs) within
@@ -53,7 +53,7 @@ pub whole-clean : (is : ℕ → Bool) (bs : List ℕ) → front_len is bs ≡ le
 whole-clean is [] size = All-nil (λ c. is c ≡ false)
 whole-clean is (b ∷ bs) size = whole-cases is (is b) b (front_len is bs) bs refl (whole-clean is bs) size
 
--- the text is its first line, the LF and what stands behind
+-- the text is its first line, the LF and what follows
 pub line-parts : (bs : List ℕ) (n : ℕ) → n ≡ front_len (λ c. c == 10) bs → n < length bs → bs ≡ take n bs ++ 10 ∷ take (length bs - (n + 1)) (drop (n + 1) bs)
 line-parts bs n is within =
     let stop = front-stop (λ c. c == 10) bs (omega (arith, is, within)) in
@@ -62,6 +62,6 @@ line-parts bs n is within =
     let rest : take (length bs - (n + 1)) (drop (n + 1) bs) ≡ drop (n + 1) bs = take_all (length bs - (n + 1)) (drop (n + 1) bs) (omega (arith, long)) in
     sym (take-append-drop n bs) ∙ ap (λ (t : List ℕ). take n bs ++ t) (drop_more bs n 0 within ∙ rw (here, rest) refl)
 
--- none of the kind stands in it
+-- none of the kind is in it
 pub line-clean : (bs : List ℕ) (n : ℕ) → n ≡ front_len (λ c. c == 10) bs → All (λ c. (c == 10) ≡ false) (take n bs)
 line-clean bs n is = rw is (front-clean (λ c. c == 10) bs)

@@ -52,7 +52,7 @@ whose text behind rest partition entry after lacks is small of_entry e =
 long-rest : (text behind rest : List ℕ) → rest ≡ text ++ 10 ∷ behind → 1 ≤ length rest
 long-rest text behind rest is = let size = ap (λ (t : List ℕ). length t) is in omega (arith, size, length-append text (10 ∷ behind))
 
--- a line without a reading
+-- an invalid line
 pub bad-unread : (bytes rest : List ℕ) (number : ℕ) (parts : List (ℕ × List JournalEntry)) (text behind : List ℕ) → IsReadTo bytes rest number parts → Lacks 10 text → rest ≡ text ++ 10 ∷ behind → line_in text ≡ None
     → IsBad bytes number
 bad-unread bytes rest number parts text behind to lacks is unread = record {
@@ -68,7 +68,7 @@ bad-unread bytes rest number parts text behind to lacks is unread = record {
 same-line : (a b : Line) (o : Option Line) → o ≡ Some a → o ≡ Some b → a ≡ b
 same-line a b o ea eb = let both : ◌≡◌ {A = Option Line} (Some a) (Some b) = sym ea ∙ eb in cc both
 
--- a line that can't stand there
+-- a line that can't be there
 pub bad-early : (bytes rest : List ℕ) (number : ℕ) (parts : List (ℕ × List JournalEntry)) (text behind : List ℕ) (line : Line) → IsReadTo bytes rest number parts → Lacks 10 text → rest ≡ text ++ 10 ∷ behind
     → line_in text ≡ Some line → (MayFollow parts line.partition.0 → ⊥) → IsBad bytes number
 bad-early bytes rest number parts text behind line to lacks is read early = record {

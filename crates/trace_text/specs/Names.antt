@@ -1,6 +1,6 @@
 -- The names that a trace gives to what an answer carries: files, segments' states, causes, why a run ends.
 --
---   file  = manifest | base ".log" | notes | gate | registry
+--   file  = manifest | base ".log" | metadata events | gate | registry
 --           base: the segment's base offset in 20 digits, zeros before it
 --   state = CopyStarted | CopyFinished | DeleteStarted | DeleteFinished
 --   stop  = Mark | Piece | Limit

@@ -49,7 +49,7 @@ pub record IsTrace (bytes : List ℕ) (parts : List PartJournal) : Type 0 where
   pub text : bytes ≡ trace_of (map told parts)
 
 -- the line of this number is the first that no entry has: the lines before it are a trace, and what follows is neither
--- nothing nor the line of an entry that may stand there, with more behind it; a number past the type's end stays there
+-- nothing nor the line of an entry that may be there, with more after it; a number past the type's end stays there
 pub record IsBad (bytes : List ℕ) (line : ℕ) : Type 0 where
   pub parts : List (ℕ × List JournalEntry)
   pub rest : List ℕ

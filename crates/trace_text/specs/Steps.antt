@@ -28,7 +28,7 @@ abbrev pub front_len : (ℕ → Bool) → List ℕ → ℕ
 front_len is [] = 0
 front_len is (b ∷ bytes) = if is b then 0 else front_len is bytes + 1
 
--- the words behind a space
+-- the words after a space
 abbrev pub words_behind : List ℕ → List (List ℕ)
 words_behind [] = []
 words_behind (b ∷ text) = slice_split (λ c. c == 32) text

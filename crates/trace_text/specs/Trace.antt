@@ -25,7 +25,7 @@
 --   Rebuilt start                    Rebuilt          where a local log begins; so in Moved
 --   Copied end                       Copied           a follower's end
 --   Copied id start last             CopiedSegment    a remote segment and its offsets
---   Behind ack mark                  Behind           an acknowledged end, the high watermark
+--   Behind ack mark                  After           an acknowledged end, the high watermark
 --   Overtaken state                  Overtaken        a remote segment's state
 --   Dropped base last                Dropped          a local segment's offsets
 --   Deleted id                       Deleted          a remote segment
@@ -157,7 +157,7 @@ event_words (Begins None) = codes "begin" ∷ []
 event_words (Begins (Some end)) = codes "begin" ∷ codes "cut" ∷ decimal end ∷ []
 event_words (Answers answer) = codes "=" ∷ name_of answer ∷ fields_of answer
 
--- each word behind a space
+-- each word after a space
 abbrev pub spaced : List (List ℕ) → List ℕ
 spaced [] = []
 spaced (word ∷ words) = codes " " ++ (word ++ spaced words)

@@ -67,7 +67,7 @@ fn write_place(page: &mut Page, place: Place) -> Result<(), AllocError>
     }
 }
 
-/// Writes a cause's numbers, each behind a space.
+/// Writes a cause's numbers, each after a space.
 fn write_numbers(page: &mut Page, cause: BatchRefusal) -> Result<(), AllocError>
     ensures { OnOk result (page.new ≡ page.old ++ spaced (cause_numbers cause)) }
 {
@@ -101,7 +101,7 @@ fn write_tier(page: &mut Page, tier: Tier) -> Result<(), AllocError>
     }
 }
 
-/// Writes an answer's fields, each behind a space.
+/// Writes an answer's fields, each after a space.
 fn write_fields(page: &mut Page, answer: &Answer) -> Result<(), AllocError>
     ensures { OnOk result (page.new ≡ page.old ++ spaced (fields_of answer.now)) }
 {
@@ -142,7 +142,7 @@ fn write_fields(page: &mut Page, answer: &Answer) -> Result<(), AllocError>
     }
 }
 
-/// Writes what an entry records, each word behind a space.
+/// Writes what an entry records, each word after a space.
 pub fn write_event(page: &mut Page, event: &Event) -> Result<(), AllocError>
     ensures { OnOk result (page.new ≡ page.old ++ spaced (event_words event.now)) }
 {

@@ -69,7 +69,7 @@ impl Page {
         self.number(n)
     }
 
-    /// Writes two numbers, each behind a space.
+    /// Writes two numbers, each after a space.
     pub fn then_numbers(&mut self, a: u64, b: u64) -> Result<(), AllocError>
         ensures { OnOk result (self.new ≡ self.old ++ spaced (decimal a ∷ decimal b ∷ [])) }
     {

@@ -1,4 +1,4 @@
--- Views that take in further notes.
+-- Views that take in further events.
 use Rattle.std.proofs.Common.{◌≡◌, ◌∙◌, refl, sym, ap, ℕ, ◌+◌, ◌<◌, ◌≤◌, List, [], ◌∷◌, ◌++◌, length, take, drop, Result, Ok, Err, arith}
 use Rattle.std.specs.Prelude.{IsTrue, ◌^◌, OnErr}
 use Rattle.std.proofs.Math.Seq.{take-append_seam}
@@ -30,7 +30,7 @@ folded_append : (entries : _) (xs ys : List Note) → folded_from entries (xs ++
 folded_append entries [] ys = refl
 folded_append entries (x ∷ xs) ys = folded_append (recorded entries x) xs ys
 
--- a view of the first k notes, fed all others
+-- a view of the first k events, fed all others
 fed_rest : (notes : List Note) (k : ℕ) → length notes < 2 ^ 64 → k ≤ length notes → fed_all (view_of (take k notes)) (drop k notes) ≡ view_of notes
 fed_rest notes k low within =
     let first = length-take-le k notes within in
@@ -56,7 +56,7 @@ fed_push : (view : Seen) (notes : List Note) (note : Note) → fed_all view (not
 fed_push view [] note = refl
 fed_push view (first ∷ notes) note = fed_push (fed view first) notes note
 
--- a view has the first of some notes, and others are left
+-- a view has the first of some events, and others are left
 pub record IsFed (old : Seen) (notes : List Note) (new : Seen) (rest : List Note) : Type 0 where
   pub front : List Note
   pub parts : front ++ rest ≡ notes
@@ -67,7 +67,7 @@ pub record IsFed (old : Seen) (notes : List Note) (new : Seen) (rest : List Note
 pub fed_none : (old new : Seen) (notes rest : List Note) → new ≡ old → rest ≡ notes → AreNotes notes → IsFed old notes new rest
 fed_none old new notes rest same all are = rw (same, all) (record { front = []; parts = refl; are = are; view = refl })
 
--- one note more
+-- one event more
 pub fed_one : (old mid new : Seen) (notes all rest : List Note) (note : Note) → all ≡ note ∷ rest → new ≡ fed mid note → IsFed old notes mid all → IsFed old notes new rest
 fed_one old mid new notes all rest note is next h = record {
   front = h.front ++ note ∷ [];
@@ -96,7 +96,7 @@ pub failed_takes : (T : Type 0) (why : Trouble) (log : Content) (view : Seen) �
 failed_takes T Failed log view = refl
 failed_takes T NoMemory log view = record { notes = []; rest = drop view.notes log.notes; are = All-nil IsNote; further = λ _. refl; view = refl }
 
--- a feed that finds no memory leaves it with the first of the notes
+-- a feed that finds no memory leaves it with the first of the events
 pub stopped_advances : (log : Content) (old new : Seen) (notes : List Note) → AreNotes notes → (IsTrue log.is_observable → notes ≡ drop old.notes log.notes)
     → (k : ℕ) × (new ≡ fed_all old (take k notes)) → Advances log old new
 stopped_advances log old new notes are further (k, is) = record {

@@ -1,11 +1,11 @@
--- What a view makes of further notes, and of what a metadata log has more than it.
+-- What a view makes of further events, and of what a metadata log has more than it.
 --
 --   form                       says
---   fed_all view notes         the view after these notes, in their order
---   Refreshes log old new      the view has all notes of the log
+--   fed_all view notes         the view after these events, in their order
+--   Refreshes log old new      the view has all events of the log
 --   Advances log old new       it has taken in some of those that the log has more, in their order
 --
--- Of a log that isn't observable, any notes may have been read.
+-- Of a log that isn't observable, any events may have been read.
 use Rattle.std.specs.Prelude.{◌≡◌, ◌⊎◌, List, [], ◌∷◌, ◌++◌, drop, IsTrue, Ok, Err}
 use Rattle.std.specs.declared.result.Result.{Result}
 use Rattle.tier_base.specs.declared.fault.Trouble.{Trouble}
@@ -17,7 +17,7 @@ use Rattle.meta_log.specs.Call.{call_code}
 use Rattle.meta_log.specs.Content.{Content, AreNotes, LeavesTold, Keeps}
 use Rattle.remote_view.specs.Fold.{Seen, fed}
 
--- the view after these notes
+-- the view after these events
 abbrev pub fed_all : Seen → List Note → Seen
 fed_all view [] = view
 fed_all view (note ∷ notes) = fed_all (fed view note) notes
@@ -29,7 +29,7 @@ pub record Refreshes (log : Content) (old new : Seen) : Type 0 where
   pub further : IsTrue log.is_observable → notes ≡ drop old.notes log.notes
   pub view : new ≡ fed_all old notes
 
--- the view has taken in the first of the notes that the log has more than it
+-- the view has taken in the first of the events that the log has more than it
 pub record Advances (log : Content) (old new : Seen) : Type 0 where
   pub notes : List Note
   pub rest : List Note
@@ -37,14 +37,14 @@ pub record Advances (log : Content) (old new : Seen) : Type 0 where
   pub further : IsTrue log.is_observable → notes ++ rest ≡ drop old.notes log.notes
   pub view : new ≡ fed_all old notes
 
--- what a refresh makes of a view: a failed one nothing, and one that wants memory may stop between two notes
+-- what a refresh makes of a view: a failed one nothing, and one that runs out of memory may stop between two events
 abbrev pub Takes : {T : Type 0} → Result T Trouble → Content → Seen → Seen → Type 0
 Takes (Ok x) log old new = Refreshes log old new
 Takes (Err Failed) log old new = new ≡ old
 Takes (Err NoMemory) log old new = Advances log old new
 
--- what a power cut may leave of the log after a refresh: after one that was done what is told, and no other notes.
--- Where memory was wanting that holds, or the view is as it was
+-- what a power cut may leave of the log after a refresh: after one that was done what is reported, and no other events.
+-- Where memory runs out that holds, or the view is as it was
 abbrev pub Leaves : {T : Type 0} → Result T Trouble → Seen → Seen → Content → Content → Type 0
 Leaves (Ok x) before after old new = IsTrue old.is_observable → LeavesTold new
 Leaves (Err Failed) before after old new = Unit {0}
@@ -56,7 +56,7 @@ Reads (Ok x) old new = RanQuietly Read Went old new
 Reads (Err Failed) old new = RanQuietly Read Fault old new
 Reads (Err NoMemory) old new = Lasts old new
 
--- that call ended as the refresh did, or it went and there was no memory for the notes that it gave
+-- that call ended as the refresh did, or it went and there was no memory for the events that it gave
 abbrev pub ReadsOnce : {T : Type 0} → Result T Trouble → Control call_code → Control call_code → Type 0
 ReadsOnce (Ok x) old new = RanQuietly Read Went old new
 ReadsOnce (Err Failed) old new = RanQuietly Read Fault old new
@@ -77,7 +77,7 @@ module _ {M : Type 0} (notes : M → Content) (calls : M → Control call_code) 
     pub control : RanQuietly Read Fault (calls old) (calls new)
     pub content : Keeps (notes old) (notes new)
 
-  -- memory was wanted
+  -- memory ran out
   pub record Halted (before after : Seen) (old new : M) : Type 0 where
     pub view : Advances (notes old) before after
     pub control : Lasts (calls old) (calls new)

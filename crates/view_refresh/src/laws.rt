@@ -7,7 +7,7 @@ ghost use Rattle.view_refresh.specs.Refreshing.{Refreshes};
 
 use meta_log::MetaLog;
 
-/// A view of the log's first notes is the view of all of them once it is refreshed.
+/// A view of the log's first events is the view of all of them once it is refreshed.
 pub fn a_refreshed_view_is_the_fold<M: MetaLog>()
     ensures { (log : M) (old new : Seen) (k : ℕ) → IsTrue (M.content log).is_observable
         → length (M.content log).notes < 2 ^ 64

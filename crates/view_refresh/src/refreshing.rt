@@ -27,7 +27,7 @@ pub fn refresh<M: MetaLog>(view: &mut View, meta: &mut M) -> Result<(), Trouble>
     }
 }
 
-/// Feeds a view these notes. Where memory is wanted it has some of them.
+/// Feeds a view these events. Where memory runs out it has some of them.
 fn feed_all(view: &mut View, notes: Row<Note>) -> Result<(), AllocError>
     requires { AreNotes notes }
     ensures ok { OnOk result (view.new ≡ fed_all view.old notes) }

@@ -84,7 +84,7 @@ module _ {D S M : Type 0} (files : D → disk.Content) (objects : S → store.Co
         is = unbegun before after (rests.objects_rest q) refl;
       }
 
-  -- what a sweep leaves that was handed what is held, once its devices are back
+  -- what a sweep leaves that was returned what is held, once its devices are back
   pub swept_left : (h0 h1 h : YardContent D S M) (p : PartitionId) (s s' : S) (m m' : M) → HandsStore objects (h0.stores p) (objects s) → HandsLog notes (h0.logs p) (notes m)
       → TierIs p (Some s') (Some m') h1 h → LeavesUnder (objects s) (notes m) (objects s') (notes m') → LeavesUnderIn objects notes h0 h p
   swept_left h0 h1 h p s s' m m' gives says is under l at =
@@ -97,7 +97,7 @@ module _ {D S M : Type 0} (files : D → disk.Content) (objects : S → store.Co
         is = u.2;
       }
 
-  -- and of what is handed out then
+  -- and of what is provided then
   pub handed_under : HandedLeavesUnder files objects notes
   handed_under old new p s s' m m' store_is log_is gives says under l at =
       let x = under l (handed_left notes (new.logs p) (notes m') says l at) in

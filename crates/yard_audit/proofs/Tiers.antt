@@ -1,4 +1,4 @@
--- Tiers as they are handed out, rest, and come back.
+-- Tiers as they are provided, rest, and come back.
 use Rattle.std.proofs.Common.{◌≡◌, ◌≢◌, ◌⊎◌, inl, inr, ◌∙◌, sym, ap, subst, refl, ℕ, ◌==◌, ◌<◌, Bool, true, false, List, Option, Some, None, arith}
 use Rattle.std.proofs.lemmas.Bool.Decides.{Decides-eqb}
 use Rattle.tier_base.specs.declared.names.PartitionId.{PartitionId}
@@ -37,7 +37,7 @@ pub on_err : {T E : Type 0} (r : Result T E) (P : Type 0) → P → OnErr r P
 on_err (Ok x) P holds = record {}
 on_err (Err e) P holds = holds
 
--- counts of a yard that go on
+-- counts of an environment that continue
 pub back_then : (c0 c c' : Control) → IsBack c0 c → IsBack c c' → IsBack c0 c'
 back_then c0 c c' a b = record {
   never_falls = (let f = a.never_falls in let g = b.never_falls in omega (arith, f, g));
@@ -49,7 +49,7 @@ pub rose_then : (c0 c c' : Control) → IsBack c0 c → Rose c.faults c'.faults 
 rose_then c0 c c' a rose = let f = a.never_falls in omega (arith, f, rose)
 
 module _ {S : Type 0} (objects : S → store.Content) where
-  -- what is handed out has what was held
+  -- what is provided has what was held
   pub handed_objects : (held : Option S) (c : store.Content) → HandsStore objects held c → (key : ObjectKey) → c.objects key ≡ object_on objects held key
   handed_objects None c gives key = gives.objects key
   handed_objects (Some s) c gives key = gives.objects key
@@ -118,7 +118,7 @@ module _ {D S M : Type 0} (files : D → disk.Content) (objects : S → store.Co
     disks_rest = disks_then h0 h h' a.disks_rest b.disks_rest;
   }
 
-  -- the tier that is handed out is the one that is held
+  -- the tier that is provided is the one that is held
   pub handed_tier : (held : YardContent D S M) (p : PartitionId) (s : S) (m : M) → HandsStore objects (held.stores p) (objects s) → HandsLog notes (held.logs p) (notes m)
       → HoldsTier objects notes held p (tier_of (objects s) (notes m))
   handed_tier held p s m gives says = record {
@@ -152,7 +152,7 @@ module _ {D S M : Type 0} (files : D → disk.Content) (objects : S → store.Co
     notes_are = holds.notes_are ∙ notes_rest;
   }
 
-  -- what is handed out and comes back with the content that it had rests
+  -- what is provided and comes back with the content that it had rests
   pub handed_back : (h0 h1 h : YardContent D S M) (p : PartitionId) (s s' : S) (m m' : M) → HandsStore objects (h0.stores p) (objects s) → HandsLog notes (h0.logs p) (notes m)
       → store.Keeps (objects s) (objects s') → log.Keeps (notes m) (notes m') → TierIs p None None h0 h1 → TierIs p (Some s') (Some m') h1 h → AllRest files objects notes h0 h
   handed_back h0 h1 h p s s' m m' gives says kept told out back = record {

@@ -1,4 +1,4 @@
--- What is told of partitions, a line each.
+-- What is reported of partitions, a line each.
 --
 -- line    = partition SP ( verdict / "swept" SP count ) LF
 -- verdict = "sound" SP entries SP objects / "unsound" SP flaw
@@ -45,7 +45,7 @@ unsound_after (Some first) partition verdict = Some first
 unsound_after None partition (Sound entries objects) = None
 unsound_after None partition (Unsound flaw) = Some partition
 
--- the first partition whose tier isn't sound, behind one that there may be
+-- the first partition whose tier isn't sound, after one that there may be
 abbrev pub first_unsound_from : Option PartitionId → List (PartitionId × Verdict) → Option PartitionId
 first_unsound_from first [] = first
 first_unsound_from first (found ∷ more) = first_unsound_from (unsound_after first found.0 found.1) more

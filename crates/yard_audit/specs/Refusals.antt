@@ -1,4 +1,4 @@
--- What a refusal of a device, an audit or a sweep is to the round over a yard.
+-- What a refusal of a device, an audit or a sweep is to the round over an environment.
 use Rattle.tier_base.specs.declared.fault.Trouble.{Trouble}
 use Rattle.tier_base.specs.declared.fault.Trouble.TheVariants as trouble
 use Rattle.tier_sweep.specs.declared.refusal.SweepRefusal.{SweepRefusal}

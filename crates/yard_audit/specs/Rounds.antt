@@ -1,4 +1,4 @@
--- What a round over the partitions of a yard finds, and what it leaves.
+-- What a round over the partitions of an environment finds, and what it leaves.
 use Rattle.std.specs.Prelude.{◌≡◌, ℕ, Some, List, map, IsTrue}
 use Rattle.std.specs.List.{AllByRecursion}
 use Rattle.tier_base.specs.declared.names.PartitionId.{PartitionId}
@@ -40,8 +40,8 @@ module _ {D S M : Type 0} (objects : S → store.Content) (notes : M → log.Con
     pub left_so : HoldsTier objects notes new p after
     pub is : IsUnderSweep before after
 
-  -- these notes, which a power cut may leave of the partition, have come so far in its sweep from some that it might have left before, or
-  -- it hasn't begun
+  -- these metadata events, which a power cut may leave of the partition, have come so far in its sweep from some that
+  -- it might have left before, or it hasn't begun
   pub record IsLeftIn (old new : YardContent D S M) (p : PartitionId) (left : List Note) : Type 0 where
     pub before : SweptTier
     pub after : SweptTier
@@ -55,7 +55,7 @@ module _ {D S M : Type 0} (objects : S → store.Content) (notes : M → log.Con
   LeavesUnderIn old new p = (left : List Note) → left_on notes (new.logs p) left → IsLeftIn old new p left
 
 module _ {D S M : Type 0} (files : D → disk.Content) (objects : S → store.Content) (notes : M → log.Content) where
-  -- these are the partitions of which something stands, in rising order
+  -- these are the partitions in use, in rising order
   pub record AreAll (held : YardContent D S M) (list : List PartitionId) : Type 0 where
     pub rise : Rise list
     pub used : IsTrue held.is_observable → AreUsed files objects notes held list
@@ -71,8 +71,8 @@ module _ {D S M : Type 0} (files : D → disk.Content) (objects : S → store.Co
     pub swept : IsTrue old.is_observable → AllByRecursion (IsSweptIn objects notes old new) found
     pub disks : IsTrue old.is_observable → DisksRest files old new
 
-  -- what a power cut may leave of the store and the metadata log that are handed out then is under a sweep from what it might have left of
-  -- those that were held
+  -- what a power cut may leave of the store and the metadata log that are provided then is under a sweep from what it
+  -- might have left of those that were held
   abbrev pub HandedLeavesUnder : Type 0
   HandedLeavesUnder = (old new : YardContent D S M) (p : PartitionId) (s s' : S) (m m' : M) → old.stores p ≡ Some s → old.logs p ≡ Some m
       → HandsStore objects (new.stores p) (objects s') → HandsLog notes (new.logs p) (notes m') → LeavesUnderIn objects notes old new p

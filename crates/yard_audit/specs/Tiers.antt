@@ -1,4 +1,4 @@
--- The tiers of partitions as an observable yard holds them, and what becomes of them while a round is made.
+-- The tiers of partitions as an observable environment holds them, and what becomes of them while a round is made.
 --
 --   form                       says
 --   HoldsTier held p tier      the partition's store and metadata log hold this tier
@@ -29,12 +29,12 @@ abbrev pub object_on : {S : Type 0} → (S → store.Content) → Option S → O
 object_on objects None key = None
 object_on objects (Some s) key = (objects s).objects key
 
--- the notes of a metadata log, none where there is no log
+-- the metadata events of a metadata log, none where there is no log
 abbrev pub notes_on : {M : Type 0} → (M → log.Content) → Option M → List Note
 notes_on notes None = []
 notes_on notes (Some m) = (notes m).notes
 
--- what a power cut may leave of a metadata log, no notes where there is no log
+-- what a power cut may leave of a metadata log, no metadata events where there is no log
 abbrev pub left_on : {M : Type 0} → (M → log.Content) → Option M → List Note → Type 0
 left_on notes None left = left ≡ []
 left_on notes (Some m) left = log.Left (notes m) left
@@ -85,7 +85,7 @@ module _ {D S M : Type 0} where
     pub disks : (q : PartitionId) (b : BrokerId) → new.disks q b ≡ old.disks q b
     pub registries : (q : PartitionId) → new.registries q ≡ old.registries q
 
--- as many devices are out as before; the count of faults, which stands still at its type's end, doesn't fall
+-- as many devices are out as before; the count of faults, which stays at its type's greatest value, doesn't fall
 pub record IsBack (old new : Control) : Type 0 where
   pub never_falls : counted old.faults 0 ≤ new.faults
   pub named : new.named ≡ old.named

@@ -1,4 +1,4 @@
-//! The audit of all tiers of a yard.
+//! The audit of all tiers of an environment.
 
 ghost use Rattle.std.specs.Prelude.{◌≡◌, IfOk, IsErrOf, IsTrue};
 ghost use Rattle.tier_base.specs.Counts.{Rose};
@@ -16,7 +16,8 @@ use std::alloc::Global;
 use tier_audit::{Verdict, audit};
 use tier_base::PartitionId;
 
-/// What an audit of all tiers tells: a line for each, and the first partition whose tier isn't sound, if there is one.
+/// What an audit of all tiers reports: a line for each, and the first partition whose tier isn't sound, if there is
+/// one.
 #[derive(Debug, Drop)]
 pub struct Audited {
     pub text: Vec<u8>,
@@ -58,7 +59,7 @@ fn note(unsound: &mut Option<PartitionId>, partition: PartitionId, verdict: &Ver
     }
 }
 
-/// Audits the tier of each partition of which something stands, in rising order.
+/// Audits the tier of each partition in use, in rising order.
 pub fn audit_all<Y: Yard>(alloc: Global, yard: &mut Y) -> Result<Audited, RoundRefusal>
     ensures told { IfOk result (TellsAudit Y.D.content Y.S.content Y.M.content (Y.held yard.old)) }
     ensures rest { IsTrue (Y.held yard.old).is_observable

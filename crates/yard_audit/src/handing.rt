@@ -1,4 +1,5 @@
-//! The partitions of a yard, and a partition's store and metadata log, handed out together and given back together.
+//! The partitions of an environment, and a partition's store and metadata log, provided together and given back
+//! together.
 
 ghost use Rattle.std.specs.Prelude.{◌≡◌, ◌≤◌, ◌<◌, None, Some, IfOk, OnOk, OnErr, IsErrOf, IsTrue, false};
 ghost use Rattle.tier_base.specs.Counts.{Rose};
@@ -14,14 +15,14 @@ use meta_log::MetaLog;
 use object_store::Store;
 use tier_base::{PartitionId, Row};
 
-/// What the tier of a partition stands on.
+/// What the tier of a partition is on.
 #[derive(Drop)]
 pub(crate) struct Tools<S: Store, M: MetaLog> {
     pub store: S,
     pub meta: M,
 }
 
-/// Names the partitions of which something stands, in rising order.
+/// Names the partitions in use, in rising order.
 pub(crate) fn list<Y: Yard>(yard: &mut Y) -> Result<Row<PartitionId>, RoundRefusal>
     ensures all { IfOk result (AreAll Y.D.content Y.S.content Y.M.content (Y.held yard.old)) }
     ensures rest { IsTrue (Y.held yard.old).is_observable
@@ -36,7 +37,7 @@ pub(crate) fn list<Y: Yard>(yard: &mut Y) -> Result<Row<PartitionId>, RoundRefus
     }
 }
 
-/// Hands out a partition's store and metadata log.
+/// Provides a partition's store and metadata log.
 pub(crate) fn hand_out<Y: Yard>(
     yard: &mut Y,
     partition: PartitionId,
@@ -73,7 +74,8 @@ pub(crate) fn hand_out<Y: Yard>(
     }
 }
 
-/// Gives a partition's store and metadata log back. One that failed since it was handed out is a fault of the yard.
+/// Gives a partition's store and metadata log back. One that failed since it was provided is a fault of the
+/// environment.
 pub(crate) fn give_back<Y: Yard>(yard: &mut Y, partition: PartitionId, tools: Tools<Y::S, Y::M>)
     requires { 2 ≤ (Y.control yard.old).out }
     ensures held { IsTrue (Y.held yard.old).is_observable

@@ -78,7 +78,7 @@ fn flaw_front(
     Ok(line)
 }
 
-/// The line of a flaw that a name and a key tell.
+/// The line of a flaw that a name and a key report.
 fn key_line(
     alloc: Global,
     partition: PartitionId,
@@ -119,7 +119,7 @@ fn wrong_line(
     Ok(line)
 }
 
-/// The end of a line that tells of a place.
+/// The end of a line that reports a place.
 fn place_end(alloc: Global, at: u64) -> Result<Vec<u8>, AllocError>
     ensures { IfOk result (λ end. end.items ≡ codes " " ++ (decimal at ++ codes "\n")) }
 {

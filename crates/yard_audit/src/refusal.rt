@@ -1,4 +1,4 @@
-//! Why the tiers of a yard were not all gone over.
+//! Why the tiers of an environment were not all gone over.
 
 ghost use Rattle.std.specs.Prelude.{◌≡◌};
 ghost use Rattle.yard_audit.specs.Refusals.{of_trouble, of_audit, of_sweep};
@@ -7,10 +7,10 @@ use tier_audit::AuditRefusal;
 use tier_base::Trouble;
 use tier_sweep::SweepRefusal;
 
-/// Why the tiers of a yard were not all gone over. Each device that was handed out is back.
+/// Why the tiers of an environment were not all gone over. Each device that was provided is back.
 #[derive(Clone, Copy, Debug, PartialEq, Eq)]
 pub enum RoundRefusal {
-    /// A call of the yard failed, or one of a device that it handed out.
+    /// A call of the environment failed, or one of a device that it provided.
     Fault,
     /// There was no memory.
     NoMemory,

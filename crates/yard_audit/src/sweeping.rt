@@ -1,4 +1,4 @@
-//! The sweep of all tiers of a yard.
+//! The sweep of all tiers of an environment.
 
 ghost use Rattle.std.specs.Prelude.{◌≡◌, IfOk, OnErr, OnOk, IsErrOf, IsTrue};
 ghost use Rattle.tier_base.specs.Counts.{Rose};
@@ -43,8 +43,8 @@ fn sweep_one<Y: Yard>(
     }
 }
 
-/// Sweeps the tier of each partition of which something stands, in rising order, and answers a line for each. A refusal leaves the
-/// tiers before it swept.
+/// Sweeps the tier of each partition in use, in rising order, and returns a line for each. A refusal leaves the tiers
+/// before it swept.
 pub fn sweep_all<Y: Yard>(alloc: Global, yard: &mut Y) -> Result<Vec<u8>, RoundRefusal>
     ensures told { IfOk result (λ text. TellsSweep Y.D.content Y.S.content Y.M.content
         (Y.held yard.old) (Y.held yard.new) text.items) }

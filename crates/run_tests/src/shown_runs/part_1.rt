@@ -1,4 +1,4 @@
-//! What the documents and the examples show as run, part 1. Made by docs/snippets.py, which tells where it is another.
+//! What the documents and the examples show as run, part 1. Made by docs/snippets.py, which also reports a difference.
 
 /// Scripts and their traces.
 pub(crate) static RUNS: &str = "# docs/SCRIPT.md, script 1

@@ -11,7 +11,7 @@ both : {X Y : Type 0} (b : Bool) (new old : X → Y) (w v : X) → new w ≡ old
 both true new old w v is o p h = ap Some is
 both false new old w v is o p h = h
 
--- what a look-up sees of values that were written in a `retain` that keeps all
+-- what a lookup sees of values that were written in a `retain` that keeps all
 written : {F K X Y : Type 0} (T : F → K → X → Bool → X → F → Type 0) (f : F) (new old : X → Y) → ((k : K) (v : X) (b : Bool) (w : X) (f' : F) → T f k v b w f' → (b ≡ true) × (new w ≡ old v) × (f' ≡ f)) → (t : K → Bool) (es kept : List (K × X)) → RetainsPairs T f es kept → option_map new (lookup t kept) ≡ option_map old (lookup t es)
 written T f new old says t [] kept h = ap (λ l. option_map new (lookup t l)) h
 written {K} {X} T f new old says t (e ∷ es) kept h =

@@ -5,7 +5,7 @@ use Rattle.tier_sweep.specs.Sweeping.{starts_of}
 use Rattle.tier_sweep.specs.Parts.{AllWent}
 use Rattle.tier_sweep.proofs.telling.tell_starts.Given as goal
 
--- those of the entries so far are told
+-- those of the entries so far are reported
 abbrev pub invariant-loop-entry : goal.invariant-loop-entry
 invariant-loop-entry g l =
     let content = g.M.MetaLog.content in

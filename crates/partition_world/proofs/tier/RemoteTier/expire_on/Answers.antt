@@ -2,7 +2,8 @@ use Rattle.std.proofs.Common.{subst, ℕ, ◌<◌, ◌≤◌, Option, arith}
 use Rattle.std.specs.Prelude.{IfSome}
 use Rattle.partition_world.proofs.tier.RemoteTier.expire_on.Goals as goal
 
--- the log start comes to the mark that the broker knows at most, and that is at most the registry's where the broker leads its epoch
+-- the log start offset comes to the high watermark that the broker knows at most, and that is at most the registry's
+-- where the broker leads its epoch
 pub raise-requires-clause-within : goal.raise-requires-clause-within
 raise-requires-clause-within g c = λ e is le.
     let h = c.args.held.now in
