@@ -38,7 +38,7 @@ fn read_groups(bytes: &[u8], most: usize) -> Result<(u64, usize), VarRefusal>
     Err(VarRefusal::TooLong)
 }
 
-/// Reads the varint at the front: its value, and how many bytes it has.
+/// Reads the varint at the front: its value, and how many bytes it has. `VarRefusal` has the causes of a failure.
 #[tactic(auto, using(crate::proofs::Groups::fewer_bits), unfolding(crate::specs::Varint::varint_at))]
 pub fn read_varint(bytes: &[u8]) -> Result<(i32, usize), VarRefusal>
     ensures within { IfOk result (λ x. x.1 ≤ length bytes.now) }
@@ -53,7 +53,7 @@ pub fn read_varint(bytes: &[u8]) -> Result<(i32, usize), VarRefusal>
     Ok((decoded_32((number % (1 << 32)) as u32), used))
 }
 
-/// Reads the varlong at the front: its value, and how many bytes it has.
+/// Reads the varlong at the front: its value, and how many bytes it has. `VarRefusal` has the causes of a failure.
 #[tactic(auto, unfolding(crate::specs::Varint::varlong_at))]
 pub fn read_varlong(bytes: &[u8]) -> Result<(i64, usize), VarRefusal>
     ensures within { IfOk result (λ x. x.1 ≤ length bytes.now) }
@@ -85,7 +85,7 @@ fn write_groups(out: &mut Vec<u8>, number: u64) -> Result<(), AllocError>
     out.extend_from_slice(&groups[..count + 1])
 }
 
-/// Appends the shortest spelling of a varint.
+/// Appends the shortest spelling of a varint. Fails only if memory runs out.
 #[tactic(auto, unfolding(crate::specs::Varint::varint_bytes))]
 pub fn write_varint(out: &mut Vec<u8>, value: i32) -> Result<(), AllocError>
     ensures ok { OnOk result (out.new.items ≡ out.old.items ++ varint_bytes value) }
@@ -94,7 +94,7 @@ pub fn write_varint(out: &mut Vec<u8>, value: i32) -> Result<(), AllocError>
     write_groups(out, encoded(value as i64))
 }
 
-/// Appends the shortest spelling of a varlong.
+/// Appends the shortest spelling of a varlong. Fails only if memory runs out.
 #[tactic(auto, unfolding(crate::specs::Varint::varlong_bytes))]
 pub fn write_varlong(out: &mut Vec<u8>, value: i64) -> Result<(), AllocError>
     ensures ok { OnOk result (out.new.items ≡ out.old.items ++ varlong_bytes value) }

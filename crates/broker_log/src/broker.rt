@@ -62,7 +62,8 @@ impl<D: Disk> Model for BrokerLog<D> {
 }
 
 impl<D: Disk> BrokerLog<D> {
-    /// Makes the empty log at 0 over a disk with no files. The broker is up.
+    /// Makes the empty log at 0 over a disk with no files. The broker is up. `CreateRefusal` has the causes of a
+    /// failure.
     pub fn create(
         alloc: Global,
         disk: D,
@@ -260,7 +261,8 @@ impl<D: Disk> BrokerLog<D> {
         log.end_up_to(offset)
     }
 
-    /// Makes all of the log flushed, and returns its end.
+    /// Makes all of the log flushed, and returns its end. Fails if a disk call fails, which stops the broker's log, or
+    /// if memory runs out.
     pub fn flush(&mut self) -> Result<u64, Trouble>
         requires { IsTrue (is_up self.old) }
         ensures ok { IfOk result (λ end. Settles D.content self.old self.new (λ line _. line) end) }
@@ -282,7 +284,7 @@ impl<D: Disk> BrokerLog<D> {
     }
 
     /// Appends the first batches of a run that fit one segment, and returns their first and their last offset. They
-    /// come back after a stop once they are flushed.
+    /// come back after a stop once they are flushed. `AppendRefusal` has the causes of a failure.
     pub fn append(&mut self, run: &[u8]) -> Result<(u64, u64), AppendRefusal>
         requires { WhileUp self.old (λ log. IsRun log.end log.line run.now) }
         ensures ok { IfOk result (λ answer. Appends D.content self.old self.new run.now answer) }
@@ -310,7 +312,8 @@ impl<D: Disk> BrokerLog<D> {
         outcome
     }
 
-    /// Enters a leader epoch that begins at the log's end, makes all flushed, and returns the end.
+    /// Enters a leader epoch that begins at the log's end, makes all flushed, and returns the end. Fails if a disk call
+    /// fails, which stops the broker's log, or if memory runs out.
     pub fn lead(&mut self, epoch: u32) -> Result<u64, Trouble>
         requires fits { epoch < 2 ^ 31 }
         requires above { WhileUp self.old (λ log. ForSome (last_epoch log.line) (λ last. last < epoch)) }
@@ -332,7 +335,7 @@ impl<D: Disk> BrokerLog<D> {
         outcome
     }
 
-    /// Closes the open segment, and opens a new one at the log's end.
+    /// Closes the open segment, and opens a new one at the log's end. `RollRefusal` has the causes of a failure.
     pub fn roll(&mut self) -> Result<u64, RollRefusal>
         requires { IsTrue (is_up self.old) }
         ensures base { IfOk result (λ base. end_in self.old ≡ Some base) }
@@ -363,7 +366,8 @@ impl<D: Disk> BrokerLog<D> {
     }
 
     /// Cuts the log to an offset, durably, and returns its new end; where a batch holds the offset, that batch's base.
-    /// Below the local start nothing is left of it on the disk.
+    /// Below the local start nothing is left of it on the disk. Fails if a disk call fails, which stops the broker's
+    /// log, or if memory runs out.
     pub fn cut_to(&mut self, end: u64) -> Result<u64, Trouble>
         requires { WhileUp self.old (λ log. end ≤ log.end) }
         ensures ok { IfOk result (λ now. Cuts D.content self.old self.new end now) }
@@ -398,7 +402,8 @@ impl<D: Disk> BrokerLog<D> {
         }
     }
 
-    /// Drops the first closed segment, durably, and returns its base and its last offset.
+    /// Drops the first closed segment, durably, and returns its base and its last offset. Fails if a disk call fails,
+    /// which stops the broker's log, or if memory runs out.
     pub fn drop_first(&mut self) -> Result<(u64, u64), Trouble>
         requires { WhileUp self.old (λ log. IsFirstFlushed log.flushed_end log.closed) }
         ensures ok { IfOk result (λ answer. Drops D.content self.old self.new answer) }
@@ -418,7 +423,8 @@ impl<D: Disk> BrokerLog<D> {
         outcome
     }
 
-    /// Restarts the local log at an offset, empty and durable, with these leader epochs.
+    /// Restarts the local log at an offset, empty and durable, with these leader epochs. Fails if a disk call fails,
+    /// which stops the broker's log, or if memory runs out.
     pub fn restart_at(&mut self, start: u64, line: Line) -> Result<(), Trouble>
         requires up { IsTrue (is_up self.old) }
         requires low { start ≤ 2 ^ 62 }
@@ -536,7 +542,7 @@ impl<D: Disk> BrokerLog<D> {
         self.place = placed(settings, log, true);
     }
 
-    /// Opens the log of a broker that is down, and returns its end.
+    /// Opens the log of a broker that is down, and returns its end. `OpenRefusal` has the causes of a failure.
     pub fn up(&mut self) -> Result<u64, OpenRefusal>
         requires { is_up self.old ≡ false }
         ensures ok { IfOk result (λ end. ComesUp D.content self.old self.new end) }

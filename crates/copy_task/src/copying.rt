@@ -218,7 +218,7 @@ impl Copying {
         }
     }
 
-    /// The bytes of a part. From then on the bundle is kept.
+    /// The bytes of a part. From then on the bundle is kept. Fails only if memory runs out.
     pub fn part(&mut self, alloc: Global, part: Part) -> Result<Bytes, AllocError>
         ensures bytes { IfOk result (λ bytes. bytes ≡ part_in self.old.parts part) }
         ensures same { self.new ≡ self.old }
@@ -229,7 +229,7 @@ impl Copying {
         bytes
     }
 
-    /// The event that the copy starts.
+    /// The event that the copy starts. Fails only if memory runs out.
     pub fn start_note(&self, alloc: Global, origin: EventOrigin) -> Result<Note, AllocError>
         ensures note { IfOk result (λ note. note ≡ start_note self.now origin) }
         ensures rules { IfOk result IsNote }
@@ -253,7 +253,7 @@ impl Copying {
         }))
     }
 
-    /// The event that the copy is finished, to be appended once its objects are put.
+    /// The event that the copy is finished, to be appended once its objects are put. Fails only if memory runs out.
     pub fn finish_note(&mut self, alloc: Global, origin: EventOrigin) -> Result<Note, AllocError>
         ensures note { IfOk result (λ note. note ≡ finish_note self.old origin) }
         ensures rules { IfOk result IsNote }

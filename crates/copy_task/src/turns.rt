@@ -15,7 +15,7 @@ use std::alloc::{AllocError, Global};
 use tier_base::{State, Trouble};
 use view_refresh::refresh;
 
-/// Takes the next turn of a copy.
+/// Takes the next turn of a copy. Fails only if memory runs out.
 pub fn copy_turn<S: Store, M: MetaLog>(
     alloc: Global,
     copying: &mut Copying,

@@ -86,7 +86,7 @@ impl YardCounts {
         self.registries.as_slice()
     }
 
-    /// Records the first name as it was found, and returns it.
+    /// Records the first name as it was found, and returns it. Fails if a device call fails or memory runs out.
     pub fn name(&mut self, found: Result<Option<Blob>, Trouble>) -> Result<Option<Blob>, Trouble>
         ensures names { Names result self.old self.new }
         ensures found { IfOk result (λ name. found ≡ Ok name) }
@@ -105,7 +105,7 @@ impl YardCounts {
         }
     }
 
-    /// Counts a call that provides nothing, and returns what it found.
+    /// Counts a call that provides nothing, and returns what it found. Fails if a device call fails or memory runs out.
     pub fn ask<T: Drop>(&mut self, found: Result<T, Trouble>) -> Result<T, Trouble>
         ensures asks { Asks (fate_of found) self.old self.new }
         ensures found { result ≡ found }
@@ -115,7 +115,7 @@ impl YardCounts {
         found
     }
 
-    /// Counts a device that is provided, if it was made.
+    /// Counts a device that is provided, if it was made. Fails if a device call fails or memory runs out.
     pub fn hand<T: Drop>(&mut self, made: Result<T, Trouble>) -> Result<T, Trouble>
         ensures hands { Hands (fate_of result) self.old self.new }
         ensures made { IfOk result (λ device. made ≡ Ok device) }

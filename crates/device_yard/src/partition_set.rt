@@ -46,7 +46,7 @@ impl PartitionSet {
         Ok(())
     }
 
-    /// Makes the list of them.
+    /// Makes the list of them. Fails only if memory runs out.
     pub fn to_row(&self) -> Result<Row<PartitionId>, AllocError>
         ensures are { IfOk result (λ row. row ≡ self.now) }
         ensures rise { IfOk result Rise }

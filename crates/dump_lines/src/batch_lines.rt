@@ -153,14 +153,15 @@ fn line(alloc: Global, position: u64, head: &Head, is_valid: bool) -> Result<Lin
     Ok(line)
 }
 
-/// Returns the line of a batch whose checksum is right.
+/// Returns the line of a batch whose checksum is right. Fails only if memory runs out.
 pub fn batch_line(alloc: Global, one: &Shown) -> Result<Line, AllocError>
     ensures { IfOk result (λ line. line.items ≡ shown_fields one.now) }
 {
     line(alloc, one.position, &one.head, true)
 }
 
-/// Returns the line of the batch at which a dump ended, if the file has all of its bytes.
+/// Returns the line of the batch at which a dump ended, if the file has all of its bytes. Fails only if memory runs
+/// out.
 pub fn broken_line(alloc: Global, broken: &Broken) -> Result<Option<Line>, AllocError>
     ensures { IfOk result (λ line. option_map (λ fields. fields.items) line ≡ broken_fields broken.now) }
 {

@@ -6,7 +6,7 @@ ghost use Rattle.dump_lines.specs.Lists.{epoch_fields};
 use crate::field::{Field, Line, Name, Value};
 use std::alloc::{AllocError, Global};
 
-/// Returns the line of a leader epoch and its start offset.
+/// Returns the line of a leader epoch and its start offset. Fails only if memory runs out.
 pub fn epoch_line(alloc: Global, entry: (u32, u64)) -> Result<Line, AllocError>
     ensures { IfOk result (λ line. line.items ≡ epoch_fields entry) }
 {

@@ -41,7 +41,7 @@ impl LineText {
         put(&mut self.members, alloc, name.word(), value)
     }
 
-    /// Appends fields.
+    /// Appends fields. Fails only if memory runs out.
     pub fn fields(&mut self, alloc: Global, fields: &[Field]) -> Result<(), AllocError> {
         for field in fields {
             self.field(alloc, *field)?;
@@ -59,7 +59,7 @@ impl LineText {
         push_value(&mut self.text, self.style, field.value)
     }
 
-    /// Appends a field that is a word.
+    /// Appends a field that is a word. Fails only if memory runs out.
     pub fn word(&mut self, alloc: Global, name: Name, word: &str) -> Result<(), AllocError> {
         if self.style.json {
             let value = json_word(alloc, word)?;
@@ -70,6 +70,7 @@ impl LineText {
     }
 
     /// Appends a key, a value or a header's value: text if it is printable UTF-8, else hexadecimal; `null` for none.
+    /// Fails only if memory runs out.
     pub fn data(
         &mut self,
         alloc: Global,
@@ -90,14 +91,14 @@ impl LineText {
         }
     }
 
-    /// Appends bytes in hexadecimal.
+    /// Appends bytes in hexadecimal. Fails only if memory runs out.
     pub fn hex(&mut self, alloc: Global, name: Name, bytes: &[u8]) -> Result<(), AllocError> {
         let mut digits = String::new(alloc);
         push_hex(alloc, &mut digits, bytes)?;
         self.word(alloc, name, digits.as_str())
     }
 
-    /// Appends a record's headers.
+    /// Appends a record's headers. Fails only if memory runs out.
     pub fn headers(
         &mut self,
         alloc: Global,
@@ -112,7 +113,7 @@ impl LineText {
         push_headers(alloc, &mut self.text, headers)
     }
 
-    /// Appends leader epochs with their start offsets.
+    /// Appends leader epochs with their start offsets. Fails only if memory runs out.
     pub fn epochs(
         &mut self,
         alloc: Global,
@@ -127,7 +128,7 @@ impl LineText {
         push_epochs(&mut self.text, epochs)
     }
 
-    /// Returns the text of the line, with its line feed.
+    /// Returns the text of the line, with its line feed. Fails only if memory runs out.
     pub fn finish(self, alloc: Global) -> Result<String, AllocError> {
         let LineText {
             style,
@@ -144,7 +145,7 @@ impl LineText {
     }
 }
 
-/// Returns the text of a line of these fields, with its line feed.
+/// Returns the text of a line of these fields, with its line feed. Fails only if memory runs out.
 pub fn text_of(alloc: Global, style: Style, fields: &[Field]) -> Result<String, AllocError> {
     let mut text = LineText::new(alloc, style);
     text.fields(alloc, fields)?;

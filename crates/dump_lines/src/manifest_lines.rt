@@ -8,6 +8,7 @@ use log_manifest::{Extent, Manifest};
 use std::alloc::{AllocError, Global};
 
 /// Returns the line of the log: incarnation, local log start offset, and how many segments and leader epochs it has.
+/// Fails only if memory runs out.
 pub fn manifest_line(alloc: Global, manifest: &Manifest) -> Result<Line, AllocError>
     ensures { IfOk result (λ line. line.items ≡ manifest_fields manifest.now) }
 {
@@ -35,7 +36,8 @@ pub fn manifest_line(alloc: Global, manifest: &Manifest) -> Result<Line, AllocEr
     Ok(line)
 }
 
-/// Returns the line of a log segment: its base offset and the size up to which it is flushed.
+/// Returns the line of a log segment: its base offset and the size up to which it is flushed. Fails only if memory runs
+/// out.
 pub fn extent_line(alloc: Global, extent: Extent) -> Result<Line, AllocError>
     ensures { IfOk result (λ line. line.items ≡ extent_fields extent) }
 {

@@ -27,7 +27,7 @@ pub enum NextNote<'a> {
     Bad(NoteRefusal),
 }
 
-/// Reads the event at the front of the bytes.
+/// Reads the event at the front of the bytes. Fails only if memory runs out.
 pub fn next_note(alloc: Global, bytes: &[u8]) -> Result<NextNote<'_>, AllocError>
     ensures { IfOk result (IsNext bytes.now) }
 {
@@ -58,7 +58,8 @@ fn number(bytes: &[u8]) -> u32
     u32::from_be_bytes([bytes[0], bytes[1], bytes[2], bytes[3]])
 }
 
-/// Returns the fields of a remote segment, without its leader epochs and custom metadata.
+/// Returns the fields of a remote segment, without its leader epochs and custom metadata. Fails only if memory runs
+/// out.
 pub fn entry_line(alloc: Global, entry: &Entry) -> Result<Line, AllocError>
     ensures { IfOk result (λ line. line.items ≡ entry_fields entry.now) }
 {
@@ -102,7 +103,7 @@ fn update_line(
     Ok(line)
 }
 
-/// Appends a remote segment to a line.
+/// Appends a remote segment to a line. Fails only if memory runs out.
 pub fn put_entry(alloc: Global, text: &mut LineText, entry: &Entry) -> Result<(), AllocError> {
     let line = entry_line(alloc, entry)?;
     text.fields(alloc, line.as_slice())?;
@@ -118,7 +119,7 @@ fn put_custom(alloc: Global, text: &mut LineText, custom: &Option<Blob>) -> Resu
     }
 }
 
-/// Appends an event to a line.
+/// Appends an event to a line. Fails only if memory runs out.
 pub fn put_note(alloc: Global, text: &mut LineText, note: &Note) -> Result<(), AllocError> {
     match note {
         Note::Add(entry) => {

@@ -24,7 +24,8 @@ fn size_of(blob: &Option<Blob>) -> i64
     }
 }
 
-/// Returns the line of the record `index` of a batch, counted from 0, without its key, value and headers.
+/// Returns the line of the record `index` of a batch, counted from 0, without its key, value and headers. Fails only if
+/// memory runs out.
 pub fn record_line(alloc: Global, head: &Head, index: u32, rec: &Rec) -> Result<Line, AllocError>
     ensures { IfOk result (λ line. line.items ≡ record_fields head.now index rec.now) }
 {
@@ -53,7 +54,7 @@ fn data(blob: &Option<Blob>) -> Option<&[u8]> {
     }
 }
 
-/// Returns the text of a record's line, with its key, value and headers.
+/// Returns the text of a record's line, with its key, value and headers. Fails only if memory runs out.
 pub fn record_text(
     alloc: Global,
     style: Style,

@@ -8,7 +8,7 @@ use crate::field::{Field, Line, Name, Value};
 use registry::RegView;
 use std::alloc::{AllocError, Global};
 
-/// Returns the line of a partition.
+/// Returns the line of a partition. Fails only if memory runs out.
 pub fn partition_line(alloc: Global, view: &RegView) -> Result<Line, AllocError>
     ensures { IfOk result (λ line. line.items ≡ partition_fields view.now) }
 {
@@ -25,7 +25,7 @@ pub fn partition_line(alloc: Global, view: &RegView) -> Result<Line, AllocError>
     Ok(line)
 }
 
-/// Returns the line of a broker: whether it is in the ISR, and its acknowledged end.
+/// Returns the line of a broker: whether it is in the ISR, and its acknowledged end. Fails only if memory runs out.
 pub fn replica_line(alloc: Global, view: &RegView, broker: u8) -> Result<Line, AllocError>
     requires { broker < 8 }
     ensures { IfOk result (λ line. line.items ≡ replica_fields view.now broker) }

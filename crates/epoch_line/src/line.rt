@@ -40,7 +40,7 @@ impl Line {
         }
     }
 
-    /// A copy of the leader epochs.
+    /// A copy of the leader epochs. Fails only if memory runs out.
     pub fn copy(&self, alloc: Global) -> Result<Line, AllocError>
         ensures { IfOk result (λ line. line ≡ self.now) }
     {
@@ -95,7 +95,8 @@ impl Line {
         meet_below(self.entries(), other.entries(), own_end.min(other_end))
     }
 
-    /// The leader epochs of a segment with this base and last offset. The first one starts at the base.
+    /// The leader epochs of a segment with this base and last offset. The first one starts at the base. Fails only if
+    /// memory runs out.
     pub fn within(&self, alloc: Global, base: u64, last: u64) -> Result<Line, AllocError>
         requires { base ≤ 2 ^ 62 }
         ensures part { IfOk result (λ part. part ≡ within self.now base last) }
@@ -105,7 +106,7 @@ impl Line {
         Ok(Line { pairs })
     }
 
-    /// Starts a new epoch at an offset. Entries that start there or later are dropped.
+    /// Starts a new epoch at an offset. Entries that start there or later are dropped. Fails only if memory runs out.
     pub fn assign(&mut self, epoch: u32, start: u64) -> Result<(), AllocError>
         requires epoch_fits { epoch < 2 ^ 31 }
         requires start_fits { start ≤ 2 ^ 62 }
@@ -120,7 +121,7 @@ impl Line {
         Ok(())
     }
 
-    /// Adds an entry, whose epoch and start offset are above the last one's.
+    /// Adds an entry, whose epoch and start offset are above the last one's. Fails only if memory runs out.
     pub fn push(&mut self, epoch: u32, start: u64) -> Result<(), AllocError>
         requires epoch_fits { epoch < 2 ^ 31 }
         requires start_fits { start ≤ 2 ^ 62 }

@@ -18,7 +18,7 @@ const LAST_EPOCH: u64 = (1 << 31) - 1;
 const MOST_ENTRIES: u64 = 1 << 31;
 
 impl Line {
-    /// The text of this line.
+    /// The text of this line. Fails only if memory runs out.
     pub fn to_text(&self, alloc: Global) -> Result<Vec<u8>, AllocError>
         ensures { IfOk result (λ text. text.items ≡ text_of self.now) }
     {
@@ -32,7 +32,7 @@ impl Line {
         Ok(text.into_bytes())
     }
 
-    /// The line of a text.
+    /// The line of a text. `TextRefusal` has the causes of a failure.
     pub fn from_text(alloc: Global, bytes: &[u8]) -> Result<Line, TextRefusal>
         ensures { ReadsText bytes.now result }
     {

@@ -23,7 +23,7 @@ pub struct Uncopied {
 
 /// The log start offset to which retention raises it at a time `now` in milliseconds, or `None` if it doesn't. The
 /// pieces are those from the log start offset on that end at or below the broker's high watermark, and the closed
-/// segments come after them; `rest` is the size in bytes of the local log after both.
+/// segments come after them; `rest` is the size in bytes of the local log after both. Fails only if memory runs out.
 pub fn raised_to(
     alloc: Global,
     view: &View,
@@ -44,7 +44,7 @@ pub fn raised_to(
 }
 
 /// The closed segments that count after the pieces, which end at an offset: none while copying is on, or if the local
-/// log starts past that offset.
+/// log starts past that offset. Fails only if memory runs out.
 pub fn find_uncopied(
     alloc: Global,
     copying: bool,

@@ -11,7 +11,7 @@ use segment_meta::{Note, bare_custom};
 use std::alloc::{AllocError, Global};
 use tier_base::{State, Trouble};
 
-/// Takes the next turn of an expiry.
+/// Takes the next turn of an expiry. Fails only if memory runs out.
 pub fn expiry_turn<S: Store, M: MetaLog>(
     alloc: Global,
     expired_segment: ExpiredSegment,

@@ -28,8 +28,8 @@ pub struct FolderDisk<R: Files + AllocGlobal + Clone + Drop> {
 }
 
 impl<R: Files + AllocGlobal + Clone + Drop> FolderDisk<R> {
-    /// Opens a disk over a folder, which is made where it is absent, with those above it. What was
-    /// written and not put in its place is removed.
+    /// Opens a disk over a folder, which is made where it is absent, with those above it. What was written and not put
+    /// in its place is removed. Fails if a device call fails or memory runs out.
     pub fn open(rt: R, path: &str) -> Result<FolderDisk<R>, Trouble>
         ensures fresh { IfOk result (λ disk. IsFresh (⟦<FolderDisk<R> as Disk>⟧.control disk)) }
         ensures plan { IfOk result (λ disk. (⟦<FolderDisk<R> as Disk>⟧.control disk).plan ≡ []) }

@@ -24,8 +24,8 @@ pub struct FolderStore<R: Files + AllocGlobal + Clone + Drop> {
 }
 
 impl<R: Files + AllocGlobal + Clone + Drop> FolderStore<R> {
-    /// Opens a partition's store over a folder, which is made where it is absent, with those above it. What was written and
-    /// not put in its place is removed.
+    /// Opens a partition's store over a folder, which is made where it is absent, with those above it. What was written
+    /// and not put in its place is removed. Fails if a device call fails or memory runs out.
     pub fn open(rt: R, path: &str, partition: PartitionId) -> Result<FolderStore<R>, Trouble>
         ensures fresh { IfOk result (λ store. IsFresh (⟦<FolderStore<R> as Store>⟧.control store)) }
         ensures plan { IfOk result (λ store. (⟦<FolderStore<R> as Store>⟧.control store).plan ≡ []) }

@@ -37,7 +37,8 @@ pub struct FolderYard<R: Files<File = File> + AllocGlobal + Clone + Drop> {
 }
 
 impl<R: Files<File = File> + AllocGlobal + Clone + Drop> FolderYard<R> {
-    /// Makes an environment over a folder, and touches no file. The folder is made with the first device.
+    /// Makes an environment over a folder, and touches no file. The folder is made with the first device. Fails only if
+    /// memory runs out.
     pub fn new(rt: R, dir: &str) -> Result<FolderYard<R>, AllocError>
         ensures fresh { IfOk result (λ yard. control.IsFresh (⟦<FolderYard<R> as Yard>⟧.control yard)) }
         ensures named { IfOk result (λ yard. (⟦<FolderYard<R> as Yard>⟧.control yard).named ≡ None) }

@@ -29,7 +29,7 @@ impl Model for IndexCache {
 impl IndexCache {
     ghost use Rattle.index_cache.specs.Lending.{EndsBroughtFront};
 
-    /// An empty cache for at most `size` indexes.
+    /// An empty cache for at most `size` indexes. Fails only if memory runs out.
     pub fn new(alloc: Global, size: usize) -> Result<IndexCache, AllocError>
         requires { 1 ≤ size }
         ensures { IfOk result (λ cache. cache ≡ record { size = size; pairs = [] }) }
@@ -47,7 +47,8 @@ impl IndexCache {
         self.pairs.get(&id.0)
     }
 
-    /// Caches the index of a segment, as the most recently used. A full cache drops the least recently used one.
+    /// Caches the index of a segment, as the most recently used. A full cache drops the least recently used one. Fails
+    /// only if memory runs out.
     pub fn keep(&mut self, id: SegmentId, index: OffsetIndex) -> Result<(), AllocError>
         ensures ok { OnOk result (self.new ≡ kept self.old id.0 index) }
         ensures err { OnErr result (self.new ≡ self.old) }

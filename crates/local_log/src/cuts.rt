@@ -27,8 +27,8 @@ use std::alloc::AllocError;
 use tier_base::{Failed, Trouble};
 
 impl<D: Disk> LocalLog<D> {
-    /// Truncates the log durably to an offset, or to the base offset of the batch that contains it. An offset below
-    /// the local log start leaves the log empty.
+    /// Truncates the log durably to an offset, or to the base offset of the batch that contains it. An offset below the
+    /// local log start leaves the log empty. Fails if a disk call fails, which breaks the log, or if memory runs out.
     pub fn cut_to(&mut self, end: u64) -> Result<(), Trouble>
         requires unbroken { self.old.broken ≡ false }
         requires within { end ≤ self.old.end }

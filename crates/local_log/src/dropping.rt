@@ -26,7 +26,7 @@ use tier_base::Trouble;
 
 impl<D: Disk> LocalLog<D> {
     /// Drops the first closed segment durably, and returns its base offset and its last offset. The flushed end stays
-    /// the same.
+    /// the same. Fails if a disk call fails, which breaks the log, or if memory runs out.
     pub fn drop_first(&mut self) -> Result<(u64, u64), Trouble>
         requires unbroken { self.old.broken ≡ false }
         requires first { IsFirstFlushed self.old.flushed_end self.old.closed }

@@ -233,9 +233,9 @@ impl<D: Disk> LocalLog<D> {
         self.disk
     }
 
-    /// Appends as many batches from the front of `run` as fit into one segment, at least one, and returns the first
-    /// and the last offset of what it took. Rolls first if a roll is due. What is appended is durable after the next
-    /// `flush`. `takes` tests whether the log can take `run`.
+    /// Appends as many batches from the front of `run` as fit into one segment, at least one, and returns the first and
+    /// the last offset of what it took. Rolls first if a roll is due. What is appended is durable after the next
+    /// `flush`. `takes` tests whether the log can take `run`. `AppendRefusal` has the causes of a failure.
     pub fn append(&mut self, run: &[u8]) -> Result<(u64, u64), AppendRefusal>
         requires unbroken { self.old.broken ≡ false }
         requires run { IsRun self.old.end self.old.line run.now }
@@ -368,7 +368,8 @@ impl<D: Disk> LocalLog<D> {
         }
     }
 
-    /// Closes the open segment, which is synced, and opens a new one. Returns the new one's base offset.
+    /// Closes the open segment, which is synced, and opens a new one. Returns the new one's base offset. `RollRefusal`
+    /// has the causes of a failure.
     pub fn roll(&mut self) -> Result<u64, RollRefusal>
         requires { self.old.broken ≡ false }
         ensures base { IfOk result (λ base. base ≡ self.old.end) }
@@ -423,7 +424,8 @@ impl<D: Disk> LocalLog<D> {
         }
     }
 
-    /// Makes the whole log durable, and returns its end.
+    /// Makes the whole log durable, and returns its end. Fails if a disk call fails, which breaks the log, or if memory
+    /// runs out.
     pub fn flush(&mut self) -> Result<u64, Trouble>
         requires { self.old.broken ≡ false }
         ensures end { IfOk result (λ end. end ≡ self.old.end) }
@@ -457,7 +459,8 @@ impl<D: Disk> LocalLog<D> {
         self.commit(line)
     }
 
-    /// Adds a leader epoch that starts at the log's end, makes the whole log durable, and returns the end.
+    /// Adds a leader epoch that starts at the log's end, makes the whole log durable, and returns the end. Fails if a
+    /// disk call fails, which breaks the log, or if memory runs out.
     pub fn lead(&mut self, epoch: u32) -> Result<u64, Trouble>
         requires unbroken { self.old.broken ≡ false }
         requires fits { epoch < 2 ^ 31 }

@@ -94,8 +94,8 @@ impl<D: Disk> LocalLog<D> {
         run_in(piece, &self.line, part, offset, limit, mark)
     }
 
-    /// Reads the first closed segment that ends past an offset. Returns `None` if the offset is in the open segment
-    /// or past the end.
+    /// Reads the first closed segment that ends past an offset. Returns `None` if the offset is in the open segment or
+    /// past the end. `ReadRefusal` has the causes of a failure.
     pub fn closed_from(&mut self, offset: u64) -> Result<Option<Closed>, ReadRefusal>
         requires { self.old.broken ≡ false }
         ensures log { Becomes D.content self.old self.new }

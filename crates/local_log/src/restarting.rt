@@ -44,7 +44,8 @@ pub(crate) fn renew<D: Disk>(
 }
 
 impl<D: Disk> LocalLog<D> {
-    /// Restarts the log at an offset: empty, durable, and with these leader epochs.
+    /// Restarts the log at an offset: empty, durable, and with these leader epochs. Fails if a disk call fails, which
+    /// breaks the log, or if memory runs out.
     pub fn restart_at(&mut self, start: u64, line: Line) -> Result<(), Trouble>
         requires unbroken { self.old.broken ≡ false }
         requires low { start ≤ 2 ^ 62 }

@@ -11,7 +11,7 @@ use std::alloc::{AllocError, Global};
 /// TLM1, the first four bytes.
 const TAG: u32 = 0x544C_4D31;
 
-/// The bytes of a manifest.
+/// The bytes of a manifest. Fails only if memory runs out.
 #[tactic(auto, unfolding(crate::specs::Spelling::manifest_bytes))]
 pub fn encode(alloc: Global, manifest: &Manifest) -> Result<Vec<u8>, AllocError>
     requires { IsManifest manifest.now }

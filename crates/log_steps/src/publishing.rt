@@ -10,7 +10,7 @@ ghost use Rattle.log_steps.specs.Runs.{Runs};
 use disk_model::{Disk, FileName};
 use tier_base::Trouble;
 
-/// Syncs a log segment's file and then makes these bytes the manifest.
+/// Syncs a log segment's file and then makes these bytes the manifest. Fails if a device call fails or memory runs out.
 pub fn publish<D: Disk>(disk: &mut D, name: FileName, bytes: &[u8]) -> Result<(), Trouble>
     requires room { 1 ≤ D.spare disk.old }
     requires other { name ≢ file.Manifest }

@@ -14,7 +14,7 @@ use log_manifest::Extent;
 use tier_base::{Failed, Trouble};
 
 /// Writes the manifest again, cuts the files to its lengths, and removes the log files of these names that it doesn't
-/// list.
+/// list. Fails if a device call fails or memory runs out.
 pub fn rewrite<D: Disk>(
     disk: &mut D,
     manifest: &[u8],

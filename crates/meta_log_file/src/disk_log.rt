@@ -53,7 +53,7 @@ impl<D: Disk> Model for DiskLog<D> {
 }
 
 impl<D: Disk> DiskLog<D> {
-    /// Opens the log of a disk. One with no files has no events yet.
+    /// Opens the log of a disk. One with no files has no events yet. `NotesRefusal` has the causes of a failure.
     pub fn open(alloc: Global, disk: D) -> Result<DiskLog<D>, (D, NotesRefusal)>
         ensures fresh { IfOk result (λ log. IsFresh (⟦<DiskLog<D> as MetaLog>⟧.control log)) }
         ensures plan { IfOk result (λ log. (⟦<DiskLog<D> as MetaLog>⟧.control log).plan ≡ []) }

@@ -13,7 +13,8 @@ use crate::store::Store;
 use bytes::Bytes;
 use tier_base::Trouble;
 
-/// Returns a part's bytes, fewer if its object ends before, or `None` if the object is absent.
+/// Returns a part's bytes, fewer if its object ends before, or `None` if the object is absent. Fails if a device call
+/// fails or memory runs out.
 pub fn get_spot<S: Store>(store: &mut S, spot: &Spot) -> Result<Option<Bytes>, Trouble>
     ensures { Gets S.content S.control spot.now.key (all_of spot.now) result store.old store.new }
 {
@@ -23,7 +24,8 @@ pub fn get_spot<S: Store>(store: &mut S, spot: &Spot) -> Result<Option<Bytes>, T
     }
 }
 
-/// Returns at most `most` of a part's bytes, from a position in the part on.
+/// Returns at most `most` of a part's bytes, from a position in the part on. Fails if a device call fails or memory
+/// runs out.
 pub fn get_in_spot<S: Store>(
     store: &mut S,
     spot: &Spot,

@@ -88,7 +88,8 @@ impl<D: Disk> PartitionState<D> {
         }
     }
 
-    /// Continues with a join: the follower's log is restarted, where nothing has come between.
+    /// Continues with a join: the follower's log is restarted, where nothing has come between. Fails only if memory
+    /// runs out.
     pub fn join_on(
         &mut self,
         alloc: Global,
@@ -219,7 +220,8 @@ impl<D: Disk> PartitionState<D> {
         }
     }
 
-    /// Puts of the run that a follow has read at the end of the follower's log what fits one segment.
+    /// Puts of the run that a follow has read at the end of the follower's log what fits one segment. Fails only if
+    /// memory runs out.
     #[tactic(auto, using(crate::proofs::Writes::set_same))]
     pub fn follow_on(&mut self, b: usize, snapshot: &StartSnapshot) -> Result<Answer, AllocError>
         requires { CanStop self.old b }

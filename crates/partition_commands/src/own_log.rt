@@ -190,7 +190,7 @@ impl<D: Disk> PartitionState<D> {
         }
     }
 
-    /// Drops the first closed segment of a broker's local log.
+    /// Drops the first closed segment of a broker's local log. Fails only if memory runs out.
     pub fn drop_first(&mut self, b: usize) -> Result<Answer, AllocError>
         requires node { CanStop self.old b }
         requires may { AtNode self.old b MayDrop }

@@ -123,8 +123,8 @@ impl<D: Disk> PartitionState<D> {
         }
     }
 
-    /// Carries out the first turn of a command, where the remote tier has no part in it. What is known of a check is used where the
-    /// command's bytes are those that were checked.
+    /// Carries out the first turn of a command, where the remote tier has no part in it. What is known of a check is
+    /// used where the command's bytes are those that were checked. Fails only if memory runs out.
     #[tactic(auto, using(crate::proofs::Writes::can_stop))]
     pub fn first_turn(
         &mut self,

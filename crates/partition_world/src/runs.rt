@@ -101,7 +101,7 @@ fn run_actor<D: Disk, S: Store, M: MetaLog>(
     }
 }
 
-/// Steps the actors, in the order of their lists, each to the end of its list.
+/// Steps the actors, in the order of their lists, each to the end of its list. Fails only if memory runs out.
 pub fn run_to_end<D: Disk, S: Store, M: MetaLog>(
     alloc: Global,
     world: &mut World<D, S, M>,

@@ -322,7 +322,7 @@ impl<D: Disk, S: Store, M: MetaLog> World<D, S, M> {
         number <= actor_state.number || list.orders.len() <= actor_state.number as usize
     }
 
-    /// Returns what the next turn of an actor's commands would have made ready.
+    /// Returns what the next turn of an actor's commands would have made ready. Fails only if memory runs out.
     pub fn wanted(&self, alloc: Global, actor: ActorId) -> Result<Want, AllocError>
         ensures { IfOk result (IsWanted self.now actor.0) }
     {
@@ -338,7 +338,7 @@ impl<D: Disk, S: Store, M: MetaLog> World<D, S, M> {
         want_of(alloc, &actor_state.work, &order.command)
     }
 
-    /// Makes what a turn wants, without the world.
+    /// Makes what a turn wants, without the world. Fails only if memory runs out.
     pub fn prepare(alloc: Global, want: Want) -> Result<Ready, AllocError>
         ensures { IfOk result (Prepares want) }
     {

@@ -34,7 +34,7 @@ fn are_at_end(plain: &Plain, lists: &[ActorList], counts: &[usize]) -> bool
 }
 
 /// Returns whether a journal answers every command of every list, each once and in its actor's order. Whether it is a
-/// run isn't looked at.
+/// run isn't looked at. Fails only if memory runs out.
 pub fn is_complete(
     alloc: Global,
     lists: &[ActorList],
@@ -58,7 +58,7 @@ fn ends_complete(alloc: Global, plain: &Plain, lists: &[ActorList]) -> Result<bo
 }
 
 /// Returns whether a journal is a run of the plain log that answers every command of every list. The journal is gone
-/// over once.
+/// over once. Fails only if memory runs out.
 pub fn is_complete_run(
     alloc: Global,
     config: &Config,

@@ -38,7 +38,7 @@ impl Model for Plain {
 }
 
 impl Plain {
-    /// Makes the state of a configuration where nothing has happened yet.
+    /// Makes the state of a configuration where nothing has happened yet. Fails only if memory runs out.
     pub fn fresh(alloc: Global, config: &Config) -> Result<Plain, AllocError>
         requires some { 1 ≤ config.now.brokers }
         requires few { config.now.brokers ≤ 8 }
@@ -105,7 +105,7 @@ impl Plain {
     }
 
     /// Carries out an entry of a journal about an order, and returns whether it is a step of the plain log. Where it
-    /// isn't one, nothing changes.
+    /// isn't one, nothing changes. Fails only if memory runs out.
     pub fn step(
         &mut self,
         alloc: Global,

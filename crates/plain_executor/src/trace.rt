@@ -53,7 +53,8 @@ fn take(
     Ok(taken)
 }
 
-/// Carries out entries up to the first that is no step of the plain log, and returns its place.
+/// Carries out entries up to the first that is no step of the plain log, and returns its place. Fails only if memory
+/// runs out.
 pub fn take_all(
     alloc: Global,
     plain: &mut Plain,
@@ -72,6 +73,7 @@ pub fn take_all(
 }
 
 /// Returns the place of the first entry that is no step of the plain log, or none where the journal is a run of it.
+/// Fails only if memory runs out.
 pub fn first_refused(
     alloc: Global,
     config: &Config,
@@ -89,7 +91,8 @@ pub fn first_refused(
     place
 }
 
-/// Carries out a journal, and returns the state after it, or none where an entry is no step of the plain log.
+/// Carries out a journal, and returns the state after it, or none where an entry is no step of the plain log. Fails
+/// only if memory runs out.
 pub fn replay(
     alloc: Global,
     config: &Config,
@@ -115,7 +118,7 @@ pub fn replay(
     }
 }
 
-/// Returns whether a journal is a run of the plain log.
+/// Returns whether a journal is a run of the plain log. Fails only if memory runs out.
 pub fn is_run(
     alloc: Global,
     config: &Config,

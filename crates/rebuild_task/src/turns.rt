@@ -17,7 +17,8 @@ use remote_view::View;
 use std::alloc::{AllocError, Global};
 use tier_base::{Part, Trouble};
 
-/// Reads the leader's epochs up to the wanted offset. `line` has the leader's, up to there.
+/// Reads the leader's epochs up to the wanted offset. `line` has the leader's, up to there. Fails only if memory runs
+/// out.
 pub fn rebuild_turn<S: Store>(
     alloc: Global,
     wanted: RebuildRequest,

@@ -157,7 +157,7 @@ fn placed(
     Ok(batch)
 }
 
-/// Builds the batch of these records at a base offset, in a leader epoch.
+/// Builds the batch of these records at a base offset, in a leader epoch. `BuildRefusal` has the causes of a failure.
 pub fn build(alloc: Global, base: u64, epoch: u32, recs: &[Rec]) -> Result<Vec<u8>, BuildRefusal>
     ensures fits { OnOk result (IsBuildable recs.now) }
     ensures batch { IfOk result (λ batch. batch.items ≡ stamped (built recs.now) base epoch) }

@@ -109,7 +109,8 @@ fn of_batch(why: HeadRefusal) -> BatchRefusal
     }
 }
 
-/// Returns the head that the bytes begin with. What follows it is not looked at.
+/// Returns the head that the bytes begin with. What follows it is not looked at. `HeadRefusal` has the causes of a
+/// failure.
 #[tactic(auto, unfolding(crate::specs::Check::headed))]
 pub fn read_head(bytes: &[u8]) -> Result<Head, HeadRefusal>
     ensures { result ≡ headed bytes.now }

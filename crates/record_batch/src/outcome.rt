@@ -29,7 +29,7 @@ impl Model for Checked {
     ghost invariant = { λ c. IsTested (record { bytes = c.bytes; outcome = c.outcome }) };
 }
 
-/// Checks bytes, or takes what is known of equal bytes.
+/// Checks bytes, or takes what is known of equal bytes. `BatchRefusal` has the causes of a failure.
 pub fn check_known(bytes: &[u8], known: Option<&Checked>) -> Result<Head, BatchRefusal>
     ensures { result ≡ head_in (checked bytes.now) }
 {

@@ -152,7 +152,7 @@ fn records_of(alloc: Global, head: Head, count: u32, bytes: &[u8]) -> Result<Vec
     Ok(recs)
 }
 
-/// Reads the records of a batch that `check` accepts.
+/// Reads the records of a batch that `check` accepts. Fails only if memory runs out.
 pub fn records(alloc: Global, batch: &[u8]) -> Result<Vec<Rec>, AllocError>
     requires { IsOk (checked batch.now) }
     ensures { IfOk result (λ recs. checked batch.now ≡ Ok (record { head = head_of batch.now; recs = recs.items })) }

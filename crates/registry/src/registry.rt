@@ -50,7 +50,7 @@ impl Registry {
     }
 
     /// Makes the registry of a new partition with so many brokers, 1 to 8. Broker 0 leads in epoch 0, and all are in
-    /// the ISR.
+    /// the ISR. Fails only if memory runs out.
     pub fn fresh(alloc: Global, brokers: u16) -> Result<Registry, AllocError>
         requires some { 1 ≤ brokers }
         requires few { brokers ≤ 8 }
@@ -103,7 +103,8 @@ impl Registry {
         self.mark = flushed_end;
     }
 
-    /// Elects a leader from the ISR, and returns the new leader epoch. `up` says whether the broker is up.
+    /// Elects a leader from the ISR, and returns the new leader epoch. `up` says whether the broker is up. `RegRefusal`
+    /// has the causes of a failure.
     pub fn elect(&mut self, broker: BrokerId, up: bool) -> Result<u32, RegRefusal>
         requires { broker.0 < length self.old.replicas }
         ensures is { AtReplica self.old broker.0 (λ s. after_elect self.old broker.0 s up result ≡ Some self.new) }
@@ -123,8 +124,8 @@ impl Registry {
         Ok(self.epoch)
     }
 
-    /// Elects a leader that may be outside the ISR, and returns the new leader epoch. From then on exactly what its
-    /// log has below its flushed end, `flushed_end`, is committed.
+    /// Elects a leader that may be outside the ISR, and returns the new leader epoch. From then on exactly what its log
+    /// has below its flushed end, `flushed_end`, is committed. `RegRefusal` has the causes of a failure.
     pub fn elect_unclean(
         &mut self,
         broker: BrokerId,
@@ -152,8 +153,8 @@ impl Registry {
         Ok(self.epoch)
     }
 
-    /// Records that a broker acknowledges its flushed end, and returns the high watermark. `epoch` is the one in
-    /// which the broker leads or has joined.
+    /// Records that a broker acknowledges its flushed end, and returns the high watermark. `epoch` is the one in which
+    /// the broker leads or has joined. `RegRefusal` has the causes of a failure.
     pub fn ack(&mut self, broker: BrokerId, epoch: u32, flushed_end: u64) -> Result<u64, RegRefusal>
         requires { broker.0 < length self.old.replicas }
         ensures is { AtReplica self.old broker.0 (λ s. after_ack self.old broker.0 s epoch flushed_end result ≡ Some self.new) }
@@ -172,7 +173,7 @@ impl Registry {
         Ok(self.mark)
     }
 
-    /// Removes a broker from the ISR.
+    /// Removes a broker from the ISR. `RegRefusal` has the causes of a failure.
     pub fn shrink(&mut self, broker: BrokerId) -> Result<(), RegRefusal>
         requires { broker.0 < length self.old.replicas }
         ensures is { AtReplica self.old broker.0 (λ s. after_shrink self.old broker.0 s result ≡ Some self.new) }
@@ -196,6 +197,7 @@ impl Registry {
     }
 
     /// Adds a broker to the ISR if it has acknowledged everything that is committed. `up` says whether it is up.
+    /// `RegRefusal` has the causes of a failure.
     pub fn expand(&mut self, broker: BrokerId, up: bool) -> Result<(), RegRefusal>
         requires { broker.0 < length self.old.replicas }
         ensures is { AtReplica self.old broker.0 (λ s. after_expand self.old broker.0 s up result ≡ Some self.new) }
@@ -221,7 +223,8 @@ impl Registry {
         Ok(())
     }
 
-    /// Raises the log start offset, and returns the new one. `epoch` is the one that the caller leads.
+    /// Raises the log start offset, and returns the new one. `epoch` is the one that the caller leads. `RegRefusal` has
+    /// the causes of a failure.
     pub fn raise(&mut self, epoch: u32, start: u64) -> Result<u64, RegRefusal>
         ensures is { after_raise self.old epoch start result ≡ Some self.new }
         ensures err { OnErr result (self.new ≡ self.old) }

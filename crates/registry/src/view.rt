@@ -89,7 +89,7 @@ impl Registry {
         }
     }
 
-    /// Makes the registry that holds this.
+    /// Makes the registry that holds this. Fails only if memory runs out.
     pub fn of(alloc: Global, view: &RegView) -> Result<Registry, AllocError>
         requires { view.now.brokers ≤ 8 }
         ensures is { IfOk result (λ registry. registry ≡ registry_of view.now) }

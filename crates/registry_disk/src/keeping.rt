@@ -15,7 +15,8 @@ use registry_file::{RegFileRefusal, reg_decode, reg_encode};
 use std::alloc::Global;
 use tier_base::{FileName, Trouble};
 
-/// Reads the registry that a disk keeps, and `None` where it has no such file.
+/// Reads the registry that a disk keeps, and `None` where it has no such file. `FindRefusal` has the causes of a
+/// failure.
 pub fn find_registry<D: Disk>(disk: &mut D) -> Result<Option<RegView>, FindRefusal>
     ensures finds { Finds (D.content disk.old) (D.control disk.old) (D.control disk.new) result }
     ensures content { Keeps (D.content disk.old) (D.content disk.new) }

@@ -10,7 +10,7 @@ use std::alloc::{AllocError, Global};
 /// TLR1, the first four bytes.
 const TAG: u32 = 0x544C_5231;
 
-/// The file of a view.
+/// The file of a view. Fails only if memory runs out.
 #[tactic(auto, unfolding(crate::specs::Spelling::view_bytes))]
 pub fn reg_encode(alloc: Global, view: &RegView) -> Result<Vec<u8>, AllocError>
     ensures { IfOk result (λ bytes. bytes.items ≡ view_bytes view.now) }

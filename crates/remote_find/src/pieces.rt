@@ -60,7 +60,8 @@ pub(crate) fn followed(view: &View, line: &Line, log_end: u64, at: u64) -> u64
     place
 }
 
-/// The pieces from an offset on, each beginning where the one before ends, as long as they end at or below `top`.
+/// The pieces from an offset on, each beginning where the one before ends, as long as they end at or below `top`. Fails
+/// only if memory runs out.
 pub fn chain(
     alloc: Global,
     view: &View,

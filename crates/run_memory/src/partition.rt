@@ -43,7 +43,7 @@ pub fn fresh_world(
     }
 }
 
-/// Runs a partition's lists on a fresh world, by its schedule.
+/// Runs a partition's lists on a fresh world, by its schedule. Fails only if memory runs out.
 pub fn run_partition(
     alloc: Global,
     config: Config,

@@ -73,7 +73,7 @@ fn write_ends(text: &mut String, parts: &[Told]) -> Result<(), AllocError>
     Ok(())
 }
 
-/// Writes the summary of partitions.
+/// Writes the summary of partitions. Fails only if memory runs out.
 #[tactic(auto, unfolding(load_gen::specs::Summary::summary_of))]
 pub fn summary(alloc: Global, parts: &[Told]) -> Result<Vec<u8>, AllocError>
     ensures { IfOk result (λ text. text.items ≡ summary_text parts.now) }

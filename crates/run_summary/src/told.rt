@@ -98,7 +98,8 @@ fn end_of(plain: &Plain, partition: PartitionId) -> End
     }
 }
 
-/// Replays a partition's journal, and returns what it comes to, or nothing where it is no run of the plain log.
+/// Replays a partition's journal, and returns what it comes to, or nothing where it is no run of the plain log. Fails
+/// only if memory runs out.
 pub fn tell(
     alloc: Global,
     config: &Config,

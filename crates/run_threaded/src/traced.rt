@@ -172,7 +172,8 @@ impl<D: Disk, S: Store, M: MetaLog> Traced<D, S, M> {
         Ok(())
     }
 
-    /// Ends a run, the actors being stepped to the ends of their lists, and lends the journal.
+    /// Ends a run, the actors being stepped to the ends of their lists, and lends the journal. Fails only if memory
+    /// runs out.
     pub fn finish(&mut self, alloc: Global) -> Result<&Journal, AllocError>
         ensures { IfOk result (λ journal. IsThreadedRun D.Disk S.Store M.MetaLog self.old.script self.old.place
             (self.old.partition.0, journal.now.items)) }

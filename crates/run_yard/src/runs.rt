@@ -60,7 +60,7 @@ fn run_part<Y: Yard>(
     }
 }
 
-/// Puts a text after another.
+/// Puts a text after another. Fails only if memory runs out.
 pub fn joined(front: Vec<u8>, back: Vec<u8>) -> Result<Vec<u8>, AllocError>
     ensures { IfOk result (λ text. text.items ≡ front.items ++ back.items) }
 {

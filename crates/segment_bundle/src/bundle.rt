@@ -39,7 +39,7 @@ impl Model for Bundle {
 
 impl Bundle {
     /// Makes the parts of a closed segment, in one pass. `line` has the leader epochs of its log; `interval` is the
-    /// interval of the indexes in bytes (Kafka's `index.interval.bytes`).
+    /// interval of the indexes in bytes (Kafka's `index.interval.bytes`). Fails only if memory runs out.
     pub fn of(
         alloc: Global,
         closed: &Closed,
@@ -89,7 +89,8 @@ impl Bundle {
         self.interval
     }
 
-    /// The bytes of a part. The four parts are shared; the packed object is made at each call.
+    /// The bytes of a part. The four parts are shared; the packed object is made at each call. Fails only if memory
+    /// runs out.
     pub fn part(&self, alloc: Global, part: Part) -> Result<Bytes, AllocError>
         ensures { IfOk result (λ bytes. bytes ≡ part_in self.now.parts part) }
     {

@@ -34,6 +34,7 @@ impl Model for Closed {
 
 impl Closed {
     /// Reads bytes as the closed segment that begins at a base offset, in one pass. The bytes are shared.
+    /// `ClosedRefusal` has the causes of a failure.
     pub fn read(alloc: Global, base: u64, bytes: Bytes) -> Result<Closed, ClosedRefusal>
         requires { base ≤ 2 ^ 62 }
         ensures { ReadsWhole base bytes result }
@@ -48,7 +49,7 @@ impl Closed {
         })
     }
 
-    /// The same segment once more. The bytes are shared.
+    /// The same segment once more. The bytes are shared. Fails only if memory runs out.
     pub fn copy(&self, alloc: Global) -> Result<Closed, AllocError>
         ensures { IfOk result (λ segment. segment ≡ self.now) }
     {
@@ -97,7 +98,8 @@ impl Closed {
         &self.epochs
     }
 
-    /// Both indexes of the segment. The pass reads heads alone, since the batches are checked.
+    /// Both indexes of the segment. The pass reads heads alone, since the batches are checked. Fails only if memory
+    /// runs out.
     pub fn indexes(
         &self,
         alloc: Global,

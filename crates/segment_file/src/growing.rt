@@ -83,7 +83,7 @@ impl Growing {
         size + (size_in(head) as u64) < REACH
     }
 
-    /// Adds the batch of a head at the segment's end.
+    /// Adds the batch of a head at the segment's end. Fails only if memory runs out.
     pub fn push(&mut self, head: &Head) -> Result<(), AllocError>
         requires { MayPush self.old head.now }
         ensures ok { OnOk result (self.new ≡ with_batch self.old (placed_in (size_after 0 self.old.batches) head.now)) }

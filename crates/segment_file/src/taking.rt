@@ -38,7 +38,7 @@ pub(crate) struct Going {
     end: u64,
 }
 
-/// Cuts out the run at an offset.
+/// Cuts out the run at an offset. `BadAt` has the causes of a failure.
 pub fn take_run(
     bytes: &[u8],
     offset: u64,

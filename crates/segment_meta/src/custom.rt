@@ -6,7 +6,7 @@ ghost use Rattle.segment_meta.specs.Rules.{bare_custom};
 use std::alloc::{AllocError, Global};
 use tier_base::Blob;
 
-/// A copy of custom metadata.
+/// A copy of custom metadata. Fails only if memory runs out.
 pub fn copied_custom(alloc: Global, custom: &Option<Blob>) -> Result<Option<Blob>, AllocError>
     ensures { IfOk result (λ copy. copy ≡ custom.now) }
 {

@@ -34,7 +34,7 @@ pub struct Entry {
 }
 
 impl Entry {
-    /// A copy of the entry.
+    /// A copy of the entry. Fails only if memory runs out.
     pub fn copy(&self, alloc: Global) -> Result<Entry, AllocError>
         ensures { IfOk result (λ copy. copy ≡ self.now) }
     {

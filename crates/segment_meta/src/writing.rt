@@ -10,7 +10,7 @@ use crate::note::{Entry, Note};
 use std::alloc::{AllocError, Global};
 use tier_base::{Blob, SegmentId, State};
 
-/// The bytes of a metadata event.
+/// The bytes of a metadata event. Fails only if memory runs out.
 #[tactic(auto, unfolding(crate::specs::Spelling::note_bytes, crate::specs::Spelling::update_bytes))]
 pub fn encode(alloc: Global, note: &Note) -> Result<Vec<u8>, AllocError>
     requires { IsNote note.now }

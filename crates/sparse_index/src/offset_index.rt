@@ -61,7 +61,7 @@ impl OffsetIndex {
         self.offsets.as_slice()
     }
 
-    /// Adds an entry for a batch of this last offset, which begins at this position.
+    /// Adds an entry for a batch of this last offset, which begins at this position. Fails only if memory runs out.
     pub fn push(&mut self, last: u64, position: u32) -> Result<(), AllocError>
         requires from_base { self.old.base ≤ last }
         requires near { last - self.old.base < 2 ^ 31 }
@@ -101,14 +101,15 @@ impl OffsetIndex {
 }
 
 impl OffsetIndex {
-    /// The bytes of the entries.
+    /// The bytes of the entries. Fails only if memory runs out.
     pub fn to_bytes(&self, alloc: Global) -> Result<Vec<u8>, AllocError>
         ensures { IfOk result (λ bytes. bytes.items ≡ bytes_of entry_bytes self.now.entries) }
     {
         columns_to_bytes(alloc, self.offsets.as_slice(), self.positions.as_slice())
     }
 
-    /// The index of these bytes, of the segment that begins at a base offset.
+    /// The index of these bytes, of the segment that begins at a base offset. `IndexRefusal` has the causes of a
+    /// failure.
     pub fn from_bytes(alloc: Global, base: u64, bytes: &[u8]) -> Result<OffsetIndex, IndexRefusal>
         requires { base ≤ 2 ^ 62 }
         ensures { ReadsOffsets base bytes.now result }

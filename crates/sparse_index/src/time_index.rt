@@ -59,7 +59,7 @@ impl TimeIndex {
         self.offsets.as_slice()
     }
 
-    /// Adds an entry for a timestamp and the last offset of the first batch that has it.
+    /// Adds an entry for a timestamp and the last offset of the first batch that has it. Fails only if memory runs out.
     pub fn push(&mut self, ts: i64, last: u64) -> Result<(), AllocError>
         requires not_negative { pos 0 ≤ℤ ts }
         requires from_base { self.old.base ≤ last }
@@ -98,14 +98,15 @@ impl TimeIndex {
         last_of(self.times.as_slice(), self.offsets.as_slice())
     }
 
-    /// The bytes of the entries.
+    /// The bytes of the entries. Fails only if memory runs out.
     pub fn to_bytes(&self, alloc: Global) -> Result<Vec<u8>, AllocError>
         ensures { IfOk result (λ bytes. bytes.items ≡ bytes_of moment_bytes self.now.entries) }
     {
         columns_to_bytes(alloc, self.times.as_slice(), self.offsets.as_slice())
     }
 
-    /// The index of these bytes, of the segment that begins at a base offset.
+    /// The index of these bytes, of the segment that begins at a base offset. `IndexRefusal` has the causes of a
+    /// failure.
     pub fn from_bytes(alloc: Global, base: u64, bytes: &[u8]) -> Result<TimeIndex, IndexRefusal>
         requires { base ≤ 2 ^ 62 }
         ensures { ReadsTimes base bytes.now result }

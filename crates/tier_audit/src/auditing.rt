@@ -21,7 +21,8 @@ use std::alloc::Global;
 use tier_base::Trouble;
 use view_refresh::refresh;
 
-/// Audits a remote tier at rest: reports that it is sound, or its first flaw.
+/// Audits a remote tier at rest: reports that it is sound, or its first flaw. `AuditRefusal` has the causes of a
+/// failure.
 pub fn audit<S: Store, M: MetaLog>(
     alloc: Global,
     store: &mut S,

@@ -27,7 +27,7 @@ impl Blob {
         Blob { bytes }
     }
 
-    /// Copies the bytes.
+    /// Copies the bytes. Fails only if memory runs out.
     pub fn from_slice(alloc: Global, bytes: &[u8]) -> Result<Blob, AllocError>
         ensures { IfOk result (λ blob. blob ≡ bytes.now) }
     {

@@ -39,7 +39,7 @@ impl Ending {
     }
 }
 
-/// Returns the value where the call went well.
+/// Returns the value where the call went well. Fails if a device call fails or memory runs out.
 pub fn give<T: Drop>(outcome: Result<(), Failed>, value: T) -> Result<T, Trouble>
     ensures fate { fate_of result ≡ failing outcome }
     ensures value { IfOk result (λ given. given ≡ value) }

@@ -181,7 +181,7 @@ impl<K: CallKind> FaultPlan<K> {
         self.faults = missed(self.faults, ending);
     }
 
-    /// Counts a call of a kind that ends so, and answers for it.
+    /// Counts a call of a kind that ends so, and answers for it. Fails if the device call fails.
     pub fn note(&mut self, call: K, ending: Ending) -> Result<(), Failed>
         requires { ending ≡ ending_at K.code self.old call }
         ensures ran { (before after : List ℕ) → Ran call (failing result)

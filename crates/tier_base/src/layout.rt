@@ -21,7 +21,7 @@ pub struct Layout {
 }
 
 impl Layout {
-    /// The bytes of this layout.
+    /// The bytes of this layout. Fails only if memory runs out.
     #[tactic(auto, unfolding(crate::specs::Layout::layout_bytes))]
     pub fn to_bytes(&self, alloc: Global) -> Result<Blob, AllocError>
         ensures { IfOk result (λ blob. blob ≡ layout_bytes self.now) }

@@ -22,7 +22,8 @@ pub struct MemorySink {
 }
 
 impl MemorySink {
-    /// Makes an empty sink with room for so many bytes, which takes at most `most` bytes a call.
+    /// Makes an empty sink with room for so many bytes, which takes at most `most` bytes a call. Fails only if memory
+    /// runs out.
     pub fn new(
         alloc: Global,
         room: usize,

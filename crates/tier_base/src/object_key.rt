@@ -53,7 +53,7 @@ fn part_of(text: &[u8]) -> Option<Part>
 }
 
 impl ObjectKey {
-    /// The text of this key.
+    /// The text of this key. Fails only if memory runs out.
     #[tactic(auto, unfolding(crate::specs::Key::key_text))]
     pub fn to_text(&self, alloc: Global) -> Result<Vec<u8>, AllocError>
         ensures { IfOk result (λ text. text.items ≡ key_text self.now) }

@@ -36,7 +36,7 @@ impl<T> Roll<T> {
         }
     }
 
-    /// Makes room for at least so many more, if it isn't there.
+    /// Makes room for at least so many more, if it isn't there. Fails only if memory runs out.
     pub fn reserve(&mut self, more: usize) -> Result<(), AllocError>
         ensures there { more ≤ self.old.room → IsOk result }
         ensures items { self.new.items ≡ self.old.items }

@@ -96,7 +96,7 @@ impl<T> Row<T> {
 }
 
 impl<T: Drop> Row<T> {
-    /// Puts an item at the end.
+    /// Puts an item at the end. Fails only if memory runs out.
     pub fn push(&mut self, item: T) -> Result<(), AllocError>
         ensures ok { OnOk result (self.new ≡ self.old ++ item ∷ []) }
         ensures err { OnErr result (self.new ≡ self.old) }

@@ -8,7 +8,7 @@ ghost use Rattle.tier_base.specs.Stream.{AppendsFront};
 use crate::fault::Failed;
 use crate::stream::Sink;
 
-/// Writes all of a piece, in as many calls as the sink wants.
+/// Writes all of a piece, in as many calls as the sink wants. Fails if the device call fails.
 pub fn write_all<W: Sink>(sink: &mut W, piece: &[u8]) -> Result<(), Failed>
     ensures ok { OnOk result (Appends (W.written sink.old) (W.written sink.new) piece.now) }
     ensures err { OnErr result (AppendsFront (W.written sink.old) (W.written sink.new) piece.now) }

@@ -27,7 +27,7 @@ use std::alloc::{AllocError, Global};
 use tier_base::{Part, Trouble};
 use view_refresh::refresh;
 
-/// Takes the next turn of a fetch. `line` has the leader epochs of its broker's log.
+/// Takes the next turn of a fetch. `line` has the leader epochs of its broker's log. Fails only if memory runs out.
 pub fn fetch_turn<S: Store, M: MetaLog>(
     alloc: Global,
     wanted: &FetchRequest,

@@ -25,7 +25,7 @@ use tier_base::{Row, Trouble};
 use view_refresh::refresh;
 
 /// Takes away what copies and deletions left that were never finished, and counts the objects that it took. No command
-/// may be in progress, and nobody else may write.
+/// may be in progress, and nobody else may write. `SweepRefusal` has the causes of a failure.
 pub fn sweep<S: Store, M: MetaLog>(
     alloc: Global,
     store: &mut S,

@@ -32,6 +32,7 @@ pub fn script_source<R: Source + Drop>(rt: &HostRuntime, source: R) -> KeptSourc
 }
 
 /// Makes the lines that follow a status's line, where the bytes of the script were kept or where none is asked for.
+/// Fails only if memory runs out.
 pub fn explained(alloc: Global, status: &Status, script: &[u8]) -> Result<String, AllocError> {
     match status {
         Status::Usage => String::from_str(alloc, EXAMPLE),

@@ -12,8 +12,9 @@ use disk_model::Disk;
 use plain_log::{Answer, Place};
 use std::alloc::AllocError;
 
-/// Takes a turn of a search whose cursor is in the local log: it passes over closed segments, and reads a run where
-/// it comes to. The run has no limit but the known high watermark, the segment's end and its leader epoch's.
+/// Takes a turn of a search whose cursor is in the local log: it passes over closed segments, and reads a run where it
+/// comes to. The run has no limit but the known high watermark, the segment's end and its leader epoch's. Fails only if
+/// memory runs out.
 pub fn own_turn<D: Disk>(
     log: &mut BrokerLog<D>,
     asked: &Asked,

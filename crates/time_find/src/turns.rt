@@ -26,8 +26,8 @@ use tier_base::{Part, Trouble};
 use tier_fetch::{FetchRequest, FetchStep as Fetch, FetchTurn, Span, fetch_turn};
 use view_refresh::refresh;
 
-/// Takes the next turn of a lookup whose cursor is below the local log, or which is in a remote segment. `line` has
-/// the leader epochs of its broker's log.
+/// Takes the next turn of a lookup whose cursor is below the local log, or which is in a remote segment. `line` has the
+/// leader epochs of its broker's log. Fails only if memory runs out.
 pub fn time_turn<S: Store, M: MetaLog>(
     alloc: Global,
     asked: &Asked,

@@ -334,7 +334,7 @@ fn headed(
     }))
 }
 
-/// Reads a line, without the LF at its end.
+/// Reads a line, without the LF at its end. Fails only if memory runs out.
 #[tactic(auto, unfolding(crate::specs::Reading::line_in))]
 pub fn line(alloc: Global, text: &[u8]) -> Result<Option<Line>, AllocError>
     ensures { IfOk result (λ found. found ≡ line_in text.now) }

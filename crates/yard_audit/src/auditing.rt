@@ -59,7 +59,7 @@ fn note(unsound: &mut Option<PartitionId>, partition: PartitionId, verdict: &Ver
     }
 }
 
-/// Audits the tier of each partition in use, in rising order.
+/// Audits the tier of each partition in use, in rising order. `RoundRefusal` has the causes of a failure.
 pub fn audit_all<Y: Yard>(alloc: Global, yard: &mut Y) -> Result<Audited, RoundRefusal>
     ensures told { IfOk result (TellsAudit Y.D.content Y.S.content Y.M.content (Y.held yard.old)) }
     ensures rest { IsTrue (Y.held yard.old).is_observable
