@@ -8,7 +8,7 @@ use Rattle.local_log.specs.Cutting.{OpensAs, OpensBeforeOrNow, LeavesBeforeOrNow
 use Rattle.local_log.proofs.OneWay.{opens_once}
 use Rattle.local_log.proofs.Sides.{before_either, kept_either, start_either}
 use Rattle.tier_base.specs.declared.plain.Settings.{Settings}
-use Rattle.broker_log.specs.Seen.{OpensLater, OpensBetween, Down, Stays}
+use Rattle.broker_log.specs.Seen.{OpensLater, OpensBetween, Down, LogStays}
 
 -- it opens as that image does
 pub later_as : (d : Content) (c : Files) → OpensAs d c → OpensLater d c
@@ -49,7 +49,7 @@ between_opening d d' laws h told again = leaves_weaker d d' (Opening d) (λ c. O
     was c (inr (o, reading, inr next)) = like c d.files o (o.incarnation + 1) (laws.reads told) reading (omega arith) next
 
 -- a closed log whose disk was called without a change
-pub stays_closed_kept : {D : Type 0} (content : D → Content) (settings : Settings) (d d' : D) → Keeps (content d) (content d') → Stays content (Down settings d) (Down settings d')
+pub stays_closed_kept : {D : Type 0} (content : D → Content) (settings : Settings) (d d' : D) → Keeps (content d) (content d') → LogStays content (Down settings d) (Down settings d')
 stays_closed_kept content settings d d' k = record {
   up = refl;
   end = refl;

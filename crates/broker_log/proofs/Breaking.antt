@@ -9,25 +9,25 @@ use Rattle.log_steps.specs.Opens.{Opened, Opens}
 use Rattle.log_steps.specs.Reopens.{Reopens}
 use Rattle.local_log.specs.Log.{Log, committed, flushed_log}
 use Rattle.local_log.specs.Cutting.{OpensAs, OpensAsOr}
-use Rattle.broker_log.specs.Seen.{Seen, Back, Up, Down, OpensBetween, back_of, returning, returns, ComesBack, IsBack, IsKept, ShowsOpen}
-use Rattle.broker_log.specs.Turns.{Breaks, BreaksUnsaved, Stops, loosened, torn}
+use Rattle.broker_log.specs.Seen.{LogSeen, Back, Up, Down, OpensBetween, back_of, returning, returns, OpensAfterStop, IsBack, IsSeenSound, ShowsOpen}
+use Rattle.broker_log.specs.Turns.{Breaks, BreaksUnsaved, StopsBroker, loosened, torn}
 use Rattle.broker_log.proofs.Between.{between_as, between_same}
 use Rattle.broker_log.proofs.Showing.{image_as}
 use Rattle.broker_log.proofs.Local.{opened_as, local_low, local_ends, up_local, back_stands, kept_stands}
 
 -- the cut log or that of before, whichever ends first
-pub torn_back : (i : ℕ) (s : Seen) (back : Back) (c : Files) → Opens c (returns i s) ⊎ Opens c (returning i s back) → ComesBack i (torn s back) c
+pub torn_back : (i : ℕ) (s : LogSeen) (back : Back) (c : Files) → Opens c (returns i s) ⊎ Opens c (returning i s back) → OpensAfterStop i (torn s back) c
 torn_back i s back c = go (nat_lt back.0 s.flushed_end)
   where
     go : (b : Bool) → Opens c (returns i s) ⊎ Opens c (returning i s back)
-        → ComesBack i (if b then record s { flushed_end = back.0; saved = back.1; local = back.2; loose = Some (back_of s) } else loosened s back) c
+        → OpensAfterStop i (if b then record s { flushed_end = back.0; saved = back.1; local = back.2; loose = Some (back_of s) } else loosened s back) c
     go true (inl was) = inr was
     go true (inr made) = inl made
     go false (inl was) = inl was
     go false (inr made) = inr made
 
 -- it was opened as often
-pub torn_most : (i : ℕ) (s : Seen) (back : Back) → s.incarnation ≤ i → (torn s back).incarnation ≤ i
+pub torn_most : (i : ℕ) (s : LogSeen) (back : Back) → s.incarnation ≤ i → (torn s back).incarnation ≤ i
 torn_most i s back le = go (nat_lt back.0 s.flushed_end)
   where
     go : (b : Bool) → (if b then record s { flushed_end = back.0; saved = back.1; local = back.2; loose = Some (back_of s) } else loosened s back).incarnation ≤ i
@@ -35,20 +35,20 @@ torn_most i s back le = go (nat_lt back.0 s.flushed_end)
     go false = le
 
 -- what is kept then
-pub loosened_kept : (s : Seen) (back : Back) → IsKept s → IsBack s back → IsKept (loosened s back)
+pub loosened_kept : (s : LogSeen) (back : Back) → IsSeenSound s → IsBack s back → IsSeenSound (loosened s back)
 loosened_kept s back k is = record {
   consecutive = k.consecutive;
   back = record { begins = k.back.begins; within = k.back.within };
   loose = λ other e. (let same : back ≡ other = cc (e) in subst (λ (o : Back). IsBack (loosened s back) o) same (record { begins = is.begins; within = is.within }));
 }
 
-pub torn_kept : (s : Seen) (back : Back) → IsKept s → IsBack s back → IsKept (torn s back)
+pub torn_kept : (s : LogSeen) (back : Back) → IsSeenSound s → IsBack s back → IsSeenSound (torn s back)
 torn_kept s back k is = go (nat_lt back.0 s.flushed_end)
   where
-    low : Seen
+    low : LogSeen
     low = record s { flushed_end = back.0; saved = back.1; local = back.2; loose = Some (back_of s) }
 
-    go : (b : Bool) → IsKept (if b then record s { flushed_end = back.0; saved = back.1; local = back.2; loose = Some (back_of s) } else loosened s back)
+    go : (b : Bool) → IsSeenSound (if b then record s { flushed_end = back.0; saved = back.1; local = back.2; loose = Some (back_of s) } else loosened s back)
     go true = record {
       consecutive = k.consecutive;
       back = record { begins = is.begins; within = is.within };
@@ -61,7 +61,7 @@ pub most : {m n : ℕ} → m ≡ n → m ≤ n
 most is = omega (arith, is)
 
 -- a log that is closed comes back as it is
-pub stops_by : {D : Type 0} (content : D → Content) (log : Log D) → Reopens (content log.disk) → Stops content (Up log) (Down log.settings log.disk)
+pub stops_by : {D : Type 0} (content : D → Content) (log : Log D) → Reopens (content log.disk) → StopsBroker content (Up log) (Down log.settings log.disk)
 stops_by content log again = record {
   between = between_same (content log.disk);
   down = refl;
@@ -70,9 +70,9 @@ stops_by content log again = record {
 }
 
 module _ {D : Type 0} (content : D → Content) (old new : Log D) where
-  pub breaks_by : (after : Seen → Seen) → (content new.disk).is_observable ≡ (content old.disk).is_observable → Reopens (content new.disk)
-      → ((s : Seen) → ShowsOpen content old s → IsKept (after s))
-      → ((s : Seen) → ShowsOpen content old s → (c : Files) → Image (content new.disk) c → (i : ℕ) × ((after s).incarnation ≤ i) × ComesBack i (after s) c)
+  pub breaks_by : (after : LogSeen → LogSeen) → (content new.disk).is_observable ≡ (content old.disk).is_observable → Reopens (content new.disk)
+      → ((s : LogSeen) → ShowsOpen content old s → IsSeenSound (after s))
+      → ((s : LogSeen) → ShowsOpen content old s → (c : Files) → Image (content new.disk) c → (i : ℕ) × ((after s).incarnation ≤ i) × OpensAfterStop i (after s) c)
       → OpensBetween (content old.disk) (content new.disk) → Breaks content (Up old) (Down old.settings new.disk) after
   breaks_by after is_observable again kept images between = record {
     between = between;
@@ -84,7 +84,7 @@ module _ {D : Type 0} (content : D → Content) (old new : Log D) where
   module _ (laws : Lawful (content new.disk)) where
     -- as before, or as what was to be
     pub image_or : (o : Opened) → LeavesOnly (content old.disk) (content new.disk) (OpensAsOr (content old.disk) o)
-        → (s : Seen) → ShowsOpen content old s → (p : Opened) → o ≡ p
+        → (s : LogSeen) → ShowsOpen content old s → (p : Opened) → o ≡ p
         → (c : Files) → Image (content new.disk) c → Opens c (returns old.incarnation s) ⊎ Opens c p
     image_or o opens s h p is c now =
         ⊎_elim
@@ -111,7 +111,7 @@ module _ {D : Type 0} (content : D → Content) (old new : Log D) where
           (λ s h c now. (old.incarnation, most h.incarnation_is, image_or (flushed_log (committed old (f old.line old.end))) opens s h (returning old.incarnation s (end_of s.batches, f s.line (end_of s.batches), s.local)) (made s h) c now))
           between
         where
-          made : (s : Seen) → ShowsOpen content old s → flushed_log (committed old (f old.line old.end)) ≡ returning old.incarnation s (end_of s.batches, f s.line (end_of s.batches), s.local)
+          made : (s : LogSeen) → ShowsOpen content old s → flushed_log (committed old (f old.line old.end)) ≡ returning old.incarnation s (end_of s.batches, f s.line (end_of s.batches), s.local)
           made s h =
               opened_as (flushed_log (committed old (f old.line old.end))) old.incarnation s.local (from_offset s.local (up_to (end_of s.batches) s.batches)) (f s.line (end_of s.batches))
               refl

@@ -7,12 +7,12 @@ use Rattle.log_terms.proofs.Logs.{end_above, up_to_prefix, up_to_end, up_to_is, 
 use Rattle.epoch_line.specs.Line.{cut_end}
 use Rattle.log_steps.specs.Opens.{Opens}
 use Rattle.log_steps.specs.Reopens.{Reopens}
-use Rattle.local_log.specs.Log.{Log, Becomes}
+use Rattle.local_log.specs.Log.{Log, LogBecomes}
 use Rattle.local_log.specs.Coheres.{Coheres}
 use Rattle.local_log.specs.Cutting.{cut, cut_at, cut_point, restarted, all_of, OpensAsOr}
 use Rattle.local_log.proofs.Pieces.{up_to_all}
-use Rattle.broker_log.specs.Seen.{Seen, Up, Down, OpensBetween, layout_of, IsBack, returning, ShowsOpen}
-use Rattle.broker_log.specs.Turns.{Cuts, BreaksIf, MayCut, IsEndUpTo, cut_to, cut_back, cut_end_at, torn}
+use Rattle.broker_log.specs.Seen.{LogSeen, Up, Down, OpensBetween, layout_of, IsBack, returning, ShowsOpen}
+use Rattle.broker_log.specs.Turns.{CutsLog, BreaksIf, MayCutLog, IsEndUpTo, cut_to, cut_back, cut_end_at, torn}
 use Rattle.broker_log.proofs.Breaking.{most, torn_back, torn_most, torn_kept, image_or}
 use Rattle.broker_log.proofs.Local.{opened_as, from_rest, begins_at, up_whole, up_end, kept_stands}
 
@@ -49,7 +49,7 @@ cut_told {D = D} old end = elim (cases_lt end old.local_start) [
 ]
 
 -- and where it is seen
-pub record IsSeenCut {D : Type 0} (cut : Log D) (s : Seen) (end now : ℕ) : Type 0 where
+pub record IsSeenCut {D : Type 0} (cut : Log D) (s : LogSeen) (end now : ℕ) : Type 0 where
   pub end_is : now ≡ end_of (up_to end s.batches)
   pub below : List (List ℕ)
   pub parts : up_to end s.batches ≡ below ++ cut.batches
@@ -57,7 +57,7 @@ pub record IsSeenCut {D : Type 0} (cut : Log D) (s : Seen) (end now : ℕ) : Typ
   pub local_is : cut.local_start ≡ min s.local now
 
 module _ {D : Type 0} (content : D → Content) (old : Log D) (end : ℕ) (coheres : IsTrue (content old.disk).is_observable → Coheres old) where
-  module _ (s : Seen) (h : ShowsOpen content old s) where
+  module _ (s : LogSeen) (h : ShowsOpen content old s) where
     low : old.local_start ≤ end → old.local_start ≤ cut_point end old.closed old.active
     low le =
         let c = coheres h.told in
@@ -93,7 +93,7 @@ module _ {D : Type 0} (content : D → Content) (old : Log D) (end : ℕ) (coher
         }
 
     -- whichever
-    pub seen_cut : MayCut end s → IsSeenCut (cut_at old end) s end (cut_end_at old end)
+    pub seen_cut : MayCutLog end s → IsSeenCut (cut_at old end) s end (cut_end_at old end)
     seen_cut may = elim (cases_lt end old.local_start) [
       | inl lt ↦
           let ends : EndsAt end s.batches = ⊎_elim (λ le. (let same = h.local_is in absurd (omega (arith, lt, le, same)))) (λ ends. ends) may in
@@ -105,7 +105,7 @@ module _ {D : Type 0} (content : D → Content) (old : Log D) (end : ℕ) (coher
     ]
 
     -- what an image opens as that has all of it
-    pub opens_cut : MayCut end s → all_of (cut_at old end) ≡ returning (cut_at old end).incarnation s (cut_back s end)
+    pub opens_cut : MayCutLog end s → all_of (cut_at old end) ≡ returning (cut_at old end).incarnation s (cut_back s end)
     opens_cut may =
         let k = seen_cut may in
         let t = cut_told old end in
@@ -137,7 +137,7 @@ module _ {D : Type 0} (content : D → Content) (old : Log D) (end : ℕ) (coher
   module _ (new : Log D) where
     -- the cut may be done
     pub cut_breaks : (content new.disk).is_observable ≡ (content old.disk).is_observable → Lawful (content new.disk) → Reopens (content new.disk) → LeavesOnly (content old.disk) (content new.disk) (OpensAsOr (content old.disk) (all_of (cut_at old end)))
-        → (cut_at old end).incarnation ≡ old.incarnation → OpensBetween (content old.disk) (content new.disk) → BreaksIf content (Up old) (Down old.settings new.disk) (MayCut end) (λ s. torn s (cut_back s end))
+        → (cut_at old end).incarnation ≡ old.incarnation → OpensBetween (content old.disk) (content new.disk) → BreaksIf content (Up old) (Down old.settings new.disk) (MayCutLog end) (λ s. torn s (cut_back s end))
     cut_breaks is_observable laws again opens inc between = record {
       between = between;
       down = refl;
@@ -161,13 +161,13 @@ module _ {D : Type 0} (content : D → Content) (old : Log D) (end : ℕ) (coher
     }
 
     -- the cut is done
-    module _ (unbroken : old.broken ≡ false) (b : Becomes content (cut_at old end) new) (durable : (c : Files) → Image (content new.disk) c → Opens c (all_of (cut_at old end)))
+    module _ (unbroken : old.broken ≡ false) (b : LogBecomes content (cut_at old end) new) (durable : (c : Files) → Image (content new.disk) c → Opens c (all_of (cut_at old end)))
         (same : (cut_at old end).disk ≡ old.disk) (again : (cut_at old end).incarnation ≡ old.incarnation) (whole : (cut_at old end).broken ≡ old.broken)
         (coheres' : new.broken ≡ false → IsTrue (content new.disk).is_observable → Coheres new) (between : OpensBetween (content old.disk) (content new.disk)) where
       t : IsCutTo old (cut_at old end) end (cut_end_at old end)
       t = cut_told old end
 
-      told_then : (s : Seen) → ShowsOpen content old s → IsTrue (content (cut_at old end).disk).is_observable
+      told_then : (s : LogSeen) → ShowsOpen content old s → IsTrue (content (cut_at old end).disk).is_observable
       told_then s h = ap (λ (d : D). (content d).is_observable) same ∙ h.told
 
       end_now : new.end ≡ cut_end_at old end
@@ -182,7 +182,7 @@ module _ {D : Type 0} (content : D → Content) (old : Log D) (end : ℕ) (coher
       local_now : new.local_start ≡ min old.local_start end
       local_now = ap (λ (l : Log D). l.local_start) b.fields ∙ t.local_is
 
-      shows : (s : Seen) → ShowsOpen content old s → MayCut end s → ShowsOpen content new (cut_to s end)
+      shows : (s : LogSeen) → ShowsOpen content old s → MayCutLog end s → ShowsOpen content new (cut_to s end)
       shows s h may =
           let k = seen_cut s h may in
           let e = end_of (up_to end s.batches) in
@@ -208,13 +208,13 @@ module _ {D : Type 0} (content : D → Content) (old : Log D) (end : ℕ) (coher
             segments = (coheres' (ap (λ (l : Log D). l.broken) b.fields ∙ whole ∙ unbroken) (b.is_observable ∙ told_then s h)).segments;
           }
         where
-          anew : (s : Seen) (e : ℕ) → IsConsecutive 0 (up_to end s.batches) → up_to e s.batches ≡ up_to end s.batches → e ≡ end_of (up_to end s.batches) → (i : ℕ)
+          anew : (s : LogSeen) (e : ℕ) → IsConsecutive 0 (up_to end s.batches) → up_to e s.batches ≡ up_to end s.batches → e ≡ end_of (up_to end s.batches) → (i : ℕ)
               → returning i s (e, cut_end s.line e, min s.local e) ≡ returning i (cut_to s end) (e, cut_end s.line e, min s.local e)
           anew s e follow same is i =
               ap (λ (l : List (List ℕ)). record { incarnation = i; local_start = min s.local e; batches = from_offset (min s.local e) l; line = cut_end s.line e })
               (same ∙ sym (ap (λ (n : ℕ). up_to n (up_to end s.batches)) is ∙ up_to_all 0 (up_to end s.batches) follow))
 
-      pub cuts_by : Cuts content (Up old) (Up new) end new.end
+      pub cuts_by : CutsLog content (Up old) (Up new) end new.end
       cuts_by = record {
         between = between;
         end_is = refl;

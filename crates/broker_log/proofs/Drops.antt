@@ -7,13 +7,13 @@ use Rattle.epoch_line.specs.Line.{cut_end}
 use Rattle.segment_file.specs.Growing.{Grown}
 use Rattle.log_steps.specs.Opens.{Opens}
 use Rattle.log_steps.specs.Reopens.{Reopens}
-use Rattle.local_log.specs.Log.{Log, Becomes, flushed_log}
+use Rattle.local_log.specs.Log.{Log, LogBecomes, flushed_log}
 use Rattle.local_log.specs.Coheres.{Coheres}
 use Rattle.local_log.specs.Cutting.{OpensAsOr}
 use Rattle.local_log.specs.Dropping.{start_behind, IsFirstFlushed, SpansFirst, dropped as dropped_log}
 use Rattle.local_log.specs.Stored.{end_of as end_of_segment}
-use Rattle.broker_log.specs.Seen.{Seen, Up, Down, OpensBetween, layout_of, returning, ShowsOpen}
-use Rattle.broker_log.specs.Turns.{Drops, DropBreaks, dropped, kept_line}
+use Rattle.broker_log.specs.Seen.{LogSeen, Up, Down, OpensBetween, layout_of, returning, ShowsOpen}
+use Rattle.broker_log.specs.Turns.{DropsFirst, DropBreaks, dropped, kept_line}
 use Rattle.broker_log.proofs.Breaking.{most, loosened_kept, image_or}
 use Rattle.broker_log.proofs.Local.{opened_as, from_up, parts_at, from_local, up_whole, kept_stands}
 
@@ -43,7 +43,7 @@ module _ {D : Type 0} (content : D → Content) (old : Log D) (some : IsFirstFlu
   abbrev pub start : ℕ
   start = start_behind old.local_start old.closed
 
-  module _ (s : Seen) (h : ShowsOpen content old s) where
+  module _ (s : LogSeen) (h : ShowsOpen content old s) where
     k : IsStart old
     k = start_is old (coheres h.told) some
 
@@ -105,9 +105,9 @@ module _ {D : Type 0} (content : D → Content) (old : Log D) (some : IsFirstFlu
   }
 
   -- the segment is gone
-  pub drops_by : (new : Log D) → old.broken ≡ false → (answer : ℕ × ℕ) → SpansFirst old.closed answer → Becomes content (dropped_log old) new
+  pub drops_by : (new : Log D) → old.broken ≡ false → (answer : ℕ × ℕ) → SpansFirst old.closed answer → LogBecomes content (dropped_log old) new
       → ((c : Files) → Image (content new.disk) c → Opens c (flushed_log (dropped_log old)))
-      → (new.broken ≡ false → IsTrue (content new.disk).is_observable → Coheres new) → OpensBetween (content old.disk) (content new.disk) → Drops content (Up old) (Up new) answer
+      → (new.broken ≡ false → IsTrue (content new.disk).is_observable → Coheres new) → OpensBetween (content old.disk) (content new.disk) → DropsFirst content (Up old) (Up new) answer
   drops_by new unbroken answer spans b durable whole between =
       record {
         between = between;
@@ -131,14 +131,14 @@ module _ {D : Type 0} (content : D → Content) (old : Log D) (some : IsFirstFlu
           go [] spans = absurd spans
           go (g ∷ rest) spans = spans.1
 
-      base : (s : Seen) → ShowsOpen content old s → answer.0 ≡ s.local
+      base : (s : LogSeen) → ShowsOpen content old s → answer.0 ≡ s.local
       base s h = go old.closed refl spans
         where
           go : (closed : List Grown) → old.closed ≡ closed → SpansFirst closed answer → answer.0 ≡ s.local
           go [] is spans = absurd spans
           go (g ∷ rest) is spans = spans.0 ∙ ((coheres h.told).first g rest is).0 ∙ sym h.local_is
 
-      shows : (s : Seen) → ShowsOpen content old s → ShowsOpen content new (dropped s start)
+      shows : (s : LogSeen) → ShowsOpen content old s → ShowsOpen content new (dropped s start)
       shows s h =
           let inc : new.incarnation ≡ old.incarnation = ap (λ (l : Log D). l.incarnation) b.fields in
           record {

@@ -10,7 +10,7 @@ use Rattle.log_steps.specs.Opens.{Opened}
 use Rattle.local_log.specs.Log.{Log}
 use Rattle.local_log.proofs.Edges.{from_skip, up_to_past}
 use Rattle.local_log.proofs.Pieces.{up_to_all}
-use Rattle.broker_log.specs.Seen.{Seen, back_of, IsBack, IsKept, ShowsOpen}
+use Rattle.broker_log.specs.Seen.{LogSeen, back_of, IsBack, IsSeenSound, ShowsOpen}
 
 from_all : (n : ℕ) (xs : List (List ℕ)) → IsConsecutive n xs → from_offset n xs ≡ xs
 from_all n [] c = refl
@@ -68,7 +68,7 @@ pub opened_as : (o : Opened) (i n : ℕ) (batches : List (List ℕ)) (line : Lis
     → o ≡ record { incarnation = i; local_start = n; batches = batches; line = line }
 opened_as o i n batches line a b c d = let z : o ≡ record { incarnation = i; local_start = n; batches = batches; line = line } = rw (← a, ← b, ← c, ← d) refl in z
 
-module _ {D : Type 0} (content : D → Content) (log : Log D) (s : Seen) (h : ShowsOpen content log s) where
+module _ {D : Type 0} (content : D → Content) (log : Log D) (s : LogSeen) (h : ShowsOpen content log s) where
   pub all : IsConsecutive 0 (h.below ++ log.batches)
   all = subst (IsConsecutive 0) h.batches_are h.consecutive
 
@@ -97,5 +97,5 @@ module _ {D : Type 0} (content : D → Content) (log : Log D) (s : Seen) (h : Sh
   pub back_stands : IsBack s (back_of s)
   back_stands = record { begins = local_ends; within = h.within }
 
-  pub kept_stands : IsKept s
+  pub kept_stands : IsSeenSound s
   kept_stands = record { consecutive = h.consecutive; back = back_stands; loose = λ back is. absurd (let no : None ≡ Some back = sym h.tight ∙ is in cc) }

@@ -6,21 +6,21 @@ use Rattle.log_terms.proofs.Logs.{up_to_prefix, up_to_end}
 use Rattle.log_terms.proofs.Lists.{prefix_self}
 use Rattle.log_steps.specs.Opens.{Opens}
 use Rattle.log_steps.specs.Reopens.{Reopens}
-use Rattle.local_log.specs.Log.{Log, Becomes}
+use Rattle.local_log.specs.Log.{Log, LogBecomes}
 use Rattle.local_log.specs.Coheres.{Coheres}
 use Rattle.local_log.specs.Cutting.{restarted as restarted_log, all_of, OpensAsOr}
-use Rattle.broker_log.specs.Seen.{Seen, Back, Up, Down, OpensBetween, layout_of, IsBack, returning, ShowsOpen}
+use Rattle.broker_log.specs.Seen.{LogSeen, Back, Up, Down, OpensBetween, layout_of, IsBack, returning, ShowsOpen}
 use Rattle.broker_log.specs.Turns.{LeadsTo, Restarts, RestartBreaks, restarted, unbuilt}
 use Rattle.broker_log.proofs.Breaking.{most, image_or}
 use Rattle.broker_log.proofs.Local.{opened_as, from_end, up_up, local_ends}
 
 module _ {D : Type 0} (content : D → Content) (old : Log D) (n : ℕ) (line : List (ℕ × ℕ)) where
   -- what an image opens as that has no more of it
-  opens_restarted : (s : Seen) (whole : List (List ℕ)) → LeadsTo whole n → all_of (restarted_log old n line) ≡ returning old.incarnation (restarted s whole line n) (n, line, n)
+  opens_restarted : (s : LogSeen) (whole : List (List ℕ)) → LeadsTo whole n → all_of (restarted_log old n line) ≡ returning old.incarnation (restarted s whole line n) (n, line, n)
   opens_restarted s whole w =
       opened_as (all_of (restarted_log old n line)) old.incarnation n (from_offset n (up_to n whole)) line refl refl (sym (from_end n whole w.consecutive w.ends)) refl
 
-  pub restarts_by : (new : Log D) → old.broken ≡ false → Becomes content (restarted_log old n line) new → ((c : Files) → Image (content new.disk) c → Opens c (all_of (restarted_log old n line)))
+  pub restarts_by : (new : Log D) → old.broken ≡ false → LogBecomes content (restarted_log old n line) new → ((c : Files) → Image (content new.disk) c → Opens c (all_of (restarted_log old n line)))
       → (new.broken ≡ false → IsTrue (content new.disk).is_observable → Coheres new) → OpensBetween (content old.disk) (content new.disk) → Restarts content (Up old) (Up new) n line
   restarts_by new unbroken b durable coheres between = record {
     between = between;
@@ -51,7 +51,7 @@ module _ {D : Type 0} (content : D → Content) (old : Log D) (n : ℕ) (line : 
   }
 
   -- an end of what is flushed is one of batches that have it
-  ends_then : (s : Seen) (whole : List (List ℕ)) → ShowsOpen content old s → LeadsTo whole n → up_to s.flushed_end whole ≡ up_to s.flushed_end s.batches → EndsAt s.local whole
+  ends_then : (s : LogSeen) (whole : List (List ℕ)) → ShowsOpen content old s → LeadsTo whole n → up_to s.flushed_end whole ≡ up_to s.flushed_end s.batches → EndsAt s.local whole
   ends_then s whole h w same =
       let at = up_to_end s.local s.batches h.consecutive (local_ends content old s h) in
       let here : up_to s.local whole ≡ up_to s.local s.batches =

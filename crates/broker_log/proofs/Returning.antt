@@ -13,13 +13,13 @@ use Rattle.local_log.specs.Coheres.{Coheres}
 use Rattle.local_log.specs.Cutting.{whole_log}
 use Rattle.segment_file.specs.Growing.{Grown}
 use Rattle.log_steps.specs.Fronts.{Each}
-use Rattle.local_log.specs.Opening.{IsOf, IsOpenLog, OpenFails, OpenFailsIn}
+use Rattle.local_log.specs.Opening.{IsLogOf, IsOpenLog, OpenFails, OpenFailsIn}
 use Rattle.local_log.proofs.Pieces.{up_to_all, consecutive_append}
-use Rattle.broker_log.specs.Seen.{Seen, Back, Up, Down, Goes, Stays, back_of, IsBack, returning, returns, ComesBack, ShowsOpen, ShowsClosed}
+use Rattle.broker_log.specs.Seen.{LogSeen, Back, Up, Down, ChangesSeen, LogStays, back_of, IsBack, returning, returns, OpensAfterStop, ShowsOpen, ShowsClosed}
 use Rattle.local_log.specs.declared.refusal.OpenRefusal.TheVariants.{Damaged}
 use Rattle.local_log.specs.Refusing.{IsSoundCause}
 use Rattle.local_log.specs.declared.refusal.OpenRefusal.{OpenRefusal}
-use Rattle.broker_log.specs.Turns.{opened, OpensAt, Opens as ComesAt, LeadsTo, read_behind, Unopened}
+use Rattle.broker_log.specs.Turns.{opened, OpensWith, ComesBackAs as ComesAt, LeadsTo, read_behind, Unopened}
 use Rattle.broker_log.proofs.Between.{between_opening}
 use Rattle.broker_log.proofs.Local.{opened_as, parts_at, up_up, from_rest}
 use Rattle.log_terms.proofs.Logs.{end_append, consecutive_prefix, prefix_end, up_to_prefix, up_to_end}
@@ -31,7 +31,7 @@ some_and (Some x) P p = (x, refl, p)
 some_and None P p = absurd p
 
 -- what comes back from one image comes back from another, where that opens alike
-back_as : (i j : ℕ) (s : Seen) (d c : Files) → ((back : Back) → Opens d (returning i s back) → Opens c (returning j s back)) → ComesBack i s d → ComesBack j s c
+back_as : (i j : ℕ) (s : LogSeen) (d c : Files) → ((back : Back) → Opens d (returning i s back) → Opens c (returning j s back)) → OpensAfterStop i s d → OpensAfterStop j s c
 back_as i j s d c f (inl is) = inl (f (back_of s) is)
 back_as i j s d c f (inr is) =
     let other = some_and s.loose (λ back. Opens d (returning i s back)) is in
@@ -39,14 +39,14 @@ back_as i j s d c f (inr is) =
 
 module _ {D : Type 0} (content : D → Content) (settings : Settings) (disk : D) (laws : Lawful (content disk)) where
   -- what reads is one of the images
-  pub reads : (s : Seen) (h : ShowsClosed content disk s) → (i : ℕ) × (s.incarnation ≤ i) × ComesBack i s (content disk).files
+  pub reads : (s : LogSeen) (h : ShowsClosed content disk s) → (i : ℕ) × (s.incarnation ≤ i) × OpensAfterStop i s (content disk).files
   reads s h = h.images (content disk).files (laws.reads h.told)
 
   module _ (log : Log D) (is_observable : (content log.disk).is_observable ≡ (content disk).is_observable) (flushed_end : log.flushed_end ≡ log.end) (unbroken : log.broken ≡ false)
-      (is_of : IsTrue (content disk).is_observable → (o : Opened) × Opens (content disk).files o × IsOf o log) (coheres : IsTrue (content log.disk).is_observable → Coheres log)
+      (is_of : IsTrue (content disk).is_observable → (o : Opened) × Opens (content disk).files o × IsLogOf o log) (coheres : IsTrue (content log.disk).is_observable → Coheres log)
       (durable : (c : Files) → Image (content log.disk) c → Opens c (whole_log log)) where
     -- what was read is seen, after whatever leads up to it
-    module _ (told : IsTrue (content log.disk).is_observable) (o : Opened) (is : IsOf o log) (below : List (List ℕ)) (leads : LeadsTo below o.local_start) where
+    module _ (told : IsTrue (content log.disk).is_observable) (o : Opened) (is : IsLogOf o log) (below : List (List ℕ)) (leads : LeadsTo below o.local_start) where
       c : Coheres log
       c = coheres told
 
@@ -92,12 +92,12 @@ module _ {D : Type 0} (content : D → Content) (settings : Settings) (disk : D)
     read_by t = (let x = is_of t in (x.0, x.1, seen_behind (subst IsTrue (sym is_observable) t) x.0 x.2))
 
     -- what came back
-    module _ (s : Seen) (h : ShowsClosed content disk s) (i : ℕ) (back : Back) (from : IsBack s back) (is : Opens (content disk).files (returning i s back)) where
+    module _ (s : LogSeen) (h : ShowsClosed content disk s) (i : ℕ) (back : Back) (from : IsBack s back) (is : Opens (content disk).files (returning i s back)) where
       read_is : (is_of h.told).0 ≡ returning i s back
       read_is = opens_once (content disk).files (is_of h.told).0 (returning i s back) (is_of h.told).1 is
 
-      is_back : IsOf (returning i s back) log
-      is_back = subst (λ (o : Opened). IsOf o log) read_is (is_of h.told).2
+      is_back : IsLogOf (returning i s back) log
+      is_back = subst (λ (o : Opened). IsLogOf o log) read_is (is_of h.told).2
 
       abbrev below : List (List ℕ)
       below = up_to back.2 s.batches
@@ -114,7 +114,7 @@ module _ {D : Type 0} (content : D → Content) (settings : Settings) (disk : D)
           ∙ sym (parts_at back.2 (up_to back.0 s.batches))
 
       -- as it came back, with these batches
-      abbrev whole : List (List ℕ) → ℕ → Seen
+      abbrev whole : List (List ℕ) → ℕ → LogSeen
       whole batches n = record { batches = batches; line = back.1; flushed_end = end_of batches; saved = back.1; local = back.2; loose = None; incarnation = n }
 
       pub comes_back : ShowsOpen content log (opened s back log.incarnation)
@@ -122,26 +122,26 @@ module _ {D : Type 0} (content : D → Content) (settings : Settings) (disk : D)
           subst (ShowsOpen content log) (ap (λ (l : List (List ℕ)). whole l (i + 1)) parts ∙ ap (whole (up_to back.0 s.batches)) (sym is_back.incarnation))
           (seen_behind (is_observable ∙ h.told) (returning i s back) is_back below leads)
 
-      pub opens_at : s.incarnation ≤ i → (s' : Seen) × ShowsOpen content log s' × OpensAt log.end s s' back × (s.incarnation < s'.incarnation)
+      pub opens_at : s.incarnation ≤ i → (s' : LogSeen) × ShowsOpen content log s' × OpensWith log.end s s' back × (s.incarnation < s'.incarnation)
       opens_at least = (opened s back log.incarnation, comes_back, (refl, sym comes_back.ends), (let next = is_back.incarnation in omega (arith, least, next)))
 
-    pub opens_by : Goes content (Down settings disk) (Up log) (λ s s'. ComesAt log.end s s' × (s.incarnation < s'.incarnation))
+    pub opens_by : ChangesSeen content (Down settings disk) (Up log) (λ s s'. ComesAt log.end s s' × (s.incarnation < s'.incarnation))
     opens_by s h = go (reads s h).2
       where
-        go : ComesBack (reads s h).0 s (content disk).files → (s' : Seen) × ShowsOpen content log s' × (ComesAt log.end s s' × (s.incarnation < s'.incarnation))
+        go : OpensAfterStop (reads s h).0 s (content disk).files → (s' : LogSeen) × ShowsOpen content log s' × (ComesAt log.end s s' × (s.incarnation < s'.incarnation))
         go (inl is) = let x = opens_at s h (reads s h).0 (back_of s) h.kept.back is (reads s h).1 in (x.0, x.1, (inl x.2, x.3))
         go (inr is) =
             let other = some_and s.loose (λ back. Opens (content disk).files (returning (reads s h).0 s back)) is in
             let x = opens_at s h (reads s h).0 other.0 (h.kept.loose other.0 other.1) other.2 (reads s h).1 in (
               x.0,
               x.1,
-              (inr (subst (λ (o : Option Back). IsSomeAnd o (λ back. OpensAt log.end s x.0 back)) (sym other.1) x.2), x.3),
+              (inr (subst (λ (o : Option Back). IsSomeAnd o (λ back. OpensWith log.end s x.0 back)) (sym other.1) x.2), x.3),
             )
 
   -- it couldn't be opened, or was closed again
   module _ (disk' : D) (laws' : Lawful (content disk')) (is_observable : (content disk').is_observable ≡ (content disk).is_observable)
       (leaves : Reopens (content disk) → LeavesOnly (content disk) (content disk') (Opening (content disk))) (again : Reopens (content disk) → Reopens (content disk')) where
-    still : (s : Seen) (h : ShowsClosed content disk s) (c : Files) → Opening (content disk) c → (i : ℕ) × (s.incarnation ≤ i) × ComesBack i s c
+    still : (s : LogSeen) (h : ShowsClosed content disk s) (c : Files) → Opening (content disk) c → (i : ℕ) × (s.incarnation ≤ i) × OpensAfterStop i s c
     still s h c (inl like) =
         let was = h.images like.0 like.1 in
         (was.0, was.1, back_as was.0 was.0 s like.0 c (λ back is. subst (Opens c) (opens_once like.0 like.2.0 (returning was.0 s back) like.2.1 is) like.2.2) was.2)
@@ -152,7 +152,7 @@ module _ {D : Type 0} (content : D → Content) (settings : Settings) (disk : D)
         let was = reads s h in
         (was.0 + 1, (let least = was.1 in omega (arith, least)), back_as was.0 (was.0 + 1) s (content disk).files c (λ back is. subst (λ (p : Opened). Opens c (raised p)) (opens_once (content disk).files o (returning was.0 s back) reading is) next) was.2)
 
-    pub stays_closed : Goes content (Down settings disk) (Down settings disk') (λ s s'. s' ≡ s)
+    pub stays_closed : ChangesSeen content (Down settings disk) (Down settings disk') (λ s s'. s' ≡ s)
     stays_closed s h = (
       s,
       record {
@@ -165,7 +165,7 @@ module _ {D : Type 0} (content : D → Content) (settings : Settings) (disk : D)
     )
 
     -- so is the log
-    pub stays_by_closing : Stays content (Down settings disk) (Down settings disk')
+    pub stays_by_closing : LogStays content (Down settings disk) (Down settings disk')
     stays_by_closing = record { up = refl; end = refl; flushed_end = refl; line = refl; local = refl; layout = refl; settings = refl; seen = stays_closed; between = between_opening (content disk) (content disk') laws leaves }
 
     -- what was returned is invalid, so nothing was seen of the log

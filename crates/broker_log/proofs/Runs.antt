@@ -16,21 +16,21 @@ use Rattle.segment_file.specs.Run.{StopIs as StopsIn}
 use Rattle.log_steps.specs.Fronts.{Each}
 use Rattle.log_steps.proofs.Lists.{each_map, each_left, each_right}
 use Rattle.local_log.specs.declared.reading.RunOut.{RunOut}
-use Rattle.local_log.specs.Log.{Log, Becomes}
+use Rattle.local_log.specs.Log.{Log, LogBecomes}
 use Rattle.local_log.specs.Coheres.{Coheres}
 use Rattle.local_log.specs.declared.refusal.ReadRefusal.{ReadRefusal}
 use Rattle.local_log.specs.declared.refusal.ReadRefusal.TheVariants.{Damaged}
-use Rattle.local_log.specs.Reading.{segment_at, IsRunOf, IsEdge, IsCut, RunFails, IsOfDevice, ReadOnce, piece_of, passes}
-use Rattle.broker_log.specs.Seen.{Seen, Up, Stays, ShowsOpen}
-use Rattle.broker_log.specs.Turns.{IsRunIn, IsSegmentOf, Reads, Misreads, StopIs}
+use Rattle.local_log.specs.Reading.{segment_at, IsRunOf, IsEdge, IsCutOut, RunFails, IsOfDevice, ReadOnce, piece_of, passes}
+use Rattle.broker_log.specs.Seen.{LogSeen, Up, LogStays, ShowsOpen}
+use Rattle.broker_log.specs.Turns.{IsRunInLog, IsSegmentOf, ReadsRun, Misreads, StopIs}
 use Rattle.broker_log.proofs.Between.{between_kept}
 use Rattle.broker_log.proofs.Showing.{stays_by}
 use Rattle.broker_log.proofs.Local.{from_local, up_end}
-use Rattle.segment_file.specs.Closed.{Whole}
+use Rattle.segment_file.specs.Closed.{ClosedSegment}
 use Rattle.local_log.specs.Reading.{IsPartOf}
 use Rattle.log_terms.proofs.Logs.{end_append}
 
-module _ {D : Type 0} (content : D → Content) (log : Log D) (s : Seen) (h : ShowsOpen content log s) where
+module _ {D : Type 0} (content : D → Content) (log : Log D) (s : LogSeen) (h : ShowsOpen content log s) where
   pub edge_at : (mark : ℕ) → log.local_start ≤ mark → EndsAt mark s.batches → IsEdge log mark
   edge_at mark from ends =
       sym (up_end content log s h mark (let same = h.local_is in omega (arith, from, same))) ∙ up_to_end mark s.batches h.consecutive ends
@@ -40,7 +40,7 @@ abbrev ArePassing : List (List ℕ) → Type 0
 ArePassing batches = Each (λ (batch : List ℕ). IsOk (checked batch)) batches
 
 -- a closed segment of an open log
-pub segment_of : {D : Type 0} (content : D → Content) (log : Log D) (s : Seen) → ShowsOpen content log s → ArePassing log.batches → (whole : Whole)
+pub segment_of : {D : Type 0} (content : D → Content) (log : Log D) (s : LogSeen) → ShowsOpen content log s → ArePassing log.batches → (whole : ClosedSegment)
     → IsPartOf log whole → IsSegmentOf s whole
 segment_of content log s h are whole k = record {
   before = h.below ++ k.before;
@@ -73,9 +73,9 @@ stops Piece next mark piece limit run rest bytes is s = s.0
 stops Limit next mark piece limit run [] bytes is s = absurd (cc (s.2))
 stops Limit next mark piece limit run (batch ∷ rest) bytes is s = (s.0, subst (λ (b : List ℕ). limit < length b + length batch) is (ltb-true limit (length bytes + length batch) s.2))
 
-module _ {D : Type 0} (content : D → Content) (log : Log D) (s : Seen) (h : ShowsOpen content log s) (c : Coheres log) where
+module _ {D : Type 0} (content : D → Content) (log : Log D) (s : LogSeen) (h : ShowsOpen content log s) (c : Coheres log) where
   -- a run that was read up to an end of the log's batches
-  pub run_in : (offset limit mark : ℕ) (out : RunOut) → log.local_start ≤ offset → offset < mark → EndsAt mark s.batches → IsRunOf log offset limit mark out → IsRunIn (Up log) s offset limit mark out
+  pub run_in : (offset limit mark : ℕ) (out : RunOut) → log.local_start ≤ offset → offset < mark → EndsAt mark s.batches → IsRunOf log offset limit mark out → IsRunInLog (Up log) s offset limit mark out
   run_in offset limit mark out from below ends r =
       let run = r.first ∷ r.others in
       let high : mark ≤ end_of s.batches = ends_below mark s.batches h.consecutive ends in
@@ -118,15 +118,15 @@ pub err_told : {T : Type 0} (P Q : ReadRefusal → Type 0) (r : Result T ReadRef
 err_told P Q (Ok x) cause p q is = absurd (cc is)
 err_told P Q (Err e) cause p q is = let same : e ≡ cause = cc is in (subst P same p, subst Q same q)
 
-module _ {D : Type 0} (content : D → Content) (old new : Log D) (b : Becomes content old new) (keeps : Keeps (content old.disk) (content new.disk)) where
+module _ {D : Type 0} (content : D → Content) (old new : Log D) (b : LogBecomes content old new) (keeps : Keeps (content old.disk) (content new.disk)) where
   -- a log that was read is as it was
-  pub reading_stays : Stays content (Up old) (Up new)
+  pub reading_stays : LogStays content (Up old) (Up new)
   reading_stays = stays_by content old new b (λ c now. (c, keeps.images c now, λ o is. is)) (between_kept (content old.disk) (content new.disk) keeps)
 
   module _ (control : D → Control call_code) (offset limit mark : ℕ) (from : old.local_start ≤ offset) (below : offset < mark) where
     -- the run that was read
     pub reads_by : (IsTrue (content old.disk).is_observable → Coheres old) → (out : RunOut) → (IsTrue (content old.disk).is_observable → IsRunOf old offset limit mark out) → out.base ≡ (segment_at old offset).base
-        → IsCut old.line (control new.disk).last_read offset limit mark (piece_of old offset) out → Ran Read Went (control old.disk) (control new.disk) → Reads content control (Up old) (Up new) offset limit mark out
+        → IsCutOut old.line (control new.disk).last_read offset limit mark (piece_of old offset) out → Ran Read Went (control old.disk) (control new.disk) → ReadsRun content control (Up old) (Up new) offset limit mark out
     reads_by coheres out run base part ran = record {
       stays = reading_stays;
       base = base;
@@ -145,7 +145,7 @@ module _ {D : Type 0} (content : D → Content) (old new : Log D) (b : Becomes c
     }
 
 -- a log whose disk was armed
-pub armed_stays : {D : Type 0} (content : D → Content) (old new : Log D) → new ≡ record old { disk = new.disk } → Keeps (content old.disk) (content new.disk) → Stays content (Up old) (Up new)
+pub armed_stays : {D : Type 0} (content : D → Content) (old new : Log D) → new ≡ record old { disk = new.disk } → Keeps (content old.disk) (content new.disk) → LogStays content (Up old) (Up new)
 armed_stays {D = D} content old new is k =
     reading_stays content old new
     (record {

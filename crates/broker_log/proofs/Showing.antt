@@ -16,10 +16,10 @@ use Rattle.local_log.proofs.Pieces.{consecutive_append}
 use Rattle.epoch_line.specs.Line.{cut_end, assign}
 use Rattle.local_log.proofs.Lines.{cut_within, within_assign}
 use Rattle.log_steps.specs.Opens.{Opens}
-use Rattle.local_log.specs.Log.{Log, Becomes, committed, flushed_log}
-use Rattle.local_log.specs.Coheres.{Coheres, Hold}
+use Rattle.local_log.specs.Log.{Log, LogBecomes, committed, flushed_log}
+use Rattle.local_log.specs.Coheres.{Coheres, SegmentsHold}
 use Rattle.local_log.specs.Cutting.{OpensAs}
-use Rattle.broker_log.specs.Seen.{Seen, Up, Stays, OpensBetween, layout_of, returns, ShowsOpen}
+use Rattle.broker_log.specs.Seen.{LogSeen, Up, LogStays, OpensBetween, layout_of, returns, ShowsOpen}
 use Rattle.broker_log.specs.Turns.{Appends, Settles, Rolls, settled, with_batches, first_in}
 use Rattle.broker_log.proofs.Between.{between_as}
 use Rattle.broker_log.proofs.Local.{opened_as, local_low, up_local}
@@ -42,12 +42,12 @@ image_as old new laws opens c now = opens.each c (laws.earlier old.moment new.mo
 
 -- segments hold the same batches of the same log
 pub hold_same : {D : Type 0} (old new : Log D) → new.local_start ≡ old.local_start → new.closed ≡ old.closed → new.active ≡ old.active → new.batches ≡ old.batches
-    → Hold old.local_start (old.closed ++ old.active ∷ []) old.batches → Hold new.local_start (new.closed ++ new.active ∷ []) new.batches
+    → SegmentsHold old.local_start (old.closed ++ old.active ∷ []) old.batches → SegmentsHold new.local_start (new.closed ++ new.active ∷ []) new.batches
 hold_same old new start closed active batches hold = rw (start, closed, active, batches) hold
 
 module _ {D : Type 0} (content : D → Content) (old new : Log D) where
   -- the log is the same, and so is what each image opens as
-  pub stays_by : Becomes content old new → ((c : Files) → Image (content new.disk) c → OpensAs (content old.disk) c) → OpensBetween (content old.disk) (content new.disk) → Stays content (Up old) (Up new)
+  pub stays_by : LogBecomes content old new → ((c : Files) → Image (content new.disk) c → OpensAs (content old.disk) c) → OpensBetween (content old.disk) (content new.disk) → LogStays content (Up old) (Up new)
   stays_by b opens between = record {
     between = between;
     up = refl;
@@ -82,7 +82,7 @@ module _ {D : Type 0} (content : D → Content) (old new : Log D) where
   }
 
   -- a new segment is begun
-  pub rolls_by : Becomes content (rolled old) new → ((c : Files) → Image (content new.disk) c → OpensAs (content old.disk) c)
+  pub rolls_by : LogBecomes content (rolled old) new → ((c : Files) → Image (content new.disk) c → OpensAs (content old.disk) c)
       → (new.broken ≡ false → IsTrue (content new.disk).is_observable → Coheres new) → OpensBetween (content old.disk) (content new.disk) → Rolls content (Up old) (Up new)
   rolls_by b opens coheres between = record {
     between = between;
@@ -117,7 +117,7 @@ module _ {D : Type 0} (content : D → Content) (old new : Log D) where
 
   -- all of the log is flushed
   pub settles_by : (f : List (ℕ × ℕ) → ℕ → List (ℕ × ℕ)) → (old.broken ≡ false) → (IsTrue (content old.disk).is_observable → cut_end (f old.line old.end) (old.end + 1) ≡ f old.line old.end)
-      → Becomes content (committed old (f old.line old.end)) new → ((c : Files) → Image (content new.disk) c → Opens c (flushed_log new)) → OpensBetween (content old.disk) (content new.disk) → Settles content (Up old) (Up new) f old.end
+      → LogBecomes content (committed old (f old.line old.end)) new → ((c : Files) → Image (content new.disk) c → Opens c (flushed_log new)) → OpensBetween (content old.disk) (content new.disk) → Settles content (Up old) (Up new) f old.end
   settles_by f unbroken within b durable between =
       record {
         between = between;
@@ -161,10 +161,10 @@ module _ {D : Type 0} (content : D → Content) (old new : Log D) where
       local_start : new.local_start ≡ old.local_start
       local_start = ap (λ (l : Log D). l.local_start) b.fields
 
-      line_told : (s : Seen) → ShowsOpen content old s → f s.line (end_of s.batches) ≡ new.line
+      line_told : (s : LogSeen) → ShowsOpen content old s → f s.line (end_of s.batches) ≡ new.line
       line_told s h = ap (λ (l : List (ℕ × ℕ)). f l (end_of s.batches)) h.line_is ∙ ap (f old.line) h.ends ∙ sym line
 
-      opened : (s : Seen) → ShowsOpen content old s → flushed_log new ≡ returns new.incarnation (settled s (f s.line (end_of s.batches)))
+      opened : (s : LogSeen) → ShowsOpen content old s → flushed_log new ≡ returns new.incarnation (settled s (f s.line (end_of s.batches)))
       opened s h =
           opened_as (flushed_log new) new.incarnation s.local (from_offset s.local (up_to (end_of s.batches) s.batches)) (f s.line (end_of s.batches))
           refl
@@ -224,7 +224,7 @@ module _ {D : Type 0} (content : D → Content) where
         let same_end = new_end ∙ ap (end_from old.end) none in
         omega (arith, same_end, a.base_is, a.last_is, up)
 
-    shows : (s : Seen) → ShowsOpen content old s → ShowsOpen content new (with_batches s front)
+    shows : (s : LogSeen) → ShowsOpen content old s → ShowsOpen content new (with_batches s front)
     shows s h =
         let c = coheres h.told in
         let ends : end_from 0 s.batches ≡ old.end = h.ends in

@@ -17,14 +17,14 @@ ghost use Rattle.log_terms.specs.Batch.{last_of};
 ghost use Rattle.record_batch.specs.Check.{AreChecked};
 ghost use Rattle.epoch_line.specs.Line.{last_epoch, assign, cut_end};
 ghost use Rattle.local_log.specs.Stored.{size_of};
-ghost use Rattle.local_log.specs.Run.{IsRun, is_due};
+ghost use Rattle.local_log.specs.Run.{IsRunFor, is_due};
 ghost use Rattle.tier_base.specs.declared.fault.Trouble.TheVariants.{Failed, NoMemory};
 ghost use Rattle.local_log.specs.declared.refusal.AppendRefusal.TheVariants as append;
 ghost use Rattle.local_log.specs.declared.refusal.RollRefusal.TheVariants as roll;
 ghost use Rattle.local_log.specs.declared.refusal.ReadRefusal.TheVariants as reading;
 ghost use Rattle.local_log.specs.declared.refusal.OpenRefusal.TheVariants as opening;
-ghost use Rattle.broker_log.specs.Seen.{Seen, Down, Shows, Goes, Stays, WhileUp, OnDisk, Lasting, Faulted, NoFault, OneFault, is_up, end_in, flushed_end_in, line_in, local_in, incarnation_in, closed_in, layout_in, settings_in};
-ghost use Rattle.broker_log.specs.Turns.{IsFirst, Appends, Settles, Cuts, MayCut, cut_back, Drops, DropBreaks, Restarts, RestartBreaks, IsSegmentOf, Breaks, BreaksIf, BreaksUnsaved, loosened, torn, IsEndUpTo, Rolls, Reads, Misreads, Unopened, IsSpent, Stops, ComesUp};
+ghost use Rattle.broker_log.specs.Seen.{LogSeen, Down, ShowsSeen, ChangesSeen, LogStays, WhileUp, OnDisk, Lasting, Faulted, NoFault, OneFault, is_up, end_in, flushed_end_in, line_in, local_in, incarnation_in, closed_in, layout_in, settings_in};
+ghost use Rattle.broker_log.specs.Turns.{IsNewBrokerLog, Appends, Settles, CutsLog, MayCutLog, cut_back, DropsFirst, DropBreaks, Restarts, RestartBreaks, IsSegmentOf, Breaks, BreaksIf, BreaksUnsaved, loosened, torn, IsEndUpTo, Rolls, ReadsRun, Misreads, Unopened, IsSpent, StopsBroker, ComesUp};
 ghost use Rattle.log_steps.specs.Fronts.{Each};
 ghost use Rattle.local_log.specs.Dropping.{IsFirstFlushed};
 ghost use Rattle.local_log.specs.Reading.{IsClosedFrom, ClosedFails};
@@ -50,9 +50,9 @@ pub struct BrokerLog<D: Disk> {
 }
 
 impl<D: Disk> Model for BrokerLog<D> {
-    ghost use Rattle.broker_log.specs.Seen.{Kept};
+    ghost use Rattle.broker_log.specs.Seen.{LogState};
 
-    ghost Value = { Kept D };
+    ghost Value = { LogState D };
 
     ghost use Rattle.broker_log.specs.Inside.{kept_in, IsWellPlaced};
 
@@ -71,7 +71,7 @@ impl<D: Disk> BrokerLog<D> {
     ) -> Result<BrokerLog<D>, (D, CreateRefusal)>
         requires settings { AreSettings settings }
         requires empty { IsTrue (D.content disk).is_observable → (n : FileName) → (D.content disk).files n ≡ None }
-        ensures ok { IfOk result (λ broker. IsFirst D.content disk settings broker) }
+        ensures ok { IfOk result (λ broker. IsNewBrokerLog D.content disk settings broker) }
 
         // A crash at any moment of the call leaves what it might have left before, or the new log.
         ensures any_moment { IfOk result (λ broker. OnDisk broker (λ d.
@@ -213,7 +213,7 @@ impl<D: Disk> BrokerLog<D> {
     /// ends.
     pub fn takes(&self, run: &[u8]) -> bool
         requires { IsTrue (is_up self.now) }
-        ensures { WhileUp self.now (λ log. IsTrue result ↔ IsRun log.end log.line run.now) }
+        ensures { WhileUp self.now (λ log. IsTrue result ↔ IsRunFor log.end log.line run.now) }
     {
         let LogOrDisk::Up(log) = &self.place else {
             unreachable!()
@@ -226,7 +226,7 @@ impl<D: Disk> BrokerLog<D> {
     pub fn takes_checked(&self, run: &[u8]) -> bool
         requires up { IsTrue (is_up self.now) }
         requires checked { AreChecked run.now }
-        ensures { WhileUp self.now (λ log. IsTrue result ↔ IsRun log.end log.line run.now) }
+        ensures { WhileUp self.now (λ log. IsTrue result ↔ IsRunFor log.end log.line run.now) }
     {
         let LogOrDisk::Up(log) = &self.place else {
             unreachable!()
@@ -267,7 +267,7 @@ impl<D: Disk> BrokerLog<D> {
         requires { IsTrue (is_up self.old) }
         ensures ok { IfOk result (λ end. Settles D.content self.old self.new (λ line _. line) end) }
         ensures refused { OnErr result (IsErrOf result NoMemory ⊎ IsErrOf result Failed) }
-        ensures no_memory { IsErrOf result NoMemory → Stays D.content self.old self.new }
+        ensures no_memory { IsErrOf result NoMemory → LogStays D.content self.old self.new }
         ensures fault { IsErrOf result Failed
             → Breaks D.content self.old self.new (λ s. loosened s (end_of s.batches, s.line, s.local)) }
         ensures control { Lasting D.control self.old self.new }
@@ -286,7 +286,7 @@ impl<D: Disk> BrokerLog<D> {
     /// Appends the first batches of a run that fit one segment, and returns their first and their last offset. They
     /// come back after a stop once they are flushed. `AppendRefusal` has the causes of a failure.
     pub fn append(&mut self, run: &[u8]) -> Result<(u64, u64), AppendRefusal>
-        requires { WhileUp self.old (λ log. IsRun log.end log.line run.now) }
+        requires { WhileUp self.old (λ log. IsRunFor log.end log.line run.now) }
         ensures ok { IfOk result (λ answer. Appends D.content self.old self.new run.now answer) }
 
         // Each cause, where no earlier one holds.
@@ -297,7 +297,7 @@ impl<D: Disk> BrokerLog<D> {
             → self.new ≡ self.old }
         ensures refused { OnErr result ((IsErrOf result append.LastOffset ⊎ IsErrOf result append.TooManySegments)
             ⊎ (IsErrOf result append.NoMemory ⊎ IsErrOf result append.DiskFault)) }
-        ensures no_memory { IsErrOf result append.NoMemory → Stays D.content self.old self.new }
+        ensures no_memory { IsErrOf result append.NoMemory → LogStays D.content self.old self.new }
         ensures fault { IsErrOf result append.DiskFault → BreaksUnsaved D.content self.old self.new }
         ensures control { Lasting D.control self.old self.new }
         ensures cause { IsErrOf result append.DiskFault → Faulted D.control self.old self.new }
@@ -319,7 +319,7 @@ impl<D: Disk> BrokerLog<D> {
         requires above { WhileUp self.old (λ log. ForSome (last_epoch log.line) (λ last. last < epoch)) }
         ensures ok { IfOk result (λ end. Settles D.content self.old self.new (λ line end. assign line epoch end) end) }
         ensures refused { OnErr result (IsErrOf result NoMemory ⊎ IsErrOf result Failed) }
-        ensures no_memory { IsErrOf result NoMemory → Stays D.content self.old self.new }
+        ensures no_memory { IsErrOf result NoMemory → LogStays D.content self.old self.new }
         ensures fault { IsErrOf result Failed → Breaks D.content self.old self.new
             (λ s. loosened s (end_of s.batches, assign s.line epoch (end_of s.batches), s.local)) }
         ensures control { Lasting D.control self.old self.new }
@@ -351,7 +351,7 @@ impl<D: Disk> BrokerLog<D> {
             → self.new ≡ self.old }
         ensures refused { OnErr result ((IsErrOf result roll.EmptySegment ⊎ IsErrOf result roll.TooManySegments)
             ⊎ (IsErrOf result roll.NoMemory ⊎ IsErrOf result roll.DiskFault)) }
-        ensures no_memory { IsErrOf result roll.NoMemory → Stays D.content self.old self.new }
+        ensures no_memory { IsErrOf result roll.NoMemory → LogStays D.content self.old self.new }
         ensures fault { IsErrOf result roll.DiskFault → BreaksUnsaved D.content self.old self.new }
         ensures control { Lasting D.control self.old self.new }
         ensures cause { IsErrOf result roll.DiskFault → Faulted D.control self.old self.new }
@@ -370,11 +370,11 @@ impl<D: Disk> BrokerLog<D> {
     /// log, or if memory runs out.
     pub fn cut_to(&mut self, end: u64) -> Result<u64, Trouble>
         requires { WhileUp self.old (λ log. end ≤ log.end) }
-        ensures ok { IfOk result (λ now. Cuts D.content self.old self.new end now) }
+        ensures ok { IfOk result (λ now. CutsLog D.content self.old self.new end now) }
         ensures refused { OnErr result (IsErrOf result NoMemory ⊎ IsErrOf result Failed) }
-        ensures no_memory { IsErrOf result NoMemory → Stays D.content self.old self.new }
+        ensures no_memory { IsErrOf result NoMemory → LogStays D.content self.old self.new }
         ensures fault { IsErrOf result Failed
-            → BreaksIf D.content self.old self.new (MayCut end) (λ s. torn s (cut_back s end)) }
+            → BreaksIf D.content self.old self.new (MayCutLog end) (λ s. torn s (cut_back s end)) }
         ensures control { Lasting D.control self.old self.new }
         ensures cause { IsErrOf result Failed → Faulted D.control self.old self.new }
         ensures quiet { (IsErrOf result Failed → ⊥) → NoFault D.control self.old self.new }
@@ -406,9 +406,9 @@ impl<D: Disk> BrokerLog<D> {
     /// which stops the broker's log, or if memory runs out.
     pub fn drop_first(&mut self) -> Result<(u64, u64), Trouble>
         requires { WhileUp self.old (λ log. IsFirstFlushed log.flushed_end log.closed) }
-        ensures ok { IfOk result (λ answer. Drops D.content self.old self.new answer) }
+        ensures ok { IfOk result (λ answer. DropsFirst D.content self.old self.new answer) }
         ensures refused { OnErr result (IsErrOf result NoMemory ⊎ IsErrOf result Failed) }
-        ensures no_memory { IsErrOf result NoMemory → Stays D.content self.old self.new }
+        ensures no_memory { IsErrOf result NoMemory → LogStays D.content self.old self.new }
         ensures fault { IsErrOf result Failed → DropBreaks D.content self.old self.new }
         ensures control { Lasting D.control self.old self.new }
         ensures cause { IsErrOf result Failed → Faulted D.control self.old self.new }
@@ -431,7 +431,7 @@ impl<D: Disk> BrokerLog<D> {
         requires within { Each (λ (entry : ℕ × ℕ). entry.1 ≤ start) line }
         ensures ok { OnOk result (Restarts D.content self.old self.new start line) }
         ensures refused { OnErr result (IsErrOf result NoMemory ⊎ IsErrOf result Failed) }
-        ensures no_memory { IsErrOf result NoMemory → Stays D.content self.old self.new }
+        ensures no_memory { IsErrOf result NoMemory → LogStays D.content self.old self.new }
         ensures fault { IsErrOf result Failed → RestartBreaks D.content self.old self.new start line }
         ensures control { Lasting D.control self.old self.new }
         ensures cause { IsErrOf result Failed → Faulted D.control self.old self.new }
@@ -448,14 +448,14 @@ impl<D: Disk> BrokerLog<D> {
     /// Reads the first closed segment that ends past an offset. The log is as it was also where the read failed.
     pub fn closed_from(&mut self, offset: u64) -> Result<Option<Closed>, ReadRefusal>
         requires { IsTrue (is_up self.old) }
-        ensures stays { Stays D.content self.old self.new }
+        ensures stays { LogStays D.content self.old self.new }
         ensures segment { IfOk result (λ segment. WhileUp self.old (λ log. OnDisk self.new (λ d.
             IsClosedFrom log offset (D.control d).last_read segment))) }
-        ensures part { IfOk result (λ segment. (s : Seen) → Shows D.content self.old s
+        ensures part { IfOk result (λ segment. (s : LogSeen) → ShowsSeen D.content self.old s
             → IfSome segment (λ segment. IsSegmentOf s segment)) }
         ensures err { IfErr result
             (λ e. WhileUp self.old (λ log. OnDisk self.new (λ d. ClosedFails log offset (D.control d).last_read e))) }
-        ensures whole { IfErr result (λ e. (s : Seen) → Shows D.content self.old s → IsOfDevice e) }
+        ensures whole { IfErr result (λ e. (s : LogSeen) → ShowsSeen D.content self.old s → IsOfDevice e) }
         ensures ran { WhileUp self.old (λ log. first_past offset log.closed ≢ None
             → OnDisk self.old (λ d. OnDisk self.new (λ d'. ReadOnce result (D.control d) (D.control d')))) }
         ensures control { Lasting D.control self.old self.new }
@@ -475,8 +475,8 @@ impl<D: Disk> BrokerLog<D> {
     pub fn read_run(&mut self, offset: u64, limit: u64, mark: u64) -> Result<RunOut, ReadRefusal>
         requires start { WhileUp self.old (λ log. log.local_start ≤ offset) }
         requires below { offset < mark }
-        ensures stays { Stays D.content self.old self.new }
-        ensures ok { IfOk result (Reads D.content D.control self.old self.new offset limit mark) }
+        ensures stays { LogStays D.content self.old self.new }
+        ensures ok { IfOk result (ReadsRun D.content D.control self.old self.new offset limit mark) }
 
         // Each cause. Where the disk is observable and a batch ends at the high watermark, nothing is damaged.
         ensures damaged { (name : FileName) (at : ℕ) → IsErrOf result (reading.Damaged name at)
@@ -499,7 +499,7 @@ impl<D: Disk> BrokerLog<D> {
 
     /// Arms the disk: planned calls fail from now on.
     pub fn arm(&mut self)
-        ensures stays { Stays D.content self.old self.new }
+        ensures stays { LogStays D.content self.old self.new }
         ensures control { OnDisk self.old (λ d. OnDisk self.new (λ d'. Arms (D.control d) (D.control d'))) }
     {
         match &mut self.place {
@@ -512,7 +512,8 @@ impl<D: Disk> BrokerLog<D> {
     /// Gives the disk back. From that of a log that is open or seen a log can be opened again, also after a crash.
     pub fn close(self) -> D
         ensures disk { OnDisk self (λ d. result ≡ d) }
-        ensures again { IsTrue (is_up self) ⊎ ((s : Seen) × Shows D.content self s) → Reopens (D.content result) }
+        ensures again { IsTrue (is_up self) ⊎ ((s : LogSeen) × ShowsSeen D.content self s)
+            → Reopens (D.content result) }
     {
         match self.place {
             LogOrDisk::Up(log) => log.close(),
@@ -534,7 +535,7 @@ impl<D: Disk> BrokerLog<D> {
     /// Closes the log: the broker is down.
     pub fn stop(&mut self)
         requires { IsTrue (is_up self.old) }
-        ensures stops { Stops D.content self.old self.new }
+        ensures stops { StopsBroker D.content self.old self.new }
         ensures control { OnDisk self.old (λ d. OnDisk self.new (λ d'. d' ≡ d)) }
     {
         let log = taken(&mut self.place);
@@ -547,7 +548,7 @@ impl<D: Disk> BrokerLog<D> {
         requires { is_up self.old ≡ false }
         ensures ok { IfOk result (λ end. ComesUp D.content self.old self.new end) }
         ensures refused { OnErr result (is_up self.new ≡ false) }
-        ensures stays { OnErr result (Stays D.content self.old self.new) }
+        ensures stays { OnErr result (LogStays D.content self.old self.new) }
 
         // Each cause, by what the disk last returned. Where the log is seen, or the files open, nothing is damaged.
         ensures damaged { (name : FileName) (at : ℕ) → IsErrOf result (opening.Damaged name at)

@@ -26,7 +26,7 @@ use Rattle.plain_log.specs.declared.state.State.{State}
 use Rattle.partition_commands.specs.Fresh.{OneFailed}
 use Rattle.partition_commands.specs.declared.refusal.WorldRefusal.{WorldRefusal}
 use Rattle.partition_commands.specs.declared.refusal.WorldRefusal.TheVariants as world
-use Rattle.cold_start.specs.Opening.{AllLast, Starts, Continues, HasCause, ComesBack, IsSaid, says, refusal_of_registry, refusal_of_device, refusal_of_world, refusal_of_find}
+use Rattle.cold_start.specs.Opening.{AllLast, Starts, BeginsFromRegistry, OpeningHasCause, DevicesComeBack, IsRegistryRefusal, says, refusal_of_registry, refusal_of_device, refusal_of_world, refusal_of_find}
 use Rattle.cold_start.specs.Running.{Running}
 use Rattle.cold_start.specs.Stands.{StandsFor, IsBlank}
 use Rattle.cold_start.specs.declared.refusal.ColdRefusal.{ColdRefusal}
@@ -75,7 +75,7 @@ module _ {D M : Type 0} (disk : DiskGhosts D) (meta : MetaGhosts M) where
 
   module _ (config : Config) (disks : List D) (m : M) (reg : D) (nows : List D) (n : M) (r : D) where
     pub device_cause : (why : Trouble) → (why ≡ trouble.Failed → OneFailed disk.control disks nows ⊎ Rose (meta.control m).faults (meta.control n).faults) → SaysNothing config reg
-        → HasCause disk meta config disks m reg nows n r (refusal_of_device why)
+        → OpeningHasCause disk meta config disks m reg nows n r (refusal_of_device why)
     device_cause trouble.Failed failed quiet = record {
       registry_fault = λ is. absurd (cc (is));
       device_fault = λ is. failed refl;
@@ -93,21 +93,21 @@ module _ {D M : Type 0} (disk : DiskGhosts D) (meta : MetaGhosts M) where
       told = λ yes bytes said there is. absurd (quiet yes bytes said there is);
     }
 
-    pub world_cause : (why : WorldRefusal) → (why ≡ world.DiskFault → OneFailed disk.control disks nows) → SaysNothing config reg → HasCause disk meta config disks m reg nows n r (refusal_of_world why)
+    pub world_cause : (why : WorldRefusal) → (why ≡ world.DiskFault → OneFailed disk.control disks nows) → SaysNothing config reg → OpeningHasCause disk meta config disks m reg nows n r (refusal_of_world why)
     world_cause world.DiskFault failed quiet = device_cause trouble.Failed (λ is. inl (failed refl)) quiet
     world_cause world.NoMemory failed quiet = device_cause trouble.NoMemory (λ is. absurd (cc (is))) quiet
 
-    pub memory_cause : SaysNothing config reg → HasCause disk meta config disks m reg nows n r NoMemory
+    pub memory_cause : SaysNothing config reg → OpeningHasCause disk meta config disks m reg nows n r NoMemory
     memory_cause quiet = device_cause trouble.NoMemory (λ is. absurd (cc (is))) quiet
 
     pub registry_cause : (why : ColdRefusal) → (why ≡ RegistryFault) ⊎ (why ≡ NoMemory) → (why ≡ RegistryFault → Rose (disk.control reg).faults (disk.control r).faults) → SaysNothing config reg
-        → HasCause disk meta config disks m reg nows n r why
+        → OpeningHasCause disk meta config disks m reg nows n r why
     registry_cause why (inl is) failed quiet = record {
       registry_fault = failed;
       device_fault = λ other. absurd (cc (is, other));
       bad_registry = λ at other. absurd (cc (is, other));
       brokers = λ kept asked other. absurd (cc (is, other));
-      last_read = λ of. absurd (subst IsSaid is of);
+      last_read = λ of. absurd (subst IsRegistryRefusal is of);
       told = λ yes bytes said there so. absurd (quiet yes bytes said there so);
     }
     registry_cause why (inr is) failed quiet = record {
@@ -115,14 +115,14 @@ module _ {D M : Type 0} (disk : DiskGhosts D) (meta : MetaGhosts M) where
       device_fault = λ other. absurd (cc (is, other));
       bad_registry = λ at other. absurd (cc (is, other));
       brokers = λ kept asked other. absurd (cc (is, other));
-      last_read = λ of. absurd (subst IsSaid is of);
+      last_read = λ of. absurd (subst IsRegistryRefusal is of);
       told = λ yes bytes said there so. absurd (quiet yes bytes said there so);
     }
 
   -- another count of brokers
   pub count_cause : (config : Config) (disks : List D) (m : M) (reg : D) (view : RegView) → view_in (disk.control reg).last_read ≡ Ok view
       → (IsTrue (disk.content reg).is_observable → (disk.content reg).files RegistryName ≡ Some (disk.control reg).last_read) → view.brokers ≢ config.brokers
-      → HasCause disk meta config disks m reg disks m reg (Brokers view.brokers config.brokers)
+      → OpeningHasCause disk meta config disks m reg disks m reg (Brokers view.brokers config.brokers)
   count_cause config disks m reg view read file other =
       let is : says config.brokers (view_in (disk.control reg).last_read) ≡ Some (Brokers view.brokers config.brokers) = ap (says config.brokers) read ∙ says_other config.brokers view other in
       record {
@@ -140,7 +140,7 @@ module _ {D M : Type 0} (disk : DiskGhosts D) (meta : MetaGhosts M) where
 
   -- the file couldn't be read, or says nothing
   pub find_cause : (config : Config) (disks : List D) (m : M) (reg r : D) (why : FindRefusal) → Finds (disk.content reg) (disk.control reg) (disk.control r) (Err why)
-      → HasCause disk meta config disks m reg disks m r (refusal_of_find why)
+      → OpeningHasCause disk meta config disks m reg disks m r (refusal_of_find why)
   find_cause config disks m reg r find.Fault finds = record {
     registry_fault = λ is. finds;
     device_fault = λ is. absurd (cc (is));
@@ -174,7 +174,7 @@ module _ {D M : Type 0} (disk : DiskGhosts D) (meta : MetaGhosts M) where
 
   -- the registry's disk was only read since
   pub cause_read : (config : Config) (disks : List D) (m : M) (old reg : D) (nows : List D) (n : M) (r : D) (why : ColdRefusal) → KeepsFiles (disk.content old) (disk.content reg) → Lasts (disk.control old) (disk.control reg)
-      → HasCause disk meta config disks m reg nows n r why → HasCause disk meta config disks m old nows n r why
+      → OpeningHasCause disk meta config disks m reg nows n r why → OpeningHasCause disk meta config disks m old nows n r why
   cause_read config disks m old reg nows n r why k lasts h = record {
     registry_fault = λ is. (let more = lasts.never_falls in let rose = h.registry_fault is in omega (arith, more, rose));
     device_fault = h.device_fault;
@@ -185,8 +185,8 @@ module _ {D M : Type 0} (disk : DiskGhosts D) (meta : MetaGhosts M) where
   }
 
 module _ {D S M : Type 0} (disk : DiskGhosts D) (meta : MetaGhosts M) where
-  pub back_read : (disks : List D) (s : S) (m : M) (old reg : D) (nows : List D) (t : S) (n : M) (r : D) (why : ColdRefusal) → Lasts (disk.control old) (disk.control reg) → ComesBack disk meta disks s m reg nows t n r why
-      → ComesBack disk meta disks s m old nows t n r why
+  pub back_read : (disks : List D) (s : S) (m : M) (old reg : D) (nows : List D) (t : S) (n : M) (r : D) (why : ColdRefusal) → Lasts (disk.control old) (disk.control reg) → DevicesComeBack disk meta disks s m reg nows t n r why
+      → DevicesComeBack disk meta disks s m old nows t n r why
   back_read disks s m old reg nows t n r why lasts h = record {
     count = h.count;
     registry = lasts_then (disk.control old) (disk.control reg) (disk.control r) lasts h.registry;
@@ -196,7 +196,7 @@ module _ {D S M : Type 0} (disk : DiskGhosts D) (meta : MetaGhosts M) where
   }
 
   -- all but the registry's disk is as it was
-  pub back_same : (disks : List D) (s : S) (m : M) (reg r : D) (why : ColdRefusal) → Lasts (disk.control reg) (disk.control r) → ComesBack disk meta disks s m reg disks s m r why
+  pub back_same : (disks : List D) (s : S) (m : M) (reg r : D) (why : ColdRefusal) → Lasts (disk.control reg) (disk.control r) → DevicesComeBack disk meta disks s m reg disks s m r why
   back_same disks s m reg r why lasts = record {
     count = refl;
     registry = lasts;
@@ -207,7 +207,7 @@ module _ {D S M : Type 0} (disk : DiskGhosts D) (meta : MetaGhosts M) where
 
   -- disks and metadata events some calls later
   pub back_last : (disks : List D) (s : S) (m : M) (reg : D) (nows : List D) (t : S) (n : M) (why : ColdRefusal) → length nows ≡ length disks → AllLast disk.control disks nows → t ≡ s → Lasts (meta.control m) (meta.control n)
-      → ComesBack disk meta disks s m reg nows t n reg why
+      → DevicesComeBack disk meta disks s m reg nows t n reg why
   back_last disks s m reg nows t n why count last same notes = record {
     count = count;
     registry = lasts_same (disk.control reg);
@@ -218,7 +218,7 @@ module _ {D S M : Type 0} (disk : DiskGhosts D) (meta : MetaGhosts M) where
 
   -- no device failed
   pub back_armed : (disks : List D) (s : S) (m : M) (reg : D) (nows : List D) (t : S) (n : M) (r : D) (why : ColdRefusal) → (why ≡ RegistryFault) ⊎ (why ≡ NoMemory) → length nows ≡ length disks → Lasts (disk.control reg) (disk.control r)
-      → ComesBack disk meta disks s m reg nows t n r why
+      → DevicesComeBack disk meta disks s m reg nows t n r why
   back_armed disks s m reg nows t n r why (inl is) count lasts =
       record { count = count; registry = lasts; disks_last = λ other. absurd (cc (is, other)); store_same = λ other. absurd (cc (is, other)); notes_last = λ other. absurd (cc (is, other)) }
   back_armed disks s m reg nows t n r why (inr is) count lasts =
@@ -270,7 +270,7 @@ module _ {D S M : Type 0} (disk : DiskGhosts D) (store : StoreGhosts S) (meta : 
   }
 
   pub continues_read : (partition : PartitionId) (config : Config) (lists : List ActorList) (disks : List D) (s : S) (m : M) (old reg : D) (t : Running D S M) → KeepsFiles (disk.content old) (disk.content reg)
-      → Continues disk store meta partition config lists disks s m reg t → Continues disk store meta partition config lists disks s m old t
+      → BeginsFromRegistry disk store meta partition config lists disks s m reg t → BeginsFromRegistry disk store meta partition config lists disks s m old t
   continues_read partition config lists disks s m old reg t k h = record {
     view = h.view;
     read = h.read;

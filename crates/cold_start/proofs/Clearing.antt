@@ -6,7 +6,7 @@ use Rattle.tier_base.specs.Device.{Control, Lasts}
 use Rattle.tier_base.proofs.Lasting.{lasts_same, lasts_then}
 use Rattle.tier_base.specs.declared.plain.FileName.{FileName}
 use Rattle.disk_model.specs.Call.{call_code}
-use Rattle.tier_base.specs.Told.{In, Names}
+use Rattle.tier_base.specs.Told.{In, NamesAllHeld}
 use Rattle.disk_model.specs.Content.{Content, Files}
 use Rattle.disk_model.proofs.Names.{cases_name}
 use Rattle.partition_commands.specs.Fresh.{AreFreshDisks, DisksTell, ComeBack, OneFailed}
@@ -46,7 +46,7 @@ gone_more names i d old mid new lt h g =
     })
 
 -- no file is there once those of all names are gone
-pub gone_all : (names : List FileName) (listed old new : Files) → Names listed names → ((n : FileName) → old n ≡ listed n) → GoneTo names old new → (n : FileName) → new n ≡ None
+pub gone_all : (names : List FileName) (listed old new : Files) → NamesAllHeld listed names → ((n : FileName) → old n ≡ listed n) → GoneTo names old new → (n : FileName) → new n ≡ None
 gone_all names listed old new are same h n = go (listed n) refl
   where
     go : (o : Option (List ℕ)) → listed n ≡ o → new n ≡ None

@@ -5,16 +5,16 @@ use Rattle.plain_log.specs.declared.state.State.{State}
 use Rattle.remote_view.specs.Fold.{fold}
 use Rattle.tier_safe.specs.Scene.{BrokerTierView, TierTask, Copies, Expires, Rebuilds, Seeks, Scene}
 use Rattle.tier_safe.specs.Safe.{TierSafe}
-use Rattle.tier_safe.specs.Views.{IsViewOf, IsUsed, IsChosen}
+use Rattle.tier_safe.specs.Views.{IsViewOf, IsIdUsed, IsChosen}
 use Rattle.tier_base.specs.Told.{In}
 use Rattle.tier_base.specs.declared.names.SegmentId.{SegmentId}
 use Rattle.sparse_index.specs.Offsets.{OffsetTable}
 use Rattle.cold_state.specs.Cold.{cold_broker, cold_of}
 use Rattle.cold_start.specs.Cold.{cold_tier_view, cold_scene}
-use Rattle.cold_start.specs.Laws.{IsFree}
+use Rattle.cold_start.specs.Laws.{IsDeskFree}
 use Rattle.cold_state.proofs.ColdStates.{made}
 
-pub cold_tier : (c : Scene) (p : State) (desk : List TierTask) → IsFree desk → TierSafe c p → TierSafe (cold_scene c desk) (cold_of p)
+pub cold_tier : (c : Scene) (p : State) (desk : List TierTask) → IsDeskFree desk → TierSafe c p → TierSafe (cold_scene c desk) (cold_of p)
 cold_tier c p desk free t = record {
   notes = record { right = t.notes.right; ids = λ a copy next at. absurd (let none = free a (Copies copy next) at in cc) };
   views = λ b tier_view at. (let m = made cold_tier_view c.tier_views b tier_view at in subst (λ (k : BrokerTierView). IsViewOf c.notes k.view) (sym m.is) (record { before = []; begins = (c.notes, refl); is = refl }));
@@ -46,6 +46,6 @@ cold_tier c p desk free t = record {
   caches = λ b tier_view at id index in_. (let m = made cold_tier_view c.tier_views b tier_view at in let pair : SegmentId × OffsetTable = (id, index) in let none : In pair [] = subst (λ (k : BrokerTierView). In pair k.cache) m.is in_ in absurd none);
 }
   where
-    still : (id : _) → IsUsed (fold c.notes) desk id → IsUsed (fold c.notes) c.desk id
+    still : (id : _) → IsIdUsed (fold c.notes) desk id → IsIdUsed (fold c.notes) c.desk id
     still id (inl named) = inl named
     still id (inr used) = absurd (let none = free used.0 (Copies used.1 used.2) used.3 in cc)

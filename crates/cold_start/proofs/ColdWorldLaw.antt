@@ -12,7 +12,7 @@ use Rattle.meta_log.specs.Content.{Left}
 use Rattle.broker_log.specs.Seen as log
 use Rattle.log_steps.specs.Reopens.{Reopens}
 use Rattle.plain_log.specs.declared.command.Config.{Config}
-use Rattle.broker_log.specs.Seen.{Kept, Up, Down, Away, Shows, ShowsClosed}
+use Rattle.broker_log.specs.Seen.{LogState, Up, Down, Away, ShowsSeen, ShowsClosed}
 use Rattle.broker_log.proofs.Breaking.{stops_by}
 use Rattle.plain_log.specs.declared.command.ActorList.{ActorList}
 use Rattle.plain_log.specs.declared.command.Order.{Order}
@@ -28,14 +28,14 @@ use Rattle.tier_safe.specs.Scene.{TierTask as InProgressIsSeen, Free}
 use Rattle.partition_world.specs.declared.actor_state.ActorState.{ActorState}
 use Rattle.partition_world.specs.declared.actor_state.InProgress.TheVariants.{Idle}
 use Rattle.partition_world.specs.declared.tier.BrokerTierState.{BrokerTierState}
-use Rattle.partition_world.specs.Central.{IsCentral, IsRecorded, IsDated, broker_tiers_seen, broker_tier_seen, work_of, desk_of, notes_left}
+use Rattle.partition_world.specs.Central.{IsCentral, IsRecorded, IsSearchState, broker_tiers_seen, broker_tier_seen, work_of, desk_of, notes_left}
 use Rattle.partition_world.specs.Fresh.{fresh_actor_state, fresh_broker_tier}
 use Rattle.partition_world.specs.Left.{IsCentralLeft, resolved, whole_with}
 use Rattle.partition_world.specs.Whole.{Whole, seen_as}
 use Rattle.partition_world.proofs.WorldFresh.{all_fresh}
 use Rattle.cold_state.specs.Cold.{cold_of}
 use Rattle.cold_start.specs.Cold.{cold_tier_view, cold_node, cold_held, cold_whole, cold_broker_tiers, cold_scene}
-use Rattle.cold_start.specs.Laws.{IsFree}
+use Rattle.cold_start.specs.Laws.{IsDeskFree}
 use Rattle.cold_start.specs.ColdWorld.{IsCutDisk, IsCutStore, IsCutLog, LeavesDisk, LeaveDisks, cold_dev, reopened, plain_in}
 use Rattle.cold_start.proofs.ColdLaw.{cold_tier}
 use Rattle.cold_start.proofs.ColdSeen.{cold_central, cold_tier_views}
@@ -45,11 +45,11 @@ fewer_reopens : (d n : Content) → Reopens d → IsCutDisk d n → Reopens n
 fewer_reopens d n again cut = record { opens = λ c image. again.opens c (cut.images c image); fronts = λ c x m image other says. again.fronts c x m (cut.images c image) (cut.images x other) says }
 
 module _ {D : Type 0} (content : D → Content) (set : Settings) where
-  pub closed_shown : (old new : D) (s : log.Seen) → IsCutDisk (content old) (content new) → ShowsClosed content old s → ShowsClosed content new s
+  pub closed_shown : (old new : D) (s : log.LogSeen) → IsCutDisk (content old) (content new) → ShowsClosed content old s → ShowsClosed content new s
   closed_shown old new s cut h = record { told = cut.is_observable h.told; kept = h.kept; images = λ c image. h.images c (cut.images c image); again = fewer_reopens (content old) (content new) h.again cut }
 
   -- what is left of a log is seen as the log was
-  pub log_shown : (k : Kept D) (disk : D) (s : log.Seen) → LeavesDisk content k disk → Shows content k s → ShowsClosed content disk s
+  pub log_shown : (k : LogState D) (disk : D) (s : log.LogSeen) → LeavesDisk content k disk → ShowsSeen content k s → ShowsClosed content disk s
   log_shown (Up l) disk s (again, cut) h = (let x = (stops_by content l again).seen s h in subst (ShowsClosed content disk) x.2 (closed_shown l.disk disk x.0 cut x.1))
   log_shown (Down was old) disk s cut h = closed_shown old disk s cut h
   log_shown Away disk s cut h = absurd h
@@ -85,10 +85,10 @@ replicated zero x i y e = absurd cc
 replicated (suc n) x zero y e = cc
 replicated (suc n) x (suc i) y e = replicated n x i y e
 
-pub is_free : (n : ℕ) → IsFree (replicate n Free)
+pub is_free : (n : ℕ) → IsDeskFree (replicate n Free)
 is_free n a work at = sym (replicated n Free a work at)
 
-idle_dated : (p : State) (order : Option Order) → IsDated p order Idle
+idle_dated : (p : State) (order : Option Order) → IsSearchState p order Idle
 idle_dated p None = tt
 idle_dated p (Some order) = tt
 
@@ -128,7 +128,7 @@ module _ {D S M : Type 0} (disk : DiskGhosts D) (store : StoreGhosts S) (meta : 
       };
       tier = cold_tier k.scene k.central.plain (replicate (length lists) Free) (is_free (length lists)) k.tier;
       recorded = λ place actor_state at. subst (λ (s : ActorState). IsRecorded s.work) (replicated (length lists) fresh_actor_state place actor_state at) tt;
-      dated = λ place list actor_state there at. subst (λ (s : ActorState). IsDated (cold_of k.central.plain) (slice_get list.orders s.number) s.work) (replicated (length lists) fresh_actor_state place actor_state at) (idle_dated (cold_of k.central.plain) (slice_get list.orders 0));
+      dated = λ place list actor_state there at. subst (λ (s : ActorState). IsSearchState (cold_of k.central.plain) (slice_get list.orders s.number) s.work) (replicated (length lists) fresh_actor_state place actor_state at) (idle_dated (cold_of k.central.plain) (slice_get list.orders 0));
       few = subst (λ (notes : List Note). length notes + notes_left lists (replicate (length lists) fresh_actor_state) < 2 ^ 64) (sym k.shows_tier.notes) low;
     }
 

@@ -11,7 +11,7 @@ use Rattle.meta_log.specs.declared.log.MetaLog.{Ghosts as MetaGhosts}
 use Rattle.log_steps.specs.Reopens.{Reopens}
 use Rattle.registry.specs.declared.registry.Registry.{Registry}
 use Rattle.registry_disk.specs.Keeping.{registry_bytes, KeepsFile, KeepsOneOf}
-use Rattle.broker_log.specs.Seen.{Seen, Kept, Up, Down, Away, Shows, OnDisk, OpensLater, LeavesBetween, is_up}
+use Rattle.broker_log.specs.Seen.{LogSeen, LogState, Up, Down, Away, ShowsSeen, OnDisk, OpensLater, LeavesBetween, is_up}
 use Rattle.plain_log.specs.declared.state.State.{State}
 use Rattle.laws_partition.specs.Seen as seen
 use Rattle.partition_commands.specs.declared.partition_state.Node.{Node}
@@ -32,7 +32,7 @@ use Rattle.cold_start.proofs.StandLaw.{IsShownAs, AreShownAs}
 
 module _ {D : Type 0} (content : D → Content) where
   -- a disk of a log has the files of a moment since
-  abbrev IsSince : Kept D → Kept D → D → Type 0
+  abbrev IsSince : LogState D → LogState D → D → Type 0
   IsSince k l d = OnDisk k (λ old. OnDisk l (λ now. IsCutSince (content old) (content now) (content d)))
 
   -- what it has now is an image of its own
@@ -40,23 +40,23 @@ module _ {D : Type 0} (content : D → Content) where
   own_later e d cut = (cut.files, cut.left, λ o is. (o.incarnation, omega arith, is))
 
   -- no call came between
-  one_rests : (k : Kept D) (d : D) → IsSince k k d → IsShownAs content k d
+  one_rests : (k : LogState D) (d : D) → IsSince k k d → IsShownAs content k d
   one_rests (Up log) d cut s h = shown_later content d (Up log) log.disk log.disk cut h.told log.disk refl (own_later log.disk d cut) s h
   one_rests (Down was e) d cut s h = shown_later content d (Down was e) e e cut h.told e refl (own_later e d cut) s h
   one_rests Away d cut s h = absurd h
 
-  again_of : (k : Kept D) (s : Seen) → Shows content k s → (IsTrue (is_up k) → OnDisk k (λ e. Reopens (content e))) → OnDisk k (λ e. Reopens (content e))
+  again_of : (k : LogState D) (s : LogSeen) → ShowsSeen content k s → (IsTrue (is_up k) → OnDisk k (λ e. Reopens (content e))) → OnDisk k (λ e. Reopens (content e))
   again_of (Up log) s h up = up refl
   again_of (Down was e) s h up = h.again
   again_of Away s h up = absurd h
 
-  told_of : (k : Kept D) (s : Seen) → Shows content k s → OnDisk k (λ e. IsTrue (content e).is_observable)
+  told_of : (k : LogState D) (s : LogSeen) → ShowsSeen content k s → OnDisk k (λ e. IsTrue (content e).is_observable)
   told_of (Up log) s h = h.told
   told_of (Down was e) s h = h.told
   told_of Away s h = absurd h
 
   -- a call did: the log of before or that of after
-  one_changes : (k l : Kept D) (d : D) → LeavesBetween content k l → OnDisk k (λ e. IsTrue (content e).is_observable) → OnDisk k (λ e. Reopens (content e)) → IsSince k l d → IsShownAs content k d ⊎ IsShownAs content l d
+  one_changes : (k l : LogState D) (d : D) → LeavesBetween content k l → OnDisk k (λ e. IsTrue (content e).is_observable) → OnDisk k (λ e. Reopens (content e)) → IsSince k l d → IsShownAs content k d ⊎ IsShownAs content l d
   one_changes (Up a) (Up b) d between told again cut =
       ⊎_elim
       (λ was. inl (shown_later content d (Up a) a.disk b.disk cut told a.disk refl was))
@@ -87,7 +87,7 @@ module _ {D : Type 0} (content : D → Content) where
   shown_by (x ∷ xs) (y ∷ ys) (d ∷ disks) same h =
       let one : x.log ≡ y.log = cc (same) in
       let rest : logs_of ys ≡ logs_of xs = cc (same) in
-      (subst (λ (k : Kept D). IsShownAs content k d) one h.0, shown_by xs ys disks rest h.1)
+      (subst (λ (k : LogState D). IsShownAs content k d) one h.0, shown_by xs ys disks rest h.1)
   shown_by (x ∷ xs) (y ∷ ys) [] same h = absurd h
   shown_by [] (y ∷ ys) disks same h = absurd cc
   shown_by (x ∷ xs) [] disks same h = absurd cc
@@ -98,14 +98,14 @@ module _ {D : Type 0} (content : D → Content) where
   all_rest (x ∷ xs) (y ∷ ys) (d ∷ disks) same cut =
       let one : y.log ≡ x.log = cc (same) in
       let rest : logs_of ys ≡ logs_of xs = cc (same) in
-      (one_rests x.log d (subst (λ (l : Kept D). IsSince x.log l d) one cut.0), all_rest xs ys disks rest cut.1)
+      (one_rests x.log d (subst (λ (l : LogState D). IsSince x.log l d) one cut.0), all_rest xs ys disks rest cut.1)
   all_rest [] [] (d ∷ disks) same cut = absurd cut
   all_rest [] (y ∷ ys) disks same cut = absurd cut
   all_rest (x ∷ xs) [] disks same cut = absurd cut
   all_rest (x ∷ xs) (y ∷ ys) [] same cut = absurd cut
 
   -- one did
-  one_did : (xs ys : List (Node D)) (disks : List D) (at : ℕ) (x : Node D) (kept : Kept D) → slice_get xs at ≡ Some x → logs_of ys ≡ slice_set (logs_of xs) at kept
+  one_did : (xs ys : List (Node D)) (disks : List D) (at : ℕ) (x : Node D) (kept : LogState D) → slice_get xs at ≡ Some x → logs_of ys ≡ slice_set (logs_of xs) at kept
       → ((d : D) → IsSince x.log kept d → IsShownAs content x.log d ⊎ IsShownAs content kept d) → LeaveSince content xs ys disks → AreShownAs content xs disks ⊎ AreShownAs content ys disks
   one_did (z ∷ xs) (y ∷ ys) (d ∷ disks) zero x kept there same change cut =
       let here : z.log ≡ x.log = ap (λ (n : Node D). n.log) (let is : z ≡ x = cc (there) in is) in
@@ -113,23 +113,23 @@ module _ {D : Type 0} (content : D → Content) where
       let rest : logs_of ys ≡ logs_of xs = cc (same) in
       let more = all_rest xs ys disks rest cut.1 in
       ⊎_elim
-      (λ was. inl (subst (λ (k : Kept D). IsShownAs content k d) (sym here) was, more))
-      (λ is. inr (subst (λ (k : Kept D). IsShownAs content k d) (sym now) is, shown_by xs ys disks rest more))
-      (change d (subst (λ (l : Kept D). IsSince x.log l d) now (subst (λ (k : Kept D). IsSince k y.log d) here cut.0)))
+      (λ was. inl (subst (λ (k : LogState D). IsShownAs content k d) (sym here) was, more))
+      (λ is. inr (subst (λ (k : LogState D). IsShownAs content k d) (sym now) is, shown_by xs ys disks rest more))
+      (change d (subst (λ (l : LogState D). IsSince x.log l d) now (subst (λ (k : LogState D). IsSince k y.log d) here cut.0)))
   one_did (z ∷ xs) (y ∷ ys) (d ∷ disks) (suc at) x kept there same change cut =
       let one : y.log ≡ z.log = cc (same) in
       let rest : logs_of ys ≡ slice_set (logs_of xs) at kept = cc (same) in
-      let head = one_rests z.log d (subst (λ (l : Kept D). IsSince z.log l d) one cut.0) in
+      let head = one_rests z.log d (subst (λ (l : LogState D). IsSince z.log l d) one cut.0) in
       ⊎_elim
       (λ was. inl (head, was))
-      (λ is. inr (subst (λ (k : Kept D). IsShownAs content k d) (sym one) head, is))
+      (λ is. inr (subst (λ (k : LogState D). IsShownAs content k d) (sym one) head, is))
       (one_did xs ys disks at x kept there rest change cut.1)
   one_did [] ys disks at x kept there same change cut = absurd cc
   one_did (z ∷ xs) [] disks at x kept there same change cut = absurd cut
   one_did (z ∷ xs) (y ∷ ys) [] at x kept there same change cut = absurd cut
 
-  node_at : (xs : List (Node D)) (ys : List seen.Node) (b : ℕ) (x : Node D) → ShowNodes content xs ys → slice_get xs b ≡ Some x → (s : Seen) × Shows content x.log s
-  node_at (z ∷ xs) (y ∷ ys) zero x h at = let same : z ≡ x = cc (at) in subst (λ (n : Node D). (s : Seen) × Shows content n.log s) same (h.0.0, h.0.1)
+  node_at : (xs : List (Node D)) (ys : List seen.Node) (b : ℕ) (x : Node D) → ShowNodes content xs ys → slice_get xs b ≡ Some x → (s : LogSeen) × ShowsSeen content x.log s
+  node_at (z ∷ xs) (y ∷ ys) zero x h at = let same : z ≡ x = cc (at) in subst (λ (n : Node D). (s : LogSeen) × ShowsSeen content n.log s) same (h.0.0, h.0.1)
   node_at (z ∷ xs) (y ∷ ys) (suc b) x h at = node_at xs ys b x h.1 at
   node_at [] ys b x h at = absurd cc
   node_at (z ∷ xs) [] b x h at = absurd h

@@ -12,7 +12,7 @@ use Rattle.registry.specs.View.{IsRegistry, view_of}
 use Rattle.registry.specs.declared.registry.Registry.{Registry}
 use Rattle.registry_file.specs.Reading.{view_in}
 use Rattle.registry_disk.specs.Keeping.{registry_bytes, HasFile, KeepsFile, KeepsOneOf}
-use Rattle.broker_log.specs.Seen.{Kept}
+use Rattle.broker_log.specs.Seen.{LogState}
 use Rattle.plain_log.specs.declared.state.State.{State}
 use Rattle.partition_commands.specs.declared.partition_state.Node.{Node}
 use Rattle.partition_commands.specs.Cold.{DisksReopen}
@@ -42,8 +42,8 @@ module _ {D : Type 0} (content : D → Content) where
   all_uncut [] = tt
   all_uncut (d ∷ disks) = (uncut (content d), all_uncut disks)
 
-  leaves_by : (k l : Kept D) (d : D) → k ≡ l → LeavesDisk content k d → LeavesDisk content l d
-  leaves_by k l d same left = subst (λ (j : Kept D). LeavesDisk content j d) same left
+  leaves_by : (k l : LogState D) (d : D) → k ≡ l → LeavesDisk content k d → LeavesDisk content l d
+  leaves_by k l d same left = subst (λ (j : LogState D). LeavesDisk content j d) same left
 
   -- what is left of disks goes by the logs alone
   pub left_by : (xs ys : List (Node D)) (disks : List D) → logs_of xs ≡ logs_of ys → LeaveDisks content xs disks → LeaveDisks content ys disks

@@ -15,7 +15,7 @@ use Rattle.plain_log.specs.declared.command.Command.TheVariants.{Append, Raw, Fl
 use Rattle.plain_log.specs.declared.command.Which.{Which}
 use Rattle.plain_log.specs.declared.command.Which.TheVariants.{LatestTiered, At}
 use Rattle.plain_log.specs.State.{acking}
-use Rattle.broker_log.specs.Seen.{Kept, LeavesBetween}
+use Rattle.broker_log.specs.Seen.{LogState, LeavesBetween}
 use Rattle.broker_log.specs.Seen as log
 use Rattle.laws_partition.specs.declared.start_snapshot.StartSnapshot.{StartSnapshot}
 use Rattle.laws_partition.specs.declared.start_snapshot.Turned.{Turned}
@@ -23,9 +23,9 @@ use Rattle.laws_partition.specs.declared.start_snapshot.Turned.TheVariants.{Answ
 use Rattle.laws_partition.proofs.BoolTests.{some_of}
 use Rattle.partition_commands.specs.declared.partition_state.Node.{Node}
 use Rattle.partition_commands.specs.declared.partition_state.PartitionState.{PartitionState}
-use Rattle.partition_commands.specs.Partition.{put_node, end_of, flushed_end_of, stopped, the_leader, Fails, Breaks, BreaksBy}
+use Rattle.partition_commands.specs.Partition.{put_node, end_of, flushed_end_of, stopped, the_leader, NodeReadFails, BreaksNode, BreaksBy}
 use Rattle.partition_commands.specs.Turns.{ClockRow, PackRow, CopyingRow, OffsetRow, StopRow, UpRow, AnswerRow, FirstRow, LaterRow, Row}
-use Rattle.partition_commands.specs.TurnsOfLog.{Gains, AppendRow, RawRow, FlushRow, RollRow, TrimRow, TrimOnRow}
+use Rattle.partition_commands.specs.TurnsOfLog.{NodeGains, AppendRow, RawRow, FlushRow, RollRow, TrimRow, TrimOnRow}
 use Rattle.partition_commands.specs.TurnsOfFetch.{FetchRow, FetchTurn}
 use Rattle.partition_commands.specs.TurnsOfElections.{Leaves, ElectRow, UncleanRow, LearnRow, AckRow, ShrinkRow, ExpandRow, RaiseRow}
 use Rattle.partition_commands.specs.TurnsOfFollowers.{JoinRow, JoinOnRow, FollowRow, FollowOnRow}
@@ -38,7 +38,7 @@ module _ {D : Type 0} where
   logs_set : (xs : List (Node D)) (b : ℕ) (y : Node D) → logs_of (slice_set xs b y) ≡ slice_set (logs_of xs) b y.log
   logs_set [] b y = refl
   logs_set (z ∷ xs) zero y = refl
-  logs_set (z ∷ xs) (suc b) y = ap (λ (l : List (Kept D)). z.log ∷ l) (logs_set xs b y)
+  logs_set (z ∷ xs) (suc b) y = ap (λ (l : List (LogState D)). z.log ∷ l) (logs_set xs b y)
 
 module _ {D : Type 0} (content : D → Content) where
   -- one log became another, or each is as it was
@@ -64,17 +64,17 @@ module _ {D : Type 0} (content : D → Content) where
   leaves h after h' w = let r = some_of _ after w in inr (ap (λ (k : PartitionState D). logs_of k.nodes) r.2)
 
 module _ {D : Type 0} (content : D → Content) (control : D → Control call_code) where
-  fails_log : (h : PartitionState D) (b : ℕ) (x : Node D) (h' : PartitionState D) → slice_get h.nodes b ≡ Some x → Fails content control h b x h' → OneLog content h h'
+  fails_log : (h : PartitionState D) (b : ℕ) (x : Node D) (h' : PartitionState D) → slice_get h.nodes b ≡ Some x → NodeReadFails content control h b x h' → OneLog content h h'
   fails_log h b x h' at k = one_put content h b x (record x { log = k.0 }) h' at k.1.between k.4
 
-  breaks_log : (h : PartitionState D) (b : ℕ) (x : Node D) (makes : log.Seen → log.Seen) (h' : PartitionState D) → slice_get h.nodes b ≡ Some x → Breaks content control h b x makes h' → OneLog content h h'
+  breaks_log : (h : PartitionState D) (b : ℕ) (x : Node D) (makes : log.LogSeen → log.LogSeen) (h' : PartitionState D) → slice_get h.nodes b ≡ Some x → BreaksNode content control h b x makes h' → OneLog content h h'
   breaks_log h b x makes h' at k = one_put content h b x (record (stopped x) { log = k.kept }) h' at k.breaks.between k.after
 
   -- whatever the write that failed makes of the log
-  broken_log : (h : PartitionState D) (b : ℕ) (x : Node D) (B : Kept D → Kept D → Type 0) (h' : PartitionState D) → slice_get h.nodes b ≡ Some x → ((kept : Kept D) → B x.log kept → LeavesBetween content x.log kept) → BreaksBy content control h b x B h' → OneLog content h h'
+  broken_log : (h : PartitionState D) (b : ℕ) (x : Node D) (B : LogState D → LogState D → Type 0) (h' : PartitionState D) → slice_get h.nodes b ≡ Some x → ((kept : LogState D) → B x.log kept → LeavesBetween content x.log kept) → BreaksBy content control h b x B h' → OneLog content h h'
   broken_log h b x B h' at between k = one_put content h b x (record (stopped x) { log = k.kept }) h' at (between k.kept k.breaks) k.after
 
-  gains_log : (h : PartitionState D) (b : ℕ) (x : Node D) (batch : List ℕ) (h' : PartitionState D) → slice_get h.nodes b ≡ Some x → Gains content control h b x batch h' → OneLog content h h'
+  gains_log : (h : PartitionState D) (b : ℕ) (x : Node D) (batch : List ℕ) (h' : PartitionState D) → slice_get h.nodes b ≡ Some x → NodeGains content control h b x batch h' → OneLog content h h'
   gains_log h b x batch h' at k = one_put content h b x (record x { log = k.0 }) h' at k.3.between k.5
 
   append_log : (h : PartitionState D) (b : ℕ) (x : Node D) (batch : List ℕ) (answer : Answer) (h' : PartitionState D) → slice_get h.nodes b ≡ Some x → AppendRow content control h b x batch answer h' → OneLog content h h'

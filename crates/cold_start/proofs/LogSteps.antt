@@ -7,23 +7,23 @@ use Rattle.tier_base.specs.declared.plain.Keep.{Keep}
 use Rattle.disk_model.specs.declared.disk.Disk.{Ghosts as DiskGhosts}
 use Rattle.object_store.specs.declared.store.Store.{Ghosts as StoreGhosts}
 use Rattle.meta_log.specs.declared.log.MetaLog.{Ghosts as MetaGhosts}
-use Rattle.broker_log.specs.Seen.{Kept, LeavesBetween, closed_in}
+use Rattle.broker_log.specs.Seen.{LogState, LeavesBetween, closed_in}
 use Rattle.copy_task.specs.Copying.{Copied}
 use Rattle.copy_task.specs.declared.turn.CopyTurn.{CopyTurn}
 use Rattle.copy_task.specs.declared.turn.CopyStep.{CopyStep}
 use Rattle.copy_task.specs.declared.turn.CopyStep.TheVariants as copying
-use Rattle.copy_task.specs.Turns.{CopyRow, Tiers as CopyTiers}
+use Rattle.copy_task.specs.Turns.{CopyTurnRow, Tiers as CopyTiers}
 use Rattle.meta_log.specs.declared.event_origin.EventOrigin.{EventOrigin}
 use Rattle.tier_fetch.specs.declared.turn.FetchStep.{FetchStep as Search}
 use Rattle.tier_fetch.specs.declared.turn.FetchStep.TheVariants as fetching
 use Rattle.tier_fetch.specs.declared.turn.FetchTurn.{FetchTurn}
 use Rattle.tier_fetch.specs.declared.turn.FetchRequest.{FetchRequest}
-use Rattle.tier_fetch.specs.Turns.{FetchRow, Tiers as FetchTiers}
+use Rattle.tier_fetch.specs.Turns.{RemoteFetchRow, Tiers as FetchTiers}
 use Rattle.time_find.specs.declared.turn.Asked.{Asked}
 use Rattle.time_find.specs.declared.turn.SearchStep.{SearchStep as Dating}
 use Rattle.time_find.specs.declared.turn.SearchStep.TheVariants.{Seek, Times as ReadsTimes, Index, Log}
 use Rattle.time_find.specs.Passing.{passed_over}
-use Rattle.time_find.specs.Turns.{TimeRow, IndexRow, LogRow, OwnRow, ReadRow as RunRow}
+use Rattle.time_find.specs.Turns.{TimeRow, SearchIndexRow, SearchLogRow, LocalSearchRow, ReadLocalRow as RunRow}
 use Rattle.time_find.specs.declared.turn.TimeTurn.{TimeTurn}
 use Rattle.time_find.specs.declared.turn.TimeTurn.TheVariants as dating
 use Rattle.expiry_task.specs.declared.turn.ExpiredSegment.{ExpiredSegment}
@@ -53,15 +53,15 @@ use Rattle.partition_world.specs.declared.actor_state.Outcome.{Outcome}
 use Rattle.partition_world.specs.declared.actor_state.Outcome.TheVariants.{Answers, Begins, Chose, Seeks as Sought, Dates as Dated, Dooms, Rebuilds as Rebuilding}
 use Rattle.partition_world.specs.declared.actor_state.InProgress.{InProgress}
 use Rattle.partition_world.specs.declared.actor_state.InProgress.TheVariants.{Idle, Noted, Copies, Seeks, Dates, Expires, Rebuilds}
-use Rattle.partition_world.specs.Tier.{Refreshes, FailsToRead, Halts}
-use Rattle.partition_world.specs.TurnsOfCopy.{LeadersFirstRow, CopyFirstRow, ReadsLog, ReadRow, ChooseRow, CopyOnRow, WantsForCopy, tiers_of, origin_of}
-use Rattle.partition_world.specs.TurnsOfDate.{SearchesOwn, SearchRow, Searches, DateOnRow, WantsForDate, asked_of, is_own, resumed_at, resumed_with}
+use Rattle.partition_world.specs.Tier.{RefreshesBroker, FailsToRead, HaltsRefresh}
+use Rattle.partition_world.specs.TurnsOfCopy.{LeadersFirstRow, CopyFirstRow, ReadsLocalLog, ReadSegmentRow, ChooseRow, CopyOnRow, WantsForCopy, tiers_of, origin_of}
+use Rattle.partition_world.specs.TurnsOfDate.{SearchesOwn, SearchRow, SearchesOn, DateOnRow, WantsForDate, asked_of, is_own, resumed_at, resumed_with}
 use Rattle.partition_world.specs.TurnsOfFetch.{FetchOnRow, GoesOnFetch, WantsForFetch, fetch_tiers, wanted_of}
 use Rattle.partition_commands.specs.Partition.{local_of, put_node}
-use Rattle.partition_world.specs.TurnsOfExpiry.{RaiseRow, ExpireOnRow, ExpiresBy, DeleteOnRow, WantsForDeletion, expiry_tiers}
+use Rattle.partition_world.specs.TurnsOfExpiry.{ExpiryRaiseRow, ExpireOnRow, ExpiresBy, DeleteOnRow, WantsForDeletion, expiry_tiers}
 use Rattle.partition_world.specs.TurnsOfRebuild.{with_line, RefreshedRow, RefreshOnRow, EpochsOnRow, WantsForRebuild}
 use Rattle.partition_world.specs.TurnsOfTrim.{TrimFirstRow, TrimOnRow}
-use Rattle.partition_world.specs.Turns.{OwnOnRow, BeginRow, ContinuedRow, CopyingRow, SeekingRow, DatingRow, DeletingRow, JoinSecondRow, RebuildingRow, Row, BeginHalts, ContinuedHalts, CopyingHalts, SeekingHalts, DatingHalts, DeletingHalts, RebuildingHalts, HaltsTier, StaysTier}
+use Rattle.partition_world.specs.Turns.{OwnOnRow, BeginRow, ContinuedRow, CopyLaterRow, SeekingRow, DatingRow, DeletingRow, JoinSecondRow, RebuildingRow, Row, BeginHalts, ContinuedHalts, CopyingHalts, SeekingHalts, DatingHalts, DeletingHalts, RebuildingHalts, HaltsTier, StaysTier}
 use Rattle.partition_world.specs.Turn.{IsTurn, StaysWhole}
 use Rattle.partition_world.specs.Whole.{Whole}
 use Rattle.cold_start.specs.Moments.{ChangesLog, WorksOnOne, StepsWorkOnOne}
@@ -77,7 +77,7 @@ module _ {S M : Type 0} where
   tier_same t t' e = inl (ap (λ (k : RemoteTier S M). k.store) e)
 
 module _ {S M : Type 0} (store : StoreGhosts S) (meta : MetaGhosts M) where
-  copy_one : (copy : Copied) (origin : EventOrigin) (next : CopyStep) (result : Result CopyTurn AllocError) (old new : CopyTiers S M) → CopyRow store.content store.control meta.content meta.control copy origin next result old new
+  copy_one : (copy : Copied) (origin : EventOrigin) (next : CopyStep) (result : Result CopyTurn AllocError) (old new : CopyTiers S M) → CopyTurnRow store.content store.control meta.content meta.control copy origin next result old new
       → (new.store ≡ old.store) ⊎ (new.meta ≡ old.meta)
   copy_one copy origin copying.Start result old new w = inl (ap (λ (k : CopyTiers S M). k.store) w.0)
   copy_one copy origin (copying.Put n) result old new w = inr (ap (λ (k : CopyTiers S M). k.meta) w.0)
@@ -86,7 +86,7 @@ module _ {S M : Type 0} (store : StoreGhosts S) (meta : MetaGhosts M) where
   copy_one copy origin (copying.Delete n) (Granted turn) old new w = inr (ap (λ (k : CopyTiers S M). k.meta) w.0)
   copy_one copy origin (copying.Delete n) (Err e) old new w = absurd w
 
-  fetch_one : (wanted : FetchRequest) (line : List (ℕ × ℕ)) (next : Search) (result : Result FetchTurn AllocError) (old new : FetchTiers S M) → FetchRow store.content store.control meta.content meta.control wanted line next result old new
+  fetch_one : (wanted : FetchRequest) (line : List (ℕ × ℕ)) (next : Search) (result : Result FetchTurn AllocError) (old new : FetchTiers S M) → RemoteFetchRow store.content store.control meta.content meta.control wanted line next result old new
       → (new.store ≡ old.store) ⊎ (new.meta ≡ old.meta)
   fetch_one wanted line fetching.Refresh result old new w = inl (ap (λ (k : FetchTiers S M). k.store) w.0)
   fetch_one wanted line (fetching.Index piece) result old new w = inr (ap (λ (k : FetchTiers S M). k.meta) w.0)
@@ -153,7 +153,7 @@ module _ {S M : Type 0} (store : StoreGhosts S) (meta : MetaGhosts M) where
   wants_date : (t : RemoteTier S M) (b : ℕ) (broker_tier : BrokerTierState) (line : List (ℕ × ℕ)) (asked : Asked) (cursor : ℕ) (next : Dating) (t' : RemoteTier S M) → WantsForDate store meta t b broker_tier line asked cursor next t' → OneOf t t'
   wants_date t b broker_tier line asked cursor next t' g = time_one asked line cursor next (Err g.error) (fetch_tiers broker_tier.view broker_tier.cache t) (fetch_tiers g.view g.cache t') g.row
 
-  halted_one : (t : RemoteTier S M) (b : ℕ) (broker_tier : BrokerTierState) (t' : RemoteTier S M) → Halts meta t b broker_tier t' → OneOf t t'
+  halted_one : (t : RemoteTier S M) (b : ℕ) (broker_tier : BrokerTierState) (t' : RemoteTier S M) → HaltsRefresh meta t b broker_tier t' → OneOf t t'
   halted_one t b broker_tier t' k = inl (ap (λ (u : RemoteTier S M). u.store) k.after)
 
   begin_halts : (t : RemoteTier S M) (b : ℕ) (broker_tier : BrokerTierState) (command : Command) (t' : RemoteTier S M) → BeginHalts meta t b broker_tier command t' → OneOf t t'
@@ -234,11 +234,11 @@ module _ {D S M : Type 0} (disk : DiskGhosts D) (store : StoreGhosts S) (meta : 
   begin_works h t b x broker_tier other outcome h' t' at w = own_same h t h' t' w.1 (row_log disk.content disk.control h b x None other w.0.0 h' at w.0.2)
 
   -- a log is read for a copy
-  reads_log : (h : PartitionState D) (b : ℕ) (x y : Node D) (h' : PartitionState D) → slice_get h.nodes b ≡ Some x → ReadsLog disk x y → h' ≡ put_node h b y → OneLog disk.content h h'
+  reads_log : (h : PartitionState D) (b : ℕ) (x y : Node D) (h' : PartitionState D) → slice_get h.nodes b ≡ Some x → ReadsLocalLog disk x y → h' ≡ put_node h b y → OneLog disk.content h h'
   reads_log h b x y h' at r e = one_put disk.content h b x y h' at (subst (λ (n : Node D). LeavesBetween disk.content x.log n.log) (sym r.after) r.stays.between) e
 
   read_log : (p : PartitionId) (h : PartitionState D) (b : ℕ) (x y : Node D) (broker_tier z : BrokerTierState) (offset : ℕ) (outcome : Outcome) (h' : PartitionState D) → slice_get h.nodes b ≡ Some x
-      → ReadRow disk p b x broker_tier offset outcome y z → h' ≡ put_node h b y → OneLog disk.content h h'
+      → ReadSegmentRow disk p b x broker_tier offset outcome y z → h' ≡ put_node h b y → OneLog disk.content h h'
   read_log p h b x y broker_tier z offset (Answers DiskFault) h' at w e = reads_log h b x y h' at w.0.reads e
   read_log p h b x y broker_tier z offset (Answers (Damaged (File name) place)) h' at w e = reads_log h b x y h' at w.0.reads e
   read_log p h b x y broker_tier z offset (Chose copy) h' at w e = reads_log h b x y h' at w.0.reads e
@@ -256,7 +256,7 @@ module _ {D S M : Type 0} (disk : DiskGhosts D) (store : StoreGhosts S) (meta : 
   trim_works h t b x broker_tier g keep (Answers answer) h' t' at e w = own_same h t h' t' e (trim_on_log disk.content disk.control h b x g answer h' at w.0)
   trim_works h t b x broker_tier g keep other h' t' at e w = elim w [ ]
 
-  raise_log : (h : PartitionState D) (x : Node D) (start : ℕ) (answer : Answer) (h' : PartitionState D) → RaiseRow h x.role start answer h' → OneLog disk.content h h'
+  raise_log : (h : PartitionState D) (x : Node D) (start : ℕ) (answer : Answer) (h' : PartitionState D) → ExpiryRaiseRow h x.role start answer h' → OneLog disk.content h h'
   raise_log h x start (StaleEpoch e) h' w = leaves disk.content h _ h' w.2
   raise_log h x start (Raised to) h' w = leaves disk.content h _ h' w.2
   raise_log h x start other h' w = elim w [ ]
@@ -289,7 +289,7 @@ module _ {D S M : Type 0} (disk : DiskGhosts D) (store : StoreGhosts S) (meta : 
       reads (dating.Ends (Damaged (File name) place)) row = one_put disk.content h b x y h' at row.misreads.stays.between w.after
       reads to row = one_put disk.content h b x y h' at row.reads.stays.between w.after
 
-      by : OwnRow disk.content disk.control x.log asked cursor turn w.kept → OneLog disk.content h h'
+      by : LocalSearchRow disk.content disk.control x.log asked cursor turn w.kept → OneLog disk.content h h'
       by (inl (past, is, same)) = same_put disk.content h b x y h' at same w.after
       by (inr (below, row)) = reads turn row
 
@@ -300,7 +300,7 @@ module _ {D S M : Type 0} (disk : DiskGhosts D) (store : StoreGhosts S) (meta : 
       rest h t h' t' w.1 (time_one store meta asked (line_of x) cursor next (Granted turn) (fetch_tiers broker_tier.view broker_tier.cache t) (fetch_tiers w.0.view w.0.cache t') w.0.row)
 
   searches_works : (p : PartitionId) (h : PartitionState D) (t : RemoteTier S M) (b : ℕ) (x : Node D) (broker_tier : BrokerTierState) (g : StartSnapshot) (ts : ℤ) (cursor : ℕ) (next : Dating) (turn : TimeTurn) (h' : PartitionState D) (t' : RemoteTier S M) → slice_get h.nodes b ≡ Some x
-      → Searches disk store meta p h t b x broker_tier g ts cursor next turn h' t' → Works h t h' t'
+      → SearchesOn disk store meta p h t b x broker_tier g ts cursor next turn h' t' → Works h t h' t'
   searches_works p h t b x broker_tier g ts cursor next turn h' t' at w =
       let on = resumed_at h.registry.start cursor in
       let with = resumed_with h.registry.start cursor next in
@@ -327,7 +327,7 @@ module _ {D S M : Type 0} (disk : DiskGhosts D) (store : StoreGhosts S) (meta : 
   recorded_works p config h t b x broker_tier g other outcome h' t' at w = own_on h t b x g other outcome h' t' at w
 
   copying_works : (h : PartitionState D) (t : RemoteTier S M) (b : ℕ) (x : Node D) (broker_tier : BrokerTierState) (g : StartSnapshot) (copy : Copied) (next : CopyStep) (command : Command) (outcome : Outcome) (h' : PartitionState D) (t' : RemoteTier S M)
-      → CopyingRow store meta h t b x broker_tier g copy next command outcome h' t' → Works h t h' t'
+      → CopyLaterRow store meta h t b x broker_tier g copy next command outcome h' t' → Works h t h' t'
   copying_works h t b x broker_tier g copy next Copy outcome h' t' (inl lost, same) = both h t h' t' same lost.2
   copying_works h t b x broker_tier g copy next Copy outcome h' t' (inr (keeps, (turn, is, goes)), same) =
       rest h t h' t' same (copy_one store meta copy (origin_of h b) next (Granted turn) (tiers_of broker_tier.view t) (tiers_of goes.view t') goes.row)

@@ -23,7 +23,7 @@ use Rattle.plain_log.specs.declared.command.Command.TheVariants.{Append, Raw, Fl
 use Rattle.plain_log.specs.declared.command.Which.{Which}
 use Rattle.plain_log.specs.declared.command.Which.TheVariants.{LatestTiered, At}
 use Rattle.plain_log.specs.State.{acking}
-use Rattle.broker_log.specs.Seen.{Kept}
+use Rattle.broker_log.specs.Seen.{LogState}
 use Rattle.laws_partition.specs.declared.start_snapshot.StartSnapshot.{StartSnapshot}
 use Rattle.laws_partition.specs.declared.start_snapshot.Turned.{Turned}
 use Rattle.laws_partition.specs.declared.start_snapshot.Turned.TheVariants.{Answers, Begins}
@@ -124,8 +124,8 @@ module _ {D : Type 0} where
   logs_put [] b x y at same = refl
   logs_put (z ∷ xs) zero x y at same =
       let one : z ≡ x = cc (at) in
-      ap (λ (k : Kept D). k ∷ logs_of xs) (same ∙ ap (λ (n : Node D). n.log) (sym one))
-  logs_put (z ∷ xs) (suc b) x y at same = ap (λ (l : List (Kept D)). z.log ∷ l) (logs_put xs b x y at same)
+      ap (λ (k : LogState D). k ∷ logs_of xs) (same ∙ ap (λ (n : Node D). n.log) (sym one))
+  logs_put (z ∷ xs) (suc b) x y at same = ap (λ (l : List (LogState D)). z.log ∷ l) (logs_put xs b x y at same)
 
 module _ {D : Type 0} (content : D → Content) (control : D → Control call_code) where
   append_one : (h : PartitionState D) (b : ℕ) (x : Node D) (batch : List ℕ) (answer : Answer) (h' : PartitionState D) → AppendRow content control h b x batch answer h' → ChangesOne h h'

@@ -39,12 +39,12 @@ use Rattle.partition_world.specs.declared.actor_state.Outcome.TheVariants.{Answe
 use Rattle.partition_world.specs.declared.actor_state.InProgress.{InProgress}
 use Rattle.partition_world.specs.declared.actor_state.InProgress.TheVariants.{Idle, Noted, Copies, Seeks, Dates, Expires, Rebuilds}
 use Rattle.partition_world.specs.TurnsOfCopy.{ChooseRow}
-use Rattle.partition_world.specs.TurnsOfDate.{SearchRow, Searches, DateOnRow, asked_of, is_own, resumed_at, resumed_with}
+use Rattle.partition_world.specs.TurnsOfDate.{SearchRow, SearchesOn, DateOnRow, asked_of, is_own, resumed_at, resumed_with}
 use Rattle.partition_commands.specs.Partition.{local_of}
-use Rattle.partition_world.specs.TurnsOfExpiry.{RaiseRow, ExpireOnRow, ExpiresBy}
+use Rattle.partition_world.specs.TurnsOfExpiry.{ExpiryRaiseRow, ExpireOnRow, ExpiresBy}
 use Rattle.partition_world.specs.TurnsOfRebuild.{with_line}
 use Rattle.partition_world.specs.TurnsOfTrim.{TrimOnRow}
-use Rattle.partition_world.specs.Turns.{OwnOnRow, BeginRow, ContinuedRow, CopyingRow, SeekingRow, DatingRow, DeletingRow, JoinSecondRow, RebuildingRow, Row, StaysTier}
+use Rattle.partition_world.specs.Turns.{OwnOnRow, BeginRow, ContinuedRow, CopyLaterRow, SeekingRow, DatingRow, DeletingRow, JoinSecondRow, RebuildingRow, Row, StaysTier}
 use Rattle.partition_world.specs.Turn.{IsTurn, StaysWhole}
 use Rattle.partition_world.specs.Whole.{Whole}
 use Rattle.cold_start.specs.Stepping.{SameDevices, StepsChangeOne, logs_of}
@@ -85,7 +85,7 @@ module _ {D S M : Type 0} (disk : DiskGhosts D) (store : StoreGhosts S) (meta : 
   trim_either h t b x broker_tier g keep (Answers answer) h' t' e w = own h t h' t' e (trim_on_one disk.content disk.control h b x g answer h' w.0)
   trim_either h t b x broker_tier g keep other h' t' e w = elim w [ ]
 
-  raise_either : (h : PartitionState D) (t : RemoteTier S M) (x : Node D) (start : ℕ) (answer : Answer) (h' : PartitionState D) (t' : RemoteTier S M) → t' ≡ t → RaiseRow h x.role start answer h' → ChangesEither h t h' t'
+  raise_either : (h : PartitionState D) (t : RemoteTier S M) (x : Node D) (start : ℕ) (answer : Answer) (h' : PartitionState D) (t' : RemoteTier S M) → t' ≡ t → ExpiryRaiseRow h x.role start answer h' → ChangesEither h t h' t'
   raise_either h t x start (StaleEpoch e) h' t' is w = own h t h' t' is (raise_leaves h w.0 start (Err (reg.StaleEpoch e)) h' w.2)
   raise_either h t x start (Raised to) h' t' is w = own h t h' t' is (raise_leaves h w.0 start (Granted to) h' w.2)
   raise_either h t x start other h' t' is w = elim w [ ]
@@ -111,7 +111,7 @@ module _ {D S M : Type 0} (disk : DiskGhosts D) (store : StoreGhosts S) (meta : 
   search_either h t b x broker_tier asked cursor next false turn h' t' w = same h t h' t' w.1
 
   searches_either : (p : PartitionId) (h : PartitionState D) (t : RemoteTier S M) (b : ℕ) (x : Node D) (broker_tier : BrokerTierState) (g : StartSnapshot) (ts : ℤ) (cursor : ℕ) (next : Dating) (turn : TimeTurn) (h' : PartitionState D) (t' : RemoteTier S M)
-      → Searches disk store meta p h t b x broker_tier g ts cursor next turn h' t' → ChangesEither h t h' t'
+      → SearchesOn disk store meta p h t b x broker_tier g ts cursor next turn h' t' → ChangesEither h t h' t'
   searches_either p h t b x broker_tier g ts cursor next turn h' t' w =
       let on = resumed_at h.registry.start cursor in
       let with = resumed_with h.registry.start cursor next in
@@ -138,7 +138,7 @@ module _ {D S M : Type 0} (disk : DiskGhosts D) (store : StoreGhosts S) (meta : 
   recorded_either p config h t b x broker_tier g other outcome h' t' at w = own_on h t b x g other outcome h' t' at w
 
   copying_either : (h : PartitionState D) (t : RemoteTier S M) (b : ℕ) (x : Node D) (broker_tier : BrokerTierState) (g : StartSnapshot) (copy : Copied) (next : CopyStep) (command : Command) (outcome : Outcome) (h' : PartitionState D) (t' : RemoteTier S M)
-      → CopyingRow store meta h t b x broker_tier g copy next command outcome h' t' → ChangesEither h t h' t'
+      → CopyLaterRow store meta h t b x broker_tier g copy next command outcome h' t' → ChangesEither h t h' t'
   copying_either h t b x broker_tier g copy next Copy outcome h' t' w = same h t h' t' w.1
   copying_either h t b x broker_tier g copy next other outcome h' t' w = elim w [ ]
 

@@ -9,13 +9,13 @@ use Rattle.log_manifest.specs.declared.manifest.Manifest.{Manifest}
 use Rattle.log_manifest.specs.declared.refusal.ManifestRefusal.{ManifestRefusal}
 use Rattle.log_manifest.specs.Reading.{manifest_in}
 use Rattle.log_steps.specs.Fronts.{Each, Agrees}
-use Rattle.log_steps.specs.Opens.{Opened, IsRead, OpensBy, OpensFrom, Opens}
+use Rattle.log_steps.specs.Opens.{Opened, IsOpenedBy, OpensBy, OpensFrom, Opens}
 use Rattle.log_steps.specs.Reopens.{Reopens, Says}
 use Rattle.log_steps.proofs.Lists.{each_map}
 use Rattle.log_steps.proofs.Reading.{segments_whole, read_moved}
 use Rattle.log_steps.proofs.Restored.{kept_same}
 use Rattle.local_log.specs.Log.{Log}
-use Rattle.broker_log.specs.Seen.{Seen, Back, Kept, Up, Down, Away, Shows, ShowsOpen, ShowsClosed, IsKept, OnDisk, OpensLater, LeavesBetween, ComesBack, back_of, returning, returns, is_up}
+use Rattle.broker_log.specs.Seen.{LogSeen, Back, LogState, Up, Down, Away, ShowsSeen, ShowsOpen, ShowsClosed, IsSeenSound, OnDisk, OpensLater, LeavesBetween, OpensAfterStop, back_of, returning, returns, is_up}
 use Rattle.broker_log.proofs.Local.{kept_stands}
 use Rattle.cold_start.specs.Moments.{IsCutSince}
 use Rattle.cold_start.proofs.StandLaw.{IsShownAs}
@@ -65,8 +65,8 @@ one_reopens d files o same h = record {
 
 module _ {D : Type 0} (content : D → Content) (old now d : D) (cut : IsCutSince (content old) (content now) (content d)) where
   -- what comes back from an image comes back from these files, perhaps under a later incarnation
-  module _ (s : Seen) (c : Files) (i : ℕ) (most : s.incarnation ≤ i) (from : Files) (later : (o : Opened) → Opens from o → (j : ℕ) × (o.incarnation ≤ j) × Opens c (record o { incarnation = j })) where
-    comes : ComesBack i s from → (j : ℕ) × (s.incarnation ≤ j) × ComesBack j s c
+  module _ (s : LogSeen) (c : Files) (i : ℕ) (most : s.incarnation ≤ i) (from : Files) (later : (o : Opened) → Opens from o → (j : ℕ) × (o.incarnation ≤ j) × Opens c (record o { incarnation = j })) where
+    comes : OpensAfterStop i s from → (j : ℕ) × (s.incarnation ≤ j) × OpensAfterStop j s c
     comes (inl is) = let k = later (returns i s) is in (k.0, omega (arith, most, k.1), inl k.2)
     comes (inr is) =
         let other = some_and s.loose (λ back. Opens from (returning i s back)) is in
@@ -75,7 +75,7 @@ module _ {D : Type 0} (content : D → Content) (old now d : D) (cut : IsCutSinc
 
   module _ (told : IsTrue (content old).is_observable) (e : D) (later : OpensLater (content e) cut.files) where
     -- each image of the disk opens as these files
-    each : (s : Seen) (i : ℕ) → s.incarnation ≤ i → ComesBack i s later.0 → (c : Files) → Image (content d) c → (j : ℕ) × (s.incarnation ≤ j) × ComesBack j s c
+    each : (s : LogSeen) (i : ℕ) → s.incarnation ≤ i → OpensAfterStop i s later.0 → (c : Files) → Image (content d) c → (j : ℕ) × (s.incarnation ≤ j) × OpensAfterStop j s c
     each s i most was c at =
         comes s c i most later.0
         (λ o is. (let k = later.2 o is in (k.0, k.1, same_opens cut.files c (cut.images c at) (record o { incarnation = k.0 }) k.2)))
@@ -85,7 +85,7 @@ module _ {D : Type 0} (content : D → Content) (old now d : D) (cut : IsCutSinc
     again o is = let k = later.2 o is in one_reopens (content d) cut.files (record o { incarnation = k.0 }) cut.images k.2
 
     -- of a log that was open
-    pub shown_open : (log : Log D) → log.disk ≡ e → (s : Seen) → ShowsOpen content log s → ShowsClosed content d s
+    pub shown_open : (log : Log D) → log.disk ≡ e → (s : LogSeen) → ShowsOpen content log s → ShowsClosed content d s
     shown_open log is s h =
         let at : Image (content log.disk) later.0 = subst (λ (k : D). Image (content k) later.0) (sym is) later.1 in
         record {
@@ -96,7 +96,7 @@ module _ {D : Type 0} (content : D → Content) (old now d : D) (cut : IsCutSinc
         }
 
     -- and of one that was closed
-    pub shown_closed : (s : Seen) → ShowsClosed content e s → ShowsClosed content d s
+    pub shown_closed : (s : LogSeen) → ShowsClosed content e s → ShowsClosed content d s
     shown_closed s h =
         let was = h.images later.0 later.1 in
         let o = h.again.opens later.0 later.1 in
@@ -110,7 +110,7 @@ module _ {D : Type 0} (content : D → Content) (old now d : D) (cut : IsCutSinc
 -- the disk that a log is on
 module _ {D : Type 0} (content : D → Content) (d : D) where
   -- it is seen as a log whose disk has an image that opens so
-  pub shown_later : (k : Kept D) (old now : D) (cut : IsCutSince (content old) (content now) (content d)) → IsTrue (content old).is_observable → (e : D) → OnDisk k (λ x. x ≡ e) → OpensLater (content e) cut.files → IsShownAs content k d
+  pub shown_later : (k : LogState D) (old now : D) (cut : IsCutSince (content old) (content now) (content d)) → IsTrue (content old).is_observable → (e : D) → OnDisk k (λ x. x ≡ e) → OpensLater (content e) cut.files → IsShownAs content k d
   shown_later (Up log) old now cut told e is later s h = shown_open content old now d cut told e later log is s h
   shown_later (Down was disk) old now cut told e is later s h = shown_closed content old now d cut told e later s (subst (λ (x : D). ShowsClosed content x s) is h)
   shown_later Away old now cut told e is later s h = absurd h

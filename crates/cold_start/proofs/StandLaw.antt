@@ -11,7 +11,7 @@ use Rattle.segment_meta.specs.declared.note.Note.{Note}
 use Rattle.meta_log.specs.declared.log.MetaLog.{Ghosts as MetaGhosts}
 use Rattle.meta_log.specs.Content.{Left}
 use Rattle.log_steps.specs.Reopens.{Reopens}
-use Rattle.broker_log.specs.Seen.{Kept, Up, Down, Away, Seen, Shows, ShowsClosed, OnDisk, is_up}
+use Rattle.broker_log.specs.Seen.{LogState, Up, Down, Away, LogSeen, ShowsSeen, ShowsClosed, OnDisk, is_up}
 use Rattle.plain_log.specs.declared.state.Broker.{Broker}
 use Rattle.plain_log.specs.declared.state.State.{State}
 use Rattle.laws_partition.specs.Seen as seen
@@ -31,7 +31,7 @@ use Rattle.plain_log.specs.declared.command.Config.{Config}
 use Rattle.plain_log.specs.declared.command.Pace.{Pace}
 use Rattle.plain_log.specs.Orders.{AreListsFor}
 use Rattle.partition_world.specs.Cold.{IsReopened, StandCold, scene_back}
-use Rattle.partition_world.specs.Laws.{IsRunFrom}
+use Rattle.partition_world.specs.Laws.{IsSafeRunFrom}
 use Rattle.partition_world.specs.Reaches.{Reaches}
 use Rattle.partition_world.proofs.ColdLaw.{reopened_runs}
 use Rattle.partition_world.specs.Left.{IsCentralLeft, resolved, whole_with}
@@ -47,13 +47,13 @@ use Rattle.cold_start.proofs.ColdWorldLaw.{closed_shown, log_shown, same_plain}
 module _ {D : Type 0} (content : D → Content) where
   -- the logs on disks that a power cut leaves
   pub record Back (disks : List D) (ys : List seen.Node) : Type 0 where
-    pub logs : List Seen
+    pub logs : List LogSeen
     pub shows : ShowDisks content disks logs
     pub same : map node_back logs ≡ map cold_node ys
 
   -- a closed log is seen as this one was, whatever that is
-  abbrev pub IsShownAs : Kept D → D → Type 0
-  IsShownAs k d = (s : Seen) → Shows content k s → ShowsClosed content d s
+  abbrev pub IsShownAs : LogState D → D → Type 0
+  IsShownAs k d = (s : LogSeen) → ShowsSeen content k s → ShowsClosed content d s
 
   abbrev pub AreShownAs : List (Node D) → List D → Type 0
   AreShownAs [] [] = Unit {0}
@@ -152,7 +152,7 @@ module _ {D S M : Type 0} (disk : DiskGhosts D) (store : StoreGhosts S) (meta : 
   leaves_cold opening w disks s m c cut kept told l left = shown_cold opening w disks s m c (left_as disk.content w.held.nodes disks cut) kept told l left
 
   -- a further power cut
-  shown_cut : (disks nows : List D) (logs : List Seen) → AreCut disk.content disks nows → ShowDisks disk.content disks logs → ShowDisks disk.content nows logs
+  shown_cut : (disks nows : List D) (logs : List LogSeen) → AreCut disk.content disks nows → ShowDisks disk.content disks logs → ShowDisks disk.content nows logs
   shown_cut [] [] [] cut h = tt
   shown_cut (d ∷ disks) (n ∷ nows) (k ∷ logs) cut h = (closed_shown disk.content (record { segment_bytes = 0; index_interval = 0 }) d n k cut.0 h.0, shown_cut disks nows logs cut.1 h.1)
   shown_cut [] [] (k ∷ logs) cut h = absurd h
@@ -181,13 +181,13 @@ module _ {D S M : Type 0} (disk : DiskGhosts D) (store : StoreGhosts S) (meta : 
   pub runs_go_on : (opening : State) (w : Whole D S M) (config : Config) (lists : List ActorList) (disks : List D) (s : S) (m : M) (v : Whole D S M) (schedule : List Pace) (v' : Whole D S M)
       (c : IsCentralLeft disk store meta opening w) → LeaveDisks disk.content w.held.nodes disks → IsCutStore (store.content w.tier.store) (store.content s) → IsCutLog (meta.content w.tier.meta) (meta.content m)
       → ((l : List Note) → Left (meta.content m) l → length l < 2 ^ 63) → AreListsFor config lists → IsReopened disk store meta w.partition config lists w.held.registry disks s m v
-      → Reaches disk store meta v schedule v' → IsRunFrom (cold_of (plain_in disk store meta opening w c)) lists v'.journal.items
+      → Reaches disk store meta v schedule v' → IsSafeRunFrom (cold_of (plain_in disk store meta opening w c)) lists v'.journal.items
   runs_go_on opening w config lists disks s m v schedule v' c cut kept told few fit f r =
       reopened_runs disk store meta w.partition config lists w.held.registry disks s m v schedule v' (cold_of (plain_in disk store meta opening w c)) fit f
       (record { stand = leaves_cold opening w disks s m c cut kept told; few = few }) r
 
 module _ {D : Type 0} (disk : DiskGhosts D) where
-  left_one : (k : Kept D) (d n : D) → OnDisk k (λ e. d ≡ e) → (IsTrue (is_up k) → Reopens (disk.content d)) → IsCutDisk (disk.content d) (disk.content n) → LeavesDisk disk.content k n
+  left_one : (k : LogState D) (d n : D) → OnDisk k (λ e. d ≡ e) → (IsTrue (is_up k) → Reopens (disk.content d)) → IsCutDisk (disk.content d) (disk.content n) → LeavesDisk disk.content k n
   left_one (Up l) d n is all cut = (subst (λ (e : D). Reopens (disk.content e)) is (all refl), subst (λ (e : D). IsCutDisk (disk.content e) (disk.content n)) is cut)
   left_one (Down was e) d n is all cut = subst (λ (e : D). IsCutDisk (disk.content e) (disk.content n)) is cut
   left_one Away d n is all cut = absurd is

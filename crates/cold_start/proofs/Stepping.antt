@@ -16,7 +16,7 @@ use Rattle.partition_world.proofs.LaterLaw.{later_same, later_more}
 use Rattle.cold_start.specs.FileLaws.{FileLaws}
 use Rattle.cold_start.specs.Running.{Running}
 use Rattle.cold_start.specs.Stands.{LeavesOneOf}
-use Rattle.cold_start.specs.Stepping.{SameDevices, Ends, Halts}
+use Rattle.cold_start.specs.Stepping.{SameDevices, Ends, HaltsSteps}
 use Rattle.cold_start.specs.declared.refusal.ColdRefusal.{ColdRefusal}
 
 -- registries of one view
@@ -53,11 +53,11 @@ module _ {D S M : Type 0} where
 module _ {D S M : Type 0} (disk : DiskGhosts D) (store : StoreGhosts S) (meta : MetaGhosts M) where
   -- a step whose registry couldn't be kept
   pub halts_now : (t t' : Running D S M) (why : ColdRefusal) → Ends disk t.reg t.world t' why
-      → (IsTrue (disk.content t'.reg).is_observable → (opening : State) → LeavesOneOf disk store meta opening t.world t'.world t'.reg) → Halts disk store meta t t' why
+      → (IsTrue (disk.content t'.reg).is_observable → (opening : State) → LeavesOneOf disk store meta opening t.world t'.world t'.reg) → HaltsSteps disk store meta t t' why
   halts_now t t' why e either = inr (t.world, later_same disk store meta t.world, e, either)
 
   -- some steps before
-  pub halts_more : (t u t' : Running D S M) (why : ColdRefusal) → IsLater disk store meta t.world u.world → Lasts (disk.control t.reg) (disk.control u.reg) → Halts disk store meta u t' why → Halts disk store meta t t' why
+  pub halts_more : (t u t' : Running D S M) (why : ColdRefusal) → IsLater disk store meta t.world u.world → Lasts (disk.control t.reg) (disk.control u.reg) → HaltsSteps disk store meta u t' why → HaltsSteps disk store meta t t' why
   halts_more t u t' why later lasts (inl k) = inl k
   halts_more t u t' why later lasts (inr (w, after, e, either)) = inr (
     w,

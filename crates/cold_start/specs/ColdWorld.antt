@@ -12,7 +12,7 @@ use Rattle.meta_log.specs.Content.{Content as NotesContent, Left}
 use Rattle.object_store.specs.Content.{Content as StoreContent}
 use Rattle.plain_log.specs.declared.command.Config.{Config}
 use Rattle.log_steps.specs.Reopens.{Reopens}
-use Rattle.broker_log.specs.Seen.{Kept, Up, Down, Away}
+use Rattle.broker_log.specs.Seen.{LogState, Up, Down, Away}
 use Rattle.plain_log.specs.declared.command.ActorList.{ActorList}
 use Rattle.plain_log.specs.declared.journal.JournalEntry.{JournalEntry}
 use Rattle.plain_log.specs.declared.state.Role.TheVariants.{Idle}
@@ -27,7 +27,7 @@ use Rattle.partition_commands.specs.Cold.{DisksReopen}
 use Rattle.partition_commands.specs.Fresh.{AreDisksOf}
 use Rattle.plain_log.specs.declared.command.Pace.{Pace}
 use Rattle.partition_world.specs.Cold.{IsReopened, StandCold}
-use Rattle.partition_world.specs.Laws.{IsRunFrom}
+use Rattle.partition_world.specs.Laws.{IsSafeRunFrom}
 use Rattle.partition_world.specs.Reaches.{Reaches}
 use Rattle.partition_world.specs.Left.{IsCentralLeft}
 use Rattle.partition_world.specs.Whole.{Whole}
@@ -50,7 +50,7 @@ pub record IsCutStore (old new : StoreContent) : Type 0 where
 
 module _ {D : Type 0} (content : D → Content) where
   -- a broker's disk after it, which a log can be opened from where that is known
-  abbrev pub LeavesDisk : Kept D → D → Type 0
+  abbrev pub LeavesDisk : LogState D → D → Type 0
   LeavesDisk (Up log) disk = Reopens (content log.disk) × IsCutDisk (content log.disk) (content disk)
   LeavesDisk (Down was old) disk = IsCutDisk (content old) (content disk)
   LeavesDisk Away disk = Unit {0}
@@ -127,7 +127,7 @@ module _ {D S M : Type 0} (disk : DiskGhosts D) (store : StoreGhosts S) (meta : 
       → LeaveDisks disk.content w.held.nodes disks → IsCutStore (store.content w.tier.store) (store.content s)
       → IsCutLog (meta.content w.tier.meta) (meta.content m) → ((l : List Note) → Left (meta.content m) l → length l < 2 ^ 63)
       → AreListsFor config lists → IsReopened disk store meta w.partition config lists w.held.registry disks s m v
-      → Reaches disk store meta v schedule v' → IsRunFrom (cold_of (plain_in opening w c)) lists v'.journal.items
+      → Reaches disk store meta v schedule v' → IsSafeRunFrom (cold_of (plain_in opening w c)) lists v'.journal.items
 
 module _ {D : Type 0} (disk : DiskGhosts D) where
   -- the disks that a partition gives back are such as a power cut may leave, and so are those that a power cut leaves of them

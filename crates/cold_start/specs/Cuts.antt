@@ -7,7 +7,7 @@ use Rattle.disk_model.specs.declared.disk.Disk.{Ghosts as DiskGhosts}
 use Rattle.segment_meta.specs.declared.note.Note.{Note}
 use Rattle.meta_log.specs.declared.log.MetaLog.{Ghosts as MetaGhosts}
 use Rattle.meta_log.specs.Content.{Left, Keeps as KeepsNotes}
-use Rattle.meta_log_file.specs.Told.{IsLeft as IsLeftOn, told_of}
+use Rattle.meta_log_file.specs.Told.{MayOpenWith as IsLeftOn, told_of}
 use Rattle.cold_start.specs.ColdWorld.{IsCutDisk, IsCutLog}
 
 module _ {D : Type 0} (disk : DiskGhosts D) where

@@ -21,12 +21,12 @@ use Rattle.cold_state.specs.Cold.{cold_of}
 use Rattle.cold_start.specs.Cold.{cold_scene, cold_tier_view, cold_node, cold_whole, cold_broker_tiers}
 
 -- nothing is on the desk
-abbrev pub IsFree : List TierTask → Type 0
-IsFree desk = (a : ℕ) (work : TierTask) → slice_get desk a ≡ Some work → work ≡ Free
+abbrev pub IsDeskFree : List TierTask → Type 0
+IsDeskFree desk = (a : ℕ) (work : TierTask) → slice_get desk a ≡ Some work → work ≡ Free
 
 -- the tier's safety rules hold in what is left, beside the plain state that is left
 abbrev pub ColdTierIsSafe : Type 0
-ColdTierIsSafe = (c : Scene) (p : State) (desk : List TierTask) → IsFree desk → TierSafe c p → TierSafe (cold_scene c desk) (cold_of p)
+ColdTierIsSafe = (c : Scene) (p : State) (desk : List TierTask) → IsDeskFree desk → TierSafe c p → TierSafe (cold_scene c desk) (cold_of p)
 
 -- a partition that has the central fact for some opening state has it, as a power cut leaves it, for the state that is left
 abbrev pub ColdIsCentral : Type 0

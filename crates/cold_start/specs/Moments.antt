@@ -17,7 +17,7 @@ use Rattle.disk_model.specs.Content.{Content, Files, Image}
 use Rattle.disk_model.specs.declared.disk.Disk.{Ghosts as DiskGhosts}
 use Rattle.object_store.specs.declared.store.Store.{Ghosts as StoreGhosts}
 use Rattle.meta_log.specs.declared.log.MetaLog.{Ghosts as MetaGhosts}
-use Rattle.broker_log.specs.Seen.{Kept, OnDisk, LeavesBetween}
+use Rattle.broker_log.specs.Seen.{LogState, OnDisk, LeavesBetween}
 use Rattle.plain_log.specs.declared.state.State.{State}
 use Rattle.laws_partition.specs.declared.actor_progress.Stepped.{Stepped}
 use Rattle.partition_commands.specs.declared.partition_state.Node.{Node}
@@ -53,7 +53,7 @@ module _ {D : Type 0} (content : D → Content) where
     pub at : ℕ
     pub old : Node D
     pub was : slice_get xs at ≡ Some old
-    pub kept : Kept D
+    pub kept : LogState D
     pub logs : logs_of ys ≡ slice_set (logs_of xs) at kept
     pub between : LeavesBetween content old.log kept
 

@@ -3,9 +3,9 @@
 --   form                 says
 --   Starts .. t          it began at the beginning, over disks whose files it removed
 --   Continues .. t       it began again with the registry that it read
---   IsOpened .. t        one of these
+--   IsPartitionOpened .. t        one of these
 --   says asked view      what the registry's file makes of an opening that asks for so many brokers
---   HasCause .. why      a refusal comes of this
+--   OpeningHasCause .. why      a refusal comes of this
 use Rattle.std.specs.Prelude.{◌≡◌, ◌≢◌, ◌≤◌, ◌⊎◌, ◌==◌, ℕ, List, [], ◌∷◌, length, false, if◌then◌else◌, Option, Some, None, Ok, Err, IsTrue}
 use Rattle.std.specs.declared.result.Result.{Result}
 use Rattle.tier_base.specs.Counts.{Rose}
@@ -66,12 +66,12 @@ pub record IsGone (name : FileName) (old new : Files) : Type 0 where
   pub others : (n : FileName) → n ≢ name → new n ≡ old n
 
 -- a refusal for what the registry's file says
-abbrev pub IsSaid : ColdRefusal → Type 0
-IsSaid RegistryFault = ⊥
-IsSaid DeviceFault = ⊥
-IsSaid (BadRegistry at) = Unit {0}
-IsSaid (Brokers kept asked) = Unit {0}
-IsSaid NoMemory = ⊥
+abbrev pub IsRegistryRefusal : ColdRefusal → Type 0
+IsRegistryRefusal RegistryFault = ⊥
+IsRegistryRefusal DeviceFault = ⊥
+IsRegistryRefusal (BadRegistry at) = Unit {0}
+IsRegistryRefusal (Brokers kept asked) = Unit {0}
+IsRegistryRefusal NoMemory = ⊥
 
 -- the refusal of a registry's disk with this trouble, and of the other devices
 abbrev pub refusal_of_registry : Trouble → ColdRefusal
@@ -110,7 +110,7 @@ module _ {D S M : Type 0} (disk : DiskGhosts D) (store : StoreGhosts S) (meta : 
     pub fresh : IsFresh disk store meta partition config lists cleared s recorded t.world
 
   -- the registry was read: the world is reopened with it, over the disks as they were
-  pub record Continues (partition : PartitionId) (config : Config) (lists : List ActorList) (disks : List D) (s : S) (m : M) (reg : D)
+  pub record BeginsFromRegistry (partition : PartitionId) (config : Config) (lists : List ActorList) (disks : List D) (s : S) (m : M) (reg : D)
       (t : Running D S M) : Type 0 where
     pub view : RegView
     pub read : view_in (disk.control t.reg).last_read ≡ Ok view
@@ -121,20 +121,20 @@ module _ {D S M : Type 0} (disk : DiskGhosts D) (store : StoreGhosts S) (meta : 
     pub notes_last : Lasts (meta.control m) (meta.control recorded)
     pub reopened : IsReopened disk store meta partition config lists (registry_of view) disks s recorded t.world
 
-  abbrev pub IsOpened : PartitionId → Config → List ActorList → List D → S → M → D → Running D S M → Type 0
-  IsOpened partition config lists disks s m reg t =
-      Starts partition config lists disks s m reg t ⊎ Continues partition config lists disks s m reg t
+  abbrev pub IsPartitionOpened : PartitionId → Config → List ActorList → List D → S → M → D → Running D S M → Type 0
+  IsPartitionOpened partition config lists disks s m reg t =
+      Starts partition config lists disks s m reg t ⊎ BeginsFromRegistry partition config lists disks s m reg t
 
 module _ {D M : Type 0} (disk : DiskGhosts D) (meta : MetaGhosts M) where
   -- A refusal comes of this. The first device list is as it was passed in, the second as it is given back.
-  pub record HasCause (config : Config) (disks : List D) (m : M) (reg : D) (nows : List D) (n : M) (r : D) (why : ColdRefusal)
+  pub record OpeningHasCause (config : Config) (disks : List D) (m : M) (reg : D) (nows : List D) (n : M) (r : D) (why : ColdRefusal)
       : Type 0 where
     pub registry_fault : why ≡ RegistryFault → Rose (disk.control reg).faults (disk.control r).faults
     pub device_fault : why ≡ DeviceFault → OneFailed disk.control disks nows ⊎ Rose (meta.control m).faults (meta.control n).faults
     pub bad_registry : (at : ℕ) → why ≡ BadRegistry at → says config.brokers (view_in (disk.control r).last_read) ≡ Some why
     pub brokers : (kept asked : ℕ) → why ≡ Brokers kept asked → says config.brokers (view_in (disk.control r).last_read) ≡ Some why
     -- what was returned is the file
-    pub last_read : IsSaid why → IsTrue (disk.content reg).is_observable → (disk.content reg).files RegistryName ≡ Some (disk.control r).last_read
+    pub last_read : IsRegistryRefusal why → IsTrue (disk.content reg).is_observable → (disk.content reg).files RegistryName ≡ Some (disk.control r).last_read
     -- what the file says comes before all but a fault of its disk, and running out of memory
     pub told : IsTrue (disk.content reg).is_observable → (bytes : List ℕ) (said : ColdRefusal)
         → (disk.content reg).files RegistryName ≡ Some bytes → says config.brokers (view_in bytes) ≡ Some said
@@ -142,7 +142,7 @@ module _ {D M : Type 0} (disk : DiskGhosts D) (meta : MetaGhosts M) where
 
 module _ {D S M : Type 0} (disk : DiskGhosts D) (meta : MetaGhosts M) where
   -- what comes back with a refusal: after a device's fault no device is armed
-  pub record ComesBack (disks : List D) (s : S) (m : M) (reg : D) (nows : List D) (t : S) (n : M) (r : D) (why : ColdRefusal)
+  pub record DevicesComeBack (disks : List D) (s : S) (m : M) (reg : D) (nows : List D) (t : S) (n : M) (r : D) (why : ColdRefusal)
       : Type 0 where
     pub count : length nows ≡ length disks
     pub registry : Lasts (disk.control reg) (disk.control r)

@@ -2,7 +2,7 @@
 --
 --   form              says
 --   Running           an open partition as contracts see it
---   IsKept t          until it has ended, a power cut leaves the file of the world's registry
+--   IsRunningSound t          until it has ended, a power cut leaves the file of the world's registry
 use Rattle.std.specs.Prelude.{◌≡◌, ◌≤◌, Bool, false, length}
 use Rattle.tier_base.specs.Device.{Control}
 use Rattle.disk_model.specs.Call.{call_code}
@@ -19,7 +19,7 @@ pub record Running (D S M : Type 0) : Type 0 where
 
 -- The registry's disk isn't armed, and the registry has a replica for each of 1 to 8 brokers. Until the partition has ended a power cut
 -- leaves the file of its registry there.
-pub record IsKept {D S M : Type 0} (content : D → Content) (control : D → Control call_code) (t : Running D S M) : Type 0 where
+pub record IsRunningSound {D S M : Type 0} (content : D → Content) (control : D → Control call_code) (t : Running D S M) : Type 0 where
   pub unarmed : (control t.reg).armed ≡ false
   pub some : 1 ≤ length t.world.held.registry.replicas
   pub few : length t.world.held.registry.replicas ≤ 8

@@ -3,7 +3,7 @@
 --   form                   says
 --   StandsFor .. p         the devices, with whatever metadata events a power cut now may leave, are those of the plain state p
 --   IsBlank ..             they hold nothing of a partition: no registry, no object and no metadata event
---   IsLeft w reg ..        a power cut of everything may leave these devices of an open partition
+--   MayBeLeft w reg ..        a power cut of everything may leave these devices of an open partition
 --   LeavesCold w reg       whatever it leaves represents what is left of the plain state that the journal has come to
 --   LeavesOneOf w v reg    for that of one world or that of the other
 use Rattle.std.specs.Prelude.{◌≡◌, ◌⊎◌, List, None, IsTrue}
@@ -41,7 +41,7 @@ module _ {D S M : Type 0} (disk : DiskGhosts D) (store : StoreGhosts S) (meta : 
     pub notes : IsEmptyLog (meta.content m)
 
   -- a power cut of everything may leave these of an open partition's devices
-  pub record IsLeft (w : Whole D S M) (reg : D) (disks : List D) (s : S) (m : M) (r : D) : Type 0 where
+  pub record MayBeLeft (w : Whole D S M) (reg : D) (disks : List D) (s : S) (m : M) (r : D) : Type 0 where
     pub logs : LeaveDisks disk.content w.held.nodes disks
     pub objects : IsCutStore (store.content w.tier.store) (store.content s)
     pub notes : IsCutLog (meta.content w.tier.meta) (meta.content m)
@@ -50,11 +50,11 @@ module _ {D S M : Type 0} (disk : DiskGhosts D) (store : StoreGhosts S) (meta : 
   -- they represent what is left of the plain state that the journal has come to
   abbrev pub LeavesCold : State → Whole D S M → D → Type 0
   LeavesCold opening w reg = (c : IsCentralLeft disk store meta opening w) (disks : List D) (s : S) (m : M) (r : D)
-      → IsLeft w reg disks s m r → StandsFor w.partition disks s m r (cold_of (plain_in disk store meta opening w c))
+      → MayBeLeft w reg disks s m r → StandsFor w.partition disks s m r (cold_of (plain_in disk store meta opening w c))
 
   -- they represent what is left of one plain state or of the other
   abbrev pub LeavesOneOf : State → Whole D S M → Whole D S M → D → Type 0
   LeavesOneOf opening v w reg = (b : IsCentralLeft disk store meta opening v) (c : IsCentralLeft disk store meta opening w)
-      (disks : List D) (s : S) (m : M) (r : D) → IsLeft w reg disks s m r
+      (disks : List D) (s : S) (m : M) (r : D) → MayBeLeft w reg disks s m r
       → StandsFor w.partition disks s m r (cold_of (plain_in disk store meta opening v b))
       ⊎ StandsFor w.partition disks s m r (cold_of (plain_in disk store meta opening w c))

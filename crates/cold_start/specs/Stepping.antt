@@ -11,7 +11,7 @@ use Rattle.disk_model.specs.declared.disk.Disk.{Ghosts as DiskGhosts}
 use Rattle.object_store.specs.declared.store.Store.{Ghosts as StoreGhosts}
 use Rattle.meta_log.specs.declared.log.MetaLog.{Ghosts as MetaGhosts}
 use Rattle.registry_disk.specs.Keeping.{KeepsFile, KeepsOneOf}
-use Rattle.broker_log.specs.Seen.{Kept}
+use Rattle.broker_log.specs.Seen.{LogState}
 use Rattle.plain_log.specs.declared.state.State.{State}
 use Rattle.laws_partition.specs.declared.actor_progress.Stepped.{Stepped}
 use Rattle.partition_commands.specs.declared.partition_state.Node.{Node}
@@ -24,7 +24,7 @@ use Rattle.cold_start.specs.declared.refusal.ColdRefusal.{ColdRefusal}
 use Rattle.cold_start.specs.declared.refusal.ColdRefusal.TheVariants.{RegistryFault, NoMemory}
 
 -- the brokers' logs
-abbrev pub logs_of : {D : Type 0} → List (Node D) → List (Kept D)
+abbrev pub logs_of : {D : Type 0} → List (Node D) → List (LogState D)
 logs_of {D = D} nodes = map (λ (x : Node D). x.log) nodes
 
 module _ {D S M : Type 0} where
@@ -52,7 +52,7 @@ module _ {D S M : Type 0} (disk : DiskGhosts D) (store : StoreGhosts S) (meta : 
 
   -- Steps that found no memory, or the last of which ended the partition. Then a power cut leaves what represents the
   -- state before that step or after it.
-  abbrev pub Halts : Running D S M → Running D S M → ColdRefusal → Type 0
-  Halts t t' why = ((why ≡ NoMemory) × (t'.ended ≡ false))
+  abbrev pub HaltsSteps : Running D S M → Running D S M → ColdRefusal → Type 0
+  HaltsSteps t t' why = ((why ≡ NoMemory) × (t'.ended ≡ false))
       ⊎ ((w : Whole D S M) × IsLater disk store meta t.world w × Ends disk t.reg w t' why
       × (IsTrue (disk.content t'.reg).is_observable → (opening : State) → LeavesOneOf disk store meta opening w t'.world t'.reg))

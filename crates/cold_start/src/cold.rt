@@ -42,13 +42,13 @@ pub struct Cold<D: Disk, S: Store, M: MetaLog> {
 }
 
 impl<D: Disk, S: Store, M: MetaLog> Model for Cold<D, S, M> {
-    ghost use Rattle.cold_start.specs.Running.{Running, IsKept};
+    ghost use Rattle.cold_start.specs.Running.{Running, IsRunningSound};
 
     ghost Value = { Running D S M };
 
     ghost view = { λ t. record { world = t.world; reg = t.reg; ended = t.ended } };
 
-    ghost invariant = { λ t. IsKept D.content D.control (record { world = t.world; reg = t.reg; ended = t.ended }) };
+    ghost invariant = { λ t. IsRunningSound D.content D.control (record { world = t.world; reg = t.reg; ended = t.ended }) };
 }
 
 /// What a step returns whose registry couldn't be kept.

@@ -20,10 +20,10 @@ ghost use Rattle.plain_log.specs.Fresh.{fresh as fresh_plain};
 ghost use Rattle.plain_log.specs.Orders.{AreListsFor, IsConfig};
 ghost use Rattle.plain_log.specs.declared.state.State.{State};
 ghost use Rattle.partition_commands.specs.Fresh.{AreFreshDisks, DisksTell, OneFailed};
-ghost use Rattle.partition_world.specs.Fresh.{IsNew};
+ghost use Rattle.partition_world.specs.Fresh.{IsNewWorld};
 ghost use Rattle.partition_world.specs.Left.{IsCentralLeft};
 ghost use Rattle.cold_state.specs.Cold.{cold_of};
-ghost use Rattle.cold_start.specs.Opening.{IsGone, AreUnarmed, AllLast, Starts, Continues, IsOpened, HasCause, ComesBack, GivesBack, refusal_of_world, refusal_of_device};
+ghost use Rattle.cold_start.specs.Opening.{IsGone, AreUnarmed, AllLast, Starts, BeginsFromRegistry, IsPartitionOpened, OpeningHasCause, DevicesComeBack, GivesBack, refusal_of_world, refusal_of_device};
 ghost use Rattle.cold_start.specs.Stands.{StandsFor, IsBlank, LeavesCold};
 
 use crate::cold::{Cold, registry_refusal};
@@ -139,11 +139,11 @@ impl<D: Disk, S: Store, M: MetaLog> Cold<D, S, M> {
         requires count { length devices.disks.items ≡ config.brokers }
         requires disks { AreUnarmed D.control devices.disks.items }
         requires registry { (D.control reg).armed ≡ false }
-        ensures opened { IfOk result (IsOpened D.Disk S.Store M.MetaLog partition config lists
+        ensures opened { IfOk result (IsPartitionOpened D.Disk S.Store M.MetaLog partition config lists
             devices.disks.items devices.store devices.meta reg) }
         ensures going { IfOk result (λ t. t.ended ≡ false) }
         ensures is_observable { IfOk result (λ t. (D.content t.reg).is_observable ≡ (D.content reg).is_observable) }
-        ensures new { IfOk result (λ t. IsNew lists t.world) }
+        ensures new { IfOk result (λ t. IsNewWorld lists t.world) }
 
         // For each plain state that the devices represent its journal is a run from there on, and so it is from the
         // beginning where they hold nothing.
@@ -156,9 +156,10 @@ impl<D: Disk, S: Store, M: MetaLog> Cold<D, S, M> {
             → LeavesCold D.Disk S.Store M.MetaLog opening t.world t.reg) }
 
         // A refusal has its cause, and leaves devices that represent what they represented.
-        ensures cause { IfErr result (λ e. HasCause D.Disk M.MetaLog config devices.disks.items devices.meta reg
+        ensures cause { IfErr result (λ e. OpeningHasCause D.Disk M.MetaLog config devices.disks.items devices.meta reg
             e.0.disks.items e.0.meta e.1 e.2) }
-        ensures back { IfErr result (λ e. ComesBack D.Disk M.MetaLog devices.disks.items devices.store devices.meta reg
+        ensures back { IfErr result
+            (λ e. DevicesComeBack D.Disk M.MetaLog devices.disks.items devices.store devices.meta reg
             e.0.disks.items e.0.store e.0.meta e.1 e.2) }
         ensures stand { IfErr result (λ e. (p : State) → StandsFor D.Disk S.Store M.MetaLog partition devices.disks.items
             devices.store devices.meta reg p → StandsFor D.Disk S.Store M.MetaLog partition e.0.disks.items e.0.store e.0.meta e.1 p) }
@@ -194,15 +195,16 @@ impl<D: Disk, S: Store, M: MetaLog> Cold<D, S, M> {
             devices.disks.items devices.store devices.meta reg) }
         ensures going { IfOk result (λ t. t.ended ≡ false) }
         ensures is_observable { IfOk result (λ t. (D.content t.reg).is_observable ≡ (D.content reg).is_observable) }
-        ensures new { IfOk result (λ t. IsNew lists t.world) }
+        ensures new { IfOk result (λ t. IsNewWorld lists t.world) }
         ensures blank { IfOk result (λ t. DisksTell D.content devices.disks.items
             → IsBlank D.Disk S.Store M.MetaLog devices.store devices.meta reg
             → IsCentralLeft D.Disk S.Store M.MetaLog (fresh_plain config) t.world) }
         ensures cold { IfOk result (λ t. IsTrue (D.content t.reg).is_observable → (opening : State)
             → LeavesCold D.Disk S.Store M.MetaLog opening t.world t.reg) }
-        ensures cause { IfErr result (λ e. HasCause D.Disk M.MetaLog config devices.disks.items devices.meta reg
+        ensures cause { IfErr result (λ e. OpeningHasCause D.Disk M.MetaLog config devices.disks.items devices.meta reg
             e.0.disks.items e.0.meta e.1 e.2) }
-        ensures back { IfErr result (λ e. ComesBack D.Disk M.MetaLog devices.disks.items devices.store devices.meta reg
+        ensures back { IfErr result
+            (λ e. DevicesComeBack D.Disk M.MetaLog devices.disks.items devices.store devices.meta reg
             e.0.disks.items e.0.store e.0.meta e.1 e.2) }
         ensures begun { IfErr result (λ e. DisksTell D.content devices.disks.items
             → IsBlank D.Disk S.Store M.MetaLog devices.store devices.meta reg
@@ -279,18 +281,19 @@ impl<D: Disk, S: Store, M: MetaLog> Cold<D, S, M> {
         requires rules { IsView view }
         requires read { view_in (D.control reg).last_read ≡ Ok view }
         requires there { IsTrue (D.content reg).is_observable → (D.content reg).files RegistryName ≡ Some (D.control reg).last_read }
-        ensures opened { IfOk result (Continues D.Disk S.Store M.MetaLog partition config lists
+        ensures opened { IfOk result (BeginsFromRegistry D.Disk S.Store M.MetaLog partition config lists
             devices.disks.items devices.store devices.meta reg) }
         ensures going { IfOk result (λ t. t.ended ≡ false) }
         ensures is_observable { IfOk result (λ t. (D.content t.reg).is_observable ≡ (D.content reg).is_observable) }
-        ensures new { IfOk result (λ t. IsNew lists t.world) }
+        ensures new { IfOk result (λ t. IsNewWorld lists t.world) }
         ensures central { IfOk result (λ t. (p : State) → StandsFor D.Disk S.Store M.MetaLog partition devices.disks.items
             devices.store devices.meta reg p → IsCentralLeft D.Disk S.Store M.MetaLog p t.world) }
         ensures cold { IfOk result (λ t. IsTrue (D.content t.reg).is_observable → (opening : State)
             → LeavesCold D.Disk S.Store M.MetaLog opening t.world t.reg) }
-        ensures cause { IfErr result (λ e. HasCause D.Disk M.MetaLog config devices.disks.items devices.meta reg
+        ensures cause { IfErr result (λ e. OpeningHasCause D.Disk M.MetaLog config devices.disks.items devices.meta reg
             e.0.disks.items e.0.meta e.1 e.2) }
-        ensures back { IfErr result (λ e. ComesBack D.Disk M.MetaLog devices.disks.items devices.store devices.meta reg
+        ensures back { IfErr result
+            (λ e. DevicesComeBack D.Disk M.MetaLog devices.disks.items devices.store devices.meta reg
             e.0.disks.items e.0.store e.0.meta e.1 e.2) }
         ensures stand { IfErr result (λ e. (p : State) → StandsFor D.Disk S.Store M.MetaLog partition devices.disks.items
             devices.store devices.meta reg p → StandsFor D.Disk S.Store M.MetaLog partition e.0.disks.items e.0.store e.0.meta e.1 p) }

@@ -7,7 +7,7 @@ ghost use Rattle.partition_world.specs.Later.{IsLater};
 ghost use Rattle.partition_world.specs.Reaches.{GoesTimes, GoesUntil, Paces, Reaches};
 ghost use Rattle.partition_world.specs.Turn.{Steps};
 ghost use Rattle.cold_start.specs.Moments.{RunsThrough};
-ghost use Rattle.cold_start.specs.Stepping.{Halts};
+ghost use Rattle.cold_start.specs.Stepping.{HaltsSteps};
 
 use crate::cold::Cold;
 use crate::refusal::ColdRefusal;
@@ -30,7 +30,7 @@ fn turn<D: Disk, S: Store, M: MetaLog>(
         × (stepped ≢ NoMemory)) }
     ensures later { IsLater D.Disk S.Store M.MetaLog cold.old.world cold.new.world }
     ensures going { OnOk result (cold.new.ended ≡ false) }
-    ensures err { IfErr result (λ why. Halts D.Disk S.Store M.MetaLog cold.old cold.new why) }
+    ensures err { IfErr result (λ why. HaltsSteps D.Disk S.Store M.MetaLog cold.old cold.new why) }
     ensures control { Lasts (D.control cold.old.reg) (D.control cold.new.reg) }
     ensures is_observable { (D.content cold.new.reg).is_observable ≡ (D.content cold.old.reg).is_observable }
     ensures during { RunsThrough D.Disk S.Store M.MetaLog cold.old cold.new }
@@ -53,7 +53,7 @@ fn run_until<D: Disk, S: Store, M: MetaLog>(
     ensures later { IsLater D.Disk S.Store M.MetaLog cold.old.world cold.new.world }
     ensures reaches { OnOk result ((turns : ℕ) × GoesUntil D.Disk S.Store M.MetaLog cold.old.world actor.0 number turns cold.new.world) }
     ensures going { OnOk result (cold.new.ended ≡ false) }
-    ensures err { IfErr result (λ why. Halts D.Disk S.Store M.MetaLog cold.old cold.new why) }
+    ensures err { IfErr result (λ why. HaltsSteps D.Disk S.Store M.MetaLog cold.old cold.new why) }
     ensures control { Lasts (D.control cold.old.reg) (D.control cold.new.reg) }
     ensures is_observable { (D.content cold.new.reg).is_observable ≡ (D.content cold.old.reg).is_observable }
     ensures during { RunsThrough D.Disk S.Store M.MetaLog cold.old cold.new }
@@ -78,7 +78,7 @@ fn run_times<D: Disk, S: Store, M: MetaLog>(
     ensures later { IsLater D.Disk S.Store M.MetaLog cold.old.world cold.new.world }
     ensures reaches { OnOk result (GoesTimes D.Disk S.Store M.MetaLog cold.old.world actor.0 turns cold.new.world) }
     ensures going { OnOk result (cold.new.ended ≡ false) }
-    ensures err { IfErr result (λ why. Halts D.Disk S.Store M.MetaLog cold.old cold.new why) }
+    ensures err { IfErr result (λ why. HaltsSteps D.Disk S.Store M.MetaLog cold.old cold.new why) }
     ensures control { Lasts (D.control cold.old.reg) (D.control cold.new.reg) }
     ensures is_observable { (D.content cold.new.reg).is_observable ≡ (D.content cold.old.reg).is_observable }
     ensures during { RunsThrough D.Disk S.Store M.MetaLog cold.old cold.new }
@@ -106,7 +106,7 @@ fn run_pace<D: Disk, S: Store, M: MetaLog>(
     ensures later { IsLater D.Disk S.Store M.MetaLog cold.old.world cold.new.world }
     ensures reaches { OnOk result (Paces D.Disk S.Store M.MetaLog cold.old.world pace cold.new.world) }
     ensures going { OnOk result (cold.new.ended ≡ false) }
-    ensures err { IfErr result (λ why. Halts D.Disk S.Store M.MetaLog cold.old cold.new why) }
+    ensures err { IfErr result (λ why. HaltsSteps D.Disk S.Store M.MetaLog cold.old cold.new why) }
     ensures control { Lasts (D.control cold.old.reg) (D.control cold.new.reg) }
     ensures is_observable { (D.content cold.new.reg).is_observable ≡ (D.content cold.old.reg).is_observable }
     ensures during { RunsThrough D.Disk S.Store M.MetaLog cold.old cold.new }
@@ -128,7 +128,7 @@ pub fn run_cold<D: Disk, S: Store, M: MetaLog>(
     ensures later { IsLater D.Disk S.Store M.MetaLog cold.old.world cold.new.world }
     ensures reaches { OnOk result (Reaches D.Disk S.Store M.MetaLog cold.old.world schedule.now cold.new.world) }
     ensures going { OnOk result (cold.new.ended ≡ false) }
-    ensures err { IfErr result (λ why. Halts D.Disk S.Store M.MetaLog cold.old cold.new why) }
+    ensures err { IfErr result (λ why. HaltsSteps D.Disk S.Store M.MetaLog cold.old cold.new why) }
     ensures control { Lasts (D.control cold.old.reg) (D.control cold.new.reg) }
     ensures is_observable { (D.content cold.new.reg).is_observable ≡ (D.content cold.old.reg).is_observable }
 

@@ -10,7 +10,7 @@ use Rattle.record_batch.specs.Head.{head_of}
 use Rattle.segment_file.specs.declared.walking.Found.TheVariants as found
 use Rattle.segment_file.specs.Walk.{size_in, found_at}
 use Rattle.segment_file.specs.Segment.{IsSegment}
-use Rattle.segment_file.specs.Closed.{Whole, IsWhole}
+use Rattle.segment_file.specs.Closed.{ClosedSegment, IsWholeSegment}
 use Rattle.segment_file.proofs.Finding.{batch_found, head_sized}
 use Rattle.segment_bundle.specs.Parts.{Bundled, IsBundle, parts_of, can_pack}
 use Rattle.copy_task.specs.Source.{first_of, split, batches_in}
@@ -40,7 +40,7 @@ batches_joined base bs bytes s e =
     ap batches_in e ∙ split_joined (length (joined bs)) bs s.checked (omega (arith, many))
 
 -- a closed segment under an id is a copy, unless it is packed and can't be
-pub is_copied : (copy : Copied) → copy.parts ≡ parts_of (batches_in copy.segment.bytes) copy.line copy.interval → IsWhole copy.segment
+pub is_copied : (copy : Copied) → copy.parts ≡ parts_of (batches_in copy.segment.bytes) copy.line copy.interval → IsWholeSegment copy.segment
     → (copy.packed ≡ true → can_pack copy.parts ≡ true) → IsCopied copy
 is_copied copy parts w packs = record {
   batches = w.batches;

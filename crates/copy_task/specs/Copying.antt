@@ -8,7 +8,7 @@ use Rattle.tier_base.specs.Layout.{layout_bytes}
 use Rattle.log_terms.specs.Line.{line_of}
 use Rattle.log_terms.specs.Log.{joined, end_from}
 use Rattle.segment_file.specs.Segment.{IsSegment, greatest_ts}
-use Rattle.segment_file.specs.Closed.{Whole}
+use Rattle.segment_file.specs.Closed.{ClosedSegment}
 use Rattle.segment_bundle.specs.Parts.{Parts, Bundled, parts_of, layout_of, can_pack}
 use Rattle.object_store.specs.Place.{keys_of}
 use Rattle.segment_meta.specs.declared.note.Entry.{Entry}
@@ -26,7 +26,7 @@ pub record Copied : Type 0 where
   pub id : SegmentId
   pub partition : PartitionId
   pub packed : Bool
-  pub segment : Whole
+  pub segment : ClosedSegment
   pub line : List (ℕ × ℕ)
   pub interval : ℕ
   pub parts : Parts
@@ -45,7 +45,7 @@ pub record IsCopied (copy : Copied) : Type 0 where
   pub packs : copy.packed ≡ true → can_pack copy.parts ≡ true
 
 -- the copy of a closed segment: its parts are those of the batches that the segment's bytes are
-abbrev pub copied_of : SegmentId → PartitionId → Bool → Whole → List (ℕ × ℕ) → ℕ → Copied
+abbrev pub copied_of : SegmentId → PartitionId → Bool → ClosedSegment → List (ℕ × ℕ) → ℕ → Copied
 copied_of id partition packed segment line interval = record {
   id = id;
   partition = partition;

@@ -24,12 +24,12 @@ use Rattle.tier_base.specs.Device.{Control, Fate, Went, Fault, Dry}
 use Rattle.segment_bundle.specs.Parts.{part_in}
 use Rattle.object_store.specs.Call as store_call
 use Rattle.object_store.specs.Content as store
-use Rattle.object_store.specs.Calls.{Puts, Deletes}
+use Rattle.object_store.specs.Calls.{PutsObject, DeletesObject}
 use Rattle.object_store.specs.Place.{whole, spot_of}
 use Rattle.meta_log.specs.Call as meta_call
-use Rattle.meta_log.specs.Calls.{Appends}
+use Rattle.meta_log.specs.Calls.{AppendsToMetaLog}
 use Rattle.meta_log.specs.Content as meta
-use Rattle.remote_view.specs.Fold.{Seen, state_of}
+use Rattle.remote_view.specs.Fold.{EntriesSeen, state_of}
 use Rattle.view_refresh.specs.Refreshing.{Refreshed, Unread, Halted}
 use Rattle.plain_log.specs.declared.answer.Answer.{Answer}
 use Rattle.plain_log.specs.declared.answer.Answer.TheVariants.{MetaFault, StoreFault, Damaged, CopiedSegment, Overtaken}
@@ -53,7 +53,7 @@ overtaken notes None = Damaged Meta notes
 overtaken notes (Some state) = Overtaken state
 
 -- the turn that takes the object of a number away, where it has a key, or the answer after the last
-abbrev pub delete_at : Copied → Seen → ℕ → Option ObjectKey → CopyTurn
+abbrev pub delete_at : Copied → EntriesSeen → ℕ → Option ObjectKey → CopyTurn
 delete_at copy view n None = Ends (overtaken view.notes (state_of copy.id view.entries))
 delete_at copy view n (Some key) = Goes (Delete n)
 
@@ -69,18 +69,21 @@ checked copy notes None = Ends (Damaged Meta notes)
 module _ {M : Type 0} (notes : M → meta.Content) (calls : M → Control meta_call.call_code) where
   -- the copy starts
   abbrev pub StartRow : Copied → EventOrigin → Result CopyTurn AllocError → M → M → Type 0
-  StartRow copy origin (Ok (Ends MetaFault)) old new = Appends notes calls (start_note copy origin) Fault old new
-  StartRow copy origin (Ok turn) old new = (turn ≡ Goes (Put 0)) × Appends notes calls (start_note copy origin) Went old new
-  StartRow copy origin (Err e) old new = (new ≡ old) ⊎ Appends notes calls (start_note copy origin) Dry old new
+  StartRow copy origin (Ok (Ends MetaFault)) old new =
+      AppendsToMetaLog notes calls (start_note copy origin) Fault old new
+  StartRow copy origin (Ok turn) old new = (turn ≡ Goes (Put 0)) × AppendsToMetaLog notes calls (start_note copy origin) Went old new
+  StartRow copy origin (Err e) old new = (new ≡ old) ⊎ AppendsToMetaLog notes calls (start_note copy origin) Dry old new
 
   -- it is whole
   abbrev pub FinishRow : Copied → EventOrigin → Result CopyTurn AllocError → M → M → Type 0
-  FinishRow copy origin (Ok (Ends MetaFault)) old new = Appends notes calls (finish_note copy origin) Fault old new
-  FinishRow copy origin (Ok turn) old new = (turn ≡ Goes Check) × Appends notes calls (finish_note copy origin) Went old new
-  FinishRow copy origin (Err e) old new = (new ≡ old) ⊎ Appends notes calls (finish_note copy origin) Dry old new
+  FinishRow copy origin (Ok (Ends MetaFault)) old new =
+      AppendsToMetaLog notes calls (finish_note copy origin) Fault old new
+  FinishRow copy origin (Ok turn) old new = (turn ≡ Goes Check) × AppendsToMetaLog notes calls (finish_note copy origin) Went old new
+  FinishRow copy origin (Err e) old new =
+      (new ≡ old) ⊎ AppendsToMetaLog notes calls (finish_note copy origin) Dry old new
 
   -- the state of its entry
-  abbrev pub CheckRow : Copied → Result CopyTurn AllocError → Seen → Seen → M → M → Type 0
+  abbrev pub CheckRow : Copied → Result CopyTurn AllocError → EntriesSeen → EntriesSeen → M → M → Type 0
   CheckRow copy (Ok (Ends MetaFault)) before after old new = Unread notes calls before after old new
   CheckRow copy (Ok turn) before after old new =
       (turn ≡ checked copy after.notes (state_of copy.id after.entries)) × Refreshed notes calls before after old new
@@ -91,42 +94,43 @@ module _ {S : Type 0} (objects : S → store.Content) (calls : S → Control sto
   pub record PutsUnder (copy : Copied) (key : ObjectKey) (fate : Fate) (old new : S) : Type 0 where
     pub part : Part
     pub place : spot_of copy.partition copy.id false None part ≡ Some (whole key)
-    pub puts : Puts objects calls key (part_in copy.parts part) fate old new
+    pub puts : PutsObject objects calls key (part_in copy.parts part) fate old new
 
   -- the object of a number is put, where it has a key
-  abbrev pub PutRow : Copied → ℕ → Option ObjectKey → Result CopyTurn AllocError → S → S → Type 0
-  PutRow copy n None result old new = (result ≡ Ok (Goes Finish)) × (new ≡ old)
-  PutRow copy n (Some key) (Ok (Ends StoreFault)) old new = PutsUnder copy key Fault old new
-  PutRow copy n (Some key) (Ok turn) old new =
+  abbrev pub PutObjectRow : Copied → ℕ → Option ObjectKey → Result CopyTurn AllocError → S → S → Type 0
+  PutObjectRow copy n None result old new = (result ≡ Ok (Goes Finish)) × (new ≡ old)
+  PutObjectRow copy n (Some key) (Ok (Ends StoreFault)) old new = PutsUnder copy key Fault old new
+  PutObjectRow copy n (Some key) (Ok turn) old new =
       (turn ≡ Goes (put_at (n + 1) (slice_get (keys copy) (n + 1)))) × PutsUnder copy key Went old new
-  PutRow copy n (Some key) (Err e) old new = (new ≡ old) ⊎ PutsUnder copy key Dry old new
+  PutObjectRow copy n (Some key) (Err e) old new = (new ≡ old) ⊎ PutsUnder copy key Dry old new
 
   -- the object of a number is taken away, where it has a key
-  abbrev pub DeleteRow : Copied → Seen → ℕ → Option ObjectKey → CopyTurn → S → S → Type 0
+  abbrev pub DeleteRow : Copied → EntriesSeen → ℕ → Option ObjectKey → CopyTurn → S → S → Type 0
   DeleteRow copy view n None turn old new = (turn ≡ delete_at copy view n None) × (new ≡ old)
-  DeleteRow copy view n (Some key) (Ends StoreFault) old new = Deletes objects calls key Fault old new
+  DeleteRow copy view n (Some key) (Ends StoreFault) old new = DeletesObject objects calls key Fault old new
   DeleteRow copy view n (Some key) turn old new =
-      (turn ≡ delete_at copy view (n + 1) (slice_get (keys copy) (n + 1))) × Deletes objects calls key Went old new
+      (turn ≡ delete_at copy view (n + 1) (slice_get (keys copy) (n + 1)))
+      × DeletesObject objects calls key Went old new
 
 -- what a copy's turns change: its broker's view, the store and the metadata log
 pub record Tiers (S M : Type 0) : Type 0 where
-  pub view : Seen
+  pub view : EntriesSeen
   pub store : S
   pub meta : M
 
 module _ {S M : Type 0} (objects : S → store.Content) (calls : S → Control store_call.call_code)
     (notes : M → meta.Content) (notings : M → Control meta_call.call_code) where
   -- a turn of a copy, by what was next: what it came to, or that it ran out of memory
-  abbrev pub CopyRow : Copied → EventOrigin → CopyStep → Result CopyTurn AllocError → Tiers S M → Tiers S M → Type 0
-  CopyRow copy origin Start result old new =
+  abbrev pub CopyTurnRow : Copied → EventOrigin → CopyStep → Result CopyTurn AllocError → Tiers S M → Tiers S M → Type 0
+  CopyTurnRow copy origin Start result old new =
       (new ≡ record old { meta = new.meta }) × StartRow notes notings copy origin result old.meta new.meta
-  CopyRow copy origin (Put n) result old new =
-      (new ≡ record old { store = new.store }) × PutRow objects calls copy n (slice_get (keys copy) n) result old.store new.store
-  CopyRow copy origin Finish result old new =
+  CopyTurnRow copy origin (Put n) result old new =
+      (new ≡ record old { store = new.store }) × PutObjectRow objects calls copy n (slice_get (keys copy) n) result old.store new.store
+  CopyTurnRow copy origin Finish result old new =
       (new ≡ record old { meta = new.meta }) × FinishRow notes notings copy origin result old.meta new.meta
-  CopyRow copy origin Check result old new =
+  CopyTurnRow copy origin Check result old new =
       (new.store ≡ old.store) × CheckRow notes notings copy result old.view new.view old.meta new.meta
-  CopyRow copy origin (Delete n) (Ok turn) old new =
+  CopyTurnRow copy origin (Delete n) (Ok turn) old new =
       (new ≡ record old { store = new.store })
       × DeleteRow objects calls copy old.view n (slice_get (keys copy) n) turn old.store new.store
-  CopyRow copy origin (Delete n) (Err e) old new = ⊥
+  CopyTurnRow copy origin (Delete n) (Err e) old new = ⊥

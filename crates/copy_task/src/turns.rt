@@ -3,7 +3,7 @@
 ghost use Rattle.std.specs.Prelude.{◌≡◌, slice_get};
 ghost use Rattle.remote_view.specs.Fold.{state_of};
 ghost use Rattle.copy_task.specs.Copying.{keys};
-ghost use Rattle.copy_task.specs.Turns.{Tiers, put_at, delete_at, overtaken, checked, StartRow, PutRow, FinishRow, CheckRow, DeleteRow, CopyRow};
+ghost use Rattle.copy_task.specs.Turns.{Tiers, put_at, delete_at, overtaken, checked, StartRow, PutObjectRow, FinishRow, CheckRow, DeleteRow, CopyTurnRow};
 
 use crate::copying::Copying;
 use crate::turn::{CopyStep, CopyTurn};
@@ -25,7 +25,7 @@ pub fn copy_turn<S: Store, M: MetaLog>(
     store: &mut S,
     meta: &mut M,
 ) -> Result<CopyTurn, AllocError>
-    ensures row { CopyRow S.content S.control M.content M.control copying.old origin next result
+    ensures row { CopyTurnRow S.content S.control M.content M.control copying.old origin next result
         (record { view = view.old; store = store.old; meta = meta.old })
         (record { view = view.new; store = store.new; meta = meta.new }) }
     ensures same { copying.new ≡ copying.old }
@@ -63,7 +63,7 @@ fn put<S: Store>(
     n: u8,
     store: &mut S,
 ) -> Result<CopyTurn, AllocError>
-    ensures row { PutRow S.content S.control copying.old n (slice_get (keys copying.old) n) result
+    ensures row { PutObjectRow S.content S.control copying.old n (slice_get (keys copying.old) n) result
         store.old store.new }
     ensures same { copying.new ≡ copying.old }
 {

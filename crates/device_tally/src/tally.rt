@@ -3,7 +3,7 @@
 ghost use Rattle.std.specs.Prelude.{◌≡◌, ◌<◌, [], List, ℕ};
 ghost use Rattle.std.proofs.Math.ListN.{set, get_or};
 ghost use Rattle.tier_base.specs.Counts.{counted};
-ghost use Rattle.tier_base.specs.Device.{Fault, Ran, Arms, IsFresh, fate_of, failing};
+ghost use Rattle.tier_base.specs.Device.{Fault, Ran, Arms, IsFreshDevice, fate_of, failing};
 ghost use Rattle.device_tally.specs.Tally.{Counts, control_of};
 
 use std::marker::{Model, PhantomData};
@@ -29,7 +29,7 @@ impl<K: CallKind> Model for Tally<K> {
 impl<K: CallKind> Tally<K> {
     /// Counts nothing yet, and isn't armed.
     pub fn new() -> Tally<K>
-        ensures fresh { IsFresh (control_of K.code result []) }
+        ensures fresh { IsFreshDevice (control_of K.code result []) }
     {
         Tally {
             kind: PhantomData,

@@ -7,7 +7,7 @@ use Rattle.tier_base.specs.declared.object_key.ObjectKey.{ObjectKey}
 use Rattle.disk_model.specs.Content as disk
 use Rattle.object_store.specs.Content as store
 use Rattle.meta_log.specs.Content as log
-use Rattle.device_yard.specs.YardContent.{YardContent, Has, HandsDisk, HandsStore, HandsLog}
+use Rattle.device_yard.specs.YardContent.{YardContent, IsThereWith, HandsDisk, HandsStore, HandsLog}
 use Rattle.device_yard.specs.Laws.{NamelessHasNoTier, TierlessIsEmpty, RegistryIsAbsent}
 
 -- nothing is there
@@ -21,16 +21,16 @@ no_item [] empty = refl
 no_item (x ∷ xs) empty = absurd (empty (λ e. cc))
 
 module _ {D S M : Type 0} (files : D → disk.Content) (objects : S → store.Content) (notes : M → log.Content) where
-  registry_absent : (o : Option D) (d : D) → HandsDisk files o (files d) → (Has (λ d. IsSome ((files d).files Registry)) o → ⊥) → (files d).files Registry ≡ None
+  registry_absent : (o : Option D) (d : D) → HandsDisk files o (files d) → (IsThereWith (λ d. IsSome ((files d).files Registry)) o → ⊥) → (files d).files Registry ≡ None
   registry_absent None d hands without = hands.files Registry
   registry_absent (Some x) d hands without = hands.files Registry ∙ none_there ((files x).files Registry) without
 
   store_empty : (o : Option S) (s : S) → HandsStore objects o (objects s)
-      → (Has (λ s. (k : ObjectKey) × IsSome ((objects s).objects k)) o → ⊥) → (k : ObjectKey) → (objects s).objects k ≡ None
+      → (IsThereWith (λ s. (k : ObjectKey) × IsSome ((objects s).objects k)) o → ⊥) → (k : ObjectKey) → (objects s).objects k ≡ None
   store_empty None s hands unused k = hands.objects k
   store_empty (Some x) s hands unused k = hands.objects k ∙ none_there ((objects x).objects k) (λ some. unused (k, some))
 
-  log_empty : (o : Option M) (m : M) → HandsLog notes o (notes m) → (Has (λ m. (notes m).notes ≢ []) o → ⊥) → (notes m).notes ≡ []
+  log_empty : (o : Option M) (m : M) → HandsLog notes o (notes m) → (IsThereWith (λ m. (notes m).notes ≢ []) o → ⊥) → (notes m).notes ≡ []
   log_empty None m hands unused = hands.notes
   log_empty (Some x) m hands unused = hands.notes ∙ no_item (notes x).notes unused
 

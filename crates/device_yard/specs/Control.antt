@@ -31,14 +31,14 @@ pub record Control : Type 0 where
   pub out : ℕ
 
 -- an environment that was just made
-pub record IsFresh (c : Control) : Type 0 where
+pub record IsFreshYard (c : Control) : Type 0 where
   pub faults : c.faults ≡ 0
   pub returned : c.returned ≡ []
   pub registries : c.registries ≡ []
   pub out : c.out ≡ 0
 
 -- how many faults there are after a call that ended so
-pub record Faults (fate : Fate) (before now : ℕ) : Type 0 where
+pub record CountsFault (fate : Fate) (before now : ℕ) : Type 0 where
   pub went : fate ≡ Went → now ≡ before
   pub fault : fate ≡ Fault → now ≡ counted before 1
   pub dry : fate ≡ Dry → now ≡ before
@@ -48,16 +48,16 @@ abbrev pub named_after : Result (Option (List ℕ)) Trouble → Option (List ℕ
 named_after (Ok name) before = name
 named_after (Err e) before = before
 
-pub record Names (result : Result (Option (List ℕ)) Trouble) (old new : Control) : Type 0 where
-  pub faults : Faults (fate_of result) old.faults new.faults
+pub record NamesFirst (result : Result (Option (List ℕ)) Trouble) (old new : Control) : Type 0 where
+  pub faults : CountsFault (fate_of result) old.faults new.faults
   pub named : new.named ≡ named_after result old.named
   pub returned : new.returned ≡ old.returned
   pub registries : new.registries ≡ old.registries
   pub out : new.out ≡ old.out
 
 -- a call that answers something and provides nothing
-pub record Asks (fate : Fate) (old new : Control) : Type 0 where
-  pub faults : Faults fate old.faults new.faults
+pub record AsksYard (fate : Fate) (old new : Control) : Type 0 where
+  pub faults : CountsFault fate old.faults new.faults
   pub named : new.named ≡ old.named
   pub returned : new.returned ≡ old.returned
   pub registries : new.registries ≡ old.registries
@@ -70,7 +70,7 @@ out_after Fault n = n
 out_after Dry n = n
 
 pub record Hands (fate : Fate) (old new : Control) : Type 0 where
-  pub faults : Faults fate old.faults new.faults
+  pub faults : CountsFault fate old.faults new.faults
   pub named : new.named ≡ old.named
   pub returned : new.returned ≡ old.returned
   pub registries : new.registries ≡ old.registries
@@ -78,7 +78,7 @@ pub record Hands (fate : Fate) (old new : Control) : Type 0 where
 
 -- a device that was counted couldn't be opened, and isn't provided
 pub record Withdraws (why : Trouble) (old new : Control) : Type 0 where
-  pub faults : Faults (fate_of_trouble why) old.faults new.faults
+  pub faults : CountsFault (fate_of_trouble why) old.faults new.faults
   pub named : new.named ≡ old.named
   pub returned : new.returned ≡ old.returned
   pub registries : new.registries ≡ old.registries

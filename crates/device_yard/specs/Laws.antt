@@ -11,12 +11,13 @@ use Rattle.tier_base.specs.declared.plain.FileName.TheVariants.{Registry}
 use Rattle.disk_model.specs.Content as disk
 use Rattle.object_store.specs.Content as store
 use Rattle.meta_log.specs.Content as log
-use Rattle.device_yard.specs.YardContent.{YardContent, IsName, IsFirst, HasTier, HasRegistry, HandsDisk, HandsStore, HandsLog}
+use Rattle.device_yard.specs.YardContent.{YardContent, IsNameInYard, IsFirstName, HasTier, HasRegistry, HandsDisk, HandsStore, HandsLog}
 
 module _ {D S M : Type 0} (files : D → disk.Content) (objects : S → store.Content) (notes : M → log.Content) where
   -- where nothing is named, a partition without a registry has no object and no metadata event
   abbrev pub NamelessHasNoTier : Type 0
-  NamelessHasNoTier = (held : YardContent D S M) → IsFirst (IsName files objects notes held) None → (p : PartitionId)
+  NamelessHasNoTier =
+      (held : YardContent D S M) → IsFirstName (IsNameInYard files objects notes held) None → (p : PartitionId)
       → (HasRegistry files objects notes held p → ⊥) → HasTier files objects notes held p → ⊥
 
   -- the store and the log that may be provided are empty

@@ -18,9 +18,9 @@ abbrev pub next_of : Plan → ℕ
 next_of plan = min (plan.calls + 1) (2 ^ 32 - 1)
 
 -- a call that ended so: where there is a plan, it failed exactly where the plan has its number
-abbrev pub Counts : Fate → Option Plan → Option Plan → Type 0
-Counts fate None new = new ≡ None
-Counts fate (Some plan) new = ((fate ≡ Fault) ↔ Contains plan.failing (next_of plan)) × (new ≡ Some (record plan { calls = next_of plan }))
+abbrev pub CountsCall : Fate → Option Plan → Option Plan → Type 0
+CountsCall fate None new = new ≡ None
+CountsCall fate (Some plan) new = ((fate ≡ Fault) ↔ Contains plan.failing (next_of plan)) × (new ≡ Some (record plan { calls = next_of plan }))
 
 -- a call that opens what it provides: it fails where the plan has its number, and else only where opening fails
 abbrev pub CountsOpening : Fate → Option Plan → Option Plan → Type 0

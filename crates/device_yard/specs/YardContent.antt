@@ -1,12 +1,12 @@
 -- What an environment holds, where it is observable: the devices that came back, and names of strangers.
 --
 --   form                     says
---   IsUsed held p            a file, an object or a metadata event of the partition exists
+--   HasAnything held p            a file, an object or a metadata event of the partition exists
 --   HasTier held p           an object or a metadata event does
 --   IsBare held p            so it is, and it has no registry
 --   AreUsed held list        the list has those partitions and no others
 --   Rise list                its numbers rise strictly
---   IsFirst Named name       the first of the names, or none
+--   IsFirstName Named name       the first of the names, or none
 --   HandsDisk files held c   a disk with this content is provided where that is held
 --   DiskIs p b now old new   that disk is held now, or none, and the rest stays
 --   RegistryIs p P old new   so does all but the disk of that registry, of which P holds
@@ -39,9 +39,9 @@ pub record YardContent (D S M : Type 0) : Type 0 where
   pub registries : PartitionId → Option D
 
 -- it is there, and has P
-abbrev pub Has : {X : Type 0} → (X → Type 0) → Option X → Type 0
-Has P None = ⊥
-Has P (Some x) = P x
+abbrev pub IsThereWith : {X : Type 0} → (X → Type 0) → Option X → Type 0
+IsThereWith P None = ⊥
+IsThereWith P (Some x) = P x
 
 -- neither is there, or both are, and R is between them
 abbrev pub Both : {X : Type 0} → (X → X → Type 0) → Option X → Option X → Type 0
@@ -50,15 +50,15 @@ Both R (Some x) (Some y) = R x y
 Both R a b = ⊥
 
 -- a text precedes another, or is it
-abbrev pub IsUpTo : List ℕ → List ℕ → Type 0
-IsUpTo [] bs = Unit {0}
-IsUpTo (a ∷ more) [] = ⊥
-IsUpTo (a ∷ more) (b ∷ bs) = (a < b) ⊎ ((a ≡ b) × IsUpTo more bs)
+abbrev pub IsNameUpTo : List ℕ → List ℕ → Type 0
+IsNameUpTo [] bs = Unit {0}
+IsNameUpTo (a ∷ more) [] = ⊥
+IsNameUpTo (a ∷ more) (b ∷ bs) = (a < b) ⊎ ((a ≡ b) × IsNameUpTo more bs)
 
 -- the first of the names, or none where there is none
-abbrev pub IsFirst : (List ℕ → Type 0) → Option (List ℕ) → Type 0
-IsFirst Named None = (text : List ℕ) → Named text → ⊥
-IsFirst Named (Some name) = Named name × ((text : List ℕ) → Named text → IsUpTo name text)
+abbrev pub IsFirstName : (List ℕ → Type 0) → Option (List ℕ) → Type 0
+IsFirstName Named None = (text : List ℕ) → Named text → ⊥
+IsFirstName Named (Some name) = Named name × ((text : List ℕ) → Named text → IsNameUpTo name text)
 
 -- the numbers rise strictly: each is below all after it
 abbrev pub Rise : List PartitionId → Type 0
@@ -109,21 +109,21 @@ module _ {D S M : Type 0} where
 
 module _ {D S M : Type 0} (files : D → disk.Content) (objects : S → store.Content) (notes : M → log.Content) where
   -- the partition is in use
-  abbrev pub IsUsed : YardContent D S M → PartitionId → Type 0
-  IsUsed held p =
-      ((b : BrokerId) × Has (λ d. (n : FileName) × IsSome ((files d).files n)) (held.disks p b))
-      ⊎ (Has (λ s. (k : ObjectKey) × IsSome ((objects s).objects k)) (held.stores p)
-      ⊎ Has (λ m. (notes m).notes ≢ []) (held.logs p))
+  abbrev pub HasAnything : YardContent D S M → PartitionId → Type 0
+  HasAnything held p =
+      ((b : BrokerId) × IsThereWith (λ d. (n : FileName) × IsSome ((files d).files n)) (held.disks p b))
+      ⊎ (IsThereWith (λ s. (k : ObjectKey) × IsSome ((objects s).objects k)) (held.stores p)
+      ⊎ IsThereWith (λ m. (notes m).notes ≢ []) (held.logs p))
 
   -- an object or a metadata event of the partition exists
   abbrev pub HasTier : YardContent D S M → PartitionId → Type 0
   HasTier held p =
-      Has (λ s. (k : ObjectKey) × IsSome ((objects s).objects k)) (held.stores p)
-      ⊎ Has (λ m. (notes m).notes ≢ []) (held.logs p)
+      IsThereWith (λ s. (k : ObjectKey) × IsSome ((objects s).objects k)) (held.stores p)
+      ⊎ IsThereWith (λ m. (notes m).notes ≢ []) (held.logs p)
 
   -- its registry's file does
   abbrev pub HasRegistry : YardContent D S M → PartitionId → Type 0
-  HasRegistry held p = Has (λ d. IsSome ((files d).files Registry)) (held.registries p)
+  HasRegistry held p = IsThereWith (λ d. IsSome ((files d).files Registry)) (held.registries p)
 
   -- it has an object or a metadata event, and no registry
   abbrev pub IsBare : YardContent D S M → PartitionId → Type 0
@@ -131,11 +131,11 @@ module _ {D S M : Type 0} (files : D → disk.Content) (objects : S → store.Co
 
   -- the list has the partitions in use
   abbrev pub AreUsed : YardContent D S M → List PartitionId → Type 0
-  AreUsed held list = (p : PartitionId) → IsUsed held p ↔ In p list
+  AreUsed held list = (p : PartitionId) → HasAnything held p ↔ In p list
 
   -- nothing of it exists
   abbrev pub IsUnused : YardContent D S M → PartitionId → Type 0
-  IsUnused held p = IsUsed held p → ⊥
+  IsUnused held p = HasAnything held p → ⊥
 
   -- nor of any partition from that number on
   abbrev pub IsUnusedFrom : ℕ → YardContent D S M → Type 0
@@ -151,8 +151,8 @@ module _ {D S M : Type 0} (files : D → disk.Content) (objects : S → store.Co
     pub registries : (p : PartitionId) → Both (λ d e. disk.Keeps (files d) (files e)) (old.registries p) (new.registries p)
 
   -- a name that is in the environment
-  abbrev pub IsName : YardContent D S M → List ℕ → Type 0
-  IsName held text = In text held.strays ⊎ ((p : PartitionId) × IsBare held p × (text ≡ codes "p" ++ decimal p.0))
+  abbrev pub IsNameInYard : YardContent D S M → List ℕ → Type 0
+  IsNameInYard held text = In text held.strays ⊎ ((p : PartitionId) × IsBare held p × (text ≡ codes "p" ++ decimal p.0))
 
 -- none is there
 abbrev pub IsOut : {X : Type 0} → Option X → Type 0
@@ -160,7 +160,7 @@ IsOut held = held ≡ None
 
 -- a disk that came back is there, with what it held
 abbrev pub HoldsDisk : {D : Type 0} → (D → disk.Content) → D → Option D → Type 0
-HoldsDisk files d held = Has (λ e. disk.Keeps (files d) (files e)) held
+HoldsDisk files d held = IsThereWith (λ e. disk.Keeps (files d) (files e)) held
 
 -- a disk that is provided has what came back, or nothing
 abbrev pub HandsDisk : {D : Type 0} → (D → disk.Content) → Option D → disk.Content → Type 0

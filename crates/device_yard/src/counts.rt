@@ -4,7 +4,7 @@
 ghost use Rattle.std.specs.Prelude.{◌≡◌, ◌↔◌, ◌+◌, ◌<◌, ◌≤◌, ◌^◌, if◌then◌else◌, Ok, None, IfOk, OnOk};
 ghost use Rattle.tier_base.specs.Counts.{counted};
 ghost use Rattle.tier_base.specs.Device.{Fault, fate_of};
-ghost use Rattle.device_yard.specs.Control.{IsFresh, Names, Asks, Hands, Withdraws, TakesBack, TakesRegistry};
+ghost use Rattle.device_yard.specs.Control.{IsFreshYard, NamesFirst, AsksYard, Hands, Withdraws, TakesBack, TakesRegistry};
 
 use crate::came::Came;
 use crate::read_registry::ReadRegistry;
@@ -44,7 +44,7 @@ impl Model for YardCounts {
 impl YardCounts {
     /// Counts nothing yet, without memory.
     pub fn new(alloc: Global) -> YardCounts
-        ensures fresh { IsFresh result }
+        ensures fresh { IsFreshYard result }
         ensures named { result.named ≡ None }
     {
         YardCounts {
@@ -88,7 +88,7 @@ impl YardCounts {
 
     /// Records the first name as it was found, and returns it. Fails if a device call fails or memory runs out.
     pub fn name(&mut self, found: Result<Option<Blob>, Trouble>) -> Result<Option<Blob>, Trouble>
-        ensures names { Names result self.old self.new }
+        ensures names { NamesFirst result self.old self.new }
         ensures found { IfOk result (λ name. found ≡ Ok name) }
         ensures failed { (fate_of result ≡ Fault) ↔ (fate_of found ≡ Fault) }
     {
@@ -107,7 +107,7 @@ impl YardCounts {
 
     /// Counts a call that provides nothing, and returns what it found. Fails if a device call fails or memory runs out.
     pub fn ask<T: Drop>(&mut self, found: Result<T, Trouble>) -> Result<T, Trouble>
-        ensures asks { Asks (fate_of found) self.old self.new }
+        ensures asks { AsksYard (fate_of found) self.old self.new }
         ensures found { result ≡ found }
     {
         let failed = matches!(&found, Err(Trouble::Failed));

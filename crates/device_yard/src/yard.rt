@@ -4,11 +4,11 @@
 //! one of the four `keep` calls, which can't be refused: the call that provided the device reserved the room.
 
 ghost use Rattle.std.specs.Prelude.{◌≡◌, ◌≤◌, Option, Some, None, IfOk, OnOk, OnErr, IsTrue};
-ghost use Rattle.tier_base.specs.Device.{fate_of, IsFresh};
+ghost use Rattle.tier_base.specs.Device.{fate_of, IsFreshDevice};
 ghost use Rattle.device_yard.specs.declared.came.Came.{Came};
-ghost use Rattle.device_yard.specs.Control.{Control, Names, Asks, Hands, TakesBack, TakesRegistry};
-ghost use Rattle.device_yard.specs.Plan.{Plan, Counts, CountsOpening};
-ghost use Rattle.device_yard.specs.YardContent.{YardContent, Same, DiskIs, StoreIs, LogIs, RegistryIs, IsOut, HoldsDisk, IsName, IsFirst, AreUsed, Rise, HandsDisk, HandsStore, HandsLog};
+ghost use Rattle.device_yard.specs.Control.{Control, NamesFirst, AsksYard, Hands, TakesBack, TakesRegistry};
+ghost use Rattle.device_yard.specs.Plan.{Plan, CountsCall, CountsOpening};
+ghost use Rattle.device_yard.specs.YardContent.{YardContent, Same, DiskIs, StoreIs, LogIs, RegistryIs, IsOut, HoldsDisk, IsNameInYard, IsFirstName, AreUsed, Rise, HandsDisk, HandsStore, HandsLog};
 
 use disk_model::Disk;
 use meta_log::MetaLog;
@@ -35,17 +35,17 @@ pub trait Yard {
 
     /// Gives the first of the names in the order of their bytes, if there is one.
     fn first_name(&mut self) -> Result<Option<Blob>, Trouble>
-        ensures control { Names result (control self.old) (control self.new) }
-        ensures plan { Counts (fate_of result) (plan self.old) (plan self.new) }
+        ensures control { NamesFirst result (control self.old) (control self.new) }
+        ensures plan { CountsCall (fate_of result) (plan self.old) (plan self.new) }
         ensures held { Same Self.D.content Self.S.content Self.M.content
             (held self.old) (held self.new) }
         ensures first { IsTrue (held self.old).is_observable → IfOk result
-            (IsFirst (IsName Self.D.content Self.S.content Self.M.content (held self.old))) };
+            (IsFirstName (IsNameInYard Self.D.content Self.S.content Self.M.content (held self.old))) };
 
     /// Names the partitions in use, in rising order.
     fn partitions(&mut self) -> Result<Row<PartitionId>, Trouble>
-        ensures control { Asks (fate_of result) (control self.old) (control self.new) }
-        ensures plan { Counts (fate_of result) (plan self.old) (plan self.new) }
+        ensures control { AsksYard (fate_of result) (control self.old) (control self.new) }
+        ensures plan { CountsCall (fate_of result) (plan self.old) (plan self.new) }
         ensures held { Same Self.D.content Self.S.content Self.M.content
             (held self.old) (held self.new) }
         ensures rise { IfOk result Rise }
@@ -55,9 +55,9 @@ pub trait Yard {
     /// Provides a broker's disk.
     fn disk(&mut self, partition: PartitionId, broker: BrokerId) -> Result<Self::D, Trouble>
         ensures control { Hands (fate_of result) (control self.old) (control self.new) }
-        ensures plan { Counts (fate_of result) (plan self.old) (plan self.new) }
+        ensures plan { CountsCall (fate_of result) (plan self.old) (plan self.new) }
         ensures is_observable { (held self.new).is_observable ≡ (held self.old).is_observable }
-        ensures fresh { IfOk result (λ disk. IsFresh (Self.D.control disk)) }
+        ensures fresh { IfOk result (λ disk. IsFreshDevice (Self.D.control disk)) }
         ensures told { IfOk result (λ disk. (Self.D.content disk).is_observable ≡ (held self.old).is_observable) }
         ensures content { IsTrue (held self.old).is_observable → IfOk result (λ disk.
             HandsDisk Self.D.content ((held self.old).disks partition broker) (Self.D.content disk)) }
@@ -69,9 +69,9 @@ pub trait Yard {
     /// Provides a partition's store.
     fn store(&mut self, partition: PartitionId) -> Result<Self::S, Trouble>
         ensures control { Hands (fate_of result) (control self.old) (control self.new) }
-        ensures plan { Counts (fate_of result) (plan self.old) (plan self.new) }
+        ensures plan { CountsCall (fate_of result) (plan self.old) (plan self.new) }
         ensures is_observable { (held self.new).is_observable ≡ (held self.old).is_observable }
-        ensures fresh { IfOk result (λ store. IsFresh (Self.S.control store)) }
+        ensures fresh { IfOk result (λ store. IsFreshDevice (Self.S.control store)) }
         ensures told { IfOk result (λ store. (Self.S.content store).is_observable ≡ (held self.old).is_observable) }
         ensures content { IsTrue (held self.old).is_observable → IfOk result (λ store.
             HandsStore Self.S.content ((held self.old).stores partition) (Self.S.content store)) }
@@ -85,7 +85,7 @@ pub trait Yard {
         ensures control { Hands (fate_of result) (control self.old) (control self.new) }
         ensures plan { CountsOpening (fate_of result) (plan self.old) (plan self.new) }
         ensures is_observable { (held self.new).is_observable ≡ (held self.old).is_observable }
-        ensures fresh { IfOk result (λ log. IsFresh (Self.M.control log)) }
+        ensures fresh { IfOk result (λ log. IsFreshDevice (Self.M.control log)) }
         ensures told { IfOk result (λ log. (Self.M.content log).is_observable ≡ (held self.old).is_observable) }
         ensures content { IsTrue (held self.old).is_observable → IfOk result (λ log.
             HandsLog Self.M.content ((held self.old).logs partition) (Self.M.content log)) }
@@ -97,9 +97,9 @@ pub trait Yard {
     /// Provides the disk that keeps a partition's registry.
     fn registry(&mut self, partition: PartitionId) -> Result<Self::D, Trouble>
         ensures control { Hands (fate_of result) (control self.old) (control self.new) }
-        ensures plan { Counts (fate_of result) (plan self.old) (plan self.new) }
+        ensures plan { CountsCall (fate_of result) (plan self.old) (plan self.new) }
         ensures is_observable { (held self.new).is_observable ≡ (held self.old).is_observable }
-        ensures fresh { IfOk result (λ disk. IsFresh (Self.D.control disk)) }
+        ensures fresh { IfOk result (λ disk. IsFreshDevice (Self.D.control disk)) }
         ensures told { IfOk result (λ disk. (Self.D.content disk).is_observable ≡ (held self.old).is_observable) }
         ensures content { IsTrue (held self.old).is_observable → IfOk result (λ disk.
             HandsDisk Self.D.content ((held self.old).registries partition) (Self.D.content disk)) }

@@ -13,7 +13,7 @@ use Rattle.tier_base.specs.declared.plain.FileName.{FileName}
 use Rattle.tier_base.specs.declared.plain.FileName.TheVariants.{Manifest, Log, Notes, Gate, Registry}
 use Rattle.disk_model.specs.declared.file_bytes.FileBytes.{FileBytes}
 use Rattle.disk_model.specs.declared.shelf.Shelf.{Shelf}
-use Rattle.tier_base.specs.Told.{In, Once, Names}
+use Rattle.tier_base.specs.Told.{In, Once, NamesAllHeld}
 use Rattle.disk_model.specs.Content.{Files}
 use Rattle.disk_model.specs.FileBytes.{bytes_at}
 use Rattle.disk_model.specs.Shelf.{files_on, if_there, names_on}
@@ -176,7 +176,7 @@ once shelf sorted =
       two : (a b : ℕ) (n : FileName) → (a == b) ≡ false → kind n ≡ a → kind n ≡ b → ⊥
       two a b n ne is is' = grind (arith)
 
-pub names_are : (shelf : Shelf) (read : Files) (names : List FileName) → names ≡ names_on shelf → IsStrictlySortedBy nat_cmp (keys shelf.logs) → ((n : FileName) → files_on shelf n ≡ read n) → Names read names
+pub names_are : (shelf : Shelf) (read : Files) (names : List FileName) → names ≡ names_on shelf → IsStrictlySortedBy nat_cmp (keys shelf.logs) → ((n : FileName) → files_on shelf n ≡ read n) → NamesAllHeld read names
 names_are shelf read names is sorted same = record {
   are = λ n. (
     (λ some. subst (In n) (sym is) (covered shelf n (subst IsSome (sym (same n)) some))),
@@ -187,6 +187,6 @@ names_are shelf read names is sorted same = record {
 
 -- the answer of a list
 pub listed : (result : Result (List FileName) AllocError) (shelf : Shelf) (read : Files) → IfOk result (λ names. names ≡ names_on shelf) → OnOk result (IsStrictlySortedBy nat_cmp (keys shelf.logs)) → ((n : FileName) → files_on shelf n ≡ read n)
-    → IfOk result (λ names. Names read names)
+    → IfOk result (λ names. NamesAllHeld read names)
 listed (Ok names) shelf read is sorted same = names_are shelf read names is sorted same
 listed (Err e) shelf read is sorted same = tt

@@ -4,9 +4,9 @@ use Rattle.std.proofs.Common.{sym, ◌∙◌, ap, subst, inl, inr, arith, ⊎_el
 use Rattle.std.proofs.lemmas.Bool.{MatchBool-at_true, MatchBool-at_false}
 use Rattle.std.specs.Bool.{OnTrue}
 use Rattle.tier_base.specs.declared.plain.FileName.{FileName}
-use Rattle.disk_model.specs.Content.{Files, Elapses, Keeps, Changes, Begins}
+use Rattle.disk_model.specs.Content.{Files, Elapses, Keeps, Changes, BeginsWith}
 use Rattle.disk_model.specs.Steps.{Step, Sync, Crash, same_name, reads, safe, changed, Named, After, LeftAfter, LeftSince, content_of}
-use Rattle.disk_model.specs.Kept.{Drops}
+use Rattle.disk_model.specs.Kept.{DropsUnsynced}
 use Rattle.disk_model.specs.Laws.{now_left, left_safe, reads_as_image}
 use Rattle.disk_model.specs.Memory.{Crashes}
 use Rattle.disk_model.proofs.Names.{changed_there, changed_other, same_name_refl, same_name_other, cases_name}
@@ -44,8 +44,8 @@ synced name past = record {
 }
 
 -- after a sync each image begins with what reads
-pub synced_begins : (past : List Step) (name : FileName) (c : Files) → LeftAfter (Sync name ∷ past) c → Begins (reads past name) (c name)
-synced_begins past name c left = at_true (same_name name name) (Begins (reads past name) (c name)) (same_name_refl name) (left name).1 where
+pub synced_begins : (past : List Step) (name : FileName) (c : Files) → LeftAfter (Sync name ∷ past) c → BeginsWith (reads past name) (c name)
+synced_begins past name c left = at_true (same_name name name) (BeginsWith (reads past name) (c name)) (same_name_refl name) (left name).1 where
   at_true : (b : Bool) (P : Type 0) → b ≡ true → OnTrue b P → P
   at_true true P is h = h
   at_true false P is h = cc
@@ -115,6 +115,6 @@ crash_again past = record {
 }
 
 -- what a crash does
-pub crash_content : (old new : List Step) → Drops old new → Crashes (content_of old) (content_of new)
+pub crash_content : (old new : List Step) → DropsUnsynced old new → Crashes (content_of old) (content_of new)
 crash_content old new (inl is) = subst (λ (l : List Step). Crashes (content_of old) (content_of l)) (sym is) (crash_step old)
 crash_content old new (inr same) = subst (λ (l : List Step). Crashes (content_of old) (content_of l)) (sym same.0) (crash_again old)

@@ -84,8 +84,8 @@ abbrev pub appended : List ℕ → Option (List ℕ) → Option (List ℕ)
 appended bytes file = Some (bytes_in file ++ bytes)
 
 -- as before, or what was there with any bytes after
-abbrev pub Grown : Option (List ℕ) → Option (List ℕ) → Type 0
-Grown before after = (after ≡ before) ⊎ ((behind : List ℕ) × (after ≡ Some (bytes_in before ++ behind)))
+abbrev pub HasGrown : Option (List ℕ) → Option (List ℕ) → Type 0
+HasGrown before after = (after ≡ before) ⊎ ((behind : List ℕ) × (after ≡ Some (bytes_in before ++ behind)))
 
 -- `cut`: the file's front
 abbrev pub cut_to : ℕ → Option (List ℕ) → Option (List ℕ)
@@ -106,5 +106,5 @@ abbrev pub Gone : Option (List ℕ) → Option (List ℕ) → Type 0
 Gone before after = (after ≡ before) ⊎ (after ≡ None)
 
 -- after a sync a crash leaves what reads, with any bytes after
-abbrev pub Begins : Option (List ℕ) → Option (List ℕ) → Type 0
-Begins read after = IsSome read → (behind : List ℕ) × (after ≡ Some (bytes_in read ++ behind))
+abbrev pub BeginsWith : Option (List ℕ) → Option (List ℕ) → Type 0
+BeginsWith read after = IsSome read → (behind : List ℕ) × (after ≡ Some (bytes_in read ++ behind))

@@ -9,7 +9,7 @@ use Rattle.tier_base.specs.Told.{bytes_in}
 use Rattle.disk_model.specs.Patch.{patched}
 use Rattle.disk_model.specs.Shelf.{files_on, safe_on}
 use Rattle.disk_model.specs.Steps.{Step, Append, Sync, Cut, Replace, Remove, Crash, reads, safe}
-use Rattle.disk_model.specs.Kept.{Kept}
+use Rattle.disk_model.specs.Kept.{KeptSteps}
 
 -- what was done after these steps, as a step
 abbrev pub step_of : List Step → Op → Step
@@ -37,11 +37,11 @@ abbrev pub past_of : List Event → Bool → List Step
 past_of events crashed = crashed_if crashed (newest_first [] events)
 
 -- what is kept
-abbrev pub kept_in : Inside → Kept
+abbrev pub kept_in : Inside → KeptSteps
 kept_in h = record { past = past_of h.events.items h.crashed; spare = h.spare }
 
 -- what holds of the fields
-pub record IsKept (h : Inside) : Type 0 where
+pub record HistoryIsSound (h : Inside) : Type 0 where
   -- the files are what all steps made of them
   pub files : (n : FileName) → files_on h.shelf n ≡ reads (past_of h.events.items h.crashed) n
   -- and so are the bytes that are synced

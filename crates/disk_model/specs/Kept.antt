@@ -4,7 +4,7 @@ use Rattle.tier_base.specs.declared.plain.FileName.{FileName}
 use Rattle.disk_model.specs.Steps.{Step, Append, Sync, Cut, Replace, Remove, Crash, reads, safe}
 
 -- the steps, and the room
-pub record Kept : Type 0 where
+pub record KeptSteps : Type 0 where
   -- what was done, the newest first
   pub past : List Step
   -- for how many further calls of `sync`, `cut` and `remove` there is room
@@ -20,13 +20,13 @@ spare_of (Remove name) n = n - 1
 spare_of Crash n = n
 
 -- one step more
-abbrev pub does : Step → Kept → Kept
+abbrev pub does : Step → KeptSteps → KeptSteps
 does s kept = record { past = s ∷ kept.past; spare = spare_of s kept.spare }
 
 -- one step more, or none, where the call uses its room all the same
-abbrev pub attempts : Bool → Step → Kept → Kept
+abbrev pub attempts : Bool → Step → KeptSteps → KeptSteps
 attempts done s kept = record { past = if done then s ∷ kept.past else kept.past; spare = spare_of s kept.spare }
 
 -- a crash; right after another one there is nothing to drop
-abbrev pub Drops : List Step → List Step → Type 0
-Drops old new = (new ≡ Crash ∷ old) ⊎ ((new ≡ old) × ((n : FileName) → reads old n ≡ safe old n))
+abbrev pub DropsUnsynced : List Step → List Step → Type 0
+DropsUnsynced old new = (new ≡ Crash ∷ old) ⊎ ((new ≡ old) × ((n : FileName) → reads old n ≡ safe old n))

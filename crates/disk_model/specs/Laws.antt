@@ -7,7 +7,7 @@ use Rattle.std.proofs.lemmas.Bool.{false≢true}
 use Rattle.std.specs.Bool.{OnTrue}
 use Rattle.tier_base.specs.declared.plain.FileName.{FileName}
 use Rattle.tier_base.specs.Told.{bytes_in}
-use Rattle.disk_model.specs.Content.{Lawful, Files, Image, appended, Grown, cut_to, CutBack, Swapped, Gone, Begins}
+use Rattle.disk_model.specs.Content.{Lawful, Files, Image, appended, HasGrown, cut_to, CutBack, Swapped, Gone, BeginsWith}
 use Rattle.disk_model.specs.Steps.{Step, Append, Sync, Cut, Replace, Remove, Crash, same_name, reads, safe, LeftOf, LeftAfter, LeftSince, content_of}
 
 -- what the last step left may be left by a crash now
@@ -22,7 +22,7 @@ since_earlier (s ∷ past) t u c le (inl now) = inl now
 since_earlier (s ∷ past) t u c le (inr earlier) = inr (le_trans le earlier.0, since_earlier past t u c le earlier.1)
 
 -- what an append makes is something grown
-pub grown_by : (bytes : List ℕ) (file : Option (List ℕ)) → Grown file (appended bytes file)
+pub grown_by : (bytes : List ℕ) (file : Option (List ℕ)) → HasGrown file (appended bytes file)
 grown_by bytes file = inr (bytes, refl)
 
 -- what a cut makes is something cut
@@ -31,7 +31,7 @@ cut_back len None = inl refl
 cut_back len (Some bytes) = inr (refl, ([], ap Some (sym (append-nil (take len bytes)))))
 
 -- a file begins with itself
-pub begins : (file : Option (List ℕ)) → Begins file file
+pub begins : (file : Option (List ℕ)) → BeginsWith file file
 begins None some = absurd (false≢true some)
 begins (Some bytes) some = ([], ap Some (sym (append-nil bytes)))
 
@@ -48,12 +48,12 @@ on_true_any true P p = p
 on_true_any false P p = tt
 
 -- an unsynced append leaves what was there
-pub safe_grown : (file : Option (List ℕ)) → Grown file (Some (bytes_in file))
+pub safe_grown : (file : Option (List ℕ)) → HasGrown file (Some (bytes_in file))
 safe_grown file = inr ([], ap Some (sym (append-nil (bytes_in file))))
 
 -- a sync leaves what reads, or another file as it was
 pub sync_keeps : (b : Bool) (P : Option (List ℕ) → Type 0) (read kept : Option (List ℕ)) → P read → P kept
-    → P (if b then read else kept) × OnTrue b (Begins read (if b then read else kept))
+    → P (if b then read else kept) × OnTrue b (BeginsWith read (if b then read else kept))
 sync_keeps true P read kept p q = (p, begins read)
 sync_keeps false P read kept p q = (q, tt)
 
@@ -62,11 +62,11 @@ mutual
   pub left_as_read : (past : List Step) (n : FileName) → LeftOf past n (reads past n)
   left_as_read [] n = refl
   left_as_read (Append name bytes ∷ past) n =
-      named_keeps (same_name n name) (LeftOf past n) Grown (reads past n) (appended bytes (reads past n))
+      named_keeps (same_name n name) (LeftOf past n) HasGrown (reads past n) (appended bytes (reads past n))
       (left_as_read past n) (grown_by bytes (reads past n))
   left_as_read (Sync name ∷ past) n = (
     left_as_read past n,
-    on_true_any (same_name n name) (Begins (reads past n) (reads past n))
+    on_true_any (same_name n name) (BeginsWith (reads past n) (reads past n))
         (begins (reads past n)),
   )
   left_as_read (Cut name len ∷ past) n =
@@ -86,7 +86,7 @@ mutual
   pub left_safe : (past : List Step) (n : FileName) → LeftOf past n (safe past n)
   left_safe [] n = refl
   left_safe (Append name bytes ∷ past) n =
-      named_keeps (same_name n name) (LeftOf past n) Grown (safe past n) (Some (bytes_in (safe past n)))
+      named_keeps (same_name n name) (LeftOf past n) HasGrown (safe past n) (Some (bytes_in (safe past n)))
       (left_safe past n) (safe_grown (safe past n))
   left_safe (Sync name ∷ past) n =
       sync_keeps (same_name n name) (LeftOf past n) (reads past n) (safe past n) (left_as_read past n)

@@ -19,7 +19,7 @@ pub record Crashes (old new : Content) : Type 0 where
 
 module _ {K : Type 0} {code : K → ℕ} where
   -- nothing that is reported has changed, but whether the plan alone decides which calls fail
-  pub record Stays (old new : Control code) : Type 0 where
+  pub record DeviceStays (old new : Control code) : Type 0 where
     pub plan : new.plan ≡ old.plan
     pub armed : new.armed ≡ old.armed
     pub faults : new.faults ≡ old.faults
@@ -28,13 +28,13 @@ module _ {K : Type 0} {code : K → ℕ} where
 
   -- with a fuse
   pub record Fuses (old new : Control code) : Type 0 where
-    pub stays : Stays old new
+    pub stays : DeviceStays old new
     pub infallible : IsFalse new.infallible
     pub scripted : IsFalse new.scripted
 
   -- without one from now on: its plan doesn't decide alone of all calls if there was one
   pub record Unfuses (old new : Control code) : Type 0 where
-    pub stays : Stays old new
+    pub stays : DeviceStays old new
     pub scripted : new.scripted ≡ old.scripted
     pub infallible : old.plan ≡ [] → IsTrue new.infallible
     pub still_infallible : IsTrue old.infallible → IsTrue new.infallible

@@ -18,7 +18,7 @@ abbrev pub bytes_of : Inside → List ℕ
 bytes_of pieces = joined pieces.items.items
 
 -- they are counted, and one vector can hold them
-pub record IsCounted (pieces : Inside) : Type 0 where
+pub record IsLenCounted (pieces : Inside) : Type 0 where
   pub len : pieces.len ≡ length (bytes_of pieces)
   pub small : pieces.len < 2 ^ 63
   pub ends : AreEnded 0 pieces.items.items

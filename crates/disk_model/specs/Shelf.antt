@@ -35,8 +35,8 @@ abbrev pub Becomes : FileName → (Option (List ℕ) → Option (List ℕ)) → 
 Becomes name make old new = OnlyAt name (λ before after. after ≡ make before) old new
 
 -- the file begins with these bytes; an absent one has none
-abbrev pub IsFront : List ℕ → Option (List ℕ) → Type 0
-IsFront front file = (rest : List ℕ) × (bytes_in file ≡ front ++ rest)
+abbrev pub IsFileFront : List ℕ → Option (List ℕ) → Type 0
+IsFileFront front file = (rest : List ℕ) × (bytes_in file ≡ front ++ rest)
 
 -- the name of a file that is there
 abbrev pub if_there : FileName → Option FileBytes → List FileName

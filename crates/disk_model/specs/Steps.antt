@@ -11,7 +11,7 @@ use Rattle.std.specs.Bool.{OnTrue}
 use Rattle.tier_base.specs.declared.plain.FileName.{FileName}
 use Rattle.tier_base.specs.declared.plain.FileName.TheVariants.{Manifest, Log, Notes, Gate, Registry}
 use Rattle.tier_base.specs.Told.{OnlyAt, bytes_in}
-use Rattle.disk_model.specs.Content.{Content, Files, appended, Grown, cut_to, CutBack, Swapped, Gone, Begins}
+use Rattle.disk_model.specs.Content.{Content, Files, appended, HasGrown, cut_to, CutBack, Swapped, Gone, BeginsWith}
 
 -- what was done; a `Replace` is sure where it answered `Ok`
 pub data Step : Type 0 where
@@ -36,12 +36,12 @@ abbrev pub changed : FileName → (Option (List ℕ) → Option (List ℕ)) → 
 changed name make files n = if same_name n name then make (files n) else files n
 
 -- a file: what reads, and what the crash of this disk leaves
-pub record Stand : Type 0 where
+pub record FileState : Type 0 where
   pub read : Option (List ℕ)
   pub safe : Option (List ℕ)
 
 -- what a step makes of a file, where it is the one that the step names and where it isn't
-abbrev pub step_at : Step → FileName → Stand → Stand
+abbrev pub step_at : Step → FileName → FileState → FileState
 step_at (Append name bytes) n h = record {
   read = if same_name n name then appended bytes h.read else h.read;
   safe = if same_name n name then Some (bytes_in h.safe) else h.safe;
@@ -65,7 +65,7 @@ step_at (Remove name) n h = record {
 step_at Crash n h = record { read = h.safe; safe = h.safe }
 
 -- a file after these steps
-abbrev pub stand_after : List Step → FileName → Stand
+abbrev pub stand_after : List Step → FileName → FileState
 stand_after [] n = record { read = None; safe = None }
 stand_after (s ∷ past) n = step_at s n (stand_after past n)
 
@@ -84,8 +84,8 @@ Named n name P R o = MatchBool (same_name n name) ((p : Option (List ℕ)) × (P
 
 -- what a crash may leave of one file after a step, where before it that had P and read so
 abbrev pub ImageAt : Step → FileName → (Option (List ℕ) → Type 0) → Option (List ℕ) → Option (List ℕ) → Type 0
-ImageAt (Append name bytes) n P read o = Named n name P Grown o
-ImageAt (Sync name) n P read o = P o × OnTrue (same_name n name) (Begins read o)
+ImageAt (Append name bytes) n P read o = Named n name P HasGrown o
+ImageAt (Sync name) n P read o = P o × OnTrue (same_name n name) (BeginsWith read o)
 ImageAt (Cut name len) n P read o = Named n name P (CutBack len) o
 ImageAt (Replace name bytes true) n P read o = Named n name P (λ before after. after ≡ Some bytes) o
 ImageAt (Replace name bytes false) n P read o = Named n name P (Swapped bytes) o

@@ -3,7 +3,7 @@
 //! It begins with the files that it is made of, whatever bytes they have. No call of it fails.
 
 ghost use Rattle.std.specs.Prelude.{◌≡◌, ◌<◌, [], length, drop, IfOk, IfSome, IsTrue};
-ghost use Rattle.tier_base.specs.Device.{IsFresh};
+ghost use Rattle.tier_base.specs.Device.{IsFreshDevice};
 ghost use Rattle.tier_base.specs.Faults.{control_of};
 ghost use Rattle.tier_base.specs.Laws.{fails_as_planned};
 ghost use Rattle.disk_model.specs.Call.{call_code};
@@ -31,7 +31,7 @@ pub struct DeafDisk {
 impl DeafDisk {
     /// Makes a disk of these files, without memory. Where a name occurs twice, the first counts.
     pub fn new(alloc: Global, files: Vec<(FileName, Bytes)>) -> DeafDisk
-        ensures fresh { IsFresh (⟦<DeafDisk as Disk>⟧.control result) }
+        ensures fresh { IsFreshDevice (⟦<DeafDisk as Disk>⟧.control result) }
         ensures plan { (⟦<DeafDisk as Disk>⟧.control result).plan ≡ [] }
         ensures infallible { IsTrue (⟦<DeafDisk as Disk>⟧.control result).infallible }
         ensures spare { ⟦<DeafDisk as Disk>⟧.spare result ≡ 0 }

@@ -5,11 +5,11 @@
 //! done or not. One that runs out of memory changes nothing.
 
 ghost use Rattle.std.specs.Prelude.{◌≡◌, ◌+◌, ◌≤◌, List, [], ℕ, drop, IfOk, OnOk, IsTrue, Some, option_map};
-ghost use Rattle.tier_base.specs.Device.{Control, Ran, RanQuietly, MayBeDone, Rests, Arms, FailsAsPlanned, fate_of, failing};
+ghost use Rattle.tier_base.specs.Device.{Control, Ran, RanQuietly, MayBeDone, NoCalls, Arms, FailsAsPlanned, fate_of, failing};
 ghost use Rattle.disk_model.specs.declared.call.DiskCall.TheVariants.{Append, Sync, Read, Cut, Replace, Remove, List as Listing};
 ghost use Rattle.disk_model.specs.Call.{call_code};
-ghost use Rattle.tier_base.specs.Told.{Names, replaced, removed, last_read_after};
-ghost use Rattle.disk_model.specs.Content.{Content, Lawful, Files, Image, Changes, Keeps, appended, Grown, cut_to, CutBack, Swapped, Gone, Begins, part_of};
+ghost use Rattle.tier_base.specs.Told.{NamesAllHeld, replaced, removed, last_read_after};
+ghost use Rattle.disk_model.specs.Content.{Content, Lawful, Files, Image, Changes, Keeps, appended, HasGrown, cut_to, CutBack, Swapped, Gone, BeginsWith, part_of};
 
 use bytes::Bytes;
 use std::alloc::AllocError;
@@ -33,7 +33,7 @@ pub trait Disk: Drop {
         ensures control { RanQuietly Append (fate_of result)
             (control self.old) (control self.new) }
         ensures room { spare self.new ≡ spare self.old }
-        ensures content { Changes name (appended bytes.now) Grown
+        ensures content { Changes name (appended bytes.now) HasGrown
             (MayBeDone Append (fate_of result) (control self.old))
             (content self.old) (content self.new) };
 
@@ -42,7 +42,7 @@ pub trait Disk: Drop {
     fn reserve(&mut self, calls: u32) -> Result<(), AllocError>
         ensures room { OnOk result (calls ≤ spare self.new) }
         ensures no_less { spare self.old ≤ spare self.new }
-        ensures control { Rests (control self.old) (control self.new) }
+        ensures control { NoCalls (control self.old) (control self.new) }
         ensures content { Keeps (content self.old) (content self.new) };
 
     /// Makes a file's bytes durable. Does nothing if the file is absent.
@@ -52,7 +52,7 @@ pub trait Disk: Drop {
         ensures room { spare self.new + 1 ≡ spare self.old }
         ensures content { Keeps (content self.old) (content self.new) }
         ensures durable { OnOk result ((c : Files) → Image (content self.new) c
-            → Begins ((content self.old).files name) (c name)) };
+            → BeginsWith ((content self.old).files name) (c name)) };
 
     /// Returns a file's bytes from a position on, none past its end, or `None` if the file is absent.
     fn read(&mut self, name: FileName, at: u64) -> Result<Option<Bytes>, Trouble>
@@ -111,7 +111,7 @@ pub trait Disk: Drop {
         ensures room { spare self.new ≡ spare self.old }
         ensures content { Keeps (content self.old) (content self.new) }
         ensures names { IsTrue (content self.old).is_observable
-            → IfOk result (λ names. Names (content self.old).files names) };
+            → IfOk result (λ names. NamesAllHeld (content self.old).files names) };
 
     /// Takes out the bytes that the last read returned, without using memory. None are kept then until the next read.
     /// No plan can make this call fail.

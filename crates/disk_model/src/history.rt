@@ -5,10 +5,10 @@
 //! before it.
 
 ghost use Rattle.std.specs.Prelude.{◌≡◌, ◌+◌, ◌≤◌, ◌<◌, ◌++◌, ◌∷◌, [], false, IfOk, OnOk, OnErr, drop, option_map, vec_len, vec_capacity};
-ghost use Rattle.tier_base.specs.Told.{Names};
+ghost use Rattle.tier_base.specs.Told.{NamesAllHeld};
 ghost use Rattle.disk_model.specs.Content.{part_of};
 ghost use Rattle.disk_model.specs.Steps.{Append, Sync, Cut, Replace, Remove, reads};
-ghost use Rattle.disk_model.specs.Kept.{does, Drops};
+ghost use Rattle.disk_model.specs.Kept.{does, DropsUnsynced};
 
 use crate::patch::{Patch, patch_of};
 use crate::shelf::Shelf;
@@ -46,15 +46,15 @@ pub struct History {
 }
 
 impl Model for History {
-    ghost use Rattle.disk_model.specs.Kept.{Kept};
+    ghost use Rattle.disk_model.specs.Kept.{KeptSteps};
 
-    ghost Value = { Kept };
+    ghost Value = { KeptSteps };
 
-    ghost use Rattle.disk_model.specs.History.{kept_in, IsKept};
+    ghost use Rattle.disk_model.specs.History.{kept_in, HistoryIsSound};
 
     ghost view = { kept_in };
 
-    ghost invariant = { IsKept };
+    ghost invariant = { HistoryIsSound };
 }
 
 impl History {
@@ -148,7 +148,7 @@ impl History {
 
     /// Drops what isn't synced.
     pub fn crash(&mut self)
-        ensures past { Drops self.old.past self.new.past }
+        ensures past { DropsUnsynced self.old.past self.new.past }
         ensures spare { self.new.spare ≡ self.old.spare }
     {
         if !self.crashed {
@@ -168,7 +168,7 @@ impl History {
 
     /// Names the files.
     pub fn names(&self) -> Result<Row<FileName>, AllocError>
-        ensures { IfOk result (λ names. Names (reads self.now.past) names) }
+        ensures { IfOk result (λ names. NamesAllHeld (reads self.now.past) names) }
     {
         self.shelf.names(self.alloc)
     }

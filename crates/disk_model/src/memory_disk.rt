@@ -4,7 +4,7 @@
 //! so one that finds no memory has changed nothing and isn't counted.
 
 ghost use Rattle.std.specs.Prelude.{◌≡◌, ◌↔◌, [], ℕ, Some, None, IsTrue, IsFalse};
-ghost use Rattle.tier_base.specs.Device.{IsFresh};
+ghost use Rattle.tier_base.specs.Device.{IsFreshDevice};
 ghost use Rattle.tier_base.specs.Faults.{control_of};
 ghost use Rattle.tier_base.specs.Laws.{fails_as_planned};
 ghost use Rattle.tier_base.specs.declared.plain.FileName.{FileName};
@@ -37,7 +37,7 @@ impl MemoryDisk {
     /// Makes a disk with no files, whose planned calls fail once it is armed, without memory.
     pub fn new(alloc: Global, plan: Vec<Planned>) -> MemoryDisk
         ensures content { IsEmptyDisk (⟦<MemoryDisk as Disk>⟧.content result) }
-        ensures fresh { IsFresh (⟦<MemoryDisk as Disk>⟧.control result) }
+        ensures fresh { IsFreshDevice (⟦<MemoryDisk as Disk>⟧.control result) }
         ensures plan { (⟦<MemoryDisk as Disk>⟧.control result).plan ≡ plan.items }
         ensures infallible { IsTrue (⟦<MemoryDisk as Disk>⟧.control result).infallible }
         ensures scripted { IsTrue (⟦<MemoryDisk as Disk>⟧.control result).scripted }
@@ -55,7 +55,7 @@ impl MemoryDisk {
     pub fn renew(&mut self, plan: Vec<Planned>)
         ensures content { Keeps (⟦<MemoryDisk as Disk>⟧.content self.old)
             (⟦<MemoryDisk as Disk>⟧.content self.new) }
-        ensures fresh { IsFresh (⟦<MemoryDisk as Disk>⟧.control self.new) }
+        ensures fresh { IsFreshDevice (⟦<MemoryDisk as Disk>⟧.control self.new) }
         ensures plan { (⟦<MemoryDisk as Disk>⟧.control self.new).plan ≡ plan.items }
         ensures infallible { IsTrue (⟦<MemoryDisk as Disk>⟧.control self.new).infallible }
         ensures scripted { IsTrue (⟦<MemoryDisk as Disk>⟧.control self.new).scripted }

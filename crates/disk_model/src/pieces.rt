@@ -32,13 +32,13 @@ pub struct Pieces {
 
 impl Model for Pieces {
     ghost use Rattle.std.specs.Prelude.{List, ℕ};
-    ghost use Rattle.disk_model.specs.Pieces.{bytes_of, IsCounted};
+    ghost use Rattle.disk_model.specs.Pieces.{bytes_of, IsLenCounted};
 
     ghost Value = { List ℕ };
 
     ghost view = { bytes_of };
 
-    ghost invariant = { IsCounted };
+    ghost invariant = { IsLenCounted };
 }
 
 impl Pieces {

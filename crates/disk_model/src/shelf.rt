@@ -8,7 +8,7 @@ ghost use Rattle.tier_base.specs.declared.plain.FileName.TheVariants.{Log};
 ghost use Rattle.tier_base.specs.Told.{replaced, removed};
 ghost use Rattle.disk_model.specs.Content.{appended, cut_to, part_of};
 ghost use Rattle.disk_model.specs.FileBytes.{all_of, safe_of, bytes_at, safe_at};
-ghost use Rattle.disk_model.specs.Shelf.{made, files_on, names_on, safe_on, Becomes, IsFront};
+ghost use Rattle.disk_model.specs.Shelf.{made, files_on, names_on, safe_on, Becomes, IsFileFront};
 
 use crate::file::{drop_unsynced, extend, read, settle, shorten};
 use crate::file_bytes::FileBytes;
@@ -96,7 +96,7 @@ impl Shelf {
     /// Lends bytes with which a file begins: all of one that was put. Of a log segment none are lent, which is never
     /// replaced.
     pub fn front(&self, name: FileName) -> &[u8]
-        ensures { IsFront result.now (files_on self.now name) }
+        ensures { IsFileFront result.now (files_on self.now name) }
     {
         match name {
             FileName::Manifest => front_in(&self.manifest),
@@ -254,7 +254,7 @@ fn cut_at(logs: &mut BTreeMap<u64, FileBytes>, base: u64, len: usize)
 }
 
 fn front_in(slot: &Option<FileBytes>) -> &[u8]
-    ensures { IsFront result.now (bytes_at slot.now) }
+    ensures { IsFileFront result.now (bytes_at slot.now) }
 {
     match slot {
         Some(held) => held.bytes.front(),

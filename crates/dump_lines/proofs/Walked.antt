@@ -19,7 +19,7 @@ use Rattle.dump_lines.specs.declared.seeing.Ending.TheVariants as ending
 use Rattle.dump_lines.specs.declared.seeing.Seen.TheVariants as seen
 use Rattle.dump_lines.specs.Seen.{is_kind, shown_at, seen_at}
 use Rattle.dump_lines.specs.Dump.{IsDump}
-use Rattle.dump_lines.specs.Walked.{Agrees, shown_from, ShowsAll}
+use Rattle.dump_lines.specs.Walked.{DumpAgrees, shown_from, ShowsAll}
 use Rattle.dump_lines.proofs.Kept.{headed_kept, headed_is, size_long}
 use Rattle.dump_lines.proofs.Lists.{drop_front}
 
@@ -35,40 +35,40 @@ own_head bytes head batch h fits e =
     sym (headed_kept (take (size_in head) bytes) (drop (size_in head) bytes) far) ∙ ap headed (take-append-drop (size_in head) bytes) ∙ h in
     is.head ∙ (headed_is (take (size_in head) bytes) head heads).1
 
-pub agrees : (at : ℕ) (bytes : List ℕ) → Agrees at (found_at at bytes) (seen_at at bytes)
+pub agrees : (at : ℕ) (bytes : List ℕ) → DumpAgrees at (found_at at bytes) (seen_at at bytes)
 unfolding found_at seen_at
 agrees at bytes = go (length bytes == 0) refl
   where
     tests : (z : (length bytes == 0) ≡ false) (head : Head) (h : headed bytes ≡ Ok head) (u : nat_lt (length bytes) (size_in head) ≡ false)
-        (r : Result Batch BatchRefusal) → checked (take (size_in head) bytes) ≡ r → Agrees at (found_at at bytes) (seen_at at bytes)
+        (r : Result Batch BatchRefusal) → checked (take (size_in head) bytes) ≡ r → DumpAgrees at (found_at at bytes) (seen_at at bytes)
     tests z head h u (Ok batch) e =
         let same : batch.head ≡ head = own_head bytes head batch h (ltb-false (length bytes) (size_in head) u) e in
         rw (z, h, u, e) (ap (λ (x : Head). shown_at at x None) (sym same))
     tests z head h u (Err why) e = kinds (is_kind why) refl
       where
-        kinds : (t : Bool) → is_kind why ≡ t → Agrees at (found_at at bytes) (seen_at at bytes)
+        kinds : (t : Bool) → is_kind why ≡ t → DumpAgrees at (found_at at bytes) (seen_at at bytes)
         kinds true t = rw (z, h, u, e, t) (λ p. absurd (cc p))
         kinds false t = rw (z, h, u, e, t) tt
 
     sizes : (z : (length bytes == 0) ≡ false) (head : Head) (h : headed bytes ≡ Ok head) (t : Bool) → nat_lt (length bytes) (size_in head) ≡ t
-        → Agrees at (found_at at bytes) (seen_at at bytes)
+        → DumpAgrees at (found_at at bytes) (seen_at at bytes)
     sizes z head h true u = rw (z, h, u) tt
     sizes z head h false u = tests z head h u (checked (take (size_in head) bytes)) refl
 
-    heads : (z : (length bytes == 0) ≡ false) (r : Result Head HeadRefusal) → headed bytes ≡ r → Agrees at (found_at at bytes) (seen_at at bytes)
+    heads : (z : (length bytes == 0) ≡ false) (r : Result Head HeadRefusal) → headed bytes ≡ r → DumpAgrees at (found_at at bytes) (seen_at at bytes)
     heads z (Ok head) h = sizes z head h (nat_lt (length bytes) (size_in head)) refl
     heads z (Err cause.Short) h = rw (z, h) tt
     heads z (Err cause.BadMagic) h = rw (z, h) tt
     heads z (Err cause.BadLength) h = rw (z, h) tt
 
-    go : (t : Bool) → (length bytes == 0) ≡ t → Agrees at (found_at at bytes) (seen_at at bytes)
+    go : (t : Bool) → (length bytes == 0) ≡ t → DumpAgrees at (found_at at bytes) (seen_at at bytes)
     go true t = rw t refl
     go false t = heads t (headed bytes) refl
 
 -- a batch that passes all tests is shown where it is
 shown_front : (at : ℕ) (batch rest : List ℕ) → IsOk (checked batch) → seen_at at (batch ++ rest) ≡ shown_at at (head_of batch) None
 shown_front at batch rest ok =
-    subst (λ f. Agrees at f (seen_at at (batch ++ rest))) (batch_found at batch rest ok) (agrees at (batch ++ rest))
+    subst (λ f. DumpAgrees at f (seen_at at (batch ++ rest))) (batch_found at batch rest ok) (agrees at (batch ++ rest))
 
 nothing : (at : ℕ) (end : Ending) → seen_at at [] ≡ seen.Ends end → end ≡ ending.End at
 unfolding seen_at

@@ -32,7 +32,7 @@ pub record Fills (old new : Option (List ℕ)) (before after : List ℕ) : Type 
   pub enough : IsAtEnd new ⊎ (1048576 ≤ length after)
 
 -- one read appended so many bytes, and none only where the source is at its end
-pub record Grows (old new : Option (List ℕ)) (before after : List ℕ) (count : ℕ) : Type 0 where
+pub record AppendsRead (old new : Option (List ℕ)) (before after : List ℕ) (count : ℕ) : Type 0 where
   pub more : List ℕ
   pub taken : Consumes old new more
   pub joined : after ≡ before ++ more
@@ -40,7 +40,7 @@ pub record Grows (old new : Option (List ℕ)) (before after : List ℕ) (count 
   pub ends : count ≡ 0 → IsAtEnd new
 
 -- reads appended bytes
-pub record Grown (old new : Option (List ℕ)) (before after : List ℕ) : Type 0 where
+pub record HasAppended (old new : Option (List ℕ)) (before after : List ℕ) : Type 0 where
   pub more : List ℕ
   pub taken : Consumes old new more
   pub joined : after ≡ before ++ more

@@ -18,30 +18,30 @@ abbrev pub event_at : List ℕ → List ℕ
 event_at bytes = take (size_at bytes) (drop 4 bytes)
 
 -- all bytes of the event at the front exist
-pub record IsWhole (bytes : List ℕ) : Type 0 where
+pub record IsWholeEvent (bytes : List ℕ) : Type 0 where
   pub counted : 4 ≤ length bytes
   pub there : 4 + size_at bytes ≤ length bytes
 
 -- this event is at the front, and these bytes follow it
-pub record IsEvent (bytes : List ℕ) (note : Note) (behind : List ℕ) : Type 0 where
-  pub whole : IsWhole bytes
+pub record IsEventAtFront (bytes : List ℕ) (note : Note) (behind : List ℕ) : Type 0 where
+  pub whole : IsWholeEvent bytes
   pub is : note_in (event_at bytes) ≡ Ok note
   pub rules : IsNote note
   pub follow : behind ≡ drop (size_at bytes) (drop 4 bytes)
 
 -- there are bytes, and not all of an event
-pub record IsCut (bytes : List ℕ) : Type 0 where
+pub record IsCutShort (bytes : List ℕ) : Type 0 where
   pub some : bytes ≢ []
-  pub short : IsWhole bytes → ⊥
+  pub short : IsWholeEvent bytes → ⊥
 
 -- all bytes of an event exist, and they are invalid, with this first fault
-pub record IsBad (bytes : List ℕ) (why : NoteRefusal) : Type 0 where
-  pub whole : IsWhole bytes
+pub record IsBadEvent (bytes : List ℕ) (why : NoteRefusal) : Type 0 where
+  pub whole : IsWholeEvent bytes
   pub is : note_in (event_at bytes) ≡ Err why
 
 -- what is at the front
-abbrev pub IsNext : List ℕ → NextNote → Type 0
-IsNext bytes (Event note behind) = IsEvent bytes note behind.now
-IsNext bytes End = bytes ≡ []
-IsNext bytes Cut = IsCut bytes
-IsNext bytes (Bad why) = IsBad bytes why
+abbrev pub IsNextEvent : List ℕ → NextNote → Type 0
+IsNextEvent bytes (Event note behind) = IsEventAtFront bytes note behind.now
+IsNextEvent bytes End = bytes ≡ []
+IsNextEvent bytes Cut = IsCutShort bytes
+IsNextEvent bytes (Bad why) = IsBadEvent bytes why

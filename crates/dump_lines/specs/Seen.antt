@@ -51,9 +51,9 @@ unfoldable pub seen_at : ℕ → List ℕ → Seen
 seen_at at bytes = if length bytes == 0 then Ends (ending.End at) else behind_at at bytes (headed bytes)
 
 -- a batch that is shown is as long as its head says, at least a head, and within these bytes
-abbrev pub IsWithin : List ℕ → Seen → Type 0
-IsWithin bytes (Batch one) = size_in one.head ≤ length bytes
-IsWithin bytes (Ends ending) = Unit {0}
+abbrev pub IsBatchWithin : List ℕ → Seen → Type 0
+IsBatchWithin bytes (Batch one) = size_in one.head ≤ length bytes
+IsBatchWithin bytes (Ends ending) = Unit {0}
 
 -- where a dump ends
 abbrev pub place_of : Ending → ℕ
@@ -61,14 +61,14 @@ place_of (ending.End position) = position
 place_of (ending.NoBatch broken) = broken.position
 
 -- what is found at a position has that position
-abbrev pub IsPlaced : ℕ → Seen → Type 0
-IsPlaced at (Batch one) = one.position ≡ at
-IsPlaced at (Ends end) = place_of end ≡ at
+abbrev pub HasPosition : ℕ → Seen → Type 0
+HasPosition at (Batch one) = one.position ≡ at
+HasPosition at (Ends end) = place_of end ≡ at
 
 -- a batch that is shown has this head
-abbrev pub IsOf : Head → Seen → Type 0
-IsOf head (Batch one) = one.head ≡ head
-IsOf head (Ends end) = Unit {0}
+abbrev pub HasHead : Head → Seen → Type 0
+HasHead head (Batch one) = one.head ≡ head
+HasHead head (Ends end) = Unit {0}
 
 -- a batch that isn't refused passes the tests of one
 abbrev pub IsChecked : List ℕ → Seen → Type 0

@@ -19,11 +19,11 @@ IsNone (Ends (ending.End at)) = ⊥
 IsNone (Ends (ending.NoBatch broken)) = ⊤
 
 -- what `walk` and a dump find at the same position
-abbrev pub Agrees : ℕ → Found → Seen → Type 0
-Agrees at (found.Batch head) seen = seen ≡ shown_at at head None
-Agrees at found.End seen = seen ≡ Ends (ending.End at)
-Agrees at (found.Cut place) seen = IsNone seen
-Agrees at (found.Bad place) seen = IsNone seen
+abbrev pub DumpAgrees : ℕ → Found → Seen → Type 0
+DumpAgrees at (found.Batch head) seen = seen ≡ shown_at at head None
+DumpAgrees at found.End seen = seen ≡ Ends (ending.End at)
+DumpAgrees at (found.Cut place) seen = IsNone seen
+DumpAgrees at (found.Bad place) seen = IsNone seen
 
 -- valid batches, from a position on
 abbrev pub shown_from : ℕ → List (List ℕ) → List Shown

@@ -9,13 +9,13 @@ ghost use Rattle.dump_lines.specs.declared.seeing.Shown.{Shown};
 ghost use Rattle.dump_lines.specs.declared.seeing.Ending.{Ending};
 ghost use Rattle.dump_lines.specs.Seen.{seen_at};
 ghost use Rattle.dump_lines.specs.Dump.{IsDump};
-ghost use Rattle.dump_lines.specs.Walked.{Agrees, ShowsAll};
+ghost use Rattle.dump_lines.specs.Walked.{DumpAgrees, ShowsAll};
 
 /// A dump finds the batches that `walk` finds. Besides them it shows those that the log refuses only because they are
 /// compressed, transactional or control batches.
 #[tactic(auto, using(crate::proofs::Walked::agrees))]
 pub fn a_dump_finds_what_a_walk_finds()
-    ensures { (at : ℕ) (bytes : List ℕ) → Agrees at (found_at at bytes) (seen_at at bytes) }
+    ensures { (at : ℕ) (bytes : List ℕ) → DumpAgrees at (found_at at bytes) (seen_at at bytes) }
 {}
 
 /// A dump of valid batches shows each of them once and in order, and nothing else.

@@ -2,7 +2,7 @@
 
 ghost use Rattle.std.specs.Prelude.{◌≡◌, IfOk, length};
 ghost use Rattle.std.specs.Int.{w32, from_be_bytes};
-ghost use Rattle.dump_lines.specs.Notes.{IsNext};
+ghost use Rattle.dump_lines.specs.Notes.{IsNextEvent};
 ghost use Rattle.dump_lines.specs.Entries.{entry_fields, update_fields};
 
 use crate::batch_lines::field;
@@ -29,7 +29,7 @@ pub enum NextNote<'a> {
 
 /// Reads the event at the front of the bytes. Fails only if memory runs out.
 pub fn next_note(alloc: Global, bytes: &[u8]) -> Result<NextNote<'_>, AllocError>
-    ensures { IfOk result (IsNext bytes.now) }
+    ensures { IfOk result (IsNextEvent bytes.now) }
 {
     if bytes.is_empty() {
         return Ok(NextNote::End);

@@ -4,7 +4,7 @@ ghost use Rattle.std.specs.Prelude.{◌≡◌};
 ghost use Rattle.record_batch.specs.Check.{head_in, checked, of_head as batch_cause};
 ghost use Rattle.segment_file.specs.Walk.{size_in as size_of};
 ghost use Rattle.dump_lines.specs.Seen.{is_kind as is_of_kind, judged_at, broken_at, seen_at};
-ghost use Rattle.dump_lines.specs.Seen.{IsWithin, IsPlaced, IsOf, IsChecked, IsCheckedFront};
+ghost use Rattle.dump_lines.specs.Seen.{IsBatchWithin, HasPosition, HasHead, IsChecked, IsCheckedFront};
 
 use record_batch::{BatchRefusal, Head, HeadRefusal, check, read_head};
 
@@ -76,7 +76,7 @@ fn of_head(why: HeadRefusal) -> BatchRefusal
 /// A position at which there is no valid batch.
 fn no_batch(position: u64, head: Option<Head>, why: BatchRefusal) -> Seen
     ensures exact { result ≡ broken_at position head why }
-    ensures place { IsPlaced position result }
+    ensures place { HasPosition position result }
 {
     Seen::Ends(Ending::NoBatch(Broken {
         position,
@@ -88,9 +88,9 @@ fn no_batch(position: u64, head: Option<Head>, why: BatchRefusal) -> Seen
 /// Tests the bytes of the batch with this head.
 fn judged(batch: &[u8], position: u64, head: Head) -> Seen
     ensures exact { result ≡ judged_at position head (head_in (checked batch.now)) }
-    ensures head { IsOf head result }
+    ensures head { HasHead head result }
     ensures whole { IsChecked batch.now result }
-    ensures place { IsPlaced position result }
+    ensures place { HasPosition position result }
 {
     match check(batch) {
         Ok(_) => Seen::Batch(Shown {
@@ -116,9 +116,9 @@ fn judged(batch: &[u8], position: u64, head: Head) -> Seen
 #[tactic(auto, unfolding(crate::specs::Seen::seen_at))]
 pub fn look(bytes: &[u8], position: u64) -> Seen
     ensures exact { result ≡ seen_at position bytes.now }
-    ensures within { IsWithin bytes.now result }
+    ensures within { IsBatchWithin bytes.now result }
     ensures whole { IsCheckedFront bytes.now result }
-    ensures place { IsPlaced position result }
+    ensures place { HasPosition position result }
 {
     if bytes.is_empty() {
         return Seen::Ends(Ending::End { position });

@@ -5,7 +5,7 @@
 
 ghost use Rattle.std.specs.Prelude.{◌≡◌, ◌<◌, ◌≤◌, ◌+◌, [], take, drop, length, vec_len, IfOk, OnOk};
 ghost use Rattle.std.specs.Io.KnownBytes.{ReadConsumes};
-ghost use Rattle.dump_lines.specs.Dump.{Fills, Grows};
+ghost use Rattle.dump_lines.specs.Dump.{Fills, AppendsRead};
 
 use crate::dumping::DumpRefusal;
 use std::alloc::{AllocError, Global};
@@ -96,7 +96,7 @@ fn read_up_to<R: Source>(source: &mut R, bytes: &mut Vec<u8>) -> Result<(), Dump
 /// Reads once, and appends what was read.
 fn read_piece<R: Source>(source: &mut R, bytes: &mut Vec<u8>) -> Result<usize, DumpRefusal>
     requires { vec_len bytes.old ≤ 2097152 }
-    ensures { IfOk result (λ count. Grows (R.left source.old) (R.left source.new)
+    ensures { IfOk result (λ count. AppendsRead (R.left source.old) (R.left source.new)
         bytes.old.items bytes.new.items count) }
 {
     let held = bytes.len();

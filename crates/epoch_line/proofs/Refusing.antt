@@ -7,7 +7,7 @@ use Rattle.std.proofs.lemmas.Fmt.{decimal_digit}
 use Rattle.std.proofs.lemmas.List.{length-map, length-append, length_push}
 use Rattle.epoch_line.specs.Line.{IsLine}
 use Rattle.tier_base.specs.Number.{number_text}
-use Rattle.epoch_line.specs.Text.{version_line, count_line, entry_line, entry_text, text_of, CanBegin, IsFirstBad}
+use Rattle.epoch_line.specs.Text.{version_line, count_line, entry_line, entry_text, text_of, CanBegin, IsFirstBadLine}
 use Rattle.epoch_line.proofs.Rising.{length-line}
 use Rattle.tier_base.proofs.Digits.{number-unique}
 use Rattle.epoch_line.proofs.Spelling.{line-front, longer-text, one-more}
@@ -28,7 +28,7 @@ text-parts : (line : List (ℕ × ℕ)) → text_of line ≡ version_line ++ (co
 text-parts line = append_assoc version_line (count_line (length line)) (concat (map entry_line line))
 
 -- no version is there
-pub bad-version : (bytes : List ℕ) → ((n : ℕ) (rest : List ℕ) → n ≤ 0 → bytes ≢ number_text 10 n rest) → IsFirstBad bytes 1
+pub bad-version : (bytes : List ℕ) → ((n : ℕ) (rest : List ℕ) → n ≤ 0 → bytes ≢ number_text 10 n rest) → IsFirstBadLine bytes 1
 bad-version bytes none = record {
   before = [];
   rest = bytes;
@@ -40,7 +40,7 @@ bad-version bytes none = record {
 }
 
 -- no count is there
-pub bad-count : (bytes rest : List ℕ) → bytes ≡ version_line ++ rest → ((n : ℕ) (more : List ℕ) → n ≤ 2 ^ 31 → rest ≢ number_text 10 n more) → IsFirstBad bytes 2
+pub bad-count : (bytes rest : List ℕ) → bytes ≡ version_line ++ rest → ((n : ℕ) (more : List ℕ) → n ≤ 2 ^ 31 → rest ≢ number_text 10 n more) → IsFirstBadLine bytes 2
 bad-count bytes rest is none = record {
   before = version_line ∷ [];
   rest = rest;
@@ -97,7 +97,7 @@ stuck-unread bytes n line longer rest b stuck h e =
     stuck-more n line longer behind.more rest h stuck both.0 behind.is behind.text
 
 -- the entries exist, and no line after them can
-pub bad-line : (bytes : List ℕ) (n : ℕ) (line : List (ℕ × ℕ)) (rest : List ℕ) → BeginsWith bytes n line rest → IsStuck n line rest → IsFirstBad bytes (length line + 3)
+pub bad-line : (bytes : List ℕ) (n : ℕ) (line : List (ℕ × ℕ)) (rest : List ℕ) → BeginsWith bytes n line rest → IsStuck n line rest → IsFirstBadLine bytes (length line + 3)
 bad-line bytes n line rest b stuck = record {
   before = version_line ∷ count_line n ∷ map entry_line line;
   rest = rest;
@@ -138,8 +138,8 @@ begins-whole bytes n line rest b many none =
     ∙ (ap (λ m. version_line ++ (count_line m ++ concat (map entry_line line))) (sym many) ∙ sym (text-parts line))))
 
 -- the same at the number of entries that were read
-pub bad-at : (bytes : List ℕ) (n k : ℕ) (line : List (ℕ × ℕ)) (rest : List ℕ) → BeginsWith bytes n line rest → IsStuck n line rest → length line ≡ k → IsFirstBad bytes (k + 3)
-bad-at bytes n k line rest b stuck e = subst (λ (m : ℕ). IsFirstBad bytes (m + 3)) e (bad-line bytes n line rest b stuck)
+pub bad-at : (bytes : List ℕ) (n k : ℕ) (line : List (ℕ × ℕ)) (rest : List ℕ) → BeginsWith bytes n line rest → IsStuck n line rest → length line ≡ k → IsFirstBadLine bytes (k + 3)
+bad-at bytes n k line rest b stuck e = subst (λ (m : ℕ). IsFirstBadLine bytes (m + 3)) e (bad-line bytes n line rest b stuck)
 
 -- a test says that something is there
 pub some-rest : (rest : List ℕ) → false ≡ (length rest == 0) → rest ≢ []

@@ -45,7 +45,7 @@ CanBegin (version ∷ count ∷ entries) =
     (version ≡ version_line) × ((n : ℕ) × (n ≤ 2 ^ 31) × (count ≡ count_line n) × AreEntries n entries)
 
 -- the bytes are no text, and this is their first line that can't exist, counted from 1
-pub record IsFirstBad (bytes : List ℕ) (number : ℕ) : Type 0 where
+pub record IsFirstBadLine (bytes : List ℕ) (number : ℕ) : Type 0 where
   pub before : List (List ℕ)
   pub rest : List ℕ
   pub parts : bytes ≡ concat before ++ rest
@@ -57,13 +57,13 @@ pub record IsFirstBad (bytes : List ℕ) (number : ℕ) : Type 0 where
 -- what the reader answers
 abbrev pub ReadsText : List ℕ → Result (List (ℕ × ℕ)) TextRefusal → Type 0
 ReadsText bytes (Ok line) = bytes ≡ text_of line
-ReadsText bytes (Err (BadText number)) = IsFirstBad bytes number
+ReadsText bytes (Err (BadText number)) = IsFirstBadLine bytes number
 ReadsText bytes (Err NoMemory) = Unit {0}
 
 -- what the reader of the first two lines answers
 abbrev pub ReadsHead : List ℕ → Result (ℕ × Bor (List ℕ)) TextRefusal → Type 0
 ReadsHead bytes (Ok head) = (head.0 ≤ 2 ^ 31) × (bytes ≡ version_line ++ count_line head.0 ++ head.1.now)
-ReadsHead bytes (Err (BadText number)) = IsFirstBad bytes number
+ReadsHead bytes (Err (BadText number)) = IsFirstBadLine bytes number
 ReadsHead bytes (Err NoMemory) = ⊥
 
 -- an entry, and more

@@ -8,7 +8,7 @@ use Rattle.epoch_line.specs.Line.{IsLine}
 use Rattle.tier_base.specs.declared.plain.Keep.{Keep}
 use Rattle.segment_file.specs.Growing.{Grown}
 use Rattle.segment_meta.specs.declared.note.Entry.{Entry}
-use Rattle.remote_view.specs.Fold.{AreKept, AreDistinct}
+use Rattle.remote_view.specs.Fold.{AreEntriesValid, AreDistinct}
 use Rattle.remote_find.specs.declared.piece.Piece.{Piece}
 use Rattle.remote_find.specs.Pieces.{Pieces, piece_at, beyond, reached, covered_to, and_behind, chained, chain}
 use Rattle.remote_find.proofs.Clipping.{piece_lies}
@@ -57,7 +57,7 @@ module _ (pieces : Pieces) (on : (o : ℕ) (p : Piece) → pieces o ≡ Some p �
       by (Some p) found e = let same : p.to ≡ s = cc in subst (λ (n : ℕ). n ≤ reached pieces most at) same (chained_reached most at k p found)
 
 pub raised_copied : (entries : List Entry) (line : List (ℕ × ℕ)) (log_end start known local : ℕ) (closed : List Grown) (rest : ℕ) (now : ℤ) (keep : Keep) (s : ℕ)
-    → AreKept entries → AreDistinct entries → IsLine line
+    → AreEntriesValid entries → AreDistinct entries → IsLine line
     → raised_to entries (chain entries line log_end start known) (uncopied true local (end_from start (chain entries line log_end start known)) known closed) rest now keep ≡ Some s
     → s ≤ covered_to entries line log_end start
 raised_copied entries line log_end start known local closed rest now keep s kept apart rises e =
@@ -70,7 +70,7 @@ raised_copied entries line log_end start known local closed rest now keep s kept
     (start_due (all_items entries pieces []) rest now keep) s e
 
 pub gone_copied : (entries : List Entry) (line : List (ℕ × ℕ)) (log_end start known local : ℕ) (closed : List Grown) (rest : ℕ) (now : ℤ) (keep : Keep) (s offset : ℕ)
-    → AreKept entries → AreDistinct entries → IsLine line → AllByRecursion (λ (begin : ℕ × ℕ). begin.1 ≤ log_end) line
+    → AreEntriesValid entries → AreDistinct entries → IsLine line → AllByRecursion (λ (begin : ℕ × ℕ). begin.1 ≤ log_end) line
     → raised_to entries (chain entries line log_end start known) (uncopied true local (end_from start (chain entries line log_end start known)) known closed) rest now keep ≡ Some s
     → start ≤ offset → offset < s → IsSome (piece_at entries line log_end offset)
 gone_copied entries line log_end start known local closed rest now keep s offset kept apart rises within e from below =

@@ -8,7 +8,7 @@ use Rattle.tier_base.specs.declared.plain.Keep.{Keep}
 use Rattle.segment_file.specs.Growing.{Grown}
 use Rattle.local_log.specs.Stored.{end_of}
 use Rattle.segment_meta.specs.declared.note.Entry.{Entry}
-use Rattle.remote_view.specs.Fold.{AreKept, AreDistinct}
+use Rattle.remote_view.specs.Fold.{AreEntriesValid, AreDistinct}
 use Rattle.remote_find.specs.declared.piece.Piece.{Piece}
 use Rattle.remote_find.specs.Pieces.{Pieces, piece_at, and_behind, chained, chain}
 use Rattle.remote_find.proofs.Clipping.{piece_lies}
@@ -83,7 +83,7 @@ first_of P ends each zero s e = cc
 first_of P ends each (suc count) s e = each count s e
 
 pub raised_within : (entries : List Entry) (line : List (ℕ × ℕ)) (log_end start known : ℕ) (copying : Bool) (local : ℕ) (closed : List Grown) (rest : ℕ) (now : ℤ) (keep : Keep) (s : ℕ)
-    → AreKept entries → AreDistinct entries → IsLine line
+    → AreEntriesValid entries → AreDistinct entries → IsLine line
     → raised_to entries (chain entries line log_end start known) (uncopied copying local (end_from start (chain entries line log_end start known)) known closed) rest now keep ≡ Some s
     → (start < s) × (s ≤ known)
 raised_within entries line log_end start known copying local closed rest now keep s kept apart rises e =

@@ -21,12 +21,12 @@ use Rattle.segment_meta.specs.declared.note.Note.{Note}
 use Rattle.segment_meta.specs.declared.note.Note.TheVariants.{Update}
 use Rattle.segment_meta.specs.Rules.{bare_custom}
 use Rattle.object_store.specs.Call as store_call
-use Rattle.object_store.specs.Calls.{Deletes}
+use Rattle.object_store.specs.Calls.{DeletesObject}
 use Rattle.object_store.specs.Content as store
 use Rattle.object_store.specs.Place.{keys_of}
 use Rattle.meta_log.specs.declared.event_origin.EventOrigin.{EventOrigin}
 use Rattle.meta_log.specs.Call as meta_call
-use Rattle.meta_log.specs.Calls.{Appends}
+use Rattle.meta_log.specs.Calls.{AppendsToMetaLog}
 use Rattle.meta_log.specs.Content as meta
 use Rattle.plain_log.specs.declared.answer.Answer.TheVariants.{MetaFault, StoreFault, Deleted}
 use Rattle.expiry_task.specs.declared.turn.ExpiredSegment.{ExpiredSegment}
@@ -52,29 +52,30 @@ delete_at n (Some key) = Delete n
 module _ {M : Type 0} (notes : M → meta.Content) (calls : M → Control meta_call.call_code) where
   -- the deletion starts
   abbrev pub StartRow : ExpiredSegment → EventOrigin → Result ExpiryTurn AllocError → M → M → Type 0
-  StartRow expired_segment origin (Ok (Ends MetaFault)) old new = Appends notes calls (note_of expired_segment origin DeleteStarted) Fault old new
+  StartRow expired_segment origin (Ok (Ends MetaFault)) old new = AppendsToMetaLog notes calls (note_of expired_segment origin DeleteStarted) Fault old new
   StartRow expired_segment origin (Ok turn) old new =
-      (turn ≡ Goes (Delete 0)) × Appends notes calls (note_of expired_segment origin DeleteStarted) Went old new
+      (turn ≡ Goes (Delete 0)) × AppendsToMetaLog notes calls
+      (note_of expired_segment origin DeleteStarted) Went old new
   StartRow expired_segment origin (Err e) old new =
-      Appends notes calls (note_of expired_segment origin DeleteStarted) Dry old new
+      AppendsToMetaLog notes calls (note_of expired_segment origin DeleteStarted) Dry old new
 
   -- no object exists any more
   abbrev pub FinishRow : ExpiredSegment → EventOrigin → Result ExpiryTurn AllocError → M → M → Type 0
-  FinishRow expired_segment origin (Ok (Ends MetaFault)) old new = Appends notes calls (note_of expired_segment origin DeleteFinished) Fault old new
+  FinishRow expired_segment origin (Ok (Ends MetaFault)) old new = AppendsToMetaLog notes calls (note_of expired_segment origin DeleteFinished) Fault old new
   FinishRow expired_segment origin (Ok turn) old new =
       (turn ≡ Ends (Deleted expired_segment.id))
-      × Appends notes calls (note_of expired_segment origin DeleteFinished) Went old new
+      × AppendsToMetaLog notes calls (note_of expired_segment origin DeleteFinished) Went old new
   FinishRow expired_segment origin (Err e) old new =
-      Appends notes calls (note_of expired_segment origin DeleteFinished) Dry old new
+      AppendsToMetaLog notes calls (note_of expired_segment origin DeleteFinished) Dry old new
 
 module _ {S : Type 0} (objects : S → store.Content) (calls : S → Control store_call.call_code) where
   -- the object of a number is taken away, where it has a key
   abbrev pub DeleteRow : ExpiredSegment → ℕ → Option ObjectKey → ExpiryTurn → S → S → Type 0
   DeleteRow expired_segment n None turn old new = (turn ≡ Goes Finish) × (new ≡ old)
-  DeleteRow expired_segment n (Some key) (Ends StoreFault) old new = Deletes objects calls key Fault old new
+  DeleteRow expired_segment n (Some key) (Ends StoreFault) old new = DeletesObject objects calls key Fault old new
   DeleteRow expired_segment n (Some key) turn old new =
       (turn ≡ Goes (delete_at (n + 1) (slice_get (keys expired_segment) (n + 1))))
-      × Deletes objects calls key Went old new
+      × DeletesObject objects calls key Went old new
 
 -- what an expiry's turns change: the store and the metadata log
 pub record Tiers (S M : Type 0) : Type 0 where

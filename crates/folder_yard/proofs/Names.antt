@@ -4,7 +4,7 @@ use Rattle.std.specs.Prelude.{codes}
 use Rattle.std.proofs.lemmas.List.{take_at, drop_at, take-append-drop}
 use Rattle.tier_base.specs.declared.plain.FileName.{FileName}
 use Rattle.tier_base.specs.declared.plain.FileName.TheVariants.{Manifest, Log, Notes, Gate, Registry}
-use Rattle.folder_yard.specs.Name.{digits_of, base_text, file_text, IsName, IsNotFixed, ReadsBase, ReadsLog}
+use Rattle.folder_yard.specs.Name.{digits_of, base_text, file_text, IsNameInRange, IsNotFixed, ReadsBase, ReadsLogName}
 
 -- digits that aren't those of their value are those of no base offset
 pub no_base : (digits : List ℕ) (value base : ℕ) → length digits ≡ 20 → base < 2 ^ 64 → base_text base ≡ digits
@@ -33,12 +33,12 @@ pub log_text-end : (base : ℕ) (text back : List ℕ) → base_text base ++ cod
 log_text-end base text back is b = sym (b ∙ (ap (drop 20) (sym is) ∙ drop_at (base_text base) (codes ".log") 20 (base_text-length base)))
 
 -- a log segment's name is read as its base offset is
-pub log_reads : (text front back : List ℕ) (r : Option ℕ) → ReadsBase front r → front ≡ take 20 text → back ≡ drop 20 text → back ≡ codes ".log" → ReadsLog text r
+pub log_reads : (text front back : List ℕ) (r : Option ℕ) → ReadsBase front r → front ≡ take 20 text → back ≡ drop 20 text → back ≡ codes ".log" → ReadsLogName text r
 log_reads text front back None none f b end = λ base small is. none base small (log_text-base base text front is f)
 log_reads text front back (Some base) found f b end = (found.0, ap (λ (d : List ℕ). d ++ codes ".log") (found.1 ∙ f) ∙ (ap (λ (e : List ℕ). take 20 text ++ e) (sym end ∙ b) ∙ take-append-drop 20 text))
 
 -- a name is that of a log segment or another
-pub no_name : (text : List ℕ) → ((base : ℕ) → base < 2 ^ 64 → file_text (Log base) ≢ text) → IsNotFixed text → (name : FileName) → IsName name → file_text name ≢ text
+pub no_name : (text : List ℕ) → ((base : ℕ) → base < 2 ^ 64 → file_text (Log base) ≢ text) → IsNotFixed text → (name : FileName) → IsNameInRange name → file_text name ≢ text
 no_name text log other Manifest is = other.manifest
 no_name text log other (Log base) is = log base is
 no_name text log other Notes is = other.notes

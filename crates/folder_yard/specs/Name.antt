@@ -31,12 +31,12 @@ abbrev pub unfinished : List ℕ
 unfinished = codes ".new"
 
 -- a file whose base offset has 64 bits
-abbrev pub IsName : FileName → Type 0
-IsName Manifest = ⊤
-IsName (Log base) = base < 2 ^ 64
-IsName Notes = ⊤
-IsName Gate = ⊤
-IsName Registry = ⊤
+abbrev pub IsNameInRange : FileName → Type 0
+IsNameInRange Manifest = ⊤
+IsNameInRange (Log base) = base < 2 ^ 64
+IsNameInRange Notes = ⊤
+IsNameInRange Gate = ⊤
+IsNameInRange Registry = ⊤
 
 -- what the reader of a base offset answers: the one that is spelled so, or none where none is
 abbrev pub ReadsBase : List ℕ → Option ℕ → Type 0
@@ -44,9 +44,9 @@ ReadsBase digits None = (base : ℕ) → base < 2 ^ 64 → base_text base ≢ di
 ReadsBase digits (Some base) = (base < 2 ^ 64) × (base_text base ≡ digits)
 
 -- what the reader of a log segment's name answers
-abbrev pub ReadsLog : List ℕ → Option ℕ → Type 0
-ReadsLog text None = (base : ℕ) → base < 2 ^ 64 → file_text (Log base) ≢ text
-ReadsLog text (Some base) = (base < 2 ^ 64) × (file_text (Log base) ≡ text)
+abbrev pub ReadsLogName : List ℕ → Option ℕ → Type 0
+ReadsLogName text None = (base : ℕ) → base < 2 ^ 64 → file_text (Log base) ≢ text
+ReadsLogName text (Some base) = (base < 2 ^ 64) × (file_text (Log base) ≡ text)
 
 -- the name of no other file
 pub record IsNotFixed (text : List ℕ) : Type 0 where
@@ -58,9 +58,9 @@ pub record IsNotFixed (text : List ℕ) : Type 0 where
 -- what the reader of the other names answers
 abbrev pub ReadsFixed : List ℕ → Option FileName → Type 0
 ReadsFixed text None = IsNotFixed text
-ReadsFixed text (Some name) = IsName name × (file_text name ≡ text)
+ReadsFixed text (Some name) = IsNameInRange name × (file_text name ≡ text)
 
 -- what the reader of a name answers: the file that is named so, or none where none is
 abbrev pub ReadsName : List ℕ → Option FileName → Type 0
-ReadsName text None = (name : FileName) → IsName name → file_text name ≢ text
-ReadsName text (Some name) = IsName name × (file_text name ≡ text)
+ReadsName text None = (name : FileName) → IsNameInRange name → file_text name ≢ text
+ReadsName text (Some name) = IsNameInRange name × (file_text name ≡ text)

@@ -1,7 +1,7 @@
 //! A disk over a folder of the operating system.
 
 ghost use Rattle.std.specs.Prelude.{◌≡◌, ◌↔◌, [], false, if◌then◌else◌, Ok, IfOk, IsOk, IsErr};
-ghost use Rattle.tier_base.specs.Device.{IsFresh};
+ghost use Rattle.tier_base.specs.Device.{IsFreshDevice};
 ghost use Rattle.disk_model.specs.Call.{call_code};
 ghost use Rattle.tier_base.specs.Told.{bytes_in};
 ghost use Rattle.disk_model.specs.Deaf.{nothing_told, deaf_lawful};
@@ -31,7 +31,7 @@ impl<R: Files + AllocGlobal + Clone + Drop> FolderDisk<R> {
     /// Opens a disk over a folder, which is made where it is absent, with those above it. What was written and not put
     /// in its place is removed. Fails if a device call fails or memory runs out.
     pub fn open(rt: R, path: &str) -> Result<FolderDisk<R>, Trouble>
-        ensures fresh { IfOk result (λ disk. IsFresh (⟦<FolderDisk<R> as Disk>⟧.control disk)) }
+        ensures fresh { IfOk result (λ disk. IsFreshDevice (⟦<FolderDisk<R> as Disk>⟧.control disk)) }
         ensures plan { IfOk result (λ disk. (⟦<FolderDisk<R> as Disk>⟧.control disk).plan ≡ []) }
         ensures infallible { IfOk result (λ disk.
             (⟦<FolderDisk<R> as Disk>⟧.control disk).infallible ≡ false) }

@@ -1,7 +1,7 @@
 //! A remote store over a folder of the operating system.
 
 ghost use Rattle.std.specs.Prelude.{◌≡◌, [], false, IfOk};
-ghost use Rattle.tier_base.specs.Device.{IsFresh};
+ghost use Rattle.tier_base.specs.Device.{IsFreshDevice};
 ghost use Rattle.object_store.specs.Call.{call_code};
 ghost use Rattle.object_store.specs.Deaf.{nothing_told};
 ghost use Rattle.device_tally.specs.Tally.{control_of, fails_as_planned};
@@ -27,7 +27,7 @@ impl<R: Files + AllocGlobal + Clone + Drop> FolderStore<R> {
     /// Opens a partition's store over a folder, which is made where it is absent, with those above it. What was written
     /// and not put in its place is removed. Fails if a device call fails or memory runs out.
     pub fn open(rt: R, path: &str, partition: PartitionId) -> Result<FolderStore<R>, Trouble>
-        ensures fresh { IfOk result (λ store. IsFresh (⟦<FolderStore<R> as Store>⟧.control store)) }
+        ensures fresh { IfOk result (λ store. IsFreshDevice (⟦<FolderStore<R> as Store>⟧.control store)) }
         ensures plan { IfOk result (λ store. (⟦<FolderStore<R> as Store>⟧.control store).plan ≡ []) }
         ensures infallible { IfOk result (λ store.
             (⟦<FolderStore<R> as Store>⟧.control store).infallible ≡ false) }

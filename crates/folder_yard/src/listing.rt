@@ -2,7 +2,7 @@
 
 ghost use Rattle.std.specs.Prelude.{◌≡◌, ◌↔◌, IsTrue};
 ghost use Rattle.folder_yard.specs.Name.{unfinished};
-ghost use Rattle.folder_yard.specs.Unfinished.{IsOurs, IsUnfinished};
+ghost use Rattle.folder_yard.specs.Unfinished.{IsOurs, IsUnfinishedName};
 
 use crate::name::read_name;
 use crate::object_name::read_object;
@@ -86,7 +86,7 @@ pub fn remove_unfinished<R: Files + AllocGlobal + Clone + Drop>(
 
 /// Whether this is the name of a file of a log, or of an object, that is written and not yet put in its place.
 pub fn is_unfinished(text: &[u8]) -> bool
-    ensures { IsTrue result ↔ IsUnfinished text.now }
+    ensures { IsTrue result ↔ IsUnfinishedName text.now }
 {
     if text.len() < ENDING {
         return false;

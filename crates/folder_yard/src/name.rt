@@ -1,7 +1,7 @@
 //! The names of a broker's files as text, both ways. The module Name of specs/ has the grammar.
 
 ghost use Rattle.std.specs.Prelude.{◌≡◌, ◌+◌, ◌<◌, ◌≤◌, ◌^◌, ◌++◌, ◌↔◌, ℕ, codes, length, IsTrue, string_bytes, string_len, string_capacity};
-ghost use Rattle.folder_yard.specs.Name.{digits_of, base_text, file_text, ReadsBase, ReadsLog, ReadsFixed, ReadsName};
+ghost use Rattle.folder_yard.specs.Name.{digits_of, base_text, file_text, ReadsBase, ReadsLogName, ReadsFixed, ReadsName};
 
 use tier_base::FileName;
 
@@ -100,7 +100,7 @@ fn is_log(end: &[u8]) -> bool
 
 /// The base offset of the log segment with this name.
 fn read_log(text: &[u8]) -> Option<u64>
-    ensures { ReadsLog text.now result }
+    ensures { ReadsLogName text.now result }
 {
     if text.len() != 24 {
         return None;

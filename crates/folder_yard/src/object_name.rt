@@ -1,7 +1,7 @@
 //! The names of a partition's objects as text, both ways. The module Object of specs/ has the grammar.
 
 ghost use Rattle.std.specs.Prelude.{◌≡◌, ◌+◌, ◌≤◌, ◌++◌, length, string_bytes, string_len, string_capacity};
-ghost use Rattle.tier_base.specs.Key.{id_text, part_text, ReadsPart};
+ghost use Rattle.tier_base.specs.Key.{id_text, part_text, ReadsKeyEnd};
 ghost use Rattle.folder_yard.specs.Object.{object_text, ReadsObject};
 
 use tier_base::{ObjectKey, Part, PartitionId, SegmentId};
@@ -50,7 +50,7 @@ pub fn push_object(text: &mut String, key: &ObjectKey, ending: &str)
 
 /// The part whose object's name ends so.
 fn part_of(end: &[u8]) -> Option<Part>
-    ensures { ReadsPart end.now result }
+    ensures { ReadsKeyEnd end.now result }
 {
     if end == b".log".as_slice() {
         return Some(Part::Log);

@@ -7,7 +7,7 @@
 //! a fault. If the file system has no such locks, nothing guards against that.
 
 ghost use Rattle.std.specs.Prelude.{◌≡◌, None, IfOk};
-ghost use Rattle.tier_base.specs.Device.{IsFresh};
+ghost use Rattle.tier_base.specs.Device.{IsFreshDevice};
 ghost use Rattle.device_yard.specs.Control as control;
 ghost use Rattle.device_yard.specs.YardContent.{Rise};
 ghost use Rattle.folder_yard.specs.Yard.{nothing_held};
@@ -40,7 +40,7 @@ impl<R: Files<File = File> + AllocGlobal + Clone + Drop> FolderYard<R> {
     /// Makes an environment over a folder, and touches no file. The folder is made with the first device. Fails only if
     /// memory runs out.
     pub fn new(rt: R, dir: &str) -> Result<FolderYard<R>, AllocError>
-        ensures fresh { IfOk result (λ yard. control.IsFresh (⟦<FolderYard<R> as Yard>⟧.control yard)) }
+        ensures fresh { IfOk result (λ yard. control.IsFreshYard (⟦<FolderYard<R> as Yard>⟧.control yard)) }
         ensures named { IfOk result (λ yard. (⟦<FolderYard<R> as Yard>⟧.control yard).named ≡ None) }
     {
         let dir = if dir.is_empty() { "." } else { dir };
@@ -122,7 +122,7 @@ impl<R: Files<File = File> + AllocGlobal + Clone + Drop> FolderYard<R> {
 
     /// Opens a disk under the folder.
     fn open_disk(&self, path: &str) -> Result<FolderDisk<R>, Trouble>
-        ensures { IfOk result (λ disk. IsFresh (⟦<FolderDisk<R> as Disk>⟧.control disk)) }
+        ensures { IfOk result (λ disk. IsFreshDevice (⟦<FolderDisk<R> as Disk>⟧.control disk)) }
     {
         FolderDisk::open(self.rt.clone()?, path)
     }
@@ -160,7 +160,7 @@ fn open_log<R: Files + AllocGlobal + Clone + Drop>(
     alloc: Global,
     disk: FolderDisk<R>,
 ) -> Result<DiskLog<FolderDisk<R>>, Trouble>
-    ensures { IfOk result (λ log. IsFresh (⟦<DiskLog<FolderDisk<R>> as meta_log::MetaLog>⟧.control log)) }
+    ensures { IfOk result (λ log. IsFreshDevice (⟦<DiskLog<FolderDisk<R>> as meta_log::MetaLog>⟧.control log)) }
 {
     match DiskLog::open(alloc, disk) {
         Ok(log) => Ok(log),
@@ -183,7 +183,7 @@ impl<R: Files<File = File> + AllocGlobal + Clone + Drop> FolderYard<R> {
         partition: PartitionId,
         broker: BrokerId,
     ) -> Result<FolderDisk<R>, Trouble>
-        ensures fresh { IfOk result (λ disk. IsFresh (⟦<FolderDisk<R> as Disk>⟧.control disk)) }
+        ensures fresh { IfOk result (λ disk. IsFreshDevice (⟦<FolderDisk<R> as Disk>⟧.control disk)) }
         ensures counts { self.new.counts ≡ self.old.counts }
     {
         told(self.enter())?;
@@ -193,7 +193,7 @@ impl<R: Files<File = File> + AllocGlobal + Clone + Drop> FolderYard<R> {
 
     /// Opens a partition's store.
     fn make_store(&mut self, partition: PartitionId) -> Result<FolderStore<R>, Trouble>
-        ensures fresh { IfOk result (λ store. IsFresh (⟦<FolderStore<R> as object_store::Store>⟧.control store)) }
+        ensures fresh { IfOk result (λ store. IsFreshDevice (⟦<FolderStore<R> as object_store::Store>⟧.control store)) }
         ensures counts { self.new.counts ≡ self.old.counts }
     {
         told(self.enter())?;
@@ -203,7 +203,8 @@ impl<R: Files<File = File> + AllocGlobal + Clone + Drop> FolderYard<R> {
 
     /// Opens a partition's metadata log.
     fn make_log(&mut self, partition: PartitionId) -> Result<DiskLog<FolderDisk<R>>, Trouble>
-        ensures fresh { IfOk result (λ log. IsFresh (⟦<DiskLog<FolderDisk<R>> as meta_log::MetaLog>⟧.control log)) }
+        ensures fresh { IfOk result
+            (λ log. IsFreshDevice (⟦<DiskLog<FolderDisk<R>> as meta_log::MetaLog>⟧.control log)) }
         ensures counts { self.new.counts ≡ self.old.counts }
     {
         told(self.enter())?;
@@ -214,7 +215,7 @@ impl<R: Files<File = File> + AllocGlobal + Clone + Drop> FolderYard<R> {
 
     /// Opens the disk that keeps a partition's registry.
     fn make_registry(&mut self, partition: PartitionId) -> Result<FolderDisk<R>, Trouble>
-        ensures fresh { IfOk result (λ disk. IsFresh (⟦<FolderDisk<R> as Disk>⟧.control disk)) }
+        ensures fresh { IfOk result (λ disk. IsFreshDevice (⟦<FolderDisk<R> as Disk>⟧.control disk)) }
         ensures counts { self.new.counts ≡ self.old.counts }
     {
         told(self.enter())?;

@@ -33,12 +33,12 @@ use Rattle.partition_world.specs.declared.actor_state.Outcome.TheVariants.{Answe
 use Rattle.partition_world.specs.declared.actor_state.ActorState.{ActorState}
 use Rattle.partition_world.specs.declared.actor_state.InProgress.{InProgress}
 use Rattle.partition_world.specs.declared.actor_state.InProgress.TheVariants.{Idle, Noted, Copies, Seeks, Dates, Expires, Rebuilds}
-use Rattle.partition_world.specs.Reaches.{Goes as GoesOnce}
+use Rattle.partition_world.specs.Reaches.{TakesTurn as GoesOnce}
 use Rattle.partition_world.specs.ActorStates.{actor_state_after, told_of, IsUnanswered}
-use Rattle.partition_world.specs.Turn.{IsNext, IsTurn}
+use Rattle.partition_world.specs.Turn.{IsNextOrder, IsTurn}
 use Rattle.partition_world.specs.Whole.{Whole}
 use Rattle.laws_answers.specs.Turns.{copying_left, deleting_left, seeking_left, dating_left, rebuilding_left, turns_of, second_left, turns_left}
-use Rattle.laws_answers.specs.Chains.{times, IsAnswered, Runs}
+use Rattle.laws_answers.specs.Chains.{times, IsCommandAnswered, RunsTurns}
 use Rattle.laws_answers.proofs.Progress.{go_on, others_stay}
 
 -- a command takes one turn more at least
@@ -120,7 +120,7 @@ entry actor number answer = record { actor = actor; number = number; event = eve
 module _ {D S M : Type 0} (disk : DiskGhosts D) (store : StoreGhosts S) (meta : MetaGhosts M) where
   -- what is answered stays so
   answered_more : (v u : Whole D S M) (actor : ActorId) (number : ℕ) (answer : Answer) (more : List JournalEntry) → u.journal.items ≡ v.journal.items ++ more
-      → IsAnswered v actor number answer → IsAnswered u actor number answer
+      → IsCommandAnswered v actor number answer → IsCommandAnswered u actor number answer
   answered_more v u actor number answer more is h = record {
     before = h.before;
     after = h.after ++ more;
@@ -132,7 +132,7 @@ module _ {D S M : Type 0} (disk : DiskGhosts D) (store : StoreGhosts S) (meta : 
   goes_more v b u (inr (end, same)) = ([], ap (λ (k : Whole D S M). k.journal.items) same ∙ sym (append-nil v.journal.items))
 
   -- the turn is the command's own
-  pub own_turn : (place : ℕ) (v : Whole D S M) (b : ℕ) (outcome : Outcome) (u : Whole D S M) (t : IsTurn disk store meta v b outcome u) → t.place ≡ place → IsNext v b place t.list t.actor_state t.order
+  pub own_turn : (place : ℕ) (v : Whole D S M) (b : ℕ) (outcome : Outcome) (u : Whole D S M) (t : IsTurn disk store meta v b outcome u) → t.place ≡ place → IsNextOrder v b place t.list t.actor_state t.order
   own_turn place v b outcome u t same = record {
     at = record {
       list = ap (λ (n : ℕ). slice_get v.lists n) (sym same) ∙ t.at.list;
@@ -152,19 +152,19 @@ module _ {D S M : Type 0} (disk : DiskGhosts D) (store : StoreGhosts S) (meta : 
       → t.actor_state.number ≡ number → t.order.command ≡ kind → W t.actor_state.work → Q answer)
       (further : (v : Whole D S M) (b : ℕ) (outcome : Outcome) (u : Whole D S M) (t : IsTurn disk store meta v b outcome u) → IsUnanswered outcome → W t.actor_state.work → W (actor_state_after t.actor_state outcome).work) where
     abbrev pub Result : Whole D S M → Type 0
-    Result u = (answer : Answer) × Q answer × IsAnswered u l.actor number answer
+    Result u = (answer : Answer) × Q answer × IsCommandAnswered u l.actor number answer
 
     -- the command is still to be answered
     pub record Waits (v : Whole D S M) : Type 0 where
       pub rising : AreRising v.lists
       pub actor_state : ActorState
       pub order : Order
-      pub next : IsNext v a place l actor_state order
+      pub next : IsNextOrder v a place l actor_state order
       pub number_is : actor_state.number ≡ number
       pub kind_is : order.command ≡ kind
       pub works : W actor_state.work
 
-    stays : (actors : List ℕ) (v u : Whole D S M) → Runs disk store meta P v actors u → Result v → Result u
+    stays : (actors : List ℕ) (v u : Whole D S M) → RunsTurns disk store meta P v actors u → Result v → Result u
     stays [] v u r h = subst Result (sym r) h
     stays (b ∷ actors) v u (x, goes, p, rest) h =
         let more = goes_more v b x goes in
@@ -254,7 +254,7 @@ module _ {D S M : Type 0} (disk : DiskGhosts D) (store : StoreGhosts S) (meta : 
       not_own : b ≢ a
       not_own e = other (one_list v.lists t.place place t.list l s.rising t.at.list s.next.at.list (t.at.actor ∙ (e ∙ sym s.next.at.actor)))
 
-    pub run_by : (actors : List ℕ) (v u : Whole D S M) (s : Waits v) → I v → Runs disk store meta P v actors u → left s.actor_state.work ≤ times a actors → Result u
+    pub run_by : (actors : List ℕ) (v u : Whole D S M) (s : Waits v) → I v → RunsTurns disk store meta P v actors u → left s.actor_state.work ≤ times a actors → Result u
     run_by [] v u s i r le = absurd (let one = some s.actor_state.work in omega (arith, one, le))
     run_by (b ∷ actors) v u s i (x, inl (outcome, t), p, rest) le = elim (nat_cases t.place place) [
       | inr other ↦
@@ -277,7 +277,7 @@ module _ {D S M : Type 0} (disk : DiskGhosts D) (store : StoreGhosts S) (meta : 
         let high = within l.orders s.actor_state.number s.order s.next.next in
         omega (arith, low, high)) in
         let count = times_other a b actors ne in
-        run_by actors v u s i (subst (λ (k : Whole D S M). Runs disk store meta P k actors u) same rest) (omega (arith, le, count))
+        run_by actors v u s i (subst (λ (k : Whole D S M). RunsTurns disk store meta P k actors u) same rest) (omega (arith, le, count))
 
   -- by the turns that are left
   pub falls_left : (kind : Command) (v : Whole D S M) (b : ℕ) (outcome : Outcome) (u : Whole D S M) (t : IsTurn disk store meta v b outcome u) → IsUnanswered outcome → t.order.command ≡ kind
@@ -296,12 +296,12 @@ module _ {D S M : Type 0} (disk : DiskGhosts D) (store : StoreGhosts S) (meta : 
         → t.order.command ≡ kind → Left (actor_state_after t.actor_state outcome).work < Left t.actor_state.work
     Falls v b outcome u t un p same number_is is = falls_left kind v b outcome u t un is
 
-    pub run : (actors : List ℕ) (v u : Whole D S M) (s : Waits I P W Q kind a place number l Left (some_left kind) Falls keeps ends further v) → I v → Runs disk store meta P v actors u
-        → turns_left kind s.actor_state.work ≤ times a actors → (answer : Answer) × Q answer × IsAnswered u l.actor number answer
+    pub run : (actors : List ℕ) (v u : Whole D S M) (s : Waits I P W Q kind a place number l Left (some_left kind) Falls keeps ends further v) → I v → RunsTurns disk store meta P v actors u
+        → turns_left kind s.actor_state.work ≤ times a actors → (answer : Answer) × Q answer × IsCommandAnswered u l.actor number answer
     run actors v u s i r le = run_by I P W Q kind a place number l Left (some_left kind) Falls keeps ends further actors v u s i r le
 
-  pub are_answered : (w : Whole D S M) (a place : ℕ) (l : ActorList) (actor_state : ActorState) (order : Order) (actors : List ℕ) (w' : Whole D S M) → AreRising w.lists → IsNext w a place l actor_state order
-      → Runs disk store meta (λ v b u. Unit {0}) w actors w' → turns_left order.command actor_state.work ≤ times a actors → (answer : Answer) × IsAnswered w' l.actor actor_state.number answer
+  pub are_answered : (w : Whole D S M) (a place : ℕ) (l : ActorList) (actor_state : ActorState) (order : Order) (actors : List ℕ) (w' : Whole D S M) → AreRising w.lists → IsNextOrder w a place l actor_state order
+      → RunsTurns disk store meta (λ v b u. Unit {0}) w actors w' → turns_left order.command actor_state.work ≤ times a actors → (answer : Answer) × IsCommandAnswered w' l.actor actor_state.number answer
   are_answered w a place l actor_state order actors w' rising next r le =
       let k = run (λ v. Unit {0}) (λ v b u. Unit {0}) (λ work. Unit {0}) (λ answer. Unit {0}) order.command a place actor_state.number l (λ v b outcome u t i. tt)
       (λ v b outcome answer u t is i p same number kind works. tt) (λ v b outcome u t un works. tt) actors w w'

@@ -15,7 +15,7 @@ use Rattle.partition_world.specs.Infallible.{IsUnfailing}
 use Rattle.partition_world.specs.Turn.{IsTurn}
 use Rattle.partition_world.specs.Whole.{Whole}
 use Rattle.partition_world.proofs.InfallibleLaw.{reaches_unfailing}
-use Rattle.laws_answers.specs.Faults.{DiskFailed, StoreFailed, MetaFailed, MeetsNoFault}
+use Rattle.laws_answers.specs.Faults.{DiskFailed, StoreFailed, MetaFailed, CommandMeetsNoFault}
 use Rattle.laws_answers.proofs.ChainsOfTurns.{entry}
 
 last_infallible : (items : List JournalEntry) (last : JournalEntry) → AreFaultless (items ++ last ∷ []) → HasNoFault last.event
@@ -30,7 +30,7 @@ module _ {D S M : Type 0} (disk : DiskGhosts D) (store : StoreGhosts S) (meta : 
     pub store_clear : answer ≡ StoreFault → StoreFailed store w w' → ⊥
     pub meta_clear : answer ≡ MetaFault → MetaFailed meta w w' → ⊥
 
-  pub well_clear : (b : ℕ) (answer : Answer) (w w' : Whole D S M) → MeetsNoFault disk store meta b w w' → Clear b answer w w'
+  pub well_clear : (b : ℕ) (answer : Answer) (w w' : Whole D S M) → CommandMeetsNoFault disk store meta b w w' → Clear b answer w w'
   well_clear b answer w w' well = record {
     disk_clear = λ e. well.disk_well;
     end_clear = λ n e. well.disk_well;

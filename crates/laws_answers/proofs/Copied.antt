@@ -26,14 +26,14 @@ use Rattle.partition_world.specs.Infallible.{IsUnfailing}
 use Rattle.partition_world.specs.Central.{IsCentral}
 use Rattle.partition_world.specs.ActorStates.{chosen, moved, sought, dated, expired_segment, deleting, rebuilding, actor_state_after, IsUnanswered}
 use Rattle.partition_world.specs.Tier.{AtBrokerTier}
-use Rattle.partition_world.specs.Turn.{IsNext, IsTurn}
+use Rattle.partition_world.specs.Turn.{IsNextOrder, IsTurn}
 use Rattle.partition_world.specs.Whole.{Whole}
 use Rattle.partition_world.proofs.Begins.{begins_idle}
 use Rattle.partition_world.proofs.CentralLaw.{turn_central}
-use Rattle.laws_answers.specs.CausesOfCopies.{HasCause, MayCopy}
+use Rattle.laws_answers.specs.CausesOfCopies.{CopyHasCause, MayCopy}
 use Rattle.laws_answers.specs.DeletionsKnown.{DeletionsKnown}
 use Rattle.laws_answers.specs.Turns.{turns_left}
-use Rattle.laws_answers.specs.Chains.{times, IsAnswered, Runs}
+use Rattle.laws_answers.specs.Chains.{times, IsCommandAnswered, RunsTurns}
 use Rattle.laws_answers.proofs.ChainsOfTurns.{run, own_turn}
 use Rattle.laws_answers.specs.UnhinderedCopies.{IsFree, IsUnhindered}
 use Rattle.laws_answers.proofs.Clear.{Clear, well_clear, turn_infallible, infallible_clear}
@@ -59,7 +59,7 @@ module _ {D S M : Type 0} (disk : DiskGhosts D) (store : StoreGhosts S) (meta : 
   copied_so (Expires g segment next) answer is = is
   copied_so (Rebuilds g next) answer is = is
 
-  first_copied : (w : Whole D S M) (b : ℕ) (x : Node D) (broker_tier : BrokerTierState) (answer : Answer) (w' : Whole D S M) → HasCause disk store meta w b x broker_tier Idle answer w' → MayCopy w x broker_tier Idle → Clear disk store meta b answer w w'
+  first_copied : (w : Whole D S M) (b : ℕ) (x : Node D) (broker_tier : BrokerTierState) (answer : Answer) (w' : Whole D S M) → CopyHasCause disk store meta w b x broker_tier Idle answer w' → MayCopy w x broker_tier Idle → Clear disk store meta b answer w w'
       → IsCopiedAnswer answer
   first_copied w b x broker_tier Down w' cause may clear = let up = may.0 in absurd (cc (cause, up))
   first_copied w b x broker_tier NotLeader w' cause may clear = let leads = may.1 in absurd (cc (cause, leads))
@@ -67,14 +67,14 @@ module _ {D S M : Type 0} (disk : DiskGhosts D) (store : StoreGhosts S) (meta : 
   first_copied w b x broker_tier MetaFault w' cause may clear = absurd (clear.meta_clear refl cause.1)
   first_copied w b x broker_tier other w' cause may clear = elim cause [ ]
 
-  second_copied : (w : Whole D S M) (b : ℕ) (x : Node D) (broker_tier : BrokerTierState) (g : _) (answer : Answer) (w' : Whole D S M) → HasCause disk store meta w b x broker_tier (Noted g) answer w' → MayCopy w x broker_tier (Noted g)
+  second_copied : (w : Whole D S M) (b : ℕ) (x : Node D) (broker_tier : BrokerTierState) (g : _) (answer : Answer) (w' : Whole D S M) → CopyHasCause disk store meta w b x broker_tier (Noted g) answer w' → MayCopy w x broker_tier (Noted g)
       → Clear disk store meta b answer w w' → IsCopiedAnswer answer
   second_copied w b x broker_tier g LostLead w' cause may clear = absurd (cause may.0)
   second_copied w b x broker_tier g Level w' cause may clear = absurd (may.1 cause)
   second_copied w b x broker_tier g DiskFault w' cause may clear = absurd (clear.disk_clear refl cause)
   second_copied w b x broker_tier g other w' cause may clear = elim cause [ ]
 
-  later_copied : (w : Whole D S M) (b : ℕ) (x : Node D) (broker_tier : BrokerTierState) (g : _) (copy : _) (next : CopyStep) (answer : Answer) (w' : Whole D S M) → HasCause disk store meta w b x broker_tier (Copies g copy next) answer w'
+  later_copied : (w : Whole D S M) (b : ℕ) (x : Node D) (broker_tier : BrokerTierState) (g : _) (copy : _) (next : CopyStep) (answer : Answer) (w' : Whole D S M) → CopyHasCause disk store meta w b x broker_tier (Copies g copy next) answer w'
       → MayCopy w x broker_tier (Copies g copy next) → Clear disk store meta b answer w w' → CopiedFor (Copies g copy next) answer
   later_copied w b x broker_tier g copy next LostLead w' cause may clear = absurd (cause may.0)
   later_copied w b x broker_tier g copy next MetaFault w' cause may clear = absurd (clear.meta_clear refl cause)
@@ -83,7 +83,7 @@ module _ {D S M : Type 0} (disk : DiskGhosts D) (store : StoreGhosts S) (meta : 
   later_copied w b x broker_tier g copy next (CopiedSegment id base last) w' cause may clear = let one = cause.id_is in let two = cause.base_is in let three = cause.last_is in cc (one, two, three)
   later_copied w b x broker_tier g copy next other w' cause may clear = elim cause [ ]
 
-  any_copied : (w : Whole D S M) (b : ℕ) (x : Node D) (broker_tier : BrokerTierState) (work : InProgress) (answer : Answer) (w' : Whole D S M) → HasCause disk store meta w b x broker_tier work answer w' → MayCopy w x broker_tier work
+  any_copied : (w : Whole D S M) (b : ℕ) (x : Node D) (broker_tier : BrokerTierState) (work : InProgress) (answer : Answer) (w' : Whole D S M) → CopyHasCause disk store meta w b x broker_tier work answer w' → MayCopy w x broker_tier work
       → Clear disk store meta b answer w w' → CopiedFor work answer
   any_copied w b x broker_tier Idle answer w' cause may clear = first_copied w b x broker_tier answer w' cause may clear
   any_copied w b x broker_tier (Noted g) answer w' cause may clear = second_copied w b x broker_tier g answer w' cause may clear
@@ -105,8 +105,8 @@ module _ {D S M : Type 0} (disk : DiskGhosts D) (store : StoreGhosts S) (meta : 
   ends_copied opening place number v b answer u t known free same number_is copies clear =
       let c = t.order.broker.0 in
       let h = free t.list t.actor_state t.order (own_turn disk store meta place v b (Answers answer) u t same) number_is in
-      let x = some_of (λ x. AtBrokerTier v.tier c (λ broker_tier. HasCause disk store meta v c x broker_tier t.actor_state.work answer u)) (slice_get v.held.nodes c) (have_causes disk store meta opening v b answer u known.0 known.1 t copies) in
-      let broker_tier = some_of (λ broker_tier. HasCause disk store meta v c x.0 broker_tier t.actor_state.work answer u) (slice_get v.tier.broker_tiers c) x.2 in
+      let x = some_of (λ x. AtBrokerTier v.tier c (λ broker_tier. CopyHasCause disk store meta v c x broker_tier t.actor_state.work answer u)) (slice_get v.held.nodes c) (have_causes disk store meta opening v b answer u known.0 known.1 t copies) in
+      let broker_tier = some_of (λ broker_tier. CopyHasCause disk store meta v c x.0 broker_tier t.actor_state.work answer u) (slice_get v.tier.broker_tiers c) x.2 in
       let y = some_of (λ x. AtBrokerTier v.tier c (λ broker_tier. MayCopy v x broker_tier t.actor_state.work)) (slice_get v.held.nodes c) h in
       let z = some_of (λ broker_tier. MayCopy v y.0 broker_tier t.actor_state.work) (slice_get v.tier.broker_tiers c) y.2 in
       let may : MayCopy v x.0 broker_tier.0 t.actor_state.work =
@@ -124,14 +124,14 @@ module _ {D S M : Type 0} (disk : DiskGhosts D) (store : StoreGhosts S) (meta : 
   free_copied opening place number v b other answer u t is known free same number_is copies = absurd (cc (is))
 
   pub are_copied : (opening : State) (w : Whole D S M) (a place : ℕ) (l : ActorList) (actor_state : ActorState) (order : Order) (actors : List ℕ) (w' : Whole D S M) → IsCentral disk store meta opening w
-      → DeletionsKnown meta w → IsNext w a place l actor_state order → order.command ≡ Copy → Runs disk store meta (IsUnhindered disk store meta place actor_state.number) w actors w'
-      → turns_left Copy actor_state.work ≤ times a actors → (id : SegmentId) × (base : ℕ) × (last : ℕ) × IsAnswered w' l.actor actor_state.number (CopiedSegment id base last)
+      → DeletionsKnown meta w → IsNextOrder w a place l actor_state order → order.command ≡ Copy → RunsTurns disk store meta (IsUnhindered disk store meta place actor_state.number) w actors w'
+      → turns_left Copy actor_state.work ≤ times a actors → (id : SegmentId) × (base : ℕ) × (last : ℕ) × IsCommandAnswered w' l.actor actor_state.number (CopiedSegment id base last)
   are_copied opening w a place l actor_state order actors w' c known next copies r le =
       let k = run disk store meta (AllKnown opening) (IsUnhindered disk store meta place actor_state.number) (λ work. Unit {0}) IsCopiedAnswer Copy a place actor_state.number l (turn_known opening)
       (λ v b outcome answer u t is i p same number copy works. copied_so t.actor_state.work answer (free_copied opening place actor_state.number v b outcome answer u t is i p same number copy)) (λ v b outcome u t un works. tt) actors w w'
       (record { rising = c.central.stands.rising; actor_state = actor_state; order = order; next = next; number_is = refl; kind_is = copies; works = tt }) (c, known) r le in
       let is = k.1 in
-      (is.0, is.1, is.2, subst (IsAnswered w' l.actor actor_state.number) is.3 k.2)
+      (is.0, is.1, is.2, subst (IsCommandAnswered w' l.actor actor_state.number) is.3 k.2)
 
   -- a copy that has chosen its segment
 
@@ -155,14 +155,14 @@ module _ {D S M : Type 0} (disk : DiskGhosts D) (store : StoreGhosts S) (meta : 
   still_of g copy v b (Rebuilding next) u t un of = (of.0, ap (λ (work : InProgress). rebuilding work next) of.1)
 
   pub chosen_copied : (opening : State) (w : Whole D S M) (a place : ℕ) (l : ActorList) (actor_state : ActorState) (order : Order) (g : StartSnapshot) (copy : Copied) (next : CopyStep) (actors : List ℕ) (w' : Whole D S M)
-      → IsCentral disk store meta opening w → DeletionsKnown meta w → IsNext w a place l actor_state order → order.command ≡ Copy → actor_state.work ≡ Copies g copy next
-      → Runs disk store meta (IsUnhindered disk store meta place actor_state.number) w actors w' → turns_left Copy actor_state.work ≤ times a actors
-      → IsAnswered w' l.actor actor_state.number (CopiedSegment copy.id copy.segment.base copy.segment.last)
+      → IsCentral disk store meta opening w → DeletionsKnown meta w → IsNextOrder w a place l actor_state order → order.command ≡ Copy → actor_state.work ≡ Copies g copy next
+      → RunsTurns disk store meta (IsUnhindered disk store meta place actor_state.number) w actors w' → turns_left Copy actor_state.work ≤ times a actors
+      → IsCommandAnswered w' l.actor actor_state.number (CopiedSegment copy.id copy.segment.base copy.segment.last)
   chosen_copied opening w a place l actor_state order g copy next actors w' c known at copies works r le =
       let k = run disk store meta (AllKnown opening) (IsUnhindered disk store meta place actor_state.number) (IsOf g copy) (λ answer. answer ≡ CopiedSegment copy.id copy.segment.base copy.segment.last) Copy a place actor_state.number l (turn_known opening)
       (λ v b outcome answer u t is i p same number copy of. subst (λ (work : InProgress). CopiedFor work answer) of.1 (free_copied opening place actor_state.number v b outcome answer u t is i p same number copy)) (still_of g copy) actors w w'
       (record { rising = c.central.stands.rising; actor_state = actor_state; order = order; next = at; number_is = refl; kind_is = copies; works = (next, works) }) (c, known) r le in
-      subst (IsAnswered w' l.actor actor_state.number) k.1 k.2
+      subst (IsCommandAnswered w' l.actor actor_state.number) k.1 k.2
 
   -- over devices of which no call can fail
 
@@ -175,11 +175,11 @@ module _ {D S M : Type 0} (disk : DiskGhosts D) (store : StoreGhosts S) (meta : 
   ends_infallible opening place number v b other answer u t is known free same number_is copies works = absurd (cc (is))
 
   pub infallible_copied : (opening : State) (w : Whole D S M) (a place : ℕ) (l : ActorList) (actor_state : ActorState) (order : Order) (actors : List ℕ) (w' : Whole D S M) → IsCentral disk store meta opening w
-      → DeletionsKnown meta w → IsUnfailing disk store meta w → IsNext w a place l actor_state order → order.command ≡ Copy → Runs disk store meta (IsFree disk store meta place actor_state.number) w actors w'
-      → turns_left Copy actor_state.work ≤ times a actors → (id : SegmentId) × (base : ℕ) × (last : ℕ) × IsAnswered w' l.actor actor_state.number (CopiedSegment id base last)
+      → DeletionsKnown meta w → IsUnfailing disk store meta w → IsNextOrder w a place l actor_state order → order.command ≡ Copy → RunsTurns disk store meta (IsFree disk store meta place actor_state.number) w actors w'
+      → turns_left Copy actor_state.work ≤ times a actors → (id : SegmentId) × (base : ℕ) × (last : ℕ) × IsCommandAnswered w' l.actor actor_state.number (CopiedSegment id base last)
   infallible_copied opening w a place l actor_state order actors w' c known infallible next copies r le =
       let k = run disk store meta (λ v. AllKnown opening v × IsUnfailing disk store meta v) (IsFree disk store meta place actor_state.number) (λ work. Unit {0}) IsCopiedAnswer Copy a place actor_state.number l
       (λ v b outcome u t i. (turn_known opening v b outcome u t i.0, turn_infallible disk store meta v b outcome u t i.1)) (ends_infallible opening place actor_state.number) (λ v b outcome u t un works. tt) actors w w'
       (record { rising = c.central.stands.rising; actor_state = actor_state; order = order; next = next; number_is = refl; kind_is = copies; works = tt }) ((c, known), infallible) r le in
       let is = k.1 in
-      (is.0, is.1, is.2, subst (IsAnswered w' l.actor actor_state.number) is.3 k.2)
+      (is.0, is.1, is.2, subst (IsCommandAnswered w' l.actor actor_state.number) is.3 k.2)

@@ -11,9 +11,9 @@ use Rattle.meta_log.specs.declared.log.MetaLog.{Ghosts as MetaGhosts}
 use Rattle.meta_log.specs.declared.event_origin.EventOrigin.{EventOrigin}
 use Rattle.segment_meta.specs.declared.note.Entry.{Entry}
 use Rattle.segment_meta.specs.declared.note.Note.{Note}
-use Rattle.remote_view.specs.Fold.{Seen as View, state_of, entry_of, fold}
+use Rattle.remote_view.specs.Fold.{EntriesSeen as View, state_of, entry_of, fold}
 use Rattle.copy_task.specs.Copying.{Copied, keys}
-use Rattle.copy_task.specs.Turns.{StartRow, FinishRow, CheckRow, PutRow, DeleteRow, CopyRow, checked, delete_at, overtaken}
+use Rattle.copy_task.specs.Turns.{StartRow, FinishRow, CheckRow, PutObjectRow, DeleteRow, CopyTurnRow, checked, delete_at, overtaken}
 use Rattle.copy_task.specs.declared.turn.CopyTurn.{CopyTurn}
 use Rattle.copy_task.specs.declared.turn.CopyTurn.TheVariants.{Goes as GoesOn, Ends}
 use Rattle.copy_task.specs.declared.turn.CopyStep.{CopyStep}
@@ -34,7 +34,7 @@ use Rattle.partition_commands.specs.Partition.{AtNode}
 use Rattle.partition_commands.proofs.Shown.{some_at}
 use Rattle.tier_safe.specs.Copies.{is_deleted}
 use Rattle.tier_safe.specs.Scene.{TierTask as InProgressIsSeen, Copies as CopiesSeen}
-use Rattle.tier_safe.specs.Turns.{Shows}
+use Rattle.tier_safe.specs.Turns.{ShowsScene}
 use Rattle.tier_safe.proofs.Turning.{refreshes}
 use Rattle.partition_world.specs.declared.actor_state.Outcome.TheVariants.{Answers, Begins}
 use Rattle.partition_world.specs.declared.actor_state.InProgress.{InProgress}
@@ -44,12 +44,12 @@ use Rattle.partition_world.specs.ActorStates.{copy_outcome}
 use Rattle.partition_world.specs.Tier.{AtBrokerTier}
 use Rattle.partition_world.specs.Central.{IsCentral, work_of}
 use Rattle.partition_world.specs.Turn.{IsTurn}
-use Rattle.partition_world.specs.TurnsOfCopy.{CopyFirstRow, ReadRow, ReadsNext, ChooseRow, CopyOnRow, GoesOnCopy, copied_to, tiers_of, origin_of}
+use Rattle.partition_world.specs.TurnsOfCopy.{CopyFirstRow, ReadSegmentRow, ReadsNext, ChooseRow, CopyOnRow, GoesOnCopy, copied_to, tiers_of, origin_of}
 use Rattle.partition_world.specs.Turns.{Row}
 use Rattle.partition_world.specs.Whole.{Whole}
 use Rattle.partition_world.proofs.Begins.{row_of, begins_idle}
 use Rattle.partition_world.proofs.Scenes.{Place, place_of, tier_view, shows_at, few_now}
-use Rattle.laws_answers.specs.CausesOfCopies.{FirstCause, ChoiceCause, LaterCause, HasCause}
+use Rattle.laws_answers.specs.CausesOfCopies.{CopyFirstCause, ChoiceCause, CopyLaterCause, CopyHasCause}
 use Rattle.laws_answers.specs.DeletionsKnown.{DeletionsKnown, ShowsDeleted}
 
 -- an id with an entry has that entry's state
@@ -65,7 +65,7 @@ module _ {D S M : Type 0} (disk : DiskGhosts D) (store : StoreGhosts S) (meta : 
     abbrev b : ℕ
     b = t.order.broker.0
 
-    first : (k : Answer) → CopyFirstRow meta w.held w.tier b z.x z.broker_tier (Answers k) w'.tier → FirstCause disk store meta w z.x k w'
+    first : (k : Answer) → CopyFirstRow meta w.held w.tier b z.x z.broker_tier (Answers k) w'.tier → CopyFirstCause disk store meta w z.x k w'
     first Down row = row.0
     first NotLeader row = row.1
     first CopyOff row = (row.0, row.1, row.2)
@@ -74,7 +74,7 @@ module _ {D S M : Type 0} (disk : DiskGhosts D) (store : StoreGhosts S) (meta : 
 
     -- the segment that comes next is read
     reads : (g : StartSnapshot) (n : ReadsNext disk w.partition w.held w.tier b z.x z.broker_tier (Answers answer) w'.held w'.tier) (k : Answer)
-        → ReadRow disk w.partition b z.x z.broker_tier (copied_to z.x z.broker_tier w.held.registry.start) (Answers k) n.node n.broker_tier_after → ChoiceCause disk store meta w b z.x z.broker_tier g k w'
+        → ReadSegmentRow disk w.partition b z.x z.broker_tier (copied_to z.x z.broker_tier w.held.registry.start) (Answers k) n.node n.broker_tier_after → ChoiceCause disk store meta w b z.x z.broker_tier g k w'
     reads g n DiskFault row =
         let lasts : Lasting disk.control z.x.log n.node.log = rw row.0.reads.after row.0.reads.lasts in
         let one : OneFault disk.control z.x.log n.node.log = rw row.0.reads.after row.0.cause in
@@ -92,7 +92,7 @@ module _ {D S M : Type 0} (disk : DiskGhosts D) (store : StoreGhosts S) (meta : 
 
     -- a later turn
     abbrev Later : StartSnapshot → Copied → Answer → Type 0
-    Later g copy k = LaterCause disk store meta w z.x g copy k w'
+    Later g copy k = CopyLaterCause disk store meta w z.x g copy k w'
 
     start : (g : StartSnapshot) (copy : Copied) (origin : EventOrigin) (k : Answer) → StartRow meta.content meta.control copy origin (Ok (Ends k)) w.tier.meta w'.tier.meta → Later g copy k
     start g copy origin MetaFault row = row.control.ran.cause refl
@@ -102,15 +102,15 @@ module _ {D S M : Type 0} (disk : DiskGhosts D) (store : StoreGhosts S) (meta : 
     finish g copy origin MetaFault row = row.control.ran.cause refl
     finish g copy origin other row = let e = row.0 in absurd (cc (e))
 
-    put : (g : StartSnapshot) (copy : Copied) (n : ℕ) (key : Option ObjectKey) (k : Answer) → PutRow store.content store.control copy n key (Ok (Ends k)) w.tier.store w'.tier.store → Later g copy k
+    put : (g : StartSnapshot) (copy : Copied) (n : ℕ) (key : Option ObjectKey) (k : Answer) → PutObjectRow store.content store.control copy n key (Ok (Ends k)) w.tier.store w'.tier.store → Later g copy k
     put g copy n None k row = let e = row.0 in absurd (cc (e))
     put g copy n (Some key) StoreFault row = row.puts.control.ran.cause refl
     put g copy n (Some key) other row = let e = row.0 in absurd (cc (e))
 
     -- what the actor's state is seen to keep
     module _ (g : StartSnapshot) (copy : Copied) (next : CopyStep) (works : t.actor_state.work ≡ Copies g copy next) where
-      at : Shows c.scene t.place b (tier_view disk store meta opening w c t.place t.list t.actor_state t.order z) (CopiesSeen copy next) (store.content w.tier.store) (meta.content w.tier.meta) z.broker_tier.view
-      at = subst (λ (k : InProgressIsSeen). Shows c.scene t.place b (tier_view disk store meta opening w c t.place t.list t.actor_state t.order z) k (store.content w.tier.store) (meta.content w.tier.meta) z.broker_tier.view)
+      at : ShowsScene c.scene t.place b (tier_view disk store meta opening w c t.place t.list t.actor_state t.order z) (CopiesSeen copy next) (store.content w.tier.store) (meta.content w.tier.meta) z.broker_tier.view
+      at = subst (λ (k : InProgressIsSeen). ShowsScene c.scene t.place b (tier_view disk store meta opening w c t.place t.list t.actor_state t.order z) k (store.content w.tier.store) (meta.content w.tier.meta) z.broker_tier.view)
           (ap (work_of (Some t.order)) works) (shows_at disk store meta opening w c t.place t.list t.actor_state t.order z)
 
     -- the copy is recorded as whole
@@ -165,7 +165,7 @@ module _ {D S M : Type 0} (disk : DiskGhosts D) (store : StoreGhosts S) (meta : 
         (below g copy n works) row.0
 
     ended : (g : StartSnapshot) (copy : Copied) (next : CopyStep) → t.actor_state.work ≡ Copies g copy next → (k : Answer) (view : View)
-        → CopyRow store.content store.control meta.content meta.control copy (origin_of w.held b) next (Ok (Ends k)) (tiers_of z.broker_tier.view w.tier) (tiers_of view w'.tier) → Later g copy k
+        → CopyTurnRow store.content store.control meta.content meta.control copy (origin_of w.held b) next (Ok (Ends k)) (tiers_of z.broker_tier.view w.tier) (tiers_of view w'.tier) → Later g copy k
     ended g copy Start works k view row = start g copy (origin_of w.held b) k row.1
     ended g copy (Put n) works k view row = put g copy n (slice_get (keys copy) n) k row.1
     ended g copy Finish works k view row = finish g copy (origin_of w.held b) k row.1
@@ -181,7 +181,7 @@ module _ {D S M : Type 0} (disk : DiskGhosts D) (store : StoreGhosts S) (meta : 
         by (Ends k) is goes = let same : k ≡ answer = cc (is) in subst (Later g copy) same (ended g copy next works k goes.view goes.row)
 
     by_work : (work : InProgress) → t.actor_state.work ≡ work → Row disk store meta w.partition w.config w.held w.tier b z.x z.broker_tier work Copy (Answers answer) w'.held w'.tier
-        → HasCause disk store meta w b z.x z.broker_tier work answer w'
+        → CopyHasCause disk store meta w b z.x z.broker_tier work answer w'
     by_work Idle is row = first answer row.0
     by_work (Noted g) is row = second g row
     by_work (Copies g copy next) is row = later g copy next is row.0
@@ -192,14 +192,14 @@ module _ {D S M : Type 0} (disk : DiskGhosts D) (store : StoreGhosts S) (meta : 
 
   pub have_causes : (opening : State) (w : Whole D S M) (a : ℕ) (answer : Answer) (w' : Whole D S M) → IsCentral disk store meta opening w → DeletionsKnown meta w
       → (t : IsTurn disk store meta w a (Answers answer) w') → t.order.command ≡ Copy
-      → AtNode w.held t.order.broker.0 (λ x. AtBrokerTier w.tier t.order.broker.0 (λ broker_tier. HasCause disk store meta w t.order.broker.0 x broker_tier t.actor_state.work answer w'))
+      → AtNode w.held t.order.broker.0 (λ x. AtBrokerTier w.tier t.order.broker.0 (λ broker_tier. CopyHasCause disk store meta w t.order.broker.0 x broker_tier t.actor_state.work answer w'))
   have_causes opening w a answer w' c known t copies =
       let b = t.order.broker.0 in
       let r = row_of disk store meta w.partition w.config w.held w.tier b t.actor_state.work t.order.command (Answers answer) w'.held w'.tier t.row in
       let z = place_of disk store meta opening w c t.place t.list t.actor_state t.order t.at.list t.at.actor_state_is t.next r.x r.at r.broker_tier r.broker_tier_at in
       let row = subst (λ (k : Command). Row disk store meta w.partition w.config w.held w.tier b r.x r.broker_tier t.actor_state.work k (Answers answer) w'.held w'.tier) copies r.row in
-      some_at (λ (x : Node D). AtBrokerTier w.tier b (λ broker_tier. HasCause disk store meta w b x broker_tier t.actor_state.work answer w')) (slice_get w.held.nodes b) r.x r.at
-      (some_at (λ (broker_tier : BrokerTierState). HasCause disk store meta w b r.x broker_tier t.actor_state.work answer w') (slice_get w.tier.broker_tiers b) r.broker_tier r.broker_tier_at
+      some_at (λ (x : Node D). AtBrokerTier w.tier b (λ broker_tier. CopyHasCause disk store meta w b x broker_tier t.actor_state.work answer w')) (slice_get w.held.nodes b) r.x r.at
+      (some_at (λ (broker_tier : BrokerTierState). CopyHasCause disk store meta w b r.x broker_tier t.actor_state.work answer w') (slice_get w.tier.broker_tiers b) r.broker_tier r.broker_tier_at
       (by_work opening w a answer w' t c known z t.actor_state.work refl row))
 
   -- a copy begins where segments are copied

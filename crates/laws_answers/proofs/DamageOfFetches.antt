@@ -18,20 +18,20 @@ use Rattle.partition_world.specs.declared.actor_state.InProgress.TheVariants.{Id
 use Rattle.partition_world.specs.Central.{IsCentral}
 use Rattle.partition_world.specs.Turn.{IsTurn}
 use Rattle.partition_world.specs.Whole.{Whole}
-use Rattle.laws_answers.specs.CausesOfFetches.{LaterCause, HasCause}
+use Rattle.laws_answers.specs.CausesOfFetches.{FetchLaterCause, FetchHasCause}
 use Rattle.laws_answers.specs.Found.{SpansKnown}
 use Rattle.laws_answers.proofs.FetchesHaveCauses.{have_causes}
 
 module _ {D S M : Type 0} (disk : DiskGhosts D) (store : StoreGhosts S) (meta : MetaGhosts M) where
   -- damage has no cause
   later_never : (w : Whole D S M) (x : Node D) (g : StartSnapshot) (offset limit : ℕ) (next : FetchStep) (place : Place) (at : ℕ) (w' : Whole D S M)
-      → LaterCause disk store meta w x g offset limit next (Damaged place at) w' → ⊥
+      → FetchLaterCause disk store meta w x g offset limit next (Damaged place at) w' → ⊥
   later_never w x g offset limit Refresh place at w' cause = cause
   later_never w x g offset limit (Index piece) place at w' cause = cause
   later_never w x g offset limit (Log piece span) place at w' cause = cause
 
   never : (w : Whole D S M) (b : ℕ) (x : Node D) (work : InProgress) (offset limit : ℕ) (place : Place) (at : ℕ) (w' : Whole D S M)
-      → HasCause disk store meta w b x work offset limit (Damaged place at) w' → ⊥
+      → FetchHasCause disk store meta w b x work offset limit (Damaged place at) w' → ⊥
   never w b x Idle offset limit place at w' cause = cause
   never w b x (Noted g) offset limit place at w' cause = later_never w x g offset limit Refresh place at w' cause
   never w b x (Seeks g next) offset limit place at w' cause = later_never w x g offset limit next place at w' cause
@@ -41,6 +41,6 @@ module _ {D S M : Type 0} (disk : DiskGhosts D) (store : StoreGhosts S) (meta : 
       → (t : IsTurn disk store meta w a (Answers (Damaged place at)) w') → t.order.command ≡ Fetch offset limit → ⊥
   none_damaged opening w a place at w' offset limit c known t fetches =
       let b = t.order.broker.0 in
-      let x = some_of (λ x. HasCause disk store meta w b x t.actor_state.work offset limit (Damaged place at) w') (slice_get w.held.nodes b)
+      let x = some_of (λ x. FetchHasCause disk store meta w b x t.actor_state.work offset limit (Damaged place at) w') (slice_get w.held.nodes b)
       (have_causes disk store meta opening w a (Damaged place at) w' offset limit c known t fetches) in
       never w b x.0 t.actor_state.work offset limit place at w' x.2

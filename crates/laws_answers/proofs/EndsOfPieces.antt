@@ -15,7 +15,7 @@ use Rattle.plain_log.specs.declared.state.State.{State as Plain}
 use Rattle.plain_log.specs.Safe.{LogSafe, PlainSafe}
 use Rattle.object_store.specs.Content.{Objects}
 use Rattle.remote_view.specs.declared.spans.Span.{Span}
-use Rattle.remote_view.specs.Fold.{entry_of, AreKept, AreDistinct, IsKept}
+use Rattle.remote_view.specs.Fold.{entry_of, AreEntriesValid, AreDistinct, IsEntryValid}
 use Rattle.remote_view.specs.Lookup.{finished}
 use Rattle.remote_view.specs.Stairs.{span_of}
 use Rattle.remote_view.proofs.Best.{found_among, entry_found}
@@ -156,7 +156,7 @@ one_of_both a b n is = elim (cases_lt a b) [ inl less ↦ inl (omega (arith, is,
 
 -- where a piece ends that is found, a batch of the log does
 pub piece_ends : (p : Plain) (objects : Objects) (entries : List Entry) (line : List (ℕ × ℕ)) (log : List (List ℕ)) (offset : ℕ) (piece : Piece) → PlainSafe p → FinishedStand objects p.paths entries
-    → AreKept entries → AreDistinct entries → TellsEpochs line log → LogSafe p.paths log → piece_at entries line (end_of log) offset ≡ Some piece → EndsAt piece.to log
+    → AreEntriesValid entries → AreDistinct entries → TellsEpochs line log → LogSafe p.paths log → piece_at entries line (end_of log) offset ≡ Some piece → EndsAt piece.to log
 piece_ends p objects entries line log offset piece s stand kept distinct is_observable safe made =
     let k = piece_lies entries line (end_of log) offset piece kept distinct is_observable.rises made in
     let epoch = k.0 in
@@ -188,7 +188,7 @@ piece_ends p objects entries line log offset piece s stand kept distinct is_obse
     let shares : Shares whole log last =
     entry_agrees p entry held.batches held.line log last epoch s held.describes safe (omega (arith, within.0, low, high)) (omega (arith, within.1, high)) of_map of_log in
     let in_copy : EndsAt piece.to whole → EndsAt piece.to log = λ e. shared_end whole log piece.to last whole_safe.consecutive e shares (omega (arith, next)) in
-    let is_kept : IsKept entry = kept_found piece.id entries entry kept i.copy in
+    let is_kept : IsEntryValid entry = kept_found piece.id entries entry kept i.copy in
     elim (one_of_both q.span.to q.own.to piece.to q.made.1) [
       | inr by_line ↦ elim (cases_lt piece.to (end_of log)) [
         | inr all ↦ subst (λ (n : ℕ). EndsAt n log) (omega (arith, all, end)) (ends_at_end log)

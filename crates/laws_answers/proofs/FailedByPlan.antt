@@ -8,7 +8,7 @@ use Rattle.disk_model.specs.declared.disk.Disk.{Ghosts as DiskGhosts}
 use Rattle.object_store.specs.declared.store.Store.{Ghosts as StoreGhosts}
 use Rattle.meta_log.specs.declared.log.MetaLog.{Ghosts as MetaGhosts}
 use Rattle.plain_log.specs.declared.command.Pace.{Pace}
-use Rattle.broker_log.specs.Seen.{Kept, Up, Down, Away, OnDisk, Lasting}
+use Rattle.broker_log.specs.Seen.{LogState, Up, Down, Away, OnDisk, Lasting}
 use Rattle.partition_commands.specs.declared.partition_state.Node.{Node}
 use Rattle.partition_commands.specs.Disks.{HaveDisks, DisksLast}
 use Rattle.partition_commands.proofs.LastingDisks.{disk_map}
@@ -25,7 +25,7 @@ module _ {K : Type 0} {code : K → ℕ} where
   }
 
 module _ {D : Type 0} (control : D → Control call_code) (law : (d : D) → FailsAsPlanned (control d)) where
-  log_by_plan : (old new : Kept D) → Lasting control old new → OnDisk old (λ d. IsTrue (control d).scripted) → OnDisk old (λ d. OnDisk new (λ e. FailedByPlan (control d) (control e)))
+  log_by_plan : (old new : LogState D) → Lasting control old new → OnDisk old (λ d. IsTrue (control d).scripted) → OnDisk old (λ d. OnDisk new (λ e. FailedByPlan (control d) (control e)))
   log_by_plan (Up l) new lasts r = disk_map (λ e. Lasts (control l.disk) (control e)) (λ e. FailedByPlan (control l.disk) (control e)) new (λ e p. by_plan (control l.disk) (control e) (law e) p r) lasts
   log_by_plan (Down i d) new lasts r = disk_map (λ e. Lasts (control d) (control e)) (λ e. FailedByPlan (control d) (control e)) new (λ e p. by_plan (control d) (control e) (law e) p r) lasts
   log_by_plan Away new lasts r = absurd r

@@ -28,9 +28,9 @@ use Rattle.partition_commands.specs.Disks.{DisksLast, DiskFails}
 use Rattle.partition_commands.proofs.LastingDisks.{rose_from, rose_on, FailsFor, last_have, fails_after, fails_before}
 use Rattle.partition_commands.proofs.Shown.{some_at}
 use Rattle.partition_commands.proofs.Told.{Told, told_map}
-use Rattle.partition_world.specs.Fresh.{IsNew}
+use Rattle.partition_world.specs.Fresh.{IsNewWorld}
 use Rattle.partition_world.specs.Lasting.{HaveLasted}
-use Rattle.partition_world.specs.Reaches.{Goes as GoesOnce, GoesTimes, GoesUntil, Paces, Reaches}
+use Rattle.partition_world.specs.Reaches.{TakesTurn as GoesOnce, GoesTimes, GoesUntil, Paces, Reaches}
 use Rattle.partition_world.specs.ActorStates.{told_of}
 use Rattle.partition_world.specs.Turn.{IsTurn}
 use Rattle.partition_world.specs.Whole.{Whole}
@@ -40,7 +40,7 @@ use Rattle.partition_world.proofs.Begins.{IsRow, row_of}
 use Rattle.partition_world.proofs.LastingRuns.{lasted_then, turn_lasted, reaches_lasting}
 use Rattle.partition_world.proofs.LastingTurns.{Leaving, turn_lasts}
 use Rattle.partition_world.proofs.TurnsTold.{TurnTold, StoreRose, MetaRose}
-use Rattle.laws_answers.specs.Counted.{DiskFailedFor, FailedAs, IsCounted, FaultsAreCounted}
+use Rattle.laws_answers.specs.Counted.{DiskFailedFor, FailedAs, IsFaultCounted, FaultsAreCounted}
 
 -- what holds of all entries, and of one more
 all_more : (P : JournalEntry → Type 0) (entries : List JournalEntry) (entry : JournalEntry) → AllByRecursion P entries → P entry → AllByRecursion P (entries ++ entry ∷ [])
@@ -182,7 +182,7 @@ module _ {D S M : Type 0} (disk : DiskGhosts D) (store : StoreGhosts S) (meta : 
 
   -- nothing has been reported in a new world
 
-  new_since : (config : Config) (lists : List ActorList) (w : Whole D S M) → AreListsFor config lists → IsNew lists w → IsSince w w
+  new_since : (config : Config) (lists : List ActorList) (w : Whole D S M) → AreListsFor config lists → IsNewWorld lists w → IsSince w w
   new_since config lists w fit f = record {
     lists = refl;
     rising = subst AreRising (sym f.lists_are) fit.rising;
@@ -203,11 +203,11 @@ module _ {D S M : Type 0} (disk : DiskGhosts D) (store : StoreGhosts S) (meta : 
   failed_as w v order MetaFault t = t
   failed_as w v order other t = tt
 
-  pub reaches_counted : (config : Config) (lists : List ActorList) (w : Whole D S M) (schedule : List Pace) (w' : Whole D S M) → AreListsFor config lists → IsNew lists w
+  pub reaches_counted : (config : Config) (lists : List ActorList) (w : Whole D S M) (schedule : List Pace) (w' : Whole D S M) → AreListsFor config lists → IsNewWorld lists w
       → Reaches disk store meta w schedule w' → FaultsAreCounted disk store meta w w'
   reaches_counted config lists w schedule w' fit f r =
       let k = reaches_since w w schedule w' r (new_since config lists w fit f) in
-      all_map (EntryTells w w') (IsCounted disk store meta w w') w'.journal.items
+      all_map (EntryTells w w') (IsFaultCounted disk store meta w w') w'.journal.items
       (λ entry e.
       subst (λ (l : List ActorList). IsSomeAnd (order_of l entry) (λ order. (answer : Answer) → entry.event ≡ event.Answers answer → FailedAs disk store meta order answer w w')) (sym k.lists)
       (some_map _ _ (order_of w.lists entry) (λ order g answer is. failed_as w w' order answer (g answer is)) e)) k.journal

@@ -16,7 +16,7 @@ use Rattle.meta_log.specs.declared.log.MetaLog.{Ghosts as MetaGhosts}
 use Rattle.sparse_index.specs.Offsets.{OffsetTable}
 use Rattle.index_cache.specs.Cache.{Cache, found}
 use Rattle.segment_meta.specs.declared.note.Note.{Note}
-use Rattle.remote_view.specs.Fold.{Seen as View, entry_of}
+use Rattle.remote_view.specs.Fold.{EntriesSeen as View, entry_of}
 use Rattle.remote_find.specs.declared.piece.Piece.{Piece}
 use Rattle.remote_find.specs.Pieces.{piece_at}
 use Rattle.tier_fetch.specs.declared.turn.FetchTurn.TheVariants.{Ends}
@@ -24,7 +24,7 @@ use Rattle.tier_fetch.specs.declared.turn.FetchStep.{FetchStep}
 use Rattle.tier_fetch.specs.declared.turn.FetchStep.TheVariants.{Refresh, Index, Log}
 use Rattle.tier_fetch.specs.declared.turn.Span.{Span}
 use Rattle.tier_fetch.specs.declared.turn.FetchRequest.{FetchRequest}
-use Rattle.tier_fetch.specs.Turns.{chosen, spot_in, LoadsBytes, Loads, CutsBytes, Cuts, RefreshRow, IndexRow, LoadRow, LogRow}
+use Rattle.tier_fetch.specs.Turns.{chosen, spot_in, LoadsBytes, Loads, CutsBytes, CutsRunOut, RefreshRow, IndexRow, LoadRow, LogRow}
 use Rattle.plain_log.specs.declared.answer.Answer.{Answer}
 use Rattle.plain_log.specs.declared.answer.Answer.TheVariants.{Down, NotLeader, OutOfRange, Empty, DiskFault, MetaFault, StoreFault, Damaged, Stopped, Run}
 use Rattle.plain_log.specs.declared.answer.Place.{Place as Spoiled}
@@ -58,13 +58,13 @@ use Rattle.partition_world.specs.declared.actor_state.InProgress.TheVariants.{Id
 use Rattle.partition_world.specs.Central.{IsCentral, seeks_of, begun_of, work_of}
 use Rattle.partition_world.specs.ActorStates.{recorded_in, outcome_of}
 use Rattle.partition_world.specs.Turn.{IsTurn}
-use Rattle.partition_world.specs.TurnsOfFetch.{AnswersAtOnce, GoesOnFetch, Serves, FetchOnRow, fetch_tiers, wanted_of}
+use Rattle.partition_world.specs.TurnsOfFetch.{AnswersAtOnce, GoesOnFetch, MayServe, FetchOnRow, fetch_tiers, wanted_of}
 use Rattle.partition_world.specs.Turns.{Row}
 use Rattle.partition_world.specs.Whole.{Whole}
 use Rattle.partition_world.proofs.Begins.{row_of}
 use Rattle.partition_world.proofs.Scenes.{Place, place_of, tier_view}
-use Rattle.laws_answers.specs.CausesOfFetches.{IsLogsRun, FirstCause, LaterCause, HasCause}
-use Rattle.laws_answers.specs.Found.{IsFound, SpansKnown}
+use Rattle.laws_answers.specs.CausesOfFetches.{IsLogsRun, FetchFirstCause, FetchLaterCause, FetchHasCause}
+use Rattle.laws_answers.specs.Found.{FetchHasFound, SpansKnown}
 use Rattle.laws_answers.proofs.PlacesOfFetches.{sound, marked, turn_at}
 use Rattle.laws_answers.proofs.ReadingOfFetches.{not_damaged}
 
@@ -121,7 +121,7 @@ module _ {S : Type 0} (store : StoreGhosts S) where
   LogTells other old new = IndexTells other old new
 
   cuts_tells : (wanted : FetchRequest) (piece : Piece) (spot : Spot) (span : Span) (given : Result (Option (List ℕ)) Trouble) (answer : Answer) (old new : S)
-      → Ran Get (fate_of given) (store.control old) (store.control new) → Cuts wanted piece spot span given (Ok (Ends answer)) → LogTells answer old new
+      → Ran Get (fate_of given) (store.control old) (store.control new) → CutsRunOut wanted piece spot span given (Ok (Ends answer)) → LogTells answer old new
   cuts_tells wanted piece spot span (Err Failed) answer old new ran k = let e : StoreFault ≡ answer = cc (k) in subst (λ (n : Answer). LogTells n old new) e (ran.cause refl)
   cuts_tells wanted piece spot span (Err NoMemory) answer old new ran k = absurd (cc (k))
   cuts_tells wanted piece spot span (Ok None) answer old new ran k = let e : Damaged (Key spot.key) 0 ≡ answer = cc (k) in subst (λ (n : Answer). LogTells n old new) e tt
@@ -146,7 +146,7 @@ module _ {D S M : Type 0} (disk : DiskGhosts D) (store : StoreGhosts S) (meta : 
     b = t.order.broker.0
 
     -- the first turn
-    first : (k : Answer) → LocalRow disk.content disk.control w.held b z.x offset limit k w'.held → FirstCause disk store meta w b z.x offset limit k w'
+    first : (k : Answer) → LocalRow disk.content disk.control w.held b z.x offset limit k w'.held → FetchFirstCause disk store meta w b z.x offset limit k w'
     first Down row = row.0
     first NotLeader row = row.1
     first (OutOfRange start end) row = record { outside = row.2; start_is = row.3; end_is = row.4 }
@@ -178,22 +178,22 @@ module _ {D S M : Type 0} (disk : DiskGhosts D) (store : StoreGhosts S) (meta : 
 
     -- a later one, of an actor's state that keeps what was recorded, and has this next
     module _ (g : StartSnapshot) (next : FetchStep) (recorded : recorded_in t.actor_state.work ≡ Some g) (seeks : work_of (Some t.order) t.actor_state.work ≡ seeks_of b g next t.order.command)
-        (so_far : IsFound c.central.plain.paths (meta.content w.tier.meta).notes (unwrap_or (leading g.role) 0) offset limit next) where
+        (so_far : FetchHasFound c.central.plain.paths (meta.content w.tier.meta).notes (unwrap_or (leading g.role) 0) offset limit next) where
       abbrev wanted : FetchRequest
       wanted = wanted_of w.partition z.x offset limit
 
       -- it met no damage
-      undamaged : (place : Spoiled) (at : ℕ) → Serves w.held z.x g offset → GoesOnFetch store meta w.partition w.tier b z.x z.broker_tier offset limit next (Ends (Damaged place at)) w'.tier → ⊥
+      undamaged : (place : Spoiled) (at : ℕ) → MayServe w.held z.x g offset → GoesOnFetch store meta w.partition w.tier b z.x z.broker_tier offset limit next (Ends (Damaged place at)) w'.tier → ⊥
       undamaged place at serves goes =
           let below = serves.below in
           not_damaged c.scene c.central.plain t.place b (tier_view disk store meta opening w c t.place t.list t.actor_state t.order z) (broker_of (node_of z.x z.s)) g.stops (unwrap_or (leading g.role) 0) wanted (line_of z.x)
           store.content store.control meta.content meta.control next place at (fetch_tiers z.broker_tier.view z.broker_tier.cache w.tier) (fetch_tiers goes.view goes.cache w'.tier)
           (turn_at disk store meta opening w c t.place t.list t.actor_state t.order z offset limit fetches g next recorded seeks serves) goes.row
-          (subst (λ (notes : List Note). IsFound c.central.plain.paths notes (unwrap_or (leading g.role) 0) offset limit next) (sym c.shows_tier.notes) so_far) below
+          (subst (λ (notes : List Note). FetchHasFound c.central.plain.paths notes (unwrap_or (leading g.role) 0) offset limit next) (sym c.shows_tier.notes) so_far) below
           (marked disk store meta opening w c t.place t.list t.actor_state t.order z)
 
       -- a run is the log's
-      runs : (tier : Tier) (size : ℕ) (stop : Stop) (bytes : List ℕ) (piece : Piece) → piece_of next ≡ Some piece → Serves w.held z.x g offset
+      runs : (tier : Tier) (size : ℕ) (stop : Stop) (bytes : List ℕ) (piece : Piece) → piece_of next ≡ Some piece → MayServe w.held z.x g offset
           → GoesOnFetch store meta w.partition w.tier b z.x z.broker_tier offset limit next (Ends (Run tier size stop bytes)) w'.tier → (tier ≡ Remote piece.id) × IsLogsRun disk z.x offset limit size stop bytes
       runs tier size stop bytes piece is serves goes =
           let r = runs_are_logs store.content store.control meta.content meta.control wanted (line_of z.x) next tier size stop bytes (fetch_tiers z.broker_tier.view z.broker_tier.cache w.tier)
@@ -207,35 +207,35 @@ module _ {D S M : Type 0} (disk : DiskGhosts D) (store : StoreGhosts S) (meta : 
     -- such a turn, by what is next
     module _ (g : StartSnapshot) (recorded : recorded_in t.actor_state.work ≡ Some g) where
       abbrev Cause : FetchStep → Answer → Type 0
-      Cause next k = LaterCause disk store meta w z.x g offset limit next k w'
+      Cause next k = FetchLaterCause disk store meta w z.x g offset limit next k w'
 
       abbrev Shown : FetchStep → Type 0
       Shown next = work_of (Some t.order) t.actor_state.work ≡ seeks_of b g next t.order.command
 
       abbrev So : FetchStep → Type 0
-      So next = IsFound c.central.plain.paths (meta.content w.tier.meta).notes (unwrap_or (leading g.role) 0) offset limit next
+      So next = FetchHasFound c.central.plain.paths (meta.content w.tier.meta).notes (unwrap_or (leading g.role) 0) offset limit next
 
       abbrev On : FetchStep → Answer → Type 0
       On next k = GoesOnFetch store meta w.partition w.tier b z.x z.broker_tier offset limit next (Ends k) w'.tier
 
-      refreshed : (k : Answer) → RefreshTells meta k w.tier.meta w'.tier.meta → Shown Refresh → Serves w.held z.x g offset → On Refresh k → Cause Refresh k
+      refreshed : (k : Answer) → RefreshTells meta k w.tier.meta w'.tier.meta → Shown Refresh → MayServe w.held z.x g offset → On Refresh k → Cause Refresh k
       refreshed MetaFault is_observable shows serves goes = is_observable
       refreshed (Damaged place at) is_observable shows serves goes = absurd (undamaged g Refresh recorded shows tt place at serves goes)
       refreshed other is_observable shows serves goes = elim is_observable [ ]
 
-      indexed : (piece : Piece) (k : Answer) → IndexTells store k w.tier.store w'.tier.store → Shown (Index piece) → So (Index piece) → Serves w.held z.x g offset → On (Index piece) k → Cause (Index piece) k
+      indexed : (piece : Piece) (k : Answer) → IndexTells store k w.tier.store w'.tier.store → Shown (Index piece) → So (Index piece) → MayServe w.held z.x g offset → On (Index piece) k → Cause (Index piece) k
       indexed piece StoreFault is_observable shows so serves goes = is_observable
       indexed piece (Damaged place at) is_observable shows so serves goes = absurd (undamaged g (Index piece) recorded shows so place at serves goes)
       indexed piece other is_observable shows so serves goes = elim is_observable [ ]
 
-      logged : (piece : Piece) (span : Span) (k : Answer) → LogTells store k w.tier.store w'.tier.store → Shown (Log piece span) → So (Log piece span) → Serves w.held z.x g offset → On (Log piece span) k
+      logged : (piece : Piece) (span : Span) (k : Answer) → LogTells store k w.tier.store w'.tier.store → Shown (Log piece span) → So (Log piece span) → MayServe w.held z.x g offset → On (Log piece span) k
           → Cause (Log piece span) k
       logged piece span StoreFault is_observable shows so serves goes = is_observable
       logged piece span (Damaged place at) is_observable shows so serves goes = absurd (undamaged g (Log piece span) recorded shows so place at serves goes)
       logged piece span (Run tier size stop bytes) is_observable shows so serves goes = runs g (Log piece span) recorded shows so tier size stop bytes piece refl serves goes
       logged piece span other is_observable shows so serves goes = elim is_observable [ ]
 
-      ended : (next : FetchStep) (k : Answer) → Shown next → So next → Serves w.held z.x g offset → On next k → Cause next k
+      ended : (next : FetchStep) (k : Answer) → Shown next → So next → MayServe w.held z.x g offset → On next k → Cause next k
       ended Refresh k shows so serves goes = refreshed k (refresh_tells meta (wanted_of w.partition z.x offset limit) (line_of z.x) k z.broker_tier.view goes.view w.tier.meta w'.tier.meta goes.row.1) shows serves goes
       ended (Index piece) k shows so serves goes =
           indexed piece k
@@ -269,11 +269,11 @@ module _ {D S M : Type 0} (disk : DiskGhosts D) (store : StoreGhosts S) (meta : 
       later next k shows so row = ended next _ shows so row.0 row.1
 
     by_work : (work : InProgress) → t.actor_state.work ≡ work → Row disk store meta w.partition w.config w.held w.tier b z.x z.broker_tier work (Fetch offset limit) (Answers answer) w'.held w'.tier
-        → HasCause disk store meta w b z.x work offset limit answer w'
+        → FetchHasCause disk store meta w b z.x work offset limit answer w'
     by_work Idle is row = by row.0.0 row.0.1 row.0.2
       where
-        by : (turned : Turned) → Answers answer ≡ outcome_of turned → LocalTurn disk.content disk.control w.held b z.x offset limit turned w'.held → HasCause disk store meta w b z.x Idle offset limit answer w'
-        by (turned.Answers k) is turn = let same : k ≡ answer = cc (is) in subst (λ (j : Answer). FirstCause disk store meta w b z.x offset limit j w') same (first k turn)
+        by : (turned : Turned) → Answers answer ≡ outcome_of turned → LocalTurn disk.content disk.control w.held b z.x offset limit turned w'.held → FetchHasCause disk store meta w b z.x Idle offset limit answer w'
+        by (turned.Answers k) is turn = let same : k ≡ answer = cc (is) in subst (λ (j : Answer). FetchFirstCause disk store meta w b z.x offset limit j w') same (first k turn)
         by (turned.Begins g) is turn = absurd (cc (is))
     by_work (Noted g) is row =
         later g (ap recorded_in is) Refresh answer (ap (work_of (Some t.order)) is ∙ (ap (begun_of b g) fetches ∙ sym (ap (seeks_of b g Refresh) fetches))) tt row.0
@@ -285,11 +285,11 @@ module _ {D S M : Type 0} (disk : DiskGhosts D) (store : StoreGhosts S) (meta : 
 
   pub have_causes : (opening : State) (w : Whole D S M) (a : ℕ) (answer : Answer) (w' : Whole D S M) (offset limit : ℕ) → IsCentral disk store meta opening w → SpansKnown meta opening w
       → (t : IsTurn disk store meta w a (Answers answer) w') → t.order.command ≡ Fetch offset limit
-      → AtNode w.held t.order.broker.0 (λ x. HasCause disk store meta w t.order.broker.0 x t.actor_state.work offset limit answer w')
+      → AtNode w.held t.order.broker.0 (λ x. FetchHasCause disk store meta w t.order.broker.0 x t.actor_state.work offset limit answer w')
   have_causes opening w a answer w' offset limit c known t fetches =
       let b = t.order.broker.0 in
       let r = row_of disk store meta w.partition w.config w.held w.tier b t.actor_state.work t.order.command (Answers answer) w'.held w'.tier t.row in
       let z = place_of disk store meta opening w c t.place t.list t.actor_state t.order t.at.list t.at.actor_state_is t.next r.x r.at r.broker_tier r.broker_tier_at in
       let row = subst (λ (k : Command). Row disk store meta w.partition w.config w.held w.tier b r.x r.broker_tier t.actor_state.work k (Answers answer) w'.held w'.tier) fetches r.row in
-      some_at (λ (x : Node D). HasCause disk store meta w b x t.actor_state.work offset limit answer w') (slice_get w.held.nodes b) r.x r.at
+      some_at (λ (x : Node D). FetchHasCause disk store meta w b x t.actor_state.work offset limit answer w') (slice_get w.held.nodes b) r.x r.at
       (by_work opening w a answer w' t c known z offset limit fetches t.actor_state.work refl row)

@@ -28,7 +28,7 @@ use Rattle.partition_world.specs.Central.{IsCentral}
 use Rattle.partition_world.specs.ActorStates.{told_of}
 use Rattle.partition_world.specs.Turn.{IsTurn}
 use Rattle.partition_world.specs.Whole.{Whole}
-use Rattle.laws_answers.specs.Found.{PieceEnds, SpanIsOf, IsFound}
+use Rattle.laws_answers.specs.Found.{PieceEnds, SpanIsOf, FetchHasFound}
 
 -- what was found exists over paths that grow and with more metadata events
 pub ends_grow : (ps qs : List Path) (epoch : ℕ) (piece : Piece) → PathsGrow ps qs → PieceEnds ps epoch piece → PieceEnds qs epoch piece
@@ -47,8 +47,8 @@ span_grows ps qs notes more offset limit piece span w pre s = record {
   span_is = s.span_is;
 }
 
-pub found_grows : (ps qs : List Path) (notes more : List Note) (epoch offset limit : ℕ) (next : FetchStep) → PathsGrow ps qs → IsPrefix notes more → IsFound ps notes epoch offset limit next
-    → IsFound qs more epoch offset limit next
+pub found_grows : (ps qs : List Path) (notes more : List Note) (epoch offset limit : ℕ) (next : FetchStep) → PathsGrow ps qs → IsPrefix notes more → FetchHasFound ps notes epoch offset limit next
+    → FetchHasFound qs more epoch offset limit next
 found_grows ps qs notes more epoch offset limit Refresh w pre f = tt
 found_grows ps qs notes more epoch offset limit (Index piece) w pre f = ends_grow ps qs epoch piece w f
 found_grows ps qs notes more epoch offset limit (Log piece span) w pre f = (ends_grow ps qs epoch piece w f.0, span_grows ps qs notes more offset limit piece span w pre f.1)

@@ -24,16 +24,16 @@ use Rattle.partition_world.specs.declared.actor_state.InProgress.{InProgress}
 use Rattle.partition_world.specs.declared.actor_state.InProgress.TheVariants.{Idle, Noted, Rebuilds}
 use Rattle.partition_world.specs.Infallible.{IsUnfailing}
 use Rattle.partition_world.specs.Central.{IsCentral}
-use Rattle.partition_world.specs.Turn.{IsNext, IsTurn}
+use Rattle.partition_world.specs.Turn.{IsNextOrder, IsTurn}
 use Rattle.partition_world.specs.TurnsOfFetch.{HasStopped}
 use Rattle.partition_world.specs.TurnsOfRebuild.{AnswersAtOnce}
 use Rattle.partition_world.specs.Whole.{Whole}
 use Rattle.partition_world.proofs.CentralLaw.{turn_central}
 use Rattle.laws_answers.specs.Turns.{turns_left}
-use Rattle.laws_answers.specs.Chains.{times, IsAnswered, Runs}
+use Rattle.laws_answers.specs.Chains.{times, IsCommandAnswered, RunsTurns}
 use Rattle.laws_answers.proofs.ChainsOfTurns.{run, own_turn}
 use Rattle.laws_answers.proofs.Clear.{Clear, well_clear, turn_infallible, infallible_clear}
-use Rattle.laws_answers.specs.CausesOfJoins.{FirstCause, RestartCause, RefreshCause, EpochsCause, HasCause, MayJoin, IsJoined}
+use Rattle.laws_answers.specs.CausesOfJoins.{JoinFirstCause, RestartCause, RefreshCause, EpochsCause, JoinHasCause, MayJoin, IsJoined}
 use Rattle.laws_answers.specs.UnhinderedJoins.{IsFree, IsUnhindered}
 use Rattle.laws_answers.proofs.JoinsHaveCauses.{have_causes}
 
@@ -60,7 +60,7 @@ module _ {D : Type 0} where
   once_never h x g other is may = elim is [ ]
 
 module _ {D S M : Type 0} (disk : DiskGhosts D) (store : StoreGhosts S) (meta : MetaGhosts M) where
-  first_joined : (w : Whole D S M) (b : ℕ) (x : Node D) (answer : Answer) (w' : Whole D S M) → FirstCause disk store meta w b x answer w' → MayJoin w x Idle → Clear disk store meta b answer w w'
+  first_joined : (w : Whole D S M) (b : ℕ) (x : Node D) (answer : Answer) (w' : Whole D S M) → JoinFirstCause disk store meta w b x answer w' → MayJoin w x Idle → Clear disk store meta b answer w w'
       → IsJoined answer
   first_joined w b x Down w' cause may clear = let up = may.0 in absurd (cc (cause, up))
   first_joined w b x NotFollower w' cause may clear = absurd (none_never w.held (followed x.role) cause may.1)
@@ -86,7 +86,7 @@ module _ {D S M : Type 0} (disk : DiskGhosts D) (store : StoreGhosts S) (meta : 
   epochs_joined w b x g StoreFault w' cause may clear = absurd (clear.store_clear refl cause)
   epochs_joined w b x g other w' cause may clear = absurd (once_never w.held x g other cause may)
 
-  any_joined : (w : Whole D S M) (b : ℕ) (x : Node D) (work : InProgress) (answer : Answer) (w' : Whole D S M) → HasCause disk store meta w b x work answer w' → MayJoin w x work
+  any_joined : (w : Whole D S M) (b : ℕ) (x : Node D) (work : InProgress) (answer : Answer) (w' : Whole D S M) → JoinHasCause disk store meta w b x work answer w' → MayJoin w x work
       → Clear disk store meta b answer w w' → IsJoined answer
   any_joined w b x Idle answer w' cause may clear = first_joined w b x answer w' cause may clear
   any_joined w b x (Noted g) answer w' (inl cause) may clear = restart_joined w b x g answer w' cause.1 may clear
@@ -100,7 +100,7 @@ module _ {D S M : Type 0} (disk : DiskGhosts D) (store : StoreGhosts S) (meta : 
   ends_joined opening place number v b answer u t central free same number_is joins clear =
       let c = t.order.broker.0 in
       let h = free t.list t.actor_state t.order (own_turn disk store meta place v b (Answers answer) u t same) number_is in
-      let x = some_of (λ x. HasCause disk store meta v c x t.actor_state.work answer u) (slice_get v.held.nodes c) (have_causes disk store meta opening v b answer u central t joins) in
+      let x = some_of (λ x. JoinHasCause disk store meta v c x t.actor_state.work answer u) (slice_get v.held.nodes c) (have_causes disk store meta opening v b answer u central t joins) in
       let y = some_of (λ x. MayJoin v x t.actor_state.work) (slice_get v.held.nodes c) h in
       let may : MayJoin v x.0 t.actor_state.work = subst (λ (n : Node D). MayJoin v n t.actor_state.work) (one_some (slice_get v.held.nodes c) y.0 x.0 y.1 x.1) y.2 in
       any_joined v c x.0 t.actor_state.work answer u x.2 may clear
@@ -114,8 +114,8 @@ module _ {D S M : Type 0} (disk : DiskGhosts D) (store : StoreGhosts S) (meta : 
   free_joined opening place number v b other answer u t is central free same number_is joins = absurd (cc (is))
 
   pub are_joined : (opening : State) (w : Whole D S M) (a place : ℕ) (l : ActorList) (actor_state : ActorState) (order : Order) (actors : List ℕ) (w' : Whole D S M) → IsCentral disk store meta opening w
-      → IsNext w a place l actor_state order → order.command ≡ Join → Runs disk store meta (IsUnhindered disk store meta place actor_state.number) w actors w' → turns_left Join actor_state.work ≤ times a actors
-      → (answer : Answer) × IsJoined answer × IsAnswered w' l.actor actor_state.number answer
+      → IsNextOrder w a place l actor_state order → order.command ≡ Join → RunsTurns disk store meta (IsUnhindered disk store meta place actor_state.number) w actors w' → turns_left Join actor_state.work ≤ times a actors
+      → (answer : Answer) × IsJoined answer × IsCommandAnswered w' l.actor actor_state.number answer
   are_joined opening w a place l actor_state order actors w' c next joins r le =
       run disk store meta (IsCentral disk store meta opening) (IsUnhindered disk store meta place actor_state.number) (λ work. Unit {0}) IsJoined Join a place actor_state.number l
       (λ v b outcome u t central. turn_central disk store meta opening v b outcome u t central)
@@ -132,8 +132,8 @@ module _ {D S M : Type 0} (disk : DiskGhosts D) (store : StoreGhosts S) (meta : 
   ends_infallible opening place number v b other answer u t is known free same number_is joins = absurd (cc (is))
 
   pub infallible_joined : (opening : State) (w : Whole D S M) (a place : ℕ) (l : ActorList) (actor_state : ActorState) (order : Order) (actors : List ℕ) (w' : Whole D S M) → IsCentral disk store meta opening w
-      → IsUnfailing disk store meta w → IsNext w a place l actor_state order → order.command ≡ Join → Runs disk store meta (IsFree disk store meta place actor_state.number) w actors w' → turns_left Join actor_state.work ≤ times a actors
-      → (answer : Answer) × IsJoined answer × IsAnswered w' l.actor actor_state.number answer
+      → IsUnfailing disk store meta w → IsNextOrder w a place l actor_state order → order.command ≡ Join → RunsTurns disk store meta (IsFree disk store meta place actor_state.number) w actors w' → turns_left Join actor_state.work ≤ times a actors
+      → (answer : Answer) × IsJoined answer × IsCommandAnswered w' l.actor actor_state.number answer
   infallible_joined opening w a place l actor_state order actors w' c infallible next joins r le =
       run disk store meta (λ v. IsCentral disk store meta opening v × IsUnfailing disk store meta v) (IsFree disk store meta place actor_state.number) (λ work. Unit {0}) IsJoined Join a place actor_state.number l
       (λ v b outcome u t i. (turn_central disk store meta opening v b outcome u t i.0, turn_infallible disk store meta v b outcome u t i.1))

@@ -11,8 +11,8 @@ use Rattle.object_store.specs.declared.call.StoreCall.TheVariants.{Get}
 use Rattle.object_store.specs.declared.placing.Spot.{Spot}
 use Rattle.object_store.specs.Place.{short_of}
 use Rattle.meta_log.specs.declared.log.MetaLog.{Ghosts as MetaGhosts}
-use Rattle.remote_view.specs.Fold.{Seen as View}
-use Rattle.rebuild_task.specs.Turns.{TakesBytes, Takes, EpochsRow, RebuildRow}
+use Rattle.remote_view.specs.Fold.{EntriesSeen as View}
+use Rattle.rebuild_task.specs.Turns.{TakesBytes, TakesEpochs, EpochsRow, RebuildRow}
 use Rattle.rebuild_task.specs.declared.turn.RebuildStep.TheVariants.{Epochs, Restart}
 use Rattle.rebuild_task.specs.declared.turn.RebuildTurn.TheVariants.{Goes, Ends}
 use Rattle.rebuild_task.specs.declared.turn.RebuildRequest.{RebuildRequest}
@@ -42,7 +42,7 @@ use Rattle.partition_world.specs.declared.actor_state.InProgress.TheVariants.{Id
 use Rattle.partition_world.specs.Central.{IsCentral}
 use Rattle.partition_world.specs.Turn.{IsTurn}
 use Rattle.partition_world.specs.TurnsOfRebuild.{with_line, wanted_of, AnswersAtOnce, RefreshedRow, GoesOnRebuild, EpochsOnRow}
-use Rattle.partition_world.specs.Turns.{OwnRow, OwnOnRow, JoinSecondRow, Row}
+use Rattle.partition_world.specs.Turns.{LocalCommandRow, OwnOnRow, JoinSecondRow, Row}
 use Rattle.partition_world.specs.Whole.{Whole}
 use Rattle.partition_world.proofs.Begins.{row_of}
 use Rattle.partition_world.proofs.RebuildCentral.{to_read}
@@ -50,12 +50,12 @@ use Rattle.partition_world.proofs.RebuildEnds.{MayTurn, rebuild_may_turn}
 use Rattle.partition_world.proofs.Scenes.{Place, place_of}
 use Rattle.partition_world.proofs.TurnCentral.{here}
 use Rattle.laws_answers.specs.Faults.{DiskFailed}
-use Rattle.laws_answers.specs.CausesOfJoins.{FirstCause, RestartCause, RefreshCause, EpochsCause, SecondCause, HasCause}
+use Rattle.laws_answers.specs.CausesOfJoins.{JoinFirstCause, RestartCause, RefreshCause, EpochsCause, JoinSecondCause, JoinHasCause}
 
 module _ {S : Type 0} (store : StoreGhosts S) where
   -- a turn that answers a fault of the store met one
   takes_fault : (wanted : ℕ) (spot : Spot) (given : Result (Option (List ℕ)) Trouble) (old new : S) → Ran Get (fate_of given) (store.control old) (store.control new)
-      → Takes wanted spot given (Ok (Ends StoreFault)) → Rose (store.control old).faults (store.control new).faults
+      → TakesEpochs wanted spot given (Ok (Ends StoreFault)) → Rose (store.control old).faults (store.control new).faults
   takes_fault wanted spot (Err Failed) old new ran k = ran.cause refl
   takes_fault wanted spot (Err NoMemory) old new ran k = absurd (cc (k))
   takes_fault wanted spot (Ok None) old new ran k = absurd (cc (k))
@@ -93,7 +93,7 @@ module _ {D S M : Type 0} (disk : DiskGhosts D) (store : StoreGhosts S) (meta : 
     ends_at y n is end = some_at (λ (x : Node D). end_of x ≡ n) (slice_get w'.held.nodes b) y (there y is) (ap (λ (o : Option ℕ). unwrap_or o 0) end)
 
     -- the first turn
-    first : (k : Answer) → JoinRow disk.content disk.control w.held b z.x (turned.Answers k) w'.held → FirstCause disk store meta w b z.x k w'
+    first : (k : Answer) → JoinRow disk.content disk.control w.held b z.x (turned.Answers k) w'.held → JoinFirstCause disk store meta w b z.x k w'
     first Down row = row.0
     first NotFollower row = row.1
     first (StaleEpoch n) row = (row.1, row.2)
@@ -108,8 +108,8 @@ module _ {D S M : Type 0} (disk : DiskGhosts D) (store : StoreGhosts S) (meta : 
         failed _ breaks.after (one_faulted disk.control z.x.log breaks.kept breaks.lasts breaks.cause)
     first other row = elim row [ ]
 
-    own : OwnRow disk w.held w.tier b z.x Join (Answers answer) w'.held w'.tier → FirstCause disk store meta w b z.x answer w'
-    own ((turned.Answers k, is, row), same) = let e : k ≡ answer = cc (is) in subst (λ (j : Answer). FirstCause disk store meta w b z.x j w') e (first k row)
+    own : LocalCommandRow disk w.held w.tier b z.x Join (Answers answer) w'.held w'.tier → JoinFirstCause disk store meta w b z.x answer w'
+    own ((turned.Answers k, is, row), same) = let e : k ≡ answer = cc (is) in subst (λ (j : Answer). JoinFirstCause disk store meta w b z.x j w') e (first k row)
     own ((turned.Begins g, is, row), same) = absurd (cc (is))
 
     -- where the log restarts
@@ -149,7 +149,7 @@ module _ {D S M : Type 0} (disk : DiskGhosts D) (store : StoreGhosts S) (meta : 
     refreshed g MetaFault row = row.reads.control.ran.cause refl
     refreshed g other row = elim row [ ]
 
-    second : (g : StartSnapshot) → JoinSecondRow disk meta w.held w.tier b z.x z.broker_tier g (Answers answer) w'.held w'.tier → SecondCause disk store meta w b z.x g answer w'
+    second : (g : StartSnapshot) → JoinSecondRow disk meta w.held w.tier b z.x z.broker_tier g (Answers answer) w'.held w'.tier → JoinSecondCause disk store meta w b z.x g answer w'
     second g (inl row) = inl (row.0, last g row.1)
     second g (inr (low, inl (k, is, once, tier), same)) = let e : k ≡ answer = cc (is) in inr (low, subst (λ (j : Answer). RefreshCause disk store meta w z.x g j w') e (refresh_once g k once))
     second g (inr (low, inr (may, row), same)) = inr (low, refreshed g answer row)
@@ -180,7 +180,7 @@ module _ {D S M : Type 0} (disk : DiskGhosts D) (store : StoreGhosts S) (meta : 
         (ended joins g works may k (rebuild_may_turn store (wanted_of w.partition g) g.line z.broker_tier.view (Ends k) w.tier.store w'.tier.store goes.row) goes)
 
     by_work : (joins : t.order.command ≡ Join) (work : InProgress) → t.actor_state.work ≡ work → Row disk store meta w.partition w.config w.held w.tier b z.x z.broker_tier work Join (Answers answer) w'.held w'.tier
-        → HasCause disk store meta w b z.x work answer w'
+        → JoinHasCause disk store meta w b z.x work answer w'
     by_work joins Idle is row = own row
     by_work joins (Noted g) is row = second g row
     by_work joins (Rebuilds g Epochs) is row = reads joins g is row.0
@@ -188,11 +188,11 @@ module _ {D S M : Type 0} (disk : DiskGhosts D) (store : StoreGhosts S) (meta : 
     by_work joins other is row = elim row [ ]
 
   pub have_causes : (opening : State) (w : Whole D S M) (a : ℕ) (answer : Answer) (w' : Whole D S M) → IsCentral disk store meta opening w → (t : IsTurn disk store meta w a (Answers answer) w')
-      → t.order.command ≡ Join → AtNode w.held t.order.broker.0 (λ x. HasCause disk store meta w t.order.broker.0 x t.actor_state.work answer w')
+      → t.order.command ≡ Join → AtNode w.held t.order.broker.0 (λ x. JoinHasCause disk store meta w t.order.broker.0 x t.actor_state.work answer w')
   have_causes opening w a answer w' c t joins =
       let b = t.order.broker.0 in
       let r = row_of disk store meta w.partition w.config w.held w.tier b t.actor_state.work t.order.command (Answers answer) w'.held w'.tier t.row in
       let z = place_of disk store meta opening w c t.place t.list t.actor_state t.order t.at.list t.at.actor_state_is t.next r.x r.at r.broker_tier r.broker_tier_at in
       let row = subst (λ (k : Command). Row disk store meta w.partition w.config w.held w.tier b r.x r.broker_tier t.actor_state.work k (Answers answer) w'.held w'.tier) joins r.row in
-      some_at (λ (x : Node D). HasCause disk store meta w b x t.actor_state.work answer w') (slice_get w.held.nodes b) r.x r.at
+      some_at (λ (x : Node D). JoinHasCause disk store meta w b x t.actor_state.work answer w') (slice_get w.held.nodes b) r.x r.at
       (by_work opening w a answer w' t c z joins t.actor_state.work refl row)

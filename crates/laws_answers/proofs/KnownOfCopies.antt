@@ -13,10 +13,10 @@ use Rattle.log_terms.proofs.Lists.{and_then_some, get-set}
 use Rattle.segment_meta.specs.declared.note.Entry.{Entry}
 use Rattle.segment_meta.specs.declared.note.Note.{Note}
 use Rattle.registry.specs.declared.registry.Registry.{Registry}
-use Rattle.remote_view.specs.Fold.{Seen as View, entry_of, state_of, fold}
+use Rattle.remote_view.specs.Fold.{EntriesSeen as View, entry_of, state_of, fold}
 use Rattle.view_refresh.specs.Refreshing.{fed_all}
 use Rattle.copy_task.specs.Copying.{Copied, keys}
-use Rattle.copy_task.specs.Turns.{CopyRow, PutRow, put_at, checked}
+use Rattle.copy_task.specs.Turns.{CopyTurnRow, PutObjectRow, put_at, checked}
 use Rattle.copy_task.specs.declared.turn.CopyTurn.{CopyTurn}
 use Rattle.copy_task.specs.declared.turn.CopyTurn.TheVariants.{Goes as GoesOn, Ends}
 use Rattle.copy_task.specs.declared.turn.CopyStep.{CopyStep}
@@ -51,11 +51,11 @@ use Rattle.partition_world.specs.declared.actor_state.ActorState.{ActorState}
 use Rattle.partition_world.specs.declared.actor_state.InProgress.{InProgress}
 use Rattle.partition_world.specs.declared.actor_state.InProgress.TheVariants.{Idle, Noted, Copies, Seeks, Dates, Expires, Rebuilds}
 use Rattle.partition_world.specs.Central.{IsCentral, work_of}
-use Rattle.partition_world.specs.Fresh.{IsNew, fresh_actor_state}
+use Rattle.partition_world.specs.Fresh.{IsNewWorld, fresh_actor_state}
 use Rattle.partition_world.specs.ActorStates.{chosen, moved, sought, dated, expired_segment, deleting, rebuilding, copy_outcome, actor_state_after, told_of}
-use Rattle.partition_world.specs.Turn.{IsNext, IsTurn}
+use Rattle.partition_world.specs.Turn.{IsNextOrder, IsTurn}
 use Rattle.partition_world.specs.TurnsOfCopy.{GoesOnCopy, tiers_of, origin_of}
-use Rattle.partition_world.specs.Turns.{CopyingRow, Row}
+use Rattle.partition_world.specs.Turns.{CopyLaterRow, Row}
 use Rattle.partition_world.specs.Whole.{Whole}
 use Rattle.partition_world.proofs.Begins.{row_of}
 use Rattle.partition_world.proofs.SceneParts.{actor_state_at}
@@ -149,13 +149,13 @@ put_never n m None is = absurd (cc (is))
 put_never n m (Some key) is = absurd (cc (is))
 
 module _ {S : Type 0} (store : StoreGhosts S) where
-  put_row_never : {A : Type 0} (copy : Copied) (n m : ℕ) (key : Option ObjectKey) (old new : S) → PutRow store.content store.control copy m key (Ok (GoesOn (Delete n))) old new → A
+  put_row_never : {A : Type 0} (copy : Copied) (n m : ℕ) (key : Option ObjectKey) (old new : S) → PutObjectRow store.content store.control copy m key (Ok (GoesOn (Delete n))) old new → A
   put_row_never copy n m None old new row = let e = row.0 in absurd (cc (e))
   put_row_never copy n m (Some key) old new row = put_never n (m + 1) (slice_get (keys copy) (m + 1)) row.0
 
 module _ {S M : Type 0} (store : StoreGhosts S) (meta : MetaGhosts M) where
   goes_shown : (copy : Copied) (origin : EventOrigin) (before : CopyStep) (n : ℕ) (t : RemoteTier S M) (broker_tier : BrokerTierState) (view : View) (t' : RemoteTier S M)
-      → CopyRow store.content store.control meta.content meta.control copy origin before (Ok (GoesOn (Delete n))) (tiers_of broker_tier.view t) (tiers_of view t')
+      → CopyTurnRow store.content store.control meta.content meta.control copy origin before (Ok (GoesOn (Delete n))) (tiers_of broker_tier.view t) (tiers_of view t')
       → ((m : ℕ) → before ≡ Delete m → ShowsDeleted view.entries copy.id) → ShowsDeleted view.entries copy.id
   goes_shown copy origin Start n t broker_tier view t' row was = let e = row.1.0 in absurd (cc (e))
   goes_shown copy origin (Put m) n t broker_tier view t' row was = put_row_never store copy n m (slice_get (keys copy) m) t.store t'.store row.1
@@ -183,7 +183,7 @@ module _ {D S M : Type 0} (disk : DiskGhosts D) (store : StoreGhosts S) (meta : 
       omega (arith, grows, before, after)
 
   -- a copy that begins has no entry yet
-  start_below : (opening : State) (v : Whole D S M) → IsCentral disk store meta opening v → (d place : ℕ) (l : ActorList) (actor_state : ActorState) (order : Order) (g : StartSnapshot) (copy : Copied) → IsNext v d place l actor_state order
+  start_below : (opening : State) (v : Whole D S M) → IsCentral disk store meta opening v → (d place : ℕ) (l : ActorList) (actor_state : ActorState) (order : Order) (g : StartSnapshot) (copy : Copied) → IsNextOrder v d place l actor_state order
       → actor_state.work ≡ Copies g copy Start → DeletedBelow (fold (meta.content v.tier.meta).notes) v.held.registry.start copy.id
   start_below opening v c d place l actor_state order g copy nx works entry there gone =
       let desk : slice_get c.scene.desk place ≡ Some (CopiesSeen copy Start) =
@@ -246,7 +246,7 @@ module _ {D S M : Type 0} (disk : DiskGhosts D) (store : StoreGhosts S) (meta : 
         let there : slice_get w'.tier.broker_tiers b ≡ Some now = ap (λ (k : RemoteTier S M). slice_get k.broker_tiers b) on.after ∙ get_put w.tier.broker_tiers b broker_tier now broker_tier_at in
         let shown : ShowsDeleted now.view.entries copy.id =
         goes_shown store meta copy (origin_of w.held b) before n w.tier broker_tier on.view w'.tier
-        (subst (λ (k : CopyStep). CopyRow store.content store.control meta.content meta.control copy (origin_of w.held b) before (Ok (GoesOn k)) (tiers_of broker_tier.view w.tier) (tiers_of on.view w'.tier)) is on.row)
+        (subst (λ (k : CopyStep). CopyTurnRow store.content store.control meta.content meta.control copy (origin_of w.held b) before (Ok (GoesOn k)) (tiers_of broker_tier.view w.tier) (tiers_of on.view w'.tier)) is on.row)
         (λ m e. before_shown g copy m (works ∙ ap (λ (k : CopyStep). Copies g copy k) e) now there) in
         subst (λ (k : BrokerTierState). ShowsDeleted k.view.entries copy.id) (one_some (slice_get w'.tier.broker_tiers b) now new there at) shown
 
@@ -256,7 +256,7 @@ module _ {D S M : Type 0} (disk : DiskGhosts D) (store : StoreGhosts S) (meta : 
     turn_shown g copy before works next n is (Ends answer) one on new at = absurd (cc (one))
 
     copying_shown : (g : StartSnapshot) (copy : Copied) (before : CopyStep) → t.actor_state.work ≡ Copies g copy before → (command : Command) (next : CopyStep) (n : ℕ) → next ≡ Delete n
-        → CopyingRow store meta w.held w.tier b x broker_tier g copy before command (Goes next) w'.held w'.tier → (new : BrokerTierState) → slice_get w'.tier.broker_tiers b ≡ Some new → ShowsDeleted new.view.entries copy.id
+        → CopyLaterRow store meta w.held w.tier b x broker_tier g copy before command (Goes next) w'.held w'.tier → (new : BrokerTierState) → slice_get w'.tier.broker_tiers b ≡ Some new → ShowsDeleted new.view.entries copy.id
     copying_shown g copy before works Copy next n is (inl lost, same) new at = let e = lost.1 in absurd (cc (e))
     copying_shown g copy before works Copy next n is (inr (keeps, (turn, one, on)), same) new at = turn_shown g copy before works next n is turn one on new at
     copying_shown g copy before works other next n is row new at = elim row [ ]
@@ -312,7 +312,7 @@ module _ {D S M : Type 0} (disk : DiskGhosts D) (store : StoreGhosts S) (meta : 
     own_below (Rebuilds f before) works o g copy next snapshot is = rebuilds_never f before o g copy next is
 
     -- the state of the turn
-    below_place : (place : ℕ) → t.place ≡ place → (d : ℕ) (l : ActorList) (actor_state : ActorState) (order : Order) (g : StartSnapshot) (copy : Copied) (next : CopyStep) → next ≢ Start → IsNext w' d place l actor_state order
+    below_place : (place : ℕ) → t.place ≡ place → (d : ℕ) (l : ActorList) (actor_state : ActorState) (order : Order) (g : StartSnapshot) (copy : Copied) (next : CopyStep) → next ≢ Start → IsNextOrder w' d place l actor_state order
         → actor_state.work ≡ Copies g copy next → DeletedBelow (fold (meta.content w'.tier.meta).notes) w'.held.registry.start copy.id
     below_place place same d l actor_state order g copy next snapshot nx works =
         let after = actor_state_after t.actor_state outcome in
@@ -322,12 +322,12 @@ module _ {D S M : Type 0} (disk : DiskGhosts D) (store : StoreGhosts S) (meta : 
         let is : after.work ≡ Copies g copy next = ap (λ (k : ActorState). k.work) actor_state_is ∙ works in
         own_below t.actor_state.work refl outcome g copy next snapshot (sym (work_same t.actor_state outcome) ∙ is)
 
-    gone_on_below : (d place : ℕ) (l : ActorList) (actor_state : ActorState) (order : Order) (g : StartSnapshot) (copy : Copied) (next : CopyStep) → next ≢ Start → IsNext w' d place l actor_state order
+    gone_on_below : (d place : ℕ) (l : ActorList) (actor_state : ActorState) (order : Order) (g : StartSnapshot) (copy : Copied) (next : CopyStep) → next ≢ Start → IsNextOrder w' d place l actor_state order
         → actor_state.work ≡ Copies g copy next → DeletedBelow (fold (meta.content w'.tier.meta).notes) w'.held.registry.start copy.id
     gone_on_below d place l actor_state order g copy next snapshot nx works = elim (nat_cases t.place place) [
       | inl same ↦ below_place place same d l actor_state order g copy next snapshot nx works
       | inr other ↦
-          let before : IsNext w d place l actor_state order = record {
+          let before : IsNextOrder w d place l actor_state order = record {
             at = record {
               list = ap (λ (k : List ActorList). slice_get k place) (sym t.lists) ∙ nx.at.list;
               actor = nx.at.actor;
@@ -338,7 +338,7 @@ module _ {D S M : Type 0} (disk : DiskGhosts D) (store : StoreGhosts S) (meta : 
           told copy.id (known.below d place l actor_state order g copy next before works)
     ]
 
-    still_below : (d place : ℕ) (l : ActorList) (actor_state : ActorState) (order : Order) (g : StartSnapshot) (copy : Copied) (next : CopyStep) → IsNext w' d place l actor_state order
+    still_below : (d place : ℕ) (l : ActorList) (actor_state : ActorState) (order : Order) (g : StartSnapshot) (copy : Copied) (next : CopyStep) → IsNextOrder w' d place l actor_state order
         → actor_state.work ≡ Copies g copy next → DeletedBelow (fold (meta.content w'.tier.meta).notes) w'.held.registry.start copy.id
     still_below d place l actor_state order g copy Start nx works = start_below opening w' (turn_central disk store meta opening w a outcome w' t c) d place l actor_state order g copy nx works
     still_below d place l actor_state order g copy (Put n) nx works = gone_on_below d place l actor_state order g copy (Put n) (λ e. absurd (cc (e))) nx works
@@ -347,7 +347,7 @@ module _ {D S M : Type 0} (disk : DiskGhosts D) (store : StoreGhosts S) (meta : 
     still_below d place l actor_state order g copy (Delete n) nx works = gone_on_below d place l actor_state order g copy (Delete n) (λ e. absurd (cc (e))) nx works
 
     -- the state of the turn
-    at_place : (place : ℕ) → t.place ≡ place → (d : ℕ) (l : ActorList) (actor_state : ActorState) (order : Order) (g : StartSnapshot) (copy : Copied) (n : ℕ) (new : BrokerTierState) → IsNext w' d place l actor_state order
+    at_place : (place : ℕ) → t.place ≡ place → (d : ℕ) (l : ActorList) (actor_state : ActorState) (order : Order) (g : StartSnapshot) (copy : Copied) (n : ℕ) (new : BrokerTierState) → IsNextOrder w' d place l actor_state order
         → actor_state.work ≡ Copies g copy (Delete n) → slice_get w'.tier.broker_tiers order.broker.0 ≡ Some new → ShowsDeleted new.view.entries copy.id
     at_place place same d l actor_state order g copy n new next works at =
         let after = actor_state_after t.actor_state outcome in
@@ -363,12 +363,12 @@ module _ {D S M : Type 0} (disk : DiskGhosts D) (store : StoreGhosts S) (meta : 
         (ap (λ (k : ActorList). slice_get k.orders t.actor_state.number) list_is ∙ (ap (λ (k : ℕ). slice_get l.orders k) number ∙ next.next)) in
         own_shown t.actor_state.work refl outcome row g copy n (sym (work_same t.actor_state outcome) ∙ is) new (ap (λ (o : Order). slice_get w'.tier.broker_tiers o.broker.0) order_is ∙ at)
 
-    still_seen : (d place : ℕ) (l : ActorList) (actor_state : ActorState) (order : Order) (g : StartSnapshot) (copy : Copied) (n : ℕ) (new : BrokerTierState) → IsNext w' d place l actor_state order
+    still_seen : (d place : ℕ) (l : ActorList) (actor_state : ActorState) (order : Order) (g : StartSnapshot) (copy : Copied) (n : ℕ) (new : BrokerTierState) → IsNextOrder w' d place l actor_state order
         → actor_state.work ≡ Copies g copy (Delete n) → slice_get w'.tier.broker_tiers order.broker.0 ≡ Some new → ShowsDeleted new.view.entries copy.id
     still_seen d place l actor_state order g copy n new next works at = elim (nat_cases t.place place) [
       | inl same ↦ at_place place same d l actor_state order g copy n new next works at
       | inr other ↦
-          let before : IsNext w d place l actor_state order = record {
+          let before : IsNextOrder w d place l actor_state order = record {
             at = record {
               list = ap (λ (k : List ActorList). slice_get k place) (sym t.lists) ∙ next.at.list;
               actor = next.at.actor;
@@ -385,7 +385,7 @@ module _ {D S M : Type 0} (disk : DiskGhosts D) (store : StoreGhosts S) (meta : 
       let r = row_of disk store meta w.partition w.config w.held w.tier t.order.broker.0 t.actor_state.work t.order.command outcome w'.held w'.tier t.row in
       record { below = still_below opening w a outcome w' t c known r.x r.at r.broker_tier r.broker_tier_at r.row; seen = still_seen opening w a outcome w' t c known r.x r.at r.broker_tier r.broker_tier_at r.row }
 
-  pub new_known : (lists : List ActorList) (w : Whole D S M) → IsNew lists w → DeletionsKnown meta w
+  pub new_known : (lists : List ActorList) (w : Whole D S M) → IsNewWorld lists w → DeletionsKnown meta w
   new_known lists w f = record {
     below = λ a place l actor_state order g copy next nx works. absurd (idle place actor_state g copy next nx.at.actor_state_is works);
     seen = λ a place l actor_state order g copy n broker_tier next works at. absurd (idle place actor_state g copy (Delete n) next.at.actor_state_is works);

@@ -28,17 +28,17 @@ use Rattle.partition_world.specs.declared.actor_state.ActorState.{ActorState}
 use Rattle.partition_world.specs.declared.actor_state.InProgress.{InProgress}
 use Rattle.partition_world.specs.declared.actor_state.InProgress.TheVariants.{Idle, Noted, Seeks}
 use Rattle.partition_world.specs.Central.{IsCentral, seeks_of, begun_of, work_of}
-use Rattle.partition_world.specs.Fresh.{IsNew, fresh_actor_state}
+use Rattle.partition_world.specs.Fresh.{IsNewWorld, fresh_actor_state}
 use Rattle.partition_world.specs.ActorStates.{recorded_in, actor_state_after}
-use Rattle.partition_world.specs.Turn.{IsNext, IsTurn}
-use Rattle.partition_world.specs.TurnsOfFetch.{GoesOnFetch, Serves, fetch_tiers, wanted_of}
+use Rattle.partition_world.specs.Turn.{IsNextOrder, IsTurn}
+use Rattle.partition_world.specs.TurnsOfFetch.{GoesOnFetch, MayServe, fetch_tiers, wanted_of}
 use Rattle.partition_world.specs.Turns.{Row}
 use Rattle.partition_world.specs.Whole.{Whole}
 use Rattle.partition_world.proofs.Begins.{MayComeTo, row_of, row_may}
 use Rattle.partition_world.proofs.FetchAdvances.{sought_before, fetch_advances}
 use Rattle.partition_world.proofs.Scenes.{Place, place_of, tier_view}
 use Rattle.laws_answers.proofs.Progress.{others_stay}
-use Rattle.laws_answers.specs.Found.{IsFound, SpansKnown}
+use Rattle.laws_answers.specs.Found.{FetchHasFound, SpansKnown}
 use Rattle.laws_answers.proofs.GrowsOfFetches.{found_grows, paths_later}
 use Rattle.laws_answers.proofs.NotesOfFetches.{row_notes}
 use Rattle.laws_answers.proofs.PlacesOfFetches.{turn_at}
@@ -70,7 +70,7 @@ module _ {D S M : Type 0} (disk : DiskGhosts D) (store : StoreGhosts S) (meta : 
     told = (meta.content w.tier.meta).notes
 
     abbrev Found : StartSnapshot → FetchStep → Type 0
-    Found g next = IsFound c.central.plain.paths told (unwrap_or (leading g.role) 0) offset limit next
+    Found g next = FetchHasFound c.central.plain.paths told (unwrap_or (leading g.role) 0) offset limit next
 
     -- what the actor's state's fetch had found
     before : (g : StartSnapshot) (next : FetchStep) → t.actor_state.work ≡ Seeks g next → Found g next
@@ -79,14 +79,14 @@ module _ {D S M : Type 0} (disk : DiskGhosts D) (store : StoreGhosts S) (meta : 
         (record { at = record { list = t.at.list; actor = refl; actor_state_is = t.at.actor_state_is }; next = t.next }) fetches works
 
     -- and what it has found with its turn
-    on : (g : StartSnapshot) (next later : FetchStep) → recorded_in t.actor_state.work ≡ Some g → work_of (Some t.order) t.actor_state.work ≡ seeks_of b g next t.order.command → Found g next → Serves w.held z.x g offset
+    on : (g : StartSnapshot) (next later : FetchStep) → recorded_in t.actor_state.work ≡ Some g → work_of (Some t.order) t.actor_state.work ≡ seeks_of b g next t.order.command → Found g next → MayServe w.held z.x g offset
         → GoesOnFetch store meta w.partition w.tier b z.x z.broker_tier offset limit next (fetch.Goes later) w'.tier → Found g later
     on g Refresh later recorded seeks f serves goes =
         refresh_found c.scene c.central.plain t.place b (tier_view disk store meta opening w c t.place t.list t.actor_state t.order z) (broker_of (node_of z.x z.s)) g.stops (unwrap_or (leading g.role) 0)
         (wanted_of w.partition z.x offset limit) (line_of z.x) store.content store.control meta.content meta.control (store.content w.tier.store) z.broker_tier.cache z.broker_tier.view goes.view w.tier.meta w'.tier.meta later told
         (turn_at disk store meta opening w c t.place t.list t.actor_state t.order z offset limit fetches g Refresh recorded seeks serves) goes.row.1
     on g (Index piece) later recorded seeks f serves goes =
-        subst (λ (notes : List Note). IsFound c.central.plain.paths notes (unwrap_or (leading g.role) 0) offset limit later) c.shows_tier.notes
+        subst (λ (notes : List Note). FetchHasFound c.central.plain.paths notes (unwrap_or (leading g.role) 0) offset limit later) c.shows_tier.notes
         (index_found c.scene c.central.plain t.place b (tier_view disk store meta opening w c t.place t.list t.actor_state t.order z) (broker_of (node_of z.x z.s)) g.stops (unwrap_or (leading g.role) 0)
         (wanted_of w.partition z.x offset limit) (line_of z.x) store.content store.control meta.content meta.control (meta.content w.tier.meta) z.broker_tier.view z.broker_tier.cache goes.cache w.tier.store w'.tier.store piece
         (found piece.id.0 z.broker_tier.cache.pairs) later (turn_at disk store meta opening w c t.place t.list t.actor_state t.order z offset limit fetches g (Index piece) recorded seeks serves) refl goes.row.1 f)
@@ -129,8 +129,8 @@ module _ {D S M : Type 0} (disk : DiskGhosts D) (store : StoreGhosts S) (meta : 
       (known : SpansKnown meta opening w) (x : Node D) (at : slice_get w.held.nodes t.order.broker.0 ≡ Some x) (broker_tier : BrokerTierState) (broker_tier_at : slice_get w.tier.broker_tiers t.order.broker.0 ≡ Some broker_tier)
       (row : Row disk store meta w.partition w.config w.held w.tier t.order.broker.0 x broker_tier t.actor_state.work t.order.command outcome w'.held w'.tier) where
     -- what the state of the turn keeps
-    at_place : (place : ℕ) → t.place ≡ place → (d : ℕ) (l : ActorList) (actor_state : ActorState) (order : Order) (offset limit : ℕ) (g : StartSnapshot) (next : FetchStep) → IsNext w' d place l actor_state order
-        → order.command ≡ Fetch offset limit → actor_state.work ≡ Seeks g next → IsFound c.central.plain.paths (meta.content w.tier.meta).notes (unwrap_or (leading g.role) 0) offset limit next
+    at_place : (place : ℕ) → t.place ≡ place → (d : ℕ) (l : ActorList) (actor_state : ActorState) (order : Order) (offset limit : ℕ) (g : StartSnapshot) (next : FetchStep) → IsNextOrder w' d place l actor_state order
+        → order.command ≡ Fetch offset limit → actor_state.work ≡ Seeks g next → FetchHasFound c.central.plain.paths (meta.content w.tier.meta).notes (unwrap_or (leading g.role) 0) offset limit next
     at_place place same d l actor_state order offset limit g next nx fetches works =
         let after = actor_state_after t.actor_state outcome in
         let list_is : t.list ≡ l =
@@ -154,7 +154,7 @@ module _ {D S M : Type 0} (disk : DiskGhosts D) (store : StoreGhosts S) (meta : 
         (elim (nat_cases t.place place) [
           | inl same ↦ at_place place same d l actor_state order offset limit g next nx fetches works
           | inr other ↦
-              let before : IsNext w d place l actor_state order = record {
+              let before : IsNextOrder w d place l actor_state order = record {
                 at = record {
                   list = ap (λ (k : List ActorList). slice_get k place) (sym t.lists) ∙ nx.at.list;
                   actor = nx.at.actor;
@@ -171,7 +171,7 @@ module _ {D S M : Type 0} (disk : DiskGhosts D) (store : StoreGhosts S) (meta : 
       let r = row_of disk store meta w.partition w.config w.held w.tier t.order.broker.0 t.actor_state.work t.order.command outcome w'.held w'.tier t.row in
       keeps opening w a outcome w' t c known r.x r.at r.broker_tier r.broker_tier_at r.row
 
-  pub new_spans : (opening : State) (lists : List ActorList) (w : Whole D S M) → IsNew lists w → SpansKnown meta opening w
+  pub new_spans : (opening : State) (lists : List ActorList) (w : Whole D S M) → IsNewWorld lists w → SpansKnown meta opening w
   new_spans opening lists w f p replays a place l actor_state order offset limit g next nx fetches works =
       absurd
       (let is = ap (λ (k : ActorState). k.work) (rep_get (length lists) place fresh_actor_state actor_state (ap (λ (d : List ActorState). slice_get d place) (sym f.desk) ∙ nx.at.actor_state_is)) in

@@ -11,7 +11,7 @@ use Rattle.time_find.specs.declared.turn.SearchStep.{SearchStep}
 use Rattle.time_find.specs.declared.turn.SearchStep.TheVariants.{Seek, Times, Index, Log}
 use Rattle.time_find.specs.declared.turn.TimeTurn.TheVariants.{Goes}
 use Rattle.time_find.specs.Passing.{passed_over}
-use Rattle.time_find.specs.Turns.{OwnRow}
+use Rattle.time_find.specs.Turns.{LocalSearchRow}
 use Rattle.plain_log.specs.declared.command.ActorList.{ActorList}
 use Rattle.plain_log.specs.declared.command.Command.{Command}
 use Rattle.plain_log.specs.declared.command.Command.TheVariants.{Offset}
@@ -21,7 +21,7 @@ use Rattle.plain_log.specs.declared.state.Path.{Path}
 use Rattle.plain_log.specs.declared.state.State.{State}
 use Rattle.plain_log.specs.Grows.{PathsGrow}
 use Rattle.plain_log.specs.State.{leading}
-use Rattle.broker_log.specs.Seen.{Kept, closed_in}
+use Rattle.broker_log.specs.Seen.{LogState, closed_in}
 use Rattle.laws_partition.specs.declared.start_snapshot.StartSnapshot.{StartSnapshot}
 use Rattle.laws_partition.specs.Partition.{broker_of}
 use Rattle.laws_partition.proofs.Standing.{get_put}
@@ -35,9 +35,9 @@ use Rattle.partition_world.specs.declared.actor_state.ActorState.{ActorState}
 use Rattle.partition_world.specs.declared.actor_state.InProgress.{InProgress}
 use Rattle.partition_world.specs.declared.actor_state.InProgress.TheVariants.{Idle, Noted, Dates}
 use Rattle.partition_world.specs.Central.{IsCentral}
-use Rattle.partition_world.specs.Fresh.{IsNew, fresh_actor_state}
+use Rattle.partition_world.specs.Fresh.{IsNewWorld, fresh_actor_state}
 use Rattle.partition_world.specs.ActorStates.{actor_state_after}
-use Rattle.partition_world.specs.Turn.{IsNext, IsTurn}
+use Rattle.partition_world.specs.Turn.{IsNextOrder, IsTurn}
 use Rattle.partition_world.specs.TurnsOfCopy.{KeepsLead}
 use Rattle.partition_world.specs.TurnsOfDate.{is_own, SearchRow, DateOnRow}
 use Rattle.partition_world.specs.TurnsOfFetch.{fetch_tiers}
@@ -71,8 +71,8 @@ number_kept actor_state (Answers answer) g cursor next is = absurd (cc (is))
 number_kept actor_state other g cursor next is = refl
 
 -- a turn in the local log continues without a piece
-own_seeks : {D : Type 0} (disk : DiskGhosts D) (old : Kept D) (asked : Asked) (cursor at : ℕ) (later : SearchStep) (new : Kept D)
-    → OwnRow disk.content disk.control old asked cursor (Goes at later) new → later ≡ Seek
+own_seeks : {D : Type 0} (disk : DiskGhosts D) (old : LogState D) (asked : Asked) (cursor at : ℕ) (later : SearchStep) (new : LogState D)
+    → LocalSearchRow disk.content disk.control old asked cursor (Goes at later) new → later ≡ Seek
 own_seeks disk old asked cursor at later new (inl (past, is, same)) = cc (is)
 own_seeks disk old asked cursor at later new (inr (below, row)) = searched_on asked (passed_over asked.ts cursor (closed_in old))
     row.out.bytes at later row.searched
@@ -172,7 +172,7 @@ module _ {D S M : Type 0} (disk : DiskGhosts D) (store : StoreGhosts S) (meta : 
       w'.tier) where
     -- what the state of the turn keeps
     at_place : (place : ℕ) → t.place ≡ place → (d : ℕ) (l : ActorList) (actor_state : ActorState) (order : Order) (ts : ℤ) (g : StartSnapshot) (cursor : ℕ)
-        (next : SearchStep) → IsNext w' d place l actor_state order
+        (next : SearchStep) → IsNextOrder w' d place l actor_state order
         → order.command ≡ Offset (At ts) → actor_state.work ≡ Dates g cursor next
         → IsFoundByTime c.central.plain.paths (meta.content w.tier.meta).notes (unwrap_or (leading g.role) 0) next
     at_place place same d l actor_state order ts g cursor next nx asks works =
@@ -204,7 +204,7 @@ module _ {D S M : Type 0} (disk : DiskGhosts D) (store : StoreGhosts S) (meta : 
         (elim (nat_cases t.place place) [
           | inl same ↦ at_place place same d l actor_state order ts g cursor next nx asks works
           | inr other ↦
-              let before : IsNext w d place l actor_state order = record {
+              let before : IsNextOrder w d place l actor_state order = record {
                 at = record {
                   list = ap (λ (k : List ActorList). slice_get k place) (sym t.lists) ∙ nx.at.list;
                   actor = nx.at.actor;
@@ -223,7 +223,7 @@ module _ {D S M : Type 0} (disk : DiskGhosts D) (store : StoreGhosts S) (meta : 
       w'.tier t.row in
       keeps opening w a outcome w' t c known r.x r.at r.broker_tier r.broker_tier_at r.row
 
-  pub new_searches : (opening : State) (lists : List ActorList) (w : Whole D S M) → IsNew lists w → SearchesKnown meta opening w
+  pub new_searches : (opening : State) (lists : List ActorList) (w : Whole D S M) → IsNewWorld lists w → SearchesKnown meta opening w
   new_searches opening lists w f p replays a place l actor_state order ts g cursor next nx asks works =
       absurd
       (let is = ap (λ (k : ActorState). k.work) (rep_get (length lists) place fresh_actor_state actor_state

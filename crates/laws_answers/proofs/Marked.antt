@@ -28,14 +28,14 @@ use Rattle.partition_world.specs.declared.actor_state.ActorState.{ActorState}
 use Rattle.partition_world.specs.declared.actor_state.InProgress.{InProgress}
 use Rattle.partition_world.specs.declared.actor_state.InProgress.TheVariants.{Idle, Noted, Dates}
 use Rattle.partition_world.specs.ActorStates.{dated, actor_state_after, IsUnanswered}
-use Rattle.partition_world.specs.Turn.{IsNext, IsTurn}
+use Rattle.partition_world.specs.Turn.{IsNextOrder, IsTurn}
 use Rattle.partition_world.specs.TurnsOfCopy.{LeadersFirstRow}
 use Rattle.partition_world.specs.TurnsOfDate.{DateOnRow, resumed_at}
 use Rattle.partition_world.specs.Turns.{Row}
 use Rattle.partition_world.specs.Whole.{Whole}
 use Rattle.partition_world.proofs.Begins.{row_of}
 use Rattle.laws_answers.specs.Turns.{search_left}
-use Rattle.laws_answers.specs.Chains.{times, IsAnswered, KnowsUpTo, Runs}
+use Rattle.laws_answers.specs.Chains.{times, IsCommandAnswered, KnowsUpTo, RunsTurns}
 use Rattle.laws_answers.proofs.ChainsOfTurns.{own_turn, run_by}
 use Rattle.laws_answers.proofs.Progress.{date_goes, first_left}
 
@@ -116,9 +116,9 @@ module _ {D S M : Type 0} (disk : DiskGhosts D) (store : StoreGhosts S) (meta : 
       (row_closer mark v.partition v.config v.held v.tier c r.x r.broker_tier t.actor_state.work ts outcome u.held u.tier low row) un
 
   pub searches_answered : (w : Whole D S M) (a place : ℕ) (l : ActorList) (actor_state : ActorState) (order : Order) (ts : ℤ) (mark : ℕ)
-      (actors : List ℕ) (w' : Whole D S M) → AreRising w.lists → IsNext w a place l actor_state order → order.command ≡ Offset (At ts)
-      → Runs disk store meta (KnowsUpTo mark place actor_state.number) w actors w' → search_left mark actor_state.work ≤ times a actors
-      → (answer : Answer) × IsAnswered w' l.actor actor_state.number answer
+      (actors : List ℕ) (w' : Whole D S M) → AreRising w.lists → IsNextOrder w a place l actor_state order → order.command ≡ Offset (At ts)
+      → RunsTurns disk store meta (KnowsUpTo mark place actor_state.number) w actors w' → search_left mark actor_state.work ≤ times a actors
+      → (answer : Answer) × IsCommandAnswered w' l.actor actor_state.number answer
   searches_answered w a place l actor_state order ts mark actors w' rising next asks r le =
       let k = run_by disk store meta (λ v. Unit {0}) (KnowsUpTo mark place actor_state.number) (λ work. Unit {0}) (λ answer. Unit {0})
       (Offset (At ts)) a place actor_state.number l (search_left mark) (search_left_some mark) (closer mark place actor_state.number ts)

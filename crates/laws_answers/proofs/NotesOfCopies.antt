@@ -11,7 +11,7 @@ use Rattle.segment_meta.specs.declared.note.Entry.{Entry}
 use Rattle.segment_meta.specs.declared.note.Note.{Note}
 use Rattle.segment_meta.specs.declared.note.Note.TheVariants.{Add, Update}
 use Rattle.segment_meta.specs.Steps.{next_state}
-use Rattle.remote_view.specs.Fold.{Seen as View, entry_of, state_of, recorded, updated, fold, fed}
+use Rattle.remote_view.specs.Fold.{EntriesSeen as View, entry_of, state_of, recorded, updated, fold, fed}
 use Rattle.view_refresh.specs.Refreshing.{fed_all}
 use Rattle.laws_partition.proofs.BoolTests.{some_of}
 use Rattle.tier_safe.specs.Copies.{is_deleted}

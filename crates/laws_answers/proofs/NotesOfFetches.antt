@@ -10,13 +10,13 @@ use Rattle.disk_model.specs.declared.disk.Disk.{Ghosts as DiskGhosts}
 use Rattle.object_store.specs.declared.store.Store.{Ghosts as StoreGhosts}
 use Rattle.meta_log.specs.declared.log.MetaLog.{Ghosts as MetaGhosts}
 use Rattle.meta_log.specs.declared.event_origin.EventOrigin.{EventOrigin}
-use Rattle.meta_log.specs.Calls.{Appends}
+use Rattle.meta_log.specs.Calls.{AppendsToMetaLog}
 use Rattle.meta_log.specs.Content.{appended_if}
 use Rattle.log_terms.proofs.Lists.{prefix_self, prefix_more}
 use Rattle.segment_meta.specs.declared.note.Note.{Note}
-use Rattle.remote_view.specs.Fold.{Seen as View}
+use Rattle.remote_view.specs.Fold.{EntriesSeen as View}
 use Rattle.copy_task.specs.Copying.{Copied, start_note, finish_note}
-use Rattle.copy_task.specs.Turns.{Tiers, StartRow, FinishRow, CheckRow, CopyRow}
+use Rattle.copy_task.specs.Turns.{Tiers, StartRow, FinishRow, CheckRow, CopyTurnRow}
 use Rattle.copy_task.specs.declared.turn.CopyTurn.{CopyTurn}
 use Rattle.copy_task.specs.declared.turn.CopyTurn.TheVariants.{Ends}
 use Rattle.copy_task.specs.declared.turn.CopyStep.{CopyStep}
@@ -29,7 +29,7 @@ use Rattle.expiry_task.specs.declared.turn.DeletionStep.{DeletionStep as Deletio
 use Rattle.expiry_task.specs.declared.turn.DeletionStep.TheVariants as deletion
 use Rattle.rebuild_task.specs.declared.turn.RebuildStep.{RebuildStep as Rebuild}
 use Rattle.rebuild_task.specs.declared.turn.RebuildStep.TheVariants.{Epochs, Restart}
-use Rattle.tier_fetch.specs.Turns.{Tiers as FetchTiers, RefreshRow, FetchRow}
+use Rattle.tier_fetch.specs.Turns.{Tiers as FetchTiers, RefreshRow, RemoteFetchRow}
 use Rattle.tier_fetch.specs.declared.turn.FetchTurn.{FetchTurn}
 use Rattle.tier_fetch.specs.declared.turn.FetchTurn.TheVariants as fetch
 use Rattle.tier_fetch.specs.declared.turn.FetchStep.{FetchStep as Search}
@@ -43,7 +43,7 @@ use Rattle.time_find.specs.declared.turn.SearchStep.{SearchStep as Dating}
 use Rattle.time_find.specs.declared.turn.SearchStep.TheVariants as dating
 use Rattle.time_find.specs.declared.turn.TimeTurn.{TimeTurn}
 use Rattle.time_find.specs.declared.turn.TimeTurn.TheVariants as time
-use Rattle.time_find.specs.Turns.{Indexes, Searches as SearchesLog, SeekRow, TimeRow, wanted_at}
+use Rattle.time_find.specs.Turns.{Indexes, SearchTakes as SearchesLog, SeekRow, TimeRow, wanted_at}
 use Rattle.plain_log.specs.declared.answer.Answer.TheVariants.{Down, NotLeader, CopyOff, MetaFault, Stopped, OutOfRange, Empty, NoOffset}
 use Rattle.plain_log.specs.declared.command.Command.{Command}
 use Rattle.plain_log.specs.declared.command.Command.TheVariants.{Copy, Trim, Expire, Fetch, Join, Offset}
@@ -60,12 +60,12 @@ use Rattle.partition_world.specs.declared.actor_state.Outcome.TheVariants.{Answe
 use Rattle.partition_world.specs.declared.actor_state.InProgress.{InProgress}
 use Rattle.partition_world.specs.declared.actor_state.InProgress.TheVariants.{Idle, Noted, Copies, Seeks, Dates, Expires, Rebuilds}
 use Rattle.partition_world.specs.TurnsOfCopy.{LeadersFirstRow, CopyFirstRow, ChooseRow, tiers_of, origin_of}
-use Rattle.partition_world.specs.TurnsOfDate.{SearchRow, Searches, DateOnRow, asked_of, is_own, resumed_at, resumed_with}
+use Rattle.partition_world.specs.TurnsOfDate.{SearchRow, SearchesOn, DateOnRow, asked_of, is_own, resumed_at, resumed_with}
 use Rattle.partition_world.specs.TurnsOfExpiry.{expiry_tiers}
 use Rattle.partition_world.specs.TurnsOfFetch.{FetchOnRow, GoesOnFetch, fetch_tiers, wanted_of}
 use Rattle.partition_world.specs.TurnsOfTrim.{TrimFirstRow}
 use Rattle.partition_world.specs.TurnsOfRebuild.{RefreshedRow}
-use Rattle.partition_world.specs.Turns.{BeginRow, ContinuedRow, CopyingRow, SeekingRow, DatingRow, DeletingRow, RebuildingRow, Row}
+use Rattle.partition_world.specs.Turns.{BeginRow, ContinuedRow, CopyLaterRow, SeekingRow, DatingRow, DeletingRow, RebuildingRow, Row}
 
 same_notes : (old new : List Note) → new ≡ old → IsPrefix old new
 same_notes old new is = subst (IsPrefix old) (sym is) (prefix_self old)
@@ -79,7 +79,7 @@ module _ {M : Type 0} (meta : MetaGhosts M) where
   abbrev pub Begin : M → M → Type 0
   Begin old new = IsPrefix (meta.content old).notes (meta.content new).notes
 
-  appends : (note : Note) (fate : Fate) (old new : M) → Appends meta.content meta.control note fate old new → IsTrue (meta.content old).is_observable → Begin old new
+  appends : (note : Note) (fate : Fate) (old new : M) → AppendsToMetaLog meta.content meta.control note fate old new → IsTrue (meta.content old).is_observable → Begin old new
   appends note fate old new a is_observable =
       let g = a.content.notes is_observable in subst (IsPrefix (meta.content old).notes) (sym g.2) (appended g.0 note (meta.content old).notes)
 
@@ -118,7 +118,7 @@ module _ {M : Type 0} (meta : MetaGhosts M) where
 
 module _ {S M : Type 0} (store : StoreGhosts S) (meta : MetaGhosts M) where
   copy_notes : (copy : Copied) (origin : EventOrigin) (next : CopyStep) (turn : CopyTurn) (old new : Tiers S M) → IsTrue (meta.content old.meta).is_observable
-      → CopyRow store.content store.control meta.content meta.control copy origin next (Ok turn) old new → Begin meta old.meta new.meta
+      → CopyTurnRow store.content store.control meta.content meta.control copy origin next (Ok turn) old new → Begin meta old.meta new.meta
   copy_notes copy origin Start turn old new is_observable row = start_notes meta copy origin turn old.meta new.meta is_observable row.1
   copy_notes copy origin (Put n) turn old new is_observable row = same_log meta old.meta new.meta (ap (λ (t : Tiers S M). t.meta) row.0)
   copy_notes copy origin Finish turn old new is_observable row = finish_notes meta copy origin turn old.meta new.meta is_observable row.1
@@ -126,7 +126,7 @@ module _ {S M : Type 0} (store : StoreGhosts S) (meta : MetaGhosts M) where
   copy_notes copy origin (Delete n) turn old new is_observable row = same_log meta old.meta new.meta (ap (λ (t : Tiers S M). t.meta) row.0)
 
   fetch_notes : (wanted : FetchRequest) (line : List (ℕ × ℕ)) (next : Search) (turn : FetchTurn) (old new : FetchTiers S M)
-      → FetchRow store.content store.control meta.content meta.control wanted line next (Ok turn) old new → Begin meta old.meta new.meta
+      → RemoteFetchRow store.content store.control meta.content meta.control wanted line next (Ok turn) old new → Begin meta old.meta new.meta
   fetch_notes wanted line Refresh turn old new row = refresh_notes meta wanted line turn old.view new.view old.meta new.meta row.1
   fetch_notes wanted line (Index piece) turn old new row = same_log meta old.meta new.meta (ap (λ (t : FetchTiers S M). t.meta) row.0)
   fetch_notes wanted line (Log piece span) turn old new row = same_log meta old.meta new.meta (ap (λ (t : FetchTiers S M). t.meta) row.0)
@@ -134,7 +134,7 @@ module _ {S M : Type 0} (store : StoreGhosts S) (meta : MetaGhosts M) where
   -- where a search continues as a fetch does
   indexes_notes : (asked : Asked) (line : List (ℕ × ℕ)) (cursor from : ℕ) (piece : Piece) (found : Result FetchTurn AllocError)
       (turn : TimeTurn) (old new : FetchTiers S M)
-      → FetchRow store.content store.control meta.content meta.control (wanted_at asked from) line (fetching.Index piece) found old new
+      → RemoteFetchRow store.content store.control meta.content meta.control (wanted_at asked from) line (fetching.Index piece) found old new
       → Indexes cursor piece from found (Ok turn)
       → Begin meta old.meta new.meta
   indexes_notes asked line cursor from piece (Ok found) turn old new row k = fetch_notes (wanted_at asked from) line (fetching.Index piece)
@@ -143,7 +143,7 @@ module _ {S M : Type 0} (store : StoreGhosts S) (meta : MetaGhosts M) where
 
   searches_notes : (asked : Asked) (line : List (ℕ × ℕ)) (from : ℕ) (piece : Piece) (span : Span) (found : Result FetchTurn AllocError)
       (turn : TimeTurn) (old new : FetchTiers S M)
-      → FetchRow store.content store.control meta.content meta.control (wanted_at asked from) line (fetching.Log piece span) found old new
+      → RemoteFetchRow store.content store.control meta.content meta.control (wanted_at asked from) line (fetching.Log piece span) found old new
       → SearchesLog asked from found (Ok turn)
       → Begin meta old.meta new.meta
   searches_notes asked line from piece span (Ok found) turn old new row k = fetch_notes (wanted_at asked from) line
@@ -243,7 +243,7 @@ module _ {D S M : Type 0} (disk : DiskGhosts D) (store : StoreGhosts S) (meta : 
 
   dates_row : (p : PartitionId) (h : PartitionState D) (t : RemoteTier S M) (b : ℕ) (x : Node D) (broker_tier : BrokerTierState) (g : StartSnapshot) (ts : ℤ) (cursor : ℕ)
       (next : Dating) (turn : TimeTurn) (h' : PartitionState D) (t' : RemoteTier S M)
-      → Searches disk store meta p h t b x broker_tier g ts cursor next turn h' t' → Goes t t'
+      → SearchesOn disk store meta p h t b x broker_tier g ts cursor next turn h' t' → Goes t t'
   dates_row p h t b x broker_tier g ts cursor next turn h' t' row =
       let on = resumed_at h.registry.start cursor in
       let with = resumed_with h.registry.start cursor next in
@@ -278,7 +278,7 @@ module _ {D S M : Type 0} (disk : DiskGhosts D) (store : StoreGhosts S) (meta : 
   recorded_row p config h t b x broker_tier g other outcome h' t' row = same_tier store meta t t' row.1
 
   copying_row : (h : PartitionState D) (t : RemoteTier S M) (b : ℕ) (x : Node D) (broker_tier : BrokerTierState) (g : StartSnapshot) (copy : Copied) (next : CopyStep) (command : Command) (outcome : Outcome) (h' : PartitionState D) (t' : RemoteTier S M)
-      → IsTrue (meta.content t.meta).is_observable → CopyingRow store meta h t b x broker_tier g copy next command outcome h' t' → Goes t t'
+      → IsTrue (meta.content t.meta).is_observable → CopyLaterRow store meta h t b x broker_tier g copy next command outcome h' t' → Goes t t'
   copying_row h t b x broker_tier g copy next Copy outcome h' t' is_observable (inl lost, same) = same_tier store meta t t' lost.2
   copying_row h t b x broker_tier g copy next Copy outcome h' t' is_observable (inr (keeps, (turn, is, goes)), same) =
       copy_notes store meta copy (origin_of h b) next turn (tiers_of broker_tier.view t) (tiers_of goes.view t') is_observable goes.row

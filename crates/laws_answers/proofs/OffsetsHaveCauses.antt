@@ -10,7 +10,7 @@ use Rattle.time_find.specs.declared.turn.SearchStep.TheVariants.{Seek}
 use Rattle.time_find.specs.declared.turn.TimeTurn.{TimeTurn}
 use Rattle.time_find.specs.declared.turn.TimeTurn.TheVariants.{Ends}
 use Rattle.time_find.specs.Passing.{passed_over}
-use Rattle.time_find.specs.Turns.{OwnRow, ReadRow}
+use Rattle.time_find.specs.Turns.{LocalSearchRow, ReadLocalRow}
 use Rattle.plain_log.specs.declared.answer.Answer.{Answer}
 use Rattle.plain_log.specs.declared.answer.Answer.TheVariants.{Down, NotLeader, MetaFault, StoreFault, DiskFault, Damaged, Stopped, Offset as OffsetAnswer, NoOffset}
 use Rattle.plain_log.specs.declared.answer.Place.TheVariants.{File}
@@ -38,14 +38,14 @@ use Rattle.partition_world.specs.ActorStates.{outcome_of, date_outcome}
 use Rattle.partition_world.specs.Tier.{AtBrokerTier}
 use Rattle.partition_world.specs.Turn.{IsTurn}
 use Rattle.partition_world.specs.TurnsOfCopy.{KeepsLead, LeadersFirstRow}
-use Rattle.partition_world.specs.TurnsOfDate.{SearchesOwn, SearchRow, Searches, DateOnRow, asked_of, is_own, resumed_at, resumed_with}
+use Rattle.partition_world.specs.TurnsOfDate.{SearchesOwn, SearchRow, SearchesOn, DateOnRow, asked_of, is_own, resumed_at, resumed_with}
 use Rattle.partition_world.specs.TurnsOfFetch.{fetch_tiers}
 use Rattle.partition_world.specs.TurnsOfOffset.{OffsetOnRow}
 use Rattle.partition_world.specs.Turns.{BeginRow, Row}
 use Rattle.partition_world.specs.Whole.{Whole}
 use Rattle.partition_world.proofs.Begins.{row_of}
 use Rattle.partition_world.proofs.DateEnds.{MayEnd, MayEndOwn, date_ends, own_ends}
-use Rattle.laws_answers.specs.CausesOfOffsets.{FirstCause, SecondCause, SearchCause, HasCause}
+use Rattle.laws_answers.specs.CausesOfOffsets.{OffsetFirstCause, OffsetSecondCause, SearchCause, OffsetHasCause}
 use Rattle.laws_answers.specs.Faults.{DiskFailed, StoreFailed, MetaFailed}
 use Rattle.partition_world.proofs.TurnsTold.{TurnTold}
 use Rattle.partition_world.proofs.LastingDates.{searched_told, time_lasts}
@@ -53,35 +53,35 @@ use Rattle.partition_world.proofs.LastingDates.{searched_told, time_lasts}
 module _ {D S M : Type 0} (disk : DiskGhosts D) (store : StoreGhosts S) (meta : MetaGhosts M) where
   module _ (w : Whole D S M) (b : ℕ) (x : Node D) (broker_tier : BrokerTierState) (w' : Whole D S M) where
     -- known at once
-    told : (which : Which) (answer : Answer) → OffsetRow w.held x which answer w'.held → FirstCause disk store meta w x which answer w'
+    told : (which : Which) (answer : Answer) → OffsetRow w.held x which answer w'.held → OffsetFirstCause disk store meta w x which answer w'
     told which Down row = row.0
     told which NotLeader row = row.1
     told which (OffsetAnswer n) row = (row.0, row.1, row.2)
     told which other row = elim row [ ]
 
     own : (which : Which) (turn : Turned) (answer : Answer) → Answers answer ≡ outcome_of turn → FirstRow disk.content disk.control w.held b x (Offset which) turn w'.held
-        → FirstCause disk store meta w x which answer w'
+        → OffsetFirstCause disk store meta w x which answer w'
     own LatestTiered turn answer is row = elim row [ ]
     own (At ts) turn answer is row = elim row [ ]
     own which (turned.Answers k) answer is row = let e : k ≡ answer = cc (is) in subst
-        (λ (j : Answer). FirstCause disk store meta w x which j w') e (told which k row)
+        (λ (j : Answer). OffsetFirstCause disk store meta w x which j w') e (told which k row)
     own which (turned.Begins g) answer is row = elim row [ ]
 
     -- of the remote tier
     leaders : (which : Which) → is_long which ≡ true → (answer : Answer)
-        → LeadersFirstRow meta w.held w.tier b x broker_tier (Answers answer) w'.tier → FirstCause disk store meta w x which answer w'
+        → LeadersFirstRow meta w.held w.tier b x broker_tier (Answers answer) w'.tier → OffsetFirstCause disk store meta w x which answer w'
     leaders which long Down row = row.0
     leaders which long NotLeader row = row.1
     leaders which long MetaFault row = (long, row.2.reads.control.ran.cause refl)
     leaders which long other row = elim row [ ]
 
     first : (which : Which) (answer : Answer) → BeginRow disk store meta w.held w.tier b x broker_tier (Offset which) (Answers answer) w'.held
-        w'.tier → FirstCause disk store meta w x which answer w'
+        w'.tier → OffsetFirstCause disk store meta w x which answer w'
     first LatestTiered answer row = leaders LatestTiered refl answer row.0
     first (At ts) answer row = leaders (At ts) refl answer row.0
     first which answer row = own which row.0.0 answer row.0.1 row.0.2
 
-    second : (g : StartSnapshot) (answer : Answer) → OffsetOnRow w.held x broker_tier g (Answers answer) → SecondCause w x broker_tier g answer
+    second : (g : StartSnapshot) (answer : Answer) → OffsetOnRow w.held x broker_tier g (Answers answer) → OffsetSecondCause w x broker_tier g answer
     second g Stopped row = row
     second g NotLeader row = row.2
     second g (OffsetAnswer n) row = row
@@ -103,7 +103,7 @@ module _ {D S M : Type 0} (disk : DiskGhosts D) (store : StoreGhosts S) (meta : 
           some_at (λ (x : Node D). AtNode w'.held b (λ y. Faulted disk.control x.log y.log)) (slice_get w.held.nodes b) x at
           (some_at (λ (y : Node D). Faulted disk.control x.log y.log) (slice_get w'.held.nodes b) y there fault)
 
-      reads : (to : TimeTurn) → ReadRow disk.content disk.control x.log asked (passed_over asked.ts from (closed_in x.log)) to s.kept
+      reads : (to : TimeTurn) → ReadLocalRow disk.content disk.control x.log asked (passed_over asked.ts from (closed_in x.log)) to s.kept
           → Tells to
       reads (Ends DiskFault) row = failed (one_faulted disk.control x.log s.kept row.1 row.2)
       reads (Ends (Damaged (File name) place)) row = tt
@@ -111,7 +111,7 @@ module _ {D S M : Type 0} (disk : DiskGhosts D) (store : StoreGhosts S) (meta : 
           searched_told (DiskFailed disk b w w') (Unit {0}) (StoreFailed store w w') (MetaFailed meta w w') asked
           (passed_over asked.ts from (closed_in x.log)) row.out.bytes to row.searched
 
-      own_tells : OwnRow disk.content disk.control x.log asked from turn s.kept → Tells turn
+      own_tells : LocalSearchRow disk.content disk.control x.log asked from turn s.kept → Tells turn
       own_tells (inl (past, is, same)) = subst Tells (sym is) tt
       own_tells (inr (below, row)) = reads turn row
 
@@ -146,7 +146,7 @@ module _ {D S M : Type 0} (disk : DiskGhosts D) (store : StoreGhosts S) (meta : 
         (fetch_tiers broker_tier.view broker_tier.cache w.tier) (fetch_tiers row.0.view row.0.cache w'.tier) row.0.row).2
 
     ended : slice_get w.held.nodes b ≡ Some x → (g : StartSnapshot) (ts : ℤ) (cursor : ℕ) (next : SearchStep) (answer : Answer)
-        → Searches disk store meta w.partition w.held w.tier b x broker_tier g ts cursor next (Ends answer) w'.held w'.tier
+        → SearchesOn disk store meta w.partition w.held w.tier b x broker_tier g ts cursor next (Ends answer) w'.held w'.tier
         → SearchCause disk store meta w b x g cursor answer w'
     ended at g ts cursor next answer s =
         let on = resumed_at w.held.registry.start cursor in
@@ -163,7 +163,7 @@ module _ {D S M : Type 0} (disk : DiskGhosts D) (store : StoreGhosts S) (meta : 
 
     by_work : slice_get w.held.nodes b ≡ Some x → (work : InProgress) (which : Which) (answer : Answer)
         → Row disk store meta w.partition w.config w.held w.tier b x broker_tier work (Offset which) (Answers answer) w'.held w'.tier
-        → HasCause disk store meta w b x broker_tier work which answer w'
+        → OffsetHasCause disk store meta w b x broker_tier work which answer w'
     by_work at Idle which answer row = first which answer row
     by_work at (Noted g) LatestTiered answer row = second g answer row.0
     by_work at (Noted g) (At ts) answer row = dates at g ts 0 Seek answer row
@@ -173,13 +173,13 @@ module _ {D S M : Type 0} (disk : DiskGhosts D) (store : StoreGhosts S) (meta : 
 
   pub have_causes : (w : Whole D S M) (a : ℕ) (answer : Answer) (w' : Whole D S M) (which : Which) → (t : IsTurn disk store meta w a (Answers answer) w') → t.order.command ≡ Offset which
       → AtNode w.held t.order.broker.0 (λ x. AtBrokerTier w.tier t.order.broker.0
-      (λ broker_tier. HasCause disk store meta w t.order.broker.0 x broker_tier t.actor_state.work which answer w'))
+      (λ broker_tier. OffsetHasCause disk store meta w t.order.broker.0 x broker_tier t.actor_state.work which answer w'))
   have_causes w a answer w' which t asks =
       let b = t.order.broker.0 in
       let r = row_of disk store meta w.partition w.config w.held w.tier b t.actor_state.work t.order.command (Answers answer) w'.held w'.tier t.row in
       let row = subst (λ (k : Command). Row disk store meta w.partition w.config w.held w.tier b r.x r.broker_tier t.actor_state.work k (Answers answer) w'.held w'.tier) asks r.row in
-      some_at (λ (x : Node D). AtBrokerTier w.tier b (λ broker_tier. HasCause disk store meta w b x broker_tier t.actor_state.work which answer w'))
+      some_at (λ (x : Node D). AtBrokerTier w.tier b (λ broker_tier. OffsetHasCause disk store meta w b x broker_tier t.actor_state.work which answer w'))
       (slice_get w.held.nodes b) r.x r.at
-      (some_at (λ (broker_tier : BrokerTierState). HasCause disk store meta w b r.x broker_tier t.actor_state.work which answer w') (slice_get w.tier.broker_tiers b) r.broker_tier
+      (some_at (λ (broker_tier : BrokerTierState). OffsetHasCause disk store meta w b r.x broker_tier t.actor_state.work which answer w') (slice_get w.tier.broker_tiers b) r.broker_tier
       r.broker_tier_at
       (by_work w b r.x r.broker_tier w' r.at t.actor_state.work which answer row))

@@ -25,12 +25,12 @@ use Rattle.partition_commands.specs.Partition.{line_of, node_of}
 use Rattle.partition_commands.proofs.Shown.{end_shown, line_shown}
 use Rattle.tier_safe.specs.Reads.{TellsEpochs}
 use Rattle.tier_safe.specs.Scene.{TierTask as InProgressIsSeen, Seeks as SeeksSeen}
-use Rattle.tier_safe.specs.Turns.{Shows}
+use Rattle.tier_safe.specs.Turns.{ShowsScene}
 use Rattle.laws_tier_fetch.specs.Seeking.{sought_of, IsAtTurn}
 use Rattle.partition_world.specs.declared.actor_state.ActorState.{ActorState}
 use Rattle.partition_world.specs.ActorStates.{recorded_in, actor_state_seen}
 use Rattle.partition_world.specs.Central.{IsCentral, seeks_of, work_of}
-use Rattle.partition_world.specs.TurnsOfFetch.{Serves, wanted_of}
+use Rattle.partition_world.specs.TurnsOfFetch.{MayServe, wanted_of}
 use Rattle.partition_world.specs.Whole.{Whole}
 use Rattle.partition_world.proofs.Entered.{both_of}
 use Rattle.partition_world.proofs.LineTells.{line_tells}
@@ -73,7 +73,7 @@ module _ {D S M : Type 0} (disk : DiskGhosts D) (store : StoreGhosts S) (meta : 
           leads.1 ∙ ap Leads (sym (ap (λ (r : Role). unwrap_or (leading r) 0) leads.1))
 
       -- the tier at its turn
-      pub turn_at : Serves w.held z.x g offset → IsAtTurn c.scene c.central.plain place order.broker.0 (tier_view disk store meta opening w c place l actor_state order z) (broker_of y) g.stops epoch
+      pub turn_at : MayServe w.held z.x g offset → IsAtTurn c.scene c.central.plain place order.broker.0 (tier_view disk store meta opening w c place l actor_state order z) (broker_of y) g.stops epoch
           (wanted_of w.partition z.x offset limit) (line_of z.x) next (store.content w.tier.store) (meta.content w.tier.meta) z.broker_tier.view z.broker_tier.cache
       turn_at k =
           let up = k.keeps.up in
@@ -81,7 +81,7 @@ module _ {D S M : Type 0} (disk : DiskGhosts D) (store : StoreGhosts S) (meta : 
           record {
             safe = both_of disk store meta opening w c;
             few = few_now disk store meta opening w c;
-            shows = subst (λ (u : InProgressIsSeen). Shows c.scene place order.broker.0 (tier_view disk store meta opening w c place l actor_state order z) u (store.content w.tier.store) (meta.content w.tier.meta) z.broker_tier.view) shows_seek
+            shows = subst (λ (u : InProgressIsSeen). ShowsScene c.scene place order.broker.0 (tier_view disk store meta opening w c place l actor_state order z) u (store.content w.tier.store) (meta.content w.tier.meta) z.broker_tier.view) shows_seek
                 (shows_at disk store meta opening w c place l actor_state order z);
             cache_is = refl;
             partition = sym c.shows_tier.partition;

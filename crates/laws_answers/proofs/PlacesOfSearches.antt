@@ -33,14 +33,14 @@ use Rattle.tier_safe.specs.Changes.{Moves, Leaves, effect}
 use Rattle.tier_safe.specs.Reads.{TellsEpochs}
 use Rattle.tier_safe.specs.Safe.{BothSafe}
 use Rattle.tier_safe.specs.Scene.{Scene, BrokerTierView, TierTask as InProgressIsSeen, Free}
-use Rattle.tier_safe.specs.Turns.{Shows}
+use Rattle.tier_safe.specs.Turns.{ShowsScene}
 use Rattle.tier_safe.proofs.Kept.{all_kept}
 use Rattle.tier_safe.proofs.Turning.{set_get}
 use Rattle.partition_world.specs.declared.actor_state.ActorState.{ActorState}
 use Rattle.partition_world.specs.declared.actor_state.InProgress.{InProgress}
 use Rattle.partition_world.specs.declared.actor_state.InProgress.TheVariants.{Noted, Dates}
 use Rattle.partition_world.specs.ActorStates.{recorded_in, actor_state_seen}
-use Rattle.partition_world.specs.Central.{HasGone, IsDated, IsCentral, begun_of, dates_of, work_of}
+use Rattle.partition_world.specs.Central.{HasGone, IsSearchState, IsCentral, begun_of, dates_of, work_of}
 use Rattle.partition_world.specs.TurnsOfCopy.{KeepsLead}
 use Rattle.partition_world.specs.TurnsOfDate.{resumed_at, resumed_with, asked_of, SearchesOwn}
 use Rattle.partition_world.specs.Whole.{Whole}
@@ -75,9 +75,9 @@ module _ {D S M : Type 0} (disk : DiskGhosts D) (store : StoreGhosts S) (meta : 
     -- of one that has come to a cursor
     pub keeps_dates : (g : StartSnapshot) (cursor : ℕ) (next : SearchStep) → actor_state.work ≡ Dates g cursor next → Keeps g cursor next
     keeps_dates g cursor next is =
-        let has : IsDated c.central.plain (Some order) (Dates g cursor next) =
-        subst (λ (k : InProgress). IsDated c.central.plain (Some order) k) is
-        (subst (λ (o : Option Order). IsDated c.central.plain o actor_state.work) z.next (c.dated place l actor_state z.list z.actor_state_is)) in
+        let has : IsSearchState c.central.plain (Some order) (Dates g cursor next) =
+        subst (λ (k : InProgress). IsSearchState c.central.plain (Some order) k) is
+        (subst (λ (o : Option Order). IsSearchState c.central.plain o actor_state.work) z.next (c.dated place l actor_state z.list z.actor_state_is)) in
         record {
           recorded = ap recorded_in is;
           seeks = ap (work_of (Some order)) is;
@@ -148,7 +148,7 @@ module _ {D S M : Type 0} (disk : DiskGhosts D) (store : StoreGhosts S) (meta : 
           z.broker_tier.view z.broker_tier.cache
 
       in_scene : (d : Scene) → BothSafe d c.central.plain → length d.notes < 2 ^ 64 → d.partition ≡ w.partition
-          → Shows d place order.broker.0 here (search_of order.broker.0 g.stops epoch at on) (store.content w.tier.store)
+          → ShowsScene d place order.broker.0 here (search_of order.broker.0 g.stops epoch at on) (store.content w.tier.store)
           (meta.content w.tier.meta) z.broker_tier.view → KeepsLead z.x g → at < z.x.known_high_watermark
           → IsAt d
       in_scene d safe few part shows lead below =
@@ -188,7 +188,7 @@ module _ {D S M : Type 0} (disk : DiskGhosts D) (store : StoreGhosts S) (meta : 
           by false is =
               let same_at = at_cursor start cursor is in
               let same_on : on ≡ next = rw is refl in
-              let shows = subst (λ (u : InProgressIsSeen). Shows c.scene place order.broker.0 here u (store.content w.tier.store)
+              let shows = subst (λ (u : InProgressIsSeen). ShowsScene c.scene place order.broker.0 here u (store.content w.tier.store)
               (meta.content w.tier.meta) z.broker_tier.view)
               (k.seeks ∙ (ap (dates_of order.broker.0 g cursor next) asks
               ∙ (ap (λ (n : ℕ). search_of order.broker.0 g.stops epoch n next) (sym same_at)
@@ -200,7 +200,7 @@ module _ {D S M : Type 0} (disk : DiskGhosts D) (store : StoreGhosts S) (meta : 
               let at_actor_state = shows_at disk store meta opening w c place l actor_state order z in
               let safe : BothSafe left c.central.plain = all_kept (Moves place Leaves ∷ []) c.scene c.central.plain c.central.plain
               (c.central.plain, (refl, tt), refl) safe_now in
-              let shows : Shows left place order.broker.0 here (search_of order.broker.0 g.stops epoch at on) (store.content w.tier.store)
+              let shows : ShowsScene left place order.broker.0 here (search_of order.broker.0 g.stops epoch at on) (store.content w.tier.store)
               (meta.content w.tier.meta) z.broker_tier.view = record {
                 objects_are = at_actor_state.objects_are;
                 notes_are = at_actor_state.notes_are;

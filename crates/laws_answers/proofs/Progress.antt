@@ -11,9 +11,9 @@ use Rattle.disk_model.specs.declared.disk.Disk.{Ghosts as DiskGhosts}
 use Rattle.object_store.specs.declared.store.Store.{Ghosts as StoreGhosts}
 use Rattle.meta_log.specs.declared.log.MetaLog.{Ghosts as MetaGhosts}
 use Rattle.meta_log.specs.declared.event_origin.EventOrigin.{EventOrigin}
-use Rattle.remote_view.specs.Fold.{Seen as View, state_of}
+use Rattle.remote_view.specs.Fold.{EntriesSeen as View, state_of}
 use Rattle.copy_task.specs.Copying.{Copied, keys}
-use Rattle.copy_task.specs.Turns.{Tiers, PutRow, DeleteRow, CopyRow, put_at, delete_at, checked}
+use Rattle.copy_task.specs.Turns.{Tiers, PutObjectRow, DeleteRow, CopyTurnRow, put_at, delete_at, checked}
 use Rattle.copy_task.specs.declared.turn.CopyTurn.{CopyTurn}
 use Rattle.copy_task.specs.declared.turn.CopyTurn.TheVariants.{Goes as GoesOn, Ends}
 use Rattle.copy_task.specs.declared.turn.CopyStep.{CopyStep}
@@ -34,7 +34,7 @@ use Rattle.time_find.specs.declared.turn.Asked.{Asked}
 use Rattle.time_find.specs.declared.turn.SearchStep.{SearchStep as Dating}
 use Rattle.time_find.specs.declared.turn.SearchStep.TheVariants as dating
 use Rattle.time_find.specs.declared.turn.TimeTurn.TheVariants as time
-use Rattle.time_find.specs.Turns.{GoesOn as GoesOnFrom}
+use Rattle.time_find.specs.Turns.{SearchContinues as GoesOnFrom}
 use Rattle.plain_log.specs.declared.answer.Answer.TheVariants.{MetaFault}
 use Rattle.plain_log.specs.declared.command.Command.{Command}
 use Rattle.plain_log.specs.declared.command.Command.TheVariants.{Copy, Trim, Expire, Fetch, Join, Follow, Offset}
@@ -56,14 +56,14 @@ use Rattle.partition_world.specs.declared.actor_state.InProgress.{InProgress}
 use Rattle.partition_world.specs.declared.actor_state.InProgress.TheVariants.{Idle, Noted, Copies, Seeks, Dates, Expires, Rebuilds}
 use Rattle.partition_world.specs.ActorStates.{chosen, moved, sought, dated, expired_segment, deleting, rebuilding, outcome_of, copy_outcome, expiry_outcome, actor_state_after, IsUnanswered}
 use Rattle.partition_world.specs.Turn.{IsTurn}
-use Rattle.partition_world.specs.TurnsOfCopy.{LeadersFirstRow, CopyFirstRow, ReadRow, ChooseRow, CopyOnRow, GoesOnCopy, copied_to, tiers_of, origin_of}
+use Rattle.partition_world.specs.TurnsOfCopy.{LeadersFirstRow, CopyFirstRow, ReadSegmentRow, ChooseRow, CopyOnRow, GoesOnCopy, copied_to, tiers_of, origin_of}
 use Rattle.partition_world.specs.TurnsOfDate.{SearchRow, DateOnRow, asked_of, is_own, resumed_at, resumed_with}
 use Rattle.partition_world.specs.TurnsOfExpiry.{ExpiresBy, ExpireOnRow, DeleteOnRow, GoesOnDeletion, expiry_tiers}
 use Rattle.partition_world.specs.TurnsOfFetch.{FetchOnRow, GoesOnFetch, fetch_tiers, wanted_of}
 use Rattle.partition_world.specs.TurnsOfRebuild.{with_line, RefreshedRow, EpochsOnRow, wanted_of as rebuilt_to}
 use Rattle.partition_world.specs.TurnsOfOffset.{OffsetOnRow}
 use Rattle.partition_world.specs.TurnsOfTrim.{TrimFirstRow, TrimOnRow}
-use Rattle.partition_world.specs.Turns.{OwnRow, OwnOnRow, JoinSecondRow, Row}
+use Rattle.partition_world.specs.Turns.{LocalCommandRow, OwnOnRow, JoinSecondRow, Row}
 use Rattle.partition_world.specs.Whole.{Whole}
 use Rattle.partition_world.proofs.Begins.{row_of}
 use Rattle.partition_world.proofs.DateAdvances.{Rises, dated_before, own_rises, time_rises}
@@ -113,7 +113,7 @@ checked_less copy notes (Some CopyStarted) next is = absurd cc
 checked_less copy notes None next is = absurd cc
 
 module _ {S M : Type 0} (store : StoreGhosts S) (meta : MetaGhosts M) where
-  put_row : (copy : Copied) (n : ℕ) (key : Option ObjectKey) (next : CopyStep) (old new : S) → PutRow store.content store.control copy n key (Ok (GoesOn next)) old new → copying_left next < copying_left (Put n)
+  put_row : (copy : Copied) (n : ℕ) (key : Option ObjectKey) (next : CopyStep) (old new : S) → PutObjectRow store.content store.control copy n key (Ok (GoesOn next)) old new → copying_left next < copying_left (Put n)
   put_row copy n None next old new w = let e : next ≡ Finish = cc (w.0) in rw e (omega arith)
   put_row copy n (Some key) next old new w = put_less copy n (slice_get (keys copy) (n + 1)) next refl w.0
 
@@ -123,7 +123,7 @@ module _ {S M : Type 0} (store : StoreGhosts S) (meta : MetaGhosts M) where
   delete_row copy view n (Some key) next old new w = delete_less copy view n (slice_get (keys copy) (n + 1)) next refl w.0
 
   copy_less : (copy : Copied) (origin : EventOrigin) (before next : CopyStep) (old new : Tiers S M)
-      → CopyRow store.content store.control meta.content meta.control copy origin before (Ok (GoesOn next)) old new → copying_left next < copying_left before
+      → CopyTurnRow store.content store.control meta.content meta.control copy origin before (Ok (GoesOn next)) old new → copying_left next < copying_left before
   copy_less copy origin Start next old new w = to Start next (Put 0) w.1.0 (omega arith)
   copy_less copy origin (Put n) next old new w = put_row copy n (slice_get (keys copy) n) next old.store new.store w.1
   copy_less copy origin Finish next old new w = to Finish next Check w.1.0 (omega arith)
@@ -249,7 +249,7 @@ module _ {D S M : Type 0} (disk : DiskGhosts D) (store : StoreGhosts S) (meta : 
   begins_less h b x (Offset (At ts)) (turned.Begins g) h' row = elim row [ ]
   begins_less h b x other (turned.Begins g) h' row = elim row [ ]
 
-  own_less : (h : PartitionState D) (t : RemoteTier S M) (b : ℕ) (x : Node D) (command : Command) (outcome : Outcome) (h' : PartitionState D) (t' : RemoteTier S M) → OwnRow disk h t b x command outcome h' t' → Less command Idle outcome
+  own_less : (h : PartitionState D) (t : RemoteTier S M) (b : ℕ) (x : Node D) (command : Command) (outcome : Outcome) (h' : PartitionState D) (t' : RemoteTier S M) → LocalCommandRow disk h t b x command outcome h' t' → Less command Idle outcome
   own_less h t b x command outcome h' t' ((turn, is, row), same) = subst (Less command Idle) (sym is) (begins_less h b x command turn h' row)
 
   -- a last turn
@@ -258,7 +258,7 @@ module _ {D S M : Type 0} (disk : DiskGhosts D) (store : StoreGhosts S) (meta : 
   last_less h t b x g work command kind outcome h' t' ((answer, is, row), same) = subst (Less kind work) (sym is) tt
 
   -- a copy's later ones
-  choice_less : (p : PartitionId) (b : ℕ) (x y : Node D) (broker_tier z : BrokerTierState) (offset : ℕ) (g : StartSnapshot) (outcome : Outcome) → ReadRow disk p b x broker_tier offset outcome y z → Less Copy (Noted g) outcome
+  choice_less : (p : PartitionId) (b : ℕ) (x y : Node D) (broker_tier z : BrokerTierState) (offset : ℕ) (g : StartSnapshot) (outcome : Outcome) → ReadSegmentRow disk p b x broker_tier offset outcome y z → Less Copy (Noted g) outcome
   choice_less p b x y broker_tier z offset g (Answers answer) row = tt
   choice_less p b x y broker_tier z offset g (Chose copy) row = omega arith
   choice_less p b x y broker_tier z offset g other row = elim row [ ]

@@ -33,7 +33,7 @@ use Rattle.plain_log.specs.declared.answer.Place.{Place}
 use Rattle.plain_log.specs.declared.answer.Place.TheVariants.{Key}
 use Rattle.plain_log.specs.Safe.{RoleSafe}
 use Rattle.plain_log.specs.State.{path_of}
-use Rattle.remote_view.specs.Fold.{Seen, entry_of, fold}
+use Rattle.remote_view.specs.Fold.{EntriesSeen, entry_of, fold}
 use Rattle.remote_find.specs.declared.piece.Piece.{Piece}
 use Rattle.remote_find.specs.Pieces.{piece_at}
 use Rattle.tier_fetch.specs.declared.turn.FetchRequest.{FetchRequest}
@@ -42,7 +42,7 @@ use Rattle.tier_fetch.specs.declared.turn.FetchStep.{FetchStep}
 use Rattle.tier_fetch.specs.declared.turn.FetchStep.TheVariants.{Refresh, Index, Log}
 use Rattle.tier_fetch.specs.declared.turn.FetchTurn.TheVariants.{Goes, Ends}
 use Rattle.tier_fetch.specs.Span.{span_of}
-use Rattle.tier_fetch.specs.Turns.{Tiers, spot_in, chosen, LoadsBytes, Loads, CutsBytes, Cuts, RefreshRow, LoadRow, IndexRow, LogRow, FetchRow}
+use Rattle.tier_fetch.specs.Turns.{Tiers, spot_in, chosen, LoadsBytes, Loads, CutsBytes, CutsRunOut, RefreshRow, LoadRow, IndexRow, LogRow, RemoteFetchRow}
 use Rattle.tier_safe.specs.Fetches.{IsIndexOf}
 use Rattle.tier_safe.specs.Kept.{whole_of}
 use Rattle.tier_safe.specs.Scene.{BrokerTierView, Seeks, Scene}
@@ -60,26 +60,26 @@ use Rattle.laws_tier_fetch.proofs.Pairs.{found_in}
 use Rattle.laws_tier_fetch.proofs.Reading.{copy_of, IsGiven, gives, index_read}
 use Rattle.laws_tier_fetch.proofs.Spanning.{spans_hold}
 use Rattle.laws_tier_fetch.proofs.Turning.{shown}
-use Rattle.laws_answers.specs.Found.{PieceEnds, IsFound}
+use Rattle.laws_answers.specs.Found.{PieceEnds, FetchHasFound}
 use Rattle.laws_answers.proofs.EndsOfPieces.{piece_ends, shared_end, turned, end_behind, one_of_both}
 
 module _ (c : Scene) (p : Plain) (a b : ℕ) (tier_view : BrokerTierView) (x : Broker) (stops epoch : ℕ) (wanted : FetchRequest) (line : List (ℕ × ℕ)) where
   -- a turn of the fetch, before which it has this next
-  abbrev At : FetchStep → store.Content → meta.Content → Seen → Cache → Type 0
+  abbrev At : FetchStep → store.Content → meta.Content → EntriesSeen → Cache → Type 0
   At next s n view cache = IsAtTurn c p a b tier_view x stops epoch wanted line next s n view cache
 
   -- its broker's log is the path of its epoch
-  led : (next : FetchStep) (s : store.Content) (n : meta.Content) (view : Seen) (cache : Cache) → At next s n view cache → path_of p.paths epoch ≡ Some x.log
+  led : (next : FetchStep) (s : store.Content) (n : meta.Content) (view : EntriesSeen) (cache : Cache) → At next s n view cache → path_of p.paths epoch ≡ Some x.log
   led next s n view cache h = (subst (λ (r : Role). RoleSafe p.paths p.registry.epoch r x.log) h.leads.role (h.safe.plain.brokers b x h.broker_is).role).1
 
   -- so an end of that path's is one of the log
-  log_end : (next : FetchStep) (s : store.Content) (n : meta.Content) (view : Seen) (cache : Cache) (piece : Piece) → At next s n view cache → PieceEnds p.paths epoch piece → EndsAt piece.to x.log
+  log_end : (next : FetchStep) (s : store.Content) (n : meta.Content) (view : EntriesSeen) (cache : Cache) (piece : Piece) → At next s n view cache → PieceEnds p.paths epoch piece → EndsAt piece.to x.log
   log_end next s n view cache piece h e =
       let same : e.begins.0 ≡ x.log = one_some (path_of p.paths epoch) e.begins.0 x.log e.begins.1 (led next s n view cache h) in
       (e.front, subst (IsPrefix e.front) same e.begins.2, e.ends)
 
   -- and of the copy's batches, up to the piece's end
-  copy_end : (next : FetchStep) (s : store.Content) (n : meta.Content) (view : Seen) (cache : Cache) (piece : Piece) (m : ℕ) → At next s n view cache → (r : FetchReads c p x piece)
+  copy_end : (next : FetchStep) (s : store.Content) (n : meta.Content) (view : EntriesSeen) (cache : Cache) (piece : Piece) (m : ℕ) → At next s n view cache → (r : FetchReads c p x piece)
       → r.entry.start ≤ m → m ≤ piece.to → 0 < piece.to → EndsAt m x.log → EndsIn r.entry.start r.held.batches m
   copy_end next s n view cache piece m h r low high some e =
       let part = r.held.describes.part in
@@ -91,8 +91,8 @@ module _ (c : Scene) (p : Plain) (a b : ℕ) (tier_view : BrokerTierView) (x : B
       (k.0, k.1, ap (λ (f : ℕ). end_from f k.0) (sym part.ends) ∙ k.2)
 
   -- no place is bad in the bytes that the last turn reads
-  none_bad : (s : store.Content) (n : meta.Content) (view : Seen) (cache : Cache) (piece : Piece) (span : Span) (at : ℕ) → At (Log piece span) s n view cache → (r : FetchReads c p x piece)
-      → IsFound p.paths c.notes epoch wanted.offset wanted.limit (Log piece span) → wanted.offset < wanted.mark → EndsAt wanted.mark x.log
+  none_bad : (s : store.Content) (n : meta.Content) (view : EntriesSeen) (cache : Cache) (piece : Piece) (span : Span) (at : ℕ) → At (Log piece span) s n view cache → (r : FetchReads c p x piece)
+      → FetchHasFound p.paths c.notes epoch wanted.offset wanted.limit (Log piece span) → wanted.offset < wanted.mark → EndsAt wanted.mark x.log
       → IsBadAt (take span.most (drop span.from (joined r.held.batches))) wanted.offset wanted.limit (min wanted.mark piece.to) at → ⊥
   none_bad s n view cache piece span at h r f below marked bad =
       let next = Log piece span in
@@ -126,27 +126,27 @@ module _ (c : Scene) (p : Plain) (a b : ℕ) (tier_view : BrokerTierView) (x : B
 
   -- an index of the copy's batches shows such a span
   spanned : (piece : Piece) (index : OffsetTable) → PieceEnds p.paths epoch piece → (r : FetchReads c p x piece) → IsIndexOf p.paths r.entry index
-      → IsFound p.paths c.notes epoch wanted.offset wanted.limit (Log piece (span_of index wanted.offset wanted.limit piece.to))
+      → FetchHasFound p.paths c.notes epoch wanted.offset wanted.limit (Log piece (span_of index wanted.offset wanted.limit piece.to))
   spanned piece index ends r is = (ends, record { before = c.notes; begins = prefix_self c.notes; entry = r.entry; there = r.there; finished = r.finished; index = index; is = is; span_is = refl })
 
   module _ {S M : Type 0} (objects : S → store.Content) (calls : S → Control store_call.call_code)
       (notes : M → meta.Content) (notings : M → Control meta_call.call_code) where
     -- what a refresh finds ends where a batch does
-    chosen_found : (seen : ℕ) (after : Seen) (piece : Option Piece) (later : FetchStep) (more : List Note) → piece_at after.entries line (end_of x.log) wanted.offset ≡ piece → Goes later ≡ chosen seen piece
-        → ((found : Piece) → piece_at after.entries line (end_of x.log) wanted.offset ≡ Some found → PieceEnds p.paths epoch found) → IsFound p.paths more epoch wanted.offset wanted.limit later
+    chosen_found : (seen : ℕ) (after : EntriesSeen) (piece : Option Piece) (later : FetchStep) (more : List Note) → piece_at after.entries line (end_of x.log) wanted.offset ≡ piece → Goes later ≡ chosen seen piece
+        → ((found : Piece) → piece_at after.entries line (end_of x.log) wanted.offset ≡ Some found → PieceEnds p.paths epoch found) → FetchHasFound p.paths more epoch wanted.offset wanted.limit later
     chosen_found seen after None later more made is ends = absurd (cc (is))
     chosen_found seen after (Some piece) later more made is ends =
         let same : Index piece ≡ later = cc (is) in
-        subst (IsFound p.paths more epoch wanted.offset wanted.limit) same (ends piece made)
+        subst (FetchHasFound p.paths more epoch wanted.offset wanted.limit) same (ends piece made)
 
-    pub refresh_found : (s : store.Content) (cache : Cache) (view after : Seen) (old new : M) (later : FetchStep) (more : List Note) → At Refresh s (notes old) view cache
-        → RefreshRow notes notings wanted line (Ok (Goes later)) view after old new → IsFound p.paths more epoch wanted.offset wanted.limit later
+    pub refresh_found : (s : store.Content) (cache : Cache) (view after : EntriesSeen) (old new : M) (later : FetchStep) (more : List Note) → At Refresh s (notes old) view cache
+        → RefreshRow notes notings wanted line (Ok (Goes later)) view after old new → FetchHasFound p.paths more epoch wanted.offset wanted.limit later
     refresh_found s cache view after old new later more h row =
-        let r : Refreshes (notes old) tier_view.view after = subst (λ (v : Seen). Refreshes (notes old) v after) (sym h.shows.view_is) row.1.view in
+        let r : Refreshes (notes old) tier_view.view after = subst (λ (v : EntriesSeen). Refreshes (notes old) v after) (sym h.shows.view_is) row.1.view in
         let all = sees_all objects calls notes notings c p a b tier_view (Seeks (sought_of b stops epoch wanted.offset Refresh)) s old after
         (shown c a b tier_view (Seeks (sought_of b stops epoch wanted.offset Refresh)) s (notes old) view h.shows) h.few (h.safe.tier.views b tier_view h.shows.tier_view_is) r in
         let kept = seen_kept c.notes c.notes c.desk h.safe.tier.notes (prefix_self c.notes) in
-        let entries : after.entries ≡ fold c.notes = ap (λ (v : Seen). v.entries) all.0 in
+        let entries : after.entries ≡ fold c.notes = ap (λ (v : EntriesSeen). v.entries) all.0 in
         let ends : (found : Piece) → piece_at after.entries line (end_of x.log) wanted.offset ≡ Some found → PieceEnds p.paths epoch found = λ found made.
         (let e = piece_ends p c.objects (fold c.notes) line x.log wanted.offset found h.safe.plain h.safe.tier.finished kept.0 kept.1 h.is_observable (h.safe.plain.brokers b x h.broker_is).log
         (subst (λ (es : List Entry). piece_at es line (end_of x.log) wanted.offset ≡ Some found) entries made) in
@@ -155,16 +155,16 @@ module _ (c : Scene) (p : Plain) (a b : ℕ) (tier_view : BrokerTierView) (x : B
         (row.0 ∙ ap (λ (e : ℕ). chosen after.notes (piece_at after.entries line e wanted.offset)) h.end_is) ends
 
     -- so does what an index shows
-    loads_found : (ns : meta.Content) (view : Seen) (cache cache' : Cache) (old new : S) (piece : Piece) (place : ℕ × Spot) (later : FetchStep) (answer : Result (Option (List ℕ)) Trouble)
+    loads_found : (ns : meta.Content) (view : EntriesSeen) (cache cache' : Cache) (old new : S) (piece : Piece) (place : ℕ × Spot) (later : FetchStep) (answer : Result (Option (List ℕ)) Trouble)
         → At (Index piece) (objects old) ns view cache → spot_in wanted.partition piece.id part.Index (entry_of piece.id view.entries) ≡ Some place
         → Gets objects calls place.1.key (all_of place.1) answer old new → Loads wanted piece place.0 place.1 answer (Ok (Goes later)) cache cache' → PieceEnds p.paths epoch piece
-        → IsFound p.paths c.notes epoch wanted.offset wanted.limit later
+        → FetchHasFound p.paths c.notes epoch wanted.offset wanted.limit later
     loads_found ns view cache cache' old new piece place later (Err Failed) h at gets k ends = let e = k.0 in absurd (cc (e))
     loads_found ns view cache cache' old new piece place later (Err NoMemory) h at gets k ends = let e = k.0 in absurd (cc (e))
     loads_found ns view cache cache' old new piece place later (Ok None) h at gets k ends = let e = k.0 in absurd (cc (e))
     loads_found ns view cache cache' old new piece place later (Ok (Some bytes)) h at gets k ends = by (short_of place.1 bytes) k
       where
-        by : (end : Option ℕ) → LoadsBytes end wanted piece place.0 place.1 bytes (Ok (Goes later)) cache cache' → IsFound p.paths c.notes epoch wanted.offset wanted.limit later
+        by : (end : Option ℕ) → LoadsBytes end wanted piece place.0 place.1 bytes (Ok (Goes later)) cache cache' → FetchHasFound p.paths c.notes epoch wanted.offset wanted.limit later
         by (Some end) k = let e = k.0 in absurd (cc (e))
         by None k =
             let r = copy_of c p a b tier_view x stops epoch wanted line (Index piece) (objects old) ns view cache piece h refl in
@@ -172,32 +172,32 @@ module _ (c : Scene) (p : Plain) (a b : ℕ) (tier_view : BrokerTierView) (x : B
             (gets.bytes h.shows.store_tells) r in
             let is = index_read c p x piece k.index bytes r (k.base_is ∙ g.start_is) k.rises k.bytes_are g.given_is in
             let same : Log piece (span_of k.index wanted.offset wanted.limit piece.to) ≡ later = (let e = k.turn_is in cc (e)) in
-            subst (IsFound p.paths c.notes epoch wanted.offset wanted.limit) same
+            subst (FetchHasFound p.paths c.notes epoch wanted.offset wanted.limit) same
             (spanned piece k.index ends r (record { batches = r.held.batches; line = r.held.line; interval = r.held.interval; describes = r.held.describes; is = is }))
 
-    load_found : (ns : meta.Content) (view : Seen) (cache cache' : Cache) (old new : S) (piece : Piece) (place : Option (ℕ × Spot)) (later : FetchStep) → At (Index piece) (objects old) ns view cache
+    load_found : (ns : meta.Content) (view : EntriesSeen) (cache cache' : Cache) (old new : S) (piece : Piece) (place : Option (ℕ × Spot)) (later : FetchStep) → At (Index piece) (objects old) ns view cache
         → spot_in wanted.partition piece.id part.Index (entry_of piece.id view.entries) ≡ place → LoadRow objects calls wanted piece view place (Ok (Goes later)) cache cache' old new
-        → PieceEnds p.paths epoch piece → IsFound p.paths c.notes epoch wanted.offset wanted.limit later
+        → PieceEnds p.paths epoch piece → FetchHasFound p.paths c.notes epoch wanted.offset wanted.limit later
     load_found ns view cache cache' old new piece None later h at row ends = let e = row.0 in absurd (cc (e))
     load_found ns view cache cache' old new piece (Some place) later h at row ends = loads_found ns view cache cache' old new piece place later row.answer h at row.gets row.loads ends
 
-    pub index_found : (ns : meta.Content) (view : Seen) (cache cache' : Cache) (old new : S) (piece : Piece) (there : Option OffsetTable) (later : FetchStep) → At (Index piece) (objects old) ns view cache
+    pub index_found : (ns : meta.Content) (view : EntriesSeen) (cache cache' : Cache) (old new : S) (piece : Piece) (there : Option OffsetTable) (later : FetchStep) → At (Index piece) (objects old) ns view cache
         → found piece.id.0 cache.pairs ≡ there → IndexRow objects calls wanted piece view (Ok (Goes later)) there cache cache' old new → PieceEnds p.paths epoch piece
-        → IsFound p.paths c.notes epoch wanted.offset wanted.limit later
+        → FetchHasFound p.paths c.notes epoch wanted.offset wanted.limit later
     index_found ns view cache cache' old new piece (Some index) later h at row ends =
         let r = copy_of c p a b tier_view x stops epoch wanted line (Index piece) (objects old) ns view cache piece h refl in
         let has : In (piece.id, index) tier_view.cache = subst (In (piece.id, index)) (sym h.cache_is) (found_in piece.id index cache.pairs at) in
         let is = (h.safe.tier.caches b tier_view h.shows.tier_view_is piece.id index has).is r.entry r.there r.finished in
         let same : Log piece (span_of index wanted.offset wanted.limit piece.to) ≡ later = (let e = row.0 in cc (e)) in
-        subst (IsFound p.paths c.notes epoch wanted.offset wanted.limit) same (spanned piece index ends r is)
+        subst (FetchHasFound p.paths c.notes epoch wanted.offset wanted.limit) same (spanned piece index ends r is)
     index_found ns view cache cache' old new piece None later h at row ends =
         load_found ns view cache cache' old new piece (spot_in wanted.partition piece.id part.Index (entry_of piece.id view.entries)) later h refl row ends
 
     -- the last turn isn't damaged
-    cuts_whole : (ns : meta.Content) (view : Seen) (cache : Cache) (old new : S) (piece : Piece) (span : Span) (spot : ℕ × Spot) (place : Place) (at : ℕ) (answer : Result (Option (List ℕ)) Trouble)
+    cuts_whole : (ns : meta.Content) (view : EntriesSeen) (cache : Cache) (old new : S) (piece : Piece) (span : Span) (spot : ℕ × Spot) (place : Place) (at : ℕ) (answer : Result (Option (List ℕ)) Trouble)
         → At (Log piece span) (objects old) ns view cache → spot_in wanted.partition piece.id part.Log (entry_of piece.id view.entries) ≡ Some spot
-        → Gets objects calls spot.1.key (some_of spot.1 span.from span.most) answer old new → Cuts wanted piece spot.1 span answer (Ok (Ends (Damaged place at)))
-        → IsFound p.paths c.notes epoch wanted.offset wanted.limit (Log piece span) → wanted.offset < wanted.mark → EndsAt wanted.mark x.log → ⊥
+        → Gets objects calls spot.1.key (some_of spot.1 span.from span.most) answer old new → CutsRunOut wanted piece spot.1 span answer (Ok (Ends (Damaged place at)))
+        → FetchHasFound p.paths c.notes epoch wanted.offset wanted.limit (Log piece span) → wanted.offset < wanted.mark → EndsAt wanted.mark x.log → ⊥
     cuts_whole ns view cache old new piece span spot place at answer h stood gets k f below marked = by answer (gets.bytes h.shows.store_tells) k
       where
         r : FetchReads c p x piece
@@ -210,7 +210,7 @@ module _ (c : Scene) (p : Plain) (a b : ℕ) (tier_view : BrokerTierView) (x : B
 
         by : (answer : Result (Option (List ℕ)) Trouble)
             → IfOk answer (λ (given : Option (List ℕ)). given ≡ option_map (some_of spot.1 span.from span.most) ((objects old).objects spot.1.key))
-            → Cuts wanted piece spot.1 span answer (Ok (Ends (Damaged place at))) → ⊥
+            → CutsRunOut wanted piece spot.1 span answer (Ok (Ends (Damaged place at))) → ⊥
         by (Err Failed) is k = cc (k)
         by (Err NoMemory) is k = cc (k)
         by (Ok None) is k = let g = read None is in let e = g.given_is in cc (e)
@@ -224,16 +224,16 @@ module _ (c : Scene) (p : Plain) (a b : ℕ) (tier_view : BrokerTierView) (x : B
             none_bad (objects old) ns view cache piece span bad.found h r f below marked
             (subst (λ (given : List ℕ). IsBadAt given wanted.offset wanted.limit (min wanted.mark piece.to) bad.found) e bad.bad)
 
-    log_whole : (ns : meta.Content) (view : Seen) (cache : Cache) (old new : S) (piece : Piece) (span : Span) (spot : Option (ℕ × Spot)) (place : Place) (at : ℕ) (home : Part)
+    log_whole : (ns : meta.Content) (view : EntriesSeen) (cache : Cache) (old new : S) (piece : Piece) (span : Span) (spot : Option (ℕ × Spot)) (place : Place) (at : ℕ) (home : Part)
         → At (Log piece span) (objects old) ns view cache → spot_in wanted.partition piece.id part.Log (entry_of piece.id view.entries) ≡ spot
         → LogRow objects calls wanted piece span view spot (Ok (Ends (Damaged place at))) old new → place ≡ Key (key_of wanted.partition piece.id home)
-        → IsFound p.paths c.notes epoch wanted.offset wanted.limit (Log piece span) → wanted.offset < wanted.mark → EndsAt wanted.mark x.log → ⊥
+        → FetchHasFound p.paths c.notes epoch wanted.offset wanted.limit (Log piece span) → wanted.offset < wanted.mark → EndsAt wanted.mark x.log → ⊥
     log_whole ns view cache old new piece span None place at home h stood row is f below marked = let e = row.0 in cc (e, is)
     log_whole ns view cache old new piece span (Some spot) place at home h stood row is f below marked =
         cuts_whole ns view cache old new piece span spot place at row.answer h stood row.gets row.cuts f below marked
 
     pub not_damaged : (next : FetchStep) (place : Place) (at : ℕ) (old new : Tiers S M) → At next (objects old.store) (notes old.meta) old.view old.cache
-        → FetchRow objects calls notes notings wanted line next (Ok (Ends (Damaged place at))) old new → IsFound p.paths c.notes epoch wanted.offset wanted.limit next
+        → RemoteFetchRow objects calls notes notings wanted line next (Ok (Ends (Damaged place at))) old new → FetchHasFound p.paths c.notes epoch wanted.offset wanted.limit next
         → wanted.offset < wanted.mark → EndsAt wanted.mark x.log → ⊥
     not_damaged Refresh place at old new h row f below marked =
         let k = damage_is_of_logs objects calls notes notings wanted line Refresh place at old new c p a b tier_view x stops epoch row h in let e = k.next_is in cc (e)

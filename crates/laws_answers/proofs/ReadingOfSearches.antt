@@ -27,14 +27,14 @@ use Rattle.plain_log.specs.declared.answer.Answer.TheVariants.{Damaged, Run}
 use Rattle.plain_log.specs.declared.answer.Place.{Place}
 use Rattle.plain_log.specs.Safe.{RoleSafe}
 use Rattle.plain_log.specs.State.{path_of}
-use Rattle.remote_view.specs.Fold.{Seen, entry_of, fold}
+use Rattle.remote_view.specs.Fold.{EntriesSeen, entry_of, fold}
 use Rattle.remote_find.specs.declared.piece.Piece.{Piece}
 use Rattle.remote_find.specs.Pieces.{piece_at}
 use Rattle.tier_fetch.specs.declared.turn.Span.{Span}
 use Rattle.tier_fetch.specs.declared.turn.FetchTurn.{FetchTurn}
 use Rattle.tier_fetch.specs.declared.turn.FetchTurn.TheVariants as fetch
 use Rattle.tier_fetch.specs.declared.turn.FetchStep.TheVariants as fetching
-use Rattle.tier_fetch.specs.Turns.{Tiers, FetchRow, spot_in}
+use Rattle.tier_fetch.specs.Turns.{Tiers, RemoteFetchRow, spot_in}
 use Rattle.tier_safe.specs.Scene.{BrokerTierView, Free, Scene}
 use Rattle.tier_safe.proofs.Rules.{seen_kept}
 use Rattle.tier_safe.proofs.Turning.{sees_all}
@@ -46,11 +46,11 @@ use Rattle.time_find.specs.declared.turn.SearchStep.TheVariants.{Seek, Times, In
 use Rattle.time_find.specs.declared.turn.TimeTurn.{TimeTurn}
 use Rattle.time_find.specs.declared.turn.TimeTurn.TheVariants.{Goes, Ends}
 use Rattle.time_find.specs.Passing.{SeeksPiece, top_of}
-use Rattle.time_find.specs.Turns.{IsBelow, IsSet, IsSearched, TimesBytes, Times as Timed, Indexes, Searches, SeekRow, TimesRow, IndexRow, LogRow, TimeRow, wanted_at}
+use Rattle.time_find.specs.Turns.{IsBelowLocal, IsSet, IsSearched, TimesBytes, Times as Timed, Indexes, SearchTakes, SeekRow, TimesRow, SearchIndexRow, SearchLogRow, TimeRow, wanted_at}
 use Rattle.laws_time_find.specs.Searching.{IsAtSearch}
 use Rattle.laws_time_find.proofs.Damaging.{search_damage}
 use Rattle.laws_time_find.proofs.Turning.{as_turn}
-use Rattle.laws_answers.specs.Found.{PieceEnds, IsFound}
+use Rattle.laws_answers.specs.Found.{PieceEnds, FetchHasFound}
 use Rattle.laws_answers.specs.FoundByTime.{IsFoundByTime}
 use Rattle.laws_answers.proofs.EndsOfPieces.{piece_ends}
 use Rattle.laws_answers.proofs.ReadingOfFetches.{index_found, not_damaged}
@@ -91,7 +91,7 @@ module _ (paths : List Path) (notes : List Note) (epoch : ℕ) where
       by None w = shown_found (nat_lt _ (top_of asked piece)) piece _ cursor (top_of asked piece) at later w.turn_is ends
 
   module _ {S : Type 0} (objects : S → store.Content) (calls : S → Control store_call.call_code) where
-    times_found : (asked : Asked) (cursor : ℕ) (piece : Piece) (view : Seen) (place : Option (ℕ × Spot)) (at : ℕ) (later : SearchStep)
+    times_found : (asked : Asked) (cursor : ℕ) (piece : Piece) (view : EntriesSeen) (place : Option (ℕ × Spot)) (at : ℕ) (later : SearchStep)
         (old new : S)
         → TimesRow objects calls asked cursor piece view place (Ok (Goes at later)) old new → PieceEnds paths epoch piece
         → IsFoundByTime paths notes epoch later
@@ -102,33 +102,33 @@ module _ (paths : List Path) (notes : List Note) (epoch : ℕ) where
 module _ (c : Scene) (p : Plain) (a b : ℕ) (tier_view : BrokerTierView) (x : Broker) (stops epoch : ℕ) (asked : Asked) (line : List (ℕ × ℕ)) (cursor : ℕ)
   where
     -- a turn of the search, before which it has this next
-    abbrev At : SearchStep → store.Content → meta.Content → Seen → Cache → Type 0
+    abbrev At : SearchStep → store.Content → meta.Content → EntriesSeen → Cache → Type 0
     At next s n view cache = IsAtSearch c p a b tier_view x stops epoch asked line cursor next s n view cache
 
     -- its broker's log is the path of its epoch
-    led : (next : SearchStep) (s : store.Content) (n : meta.Content) (view : Seen) (cache : Cache) → At next s n view cache
+    led : (next : SearchStep) (s : store.Content) (n : meta.Content) (view : EntriesSeen) (cache : Cache) → At next s n view cache
         → path_of p.paths epoch ≡ Some x.log
     led next s n view cache h = (subst (λ (r : Role). RoleSafe p.paths p.registry.epoch r x.log) h.leads
         (h.safe.plain.brokers b x h.broker_is).role).1
 
     -- the high watermark is an end of it
-    marked : (next : SearchStep) (s : store.Content) (n : meta.Content) (view : Seen) (cache : Cache) → At next s n view cache
+    marked : (next : SearchStep) (s : store.Content) (n : meta.Content) (view : EntriesSeen) (cache : Cache) → At next s n view cache
         → EndsAt asked.mark x.log
     marked next s n view cache h = subst (λ (m : ℕ). EndsAt m x.log) (sym h.mark_is) h.mark_ends
 
     module _ {S M : Type 0} (objects : S → store.Content) (calls : S → Control store_call.call_code)
         (notes : M → meta.Content) (notings : M → Control meta_call.call_code) where
       -- what a refresh finds ends where a batch does
-      piece_found : (s : store.Content) (cache : Cache) (view after : Seen) (old new : M) (at : ℕ) (piece : Piece)
+      piece_found : (s : store.Content) (cache : Cache) (view after : EntriesSeen) (old new : M) (at : ℕ) (piece : Piece)
           → At Seek s (notes old) view cache
           → SeekRow notes notings asked line cursor (Ok (Goes at (Times piece))) view after old new → PieceEnds p.paths epoch piece
       piece_found s cache view after old new at piece h row =
-          let r : Refreshes (notes old) tier_view.view after = subst (λ (v : Seen). Refreshes (notes old) v after) (sym h.shows.view_is)
+          let r : Refreshes (notes old) tier_view.view after = subst (λ (v : EntriesSeen). Refreshes (notes old) v after) (sym h.shows.view_is)
           row.1.view in
           let all = sees_all objects calls notes notings c p a b tier_view Free s old after (shown c a b tier_view Free s (notes old) view h.shows)
           h.few (h.safe.tier.views b tier_view h.shows.tier_view_is) r in
           let kept = seen_kept c.notes c.notes c.desk h.safe.tier.notes (prefix_self c.notes) in
-          let entries : after.entries ≡ fold c.notes = ap (λ (v : Seen). v.entries) all.0 in
+          let entries : after.entries ≡ fold c.notes = ap (λ (v : EntriesSeen). v.entries) all.0 in
           let found : SeeksPiece asked line after.entries cursor at piece = row.0 in
           let made : piece_at after.entries line (end_of x.log) at ≡ Some piece =
           subst (λ (e : ℕ). piece_at after.entries line e at ≡ Some piece) h.end_is found.found in
@@ -137,7 +137,7 @@ module _ (c : Scene) (p : Plain) (a b : ℕ) (tier_view : BrokerTierView) (x : B
           (subst (λ (es : List Entry). piece_at es line (end_of x.log) at ≡ Some piece) entries made) in
           record { front = e.0; begins = (x.log, led Seek s (notes old) view cache h, e.1); ends = e.2 }
 
-      seek_found : (s : store.Content) (cache : Cache) (view after : Seen) (old new : M) (at : ℕ) (later : SearchStep)
+      seek_found : (s : store.Content) (cache : Cache) (view after : EntriesSeen) (old new : M) (at : ℕ) (later : SearchStep)
           → At Seek s (notes old) view cache
           → SeekRow notes notings asked line cursor (Ok (Goes at later)) view after old new → IsFoundByTime p.paths c.notes epoch later
       seek_found s cache view after old new at Seek h row = tt
@@ -147,14 +147,14 @@ module _ (c : Scene) (p : Plain) (a b : ℕ) (tier_view : BrokerTierView) (x : B
 
       -- so does what an offset index shows
       log_found : (found piece : Piece) (from : ℕ) (span : Span) → found ≡ piece
-          → IsFound p.paths c.notes epoch from 4294967295 (fetching.Log found span)
+          → FetchHasFound p.paths c.notes epoch from 4294967295 (fetching.Log found span)
           → IsFoundByTime p.paths c.notes epoch (Log piece from span)
       log_found found piece from span same f = subst (λ (q : Piece). IsFoundByTime p.paths c.notes epoch (Log q from span)) same f
 
       indexed : (from : ℕ) (piece : Piece) (turn : Result FetchTurn AllocError) (at : ℕ) (later : SearchStep) (old new : Tiers S M)
           → IsAtTurn c p a b tier_view x stops epoch (wanted_at asked from) line (fetching.Index piece) (objects old.store) (notes old.meta)
           old.view old.cache
-          → FetchRow objects calls notes notings (wanted_at asked from) line (fetching.Index piece) turn old new
+          → RemoteFetchRow objects calls notes notings (wanted_at asked from) line (fetching.Index piece) turn old new
           → Indexes cursor piece from turn (Ok (Goes at later)) → PieceEnds p.paths epoch piece
           → IsFoundByTime p.paths c.notes epoch later
       indexed from piece (Ok (fetch.Goes (fetching.Log found span))) at later old new h row k ends =
@@ -172,14 +172,14 @@ module _ (c : Scene) (p : Plain) (a b : ℕ) (tier_view : BrokerTierView) (x : B
       index_on : (from : ℕ) (piece : Piece) (at : ℕ) (later : SearchStep) (old new : Tiers S M)
           → IsAtTurn c p a b tier_view x stops epoch (wanted_at asked from) line (fetching.Index piece) (objects old.store) (notes old.meta)
           old.view old.cache
-          → IndexRow objects calls notes notings asked line cursor piece from (Ok (Goes at later)) old new → PieceEnds p.paths epoch piece
+          → SearchIndexRow objects calls notes notings asked line cursor piece from (Ok (Goes at later)) old new → PieceEnds p.paths epoch piece
           → IsFoundByTime p.paths c.notes epoch later
       index_on from piece at later old new h (inl w) ends = none_found p.paths c.notes epoch later at (top_of asked piece) w.1
       index_on from piece at later old new h (inr w) ends = indexed from piece w.1.0 at later old new h w.1.1 w.1.2 ends
 
       -- after the log there is no piece
       searched_found : (from : ℕ) (turn : Result FetchTurn AllocError) (at : ℕ) (later : SearchStep)
-          → Searches asked from turn (Ok (Goes at later)) → IsFoundByTime p.paths c.notes epoch later
+          → SearchTakes asked from turn (Ok (Goes at later)) → IsFoundByTime p.paths c.notes epoch later
       searched_found from (Ok (fetch.Ends (Run tier size stop bytes))) at later k =
           subst (IsFoundByTime p.paths c.notes epoch) (sym (searched_on asked from bytes at later k)) tt
       searched_found from (Ok (fetch.Ends answer)) at later k = absurd (cc (k))
@@ -187,7 +187,7 @@ module _ (c : Scene) (p : Plain) (a b : ℕ) (tier_view : BrokerTierView) (x : B
       searched_found from (Err e) at later k = absurd (let no : false ≡ true = k in cc)
 
       log_on : (from : ℕ) (piece : Piece) (span : Span) (at : ℕ) (later : SearchStep) (old new : Tiers S M)
-          → LogRow objects calls notes notings asked line piece from span (Ok (Goes at later)) old new
+          → SearchLogRow objects calls notes notings asked line piece from span (Ok (Goes at later)) old new
           → IsFoundByTime p.paths c.notes epoch later
       log_on from piece span at later old new (inl w) = none_found p.paths c.notes epoch later at (top_of asked piece) w.1
       log_on from piece span at later old new (inr w) = searched_found from w.1.0 at later w.1.2
@@ -213,15 +213,15 @@ module _ (c : Scene) (p : Plain) (a b : ℕ) (tier_view : BrokerTierView) (x : B
           (old new : Tiers S M)
           → IsAtTurn c p a b tier_view x stops epoch (wanted_at asked from) line (fetching.Log piece span) (objects old.store) (notes old.meta)
           old.view old.cache
-          → FetchRow objects calls notes notings (wanted_at asked from) line (fetching.Log piece span) turn old new
-          → Searches asked from turn (Ok (Ends (Damaged place at)))
+          → RemoteFetchRow objects calls notes notings (wanted_at asked from) line (fetching.Log piece span) turn old new
+          → SearchTakes asked from turn (Ok (Ends (Damaged place at)))
           → IsFoundByTime p.paths c.notes epoch (Log piece from span) → from < asked.mark → EndsAt asked.mark x.log → ⊥
       searched_whole from piece span (Ok (fetch.Ends (Run tier size stop bytes))) place at old new h row k f below ends = k
       searched_whole from piece span (Ok (fetch.Ends answer)) place at old new h row k f below ends =
           let same : answer ≡ Damaged place at = cc (k) in
-          let told : FetchRow objects calls notes notings (wanted_at asked from) line (fetching.Log piece span)
+          let told : RemoteFetchRow objects calls notes notings (wanted_at asked from) line (fetching.Log piece span)
           (Ok (fetch.Ends (Damaged place at))) old new =
-          subst (λ (w : Answer). FetchRow objects calls notes notings (wanted_at asked from) line (fetching.Log piece span)
+          subst (λ (w : Answer). RemoteFetchRow objects calls notes notings (wanted_at asked from) line (fetching.Log piece span)
           (Ok (fetch.Ends w)) old new) same row in
           not_damaged c p a b tier_view x stops epoch (wanted_at asked from) line objects calls notes notings (fetching.Log piece span) place at
           old new h told f below ends
@@ -231,7 +231,7 @@ module _ (c : Scene) (p : Plain) (a b : ℕ) (tier_view : BrokerTierView) (x : B
       log_whole : (from : ℕ) (piece : Piece) (span : Span) (place : Place) (at : ℕ) (old new : Tiers S M)
           → IsAtTurn c p a b tier_view x stops epoch (wanted_at asked from) line (fetching.Log piece span) (objects old.store) (notes old.meta)
           old.view old.cache
-          → LogRow objects calls notes notings asked line piece from span (Ok (Ends (Damaged place at))) old new
+          → SearchLogRow objects calls notes notings asked line piece from span (Ok (Ends (Damaged place at))) old new
           → IsFoundByTime p.paths c.notes epoch (Log piece from span)
           → EndsAt asked.mark x.log → ⊥
       log_whole from piece span place at old new h (inl w) f ends = let is = w.1 in cc (is)
@@ -239,7 +239,7 @@ module _ (c : Scene) (p : Plain) (a b : ℕ) (tier_view : BrokerTierView) (x : B
           ends
 
       pub time_undamaged : (next : SearchStep) (place : Place) (at : ℕ) (old new : Tiers S M)
-          → At next (objects old.store) (notes old.meta) old.view old.cache → IsBelow asked cursor next → IsSet cursor next
+          → At next (objects old.store) (notes old.meta) old.view old.cache → IsBelowLocal asked cursor next → IsSet cursor next
           → TimeRow objects calls notes notings asked line cursor next (Ok (Ends (Damaged place at))) old new
           → IsFoundByTime p.paths c.notes epoch next → ⊥
       time_undamaged Seek place at old new h below set row f =

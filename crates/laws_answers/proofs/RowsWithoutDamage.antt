@@ -28,7 +28,7 @@ use Rattle.laws_partition.specs.declared.start_snapshot.Turned.TheVariants as tu
 use Rattle.laws_partition.proofs.BoolTests.{some_of}
 use Rattle.partition_commands.specs.declared.partition_state.Node.{Node}
 use Rattle.partition_commands.specs.declared.partition_state.PartitionState.{PartitionState}
-use Rattle.partition_commands.specs.Partition.{is_up, end_of, local_of, the_leader, FindsDamage}
+use Rattle.partition_commands.specs.Partition.{is_up, end_of, local_of, the_leader, NodeHasDamage}
 use Rattle.partition_commands.specs.Turns.{AnswerRow, FirstRow, LaterRow}
 use Rattle.partition_commands.specs.TurnsOfFollowers.{FollowRow}
 use Rattle.partition_commands.proofs.Shown.{end_shown, sees_at}
@@ -46,7 +46,7 @@ use Rattle.partition_world.specs.Turn.{IsTurn}
 use Rattle.partition_world.specs.TurnsOfExpiry.{ExpireOnRow, DeleteOnRow, expiry_tiers}
 use Rattle.partition_world.specs.TurnsOfCopy.{origin_of}
 use Rattle.partition_world.specs.TurnsOfRebuild.{with_line, wanted_of, AnswersAtOnce, EpochsOnRow}
-use Rattle.partition_world.specs.Turns.{OwnRow, OwnOnRow, JoinSecondRow, Row}
+use Rattle.partition_world.specs.Turns.{LocalCommandRow, OwnOnRow, JoinSecondRow, Row}
 use Rattle.partition_world.specs.Whole.{Whole}
 use Rattle.partition_world.proofs.Begins.{row_of}
 use Rattle.partition_world.proofs.ExpiryEnds.{MayEnd, expiry_ends}
@@ -54,7 +54,7 @@ use Rattle.partition_world.proofs.RebuildCentral.{to_read}
 use Rattle.partition_world.proofs.Scenes.{Place, place_of}
 use Rattle.partition_world.proofs.TurnCentral.{here}
 use Rattle.laws_answers.specs.DeletionsKnown.{DeletionsKnown}
-use Rattle.laws_answers.specs.CausesOfCopies.{HasCause}
+use Rattle.laws_answers.specs.CausesOfCopies.{CopyHasCause}
 use Rattle.laws_answers.proofs.CopiesHaveCauses.{have_causes}
 use Rattle.laws_answers.specs.Found.{SpansKnown}
 use Rattle.laws_answers.specs.FoundByTime.{SearchesKnown}
@@ -85,7 +85,7 @@ module _ {D : Type 0} where
 module _ {D S M : Type 0} (disk : DiskGhosts D) (store : StoreGhosts S) (meta : MetaGhosts M) where
   -- a copy has no cause for it
   cause_never : (w : Whole D S M) (b : ℕ) (x : Node D) (broker_tier : BrokerTierState) (work : InProgress) (place : Spoiled) (at : ℕ) (w' : Whole D S M)
-      → HasCause disk store meta w b x broker_tier work (Damaged place at) w' → ⊥
+      → CopyHasCause disk store meta w b x broker_tier work (Damaged place at) w' → ⊥
   cause_never w b x broker_tier Idle place at w' cause = cause
   cause_never w b x broker_tier (Noted g) place at w' cause = cause
   cause_never w b x broker_tier (Copies g copy next) place at w' cause = cause
@@ -100,7 +100,7 @@ module _ {D S M : Type 0} (disk : DiskGhosts D) (store : StoreGhosts S) (meta : 
     follow_never : (limit : ℕ) (spoiled : Spoiled) → FollowRow disk.content disk.control w.held b z.x limit (turned.Answers (Damaged spoiled at)) w'.held → ⊥
     follow_never limit (File name) row =
         let y = some_of (λ y. (end_of z.x < end_of y) × (local_of y ≤ end_of z.x)
-        × FindsDamage disk.content disk.control w.held w.held.registry.leader.0 y (end_of z.x) limit (end_of y) name at w'.held) (the_leader w.held) row.2 in
+        × NodeHasDamage disk.content disk.control w.held w.held.registry.leader.0 y (end_of z.x) limit (end_of y) name at w'.held) (the_leader w.held) row.2 in
         let v = sees_at disk.content disk.control w.held c.partition w.held.registry.leader.0 y.0 c.shows (leader_at w.held y.0 y.1) in
         y.2.2.misreads.unmarked v.0 v.1.shows
         (subst (λ (n : ℕ). EndsAt n v.0.batches) (sym (end_shown disk.content y.0 v.0 (leader_up w.held y.0 y.1) v.1.shows)) (ends_at_end v.0.batches))
@@ -133,7 +133,7 @@ module _ {D S M : Type 0} (disk : DiskGhosts D) (store : StoreGhosts S) (meta : 
     first_never (Offset (At ts)) row own = row
     first_never other row own = answer_never other place row
 
-    own_never : (command : Command) → IsOwn command → OwnRow disk w.held w.tier b z.x command (Answers (Damaged place at)) w'.held w'.tier → ⊥
+    own_never : (command : Command) → IsOwn command → LocalCommandRow disk w.held w.tier b z.x command (Answers (Damaged place at)) w'.held w'.tier → ⊥
     own_never command own ((turned.Answers k, is, row), same) =
         let e : Damaged place at ≡ k = cc (is) in
         first_never command (subst (λ (j : Answer). FirstRow disk.content disk.control w.held b z.x command (turned.Answers j) w'.held) (sym e) row) own
@@ -182,9 +182,9 @@ module _ {D S M : Type 0} (disk : DiskGhosts D) (store : StoreGhosts S) (meta : 
     module _ (known : DeletionsKnown meta w) (spans : SpansKnown meta opening w) (searches : SearchesKnown meta opening w) where
       copy_never : t.order.command ≡ Copy → ⊥
       copy_never copies =
-          let x = some_of (λ x. AtBrokerTier w.tier b (λ broker_tier. HasCause disk store meta w b x broker_tier t.actor_state.work (Damaged place at) w')) (slice_get w.held.nodes b)
+          let x = some_of (λ x. AtBrokerTier w.tier b (λ broker_tier. CopyHasCause disk store meta w b x broker_tier t.actor_state.work (Damaged place at) w')) (slice_get w.held.nodes b)
           (have_causes disk store meta opening w a (Damaged place at) w' c known t copies) in
-          let broker_tier = some_of (λ broker_tier. HasCause disk store meta w b x.0 broker_tier t.actor_state.work (Damaged place at) w') (slice_get w.tier.broker_tiers b) x.2 in
+          let broker_tier = some_of (λ broker_tier. CopyHasCause disk store meta w b x.0 broker_tier t.actor_state.work (Damaged place at) w') (slice_get w.tier.broker_tiers b) x.2 in
           cause_never w b x.0 broker_tier.0 t.actor_state.work place at w' broker_tier.2
 
       pub row_never : (work : InProgress) (command : Command) → t.actor_state.work ≡ work → t.order.command ≡ command

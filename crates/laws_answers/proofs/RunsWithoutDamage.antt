@@ -20,8 +20,8 @@ use Rattle.laws_partition.specs.Turn.{event_of}
 use Rattle.partition_world.specs.declared.actor_state.Outcome.{Outcome}
 use Rattle.partition_world.specs.declared.actor_state.Outcome.TheVariants.{Answers, Begins}
 use Rattle.partition_world.specs.Central.{IsCentral}
-use Rattle.partition_world.specs.Fresh.{IsNew}
-use Rattle.partition_world.specs.Reaches.{Goes, GoesTimes, GoesUntil, Paces, Reaches}
+use Rattle.partition_world.specs.Fresh.{IsNewWorld}
+use Rattle.partition_world.specs.Reaches.{TakesTurn, GoesTimes, GoesUntil, Paces, Reaches}
 use Rattle.partition_world.specs.ActorStates.{told_of}
 use Rattle.partition_world.specs.Turn.{IsTurn}
 use Rattle.partition_world.specs.Whole.{Whole}
@@ -75,7 +75,7 @@ module _ {D S M : Type 0} (disk : DiskGhosts D) (store : StoreGhosts S) (meta : 
           (both TellsNoDamage w.journal.items (told_of t.list.actor t.actor_state.number t.order.command outcome) h.meets (turn_tells w a outcome w' h t));
     }
 
-    goes_well : (w : Whole D S M) (a : ℕ) (w' : Whole D S M) → Goes disk store meta w a w' → Well w → Well w'
+    goes_well : (w : Whole D S M) (a : ℕ) (w' : Whole D S M) → TakesTurn disk store meta w a w' → Well w → Well w'
     goes_well w a w' (inl (outcome, t)) h = turn_well w a outcome w' t h
     goes_well w a w' (inr (end, same)) h = subst Well (sym same) h
 
@@ -95,7 +95,7 @@ module _ {D S M : Type 0} (disk : DiskGhosts D) (store : StoreGhosts S) (meta : 
     reaches_well w [] w' r h = subst Well (sym r) h
     reaches_well w (pace ∷ schedule) w' r h = reaches_well r.0 schedule w' r.2 (paces_well w pace r.0 r.1 h)
 
-  pub runs_meet_none : (opening : State) (lists : List ActorList) (w : Whole D S M) (schedule : List Pace) (w' : Whole D S M) → IsNew lists w → IsCentral disk store meta opening w
+  pub runs_meet_none : (opening : State) (lists : List ActorList) (w : Whole D S M) (schedule : List Pace) (w' : Whole D S M) → IsNewWorld lists w → IsCentral disk store meta opening w
       → Reaches disk store meta w schedule w' → MeetsNoDamage w'.journal.items
   runs_meet_none opening lists w schedule w' f c r =
       (reaches_well opening w schedule w' r

@@ -12,10 +12,10 @@ use Rattle.plain_log.specs.declared.command.Pace.TheVariants.{Until, Times}
 use Rattle.plain_log.specs.Orders.{AreRising}
 use Rattle.partition_world.specs.declared.actor_state.ActorState.{ActorState}
 use Rattle.partition_world.specs.Reaches.{GoesTimes, GoesUntil, Paces, Reaches}
-use Rattle.partition_world.specs.Turn.{IsNext}
+use Rattle.partition_world.specs.Turn.{IsNextOrder}
 use Rattle.partition_world.specs.Whole.{Whole}
 use Rattle.laws_answers.specs.Turns.{turns_left}
-use Rattle.laws_answers.specs.Chains.{times, turns_in, IsAnswered, Runs}
+use Rattle.laws_answers.specs.Chains.{times, turns_in, IsCommandAnswered, RunsTurns}
 use Rattle.laws_answers.proofs.ChainsOfTurns.{are_answered}
 
 -- turns of one actor, and then those of others
@@ -43,7 +43,7 @@ times_same a b (suc turns) = by (b == a) (times_same a b turns)
 module _ {D S M : Type 0} (disk : DiskGhosts D) (store : StoreGhosts S) (meta : MetaGhosts M) where
   -- any turns of these actors
   abbrev pub Any : Whole D S M → List ℕ → Whole D S M → Type 0
-  Any v actors u = Runs disk store meta (λ v b u. Unit {0}) v actors u
+  Any v actors u = RunsTurns disk store meta (λ v b u. Unit {0}) v actors u
 
   any_more : (actors more : List ℕ) (v u x : Whole D S M) → Any v actors u → Any u more x → Any v (actors ++ more) x
   any_more [] more v u x r s = subst (λ (k : Whole D S M). Any k more x) r s
@@ -70,8 +70,8 @@ module _ {D S M : Type 0} (disk : DiskGhosts D) (store : StoreGhosts S) (meta : 
       let more = any_of r.0 schedule u r.2 in
       (one.0 ++ more.0, any_more one.0 more.0 v r.0 u one.1 more.1, λ a. (let low = one.2 a in let high = more.2 a in let both = times_more a one.0 more.0 in omega (arith, low, high, both)))
 
-  pub schedules_answer : (w : Whole D S M) (a place : ℕ) (l : ActorList) (actor_state : ActorState) (order : Order) (schedule : List Pace) (w' : Whole D S M) → AreRising w.lists → IsNext w a place l actor_state order
-      → Reaches disk store meta w schedule w' → turns_left order.command actor_state.work ≤ turns_in a schedule → (answer : Answer) × IsAnswered w' l.actor actor_state.number answer
+  pub schedules_answer : (w : Whole D S M) (a place : ℕ) (l : ActorList) (actor_state : ActorState) (order : Order) (schedule : List Pace) (w' : Whole D S M) → AreRising w.lists → IsNextOrder w a place l actor_state order
+      → Reaches disk store meta w schedule w' → turns_left order.command actor_state.work ≤ turns_in a schedule → (answer : Answer) × IsCommandAnswered w' l.actor actor_state.number answer
   schedules_answer w a place l actor_state order schedule w' rising next r le =
       let any = any_of w schedule w' r in
       let many = any.2 a in

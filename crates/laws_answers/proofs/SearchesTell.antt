@@ -34,7 +34,7 @@ use Rattle.partition_world.specs.declared.actor_state.InProgress.TheVariants.{Id
 use Rattle.partition_world.specs.Central.{IsCentral}
 use Rattle.partition_world.specs.Turn.{IsTurn}
 use Rattle.partition_world.specs.TurnsOfCopy.{KeepsLead}
-use Rattle.partition_world.specs.TurnsOfDate.{is_own, resumed_with, SearchRow, Searches, DateOnRow}
+use Rattle.partition_world.specs.TurnsOfDate.{is_own, resumed_with, SearchRow, SearchesOn, DateOnRow}
 use Rattle.partition_world.specs.TurnsOfFetch.{fetch_tiers}
 use Rattle.partition_world.specs.Turns.{Row}
 use Rattle.partition_world.specs.Whole.{Whole}
@@ -89,7 +89,7 @@ module _ {D S M : Type 0} (disk : DiskGhosts D) (store : StoreGhosts S) (meta : 
       on = on_of disk store meta opening w c t.place t.list t.actor_state t.order z ts asks g cursor next k
 
       abbrev Ended : Answer → Type 0
-      Ended told = Searches disk store meta w.partition w.held w.tier b z.x z.broker_tier g ts cursor next (Ends told) w'.held w'.tier
+      Ended told = SearchesOn disk store meta w.partition w.held w.tier b z.x z.broker_tier g ts cursor next (Ends told) w'.held w'.tier
 
       abbrev Turns : Bool → Answer → Type 0
       Turns own told =

@@ -10,14 +10,14 @@ use Rattle.disk_model.specs.declared.disk.Disk.{Ghosts as DiskGhosts}
 use Rattle.object_store.specs.declared.store.Store.{Ghosts as StoreGhosts}
 use Rattle.meta_log.specs.declared.log.MetaLog.{Ghosts as MetaGhosts}
 use Rattle.meta_log.specs.declared.event_origin.EventOrigin.{EventOrigin}
-use Rattle.meta_log.specs.Content.{Content, Grows, appended_if}
+use Rattle.meta_log.specs.Content.{Content, AppendsNote, appended_if}
 use Rattle.segment_meta.specs.declared.note.Entry.{Entry}
 use Rattle.segment_meta.specs.declared.note.Note.{Note}
 use Rattle.index_cache.specs.Cache.{Cache}
-use Rattle.remote_view.specs.Fold.{Seen as View, fold}
+use Rattle.remote_view.specs.Fold.{EntriesSeen as View, fold}
 use Rattle.view_refresh.specs.Refreshing.{fed_all}
 use Rattle.copy_task.specs.Copying.{Copied, start_note, finish_note}
-use Rattle.copy_task.specs.Turns.{Tiers, StartRow, FinishRow, CheckRow, CopyRow}
+use Rattle.copy_task.specs.Turns.{Tiers, StartRow, FinishRow, CheckRow, CopyTurnRow}
 use Rattle.copy_task.specs.declared.turn.CopyTurn.{CopyTurn}
 use Rattle.copy_task.specs.declared.turn.CopyTurn.TheVariants.{Ends}
 use Rattle.copy_task.specs.declared.turn.CopyStep.{CopyStep}
@@ -36,7 +36,7 @@ use Rattle.tier_fetch.specs.declared.turn.FetchStep.TheVariants.{Refresh, Index,
 use Rattle.tier_fetch.specs.declared.turn.FetchRequest.{FetchRequest}
 use Rattle.rebuild_task.specs.declared.turn.RebuildStep.{RebuildStep as Rebuild}
 use Rattle.rebuild_task.specs.declared.turn.RebuildStep.TheVariants.{Epochs, Restart}
-use Rattle.tier_fetch.specs.Turns.{Tiers as FetchTiers, RefreshRow, FetchRow}
+use Rattle.tier_fetch.specs.Turns.{Tiers as FetchTiers, RefreshRow, RemoteFetchRow}
 use Rattle.tier_fetch.specs.declared.turn.FetchStep.TheVariants as fetching
 use Rattle.tier_fetch.specs.declared.turn.Span.{Span}
 use Rattle.remote_find.specs.declared.piece.Piece.{Piece}
@@ -45,7 +45,7 @@ use Rattle.time_find.specs.declared.turn.SearchStep.{SearchStep as Dating}
 use Rattle.time_find.specs.declared.turn.SearchStep.TheVariants as dating
 use Rattle.time_find.specs.declared.turn.TimeTurn.{TimeTurn}
 use Rattle.time_find.specs.declared.turn.TimeTurn.TheVariants as time
-use Rattle.time_find.specs.Turns.{Indexes, Searches as SearchesLog, SeekRow, TimeRow, wanted_at}
+use Rattle.time_find.specs.Turns.{Indexes, SearchTakes as SearchesLog, SeekRow, TimeRow, wanted_at}
 use Rattle.plain_log.specs.declared.answer.Answer.TheVariants.{Down, NotLeader, CopyOff, MetaFault, DiskFault, Damaged, Stopped, OutOfRange, Empty, NoOffset}
 use Rattle.plain_log.specs.declared.answer.Place.TheVariants.{File}
 use Rattle.plain_log.specs.declared.command.Command.{Command}
@@ -65,13 +65,13 @@ use Rattle.partition_world.specs.declared.actor_state.Outcome.TheVariants.{Answe
 use Rattle.partition_world.specs.declared.actor_state.InProgress.{InProgress}
 use Rattle.partition_world.specs.declared.actor_state.InProgress.TheVariants.{Idle, Noted, Copies, Seeks, Dates, Expires, Rebuilds}
 use Rattle.partition_world.specs.Tier.{counted}
-use Rattle.partition_world.specs.TurnsOfCopy.{LeadersFirstRow, CopyFirstRow, ReadRow, ChooseRow, CopyOnRow, copied_to, tiers_of, origin_of}
-use Rattle.partition_world.specs.TurnsOfDate.{SearchRow, Searches, DateOnRow, asked_of, is_own, resumed_at, resumed_with}
+use Rattle.partition_world.specs.TurnsOfCopy.{LeadersFirstRow, CopyFirstRow, ReadSegmentRow, ChooseRow, CopyOnRow, copied_to, tiers_of, origin_of}
+use Rattle.partition_world.specs.TurnsOfDate.{SearchRow, SearchesOn, DateOnRow, asked_of, is_own, resumed_at, resumed_with}
 use Rattle.partition_world.specs.TurnsOfExpiry.{DeleteOnRow, expiry_tiers}
 use Rattle.partition_world.specs.TurnsOfFetch.{FetchOnRow, GoesOnFetch, fetch_tiers, wanted_of}
 use Rattle.partition_world.specs.TurnsOfTrim.{TrimFirstRow}
 use Rattle.partition_world.specs.TurnsOfRebuild.{RefreshedRow}
-use Rattle.partition_world.specs.Turns.{BeginRow, ContinuedRow, CopyingRow, SeekingRow, DatingRow, DeletingRow, RebuildingRow, Row}
+use Rattle.partition_world.specs.Turns.{BeginRow, ContinuedRow, CopyLaterRow, SeekingRow, DatingRow, DeletingRow, RebuildingRow, Row}
 use Rattle.partition_world.proofs.BrokerTierStates.{set_same}
 use Rattle.laws_answers.proofs.NotesOfCopies.{EndsBelow, LeavesBe}
 
@@ -79,7 +79,7 @@ use Rattle.laws_answers.proofs.NotesOfCopies.{EndsBelow, LeavesBe}
 abbrev pub GoesNotes : ℕ → List Note → List Note → Type 0
 GoesNotes start old new = (new ≡ old) ⊎ ((note : Note) × (new ≡ old ++ note ∷ []) × LeavesBe (fold old) start note)
 
-grown : (start : ℕ) (note : Note) (may : Bool → Type 0) (old new : Content) → Grows note may old new → LeavesBe (fold old.notes) start note → IsTrue old.is_observable → GoesNotes start old.notes new.notes
+grown : (start : ℕ) (note : Note) (may : Bool → Type 0) (old new : Content) → AppendsNote note may old new → LeavesBe (fold old.notes) start note → IsTrue old.is_observable → GoesNotes start old.notes new.notes
 grown start note may old new g be is_observable = by (g.notes is_observable).0 (g.notes is_observable).2
   where
     by : (done : Bool) → new.notes ≡ appended_if done note old.notes → GoesNotes start old.notes new.notes
@@ -190,7 +190,7 @@ module _ {S M : Type 0} (meta : MetaGhosts M) (start : ℕ) where
   check_goes copy turn t broker_tier view t' row = record { notes = inl row.1.content.notes; fed = row.1.view.notes; view_is = row.1.view.view }
 
   copy_goes : (store : StoreGhosts S) (copy : Copied) (origin : EventOrigin) (next : CopyStep) (turn : CopyTurn) (t : RemoteTier S M) (broker_tier : BrokerTierState) (view : View) (t' : RemoteTier S M) → IsTrue (meta.content t.meta).is_observable
-      → CopyRow store.content store.control meta.content meta.control copy origin next (Ok turn) (tiers_of broker_tier.view t) (tiers_of view t') → ViewGoes t broker_tier view t'
+      → CopyTurnRow store.content store.control meta.content meta.control copy origin next (Ok turn) (tiers_of broker_tier.view t) (tiers_of view t') → ViewGoes t broker_tier view t'
   copy_goes store copy origin Start turn t broker_tier view t' is_observable row =
       record { notes = start_notes meta start copy origin turn t.meta t'.meta is_observable row.1; fed = []; view_is = ap (λ (k : Tiers S M). k.view) row.0 }
   copy_goes store copy origin (Put n) turn t broker_tier view t' is_observable row =
@@ -208,7 +208,7 @@ module _ {S M : Type 0} (meta : MetaGhosts M) (start : ℕ) where
   refresh_goes wanted line turn t broker_tier view t' row = record { notes = inl row.1.content.notes; fed = row.1.view.notes; view_is = row.1.view.view }
 
   fetch_goes : (store : StoreGhosts S) (wanted : FetchRequest) (line : List (ℕ × ℕ)) (next : Search) (turn : FetchTurn) (t : RemoteTier S M) (broker_tier : BrokerTierState) (view : View) (cache : Cache) (t' : RemoteTier S M)
-      → FetchRow store.content store.control meta.content meta.control wanted line next (Ok turn) (fetch_tiers broker_tier.view broker_tier.cache t) (fetch_tiers view cache t') → ViewGoes t broker_tier view t'
+      → RemoteFetchRow store.content store.control meta.content meta.control wanted line next (Ok turn) (fetch_tiers broker_tier.view broker_tier.cache t) (fetch_tiers view cache t') → ViewGoes t broker_tier view t'
   fetch_goes store wanted line Refresh turn t broker_tier view cache t' row = refresh_goes wanted line turn t broker_tier view t' row.1
   fetch_goes store wanted line (Index piece) turn t broker_tier view cache t' row =
       record {
@@ -247,7 +247,7 @@ module _ {S M : Type 0} (meta : MetaGhosts M) (start : ℕ) where
   indexes_goes : (store : StoreGhosts S) (asked : Asked) (line : List (ℕ × ℕ)) (cursor from : ℕ) (piece : Piece)
       (found : Result FetchTurn AllocError) (turn : TimeTurn) (t : RemoteTier S M) (broker_tier : BrokerTierState)
       (view : View) (cache : Cache) (t' : RemoteTier S M)
-      → FetchRow store.content store.control meta.content meta.control (wanted_at asked from) line (fetching.Index piece) found
+      → RemoteFetchRow store.content store.control meta.content meta.control (wanted_at asked from) line (fetching.Index piece) found
       (fetch_tiers broker_tier.view broker_tier.cache t) (fetch_tiers view cache t')
       → Indexes cursor piece from found (Ok turn) → ViewGoes t broker_tier view t'
   indexes_goes store asked line cursor from piece (Ok found) turn t broker_tier view cache t' row k = fetch_goes store (wanted_at asked from) line
@@ -257,7 +257,7 @@ module _ {S M : Type 0} (meta : MetaGhosts M) (start : ℕ) where
   searches_goes : (store : StoreGhosts S) (asked : Asked) (line : List (ℕ × ℕ)) (from : ℕ) (piece : Piece) (span : Span)
       (found : Result FetchTurn AllocError) (turn : TimeTurn) (t : RemoteTier S M) (broker_tier : BrokerTierState)
       (view : View) (cache : Cache) (t' : RemoteTier S M)
-      → FetchRow store.content store.control meta.content meta.control (wanted_at asked from) line (fetching.Log piece span) found
+      → RemoteFetchRow store.content store.control meta.content meta.control (wanted_at asked from) line (fetching.Log piece span) found
       (fetch_tiers broker_tier.view broker_tier.cache t) (fetch_tiers view cache t')
       → SearchesLog asked from found (Ok turn) → ViewGoes t broker_tier view t'
   searches_goes store asked line from piece span (Ok found) turn t broker_tier view cache t' row k = fetch_goes store (wanted_at asked from) line
@@ -294,7 +294,7 @@ module _ {S M : Type 0} (meta : MetaGhosts M) (start : ℕ) where
 
 module _ {D S M : Type 0} (disk : DiskGhosts D) (store : StoreGhosts S) (meta : MetaGhosts M) (start : ℕ) where
   -- choosing a segment leaves the view
-  read_view : (p : PartitionId) (b : ℕ) (x y : Node D) (broker_tier z : BrokerTierState) (offset : ℕ) (outcome : Outcome) → ReadRow disk p b x broker_tier offset outcome y z → z.view ≡ broker_tier.view
+  read_view : (p : PartitionId) (b : ℕ) (x y : Node D) (broker_tier z : BrokerTierState) (offset : ℕ) (outcome : Outcome) → ReadSegmentRow disk p b x broker_tier offset outcome y z → z.view ≡ broker_tier.view
   read_view p b x y broker_tier z offset (Answers DiskFault) row = ap (λ (k : BrokerTierState). k.view) row.1
   read_view p b x y broker_tier z offset (Answers (Damaged (File name) at)) row = ap (λ (k : BrokerTierState). k.view) row.1
   read_view p b x y broker_tier z offset (Chose copy) row =
@@ -363,7 +363,7 @@ module _ {D S M : Type 0} (disk : DiskGhosts D) (store : StoreGhosts S) (meta : 
 
   dates_goes : (p : PartitionId) (h : PartitionState D) (t : RemoteTier S M) (b : ℕ) (x : Node D) (broker_tier : BrokerTierState) (g : StartSnapshot) (ts : ℤ) (cursor : ℕ)
       (next : Dating) (turn : TimeTurn) (h' : PartitionState D) (t' : RemoteTier S M)
-      → slice_get t.broker_tiers b ≡ Some broker_tier → Searches disk store meta p h t b x broker_tier g ts cursor next turn h' t'
+      → slice_get t.broker_tiers b ≡ Some broker_tier → SearchesOn disk store meta p h t b x broker_tier g ts cursor next turn h' t'
       → TierGoes meta start b broker_tier t t'
   dates_goes p h t b x broker_tier g ts cursor next turn h' t' at row =
       let on = resumed_at h.registry.start cursor in
@@ -413,7 +413,7 @@ module _ {D S M : Type 0} (disk : DiskGhosts D) (store : StoreGhosts S) (meta : 
   recorded_goes p config h t b x broker_tier g other outcome h' t' at row = same_tier meta start b broker_tier t t' at row.1
 
   copying_goes : (h : PartitionState D) (t : RemoteTier S M) (b : ℕ) (x : Node D) (broker_tier : BrokerTierState) (g : StartSnapshot) (copy : Copied) (next : CopyStep) (command : Command) (outcome : Outcome) (h' : PartitionState D) (t' : RemoteTier S M)
-      → slice_get t.broker_tiers b ≡ Some broker_tier → IsTrue (meta.content t.meta).is_observable → CopyingRow store meta h t b x broker_tier g copy next command outcome h' t' → TierGoes meta start b broker_tier t t'
+      → slice_get t.broker_tiers b ≡ Some broker_tier → IsTrue (meta.content t.meta).is_observable → CopyLaterRow store meta h t b x broker_tier g copy next command outcome h' t' → TierGoes meta start b broker_tier t t'
   copying_goes h t b x broker_tier g copy next Copy outcome h' t' at is_observable row = later_goes h t b x broker_tier g copy next outcome t' at is_observable row.0
   copying_goes h t b x broker_tier g copy next other outcome h' t' at is_observable row = elim row [ ]
 

@@ -19,7 +19,7 @@ use Rattle.plain_log.specs.declared.command.Order.{Order}
 use Rattle.plain_log.specs.declared.state.State.{State}
 use Rattle.plain_log.specs.Fetch.{is_within}
 use Rattle.laws_partition.specs.declared.start_snapshot.StartSnapshot.{StartSnapshot}
-use Rattle.broker_log.specs.Seen.{Kept, Up as Open, Shows, is_up as is_open}
+use Rattle.broker_log.specs.Seen.{LogState, Up as Open, ShowsSeen, is_up as is_open}
 use Rattle.broker_log.specs.Seen as log
 use Rattle.laws_partition.proofs.BoolTests.{some_of}
 use Rattle.partition_commands.specs.declared.partition_state.Node.{Node}
@@ -34,17 +34,17 @@ use Rattle.partition_world.specs.declared.actor_state.InProgress.{InProgress}
 use Rattle.partition_world.specs.declared.actor_state.InProgress.TheVariants.{Idle, Noted, Seeks}
 use Rattle.partition_world.specs.Infallible.{IsUnfailing}
 use Rattle.partition_world.specs.Central.{IsCentral}
-use Rattle.partition_world.specs.Turn.{IsNext, IsTurn}
+use Rattle.partition_world.specs.Turn.{IsNextOrder, IsTurn}
 use Rattle.partition_world.specs.TurnsOfCopy.{KeepsLead}
 use Rattle.partition_world.specs.TurnsOfFetch.{AnswersAtOnce, HasStopped}
 use Rattle.partition_world.specs.Whole.{Whole}
 use Rattle.partition_world.proofs.CentralLaw.{turn_central}
-use Rattle.laws_answers.specs.CausesOfFetches.{IsLogsRun, HasCause, LaterCause, IsCommitted, MayServe}
+use Rattle.laws_answers.specs.CausesOfFetches.{IsLogsRun, FetchHasCause, FetchLaterCause, IsOffsetCommitted, MayServe}
 use Rattle.laws_answers.specs.Found.{SpansKnown}
 use Rattle.laws_answers.specs.Turns.{turns_left}
-use Rattle.laws_answers.specs.Chains.{times, IsAnswered, Runs}
+use Rattle.laws_answers.specs.Chains.{times, IsCommandAnswered, RunsTurns}
 use Rattle.laws_answers.proofs.ChainsOfTurns.{run, own_turn}
-use Rattle.laws_answers.specs.UnhinderedFetches.{IsServed, IsFree, IsUnhindered}
+use Rattle.laws_answers.specs.UnhinderedFetches.{IsFetchServed, IsFree, IsUnhindered}
 use Rattle.laws_answers.proofs.Clear.{Clear, well_clear, turn_infallible, infallible_clear}
 use Rattle.laws_answers.proofs.FetchesHaveCauses.{have_causes}
 use Rattle.laws_answers.proofs.KnownOfFetches.{keep_spans}
@@ -64,16 +64,16 @@ begins_low n offset (b ∷ bs) first rest c low is = by (nat_lt (last_of b) offs
 
 module _ {D S M : Type 0} (disk : DiskGhosts D) (store : StoreGhosts S) (meta : MetaGhosts M) where
   -- a log that is open is consecutive
-  open_consecutive : (kept : Kept D) (seen : log.Seen) → is_open kept ≡ true → Shows disk.content kept seen → IsConsecutive 0 seen.batches
+  open_consecutive : (kept : LogState D) (seen : log.LogSeen) → is_open kept ≡ true → ShowsSeen disk.content kept seen → IsConsecutive 0 seen.batches
   open_consecutive (Open l) seen up shows = shows.consecutive
   open_consecutive other seen up shows = absurd (cc (up))
 
   -- a run of a log is such an answer
   served : (x : Node D) (offset limit : ℕ) (tier : Tier) (size : ℕ) (stop : Stop) (bytes : List ℕ) → is_up x ≡ true → IsLogsRun disk x offset limit size stop bytes
-      → IsServed offset limit (Run tier size stop bytes)
+      → IsFetchServed offset limit (Run tier size stop bytes)
   served x offset limit tier size stop bytes up r = by r.gives.run r.gives.is.parts r.gives.is.within r.gives.spelled
     where
-      by : (run : List (List ℕ)) → from_offset offset r.seen.batches ≡ run ++ r.gives.is.rest → is_within limit run ≡ true → bytes ≡ joined run → IsServed offset limit (Run tier size stop bytes)
+      by : (run : List (List ℕ)) → from_offset offset r.seen.batches ≡ run ++ r.gives.is.rest → is_within limit run ≡ true → bytes ≡ joined run → IsFetchServed offset limit (Run tier size stop bytes)
       by [] parts fit spelled = absurd (cc (fit))
       by (first ∷ others) parts fit spelled = record {
         tier = tier;
@@ -90,12 +90,12 @@ module _ {D S M : Type 0} (disk : DiskGhosts D) (store : StoreGhosts S) (meta : 
       }
 
   -- a committed offset is in the log
-  never_outside : (w : Whole D S M) (x : Node D) (offset start end : ℕ) → x.known_high_watermark ≤ end_of x → IsCommitted w x offset → (offset < start) ⊎ (end < offset) → start ≡ w.held.registry.start → end ≡ end_of x → ⊥
+  never_outside : (w : Whole D S M) (x : Node D) (offset start end : ℕ) → x.known_high_watermark ≤ end_of x → IsOffsetCommitted w x offset → (offset < start) ⊎ (end < offset) → start ≡ w.held.registry.start → end ≡ end_of x → ⊥
   never_outside w x offset start end high may (inl below) start_is end_is = let from = may.from in omega (arith, below, start_is, from)
   never_outside w x offset start end high may (inr past) start_is end_is = let low = may.below in omega (arith, past, end_is, low, high)
 
-  first_served : (w : Whole D S M) (b : ℕ) (x : Node D) (offset limit : ℕ) (answer : Answer) (w' : Whole D S M) → (is_up x ≡ true → x.known_high_watermark ≤ end_of x) → HasCause disk store meta w b x Idle offset limit answer w'
-      → MayServe w x offset Idle → Clear disk store meta b answer w w' → IsServed offset limit answer
+  first_served : (w : Whole D S M) (b : ℕ) (x : Node D) (offset limit : ℕ) (answer : Answer) (w' : Whole D S M) → (is_up x ≡ true → x.known_high_watermark ≤ end_of x) → FetchHasCause disk store meta w b x Idle offset limit answer w'
+      → MayServe w x offset Idle → Clear disk store meta b answer w w' → IsFetchServed offset limit answer
   first_served w b x offset limit Down w' high cause may clear = let up = may.0 in absurd (cc (cause, up))
   first_served w b x offset limit NotLeader w' high cause may clear = let leads = may.1 in absurd (cc (cause, leads))
   first_served w b x offset limit (OutOfRange start end) w' high cause may clear = absurd (never_outside w x offset start end (high may.0) may.2 cause.outside cause.start_is cause.end_is)
@@ -109,37 +109,37 @@ module _ {D S M : Type 0} (disk : DiskGhosts D) (store : StoreGhosts S) (meta : 
   stopped_never x g (inr down) keeps = let up = keeps.up in cc (down, up)
 
   -- it isn't answered before it reads
-  at_once_never : (w : Whole D S M) (x : Node D) (g : StartSnapshot) (offset : ℕ) (answer : Answer) → x.known_high_watermark ≤ end_of x → AnswersAtOnce w.held x g offset answer → KeepsLead x g → IsCommitted w x offset → ⊥
+  at_once_never : (w : Whole D S M) (x : Node D) (g : StartSnapshot) (offset : ℕ) (answer : Answer) → x.known_high_watermark ≤ end_of x → AnswersAtOnce w.held x g offset answer → KeepsLead x g → IsOffsetCommitted w x offset → ⊥
   at_once_never w x g offset Stopped high is keeps may = stopped_never x g is keeps
   at_once_never w x g offset NotLeader high is keeps may = is.2 keeps.role
   at_once_never w x g offset (OutOfRange start end) high is keeps may = never_outside w x offset start end high may is.1 is.2 is.3
   at_once_never w x g offset Empty high is keeps may = let low = may.below in let le = is.2 in omega (arith, low, le)
   at_once_never w x g offset other high is keeps may = elim is [ ]
 
-  refresh_served : (w : Whole D S M) (b : ℕ) (x : Node D) (g : StartSnapshot) (offset limit : ℕ) (answer : Answer) (w' : Whole D S M) → x.known_high_watermark ≤ end_of x → LaterCause disk store meta w x g offset limit Refresh answer w'
-      → KeepsLead x g → IsCommitted w x offset → Clear disk store meta b answer w w' → IsServed offset limit answer
+  refresh_served : (w : Whole D S M) (b : ℕ) (x : Node D) (g : StartSnapshot) (offset limit : ℕ) (answer : Answer) (w' : Whole D S M) → x.known_high_watermark ≤ end_of x → FetchLaterCause disk store meta w x g offset limit Refresh answer w'
+      → KeepsLead x g → IsOffsetCommitted w x offset → Clear disk store meta b answer w w' → IsFetchServed offset limit answer
   refresh_served w b x g offset limit MetaFault w' high cause keeps may clear = absurd (clear.meta_clear refl cause)
   refresh_served w b x g offset limit other w' high cause keeps may clear = absurd (at_once_never w x g offset other high cause keeps may)
 
   index_served : (w : Whole D S M) (b : ℕ) (x : Node D) (g : StartSnapshot) (offset limit : ℕ) (piece : _) (answer : Answer) (w' : Whole D S M) → x.known_high_watermark ≤ end_of x
-      → LaterCause disk store meta w x g offset limit (Index piece) answer w' → KeepsLead x g → IsCommitted w x offset → Clear disk store meta b answer w w' → IsServed offset limit answer
+      → FetchLaterCause disk store meta w x g offset limit (Index piece) answer w' → KeepsLead x g → IsOffsetCommitted w x offset → Clear disk store meta b answer w w' → IsFetchServed offset limit answer
   index_served w b x g offset limit piece StoreFault w' high cause keeps may clear = absurd (clear.store_clear refl cause)
   index_served w b x g offset limit piece other w' high cause keeps may clear = absurd (at_once_never w x g offset other high cause keeps may)
 
   log_served : (w : Whole D S M) (b : ℕ) (x : Node D) (g : StartSnapshot) (offset limit : ℕ) (piece : _) (span : _) (answer : Answer) (w' : Whole D S M) → x.known_high_watermark ≤ end_of x
-      → LaterCause disk store meta w x g offset limit (Log piece span) answer w' → KeepsLead x g → IsCommitted w x offset → Clear disk store meta b answer w w' → IsServed offset limit answer
+      → FetchLaterCause disk store meta w x g offset limit (Log piece span) answer w' → KeepsLead x g → IsOffsetCommitted w x offset → Clear disk store meta b answer w w' → IsFetchServed offset limit answer
   log_served w b x g offset limit piece span StoreFault w' high cause keeps may clear = absurd (clear.store_clear refl cause)
   log_served w b x g offset limit piece span (Run tier size stop bytes) w' high cause keeps may clear = served x offset limit tier size stop bytes keeps.up cause.1
   log_served w b x g offset limit piece span other w' high cause keeps may clear = absurd (at_once_never w x g offset other high cause keeps may)
 
   later_served : (w : Whole D S M) (b : ℕ) (x : Node D) (g : StartSnapshot) (offset limit : ℕ) (next : FetchStep) (answer : Answer) (w' : Whole D S M) → x.known_high_watermark ≤ end_of x
-      → LaterCause disk store meta w x g offset limit next answer w' → KeepsLead x g → IsCommitted w x offset → Clear disk store meta b answer w w' → IsServed offset limit answer
+      → FetchLaterCause disk store meta w x g offset limit next answer w' → KeepsLead x g → IsOffsetCommitted w x offset → Clear disk store meta b answer w w' → IsFetchServed offset limit answer
   later_served w b x g offset limit Refresh answer w' high cause keeps may clear = refresh_served w b x g offset limit answer w' high cause keeps may clear
   later_served w b x g offset limit (Index piece) answer w' high cause keeps may clear = index_served w b x g offset limit piece answer w' high cause keeps may clear
   later_served w b x g offset limit (Log piece span) answer w' high cause keeps may clear = log_served w b x g offset limit piece span answer w' high cause keeps may clear
 
   any_served : (w : Whole D S M) (b : ℕ) (x : Node D) (offset limit : ℕ) (work : InProgress) (answer : Answer) (w' : Whole D S M) → (is_up x ≡ true → x.known_high_watermark ≤ end_of x)
-      → HasCause disk store meta w b x work offset limit answer w' → MayServe w x offset work → Clear disk store meta b answer w w' → IsServed offset limit answer
+      → FetchHasCause disk store meta w b x work offset limit answer w' → MayServe w x offset work → Clear disk store meta b answer w w' → IsFetchServed offset limit answer
   any_served w b x offset limit Idle answer w' high cause may clear = first_served w b x offset limit answer w' high cause may clear
   any_served w b x offset limit (Noted g) answer w' high cause may clear = later_served w b x g offset limit Refresh answer w' (high may.0.up) cause may.0 may.1 clear
   any_served w b x offset limit (Seeks g next) answer w' high cause may clear = later_served w b x g offset limit next answer w' (high may.0.up) cause may.0 may.1 clear
@@ -164,29 +164,29 @@ module _ {D S M : Type 0} (disk : DiskGhosts D) (store : StoreGhosts S) (meta : 
   turn_known opening v b outcome u t i = (turn_central disk store meta opening v b outcome u t i.0, keep_spans disk store meta opening v b outcome u i.0 i.1 t)
 
   ends_served : (opening : State) (place number offset limit : ℕ) (v : Whole D S M) (b : ℕ) (answer : Answer) (u : Whole D S M) (t : IsTurn disk store meta v b (Answers answer) u) → AllKnown opening v
-      → IsFree disk store meta place number offset v b u → t.place ≡ place → t.actor_state.number ≡ number → t.order.command ≡ Fetch offset limit → Clear disk store meta t.order.broker.0 answer v u → IsServed offset limit answer
+      → IsFree disk store meta place number offset v b u → t.place ≡ place → t.actor_state.number ≡ number → t.order.command ≡ Fetch offset limit → Clear disk store meta t.order.broker.0 answer v u → IsFetchServed offset limit answer
   ends_served opening place number offset limit v b answer u t known free same number_is fetches clear =
       let c = t.order.broker.0 in
       let h = free t.list t.actor_state t.order (own_turn disk store meta place v b (Answers answer) u t same) number_is in
-      let x = some_of (λ x. HasCause disk store meta v c x t.actor_state.work offset limit answer u) (slice_get v.held.nodes c) (have_causes disk store meta opening v b answer u offset limit known.0 known.1 t fetches) in
+      let x = some_of (λ x. FetchHasCause disk store meta v c x t.actor_state.work offset limit answer u) (slice_get v.held.nodes c) (have_causes disk store meta opening v b answer u offset limit known.0 known.1 t fetches) in
       let y = some_of (λ x. MayServe v x offset t.actor_state.work) (slice_get v.held.nodes c) h in
       let may : MayServe v x.0 offset t.actor_state.work = subst (λ (k : Node D). MayServe v k offset t.actor_state.work) (one_some (slice_get v.held.nodes c) y.0 x.0 y.1 x.1) y.2 in
       any_served v c x.0 offset limit t.actor_state.work answer u (mark_within opening v known.0 c x.0 x.1) x.2 may clear
 
   free_served : (opening : State) (place number offset limit : ℕ) (v : Whole D S M) (b : ℕ) (outcome : Outcome) (answer : Answer) (u : Whole D S M) (t : IsTurn disk store meta v b outcome u)
-      → outcome ≡ Answers answer → AllKnown opening v → IsUnhindered disk store meta place number offset v b u → t.place ≡ place → t.actor_state.number ≡ number → t.order.command ≡ Fetch offset limit → IsServed offset limit answer
+      → outcome ≡ Answers answer → AllKnown opening v → IsUnhindered disk store meta place number offset v b u → t.place ≡ place → t.actor_state.number ≡ number → t.order.command ≡ Fetch offset limit → IsFetchServed offset limit answer
   free_served opening place number offset limit v b (Answers k) answer u t is known free same number_is fetches =
       let one : k ≡ answer = cc (is) in
       let well = free.1 t.list t.actor_state t.order (own_turn disk store meta place v b (Answers k) u t same) number_is in
-      subst (IsServed offset limit) one (ends_served opening place number offset limit v b k u t known free.0 same number_is fetches (well_clear disk store meta t.order.broker.0 k v u well))
+      subst (IsFetchServed offset limit) one (ends_served opening place number offset limit v b k u t known free.0 same number_is fetches (well_clear disk store meta t.order.broker.0 k v u well))
   free_served opening place number offset limit v b other answer u t is known free same number_is fetches = absurd (cc (is))
 
   pub are_served : (opening : State) (w : Whole D S M) (a place : ℕ) (l : ActorList) (actor_state : ActorState) (order : Order) (offset limit : ℕ) (actors : List ℕ) (w' : Whole D S M)
-      → IsCentral disk store meta opening w → SpansKnown meta opening w → IsNext w a place l actor_state order → order.command ≡ Fetch offset limit
-      → Runs disk store meta (IsUnhindered disk store meta place actor_state.number offset) w actors w' → turns_left (Fetch offset limit) actor_state.work ≤ times a actors
-      → (answer : Answer) × IsServed offset limit answer × IsAnswered w' l.actor actor_state.number answer
+      → IsCentral disk store meta opening w → SpansKnown meta opening w → IsNextOrder w a place l actor_state order → order.command ≡ Fetch offset limit
+      → RunsTurns disk store meta (IsUnhindered disk store meta place actor_state.number offset) w actors w' → turns_left (Fetch offset limit) actor_state.work ≤ times a actors
+      → (answer : Answer) × IsFetchServed offset limit answer × IsCommandAnswered w' l.actor actor_state.number answer
   are_served opening w a place l actor_state order offset limit actors w' c known next fetches r le =
-      run disk store meta (AllKnown opening) (IsUnhindered disk store meta place actor_state.number offset) (λ work. Unit {0}) (IsServed offset limit) (Fetch offset limit) a place actor_state.number l (turn_known opening)
+      run disk store meta (AllKnown opening) (IsUnhindered disk store meta place actor_state.number offset) (λ work. Unit {0}) (IsFetchServed offset limit) (Fetch offset limit) a place actor_state.number l (turn_known opening)
       (λ v b outcome answer u t is i p same number fetch works. free_served opening place actor_state.number offset limit v b outcome answer u t is i p same number fetch) (λ v b outcome u t un works. tt) actors w w'
       (record { rising = c.central.stands.rising; actor_state = actor_state; order = order; next = next; number_is = refl; kind_is = fetches; works = tt }) (c, known) r le
 
@@ -194,18 +194,18 @@ module _ {D S M : Type 0} (disk : DiskGhosts D) (store : StoreGhosts S) (meta : 
 
   ends_infallible : (opening : State) (place number offset limit : ℕ) (v : Whole D S M) (b : ℕ) (outcome : Outcome) (answer : Answer) (u : Whole D S M) (t : IsTurn disk store meta v b outcome u)
       → outcome ≡ Answers answer → AllKnown opening v × IsUnfailing disk store meta v → IsFree disk store meta place number offset v b u → t.place ≡ place → t.actor_state.number ≡ number
-      → t.order.command ≡ Fetch offset limit → IsServed offset limit answer
+      → t.order.command ≡ Fetch offset limit → IsFetchServed offset limit answer
   ends_infallible opening place number offset limit v b (Answers k) answer u t is known free same number_is fetches =
       let one : k ≡ answer = cc (is) in
-      subst (IsServed offset limit) one (ends_served opening place number offset limit v b k u t known.0 free same number_is fetches (infallible_clear disk store meta v b k u t known.1))
+      subst (IsFetchServed offset limit) one (ends_served opening place number offset limit v b k u t known.0 free same number_is fetches (infallible_clear disk store meta v b k u t known.1))
   ends_infallible opening place number offset limit v b other answer u t is known free same number_is fetches = absurd (cc (is))
 
   pub infallible_served : (opening : State) (w : Whole D S M) (a place : ℕ) (l : ActorList) (actor_state : ActorState) (order : Order) (offset limit : ℕ) (actors : List ℕ) (w' : Whole D S M)
-      → IsCentral disk store meta opening w → SpansKnown meta opening w → IsUnfailing disk store meta w → IsNext w a place l actor_state order → order.command ≡ Fetch offset limit
-      → Runs disk store meta (IsFree disk store meta place actor_state.number offset) w actors w' → turns_left (Fetch offset limit) actor_state.work ≤ times a actors
-      → (answer : Answer) × IsServed offset limit answer × IsAnswered w' l.actor actor_state.number answer
+      → IsCentral disk store meta opening w → SpansKnown meta opening w → IsUnfailing disk store meta w → IsNextOrder w a place l actor_state order → order.command ≡ Fetch offset limit
+      → RunsTurns disk store meta (IsFree disk store meta place actor_state.number offset) w actors w' → turns_left (Fetch offset limit) actor_state.work ≤ times a actors
+      → (answer : Answer) × IsFetchServed offset limit answer × IsCommandAnswered w' l.actor actor_state.number answer
   infallible_served opening w a place l actor_state order offset limit actors w' c known infallible next fetches r le =
-      run disk store meta (λ v. AllKnown opening v × IsUnfailing disk store meta v) (IsFree disk store meta place actor_state.number offset) (λ work. Unit {0}) (IsServed offset limit) (Fetch offset limit) a place actor_state.number l
+      run disk store meta (λ v. AllKnown opening v × IsUnfailing disk store meta v) (IsFree disk store meta place actor_state.number offset) (λ work. Unit {0}) (IsFetchServed offset limit) (Fetch offset limit) a place actor_state.number l
       (λ v b outcome u t i. (turn_known opening v b outcome u t i.0, turn_infallible disk store meta v b outcome u t i.1))
       (λ v b outcome answer u t is i p same number fetch works. ends_infallible opening place actor_state.number offset limit v b outcome answer u t is i p same number fetch) (λ v b outcome u t un works. tt) actors w w'
       (record { rising = c.central.stands.rising; actor_state = actor_state; order = order; next = next; number_is = refl; kind_is = fetches; works = tt }) ((c, known), infallible) r le

@@ -20,7 +20,7 @@ use Rattle.plain_log.specs.declared.journal.Event.TheVariants as event
 use Rattle.plain_log.specs.declared.journal.JournalEntry.{JournalEntry}
 use Rattle.plain_log.specs.Orders.{AreRising, AreListsFor}
 use Rattle.plain_log.specs.Runs.{orders_of, order_of}
-use Rattle.broker_log.specs.Seen.{Kept, Up, Down, Away, OnDisk, NoFault, OneFault}
+use Rattle.broker_log.specs.Seen.{LogState, Up, Down, Away, OnDisk, NoFault, OneFault}
 use Rattle.laws_partition.specs.declared.start_snapshot.StartSnapshot.{StartSnapshot}
 use Rattle.laws_partition.specs.declared.start_snapshot.Turned.TheVariants as turned
 use Rattle.laws_partition.specs.Turn.{event_of}
@@ -31,8 +31,8 @@ use Rattle.partition_commands.specs.Faults.{is_of_disk, is_of_store, is_of_meta,
 use Rattle.partition_commands.proofs.LastingDisks.{disk_then, last_have}
 use Rattle.partition_commands.proofs.Shown.{some_at}
 use Rattle.partition_world.specs.Answered.{AnswersFaults}
-use Rattle.partition_world.specs.Fresh.{IsNew}
-use Rattle.partition_world.specs.Reaches.{Goes as GoesOnce, GoesTimes, GoesUntil, Paces, Reaches}
+use Rattle.partition_world.specs.Fresh.{IsNewWorld}
+use Rattle.partition_world.specs.Reaches.{TakesTurn as GoesOnce, GoesTimes, GoesUntil, Paces, Reaches}
 use Rattle.partition_world.specs.ActorStates.{told_of}
 use Rattle.partition_world.specs.Turn.{IsTurn}
 use Rattle.partition_world.specs.Whole.{Whole}
@@ -87,15 +87,15 @@ is_other : (b d total c : ℕ) → (d ≡ b → ⊥) → total ≡ one_if (is_br
 is_other b d total c other all = let no : one_if (nat_eq d b) ≡ 0 = ap one_if (ne_eqb d b other) in omega (arith, all, no)
 
 module _ {D : Type 0} (control : D → Control call_code) where
-  abbrev ToldAt : ℕ → Kept D → Kept D → Type 0
+  abbrev ToldAt : ℕ → LogState D → LogState D → Type 0
   ToldAt k x y = OnDisk x (λ d. OnDisk y (λ e. (control e).faults ≡ after_faults k (control d).faults))
 
-  none_at : (total c : ℕ) (x y z : Kept D) → ToldAt c x y → NoFault control y z → total ≡ c → ToldAt total x z
+  none_at : (total c : ℕ) (x y z : LogState D) → ToldAt c x y → NoFault control y z → total ≡ c → ToldAt total x z
   none_at total c x y z told quiet same =
       disk_then (λ d e. (control e).faults ≡ after_faults c (control d).faults) (λ e f. (control f).faults ≡ (control e).faults) (λ d f. (control f).faults ≡ after_faults total (control d).faults)
       x y z (λ d e f p q. q ∙ (p ∙ ap (λ (k : ℕ). after_faults k (control d).faults) (sym same))) told quiet
 
-  one_at : (total c : ℕ) (x y z : Kept D) → ToldAt c x y → OneFault control y z → total ≡ suc c → ToldAt total x z
+  one_at : (total c : ℕ) (x y z : LogState D) → ToldAt c x y → OneFault control y z → total ≡ suc c → ToldAt total x z
   one_at total c x y z told one next =
       disk_then (λ d e. (control e).faults ≡ after_faults c (control d).faults) (λ e f. (control f).faults ≡ counted (control e).faults 1) (λ d f. (control f).faults ≡ after_faults total (control d).faults)
       x y z (λ d e f p q. q ∙ (ap (λ (k : ℕ). counted k 1) p ∙ ap (λ (k : ℕ). after_faults k (control d).faults) (sym next))) told one
@@ -134,7 +134,7 @@ module _ {D : Type 0} (control : D → Control call_code) where
   told_nothing b [] have = tt
   told_nothing b (x ∷ xs) have = (at x.log have.0, told_nothing (b + 1) xs have.1)
     where
-      at : (k : Kept D) → OnDisk k (λ d. Unit {0}) → ToldAt 0 k k
+      at : (k : LogState D) → OnDisk k (λ d. Unit {0}) → ToldAt 0 k k
       at (Up l) on = refl
       at (Down i d) on = refl
       at Away on = absurd on
@@ -281,7 +281,7 @@ module _ {D S M : Type 0} (disk : DiskGhosts D) (store : StoreGhosts S) (meta : 
   reaches_since w v (pace ∷ schedule) u r s = reaches_since w r.0 schedule u r.2 (paces_since w v pace r.0 r.1 s)
 
   -- nothing has been reported in a new world
-  new_since : (config : Config) (lists : List ActorList) (w : Whole D S M) → AreListsFor config lists → IsNew lists w → IsSince w w
+  new_since : (config : Config) (lists : List ActorList) (w : Whole D S M) → AreListsFor config lists → IsNewWorld lists w → IsSince w w
   new_since config lists w fit f = record {
     lists = refl;
     rising = subst AreRising (sym f.lists_are) fit.rising;
@@ -295,6 +295,6 @@ module _ {D S M : Type 0} (disk : DiskGhosts D) (store : StoreGhosts S) (meta : 
     };
   }
 
-  pub reaches_told : (config : Config) (lists : List ActorList) (w : Whole D S M) (schedule : List Pace) (w' : Whole D S M) → AreListsFor config lists → IsNew lists w
+  pub reaches_told : (config : Config) (lists : List ActorList) (w : Whole D S M) (schedule : List Pace) (w' : Whole D S M) → AreListsFor config lists → IsNewWorld lists w
       → Reaches disk store meta w schedule w' → FaultsAreTold disk store meta w w'
   reaches_told config lists w schedule w' fit f r = (reaches_since w w schedule w' r (new_since config lists w fit f)).told

@@ -48,12 +48,12 @@ module _ {D S M : Type 0} (meta : MetaGhosts M) where
 
 module _ {D S M : Type 0} (disk : DiskGhosts D) (store : StoreGhosts S) (meta : MetaGhosts M) where
   -- the cause of an answer at a copy's first turn
-  abbrev pub FirstCause : Whole D S M → Node D → Answer → Whole D S M → Type 0
-  FirstCause w x Down w' = is_up x ≡ false
-  FirstCause w x NotLeader w' = leads x.role ≡ false
-  FirstCause w x CopyOff w' = (is_up x ≡ true) × (leads x.role ≡ true) × (w.held.copying ≡ false)
-  FirstCause w x MetaFault w' = (w.held.copying ≡ true) × MetaFailed meta w w'
-  FirstCause w x other w' = ⊥
+  abbrev pub CopyFirstCause : Whole D S M → Node D → Answer → Whole D S M → Type 0
+  CopyFirstCause w x Down w' = is_up x ≡ false
+  CopyFirstCause w x NotLeader w' = leads x.role ≡ false
+  CopyFirstCause w x CopyOff w' = (is_up x ≡ true) × (leads x.role ≡ true) × (w.held.copying ≡ false)
+  CopyFirstCause w x MetaFault w' = (w.held.copying ≡ true) × MetaFailed meta w w'
+  CopyFirstCause w x other w' = ⊥
 
   -- at its second turn
   abbrev pub ChoiceCause : Whole D S M → ℕ → Node D → BrokerTierState → StartSnapshot → Answer → Whole D S M → Type 0
@@ -63,23 +63,24 @@ module _ {D S M : Type 0} (disk : DiskGhosts D) (store : StoreGhosts S) (meta : 
   ChoiceCause w b x broker_tier g other w' = ⊥
 
   -- at a later turn
-  abbrev pub LaterCause : Whole D S M → Node D → StartSnapshot → Copied → Answer → Whole D S M → Type 0
-  LaterCause w x g copy LostLead w' = KeepsLead x g → ⊥
-  LaterCause w x g copy MetaFault w' = MetaFailed meta w w'
-  LaterCause w x g copy StoreFault w' = StoreFailed store w w'
-  LaterCause w x g copy (Overtaken state) w' = (is_deleted state ≡ true) × (copy.segment.last < w.held.registry.start)
-  LaterCause w x g copy (CopiedSegment id base last) w' = IsToldWhole meta copy id base last w'
-  LaterCause w x g copy other w' = ⊥
+  abbrev pub CopyLaterCause : Whole D S M → Node D → StartSnapshot → Copied → Answer → Whole D S M → Type 0
+  CopyLaterCause w x g copy LostLead w' = KeepsLead x g → ⊥
+  CopyLaterCause w x g copy MetaFault w' = MetaFailed meta w w'
+  CopyLaterCause w x g copy StoreFault w' = StoreFailed store w w'
+  CopyLaterCause w x g copy (Overtaken state) w' =
+      (is_deleted state ≡ true) × (copy.segment.last < w.held.registry.start)
+  CopyLaterCause w x g copy (CopiedSegment id base last) w' = IsToldWhole meta copy id base last w'
+  CopyLaterCause w x g copy other w' = ⊥
 
   -- at any turn, by what the actor's state kept of the copy
-  abbrev pub HasCause : Whole D S M → ℕ → Node D → BrokerTierState → InProgress → Answer → Whole D S M → Type 0
-  HasCause w b x broker_tier Idle answer w' = FirstCause w x answer w'
-  HasCause w b x broker_tier (Noted g) answer w' = ChoiceCause w b x broker_tier g answer w'
-  HasCause w b x broker_tier (Copies g copy next) answer w' = LaterCause w x g copy answer w'
-  HasCause w b x broker_tier (Seeks g next) answer w' = ⊥
-  HasCause w b x broker_tier (Dates g cursor next) answer w' = ⊥
-  HasCause w b x broker_tier (Expires g expired_segment next) answer w' = ⊥
-  HasCause w b x broker_tier (Rebuilds g next) answer w' = ⊥
+  abbrev pub CopyHasCause : Whole D S M → ℕ → Node D → BrokerTierState → InProgress → Answer → Whole D S M → Type 0
+  CopyHasCause w b x broker_tier Idle answer w' = CopyFirstCause w x answer w'
+  CopyHasCause w b x broker_tier (Noted g) answer w' = ChoiceCause w b x broker_tier g answer w'
+  CopyHasCause w b x broker_tier (Copies g copy next) answer w' = CopyLaterCause w x g copy answer w'
+  CopyHasCause w b x broker_tier (Seeks g next) answer w' = ⊥
+  CopyHasCause w b x broker_tier (Dates g cursor next) answer w' = ⊥
+  CopyHasCause w b x broker_tier (Expires g expired_segment next) answer w' = ⊥
+  CopyHasCause w b x broker_tier (Rebuilds g next) answer w' = ⊥
 
 module _ {D S M : Type 0} where
   -- the broker leads, and segments are copied as it begins; it has led on; there is a segment to copy, and the log

@@ -30,7 +30,7 @@ use Rattle.plain_log.specs.declared.answer.Answer.{Answer}
 use Rattle.plain_log.specs.declared.answer.Answer.TheVariants.{Down, NotLeader, OutOfRange, Empty, DiskFault, MetaFault, StoreFault, Run}
 use Rattle.plain_log.specs.declared.answer.Tier.TheVariants.{Local, Remote}
 use Rattle.plain_log.specs.State.{leads}
-use Rattle.broker_log.specs.Seen.{Shows}
+use Rattle.broker_log.specs.Seen.{ShowsSeen}
 use Rattle.broker_log.specs.Seen as log
 use Rattle.laws_partition.specs.declared.start_snapshot.StartSnapshot.{StartSnapshot}
 use Rattle.laws_partition.specs.RowsOfLog.{GivesRun}
@@ -46,8 +46,8 @@ use Rattle.laws_answers.specs.Faults.{DiskFailed, StoreFailed, MetaFailed}
 module _ {D : Type 0} (disk : DiskGhosts D) where
   -- the bytes are a run at the offset, of the log that the broker's disk shows
   pub record IsLogsRun (x : Node D) (offset limit size : ℕ) (stop : Stop) (bytes : List ℕ) : Type 0 where
-    pub seen : log.Seen
-    pub shows : Shows disk.content x.log seen
+    pub seen : log.LogSeen
+    pub shows : ShowsSeen disk.content x.log seen
     pub gives : GivesRun (node_of x seen) offset limit size stop bytes
 
 module _ {D S M : Type 0} where
@@ -59,41 +59,41 @@ module _ {D S M : Type 0} where
 
 module _ {D S M : Type 0} (disk : DiskGhosts D) (store : StoreGhosts S) (meta : MetaGhosts M) where
   -- the cause of an answer at a fetch's first turn
-  abbrev pub FirstCause : Whole D S M → ℕ → Node D → ℕ → ℕ → Answer → Whole D S M → Type 0
-  FirstCause w b x offset limit Down w' = is_up x ≡ false
-  FirstCause w b x offset limit NotLeader w' = leads x.role ≡ false
-  FirstCause w b x offset limit (OutOfRange start end) w' = IsOutside w x offset start end
-  FirstCause w b x offset limit Empty w' = x.known_high_watermark ≤ offset
-  FirstCause w b x offset limit DiskFault w' = DiskFailed disk b w w'
-  FirstCause w b x offset limit (Run tier size stop bytes) w' =
+  abbrev pub FetchFirstCause : Whole D S M → ℕ → Node D → ℕ → ℕ → Answer → Whole D S M → Type 0
+  FetchFirstCause w b x offset limit Down w' = is_up x ≡ false
+  FetchFirstCause w b x offset limit NotLeader w' = leads x.role ≡ false
+  FetchFirstCause w b x offset limit (OutOfRange start end) w' = IsOutside w x offset start end
+  FetchFirstCause w b x offset limit Empty w' = x.known_high_watermark ≤ offset
+  FetchFirstCause w b x offset limit DiskFault w' = DiskFailed disk b w w'
+  FetchFirstCause w b x offset limit (Run tier size stop bytes) w' =
       ((base : ℕ) × (tier ≡ Local base)) × IsLogsRun disk x offset limit size stop bytes
-  FirstCause w b x offset limit other w' = ⊥
+  FetchFirstCause w b x offset limit other w' = ⊥
 
   -- at a later one, by what is next
-  abbrev pub LaterCause : Whole D S M → Node D → StartSnapshot → ℕ → ℕ → FetchStep → Answer → Whole D S M → Type 0
-  LaterCause w x g offset limit Refresh MetaFault w' = MetaFailed meta w w'
-  LaterCause w x g offset limit (Index piece) StoreFault w' = StoreFailed store w w'
-  LaterCause w x g offset limit (Log piece span) StoreFault w' = StoreFailed store w w'
-  LaterCause w x g offset limit (Log piece span) (Run tier size stop bytes) w' =
+  abbrev pub FetchLaterCause : Whole D S M → Node D → StartSnapshot → ℕ → ℕ → FetchStep → Answer → Whole D S M → Type 0
+  FetchLaterCause w x g offset limit Refresh MetaFault w' = MetaFailed meta w w'
+  FetchLaterCause w x g offset limit (Index piece) StoreFault w' = StoreFailed store w w'
+  FetchLaterCause w x g offset limit (Log piece span) StoreFault w' = StoreFailed store w w'
+  FetchLaterCause w x g offset limit (Log piece span) (Run tier size stop bytes) w' =
       (tier ≡ Remote piece.id) × IsLogsRun disk x offset limit size stop bytes
-  LaterCause w x g offset limit next answer w' = AnswersAtOnce w.held x g offset answer
+  FetchLaterCause w x g offset limit next answer w' = AnswersAtOnce w.held x g offset answer
 
   -- at any turn, by what the actor's state kept of the fetch
-  abbrev pub HasCause : Whole D S M → ℕ → Node D → InProgress → ℕ → ℕ → Answer → Whole D S M → Type 0
-  HasCause w b x Idle offset limit answer w' = FirstCause w b x offset limit answer w'
-  HasCause w b x (Noted g) offset limit answer w' = LaterCause w x g offset limit Refresh answer w'
-  HasCause w b x (Seeks g next) offset limit answer w' = LaterCause w x g offset limit next answer w'
-  HasCause w b x other offset limit answer w' = ⊥
+  abbrev pub FetchHasCause : Whole D S M → ℕ → Node D → InProgress → ℕ → ℕ → Answer → Whole D S M → Type 0
+  FetchHasCause w b x Idle offset limit answer w' = FetchFirstCause w b x offset limit answer w'
+  FetchHasCause w b x (Noted g) offset limit answer w' = FetchLaterCause w x g offset limit Refresh answer w'
+  FetchHasCause w b x (Seeks g next) offset limit answer w' = FetchLaterCause w x g offset limit next answer w'
+  FetchHasCause w b x other offset limit answer w' = ⊥
 
 module _ {D S M : Type 0} where
   -- the log start offset isn't past the offset, and the high watermark that the broker knows is
-  pub record IsCommitted (w : Whole D S M) (x : Node D) (offset : ℕ) : Type 0 where
+  pub record IsOffsetCommitted (w : Whole D S M) (x : Node D) (offset : ℕ) : Type 0 where
     pub from : w.held.registry.start ≤ offset
     pub below : offset < x.known_high_watermark
 
   -- the broker leads, and has led on, and may give the offset
   abbrev pub MayServe : Whole D S M → Node D → ℕ → InProgress → Type 0
-  MayServe w x offset Idle = (is_up x ≡ true) × (leads x.role ≡ true) × IsCommitted w x offset
-  MayServe w x offset (Noted g) = KeepsLead x g × IsCommitted w x offset
-  MayServe w x offset (Seeks g next) = KeepsLead x g × IsCommitted w x offset
+  MayServe w x offset Idle = (is_up x ≡ true) × (leads x.role ≡ true) × IsOffsetCommitted w x offset
+  MayServe w x offset (Noted g) = KeepsLead x g × IsOffsetCommitted w x offset
+  MayServe w x offset (Seeks g next) = KeepsLead x g × IsOffsetCommitted w x offset
   MayServe w x offset other = ⊥

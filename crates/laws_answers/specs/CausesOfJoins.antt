@@ -36,15 +36,15 @@ use Rattle.laws_answers.specs.Faults.{DiskFailed, StoreFailed, MetaFailed}
 
 module _ {D S M : Type 0} (disk : DiskGhosts D) (store : StoreGhosts S) (meta : MetaGhosts M) where
   -- the cause of an answer at a join's first turn
-  abbrev pub FirstCause : Whole D S M → ℕ → Node D → Answer → Whole D S M → Type 0
-  FirstCause w b x Down w' = is_up x ≡ false
-  FirstCause w b x NotFollower w' = followed x.role ≡ None
-  FirstCause w b x (StaleEpoch n) w' = IsStale w.held (followed x.role) × (n ≡ w.held.registry.epoch)
-  FirstCause w b x NoLeader w' = the_leader w.held ≡ None
-  FirstCause w b x (DiskFaultAt n) w' = DiskFailed disk b w w'
-  FirstCause w b x (Cut n) w' =
+  abbrev pub JoinFirstCause : Whole D S M → ℕ → Node D → Answer → Whole D S M → Type 0
+  JoinFirstCause w b x Down w' = is_up x ≡ false
+  JoinFirstCause w b x NotFollower w' = followed x.role ≡ None
+  JoinFirstCause w b x (StaleEpoch n) w' = IsStale w.held (followed x.role) × (n ≡ w.held.registry.epoch)
+  JoinFirstCause w b x NoLeader w' = the_leader w.held ≡ None
+  JoinFirstCause w b x (DiskFaultAt n) w' = DiskFailed disk b w w'
+  JoinFirstCause w b x (Cut n) w' =
       ((y : Node D) × (the_leader w.held ≡ Some y) × (local_of y ≤ n)) × AtNode w'.held b (λ x. end_of x ≡ n)
-  FirstCause w b x other w' = ⊥
+  JoinFirstCause w b x other w' = ⊥
 
   -- where its log restarts
   abbrev pub RestartCause : Whole D S M → ℕ → Node D → StartSnapshot → Answer → Whole D S M → Type 0
@@ -64,17 +64,17 @@ module _ {D S M : Type 0} (disk : DiskGhosts D) (store : StoreGhosts S) (meta : 
 
   -- after its first turn, where it keeps what it recorded: where the log start offset had reached the wanted offset by
   -- then, its log restarts at once
-  abbrev pub SecondCause : Whole D S M → ℕ → Node D → StartSnapshot → Answer → Whole D S M → Type 0
-  SecondCause w b x g answer w' =
+  abbrev pub JoinSecondCause : Whole D S M → ℕ → Node D → StartSnapshot → Answer → Whole D S M → Type 0
+  JoinSecondCause w b x g answer w' =
       ((g.wanted ≤ g.start) × RestartCause w b x g answer w') ⊎ ((g.start < g.wanted) × RefreshCause w x g answer w')
 
   -- at any turn, by what the actor's state kept of the join
-  abbrev pub HasCause : Whole D S M → ℕ → Node D → InProgress → Answer → Whole D S M → Type 0
-  HasCause w b x Idle answer w' = FirstCause w b x answer w'
-  HasCause w b x (Noted g) answer w' = SecondCause w b x g answer w'
-  HasCause w b x (Rebuilds g Epochs) answer w' = EpochsCause w x g answer w'
-  HasCause w b x (Rebuilds g (Restart line)) answer w' = RestartCause w b x g answer w'
-  HasCause w b x other answer w' = ⊥
+  abbrev pub JoinHasCause : Whole D S M → ℕ → Node D → InProgress → Answer → Whole D S M → Type 0
+  JoinHasCause w b x Idle answer w' = JoinFirstCause w b x answer w'
+  JoinHasCause w b x (Noted g) answer w' = JoinSecondCause w b x g answer w'
+  JoinHasCause w b x (Rebuilds g Epochs) answer w' = EpochsCause w x g answer w'
+  JoinHasCause w b x (Rebuilds g (Restart line)) answer w' = RestartCause w b x g answer w'
+  JoinHasCause w b x other answer w' = ⊥
 
 -- it is answered where the log ends then
 abbrev pub IsJoined : Answer → Type 0

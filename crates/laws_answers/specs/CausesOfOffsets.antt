@@ -49,12 +49,12 @@ use Rattle.laws_answers.specs.Faults.{DiskFailed, StoreFailed, MetaFailed}
 
 module _ {D S M : Type 0} where
   -- the cause of an answer at a question's second turn
-  abbrev pub SecondCause : Whole D S M → Node D → BrokerTierState → StartSnapshot → Answer → Type 0
-  SecondCause w x broker_tier g Stopped = HasStopped x g
-  SecondCause w x broker_tier g NotLeader = g.role ≢ x.role
-  SecondCause w x broker_tier g (Offset n) = KeepsLead x g × (tiered_offset w.held x broker_tier ≡ Some n)
-  SecondCause w x broker_tier g NoOffset = KeepsLead x g × (tiered_offset w.held x broker_tier ≡ None)
-  SecondCause w x broker_tier g other = ⊥
+  abbrev pub OffsetSecondCause : Whole D S M → Node D → BrokerTierState → StartSnapshot → Answer → Type 0
+  OffsetSecondCause w x broker_tier g Stopped = HasStopped x g
+  OffsetSecondCause w x broker_tier g NotLeader = g.role ≢ x.role
+  OffsetSecondCause w x broker_tier g (Offset n) = KeepsLead x g × (tiered_offset w.held x broker_tier ≡ Some n)
+  OffsetSecondCause w x broker_tier g NoOffset = KeepsLead x g × (tiered_offset w.held x broker_tier ≡ None)
+  OffsetSecondCause w x broker_tier g other = ⊥
 
 module _ {D S M : Type 0} (disk : DiskGhosts D) (store : StoreGhosts S) (meta : MetaGhosts M) where
   -- at a later turn of a question by timestamp, whose search has come to an offset
@@ -71,20 +71,22 @@ module _ {D S M : Type 0} (disk : DiskGhosts D) (store : StoreGhosts S) (meta : 
   SearchCause w b x g cursor other w' = ⊥
 
   -- at its first turn
-  abbrev pub FirstCause : Whole D S M → Node D → Which → Answer → Whole D S M → Type 0
-  FirstCause w x which Down w' = is_up x ≡ false
-  FirstCause w x which NotLeader w' = leads x.role ≡ false
-  FirstCause w x which (Offset n) w' = (is_up x ≡ true) × (leads x.role ≡ true) × (known_offset w.held x which ≡ Some n)
-  FirstCause w x which MetaFault w' = (is_long which ≡ true) × MetaFailed meta w w'
-  FirstCause w x which other w' = ⊥
+  abbrev pub OffsetFirstCause : Whole D S M → Node D → Which → Answer → Whole D S M → Type 0
+  OffsetFirstCause w x which Down w' = is_up x ≡ false
+  OffsetFirstCause w x which NotLeader w' = leads x.role ≡ false
+  OffsetFirstCause w x which (Offset n) w' =
+      (is_up x ≡ true) × (leads x.role ≡ true) × (known_offset w.held x which ≡ Some n)
+  OffsetFirstCause w x which MetaFault w' = (is_long which ≡ true) × MetaFailed meta w w'
+  OffsetFirstCause w x which other w' = ⊥
 
   -- at any turn, by what the actor's state kept of the question
-  abbrev pub HasCause : Whole D S M → ℕ → Node D → BrokerTierState → InProgress → Which → Answer → Whole D S M → Type 0
-  HasCause w b x broker_tier Idle which answer w' = FirstCause w x which answer w'
-  HasCause w b x broker_tier (Noted g) LatestTiered answer w' = SecondCause w x broker_tier g answer
-  HasCause w b x broker_tier (Noted g) (At ts) answer w' = SearchCause w b x g 0 answer w'
-  HasCause w b x broker_tier (Dates g cursor next) (At ts) answer w' = SearchCause w b x g cursor answer w'
-  HasCause w b x broker_tier work which answer w' = ⊥
+  abbrev pub OffsetHasCause : Whole D S M → ℕ → Node D → BrokerTierState → InProgress → Which → Answer → Whole D S M
+      → Type 0
+  OffsetHasCause w b x broker_tier Idle which answer w' = OffsetFirstCause w x which answer w'
+  OffsetHasCause w b x broker_tier (Noted g) LatestTiered answer w' = OffsetSecondCause w x broker_tier g answer
+  OffsetHasCause w b x broker_tier (Noted g) (At ts) answer w' = SearchCause w b x g 0 answer w'
+  OffsetHasCause w b x broker_tier (Dates g cursor next) (At ts) answer w' = SearchCause w b x g cursor answer w'
+  OffsetHasCause w b x broker_tier work which answer w' = ⊥
 
 module _ {D : Type 0} where
   -- the broker of a search leads, and has led on

@@ -13,10 +13,10 @@ use Rattle.plain_log.specs.declared.journal.Event.TheVariants as event
 use Rattle.plain_log.specs.declared.journal.JournalEntry.{JournalEntry}
 use Rattle.partition_commands.specs.Partition.{AtNode}
 use Rattle.partition_world.specs.declared.actor_state.ActorState.{ActorState}
-use Rattle.partition_world.specs.Reaches.{Goes}
-use Rattle.partition_world.specs.Turn.{IsNext}
+use Rattle.partition_world.specs.Reaches.{TakesTurn}
+use Rattle.partition_world.specs.Turn.{IsNextOrder}
 use Rattle.partition_world.specs.Whole.{Whole}
-use Rattle.laws_answers.specs.Faults.{MeetsNoFault}
+use Rattle.laws_answers.specs.Faults.{CommandMeetsNoFault}
 
 -- how many of these turns are the actor's
 abbrev pub times : ℕ → List ℕ → ℕ
@@ -31,7 +31,7 @@ turns_in a (Times actor turns ∷ schedule) = (if actor.0 == a then turns else 0
 
 module _ {D S M : Type 0} where
   -- the journal answers the actor's command of this number so
-  pub record IsAnswered (w : Whole D S M) (actor : ActorId) (number : ℕ) (answer : Answer) : Type 0 where
+  pub record IsCommandAnswered (w : Whole D S M) (actor : ActorId) (number : ℕ) (answer : Answer) : Type 0 where
     pub before : List JournalEntry
     pub after : List JournalEntry
     pub is : w.journal.items
@@ -40,7 +40,7 @@ module _ {D S M : Type 0} where
   -- where the actor's next turn is one of the command at this place, under this number, this holds of its state and its order
   abbrev pub AtTurnsOf : ℕ → ℕ → Whole D S M → ℕ → (ActorState → Order → Type 0) → Type 0
   AtTurnsOf place number w a P =
-      (l : ActorList) (actor_state : ActorState) (order : Order) → IsNext w a place l actor_state order → actor_state.number ≡ number → P actor_state order
+      (l : ActorList) (actor_state : ActorState) (order : Order) → IsNextOrder w a place l actor_state order → actor_state.number ≡ number → P actor_state order
 
   -- its broker knows no high watermark past a mark in it
   abbrev pub KnowsUpTo : ℕ → ℕ → ℕ → Whole D S M → ℕ → Whole D S M → Type 0
@@ -50,9 +50,10 @@ module _ {D S M : Type 0} (disk : DiskGhosts D) (store : StoreGhosts S) (meta : 
   -- no call of a device fails in it
   abbrev pub TurnMeetsNoFault : ℕ → ℕ → Whole D S M → ℕ → Whole D S M → Type 0
   TurnMeetsNoFault place number w a w' =
-      AtTurnsOf place number w a (λ actor_state order. MeetsNoFault disk store meta order.broker.0 w w')
+      AtTurnsOf place number w a (λ actor_state order. CommandMeetsNoFault disk store meta order.broker.0 w w')
 
   -- turns of these actors, one after another, of each of which this holds
-  abbrev pub Runs : (Whole D S M → ℕ → Whole D S M → Type 0) → Whole D S M → List ℕ → Whole D S M → Type 0
-  Runs P w [] w' = w' ≡ w
-  Runs P w (a ∷ actors) w' = (v : Whole D S M) × Goes disk store meta w a v × P w a v × Runs P v actors w'
+  abbrev pub RunsTurns : (Whole D S M → ℕ → Whole D S M → Type 0) → Whole D S M → List ℕ → Whole D S M → Type 0
+  RunsTurns P w [] w' = w' ≡ w
+  RunsTurns P w (a ∷ actors) w' =
+      (v : Whole D S M) × TakesTurn disk store meta w a v × P w a v × RunsTurns P v actors w'

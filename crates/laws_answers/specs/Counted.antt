@@ -31,10 +31,10 @@ module _ {D S M : Type 0} (disk : DiskGhosts D) (store : StoreGhosts S) (meta : 
   FailedAs order other w w' = Unit {0}
 
   -- so where the entry is such an answer of a command
-  abbrev pub IsCounted : Whole D S M → Whole D S M → JournalEntry → Type 0
-  IsCounted w w' entry =
+  abbrev pub IsFaultCounted : Whole D S M → Whole D S M → JournalEntry → Type 0
+  IsFaultCounted w w' entry =
       IsSomeAnd (order_of w'.lists entry) (λ order. (answer : Answer) → entry.event ≡ Answers answer → FailedAs order answer w w')
 
   -- each fault that the journal reports has been counted by its device since the world before
   abbrev pub FaultsAreCounted : Whole D S M → Whole D S M → Type 0
-  FaultsAreCounted w w' = AllByRecursion (IsCounted w w') w'.journal.items
+  FaultsAreCounted w w' = AllByRecursion (IsFaultCounted w w') w'.journal.items

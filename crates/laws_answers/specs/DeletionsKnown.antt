@@ -19,7 +19,7 @@ use Rattle.tier_safe.specs.Copies.{is_deleted}
 use Rattle.partition_world.specs.declared.actor_state.ActorState.{ActorState}
 use Rattle.partition_world.specs.declared.actor_state.InProgress.TheVariants.{Copies}
 use Rattle.partition_world.specs.declared.tier.BrokerTierState.{BrokerTierState}
-use Rattle.partition_world.specs.Turn.{IsNext}
+use Rattle.partition_world.specs.Turn.{IsNextOrder}
 use Rattle.partition_world.specs.Whole.{Whole}
 
 -- the remote segment with this id ends below the log start offset, where its deletion has started
@@ -36,14 +36,14 @@ module _ {D S M : Type 0} where
   OvertakenSeen w =
       (a place : ℕ) (l : ActorList) (actor_state : ActorState) (order : Order) (g : StartSnapshot) (copy : Copied)
       (n : ℕ) (broker_tier : BrokerTierState)
-      → IsNext w a place l actor_state order → actor_state.work ≡ Copies g copy (Delete n) → slice_get w.tier.broker_tiers order.broker.0 ≡ Some broker_tier
+      → IsNextOrder w a place l actor_state order → actor_state.work ≡ Copies g copy (Delete n) → slice_get w.tier.broker_tiers order.broker.0 ≡ Some broker_tier
       → ShowsDeleted broker_tier.view.entries copy.id
 
   -- A segment that a copy on the desk copies ends below the log start offset, where its deletion has started. That
   -- isn't so of others: a sweep between two runs deletes what was never finished, wherever it ends.
   abbrev pub OvertakenBelow : MetaGhosts M → Whole D S M → Type 0
   OvertakenBelow meta w =
-      (a place : ℕ) (l : ActorList) (actor_state : ActorState) (order : Order) (g : StartSnapshot) (copy : Copied) (next : CopyStep) → IsNext w a place l actor_state order
+      (a place : ℕ) (l : ActorList) (actor_state : ActorState) (order : Order) (g : StartSnapshot) (copy : Copied) (next : CopyStep) → IsNextOrder w a place l actor_state order
       → actor_state.work ≡ Copies g copy next → DeletedBelow (fold (meta.content w.tier.meta).notes) w.held.registry.start copy.id
 
   -- what is known of deletions

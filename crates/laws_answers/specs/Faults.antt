@@ -24,7 +24,7 @@ module _ {D S M : Type 0} (meta : MetaGhosts M) where
 
 module _ {D S M : Type 0} (disk : DiskGhosts D) (store : StoreGhosts S) (meta : MetaGhosts M) where
   -- no call of a device failed that a command of this broker may make
-  pub record MeetsNoFault (b : ℕ) (w w' : Whole D S M) : Type 0 where
+  pub record CommandMeetsNoFault (b : ℕ) (w w' : Whole D S M) : Type 0 where
     pub disk_well : DiskFailed disk b w w' → ⊥
     pub store_well : StoreFailed store w w' → ⊥
     pub meta_well : MetaFailed meta w w' → ⊥

@@ -27,19 +27,19 @@ use Rattle.plain_log.specs.declared.command.Order.{Order}
 use Rattle.plain_log.specs.declared.state.Path.{Path}
 use Rattle.plain_log.specs.declared.state.State.{State}
 use Rattle.plain_log.specs.Runs.{replay}
-use Rattle.plain_log.specs.Safe.{Has}
+use Rattle.plain_log.specs.Safe.{HasOnPath}
 use Rattle.plain_log.specs.State.{leading}
 use Rattle.laws_partition.specs.declared.start_snapshot.StartSnapshot.{StartSnapshot}
 use Rattle.tier_safe.specs.Fetches.{IsIndexOf}
 use Rattle.partition_world.specs.declared.actor_state.ActorState.{ActorState}
 use Rattle.partition_world.specs.declared.actor_state.InProgress.TheVariants.{Seeks}
-use Rattle.partition_world.specs.Turn.{IsNext}
+use Rattle.partition_world.specs.Turn.{IsNextOrder}
 use Rattle.partition_world.specs.Whole.{Whole}
 
 -- the piece ends where a batch of the epoch's path does
 pub record PieceEnds (paths : List Path) (epoch : ℕ) (piece : Piece) : Type 0 where
   pub front : List (List ℕ)
-  pub begins : Has paths epoch front
+  pub begins : HasOnPath paths epoch front
   pub ends : end_of front ≡ piece.to
 
 -- the span is the one that the index of the piece's segment gives, whose copy was finished after the first so many
@@ -55,10 +55,10 @@ pub record SpanIsOf (paths : List Path) (notes : List Note) (offset limit : ℕ)
   pub span_is : span ≡ span_of index offset limit piece.to
 
 -- so it is with what a fetch has found by now
-abbrev pub IsFound : List Path → List Note → ℕ → ℕ → ℕ → FetchStep → Type 0
-IsFound paths notes epoch offset limit Refresh = Unit {0}
-IsFound paths notes epoch offset limit (Index piece) = PieceEnds paths epoch piece
-IsFound paths notes epoch offset limit (Log piece span) = PieceEnds paths epoch piece × SpanIsOf paths notes offset limit piece span
+abbrev pub FetchHasFound : List Path → List Note → ℕ → ℕ → ℕ → FetchStep → Type 0
+FetchHasFound paths notes epoch offset limit Refresh = Unit {0}
+FetchHasFound paths notes epoch offset limit (Index piece) = PieceEnds paths epoch piece
+FetchHasFound paths notes epoch offset limit (Log piece span) = PieceEnds paths epoch piece × SpanIsOf paths notes offset limit piece span
 
 module _ {D S M : Type 0} (meta : MetaGhosts M) where
   -- of each fetch that continues in the remote tier, beside the state of the plain log after the world's journal
@@ -66,5 +66,5 @@ module _ {D S M : Type 0} (meta : MetaGhosts M) where
   SpansKnown opening w = (p : State) → replay w.lists opening w.journal.items ≡ Some p
       → (a place : ℕ) (l : ActorList) (actor_state : ActorState) (order : Order) (offset limit : ℕ) (g : StartSnapshot)
       (next : FetchStep)
-      → IsNext w a place l actor_state order → order.command ≡ Fetch offset limit → actor_state.work ≡ Seeks g next
-      → IsFound p.paths (meta.content w.tier.meta).notes (unwrap_or (leading g.role) 0) offset limit next
+      → IsNextOrder w a place l actor_state order → order.command ≡ Fetch offset limit → actor_state.work ≡ Seeks g next
+      → FetchHasFound p.paths (meta.content w.tier.meta).notes (unwrap_or (leading g.role) 0) offset limit next

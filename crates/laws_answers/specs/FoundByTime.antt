@@ -20,7 +20,7 @@ use Rattle.plain_log.specs.State.{leading}
 use Rattle.laws_partition.specs.declared.start_snapshot.StartSnapshot.{StartSnapshot}
 use Rattle.partition_world.specs.declared.actor_state.ActorState.{ActorState}
 use Rattle.partition_world.specs.declared.actor_state.InProgress.TheVariants.{Dates}
-use Rattle.partition_world.specs.Turn.{IsNext}
+use Rattle.partition_world.specs.Turn.{IsNextOrder}
 use Rattle.partition_world.specs.Whole.{Whole}
 use Rattle.laws_answers.specs.Found.{PieceEnds, SpanIsOf}
 
@@ -37,5 +37,6 @@ module _ {D S M : Type 0} (meta : MetaGhosts M) where
   SearchesKnown opening w = (p : State) → replay w.lists opening w.journal.items ≡ Some p
       → (a place : ℕ) (l : ActorList) (actor_state : ActorState) (order : Order) (ts : ℤ) (g : StartSnapshot)
       (cursor : ℕ) (next : SearchStep)
-      → IsNext w a place l actor_state order → order.command ≡ Offset (At ts) → actor_state.work ≡ Dates g cursor next
+      → IsNextOrder w a place l actor_state order → order.command ≡ Offset (At ts)
+      → actor_state.work ≡ Dates g cursor next
       → IsFoundByTime p.paths (meta.content w.tier.meta).notes (unwrap_or (leading g.role) 0) next

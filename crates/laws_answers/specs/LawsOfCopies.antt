@@ -21,15 +21,15 @@ use Rattle.partition_world.specs.declared.actor_state.ActorState.{ActorState}
 use Rattle.partition_world.specs.declared.actor_state.InProgress.TheVariants.{Copies}
 use Rattle.partition_world.specs.Infallible.{IsUnfailing}
 use Rattle.partition_world.specs.Central.{IsCentral}
-use Rattle.partition_world.specs.Fresh.{IsNew}
+use Rattle.partition_world.specs.Fresh.{IsNewWorld}
 use Rattle.partition_world.specs.Reaches.{Reaches}
 use Rattle.partition_world.specs.Tier.{AtBrokerTier}
-use Rattle.partition_world.specs.Turn.{IsNext, IsTurn}
+use Rattle.partition_world.specs.Turn.{IsNextOrder, IsTurn}
 use Rattle.partition_world.specs.Whole.{Whole}
-use Rattle.laws_answers.specs.CausesOfCopies.{HasCause}
+use Rattle.laws_answers.specs.CausesOfCopies.{CopyHasCause}
 use Rattle.laws_answers.specs.DeletionsKnown.{DeletionsKnown}
 use Rattle.laws_answers.specs.Turns.{turns_left}
-use Rattle.laws_answers.specs.Chains.{times, IsAnswered, Runs}
+use Rattle.laws_answers.specs.Chains.{times, IsCommandAnswered, RunsTurns}
 use Rattle.laws_answers.specs.UnhinderedCopies.{IsFree, IsUnhindered}
 
 module _ {D S M : Type 0} (disk : DiskGhosts D) (store : StoreGhosts S) (meta : MetaGhosts M) where
@@ -39,7 +39,7 @@ module _ {D S M : Type 0} (disk : DiskGhosts D) (store : StoreGhosts S) (meta : 
       → IsCentral disk store meta opening w → DeletionsKnown meta w → (t : IsTurn disk store meta w a (Answers answer) w')
       → t.order.command ≡ Copy
       → AtNode w.held t.order.broker.0 (λ x. AtBrokerTier w.tier t.order.broker.0 (λ broker_tier.
-      HasCause disk store meta w t.order.broker.0 x broker_tier t.actor_state.work answer w'))
+      CopyHasCause disk store meta w t.order.broker.0 x broker_tier t.actor_state.work answer w'))
 
   -- a copy begins where segments are copied
   abbrev pub CopiesBeginWhereOn : Type 0
@@ -52,29 +52,29 @@ module _ {D S M : Type 0} (disk : DiskGhosts D) (store : StoreGhosts S) (meta : 
   UnhinderedAreCopied =
       (opening : State) (w : Whole D S M) (a place : ℕ) (l : ActorList) (actor_state : ActorState) (order : Order)
       (actors : List ℕ) (w' : Whole D S M) → IsCentral disk store meta opening w → DeletionsKnown meta w
-      → IsNext w a place l actor_state order → order.command ≡ Copy
-      → Runs disk store meta (IsUnhindered disk store meta place actor_state.number) w actors w' → turns_left Copy actor_state.work ≤ times a actors
+      → IsNextOrder w a place l actor_state order → order.command ≡ Copy
+      → RunsTurns disk store meta (IsUnhindered disk store meta place actor_state.number) w actors w' → turns_left Copy actor_state.work ≤ times a actors
       → (id : SegmentId) × (base : ℕ) × (last : ℕ)
-      × IsAnswered w' l.actor actor_state.number (CopiedSegment id base last)
+      × IsCommandAnswered w' l.actor actor_state.number (CopiedSegment id base last)
 
   -- of the segment that it has chosen, where it has
   abbrev pub ChosenAreCopied : Type 0
   ChosenAreCopied = (opening : State) (w : Whole D S M) (a place : ℕ) (l : ActorList) (actor_state : ActorState) (order : Order) (g : StartSnapshot)
       (copy : Copied) (next : CopyStep) (actors : List ℕ) (w' : Whole D S M) → IsCentral disk store meta opening w
-      → DeletionsKnown meta w → IsNext w a place l actor_state order → order.command ≡ Copy
+      → DeletionsKnown meta w → IsNextOrder w a place l actor_state order → order.command ≡ Copy
       → actor_state.work ≡ Copies g copy next
-      → Runs disk store meta (IsUnhindered disk store meta place actor_state.number) w actors w' → turns_left Copy actor_state.work ≤ times a actors
-      → IsAnswered w' l.actor actor_state.number (CopiedSegment copy.id copy.segment.base copy.segment.last)
+      → RunsTurns disk store meta (IsUnhindered disk store meta place actor_state.number) w actors w' → turns_left Copy actor_state.work ≤ times a actors
+      → IsCommandAnswered w' l.actor actor_state.number (CopiedSegment copy.id copy.segment.base copy.segment.last)
 
   -- over devices of which no call can fail that is where it has something to copy, and its broker still leads
   abbrev pub UnfailingAreCopied : Type 0
   UnfailingAreCopied =
       (opening : State) (w : Whole D S M) (a place : ℕ) (l : ActorList) (actor_state : ActorState) (order : Order)
       (actors : List ℕ) (w' : Whole D S M) → IsCentral disk store meta opening w → DeletionsKnown meta w
-      → IsUnfailing disk store meta w → IsNext w a place l actor_state order → order.command ≡ Copy
-      → Runs disk store meta (IsFree disk store meta place actor_state.number) w actors w' → turns_left Copy actor_state.work ≤ times a actors
+      → IsUnfailing disk store meta w → IsNextOrder w a place l actor_state order → order.command ≡ Copy
+      → RunsTurns disk store meta (IsFree disk store meta place actor_state.number) w actors w' → turns_left Copy actor_state.work ≤ times a actors
       → (id : SegmentId) × (base : ℕ) × (last : ℕ)
-      × IsAnswered w' l.actor actor_state.number (CopiedSegment id base last)
+      × IsCommandAnswered w' l.actor actor_state.number (CopiedSegment id base last)
 
   -- what a schedule reaches keeps what is known of deletions
   abbrev pub ReachesKnown : Type 0
@@ -89,4 +89,4 @@ module _ {D S M : Type 0} (disk : DiskGhosts D) (store : StoreGhosts S) (meta : 
 
   -- it is known where nothing has happened yet
   abbrev pub NewIsKnown : Type 0
-  NewIsKnown = (lists : List ActorList) (w : Whole D S M) → IsNew lists w → DeletionsKnown meta w
+  NewIsKnown = (lists : List ActorList) (w : Whole D S M) → IsNewWorld lists w → DeletionsKnown meta w

@@ -10,7 +10,7 @@ use Rattle.plain_log.specs.declared.command.Pace.{Pace}
 use Rattle.plain_log.specs.declared.state.State.{State}
 use Rattle.partition_world.specs.declared.actor_state.Outcome.TheVariants.{Answers}
 use Rattle.partition_world.specs.Central.{IsCentral}
-use Rattle.partition_world.specs.Fresh.{IsNew}
+use Rattle.partition_world.specs.Fresh.{IsNewWorld}
 use Rattle.partition_world.specs.Reaches.{Reaches}
 use Rattle.partition_world.specs.Turn.{IsTurn}
 use Rattle.partition_world.specs.Whole.{Whole}
@@ -29,4 +29,4 @@ module _ {D S M : Type 0} (disk : DiskGhosts D) (store : StoreGhosts S) (meta : 
   -- nor is any in a world that a schedule reaches from a new one which has the central fact for some plain state
   abbrev pub RunsMeetNoDamage : Type 0
   RunsMeetNoDamage = (opening : State) (lists : List ActorList) (w : Whole D S M) (schedule : List Pace) (w' : Whole D S M)
-      → IsNew lists w → IsCentral disk store meta opening w → Reaches disk store meta w schedule w' → MeetsNoDamage w'.journal.items
+      → IsNewWorld lists w → IsCentral disk store meta opening w → Reaches disk store meta w schedule w' → MeetsNoDamage w'.journal.items

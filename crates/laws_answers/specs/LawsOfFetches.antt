@@ -15,7 +15,7 @@ use Rattle.plain_log.specs.declared.command.Order.{Order}
 use Rattle.plain_log.specs.declared.command.Pace.{Pace}
 use Rattle.plain_log.specs.declared.state.State.{State}
 use Rattle.plain_log.specs.Safe.{LogSafe, PlainSafe}
-use Rattle.remote_view.specs.Fold.{AreKept, AreDistinct}
+use Rattle.remote_view.specs.Fold.{AreEntriesValid, AreDistinct}
 use Rattle.remote_find.specs.declared.piece.Piece.{Piece}
 use Rattle.remote_find.specs.Pieces.{piece_at}
 use Rattle.partition_commands.specs.Partition.{AtNode}
@@ -26,21 +26,22 @@ use Rattle.partition_world.specs.declared.actor_state.Outcome.TheVariants.{Answe
 use Rattle.partition_world.specs.declared.actor_state.ActorState.{ActorState}
 use Rattle.partition_world.specs.Infallible.{IsUnfailing}
 use Rattle.partition_world.specs.Central.{IsCentral}
-use Rattle.partition_world.specs.Fresh.{IsNew}
+use Rattle.partition_world.specs.Fresh.{IsNewWorld}
 use Rattle.partition_world.specs.Reaches.{Reaches}
-use Rattle.partition_world.specs.Turn.{IsNext, IsTurn}
+use Rattle.partition_world.specs.Turn.{IsNextOrder, IsTurn}
 use Rattle.partition_world.specs.Whole.{Whole}
-use Rattle.laws_answers.specs.CausesOfFetches.{HasCause}
+use Rattle.laws_answers.specs.CausesOfFetches.{FetchHasCause}
 use Rattle.laws_answers.specs.Found.{SpansKnown}
 use Rattle.laws_answers.specs.Turns.{turns_left}
-use Rattle.laws_answers.specs.Chains.{times, IsAnswered, Runs}
-use Rattle.laws_answers.specs.UnhinderedFetches.{IsServed, IsFree, IsUnhindered}
+use Rattle.laws_answers.specs.Chains.{times, IsCommandAnswered, RunsTurns}
+use Rattle.laws_answers.specs.UnhinderedFetches.{IsFetchServed, IsFree, IsUnhindered}
 
 -- a piece that is found by a log's leader epochs, among entries whose finished copies exist, ends where a batch of the
 -- log does
 abbrev pub PiecesEnd : Type 0
 PiecesEnd = (p : State) (objects : Objects) (entries : List Entry) (line : List (ℕ × ℕ)) (log : List (List ℕ)) (offset : ℕ) (piece : Piece)
-    → PlainSafe p → FinishedStand objects p.paths entries → AreKept entries → AreDistinct entries → TellsEpochs line log
+    → PlainSafe p → FinishedStand objects p.paths entries → AreEntriesValid entries → AreDistinct entries
+    → TellsEpochs line log
     → LogSafe p.paths log → piece_at entries line (end_of log) offset ≡ Some piece → EndsAt piece.to log
 
 module _ {D S M : Type 0} (disk : DiskGhosts D) (store : StoreGhosts S) (meta : MetaGhosts M) where
@@ -49,7 +50,7 @@ module _ {D S M : Type 0} (disk : DiskGhosts D) (store : StoreGhosts S) (meta : 
   FetchesHaveCauses = (opening : State) (w : Whole D S M) (a : ℕ) (answer : Answer) (w' : Whole D S M) (offset limit : ℕ)
       → IsCentral disk store meta opening w → SpansKnown meta opening w → (t : IsTurn disk store meta w a (Answers answer) w')
       → t.order.command ≡ Fetch offset limit
-      → AtNode w.held t.order.broker.0 (λ x. HasCause disk store meta w t.order.broker.0 x t.actor_state.work offset limit answer w')
+      → AtNode w.held t.order.broker.0 (λ x. FetchHasCause disk store meta w t.order.broker.0 x t.actor_state.work offset limit answer w')
 
   -- so it is never damage
   abbrev pub NoFetchIsDamaged : Type 0
@@ -62,20 +63,20 @@ module _ {D S M : Type 0} (disk : DiskGhosts D) (store : StoreGhosts S) (meta : 
   UnhinderedAreServed =
       (opening : State) (w : Whole D S M) (a place : ℕ) (l : ActorList) (actor_state : ActorState) (order : Order)
       (offset limit : ℕ) (actors : List ℕ) (w' : Whole D S M) → IsCentral disk store meta opening w → SpansKnown meta opening w
-      → IsNext w a place l actor_state order → order.command ≡ Fetch offset limit
-      → Runs disk store meta (IsUnhindered disk store meta place actor_state.number offset) w actors w'
+      → IsNextOrder w a place l actor_state order → order.command ≡ Fetch offset limit
+      → RunsTurns disk store meta (IsUnhindered disk store meta place actor_state.number offset) w actors w'
       → turns_left (Fetch offset limit) actor_state.work ≤ times a actors
-      → (answer : Answer) × IsServed offset limit answer × IsAnswered w' l.actor actor_state.number answer
+      → (answer : Answer) × IsFetchServed offset limit answer × IsCommandAnswered w' l.actor actor_state.number answer
 
   -- over devices of which no call can fail that is where its broker still leads and may give the offset
   abbrev pub UnfailingAreServed : Type 0
   UnfailingAreServed =
       (opening : State) (w : Whole D S M) (a place : ℕ) (l : ActorList) (actor_state : ActorState) (order : Order)
       (offset limit : ℕ) (actors : List ℕ) (w' : Whole D S M) → IsCentral disk store meta opening w → SpansKnown meta opening w
-      → IsUnfailing disk store meta w → IsNext w a place l actor_state order → order.command ≡ Fetch offset limit
-      → Runs disk store meta (IsFree disk store meta place actor_state.number offset) w actors w'
+      → IsUnfailing disk store meta w → IsNextOrder w a place l actor_state order → order.command ≡ Fetch offset limit
+      → RunsTurns disk store meta (IsFree disk store meta place actor_state.number offset) w actors w'
       → turns_left (Fetch offset limit) actor_state.work ≤ times a actors
-      → (answer : Answer) × IsServed offset limit answer × IsAnswered w' l.actor actor_state.number answer
+      → (answer : Answer) × IsFetchServed offset limit answer × IsCommandAnswered w' l.actor actor_state.number answer
 
   -- what a schedule reaches keeps what is known of what fetches have found
   abbrev pub ReachesSpans : Type 0
@@ -91,4 +92,5 @@ module _ {D S M : Type 0} (disk : DiskGhosts D) (store : StoreGhosts S) (meta : 
 
   -- it is known where nothing has happened yet
   abbrev pub NewHasSpans : Type 0
-  NewHasSpans = (opening : State) (lists : List ActorList) (w : Whole D S M) → IsNew lists w → SpansKnown meta opening w
+  NewHasSpans =
+      (opening : State) (lists : List ActorList) (w : Whole D S M) → IsNewWorld lists w → SpansKnown meta opening w

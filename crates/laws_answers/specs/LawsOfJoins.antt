@@ -13,11 +13,11 @@ use Rattle.partition_world.specs.declared.actor_state.Outcome.TheVariants.{Answe
 use Rattle.partition_world.specs.declared.actor_state.ActorState.{ActorState}
 use Rattle.partition_world.specs.Infallible.{IsUnfailing}
 use Rattle.partition_world.specs.Central.{IsCentral}
-use Rattle.partition_world.specs.Turn.{IsNext, IsTurn}
+use Rattle.partition_world.specs.Turn.{IsNextOrder, IsTurn}
 use Rattle.partition_world.specs.Whole.{Whole}
 use Rattle.laws_answers.specs.Turns.{turns_left}
-use Rattle.laws_answers.specs.Chains.{times, IsAnswered, Runs}
-use Rattle.laws_answers.specs.CausesOfJoins.{HasCause, IsJoined}
+use Rattle.laws_answers.specs.Chains.{times, IsCommandAnswered, RunsTurns}
+use Rattle.laws_answers.specs.CausesOfJoins.{JoinHasCause, IsJoined}
 use Rattle.laws_answers.specs.UnhinderedJoins.{IsFree, IsUnhindered}
 
 module _ {D S M : Type 0} (disk : DiskGhosts D) (store : StoreGhosts S) (meta : MetaGhosts M) where
@@ -25,23 +25,26 @@ module _ {D S M : Type 0} (disk : DiskGhosts D) (store : StoreGhosts S) (meta : 
   abbrev pub JoinsHaveCauses : Type 0
   JoinsHaveCauses = (opening : State) (w : Whole D S M) (a : ℕ) (answer : Answer) (w' : Whole D S M)
       → IsCentral disk store meta opening w → (t : IsTurn disk store meta w a (Answers answer) w') → t.order.command ≡ Join
-      → AtNode w.held t.order.broker.0 (λ x. HasCause disk store meta w t.order.broker.0 x t.actor_state.work answer w')
+      → AtNode w.held t.order.broker.0
+      (λ x. JoinHasCause disk store meta w t.order.broker.0 x t.actor_state.work answer w')
 
   -- a join returns a cut or a restart, by as many of its actor's turns as it has left, where there is nothing in the
   -- way
   abbrev pub UnhinderedAreJoined : Type 0
   UnhinderedAreJoined =
       (opening : State) (w : Whole D S M) (a place : ℕ) (l : ActorList) (actor_state : ActorState) (order : Order)
-      (actors : List ℕ) (w' : Whole D S M) → IsCentral disk store meta opening w → IsNext w a place l actor_state order
-      → order.command ≡ Join → Runs disk store meta (IsUnhindered disk store meta place actor_state.number) w actors w'
+      (actors : List ℕ) (w' : Whole D S M) → IsCentral disk store meta opening w
+      → IsNextOrder w a place l actor_state order
+      → order.command ≡ Join → RunsTurns disk store meta
+      (IsUnhindered disk store meta place actor_state.number) w actors w'
       → turns_left Join actor_state.work ≤ times a actors
-      → (answer : Answer) × IsJoined answer × IsAnswered w' l.actor actor_state.number answer
+      → (answer : Answer) × IsJoined answer × IsCommandAnswered w' l.actor actor_state.number answer
 
   -- over devices of which no call can fail that is where it may continue
   abbrev pub UnfailingAreJoined : Type 0
   UnfailingAreJoined =
       (opening : State) (w : Whole D S M) (a place : ℕ) (l : ActorList) (actor_state : ActorState) (order : Order)
       (actors : List ℕ) (w' : Whole D S M) → IsCentral disk store meta opening w → IsUnfailing disk store meta w
-      → IsNext w a place l actor_state order → order.command ≡ Join
-      → Runs disk store meta (IsFree disk store meta place actor_state.number) w actors w' → turns_left Join actor_state.work ≤ times a actors
-      → (answer : Answer) × IsJoined answer × IsAnswered w' l.actor actor_state.number answer
+      → IsNextOrder w a place l actor_state order → order.command ≡ Join
+      → RunsTurns disk store meta (IsFree disk store meta place actor_state.number) w actors w' → turns_left Join actor_state.work ≤ times a actors
+      → (answer : Answer) × IsJoined answer × IsCommandAnswered w' l.actor actor_state.number answer

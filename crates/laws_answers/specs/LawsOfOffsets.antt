@@ -11,7 +11,7 @@ use Rattle.partition_world.specs.declared.actor_state.Outcome.TheVariants.{Answe
 use Rattle.partition_world.specs.Tier.{AtBrokerTier}
 use Rattle.partition_world.specs.Turn.{IsTurn}
 use Rattle.partition_world.specs.Whole.{Whole}
-use Rattle.laws_answers.specs.CausesOfOffsets.{HasCause}
+use Rattle.laws_answers.specs.CausesOfOffsets.{OffsetHasCause}
 
 module _ {D S M : Type 0} (disk : DiskGhosts D) (store : StoreGhosts S) (meta : MetaGhosts M) where
   -- a question's answer has its cause, over any devices
@@ -19,4 +19,4 @@ module _ {D S M : Type 0} (disk : DiskGhosts D) (store : StoreGhosts S) (meta : 
   OffsetsHaveCauses = (w : Whole D S M) (a : ℕ) (answer : Answer) (w' : Whole D S M) (which : Which)
       → (t : IsTurn disk store meta w a (Answers answer) w') → t.order.command ≡ Offset which
       → AtNode w.held t.order.broker.0 (λ x. AtBrokerTier w.tier t.order.broker.0 (λ broker_tier.
-      HasCause disk store meta w t.order.broker.0 x broker_tier t.actor_state.work which answer w'))
+      OffsetHasCause disk store meta w t.order.broker.0 x broker_tier t.actor_state.work which answer w'))

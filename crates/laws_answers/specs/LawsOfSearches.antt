@@ -12,7 +12,7 @@ use Rattle.plain_log.specs.declared.command.Order.{Order}
 use Rattle.plain_log.specs.declared.command.Pace.{Pace}
 use Rattle.plain_log.specs.declared.command.Which.TheVariants.{At}
 use Rattle.plain_log.specs.declared.state.State.{State}
-use Rattle.broker_log.specs.Seen.{Shows}
+use Rattle.broker_log.specs.Seen.{ShowsSeen}
 use Rattle.broker_log.specs.Seen as log
 use Rattle.laws_partition.specs.RowsOfOffsets.{dated_offset}
 use Rattle.laws_partition.specs.Seen as seen
@@ -23,22 +23,22 @@ use Rattle.partition_world.specs.declared.actor_state.Outcome.TheVariants.{Answe
 use Rattle.partition_world.specs.declared.actor_state.ActorState.{ActorState}
 use Rattle.partition_world.specs.Infallible.{IsUnfailing}
 use Rattle.partition_world.specs.Central.{IsCentral}
-use Rattle.partition_world.specs.Fresh.{IsNew}
+use Rattle.partition_world.specs.Fresh.{IsNewWorld}
 use Rattle.partition_world.specs.Reaches.{Reaches}
-use Rattle.partition_world.specs.Turn.{IsNext, IsTurn}
+use Rattle.partition_world.specs.Turn.{IsNextOrder, IsTurn}
 use Rattle.partition_world.specs.Whole.{Whole}
 use Rattle.laws_answers.specs.FoundByTime.{SearchesKnown}
 use Rattle.laws_answers.specs.Turns.{turns_left, search_left}
-use Rattle.laws_answers.specs.Chains.{times, IsAnswered, KnowsUpTo, Runs}
-use Rattle.laws_answers.specs.UnhinderedSearches.{IsFound, IsFree, IsUnhindered}
+use Rattle.laws_answers.specs.Chains.{times, IsCommandAnswered, KnowsUpTo, RunsTurns}
+use Rattle.laws_answers.specs.UnhinderedSearches.{IsSearchAnswer, IsFree, IsUnhindered}
 
 module _ {D S M : Type 0} (disk : DiskGhosts D) where
   -- the offset of the timestamp in the log that the broker's disk shows, or that there is none
   pub record IsDatedIn (w : Whole D S M) (x : Node D) (ts : ℤ) (found : Option ℕ) : Type 0 where
     pub held : seen.SeenPartition
     pub shown : ShowsPartition disk.content w.held held
-    pub seen : log.Seen
-    pub shows : Shows disk.content x.log seen
+    pub seen : log.LogSeen
+    pub shows : ShowsSeen disk.content x.log seen
     pub is : dated_offset held (node_of x seen) ts ≡ found
 
   -- what an answer says of the log
@@ -66,31 +66,31 @@ module _ {D S M : Type 0} (disk : DiskGhosts D) (store : StoreGhosts S) (meta : 
   UnhinderedAreFound =
       (opening : State) (w : Whole D S M) (a place : ℕ) (l : ActorList) (actor_state : ActorState) (order : Order)
       (ts : ℤ) (actors : List ℕ) (w' : Whole D S M) → IsCentral disk store meta opening w → SearchesKnown meta opening w
-      → IsNext w a place l actor_state order → order.command ≡ Offset (At ts)
-      → Runs disk store meta (IsUnhindered disk store meta place actor_state.number) w actors w'
+      → IsNextOrder w a place l actor_state order → order.command ≡ Offset (At ts)
+      → RunsTurns disk store meta (IsUnhindered disk store meta place actor_state.number) w actors w'
       → turns_left (Offset (At ts)) actor_state.work ≤ times a actors
-      → (answer : Answer) × IsFound answer × IsAnswered w' l.actor actor_state.number answer
+      → (answer : Answer) × IsSearchAnswer answer × IsCommandAnswered w' l.actor actor_state.number answer
 
   -- over devices of which no call can fail that is where its broker still leads
   abbrev pub UnfailingAreFound : Type 0
   UnfailingAreFound =
       (opening : State) (w : Whole D S M) (a place : ℕ) (l : ActorList) (actor_state : ActorState) (order : Order)
       (ts : ℤ) (actors : List ℕ) (w' : Whole D S M) → IsCentral disk store meta opening w → SearchesKnown meta opening w
-      → IsUnfailing disk store meta w → IsNext w a place l actor_state order → order.command ≡ Offset (At ts)
-      → Runs disk store meta (IsFree disk store meta place actor_state.number) w actors w'
+      → IsUnfailing disk store meta w → IsNextOrder w a place l actor_state order → order.command ≡ Offset (At ts)
+      → RunsTurns disk store meta (IsFree disk store meta place actor_state.number) w actors w'
       → turns_left (Offset (At ts)) actor_state.work ≤ times a actors
-      → (answer : Answer) × IsFound answer × IsAnswered w' l.actor actor_state.number answer
+      → (answer : Answer) × IsSearchAnswer answer × IsCommandAnswered w' l.actor actor_state.number answer
 
   -- fewer of its turns are enough where its broker knows no high watermark past a mark at any of them
   abbrev pub MarkedAreFound : Type 0
   MarkedAreFound =
       (opening : State) (w : Whole D S M) (a place : ℕ) (l : ActorList) (actor_state : ActorState) (order : Order)
       (ts : ℤ) (mark : ℕ) (actors : List ℕ) (w' : Whole D S M) → IsCentral disk store meta opening w
-      → SearchesKnown meta opening w → IsNext w a place l actor_state order → order.command ≡ Offset (At ts)
-      → Runs disk store meta (λ v b u. IsUnhindered disk store meta place actor_state.number v b u × KnowsUpTo mark place actor_state.number v b u)
+      → SearchesKnown meta opening w → IsNextOrder w a place l actor_state order → order.command ≡ Offset (At ts)
+      → RunsTurns disk store meta (λ v b u. IsUnhindered disk store meta place actor_state.number v b u × KnowsUpTo mark place actor_state.number v b u)
       w actors w'
       → search_left mark actor_state.work ≤ times a actors
-      → (answer : Answer) × IsFound answer × IsAnswered w' l.actor actor_state.number answer
+      → (answer : Answer) × IsSearchAnswer answer × IsCommandAnswered w' l.actor actor_state.number answer
 
   -- what a schedule reaches keeps what is known of what searches have found
   abbrev pub ReachesSearches : Type 0
@@ -106,4 +106,4 @@ module _ {D S M : Type 0} (disk : DiskGhosts D) (store : StoreGhosts S) (meta : 
 
   -- it is known where nothing has happened yet
   abbrev pub NewHasSearches : Type 0
-  NewHasSearches = (opening : State) (lists : List ActorList) (w : Whole D S M) → IsNew lists w → SearchesKnown meta opening w
+  NewHasSearches = (opening : State) (lists : List ActorList) (w : Whole D S M) → IsNewWorld lists w → SearchesKnown meta opening w

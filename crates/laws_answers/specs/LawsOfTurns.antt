@@ -14,10 +14,10 @@ use Rattle.partition_world.specs.declared.actor_state.Outcome.{Outcome}
 use Rattle.partition_world.specs.declared.actor_state.ActorState.{ActorState}
 use Rattle.partition_world.specs.Reaches.{Reaches}
 use Rattle.partition_world.specs.ActorStates.{actor_state_after, IsUnanswered}
-use Rattle.partition_world.specs.Turn.{IsNext, IsTurn}
+use Rattle.partition_world.specs.Turn.{IsNextOrder, IsTurn}
 use Rattle.partition_world.specs.Whole.{Whole}
 use Rattle.laws_answers.specs.Turns.{turns_left, search_left}
-use Rattle.laws_answers.specs.Chains.{times, turns_in, IsAnswered, KnowsUpTo, Runs}
+use Rattle.laws_answers.specs.Chains.{times, turns_in, IsCommandAnswered, KnowsUpTo, RunsTurns}
 
 module _ {D S M : Type 0} (disk : DiskGhosts D) (store : StoreGhosts S) (meta : MetaGhosts M) where
   -- a turn that isn't its command's last leaves fewer to come
@@ -36,22 +36,22 @@ module _ {D S M : Type 0} (disk : DiskGhosts D) (store : StoreGhosts S) (meta : 
   abbrev pub CommandsAreAnswered : Type 0
   CommandsAreAnswered =
       (w : Whole D S M) (a place : ℕ) (l : ActorList) (actor_state : ActorState) (order : Order) (actors : List ℕ)
-      (w' : Whole D S M) → AreRising w.lists → IsNext w a place l actor_state order
-      → Runs disk store meta (λ v b u. Unit {0}) w actors w'
+      (w' : Whole D S M) → AreRising w.lists → IsNextOrder w a place l actor_state order
+      → RunsTurns disk store meta (λ v b u. Unit {0}) w actors w'
       → turns_left order.command actor_state.work ≤ times a actors
-      → (answer : Answer) × IsAnswered w' l.actor actor_state.number answer
+      → (answer : Answer) × IsCommandAnswered w' l.actor actor_state.number answer
 
   -- a timestamp lookup is so by fewer, where its broker knows no high watermark past a mark at any of them
   abbrev pub SearchesAreAnswered : Type 0
   SearchesAreAnswered = (w : Whole D S M) (a place : ℕ) (l : ActorList) (actor_state : ActorState) (order : Order) (ts : ℤ) (mark : ℕ)
-      (actors : List ℕ) (w' : Whole D S M) → AreRising w.lists → IsNext w a place l actor_state order → order.command ≡ Offset (At ts)
-      → Runs disk store meta (KnowsUpTo mark place actor_state.number) w actors w' → search_left mark actor_state.work ≤ times a actors
-      → (answer : Answer) × IsAnswered w' l.actor actor_state.number answer
+      (actors : List ℕ) (w' : Whole D S M) → AreRising w.lists → IsNextOrder w a place l actor_state order → order.command ≡ Offset (At ts)
+      → RunsTurns disk store meta (KnowsUpTo mark place actor_state.number) w actors w' → search_left mark actor_state.work ≤ times a actors
+      → (answer : Answer) × IsCommandAnswered w' l.actor actor_state.number answer
 
   -- a schedule that gives its actor as many turns answers it
   abbrev pub SchedulesAnswerCommands : Type 0
   SchedulesAnswerCommands = (w : Whole D S M) (a place : ℕ) (l : ActorList) (actor_state : ActorState) (order : Order)
-      (schedule : List Pace) (w' : Whole D S M) → AreRising w.lists → IsNext w a place l actor_state order
+      (schedule : List Pace) (w' : Whole D S M) → AreRising w.lists → IsNextOrder w a place l actor_state order
       → Reaches disk store meta w schedule w'
       → turns_left order.command actor_state.work ≤ turns_in a schedule
-      → (answer : Answer) × IsAnswered w' l.actor actor_state.number answer
+      → (answer : Answer) × IsCommandAnswered w' l.actor actor_state.number answer

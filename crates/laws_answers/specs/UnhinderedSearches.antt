@@ -14,10 +14,10 @@ use Rattle.laws_answers.specs.Chains.{AtTurnsOf, TurnMeetsNoFault}
 use Rattle.laws_answers.specs.CausesOfOffsets.{MaySearch}
 
 -- an answer is what was searched for: an offset, or that there is none
-abbrev pub IsFound : Answer → Type 0
-IsFound (Offset n) = Unit {0}
-IsFound NoOffset = Unit {0}
-IsFound other = ⊥
+abbrev pub IsSearchAnswer : Answer → Type 0
+IsSearchAnswer (Offset n) = Unit {0}
+IsSearchAnswer NoOffset = Unit {0}
+IsSearchAnswer other = ⊥
 
 module _ {D S M : Type 0} (disk : DiskGhosts D) (store : StoreGhosts S) (meta : MetaGhosts M) where
   -- where the turn is one of the search at this place, under this number, its broker still leads

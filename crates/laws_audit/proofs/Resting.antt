@@ -16,20 +16,20 @@ use Rattle.remote_view.specs.Fold.{entry_of, state_of, fold, AreDistinct}
 use Rattle.remote_view.proofs.Changes.{found_id}
 use Rattle.tier_safe.specs.Scene.{Scene}
 use Rattle.tier_safe.specs.Safe.{BothSafe}
-use Rattle.tier_safe.specs.Views.{IsRight}
+use Rattle.tier_safe.specs.Views.{IsNoteRight}
 use Rattle.tier_safe.proofs.Rules.{seen_kept}
 use Rattle.tier_sweep.specs.Rest.{AreNamed, NoneIsLeft, is_under_way}
 use Rattle.tier_sweep.specs.Sweeping.{SweptTier, IsSwept, rested}
 use Rattle.tier_sweep.proofs.Sweeps.{swept_entries, swept_rests, swept_keeps}
 use Rattle.tier_audit.specs.declared.verdict.Flaw.TheVariants.{NoEntry, Left, Custom, Missing, Wrong}
-use Rattle.tier_audit.specs.Whole.{IsReadable, AreReadable, IsWhole}
+use Rattle.tier_audit.specs.Whole.{IsReadable, AreReadable, IsWholeTier}
 use Rattle.tier_audit.proofs.Saying.{one_thing}
 use Rattle.laws_audit.specs.Laws.{tier_in, SafeIsReadable, SafeHasLeftAtMost, SweptIsWhole}
 use Rattle.laws_audit.proofs.Stored.{held_readable, each_has}
 
 -- metadata events and entries
 
-pub notes_right : (notes : List Note) → AllByRecursion IsRight notes → AllByRecursion IsNote notes
+pub notes_right : (notes : List Note) → AllByRecursion IsNoteRight notes → AllByRecursion IsNote notes
 notes_right [] h = tt
 notes_right (note ∷ notes) h = (h.0.is, notes_right notes h.1)
 
@@ -58,7 +58,7 @@ safe_readable c p s = (
 -- its first flaw
 
 -- where none is left, the tier is whole
-whole_but : (c : Scene) (p : Plain) → BothSafe c p → NoneIsLeft c.objects (fold c.notes) → IsWhole c.objects (fold c.notes)
+whole_but : (c : Scene) (p : Plain) → BothSafe c p → NoneIsLeft c.objects (fold c.notes) → IsWholeTier c.objects (fold c.notes)
 whole_but c p s none = record { named = named c p s; none_left = none; readable = (safe_readable c p s).1 }
 
 pub safe_left : SafeHasLeftAtMost
@@ -100,7 +100,7 @@ module _ (c : Scene) (p : Plain) (new : SweptTier) (n : ℕ) (s : BothSafe c p) 
       subst (AreReadable new.objects) (sym (swept_entries (tier_in c) new n (are_notes c p s) swept))
       (all_made (IsReadable new.objects) rested (fold c.notes) (each_has (λ (e : Entry). IsReadable new.objects (rested e)) (fold c.notes) (apart c p s) rested_readable))
 
-  whole : IsWhole new.objects (fold new.notes)
+  whole : IsWholeTier new.objects (fold new.notes)
   whole = (
       let rests = swept_rests (tier_in c) new n (are_notes c p s) swept in
       record { named = rests.0; none_left = rests.1; readable = all_readable })

@@ -18,7 +18,7 @@ use Rattle.remote_view.specs.Fold.{entry_of, state_of, fold}
 use Rattle.remote_view.proofs.Changes.{found_id}
 use Rattle.tier_safe.specs.Scene.{Copies, Expires, Rebuilds, Seeks, Scene}
 use Rattle.tier_safe.specs.Safe.{TierSafe}
-use Rattle.tier_safe.specs.Views.{HasId, IsRight, IsNamed, IsUsed}
+use Rattle.tier_safe.specs.Views.{HasId, IsNoteRight, IsNamed, IsIdUsed}
 use Rattle.tier_safe.specs.Copies.{FinishedStand}
 use Rattle.tier_safe.specs.Lineage.{CoversLog}
 use Rattle.tier_safe.specs.Starts.{DeletedEnd}
@@ -47,7 +47,7 @@ split (x ∷ xs) (y ∷ ys) b p = elim (split xs ys b (p.0, cc (p.1))) [
 ]
 
 -- a sweep's metadata events keep the rules of metadata events: none adds an entry
-are_right : (es : List Entry) (notes : List Note) → AllByRecursion (IsOf es) notes → AllByRecursion IsNote notes → AllByRecursion IsRight notes
+are_right : (es : List Entry) (notes : List Note) → AllByRecursion (IsOf es) notes → AllByRecursion IsNote notes → AllByRecursion IsNoteRight notes
 are_right es [] h k = tt
 are_right es (note ∷ notes) h k = (record { is = k.0; id = subst HasId (sym h.0.is) tt }, are_right es notes h.1 k.1)
 
@@ -62,10 +62,10 @@ module _ (c : Scene) (p : Plain) (new : SweptTier) (idle : IsIdle c) (t : TierSa
   begins : IsPrefix c.notes new.notes
   begins = (told.notes, sym told.now)
 
-  right : AllByRecursion IsRight new.notes
+  right : AllByRecursion IsNoteRight new.notes
   right =
-      subst (AllByRecursion IsRight) (sym told.now)
-      (both IsRight c.notes told.notes t.notes.right (are_right (fold c.notes) told.notes told.are (are_notes (fold c.notes) told.notes told.are)))
+      subst (AllByRecursion IsNoteRight) (sym told.now)
+      (both IsNoteRight c.notes told.notes t.notes.right (are_right (fold c.notes) told.notes told.are (are_notes (fold c.notes) told.notes told.are)))
 
   -- the entries come to rest as before
   same : map rested (fold new.notes) ≡ map rested (fold c.notes)
@@ -84,7 +84,7 @@ module _ (c : Scene) (p : Plain) (new : SweptTier) (idle : IsIdle c) (t : TierSa
   still_named : (id : SegmentId) → IsNamed (fold c.notes) id → IsNamed (fold new.notes) id
   still_named id named = (let go = prefix_goes c.notes new.notes id named.0 begins named.1 in (go.0, go.1))
 
-  was_used : (id : SegmentId) → IsUsed (fold new.notes) c.desk id → IsUsed (fold c.notes) c.desk id
+  was_used : (id : SegmentId) → IsIdUsed (fold new.notes) c.desk id → IsIdUsed (fold c.notes) c.desk id
   was_used id (inl named) = inl (let x = was id named.0 named.1 in (x.0, x.1))
   was_used id (inr used) = inr used
 

@@ -9,7 +9,7 @@ use Rattle.tier_sweep.specs.Rest.{AreNamed}
 use Rattle.tier_sweep.specs.Sweeping.{SweptTier, IsSwept, IsUnderSweep}
 use Rattle.tier_audit.specs.declared.verdict.Flaw.{Flaw}
 use Rattle.tier_audit.specs.declared.verdict.Flaw.TheVariants.{Left}
-use Rattle.tier_audit.specs.Whole.{AreReadable, IsWhole}
+use Rattle.tier_audit.specs.Whole.{AreReadable, IsWholeTier}
 use Rattle.tier_audit.specs.Flaws.{IsFirstFlaw}
 
 -- the objects and the metadata events of a scene
@@ -29,7 +29,7 @@ SafeHasLeftAtMost = (c : Scene) (p : Plain) (flaw : Flaw) → BothSafe c p → I
 -- what is swept is whole
 abbrev pub SweptIsWhole : Type 0
 SweptIsWhole = (c : Scene) (p : Plain) (new : SweptTier) (n : ℕ) → BothSafe c p → IsSwept (tier_in c) new n
-    → IsWhole new.objects (fold new.notes)
+    → IsWholeTier new.objects (fold new.notes)
 
 -- no command is in progress
 abbrev pub IsIdle : Scene → Type 0

@@ -10,7 +10,7 @@ use Rattle.plain_log.specs.State.{breaks}
 use Rattle.plain_log.specs.Rows.{row}
 use Rattle.laws_partition.specs.Seen.{Back, Node, SeenPartition}
 use Rattle.laws_partition.specs.Partition.{broker_of, put_node, back_of, broken}
-use Rattle.laws_partition.specs.Central.{AreTaken}
+use Rattle.laws_partition.specs.Central.{WereElected}
 use Rattle.laws_partition.specs.Sound.{IsBack}
 use Rattle.laws_partition.proofs.NodeLaw.{flushed_end_back, node_broken}
 use Rattle.laws_partition.proofs.Standing.{Standing, Allowed, Puts, put, wider_self, keeps_self}
@@ -19,7 +19,7 @@ use Rattle.laws_partition.proofs.Standing.{Standing, Allowed, Puts, put, wider_s
 -- of the broker's lines do where these end alike, with an entry that is flushed
 pub record IsTold (p : State) (x : Node) (back : Back) : Type 0 where
   pub is : IsBack x back
-  pub taken : AreTaken p.paths p.broken back.1
+  pub taken : WereElected p.paths p.broken back.1
   pub last : (entry : ℕ × ℕ) → entry.1 ≤ x.flushed_end → last_entry x.log.line ≡ Some entry → last_entry x.saved ≡ Some entry → last_entry back.1 ≡ Some entry
 
 pub break_puts : (h : SeenPartition) (p : State) (b : ℕ) (x : Node) (s : Replica) (back : Back) → Standing h p b x s → IsTold p x back
@@ -36,7 +36,7 @@ break_puts h p b x s back st t =
       sound = node_broken x back l.sound t.is;
       paths_are = λ safe. l.paths_are;
       saved_are = λ safe. l.saved_are;
-      back_are = λ safe other is. (let same : back ≡ other = cc (is) in subst (λ (k : Back). AreTaken p.paths p.broken k.1) same t.taken);
+      back_are = λ safe other is. (let same : back ≡ other = cc (is) in subst (λ (k : Back). WereElected p.paths p.broken k.1) same t.taken);
       joined = λ e j. absurd cc;
       leader = λ it has.
           let k = st.lines.leader x (ap (λ (c : ℕ). slice_get h.nodes c) it ∙ st.at) has in (

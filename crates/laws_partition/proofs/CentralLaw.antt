@@ -29,7 +29,7 @@ use Rattle.laws_partition.specs.declared.actor_progress.ActorProgress.{ActorProg
 use Rattle.laws_partition.specs.declared.actor_progress.Stepped.{Stepped}
 use Rattle.laws_partition.specs.declared.actor_progress.Stepped.TheVariants.{Ran, Done, Nothing, NoMemory}
 use Rattle.laws_partition.specs.Partition.{broker_of, recorded_of}
-use Rattle.laws_partition.specs.Central.{PartitionMatches, LinesStand, ProgressMatches, Stands, IsCentral, KeepsCentral}
+use Rattle.laws_partition.specs.Central.{PartitionMatches, LinesStand, ProgressMatches, WorldMatches, IsCentral, KeepsCentral}
 use Rattle.laws_partition.specs.Rows.{FirstRow, Row}
 use Rattle.laws_partition.specs.Turn.{IsTurn, actor_state_after, event_of, Steps}
 use Rattle.laws_partition.specs.Whole.{Whole}
@@ -52,7 +52,7 @@ record StepsTo (w : Whole) (a : ℕ) (turned : Turned) (w' : Whole) (p : State) 
   actor_state : ProgressMatches state t.list (actor_state_after t.actor_state turned)
 
 -- what a turn starts from
-standing : (w : Whole) (a : ℕ) (turned : Turned) (w' : Whole) (p : State) (t : IsTurn w a turned w') → PlainSafe p → Stands w p
+standing : (w : Whole) (a : ℕ) (turned : Turned) (w' : Whole) (p : State) (t : IsTurn w a turned w') → PlainSafe p → WorldMatches w p
     → (x : Node) → slice_get w.held.nodes t.order.broker.0 ≡ Some x → (s : Replica) × Standing w.held p t.order.broker.0 x s
 standing w a turned w' p t safe st x at =
     let b = t.order.broker.0 in

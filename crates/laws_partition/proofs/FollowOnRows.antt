@@ -32,7 +32,7 @@ use Rattle.plain_log.proofs.Grows.{log_rises}
 use Rattle.laws_partition.specs.declared.start_snapshot.StartSnapshot.{StartSnapshot}
 use Rattle.laws_partition.specs.Seen.{Node, SeenPartition}
 use Rattle.laws_partition.specs.Partition.{broker_of, recorded_of}
-use Rattle.laws_partition.specs.Log.{MayTake, epoch_in}
+use Rattle.laws_partition.specs.Log.{MayTakeEpoch, epoch_in}
 use Rattle.laws_partition.specs.Central.{PartitionMatches, RunStands}
 use Rattle.laws_partition.specs.RowsOfFollowers.{IsStale, CanExtend, GoesOn, extended, Extends, FollowOnRow}
 use Rattle.laws_partition.proofs.Lines.{consecutive_back, line_last}
@@ -100,7 +100,7 @@ on_path h p b x s limit order g st k on end =
 
 -- the epochs of what follows aren't below those of the log
 may_take : (h : SeenPartition) (p : State) (b : ℕ) (x : Node) (s : Replica) (first : List ℕ) (more : List (List ℕ)) (e : ℕ) (path : List (List ℕ)) → Standing h p b x s → path_of p.paths e ≡ Some path
-    → IsPrefix (x.log.batches ++ first ∷ more) path → x.log.line ≡ line_of x.log.batches → MayTake x.log.line (epoch_of first)
+    → IsPrefix (x.log.batches ++ first ∷ more) path → x.log.line ≡ line_of x.log.batches → MayTakeEpoch x.log.line (epoch_of first)
 may_take h p b x s first more e path st path_is begins line = λ last is. go last (ap last_epoch (sym line) ∙ is) (last_batch x.log.batches)
   where
     next : (front : List (List ℕ)) (v : List ℕ) → x.log.batches ≡ front ++ v ∷ [] → IsPrefix ((front ++ v ∷ []) ++ first ∷ []) path

@@ -31,7 +31,7 @@ use Rattle.laws_partition.specs.declared.start_snapshot.StartSnapshot.{StartSnap
 use Rattle.laws_partition.specs.declared.start_snapshot.Turned.TheVariants.{Answers, Begins}
 use Rattle.laws_partition.specs.Seen.{Back, Node, SeenPartition}
 use Rattle.laws_partition.specs.Partition.{broker_of, put_node, back_of, torn, the_leader}
-use Rattle.laws_partition.specs.Central.{PartitionMatches, AreTaken, RunStands, RebuildStands}
+use Rattle.laws_partition.specs.Central.{PartitionMatches, WereElected, RunStands, RebuildMatches}
 use Rattle.laws_partition.specs.Sound.{NodeSound}
 use Rattle.laws_partition.specs.RowsOfFollowers.{IsStale, IsCurrent, IsMeet, cut_node, cut_back, JoinRow, FollowRow}
 use Rattle.laws_partition.proofs.Meets.{meet_common}
@@ -223,12 +223,12 @@ join_cut h p b x s e m n h' st up k n_is same =
 -- a cut that failed
 record TearsTo (p : State) (x y : Node) (n : ℕ) : Type 0 where
   is : broker_of y ≡ record (stopped_broker (record (broker_of x) { flushed_end = min x.flushed_end n })) { loose = true }
-  lines : AreTaken p.paths p.broken y.log.line
-  saved : AreTaken p.paths p.broken y.saved
-  back : (back : Back) → y.loose ≡ Some back → AreTaken p.paths p.broken back.1
+  lines : WereElected p.paths p.broken y.log.line
+  saved : WereElected p.paths p.broken y.saved
+  back : (back : Back) → y.loose ≡ Some back → WereElected p.paths p.broken back.1
   role : y.role ≡ Idle
 
-tears_to : (p : State) (x : Node) (back : Back) → AreTaken p.paths p.broken x.log.line → AreTaken p.paths p.broken x.saved → AreTaken p.paths p.broken back.1
+tears_to : (p : State) (x : Node) (back : Back) → WereElected p.paths p.broken x.log.line → WereElected p.paths p.broken x.saved → WereElected p.paths p.broken back.1
     → TearsTo p x (torn x back) back.0
 tears_to p x back lines saved cut = elim (cases_lt back.0 x.flushed_end) [
   | inl less ↦
@@ -237,7 +237,7 @@ tears_to p x back lines saved cut = elim (cases_lt back.0 x.flushed_end) [
         is = ap (λ (k : ℕ). record (stopped_broker (record (broker_of x) { flushed_end = k })) { loose = true }) (sym low);
         lines = lines;
         saved = cut;
-        back = λ other b. (let one : back_of x ≡ other = cc (b) in subst (λ (k : Back). AreTaken p.paths p.broken k.1) one saved);
+        back = λ other b. (let one : back_of x ≡ other = cc (b) in subst (λ (k : Back). WereElected p.paths p.broken k.1) one saved);
         role = refl;
       })
   | inr more ↦
@@ -246,7 +246,7 @@ tears_to p x back lines saved cut = elim (cases_lt back.0 x.flushed_end) [
         is = ap (λ (k : ℕ). record (stopped_broker (record (broker_of x) { flushed_end = k })) { loose = true }) (sym high);
         lines = lines;
         saved = saved;
-        back = λ other b. (let one : back ≡ other = cc (b) in subst (λ (k : Back). AreTaken p.paths p.broken k.1) one cut);
+        back = λ other b. (let one : back ≡ other = cc (b) in subst (λ (k : Back). WereElected p.paths p.broken k.1) one cut);
         role = refl;
       })
 ]
@@ -311,7 +311,7 @@ pub record JoinStarts (h : SeenPartition) (p : State) (b : ℕ) (x : Node) (s : 
   pub start : g.start ≡ p.registry.start
   pub puts : Puts h p (put_broker p b broker) b x node
   pub after : h' ≡ put_node h b node
-  pub rebuild : RebuildStands (put_broker p b broker) g
+  pub rebuild : RebuildMatches (put_broker p b broker) g
 
 pub join_starts : (h : SeenPartition) (p : State) (b : ℕ) (x : Node) (s : Replica) (g : StartSnapshot) (h' : SeenPartition) → Standing h p b x s → JoinRow h b x (Begins g) h' → JoinStarts h p b x s g h'
 join_starts h p b x s g h' st w =

@@ -28,13 +28,13 @@ use Rattle.plain_log.specs.State.{path_of, has_path, is_in, put_broker, breaks, 
 use Rattle.plain_log.specs.RowsOfElections.{knows, led as led_plain, learns}
 use Rattle.plain_log.specs.RowsOfReplicas.{acknowledged, may_ack}
 use Rattle.plain_log.specs.Rows.{row}
-use Rattle.plain_log.specs.Safe.{Has, RoleSafe, PlainSafe}
+use Rattle.plain_log.specs.Safe.{HasOnPath, RoleSafe, PlainSafe}
 use Rattle.plain_log.proofs.Options.{when_some, both, eq_of, not_true}
 use Rattle.plain_log.proofs.Wider.{Wider}
 use Rattle.plain_log.proofs.StepLaw.{row_keeps}
 use Rattle.laws_partition.specs.Seen.{Back, Node, SeenPartition}
 use Rattle.laws_partition.specs.Partition.{broker_of, put_node, broken}
-use Rattle.laws_partition.specs.Central.{PartitionMatches, was_taken, AreTaken, LinesStand}
+use Rattle.laws_partition.specs.Central.{PartitionMatches, was_taken, WereElected, LinesStand}
 use Rattle.laws_partition.specs.RowsOfElections.{IsKnown, IsNew, led, LearnRow, acked, AckRow}
 use Rattle.laws_partition.proofs.Lines.{by_last, assign_line}
 use Rattle.laws_partition.proofs.BoolTests.{some_of, and_true, not_false, when_true, eq_same, eq_differs}
@@ -53,7 +53,7 @@ told_at m log path c p h = elim (cases_lt (end_of log) m) [
 ]
 
 -- a broker that may acknowledge has a path of the registry's epoch, which its log begins
-on_path : (paths : List Path) (epoch e : ℕ) (r : Role) (log : List (List ℕ)) → acking r ≡ Some e → epoch ≤ e → RoleSafe paths epoch r log → Has paths epoch log
+on_path : (paths : List Path) (epoch e : ℕ) (r : Role) (log : List (List ℕ)) → acking r ≡ Some e → epoch ≤ e → RoleSafe paths epoch r log → HasOnPath paths epoch log
 on_path paths epoch e Idle log a le s = absurd cc
 on_path paths epoch e (FollowsIn f) log a le s = absurd cc
 on_path paths epoch e (LeadsIn f) log a le s =
@@ -233,7 +233,7 @@ not_led h p b x s n st it is new = go (is_some (path_of p.paths n)) refl
 path_new : (p : State) (n : ℕ) (log : List (List ℕ)) → has_path p n ≡ false → Wider p.paths (record { epoch = n; log = log } ∷ p.paths)
 path_new p n log none e l is = go (n == e) refl
   where
-    go : (t : Bool) → (n == e) ≡ t → Has (record { epoch = n; log = log } ∷ p.paths) e l
+    go : (t : Bool) → (n == e) ≡ t → HasOnPath (record { epoch = n; log = log } ∷ p.paths) e l
     go true t =
         let same : n ≡ e = grind (arith, nat_tests, t) in
         let has : has_path p n ≡ true = rw (ap (path_of p.paths) same ∙ is) refl in
@@ -244,9 +244,9 @@ new_path : (ps : List Path) (n : ℕ) (log : List (List ℕ)) → path_of (recor
 new_path ps n log = rw (eq_same n n refl) refl
 
 -- the line of a broker that leads
-led_taken : (paths : List Path) (broken : List ℕ) (line : List (ℕ × ℕ)) (log : List (List ℕ)) (n end : ℕ) → line ≡ line_of log ++ (n, end) ∷ [] → AreTaken paths broken (line_of log)
-    → was_taken paths broken n ≡ true → AreTaken paths broken line
-led_taken paths broken line log n end is all one = subst (AreTaken paths broken) (sym is) (All-from_recursion _ (line_of log ++ (n, end) ∷ []) (more (line_of log) (recursion_from_All _ (line_of log) all)))
+led_taken : (paths : List Path) (broken : List ℕ) (line : List (ℕ × ℕ)) (log : List (List ℕ)) (n end : ℕ) → line ≡ line_of log ++ (n, end) ∷ [] → WereElected paths broken (line_of log)
+    → was_taken paths broken n ≡ true → WereElected paths broken line
+led_taken paths broken line log n end is all one = subst (WereElected paths broken) (sym is) (All-from_recursion _ (line_of log ++ (n, end) ∷ []) (more (line_of log) (recursion_from_All _ (line_of log) all)))
   where
     more : (xs : List (ℕ × ℕ)) → AllByRecursion (λ entry. was_taken paths broken entry.0 ≡ true) xs → AllByRecursion (λ entry. was_taken paths broken entry.0 ≡ true) (xs ++ (n, end) ∷ [])
     more [] a = (one, tt)
@@ -278,7 +278,7 @@ learn_leads h p b x s n h' st w =
     ap (λ (k : Registry). min k.mark (end_of x.log.batches)) (sym reg) ∙ omega (arith, high) in
     let epoch : h.registry.epoch < 2 ^ 31 = small p.registry.epoch h.registry.epoch epoch_limit st.safe.marks.epoch (ap (λ (k : Registry). k.epoch) reg) refl in
     let line = assign_line x.log.line x.log.batches n l.sound.log.consecutive l.sound.log.line_is in
-    let paths : LogsSafe q → AreTaken q.paths p.broken (led h x n).log.line = λ safe.
+    let paths : LogsSafe q → WereElected q.paths p.broken (led h x n).log.line = λ safe.
     led_taken q.paths p.broken (led h x n).log.line x.log.batches n (end_of x.log.batches) line
     (log_taken q.paths p.broken x.log.batches (safe b _ (get_put p.brokers b (broker_of x) (record (broker_of x) { role = LeadsIn n; flushed_end = end_of x.log.batches; known_high_watermark = p.registry.mark }) bx)))
     (path_taken q.paths p.broken n (rw (new_path p.paths n x.log.batches) refl)) in
@@ -296,7 +296,7 @@ learn_leads h p b x s n h' st w =
       saved_are = paths;
       back_are = λ safe back b. absurd (none_back x back l.sound w.0 b);
       joined = λ e j. absurd cc;
-      leader = λ it has. (end_of x.log.batches, last, last, omega arith, λ back b. absurd (none_back x back l.sound w.0 b), subst (λ (k : ℕ). Has q.paths k x.log.batches) w.3 (x.log.batches, new_path p.paths n x.log.batches, prefix_self x.log.batches));
+      leader = λ it has. (end_of x.log.batches, last, last, omega arith, λ back b. absurd (none_back x back l.sound w.0 b), subst (λ (k : ℕ). HasOnPath q.paths k x.log.batches) w.3 (x.log.batches, new_path p.paths n x.log.batches, prefix_self x.log.batches));
       followers = λ f. absurd cc;
       steady = λ it. ends_below x.flushed_end x.log.batches l.sound.log.consecutive l.sound.flushed_end;
     }) w.5
@@ -321,7 +321,7 @@ learn_breaks h p b x s h' st w =
     let fits : n < 2 ^ 31 = small m n epoch_limit st.safe.marks.epoch same refl in
     let line_is = assign_line x.log.line x.log.batches n l.sound.log.consecutive l.sound.log.line_is in
     let now : was_taken p.paths (m ∷ p.broken) n ≡ true = broken_taken p.paths (m ∷ p.broken) n (rw (eq_same m n same) refl) in
-    let taken : AreTaken p.paths (m ∷ p.broken) line =
+    let taken : WereElected p.paths (m ∷ p.broken) line =
     led_taken p.paths (m ∷ p.broken) line x.log.batches n end line_is (log_taken p.paths (m ∷ p.broken) x.log.batches (st.safe.brokers b (broker_of x) bx).log) now in
     put h p q b x (broken x (end, line, x.local)) s None Learn DiskFault h' st is (record {
       registry = refl;
@@ -333,7 +333,7 @@ learn_breaks h p b x s h' st w =
       sound = node_broken x (end, line, x.local) l.sound (lead_back x n l.sound w.3 fits);
       paths_are = λ safe. line_wide p.paths p.paths p.broken (m ∷ p.broken) x.log.line (wider_self p.paths) keeps l.paths_are;
       saved_are = λ safe. line_wide p.paths p.paths p.broken (m ∷ p.broken) x.saved (wider_self p.paths) keeps l.saved_are;
-      back_are = λ safe back e. (let one : (end, line, x.local) ≡ back = cc (e) in subst (λ (k : Back). AreTaken p.paths (m ∷ p.broken) k.1) one taken);
+      back_are = λ safe back e. (let one : (end, line, x.local) ≡ back = cc (e) in subst (λ (k : Back). WereElected p.paths (m ∷ p.broken) k.1) one taken);
       joined = λ e j. absurd cc;
       leader = λ it has.
           let had : is_some (path_of p.paths m) ≡ true = subst (λ (k : ℕ). is_some (path_of p.paths k) ≡ true) (sym same) has in

@@ -16,7 +16,7 @@ use Rattle.log_terms.proofs.Logs.{end_above, end_append, consecutive_prefix, up_
 use Rattle.epoch_line.specs.Line.{IsLine, last_epoch, last_entry, assign, cut_end}
 use Rattle.epoch_line.proofs.Parts.{IsLine-filter, IsLine-assign}
 use Rattle.epoch_line.proofs.Diverging.{epoch_at-front}
-use Rattle.laws_partition.specs.Log.{IsLineFor, MayTake, entered}
+use Rattle.laws_partition.specs.Log.{IsLineFor, MayTakeEpoch, entered}
 
 -- the epoch of the last batch, or of the one before the list
 abbrev pub epoch_after : ℕ → List (List ℕ) → ℕ
@@ -227,7 +227,7 @@ by_last line = go (last_epoch line) refl
     go (Some last) e = inr (last, e)
 
 -- a log that gains batches of an epoch keeps a line that is its own
-entered_is : (line : List (ℕ × ℕ)) (log : List (List ℕ)) (e : ℕ) (batch : List ℕ) (more : List (List ℕ)) → IsConsecutive 0 log → IsLineFor line log → IsLine line → MayTake line e
+entered_is : (line : List (ℕ × ℕ)) (log : List (List ℕ)) (e : ℕ) (batch : List ℕ) (more : List (List ℕ)) → IsConsecutive 0 log → IsLineFor line log → IsLine line → MayTakeEpoch line e
     → base_of batch ≡ end_of log → epoch_of batch ≡ e → AllByRecursion (λ b. epoch_of b ≡ e) more → entered line e (end_of log) ≡ line_of (log ++ batch ∷ more)
 entered_is line log e batch more c (inl is) rises may base epoch all = elim (by_last line) [
   | inl none ↦
@@ -257,7 +257,7 @@ entered_is line log e batch more c (inr h) rises may base epoch all =
     ]
 
 -- and a line
-entered_rises : (line : List (ℕ × ℕ)) (e start : ℕ) → IsLine line → MayTake line e → e < 2 ^ 31 → start ≤ 2 ^ 62 → IsLine (entered line e start)
+entered_rises : (line : List (ℕ × ℕ)) (e start : ℕ) → IsLine line → MayTakeEpoch line e → e < 2 ^ 31 → start ≤ 2 ^ 62 → IsLine (entered line e start)
 entered_rises line e start rises may fits small = elim (by_last line) [
   | inl none ↦ subst IsLine (sym (entered_none line e start none)) (IsLine-assign line e start rises fits small (λ last h. absurd (cc (h, none))))
   | inr some ↦ elim (cases_eq some.0 e) [
@@ -278,7 +278,7 @@ entered_rises line e start rises may fits small = elim (by_last line) [
     ]
 
 -- a log with a batch at its end
-pub with_batch_line : (line : List (ℕ × ℕ)) (log : List (List ℕ)) (batch : List ℕ) → IsConsecutive 0 log → IsLineFor line log → IsLine line → MayTake line (epoch_of batch)
+pub with_batch_line : (line : List (ℕ × ℕ)) (log : List (List ℕ)) (batch : List ℕ) → IsConsecutive 0 log → IsLineFor line log → IsLine line → MayTakeEpoch line (epoch_of batch)
     → base_of batch ≡ end_of log → epoch_of batch < 2 ^ 31 → end_of log ≤ 2 ^ 62
     → (entered line (epoch_of batch) (end_of log) ≡ line_of (log ++ batch ∷ [])) × IsLine (entered line (epoch_of batch) (end_of log))
 with_batch_line line log batch c h rises may base fits small =
@@ -286,7 +286,7 @@ with_batch_line line log batch c h rises may base fits small =
 
 -- a log with batches of one epoch at its end
 pub with_batches_line : (line : List (ℕ × ℕ)) (log : List (List ℕ)) (e : ℕ) (batch : List ℕ) (more : List (List ℕ)) → IsConsecutive 0 log → IsLineFor line log → IsLine line
-    → MayTake line e → base_of batch ≡ end_of log → All (λ b. epoch_of b ≡ e) (batch ∷ more) → e < 2 ^ 31 → end_of log ≤ 2 ^ 62
+    → MayTakeEpoch line e → base_of batch ≡ end_of log → All (λ b. epoch_of b ≡ e) (batch ∷ more) → e < 2 ^ 31 → end_of log ≤ 2 ^ 62
     → (entered line e (end_of log) ≡ line_of (log ++ batch ∷ more)) × IsLine (entered line e (end_of log))
 with_batches_line line log e batch more c h rises may base all fits small =
     let each = recursion_from_All (λ (b : List ℕ). epoch_of b ≡ e) (batch ∷ more) all in

@@ -12,7 +12,7 @@ use Rattle.epoch_line.specs.Meet.{SharesEpoch, MeetsAt, IsMeetBelow}
 use Rattle.plain_log.specs.declared.state.Path.{Path}
 use Rattle.plain_log.specs.State.{path_of}
 use Rattle.plain_log.specs.Ends.{common}
-use Rattle.plain_log.specs.Safe.{Has, LogSafe}
+use Rattle.plain_log.specs.Safe.{HasOnPath, LogSafe}
 use Rattle.plain_log.proofs.Ends.{common_left, common_right, common_all}
 use Rattle.laws_partition.specs.Log.{IsLineFor}
 use Rattle.laws_partition.proofs.Lines.{line_at}
@@ -136,8 +136,8 @@ meets_common paths mine theirs xs ys n ps sx sy l a b (inr h) = elim (cases_lt 0
   | inl some ↦
       let one = holding 0 xs (n - 1) h.0 (sym (line_at mine xs (n - 1) sx.consecutive l.mine_for l.mine_rises (omega (arith, some, a))) ∙ h.1) in
       let two = holding 0 ys (n - 1) h.0 (sym (line_at theirs ys (n - 1) sy.consecutive l.theirs_for l.theirs_rises (omega (arith, some, b))) ∙ h.2) in
-      let p = subst (λ (e : ℕ). Has paths e (one.front ++ one.batch ∷ [])) one.epoch (sx.matching one.front one.batch one.begins) in
-      let q = subst (λ (e : ℕ). Has paths e (two.front ++ two.batch ∷ [])) two.epoch (sy.matching two.front two.batch two.begins) in
+      let p = subst (λ (e : ℕ). HasOnPath paths e (one.front ++ one.batch ∷ [])) one.epoch (sx.matching one.front one.batch one.begins) in
+      let q = subst (λ (e : ℕ). HasOnPath paths e (two.front ++ two.batch ∷ [])) two.epoch (sy.matching two.front two.batch two.begins) in
       let same : q.0 ≡ p.0 = cc (q.1, p.1) in
       let s = shared_begins xs ys (one.front ++ one.batch ∷ []) (two.front ++ two.batch ∷ []) p.0 (n - 1) (ps h.0 p.0 p.1) p.2
       (subst (λ (w : List (List ℕ)). IsPrefix (two.front ++ two.batch ∷ []) w) same q.2) one.begins two.begins one.past two.past in

@@ -18,9 +18,9 @@ use Rattle.plain_log.specs.State.{joined}
 use Rattle.laws_partition.specs.declared.start_snapshot.StartSnapshot.{StartSnapshot}
 use Rattle.laws_partition.specs.Seen.{Back, Node, SeenPartition}
 use Rattle.laws_partition.specs.Partition.{back_of, kept_line, stopped, broken, torn}
-use Rattle.laws_partition.specs.Log.{IsLineFor, MayTake, cut_at, with_batch, epoch_in}
+use Rattle.laws_partition.specs.Log.{IsLineFor, MayTakeEpoch, cut_at, with_batch, epoch_in}
 use Rattle.laws_partition.specs.RowsOfElections.{IsNew, led}
-use Rattle.laws_partition.specs.RowsOfLog.{MayBegin}
+use Rattle.laws_partition.specs.RowsOfLog.{MayStartAt}
 use Rattle.laws_partition.specs.RowsOfFollowers.{cut_node, cut_back, CanExtend, extended, rebuilt, unbuilt}
 use Rattle.laws_partition.specs.Rows.{MayComeBack, opened}
 use Rattle.laws_partition.specs.Sound.{IsBack, NodeSound}
@@ -111,7 +111,7 @@ pub node_appended : (x : Node) (placed : List ℕ) (e : ℕ) → NodeSound x →
     → NodeSound (record x { log = with_batch x.log placed }) × ((with_batch x.log placed).line ≡ line_of (with_batch x.log placed).batches)
 node_appended x placed e s leads base epoch small =
     let last : last_epoch x.log.line ≡ Some e = s.leads e leads in
-    let may : MayTake x.log.line (epoch_of placed) = λ l is. (let same : l ≡ e = cc (is, last) in omega (arith, same, epoch)) in
+    let may : MayTakeEpoch x.log.line (epoch_of placed) = λ l is. (let same : l ≡ e = cc (is, last) in omega (arith, same, epoch)) in
     let low : end_of x.log.batches ≤ 2 ^ 62 = omega (arith, s.log.small) in
     let h = with_batch_line x.log.line x.log.batches placed s.log.consecutive s.log.line_is s.log.rises may base (subst (λ (k : ℕ). k < 2 ^ 31) (sym epoch) (last_fits x.log.line e s.log.rises last)) low in
     let follow = consecutive_snoc 0 x.log.batches placed s.log.consecutive base in
@@ -239,7 +239,7 @@ record Fronts (x : Node) (front : List (List ℕ)) (e : ℕ) : Type 0 where
   follow : IsConsecutive (end_of x.log.batches) front
   each : All (λ batch. epoch_of batch ≡ e) front
   small : end_from (end_of x.log.batches) front ≤ 4611686018427387904
-  may : MayTake x.log.line e
+  may : MayTakeEpoch x.log.line e
   fits : e < 2 ^ 31
 
 all_front : (P : List ℕ → Type 0) (front rest : List (List ℕ)) → AllByRecursion P (front ++ rest) → AllByRecursion P front
@@ -257,7 +257,7 @@ fronts x g front rest e w first parts =
       follow = consecutive_prefix (end_of x.log.batches) front (front ++ rest) (rest, refl) follow;
       each = All-from_recursion _ front (all_front (λ (batch : List ℕ). epoch_of batch ≡ e) front rest (subst (λ (run : List (List ℕ)). AllByRecursion (λ batch. epoch_of batch ≡ e) run) parts (recursion_from_All (λ (batch : List ℕ). epoch_of batch ≡ e) g.batches each)));
       small = omega (arith, above, end, end_append (end_of x.log.batches) front rest, w.small);
-      may = subst (λ (n : ℕ). MayTake x.log.line n) one w.may;
+      may = subst (λ (n : ℕ). MayTakeEpoch x.log.line n) one w.may;
       fits = omega (arith, one, w.fits);
     }
 
@@ -339,7 +339,7 @@ lead_back x n s new fits =
     }
 
 -- a local log that begins further on
-pub trim_back : (x : Node) (start : ℕ) → NodeSound x → MayBegin x start → IsBack x (x.flushed_end, kept_line x, start)
+pub trim_back : (x : Node) (start : ℕ) → NodeSound x → MayStartAt x start → IsBack x (x.flushed_end, kept_line x, start)
 trim_back x start s may = record {
   above = omega arith;
   ends = s.flushed_end;
@@ -349,7 +349,7 @@ trim_back x start s may = record {
   within = may.flushed_end;
 }
 
-pub node_trimmed : (x : Node) (start : ℕ) → NodeSound x → x.up ≡ true → MayBegin x start → NodeSound (record x { local = start; saved = kept_line x })
+pub node_trimmed : (x : Node) (start : ℕ) → NodeSound x → x.up ≡ true → MayStartAt x start → NodeSound (record x { local = start; saved = kept_line x })
 node_trimmed x start s up may = record {
   log = s.log;
   flushed_end = s.flushed_end;

@@ -31,12 +31,12 @@ use Rattle.plain_log.specs.Causes.{same_cause}
 use Rattle.plain_log.specs.Fetch.{in_range, fitting, run_of, stops_rightly, is_run}
 use Rattle.plain_log.specs.RowsOfLog.{offset_limit, gained, append_row, raw_row, may_open_at, opened as opened_broker}
 use Rattle.plain_log.specs.Rows.{row}
-use Rattle.plain_log.specs.Safe.{Has, RoleSafe}
+use Rattle.plain_log.specs.Safe.{HasOnPath, RoleSafe}
 use Rattle.plain_log.proofs.AppendRow.{longer_wider, longer_other, longer_same}
 use Rattle.laws_partition.specs.Seen.{Back, Node, SeenPartition}
 use Rattle.laws_partition.specs.Partition.{broker_of, stopped}
 use Rattle.laws_partition.specs.Log.{HasBytes, StopIs, with_batch}
-use Rattle.laws_partition.specs.Central.{PartitionMatches, was_taken, AreTaken}
+use Rattle.laws_partition.specs.Central.{PartitionMatches, was_taken, WereElected}
 use Rattle.laws_partition.specs.RowsOfLog.{end_with, AppendRow, RawRow, FlushRow, RollRow, IsInLog, GivesRun, FetchRow}
 use Rattle.laws_partition.specs.Rows.{MayComeBack, opened, StopRow, UpRow}
 use Rattle.laws_partition.specs.Sound.{IsBack, NodeSound}
@@ -81,15 +81,15 @@ leader_joined r e f is h = let one : Leads e ≡ Joined f = sym is ∙ h in absu
 
 -- the path that a leader appends to
 path_grows : (h : SeenPartition) (p : State) (x : Node) (e : ℕ) (placed : List ℕ) (start : ℕ) → last_entry x.log.line ≡ Some (h.registry.epoch, start) → last_epoch x.log.line ≡ Some e
-    → RoleSafe p.paths p.registry.epoch x.role x.log.batches → x.role ≡ Leads e → Has (longer p.paths e placed) h.registry.epoch (x.log.batches ++ placed ∷ [])
+    → RoleSafe p.paths p.registry.epoch x.role x.log.batches → x.role ≡ Leads e → HasOnPath (longer p.paths e placed) h.registry.epoch (x.log.batches ++ placed ∷ [])
 path_grows h p x e placed start last leads safe role =
     let epoch : Some h.registry.epoch ≡ Some e = sym (ap (option_map (λ (k : ℕ × ℕ). k.0)) last) ∙ leads in
     let same : h.registry.epoch ≡ e = cc (epoch) in
     let path = (subst (λ (r : Role). RoleSafe p.paths p.registry.epoch r x.log.batches) role safe).1 in
-    subst (λ (n : ℕ). Has (longer p.paths e placed) n (x.log.batches ++ placed ∷ [])) (sym same) (x.log.batches ++ placed ∷ [], longer_same p.paths e placed x.log.batches path, prefix_self (x.log.batches ++ placed ∷ []))
+    subst (λ (n : ℕ). HasOnPath (longer p.paths e placed) n (x.log.batches ++ placed ∷ [])) (sym same) (x.log.batches ++ placed ∷ [], longer_same p.paths e placed x.log.batches path, prefix_self (x.log.batches ++ placed ∷ []))
 
 -- what is up to an offset begins the path too
-pub cut_has : (ps : List Path) (e : ℕ) (log : List (List ℕ)) (n : ℕ) → Has ps e log → Has ps e (up_to n log)
+pub cut_has : (ps : List Path) (e : ℕ) (log : List (List ℕ)) (n : ℕ) → HasOnPath ps e log → HasOnPath ps e (up_to n log)
 cut_has ps e log n k = (k.0, k.1, prefix_trans (up_to n log) log k.0 (up_to_prefix n log) k.2)
 
 -- append
@@ -268,7 +268,7 @@ stop_allowed h p b x s other h' st w = elim w [ ]
 
 -- up
 
-pub filter_taken : (ps : List Path) (bs : List ℕ) (line : List (ℕ × ℕ)) (end : ℕ) → AreTaken ps bs line → AreTaken ps bs (cut_end line end)
+pub filter_taken : (ps : List Path) (bs : List ℕ) (line : List (ℕ × ℕ)) (end : ℕ) → WereElected ps bs line → WereElected ps bs (cut_end line end)
 filter_taken ps bs line end h =
     All-from_recursion _ (cut_end line end) (
     filter-all (λ (entry : ℕ × ℕ). nat_lt entry.1 end) (λ (entry : ℕ × ℕ). was_taken ps bs entry.0 ≡ true) (λ (entry : ℕ × ℕ). was_taken ps bs entry.0 ≡ true)
@@ -276,8 +276,8 @@ filter_taken ps bs line end h =
     )
 
 -- the lead of each epoch of the leader epochs that comes back was taken
-back_taken : (h : SeenPartition) (p : State) (b : ℕ) (x : Node) (s : Replica) (back : Back) → Standing h p b x s → MayComeBack x back → AreTaken p.paths p.broken back.1
-back_taken h p b x s back st (inl is) = subst (λ (k : Back). AreTaken p.paths p.broken k.1) (sym is) (st.lines.each b x st.at).saved_are
+back_taken : (h : SeenPartition) (p : State) (b : ℕ) (x : Node) (s : Replica) (back : Back) → Standing h p b x s → MayComeBack x back → WereElected p.paths p.broken back.1
+back_taken h p b x s back st (inl is) = subst (λ (k : Back). WereElected p.paths p.broken k.1) (sym is) (st.lines.each b x st.at).saved_are
 back_taken h p b x s back st (inr is) = (st.lines.each b x st.at).back_are back is
 
 -- and a leader's ends with its epoch

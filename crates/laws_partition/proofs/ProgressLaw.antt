@@ -33,7 +33,7 @@ use Rattle.laws_partition.specs.declared.start_snapshot.Turned.TheVariants.{Answ
 use Rattle.laws_partition.specs.Seen.{Node}
 use Rattle.laws_partition.specs.declared.actor_progress.ActorProgress.{ActorProgress}
 use Rattle.laws_partition.specs.Partition.{broker_of, recorded_of}
-use Rattle.laws_partition.specs.Central.{recorded_at, RunStands, RebuildStands, SnapshotMatches, ProgressMatches, Stands}
+use Rattle.laws_partition.specs.Central.{recorded_at, RunStands, RebuildMatches, SnapshotMatches, ProgressMatches, WorldMatches}
 use Rattle.laws_partition.specs.Turn.{IsTurn, actor_state_after}
 use Rattle.laws_partition.specs.Whole.{Whole}
 use Rattle.laws_partition.proofs.Lists.{one_list}
@@ -70,7 +70,7 @@ up_to_longer n log whole c ends p =
     ∙ sym (up_to_is 0 n ends.0 log (consecutive_prefix 0 log whole p c) ends.1 ends.2)
 
 -- and a rebuild
-rebuild_goes : (p q : State) (g : StartSnapshot) → Wider p.paths q.paths → Steady p q → ArePaths q → RebuildStands p g → RebuildStands q g
+rebuild_goes : (p q : State) (g : StartSnapshot) → Wider p.paths q.paths → Steady p q → ArePaths q → RebuildMatches p g → RebuildMatches q g
 rebuild_goes p q g w steady safe r =
     let k = w r.epoch r.path r.path_is in
     record {
@@ -166,7 +166,7 @@ begun_actor_state q l actor_state order g at next stands = record {
     some_is g f e = cc (e)
 
 -- the other actors' states are as they did
-pub desk_goes : (w : Whole) (a : ℕ) (turned : Turned) (w' : Whole) (p q : State) (y : Actor) → (t : IsTurn w a turned w') → Stands w p → q.actors ≡ put_actor p.actors t.list.actor.0 y
+pub desk_goes : (w : Whole) (a : ℕ) (turned : Turned) (w' : Whole) (p q : State) (y : Actor) → (t : IsTurn w a turned w') → WorldMatches w p → q.actors ≡ put_actor p.actors t.list.actor.0 y
     → Wider p.paths q.paths → Steady p q → ArePaths q → ProgressMatches q t.list (actor_state_after t.actor_state turned)
     → (place : ℕ) (l : ActorList) (actor_state : ActorProgress) → slice_get w'.lists place ≡ Some l → slice_get w'.desk place ≡ Some actor_state → ProgressMatches q l actor_state
 desk_goes w a turned w' p q y t st actors wide steady safe mine place l actor_state ll ss =

@@ -26,7 +26,7 @@ use Rattle.plain_log.proofs.Ends.{log_prefix}
 use Rattle.laws_partition.specs.declared.start_snapshot.StartSnapshot.{StartSnapshot}
 use Rattle.laws_partition.specs.Seen.{Back, Node, SeenPartition}
 use Rattle.laws_partition.specs.Partition.{broker_of, recorded_of, put_node}
-use Rattle.laws_partition.specs.Central.{AreTaken, RebuildStands}
+use Rattle.laws_partition.specs.Central.{WereElected, RebuildMatches}
 use Rattle.laws_partition.specs.RowsOfFollowers.{IsStale, GoesOn, IsAsCut, MayRebuild, JoinOnRow, rebuilt, unbuilt}
 use Rattle.laws_partition.proofs.Lines.{cut_at_line}
 use Rattle.laws_partition.proofs.BoolTests.{some_of, and_true, not_false, when_true, eq_same, eq_differs, lt_true, lt_false, le_false}
@@ -37,7 +37,7 @@ use Rattle.laws_partition.proofs.FollowOnRows.{goes_true}
 
 -- what holds of a join that has begun
 pub record Rebuilding (p : State) (x : Node) (order : Order) (g : StartSnapshot) : Type 0 where
-  pub run : RebuildStands p g
+  pub run : RebuildMatches p g
   pub recorded : HasJoined p.registry.epoch (recorded_of order g) (broker_of x)
 
 -- what the log is restarted as: the path up to the wanted point, which the leader has
@@ -198,7 +198,7 @@ unbuild_allowed h p b x y s order g n h' st o may is same =
       sound = node_unbuilt x whole n line.sound w;
       paths_are = λ _. taken;
       saved_are = λ _. line.saved_are;
-      back_are = λ _ back b. (let one : (n, line_of whole, n) ≡ back = cc (b) in subst (λ (k : Back). AreTaken p.paths p.broken k.1) one taken);
+      back_are = λ _ back b. (let one : (n, line_of whole, n) ≡ back = cc (b) in subst (λ (k : Back). WereElected p.paths p.broken k.1) one taken);
       joined = λ f j. absurd cc;
       leader = λ it. absurd (o.now_is.other it);
       followers = λ f. o.now_is.other;

@@ -19,11 +19,11 @@ use Rattle.plain_log.specs.declared.state.Role.TheVariants.{Idle, Leads, Follows
 use Rattle.plain_log.specs.declared.state.State.{State}
 use Rattle.plain_log.specs.State.{path_of, followed, is_in}
 use Rattle.plain_log.specs.Rows.{row}
-use Rattle.plain_log.specs.Safe.{Has, LogSafe, RoleSafe, PlainSafe}
+use Rattle.plain_log.specs.Safe.{HasOnPath, LogSafe, RoleSafe, PlainSafe}
 use Rattle.plain_log.proofs.Wider.{Wider}
 use Rattle.laws_partition.specs.Seen.{Back, Node, SeenPartition}
 use Rattle.laws_partition.specs.Partition.{broker_of, put_node}
-use Rattle.laws_partition.specs.Central.{PartitionMatches, was_taken, AreTaken, LineStands, LeaderStands, LinesStand}
+use Rattle.laws_partition.specs.Central.{PartitionMatches, was_taken, WereElected, LineStands, LeaderStands, LinesStand}
 use Rattle.laws_partition.specs.Sound.{NodeSound}
 use Rattle.laws_partition.proofs.RegistryLaw.{IsNext, IsSameEpoch, Moves}
 
@@ -140,7 +140,7 @@ taken_wide ps qs bs cs e w k h = elim (by_taken ps bs e h) [
   | inr off ↦ broken_taken qs cs e (k e off)
 ]
 
-pub line_wide : (ps qs : List Path) (bs cs : List ℕ) (line : List (ℕ × ℕ)) → Wider ps qs → Keeps bs cs → AreTaken ps bs line → AreTaken qs cs line
+pub line_wide : (ps qs : List Path) (bs cs : List ℕ) (line : List (ℕ × ℕ)) → Wider ps qs → Keeps bs cs → WereElected ps bs line → WereElected qs cs line
 line_wide ps qs bs cs line w k h = λ i d lt. taken_wide ps qs bs cs _ w k (h i d lt)
 
 after_taken : (paths : List Path) (broken : List ℕ) (front : List (List ℕ)) (e : ℕ) (log whole : List (List ℕ)) → front ++ log ≡ whole → LogSafe paths whole
@@ -166,11 +166,11 @@ own_taken paths broken (batch ∷ log) s =
     let has = s.matching [] batch (log, refl) in
     (path_taken paths broken (epoch_of batch) (rw has.1 refl), after_taken paths broken (batch ∷ []) (epoch_of batch) log (batch ∷ log) refl s)
 
-pub log_taken : (paths : List Path) (broken : List ℕ) (log : List (List ℕ)) → LogSafe paths log → AreTaken paths broken (line_of log)
+pub log_taken : (paths : List Path) (broken : List ℕ) (log : List (List ℕ)) → LogSafe paths log → WereElected paths broken (line_of log)
 log_taken paths broken log s = All-from_recursion _ (line_of log) (own_taken paths broken log s)
 
-pub line_taken : (paths : List Path) (broken : List ℕ) (line : List (ℕ × ℕ)) (log : List (List ℕ)) → line ≡ line_of log → LogSafe paths log → AreTaken paths broken line
-line_taken paths broken line log is s = subst (AreTaken paths broken) (sym is) (log_taken paths broken log s)
+pub line_taken : (paths : List Path) (broken : List ℕ) (line : List (ℕ × ℕ)) (log : List (List ℕ)) → line ≡ line_of log → LogSafe paths log → WereElected paths broken line
+line_taken paths broken line log is s = subst (WereElected paths broken) (sym is) (log_taken paths broken log s)
 
 -- the leader epochs of the nodes, after a node has changed
 pub record Puts (h : SeenPartition) (p q : State) (b : ℕ) (x y : Node) : Type 0 where
@@ -181,16 +181,16 @@ pub record Puts (h : SeenPartition) (p q : State) (b : ℕ) (x y : Node) : Type 
   pub broken : Keeps p.broken q.broken
   pub keys : h.registry.leader.0 ≢ b → is_some (path_of q.paths h.registry.epoch) ≡ true → is_some (path_of p.paths h.registry.epoch) ≡ true
   pub sound : NodeSound y
-  pub paths_are : LogsSafe q → AreTaken q.paths q.broken y.log.line
-  pub saved_are : LogsSafe q → AreTaken q.paths q.broken y.saved
-  pub back_are : LogsSafe q → (back : Back) → y.loose ≡ Some back → AreTaken q.paths q.broken back.1
+  pub paths_are : LogsSafe q → WereElected q.paths q.broken y.log.line
+  pub saved_are : LogsSafe q → WereElected q.paths q.broken y.saved
+  pub back_are : LogsSafe q → (back : Back) → y.loose ≡ Some back → WereElected q.paths q.broken back.1
   pub joined : (e : ℕ) → y.role ≡ Joined e → y.log.line ≡ line_of y.log.batches
   pub leader : h.registry.leader.0 ≡ b → LeaderStands q.paths h.registry.epoch y
   pub followers : followed y.role ≡ Some h.registry.epoch → h.registry.leader.0 ≢ b
   pub steady : h.registry.leader.0 ≡ b → x.flushed_end ≤ y.flushed_end
 
 -- what begins a path begins a longer one
-begins_wide : (ps qs : List Path) (e : ℕ) (log : List (List ℕ)) → Wider ps qs → Has ps e log → Has qs e log
+begins_wide : (ps qs : List Path) (e : ℕ) (log : List (List ℕ)) → Wider ps qs → HasOnPath ps e log → HasOnPath qs e log
 begins_wide ps qs e log w k = let m = w e k.0 k.1 in (m.0, m.1, prefix_trans log k.0 m.0 k.2 m.2)
 
 pub lines_put : (h : SeenPartition) (ps qs : List Path) (bs cs : List ℕ) (b : ℕ) (y : Node) → LinesStand h ps bs → Wider ps qs → Keeps bs cs

@@ -22,7 +22,7 @@ use Rattle.laws_partition.specs.declared.start_snapshot.Turned.TheVariants.{Answ
 use Rattle.laws_partition.specs.Seen.{Node, SeenPartition}
 use Rattle.laws_partition.specs.Partition.{broker_of, recorded_of}
 use Rattle.laws_partition.specs.Central.{PartitionMatches}
-use Rattle.laws_partition.specs.RowsOfTiers.{KeepsLead, GoesLeading, LeadersRow, CopyRow, CopyOnRow, ExpireOnRow, Raises, FetchBegins, Serves, FetchOnRow}
+use Rattle.laws_partition.specs.RowsOfTiers.{KeepsLead, GoesLeading, LeadersRow, CopyRow, CopyOnRow, ExpireOnRow, Raises, FetchBegins, ServesCommitted, FetchOnRow}
 use Rattle.laws_partition.proofs.BoolTests.{some_of, and_true, not_false, when_true, eq_same, le_true, lt_true}
 use Rattle.laws_partition.proofs.RegistryLaw.{raise_moves}
 use Rattle.laws_partition.proofs.Standing.{Standing, Allowed, silent, leaves}
@@ -165,7 +165,7 @@ expire_on_allowed h p b x s order g other h' st up w = elim w [ ]
 pub fetch_gives : (h : SeenPartition) (p : State) (x : Node) (offset : ℕ) (g : StartSnapshot) (h' : SeenPartition) → PartitionMatches h p → FetchBegins h x offset g h' → gives_run p (broker_of x) offset None ≡ true
 fetch_gives h p x offset g h' st w = and_true _ _ (and_true _ _ (and_true _ _ w.0 w.1) (in_range_of h p x offset st w.2)) (lt_true offset x.known_high_watermark w.3)
 
-serving : (h : SeenPartition) (p : State) (x : Node) (order : Order) (g : StartSnapshot) (offset : ℕ) → PartitionMatches h p → (e : ℕ) × (g.role ≡ Leads e) → Serves h x g offset
+serving : (h : SeenPartition) (p : State) (x : Node) (order : Order) (g : StartSnapshot) (offset : ℕ) → PartitionMatches h p → (e : ℕ) × (g.role ≡ Leads e) → ServesCommitted h x g offset
     → gives_run p (broker_of x) offset (Some (recorded_of order g)) ≡ true
 serving h p x order g offset st lead w = and_true _ _ (and_true _ _ (served x order g lead w.keeps) (in_range_of h p x offset st w.within)) (lt_true offset x.known_high_watermark w.below)
 

@@ -13,7 +13,7 @@ use Rattle.laws_partition.specs.declared.start_snapshot.StartSnapshot.{StartSnap
 use Rattle.laws_partition.specs.declared.start_snapshot.Turned.TheVariants.{Answers}
 use Rattle.laws_partition.specs.Seen.{Node, SeenPartition}
 use Rattle.laws_partition.specs.Partition.{broker_of, recorded_of, kept_line}
-use Rattle.laws_partition.specs.RowsOfLog.{MayBegin, TrimRow, TrimOnRow}
+use Rattle.laws_partition.specs.RowsOfLog.{MayStartAt, TrimRow, TrimOnRow}
 use Rattle.laws_partition.proofs.BoolTests.{and_true, not_false, when_true, eq_same, eq_differs}
 use Rattle.laws_partition.proofs.Lines.{cut_whole}
 use Rattle.laws_partition.proofs.NodeLaw.{none_back, trim_back, node_trimmed}
@@ -27,7 +27,7 @@ kept_last h p b x s entry st is le =
     let l = st.lines.each b x st.at in
     ap last_entry (cut_whole x.log.line entry (x.flushed_end + 1) l.sound.log.rises is (omega (arith, le))) ∙ is
 
-trim_puts : (h : SeenPartition) (p : State) (b : ℕ) (x : Node) (s : Replica) (start : ℕ) → Standing h p b x s → x.up ≡ true → MayBegin x start → Puts h p p b x (record x { local = start; saved = kept_line x })
+trim_puts : (h : SeenPartition) (p : State) (b : ℕ) (x : Node) (s : Replica) (start : ℕ) → Standing h p b x s → x.up ≡ true → MayStartAt x start → Puts h p p b x (record x { local = start; saved = kept_line x })
 trim_puts h p b x s start st up may =
     let l = st.lines.each b x st.at in
     record {
@@ -50,7 +50,7 @@ trim_puts h p b x s start st up may =
     }
 
 -- a trim that fails may have dropped the segment
-trim_told : (h : SeenPartition) (p : State) (b : ℕ) (x : Node) (s : Replica) (start : ℕ) → Standing h p b x s → MayBegin x start → IsTold p x (x.flushed_end, kept_line x, start)
+trim_told : (h : SeenPartition) (p : State) (b : ℕ) (x : Node) (s : Replica) (start : ℕ) → Standing h p b x s → MayStartAt x start → IsTold p x (x.flushed_end, kept_line x, start)
 trim_told h p b x s start st may =
     let l = st.lines.each b x st.at in
     record {

@@ -20,7 +20,7 @@ use Rattle.plain_log.specs.State.{actor_at, path_of, followed, is_in}
 use Rattle.plain_log.specs.Fetch.{is_within}
 use Rattle.plain_log.specs.Orders.{AreRising}
 use Rattle.plain_log.specs.Runs.{replay}
-use Rattle.plain_log.specs.Safe.{Has, PlainSafe}
+use Rattle.plain_log.specs.Safe.{HasOnPath, PlainSafe}
 use Rattle.laws_partition.specs.declared.start_snapshot.StartSnapshot.{StartSnapshot}
 use Rattle.laws_partition.specs.Seen.{Back, Node, SeenPartition}
 use Rattle.laws_partition.specs.declared.actor_progress.ActorProgress.{ActorProgress}
@@ -44,16 +44,16 @@ abbrev pub was_taken : List Path → List ℕ → ℕ → Bool
 was_taken paths broken e = is_some (path_of paths e) || is_in e broken
 
 -- the lead of each epoch of the line was
-abbrev pub AreTaken : List Path → List ℕ → List (ℕ × ℕ) → Type 0
-AreTaken paths broken line = All (λ entry. was_taken paths broken entry.0 ≡ true) line
+abbrev pub WereElected : List Path → List ℕ → List (ℕ × ℕ) → Type 0
+WereElected paths broken line = All (λ entry. was_taken paths broken entry.0 ≡ true) line
 
 -- a node's line is its log's; the lead of each of its epochs was taken, also of the leader epochs that may come back;
 -- and that of a follower that has joined has none beyond its log's
 pub record LineStands (paths : List Path) (broken : List ℕ) (x : Node) : Type 0 where
   pub sound : NodeSound x
-  pub paths_are : AreTaken paths broken x.log.line
-  pub saved_are : AreTaken paths broken x.saved
-  pub back_are : (back : Back) → x.loose ≡ Some back → AreTaken paths broken back.1
+  pub paths_are : WereElected paths broken x.log.line
+  pub saved_are : WereElected paths broken x.saved
+  pub back_are : (back : Back) → x.loose ≡ Some back → WereElected paths broken back.1
   pub joined : (e : ℕ) → x.role ≡ Joined e → x.log.line ≡ line_of x.log.batches
 
 -- the leader of the registry's epoch, once it has led it: its leader epochs end with that epoch, from a flushed offset
@@ -62,7 +62,7 @@ abbrev pub LeaderStands : List Path → ℕ → Node → Type 0
 LeaderStands paths epoch x = is_some (path_of paths epoch) ≡ true
     → (start : ℕ) × (last_entry x.log.line ≡ Some (epoch, start)) × (last_entry x.saved ≡ Some (epoch, start))
     × (start ≤ x.flushed_end) × ((back : Back) → x.loose ≡ Some back → last_entry back.1 ≡ Some (epoch, start))
-    × Has paths epoch x.log.batches
+    × HasOnPath paths epoch x.log.batches
 
 -- the leader epochs of the nodes; and no follower of the registry's epoch is its leader
 pub record LinesStand (h : SeenPartition) (paths : List Path) (broken : List ℕ) : Type 0 where
@@ -88,7 +88,7 @@ pub record RunStands (paths : List Path) (limit : ℕ) (g : StartSnapshot) : Typ
 
 -- a rebuild that a join has begun: the path that it follows has an end at the wanted point, past the log's, and the
 -- line is the path's up to there; and the leader has that much flushed while its epoch is the registry's
-pub record RebuildStands (p : State) (g : StartSnapshot) : Type 0 where
+pub record RebuildMatches (p : State) (g : StartSnapshot) : Type 0 where
   pub epoch : ℕ
   pub role : g.role ≡ Joined epoch
   pub path : List (List ℕ)
@@ -101,7 +101,7 @@ pub record RebuildStands (p : State) (g : StartSnapshot) : Type 0 where
 -- what is kept of a command that has begun
 abbrev pub SnapshotMatches : State → Command → StartSnapshot → Type 0
 SnapshotMatches p (Follow limit) g = RunStands p.paths limit g
-SnapshotMatches p Join g = RebuildStands p g
+SnapshotMatches p Join g = RebuildMatches p g
 SnapshotMatches p Trim g = Unit {0}
 SnapshotMatches p Copy g = Unit {0}
 SnapshotMatches p Expire g = Unit {0}
@@ -120,7 +120,7 @@ pub record ProgressMatches (p : State) (l : ActorList) (actor_state : ActorProgr
       → (order : Order) × (slice_get l.orders actor_state.number ≡ Some order) × SnapshotMatches p order.command g
 
 -- the world's registry, nodes and desk are those of a state of the plain log
-pub record Stands (w : Whole) (p : State) : Type 0 where
+pub record WorldMatches (w : Whole) (p : State) : Type 0 where
   pub held : PartitionMatches w.held p
   pub lines : LinesStand w.held p.paths p.broken
   pub desk : (place : ℕ) (l : ActorList) (actor_state : ActorProgress) → slice_get w.lists place ≡ Some l → slice_get w.desk place ≡ Some actor_state
@@ -133,7 +133,7 @@ pub record IsCentral (opening : State) (w : Whole) : Type 0 where
   pub plain : State
   pub replays : replay w.lists opening w.journal.items ≡ Some plain
   pub safe : PlainSafe plain
-  pub stands : Stands w plain
+  pub stands : WorldMatches w plain
 
 -- for each opening state the central fact continues
 abbrev pub KeepsCentral : Whole → Whole → Type 0

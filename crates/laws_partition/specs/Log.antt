@@ -38,8 +38,8 @@ entered line e base = line_or_more (last_epoch line)
     line_or_more (Some last) = if last == e then line else assign line e base
 
 -- no epoch of the line is above this one
-abbrev pub MayTake : List (ℕ × ℕ) → ℕ → Type 0
-MayTake line e = ForSome (last_epoch line) (λ last. last ≤ e)
+abbrev pub MayTakeEpoch : List (ℕ × ℕ) → ℕ → Type 0
+MayTakeEpoch line e = ForSome (last_epoch line) (λ last. last ≤ e)
 
 -- the log with a batch at its end
 abbrev pub with_batch : Lined → List ℕ → Lined

@@ -22,7 +22,7 @@ use Rattle.plain_log.specs.State.{followed, joined}
 use Rattle.laws_partition.specs.declared.start_snapshot.StartSnapshot.{StartSnapshot}
 use Rattle.laws_partition.specs.Seen.{Back, Node, SeenPartition}
 use Rattle.laws_partition.specs.Partition.{AtNode, put_node, the_leader, back_of, broken, torn}
-use Rattle.laws_partition.specs.Log.{IsRunOf, MayTake, cut_at, with_batches, epoch_in}
+use Rattle.laws_partition.specs.Log.{IsRunOf, MayTakeEpoch, cut_at, with_batches, epoch_in}
 use Rattle.laws_partition.specs.declared.start_snapshot.Turned.{Turned}
 use Rattle.laws_partition.specs.declared.start_snapshot.Turned.TheVariants.{Answers, Begins}
 
@@ -98,7 +98,7 @@ pub record CanExtend (x : Node) (g : StartSnapshot) : Type 0 where
   pub are : All (λ batch. IsOk (checked batch)) g.batches
   pub epoch : ℕ
   pub first : epoch_in g.batches ≡ Some epoch
-  pub may : MayTake x.log.line epoch
+  pub may : MayTakeEpoch x.log.line epoch
   pub follow : IsConsecutive g.end g.batches
   pub same : All (λ batch. Some (epoch_of batch) ≡ epoch_in g.batches) g.batches
   pub fits : epoch < 2 ^ 31

@@ -69,7 +69,7 @@ RollRow h b x (OkAt n) h' = (x.up ≡ true) × (n ≡ end_of x.log.batches) × (
 RollRow h b x other h' = ⊥
 
 -- the local log may begin at this offset instead: it is an end of the log, and flushed
-pub record MayBegin (x : Node) (start : ℕ) : Type 0 where
+pub record MayStartAt (x : Node) (start : ℕ) : Type 0 where
   pub flushed_end : start ≤ x.flushed_end
   pub ends : EndsAt start x.log.batches
 
@@ -92,8 +92,8 @@ abbrev pub TrimOnRow : SeenPartition → ℕ → Node → StartSnapshot → Answ
 TrimOnRow h b x g Stopped h' = (g.stops ≢ x.stops) × (h' ≡ h)
 TrimOnRow h b x g Kept h' = (g.stops ≡ x.stops) × (h' ≡ h)
 TrimOnRow h b x g DiskFault h' = (g.stops ≡ x.stops) × (x.up ≡ true)
-    × ((start : ℕ) × MayBegin x start × (h' ≡ put_node h b (broken x (x.flushed_end, kept_line x, start))))
-TrimOnRow h b x g (Dropped base last) h' = (g.stops ≡ x.stops) × (x.up ≡ true) × (base ≡ x.local) × MayBegin x (last + 1)
+    × ((start : ℕ) × MayStartAt x start × (h' ≡ put_node h b (broken x (x.flushed_end, kept_line x, start))))
+TrimOnRow h b x g (Dropped base last) h' = (g.stops ≡ x.stops) × (x.up ≡ true) × (base ≡ x.local) × MayStartAt x (last + 1)
     × (h' ≡ put_node h b (record x { local = last + 1; saved = kept_line x }))
 TrimOnRow h b x g other h' = ⊥
 

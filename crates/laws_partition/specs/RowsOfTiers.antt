@@ -78,7 +78,7 @@ FetchBegins h x offset g h' =
     (x.up ≡ true) × (leads x.role ≡ true) × IsInLog h x offset × (offset < x.known_high_watermark) × (offset < x.local) × Notes h x g × (h' ≡ h)
 
 -- the broker leads as it did, and knows that the offset is committed
-pub record Serves (h : SeenPartition) (x : Node) (g : StartSnapshot) (offset : ℕ) : Type 0 where
+pub record ServesCommitted (h : SeenPartition) (x : Node) (g : StartSnapshot) (offset : ℕ) : Type 0 where
   pub keeps : KeepsLead x g
   pub within : IsInLog h x offset
   pub below : offset < x.known_high_watermark
@@ -92,8 +92,8 @@ FetchOnRow h x offset limit g (OutOfRange start end) h' =
 FetchOnRow h x offset limit g Empty h' =
     KeepsLead x g × IsInLog h x offset × (x.known_high_watermark ≤ offset) × (h' ≡ h)
 FetchOnRow h x offset limit g (Run tier size stop bytes) h' =
-    Serves h x g offset × GivesRun x offset limit size stop bytes × (h' ≡ h)
-FetchOnRow h x offset limit g MetaFault h' = Serves h x g offset × (h' ≡ h)
-FetchOnRow h x offset limit g StoreFault h' = Serves h x g offset × (h' ≡ h)
-FetchOnRow h x offset limit g (Damaged place at) h' = Serves h x g offset × (h' ≡ h)
+    ServesCommitted h x g offset × GivesRun x offset limit size stop bytes × (h' ≡ h)
+FetchOnRow h x offset limit g MetaFault h' = ServesCommitted h x g offset × (h' ≡ h)
+FetchOnRow h x offset limit g StoreFault h' = ServesCommitted h x g offset × (h' ≡ h)
+FetchOnRow h x offset limit g (Damaged place at) h' = ServesCommitted h x g offset × (h' ≡ h)
 FetchOnRow h x offset limit g other h' = ⊥

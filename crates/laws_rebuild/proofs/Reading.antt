@@ -30,7 +30,7 @@ use Rattle.plain_log.specs.declared.answer.Place.{Place}
 use Rattle.plain_log.specs.Safe.{PlainSafe}
 use Rattle.plain_log.specs.State.{path_of}
 use Rattle.laws_partition.proofs.Lines.{cut_line}
-use Rattle.remote_view.specs.Fold.{Seen, entry_of, fold, AreKept, AreDistinct}
+use Rattle.remote_view.specs.Fold.{EntriesSeen, entry_of, fold, AreEntriesValid, AreDistinct}
 use Rattle.remote_view.specs.Lookup.{is_readable, is_epoch, covers}
 use Rattle.remote_view.proofs.Changes.{found_id}
 use Rattle.remote_find.specs.declared.piece.Piece.{Piece}
@@ -40,7 +40,7 @@ use Rattle.rebuild_task.specs.declared.turn.RebuildRequest.{RebuildRequest}
 use Rattle.rebuild_task.specs.declared.turn.RebuildStep.TheVariants.{Restart}
 use Rattle.rebuild_task.specs.declared.turn.RebuildTurn.{RebuildTurn}
 use Rattle.rebuild_task.specs.declared.turn.RebuildTurn.TheVariants.{Goes, Ends}
-use Rattle.rebuild_task.specs.Turns.{spot_in, epochs_of, TakesBytes, Takes, ReadsEpochs, EpochsRow, RebuildRow}
+use Rattle.rebuild_task.specs.Turns.{spot_in, epochs_of, TakesBytes, TakesEpochs, ReadsEpochs, EpochsRow, RebuildRow}
 use Rattle.tier_safe.specs.Scene.{BrokerTierView, Rebuild, Rebuilds, Scene}
 use Rattle.tier_safe.specs.Safe.{TierSafe}
 use Rattle.tier_safe.specs.Kept.{whole_of}
@@ -75,7 +75,7 @@ pub record Going (c : Scene) (p : Plain) (rebuild : Rebuild) (line : List (ℕ �
   pub line_is : line ≡ line_of front
   pub last : epoch_at line (rebuild.wanted - 1) ≡ epoch_holding front (rebuild.wanted - 1)
 
-going : (c : Scene) (p : Plain) (a : ℕ) (rebuild : Rebuild) (tier_view : BrokerTierView) (wanted : RebuildRequest) (line : List (ℕ × ℕ)) (objects : store.Content) (view : Seen)
+going : (c : Scene) (p : Plain) (a : ℕ) (rebuild : Rebuild) (tier_view : BrokerTierView) (wanted : RebuildRequest) (line : List (ℕ × ℕ)) (objects : store.Content) (view : EntriesSeen)
     → (h : IsToRead c p a rebuild tier_view wanted line objects view) → Going c p rebuild line (h.safe.tier.rebuilds a rebuild h.actor_state).front
 going c p a rebuild tier_view wanted line objects view h =
     let k = h.safe.tier.rebuilds a rebuild h.actor_state in
@@ -100,7 +100,7 @@ covers_so e o entry done low high at =
 
 -- the rebuild's piece is found in its broker's view, and is of a copy that reads so, whose epochs exist where the view
 -- places them
-pub record Found (c : Scene) (p : Plain) (rebuild : Rebuild) (wanted : RebuildRequest) (line : List (ℕ × ℕ)) (view : Seen) (front : List (List ℕ)) : Type 0 where
+pub record Found (c : Scene) (p : Plain) (rebuild : Rebuild) (wanted : RebuildRequest) (line : List (ℕ × ℕ)) (view : EntriesSeen) (front : List (List ℕ)) : Type 0 where
   pub piece : Piece
   pub there : piece_at view.entries line wanted.offset (wanted.offset - 1) ≡ Some piece
   pub reads : RebuildReads c p front rebuild.wanted piece.id
@@ -117,7 +117,7 @@ seen_spot partition id seen entry spot f done of is at =
     rw (packed, custom, ← of, ← is) at
 
 -- the wanted offset is at most 2^62: a finished copy has the one before
-wanted_low : (c : Scene) (p : Plain) (a : ℕ) (rebuild : Rebuild) (tier_view : BrokerTierView) (wanted : RebuildRequest) (line : List (ℕ × ℕ)) (objects : store.Content) (view : Seen)
+wanted_low : (c : Scene) (p : Plain) (a : ℕ) (rebuild : Rebuild) (tier_view : BrokerTierView) (wanted : RebuildRequest) (line : List (ℕ × ℕ)) (objects : store.Content) (view : EntriesSeen)
     → IsToRead c p a rebuild tier_view wanted line objects view → rebuild.wanted ≤ 2 ^ 62
 wanted_low c p a rebuild tier_view wanted line objects view h =
     let k = h.safe.tier.rebuilds a rebuild h.actor_state in
@@ -127,7 +127,7 @@ wanted_low c p a rebuild tier_view wanted line objects view h =
     let d = (h.safe.tier.finished there.covers.id there.covers.entry there.covers.there t.finished).describes in
     omega (arith, below, t.to, d.last_is, d.is.low)
 
-found : (c : Scene) (p : Plain) (a : ℕ) (rebuild : Rebuild) (tier_view : BrokerTierView) (wanted : RebuildRequest) (line : List (ℕ × ℕ)) (objects : store.Content) (view : Seen)
+found : (c : Scene) (p : Plain) (a : ℕ) (rebuild : Rebuild) (tier_view : BrokerTierView) (wanted : RebuildRequest) (line : List (ℕ × ℕ)) (objects : store.Content) (view : EntriesSeen)
     → (h : IsToRead c p a rebuild tier_view wanted line objects view) → Found c p rebuild wanted line view (h.safe.tier.rebuilds a rebuild h.actor_state).front
 found c p a rebuild tier_view wanted line objects view h =
     let tier = h.safe.tier in
@@ -140,7 +140,7 @@ found c p a rebuild tier_view wanted line objects view h =
     let low = wanted_low c p a rebuild tier_view wanted line objects view h in
     let rises : IsLine line = subst IsLine (sym g.line_is) (safe_rises p k.front h.safe.plain safe (omega (arith, k.ends, low))) in
     let lies = piece_lies tier_view.view.entries line rebuild.wanted (rebuild.wanted - 1) f.0
-    (subst (λ (w : Seen). AreKept w.entries) (sym v.is) right.0) (subst (λ (w : Seen). AreDistinct w.entries) (sym v.is) right.1) rises f.1 in
+    (subst (λ (w : EntriesSeen). AreEntriesValid w.entries) (sym v.is) right.0) (subst (λ (w : EntriesSeen). AreDistinct w.entries) (sym v.is) right.1) rises f.1 in
     let e = lies.0 in
     let entry = lies.1 in
     let of = lies.2 in
@@ -148,7 +148,7 @@ found c p a rebuild tier_view wanted line objects view h =
     let here = covers_so e last entry of.readable (omega (arith, of.within.0, of.holds.0)) (omega (arith, of.within.1, of.holds.1)) (of.of_copy last of.holds.0 of.holds.1) in
     let reads = rebuilds_served c p a rebuild tier_view f.0.id entry e h.safe h.actor_state h.tier_view_is h.below of.copy here (sym g.last ∙ of.of_line last of.holds.0 of.holds.1) in
     let own = reads.entry in
-    let y = prefix_goes v.before c.notes f.0.id entry v.begins (subst (λ (w : Seen). entry_of f.0.id w.entries ≡ Some entry) v.is of.copy) in
+    let y = prefix_goes v.before c.notes f.0.id entry v.begins (subst (λ (w : EntriesSeen). entry_of f.0.id w.entries ≡ Some entry) v.is of.copy) in
     let one : y.0 ≡ own = one_some (entry_of f.0.id (fold c.notes)) y.0 own y.1 reads.there in
     let done = readable entry.state of.readable in
     let has = held_placed c.objects p.paths own EpochsPart tt reads.held in
@@ -156,10 +156,10 @@ found c p a rebuild tier_view wanted line objects view h =
     seen_spot wanted.partition f.0.id entry own has.spot (subst (Follows entry) one y.2) (λ snapshot. absurd (cc (done, snapshot))) (reads.partition ∙ sym h.partition) (found_id f.0.id (fold c.notes) own reads.there) has.is in
     record {
       piece = f.0;
-      there = subst (λ (n : ℕ). piece_at view.entries line n (n - 1) ≡ Some f.0) (sym h.offset) (subst (λ (w : Seen). piece_at w.entries line rebuild.wanted last ≡ Some f.0) h.view_is f.1);
+      there = subst (λ (n : ℕ). piece_at view.entries line n (n - 1) ≡ Some f.0) (sym h.offset) (subst (λ (w : EntriesSeen). piece_at w.entries line rebuild.wanted last ≡ Some f.0) h.view_is f.1);
       reads = reads;
       spot = has.spot;
-      place = subst (λ (w : Seen). epochs_of wanted.partition w.entries (Some f.0) ≡ Some has.spot) h.view_is (ap (spot_in wanted.partition f.0.id) of.copy ∙ at);
+      place = subst (λ (w : EntriesSeen). epochs_of wanted.partition w.entries (Some f.0) ≡ Some has.spot) h.view_is (ap (spot_in wanted.partition f.0.id) of.copy ∙ at);
       placed = subst (IsPlaced c.objects has.spot) (epochs_are c.objects p own reads.held) has.placed;
     }
 
@@ -175,13 +175,13 @@ none_lacks objects spot text bytes is k = ap (short_of spot) is ∙ not_short sp
 
 module _ {S : Type 0} (objects : S → store.Content) (calls : S → Control store_call.call_code) where
   -- the row, of the place where they are
-  at_place : (c : Scene) (p : Plain) (rebuild : Rebuild) (wanted : RebuildRequest) (line : List (ℕ × ℕ)) (view : Seen) (front : List (List ℕ)) (turn : RebuildTurn) (old new : S)
+  at_place : (c : Scene) (p : Plain) (rebuild : Rebuild) (wanted : RebuildRequest) (line : List (ℕ × ℕ)) (view : EntriesSeen) (front : List (List ℕ)) (turn : RebuildTurn) (old new : S)
       → (f : Found c p rebuild wanted line view front) → RebuildRow objects calls wanted line view (Ok turn) old new → ReadsEpochs objects calls wanted.offset f.spot (Ok turn) old new
   at_place c p rebuild wanted line view front turn old new f row =
       subst (λ (o : Option Spot). EpochsRow objects calls wanted.offset view o (Ok turn) old new) (ap (epochs_of wanted.partition view.entries) f.there ∙ f.place) row
 
   -- what a store gives of them
-  text_given : (c : Scene) (p : Plain) (a : ℕ) (rebuild : Rebuild) (tier_view : BrokerTierView) (wanted : RebuildRequest) (line : List (ℕ × ℕ)) (view : Seen) (front : List (List ℕ)) (given : Option (List ℕ)) (old new : S)
+  text_given : (c : Scene) (p : Plain) (a : ℕ) (rebuild : Rebuild) (tier_view : BrokerTierView) (wanted : RebuildRequest) (line : List (ℕ × ℕ)) (view : EntriesSeen) (front : List (List ℕ)) (given : Option (List ℕ)) (old new : S)
       → IsToRead c p a rebuild tier_view wanted line (objects old) view → (f : Found c p rebuild wanted line view front) → Gets objects calls f.spot.key (all_of f.spot) (Ok given) old new
       → given ≡ Some (text_of (line_of (whole_of f.reads.held)))
   text_given c p a rebuild tier_view wanted line view front given old new h f gets =
@@ -189,16 +189,16 @@ module _ {S : Type 0} (objects : S → store.Content) (calls : S → Control sto
       given_text (objects old).objects f.spot text given (gets.bytes h.is_observable) (subst (λ (o : store.Objects). IsPlaced o f.spot text) h.objects_are f.placed)
 
   -- of bytes that are given none are lacking
-  taken : (c : Scene) (p : Plain) (rebuild : Rebuild) (wanted : RebuildRequest) (line : List (ℕ × ℕ)) (view : Seen) (front : List (List ℕ)) (given : List ℕ) (result : Result RebuildTurn AllocError)
-      → (f : Found c p rebuild wanted line view front) → given ≡ text_of (line_of (whole_of f.reads.held)) → Takes wanted.offset f.spot (Ok (Some given)) result
+  taken : (c : Scene) (p : Plain) (rebuild : Rebuild) (wanted : RebuildRequest) (line : List (ℕ × ℕ)) (view : EntriesSeen) (front : List (List ℕ)) (given : List ℕ) (result : Result RebuildTurn AllocError)
+      → (f : Found c p rebuild wanted line view front) → given ≡ text_of (line_of (whole_of f.reads.held)) → TakesEpochs wanted.offset f.spot (Ok (Some given)) result
       → TakesBytes None wanted.offset f.spot given result
   taken c p rebuild wanted line view front given result f is k =
       subst (λ (end : Option ℕ). TakesBytes end wanted.offset f.spot given result) (none_lacks c.objects f.spot (text_of (line_of (whole_of f.reads.held))) given is f.placed) k
 
   -- what is taken of it
-  reads_path : (c : Scene) (p : Plain) (a : ℕ) (rebuild : Rebuild) (tier_view : BrokerTierView) (wanted : RebuildRequest) (line read : List (ℕ × ℕ)) (view : Seen) (old new : S)
+  reads_path : (c : Scene) (p : Plain) (a : ℕ) (rebuild : Rebuild) (tier_view : BrokerTierView) (wanted : RebuildRequest) (line read : List (ℕ × ℕ)) (view : EntriesSeen) (old new : S)
       → (h : IsToRead c p a rebuild tier_view wanted line (objects old) view) → (f : Found c p rebuild wanted line view (h.safe.tier.rebuilds a rebuild h.actor_state).front)
-      → (answer : Result (Option (List ℕ)) Trouble) → Gets objects calls f.spot.key (all_of f.spot) answer old new → Takes wanted.offset f.spot answer (Ok (Goes (Restart read))) → read ≡ line
+      → (answer : Result (Option (List ℕ)) Trouble) → Gets objects calls f.spot.key (all_of f.spot) answer old new → TakesEpochs wanted.offset f.spot answer (Ok (Goes (Restart read))) → read ≡ line
   reads_path c p a rebuild tier_view wanted line read view old new h f (Err Failed) gets k = absurd (cc (k))
   reads_path c p a rebuild tier_view wanted line read view old new h f (Err NoMemory) gets k = absurd (cc (k))
   reads_path c p a rebuild tier_view wanted line read view old new h f (Ok None) gets k = absurd (cc (k))
@@ -225,9 +225,9 @@ module _ {S : Type 0} (objects : S → store.Content) (calls : S → Control sto
       reads_path c p a rebuild tier_view wanted line read view old new h f reads.answer reads.gets reads.takes
 
   -- what is invalid isn't it
-  no_damage : (c : Scene) (p : Plain) (a : ℕ) (rebuild : Rebuild) (tier_view : BrokerTierView) (wanted : RebuildRequest) (line : List (ℕ × ℕ)) (view : Seen) (place : Place) (at : ℕ) (old new : S)
+  no_damage : (c : Scene) (p : Plain) (a : ℕ) (rebuild : Rebuild) (tier_view : BrokerTierView) (wanted : RebuildRequest) (line : List (ℕ × ℕ)) (view : EntriesSeen) (place : Place) (at : ℕ) (old new : S)
       → (h : IsToRead c p a rebuild tier_view wanted line (objects old) view) → (f : Found c p rebuild wanted line view (h.safe.tier.rebuilds a rebuild h.actor_state).front)
-      → (answer : Result (Option (List ℕ)) Trouble) → Gets objects calls f.spot.key (all_of f.spot) answer old new → Takes wanted.offset f.spot answer (Ok (Ends (Damaged place at))) → ⊥
+      → (answer : Result (Option (List ℕ)) Trouble) → Gets objects calls f.spot.key (all_of f.spot) answer old new → TakesEpochs wanted.offset f.spot answer (Ok (Ends (Damaged place at))) → ⊥
   no_damage c p a rebuild tier_view wanted line view place at old new h f (Err Failed) gets k = absurd (cc (k))
   no_damage c p a rebuild tier_view wanted line view place at old new h f (Err NoMemory) gets k = absurd (cc (k))
   no_damage c p a rebuild tier_view wanted line view place at old new h f (Ok None) gets k =

@@ -8,14 +8,14 @@ use Rattle.log_terms.specs.Log.{up_to}
 use Rattle.object_store.specs.Content.{Content}
 use Rattle.plain_log.specs.declared.state.State.{State as Plain}
 use Rattle.plain_log.specs.State.{path_of}
-use Rattle.remote_view.specs.Fold.{Seen}
+use Rattle.remote_view.specs.Fold.{EntriesSeen}
 use Rattle.rebuild_task.specs.declared.turn.RebuildRequest.{RebuildRequest}
 use Rattle.tier_safe.specs.Scene.{BrokerTierView, Rebuild, Rebuilds, Scene}
 use Rattle.tier_safe.specs.Safe.{BothSafe}
 
 -- actor a's rebuild is at that turn, in a tier that shows these objects and this view
 pub record IsToRead (c : Scene) (p : Plain) (a : ℕ) (rebuild : Rebuild) (tier_view : BrokerTierView) (wanted : RebuildRequest) (line : List (ℕ × ℕ))
-    (objects : Content) (view : Seen) : Type 0 where
+    (objects : Content) (view : EntriesSeen) : Type 0 where
   pub safe : BothSafe c p
   pub actor_state : slice_get c.desk a ≡ Some (Rebuilds rebuild)
   pub refreshed : rebuild.refreshed ≡ true

@@ -16,7 +16,7 @@ use Rattle.record_batch.proofs.Passing.{head_long, checked_long}
 use Rattle.sparse_index.specs.Offsets.{find}
 use Rattle.segment_file.specs.declared.taking.Cutout.{Cutout}
 use Rattle.segment_file.specs.Walk.{size_in}
-use Rattle.segment_file.specs.Run.{end_after, AreBatches, would_pass, IsRun}
+use Rattle.segment_file.specs.Run.{end_after, AreBatches, would_pass, IsRunCutAt}
 use Rattle.segment_file.specs.Index.{placed_from, index_of}
 use Rattle.segment_file.specs.Segment.{IsSegment}
 use Rattle.segment_file.proofs.Finding.{head_kept, head_sized, size_kept}
@@ -212,7 +212,7 @@ pub record IsCutOf (batches : List (List ℕ)) (offset limit bound : ℕ) (given
   pub passing : passes ≡ true → WouldPass (first ∷ others) rest limit
 
 pub cut_run : (batches : List (List ℕ)) (base interval offset limit mark end from most : ℕ) (given : List ℕ) (cut : Cutout) → IsSegment base batches → base ≤ offset
-    → from ≡ (find (index_of base interval (placed_from 0 batches)) offset).1 → given ≡ take most (drop from (joined batches)) → (r : IsRun given offset limit mark end cut)
+    → from ≡ (find (index_of base interval (placed_from 0 batches)) offset).1 → given ≡ take most (drop from (joined batches)) → (r : IsRunCutAt given offset limit mark end cut)
     → IsCutOf batches offset limit (min mark end) given cut (would_pass limit (length (joined (r.first ∷ r.others))) (headed r.rest)) r.first r.others
 cut_run batches base interval offset limit mark end from most given cut s low from_is given_is r =
     let k = read_from base interval batches offset from most given r.batches r.rest s low from_is given_is r.stand.parts (checked_all None offset (min mark end) r.batches r.stand.follow) in

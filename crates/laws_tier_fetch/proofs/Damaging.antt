@@ -24,14 +24,14 @@ use Rattle.plain_log.specs.declared.state.Broker.{Broker}
 use Rattle.plain_log.specs.declared.answer.Answer.TheVariants.{Damaged}
 use Rattle.plain_log.specs.declared.answer.Place.{Place}
 use Rattle.plain_log.specs.declared.answer.Place.TheVariants.{Key}
-use Rattle.remote_view.specs.Fold.{Seen, entry_of, view_of}
+use Rattle.remote_view.specs.Fold.{EntriesSeen, entry_of, view_of}
 use Rattle.remote_find.specs.declared.piece.Piece.{Piece}
 use Rattle.remote_find.specs.Pieces.{piece_at}
 use Rattle.tier_fetch.specs.declared.turn.FetchRequest.{FetchRequest}
 use Rattle.tier_fetch.specs.declared.turn.Span.{Span}
 use Rattle.tier_fetch.specs.declared.turn.FetchStep.TheVariants.{Refresh, Index, Log}
 use Rattle.tier_fetch.specs.declared.turn.FetchTurn.TheVariants.{Ends}
-use Rattle.tier_fetch.specs.Turns.{spot_in, chosen, LoadsBytes, Loads, CutsBytes, Cuts, RefreshRow, LoadRow, IndexRow, LogRow}
+use Rattle.tier_fetch.specs.Turns.{spot_in, chosen, LoadsBytes, Loads, CutsBytes, CutsRunOut, RefreshRow, LoadRow, IndexRow, LogRow}
 use Rattle.tier_safe.specs.Scene.{BrokerTierView, Seeks, Scene}
 use Rattle.tier_safe.specs.Safe.{BothSafe}
 use Rattle.tier_safe.specs.May.{IsChanged}
@@ -51,8 +51,8 @@ pub kept_safe : (c d : Scene) (p : Plain) → IsChanged c p d → BothSafe c p �
 kept_safe c d p h safe = subst (λ (e : Scene). BothSafe e p) h.is (all_kept h.changes c p p h.may safe)
 
 -- the piece is found in a view of all metadata events
-piece_there : (c : Scene) (p : Plain) (a b : ℕ) (tier_view : BrokerTierView) (x : Broker) (stops epoch : ℕ) (wanted : FetchRequest) (line : List (ℕ × ℕ)) (s : store.Content) (n : meta.Content) (view : Seen) (cache : Cache)
-    (after : Seen) → IsAtTurn c p a b tier_view x stops epoch wanted line Refresh s n view cache → after ≡ view_of c.notes
+piece_there : (c : Scene) (p : Plain) (a b : ℕ) (tier_view : BrokerTierView) (x : Broker) (stops epoch : ℕ) (wanted : FetchRequest) (line : List (ℕ × ℕ)) (s : store.Content) (n : meta.Content) (view : EntriesSeen) (cache : Cache)
+    (after : EntriesSeen) → IsAtTurn c p a b tier_view x stops epoch wanted line Refresh s n view cache → after ≡ view_of c.notes
     → IsChanged c p (after_turn c a b tier_view (Seeks (sought_of b stops epoch wanted.offset Refresh)) c.objects c.notes after)
     → (piece : Piece) × (piece_at after.entries line wanted.log_end wanted.offset ≡ Some piece)
 piece_there c p a b tier_view x stops epoch wanted line s n view cache after h all change =
@@ -70,17 +70,17 @@ chosen_damage place at notes (Some other) piece is h = cc (h)
 
 module _ {S M : Type 0} (objects : S → store.Content) (calls : S → Control store_call.call_code)
     (notes : M → meta.Content) (notings : M → Control meta_call.call_code) where
-  refresh_damage : (c : Scene) (p : Plain) (a b : ℕ) (tier_view : BrokerTierView) (x : Broker) (stops epoch : ℕ) (wanted : FetchRequest) (line : List (ℕ × ℕ)) (s : store.Content) (cache : Cache) (view after : Seen)
+  refresh_damage : (c : Scene) (p : Plain) (a b : ℕ) (tier_view : BrokerTierView) (x : Broker) (stops epoch : ℕ) (wanted : FetchRequest) (line : List (ℕ × ℕ)) (s : store.Content) (cache : Cache) (view after : EntriesSeen)
       (old new : M) (place : Place) (at : ℕ) → IsAtTurn c p a b tier_view x stops epoch wanted line Refresh s (notes old) view cache
       → RefreshRow notes notings wanted line (Ok (Ends (Damaged place at))) view after old new → ⊥
   refresh_damage c p a b tier_view x stops epoch wanted line s cache view after old new place at h row =
       let work = Seeks (sought_of b stops epoch wanted.offset Refresh) in
-      let r : Refreshes (notes old) tier_view.view after = subst (λ (v : Seen). Refreshes (notes old) v after) (sym h.shows.view_is) row.1.view in
+      let r : Refreshes (notes old) tier_view.view after = subst (λ (v : EntriesSeen). Refreshes (notes old) v after) (sym h.shows.view_is) row.1.view in
       let all = sees_all objects calls notes notings c p a b tier_view work s old after (shown c a b tier_view work s (notes old) view h.shows) h.few (h.safe.tier.views b tier_view h.shows.tier_view_is) r in
       let k = piece_there c p a b tier_view x stops epoch wanted line s (notes old) view cache after h all.0 all.1 in
       chosen_damage place at after.notes (piece_at after.entries line wanted.log_end wanted.offset) k.0 k.1 row.0
 
-  loads_damage : (c : Scene) (p : Plain) (a b : ℕ) (tier_view : BrokerTierView) (x : Broker) (stops epoch : ℕ) (wanted : FetchRequest) (line : List (ℕ × ℕ)) (piece : Piece) (ns : meta.Content) (view : Seen)
+  loads_damage : (c : Scene) (p : Plain) (a b : ℕ) (tier_view : BrokerTierView) (x : Broker) (stops epoch : ℕ) (wanted : FetchRequest) (line : List (ℕ × ℕ)) (piece : Piece) (ns : meta.Content) (view : EntriesSeen)
       (cache cache' : Cache) (old new : S) (spot : ℕ × Spot) (place : Place) (at : ℕ) (answer : Result (Option (List ℕ)) Trouble)
       → IsAtTurn c p a b tier_view x stops epoch wanted line (Index piece) (objects old) ns view cache
       → spot_in wanted.partition piece.id part.Index (entry_of piece.id view.entries) ≡ Some spot → Gets objects calls spot.1.key (all_of spot.1) answer old new
@@ -103,7 +103,7 @@ module _ {S M : Type 0} (objects : S → store.Content) (calls : S → Control s
       none.1 (index_of r.entry.start r.held.interval (placed_from 0 r.held.batches)).entries (index_rises r.entry.start r.held.interval r.held.batches d.is)
       (same ∙ ap (λ (m : ℕ). bytes_of entry_bytes (index_of m r.held.interval (placed_from 0 r.held.batches)).entries) first)
 
-  load_damage : (c : Scene) (p : Plain) (a b : ℕ) (tier_view : BrokerTierView) (x : Broker) (stops epoch : ℕ) (wanted : FetchRequest) (line : List (ℕ × ℕ)) (piece : Piece) (ns : meta.Content) (view : Seen)
+  load_damage : (c : Scene) (p : Plain) (a b : ℕ) (tier_view : BrokerTierView) (x : Broker) (stops epoch : ℕ) (wanted : FetchRequest) (line : List (ℕ × ℕ)) (piece : Piece) (ns : meta.Content) (view : EntriesSeen)
       (cache cache' : Cache) (old new : S) (spot : Option (ℕ × Spot)) (place : Place) (at : ℕ) → IsAtTurn c p a b tier_view x stops epoch wanted line (Index piece) (objects old) ns view cache
       → spot_in wanted.partition piece.id part.Index (entry_of piece.id view.entries) ≡ spot → LoadRow objects calls wanted piece view spot (Ok (Ends (Damaged place at))) cache cache' old new → ⊥
   load_damage c p a b tier_view x stops epoch wanted line piece ns view cache cache' old new None place at h stood row =
@@ -114,19 +114,19 @@ module _ {S M : Type 0} (objects : S → store.Content) (calls : S → Control s
   load_damage c p a b tier_view x stops epoch wanted line piece ns view cache cache' old new (Some spot) place at h stood row =
       loads_damage c p a b tier_view x stops epoch wanted line piece ns view cache cache' old new spot place at row.answer h stood row.gets row.loads
 
-  index_damage : (c : Scene) (p : Plain) (a b : ℕ) (tier_view : BrokerTierView) (x : Broker) (stops epoch : ℕ) (wanted : FetchRequest) (line : List (ℕ × ℕ)) (piece : Piece) (ns : meta.Content) (view : Seen)
+  index_damage : (c : Scene) (p : Plain) (a b : ℕ) (tier_view : BrokerTierView) (x : Broker) (stops epoch : ℕ) (wanted : FetchRequest) (line : List (ℕ × ℕ)) (piece : Piece) (ns : meta.Content) (view : EntriesSeen)
       (cache cache' : Cache) (old new : S) (there : Option OffsetTable) (place : Place) (at : ℕ) → IsAtTurn c p a b tier_view x stops epoch wanted line (Index piece) (objects old) ns view cache
       → IndexRow objects calls wanted piece view (Ok (Ends (Damaged place at))) there cache cache' old new → ⊥
   index_damage c p a b tier_view x stops epoch wanted line piece ns view cache cache' old new (Some index) place at h row = cc (row.0)
   index_damage c p a b tier_view x stops epoch wanted line piece ns view cache cache' old new None place at h row =
       load_damage c p a b tier_view x stops epoch wanted line piece ns view cache cache' old new (spot_in wanted.partition piece.id part.Index (entry_of piece.id view.entries)) place at h refl row
 
-  cuts_damage : (c : Scene) (p : Plain) (a b : ℕ) (tier_view : BrokerTierView) (x : Broker) (stops epoch : ℕ) (wanted : FetchRequest) (line : List (ℕ × ℕ)) (piece : Piece) (span : Span) (ns : meta.Content) (view : Seen)
+  cuts_damage : (c : Scene) (p : Plain) (a b : ℕ) (tier_view : BrokerTierView) (x : Broker) (stops epoch : ℕ) (wanted : FetchRequest) (line : List (ℕ × ℕ)) (piece : Piece) (span : Span) (ns : meta.Content) (view : EntriesSeen)
       (cache : Cache) (old new : S) (spot : ℕ × Spot) (place : Place) (at : ℕ) (answer : Result (Option (List ℕ)) Trouble)
       → IsAtTurn c p a b tier_view x stops epoch wanted line (Log piece span) (objects old) ns view cache
       → spot_in wanted.partition piece.id part.Log (entry_of piece.id view.entries) ≡ Some spot
       → Gets objects calls spot.1.key (some_of spot.1 span.from span.most) answer old new
-      → Cuts wanted piece spot.1 span answer (Ok (Ends (Damaged place at))) → IsOfLog wanted (Log piece span) place
+      → CutsRunOut wanted piece spot.1 span answer (Ok (Ends (Damaged place at))) → IsOfLog wanted (Log piece span) place
   cuts_damage c p a b tier_view x stops epoch wanted line piece span ns view cache old new spot place at (Err Failed) h stood gets k = absurd (cc (k))
   cuts_damage c p a b tier_view x stops epoch wanted line piece span ns view cache old new spot place at (Err NoMemory) h stood gets k = absurd (cc (k))
   cuts_damage c p a b tier_view x stops epoch wanted line piece span ns view cache old new spot place at (Ok None) h stood gets k =
@@ -150,7 +150,7 @@ module _ {S M : Type 0} (objects : S → store.Content) (calls : S → Control s
           record { piece = piece; span = span; next_is = refl; home = home; own = own; place_is = sym is ∙ ap Key key }
       by None home own key k = record { piece = piece; span = span; next_is = refl; home = home; own = own; place_is = k.place_is ∙ ap Key key }
 
-  log_damage : (c : Scene) (p : Plain) (a b : ℕ) (tier_view : BrokerTierView) (x : Broker) (stops epoch : ℕ) (wanted : FetchRequest) (line : List (ℕ × ℕ)) (piece : Piece) (span : Span) (ns : meta.Content) (view : Seen)
+  log_damage : (c : Scene) (p : Plain) (a b : ℕ) (tier_view : BrokerTierView) (x : Broker) (stops epoch : ℕ) (wanted : FetchRequest) (line : List (ℕ × ℕ)) (piece : Piece) (span : Span) (ns : meta.Content) (view : EntriesSeen)
       (cache : Cache) (old new : S) (spot : Option (ℕ × Spot)) (place : Place) (at : ℕ) → IsAtTurn c p a b tier_view x stops epoch wanted line (Log piece span) (objects old) ns view cache
       → spot_in wanted.partition piece.id part.Log (entry_of piece.id view.entries) ≡ spot → LogRow objects calls wanted piece span view spot (Ok (Ends (Damaged place at))) old new
       → IsOfLog wanted (Log piece span) place

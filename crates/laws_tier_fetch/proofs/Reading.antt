@@ -22,7 +22,7 @@ use Rattle.meta_log.specs.Content as meta
 use Rattle.index_cache.specs.Cache.{Cache}
 use Rattle.plain_log.specs.declared.state.State.{State as Plain}
 use Rattle.plain_log.specs.declared.state.Broker.{Broker}
-use Rattle.remote_view.specs.Fold.{Seen, entry_of, fold}
+use Rattle.remote_view.specs.Fold.{EntriesSeen, entry_of, fold}
 use Rattle.remote_view.proofs.Changes.{found_id}
 use Rattle.remote_find.specs.declared.piece.Piece.{Piece}
 use Rattle.tier_fetch.specs.declared.turn.FetchRequest.{FetchRequest}
@@ -44,7 +44,7 @@ first_is n [] some c = absurd (some refl)
 first_is n (x ∷ xs) some c = c.0
 
 -- the copy that a fetch has found
-pub copy_of : (c : Scene) (p : Plain) (a b : ℕ) (tier_view : BrokerTierView) (x : Broker) (stops epoch : ℕ) (wanted : FetchRequest) (line : List (ℕ × ℕ)) (next : FetchStep) (s : store.Content) (n : meta.Content) (view : Seen)
+pub copy_of : (c : Scene) (p : Plain) (a b : ℕ) (tier_view : BrokerTierView) (x : Broker) (stops epoch : ℕ) (wanted : FetchRequest) (line : List (ℕ × ℕ)) (next : FetchStep) (s : store.Content) (n : meta.Content) (view : EntriesSeen)
     (cache : Cache) (piece : Piece) → IsAtTurn c p a b tier_view x stops epoch wanted line next s n view cache → piece_of next ≡ Some piece → FetchReads c p x piece
 copy_of c p a b tier_view x stops epoch wanted line next s n view cache piece h is =
     fetch_reads a (sought_of b stops epoch wanted.offset next) piece c p tier_view x h.safe.plain h.safe.tier h.shows.actor_state h.shows.tier_view_is h.broker_is is h.leads h.past
@@ -73,13 +73,13 @@ own_home partition id true custom kind home spot is key = by (told_layout custom
         inr (sym (ap (λ (s : Spot). s.key.part) same ∙ ap (λ (k : ObjectKey). k.part) key))
 
 -- the view's entry of it places its parts as its entry does
-pub at_spot : (c : Scene) (p : Plain) (a b : ℕ) (tier_view : BrokerTierView) (x : Broker) (stops epoch : ℕ) (wanted : FetchRequest) (line : List (ℕ × ℕ)) (next : FetchStep) (s : store.Content) (n : meta.Content) (view : Seen)
+pub at_spot : (c : Scene) (p : Plain) (a b : ℕ) (tier_view : BrokerTierView) (x : Broker) (stops epoch : ℕ) (wanted : FetchRequest) (line : List (ℕ × ℕ)) (next : FetchStep) (s : store.Content) (n : meta.Content) (view : EntriesSeen)
     (cache : Cache) (piece : Piece) (kind : Part) → IsRead kind → IsAtTurn c p a b tier_view x stops epoch wanted line next s n view cache → piece_of next ≡ Some piece → (r : FetchReads c p x piece)
     → IsAtSpot wanted.partition piece.id kind (entry_of piece.id view.entries) r.entry.start s.objects (part_in (parts_of r.held.batches r.held.line r.held.interval) kind)
 at_spot c p a b tier_view x stops epoch wanted line next s n view cache piece kind read h is r =
     let k = (h.safe.tier.fetches a (sought_of b stops epoch wanted.offset next) tier_view x h.shows.actor_state h.shows.tier_view_is h.broker_is).seen piece is in
     let v = h.safe.tier.views b tier_view h.shows.tier_view_is in
-    let y = prefix_goes v.before c.notes piece.id k.0 v.begins (subst (λ (w : Seen). entry_of piece.id w.entries ≡ Some k.0) v.is k.1) in
+    let y = prefix_goes v.before c.notes piece.id k.0 v.begins (subst (λ (w : EntriesSeen). entry_of piece.id w.entries ≡ Some k.0) v.is k.1) in
     let same : y.0 ≡ r.entry = one_some (entry_of piece.id (fold c.notes)) y.0 r.entry y.1 r.there in
     let packed : k.0.packed ≡ r.entry.packed = sym y.2.packed ∙ ap (λ (e : Entry). e.packed) same in
     let custom : k.0.custom ≡ r.entry.custom = sym (y.2.custom k.2) ∙ ap (λ (e : Entry). e.custom) same in
@@ -88,7 +88,7 @@ at_spot c p a b tier_view x stops epoch wanted line next s n view cache piece ki
     let id : r.entry.id ≡ piece.id = found_id piece.id (fold c.notes) r.entry r.there in
     let has = held_placed c.objects p.paths r.entry kind read r.held in
     let placed : spot_of wanted.partition piece.id k.0.packed k.0.custom kind ≡ Some has.spot = rw (packed, custom, ← of, ← id) has.is in
-    let there : entry_of piece.id view.entries ≡ Some k.0 = subst (λ (w : Seen). entry_of piece.id w.entries ≡ Some k.0) h.shows.view_is k.1 in
+    let there : entry_of piece.id view.entries ≡ Some k.0 = subst (λ (w : EntriesSeen). entry_of piece.id w.entries ≡ Some k.0) h.shows.view_is k.1 in
     record {
       spot = has.spot;
       is = ap (spot_in wanted.partition piece.id kind) there ∙ (ap (option_map (λ (spot : Spot). (k.0.start, spot))) placed ∙ ap (λ (m : ℕ). Some (m, has.spot)) start);
@@ -109,7 +109,7 @@ placed_given : (objects : store.Objects) (spot : Spot) (bytes : List ℕ) (some 
 placed_given objects spot bytes some k = ap (option_map (λ (object : List ℕ). some (all_of spot object))) k.there ∙ ap (λ (b : List ℕ). Some (some b)) k.all
 
 -- it is of the part
-pub gives : (c : Scene) (p : Plain) (a b : ℕ) (tier_view : BrokerTierView) (x : Broker) (stops epoch : ℕ) (wanted : FetchRequest) (line : List (ℕ × ℕ)) (next : FetchStep) (s : store.Content) (n : meta.Content) (view : Seen)
+pub gives : (c : Scene) (p : Plain) (a b : ℕ) (tier_view : BrokerTierView) (x : Broker) (stops epoch : ℕ) (wanted : FetchRequest) (line : List (ℕ × ℕ)) (next : FetchStep) (s : store.Content) (n : meta.Content) (view : EntriesSeen)
     (cache : Cache) (piece : Piece) (kind : Part) (place : ℕ × Spot) (some : List ℕ → List ℕ) (given : Option (List ℕ)) → IsRead kind
     → IsAtTurn c p a b tier_view x stops epoch wanted line next s n view cache → piece_of next ≡ Some piece
     → spot_in wanted.partition piece.id kind (entry_of piece.id view.entries) ≡ Some place → given ≡ option_map (λ (object : List ℕ). some (all_of place.1 object)) (s.objects place.1.key)

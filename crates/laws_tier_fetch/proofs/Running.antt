@@ -35,7 +35,7 @@ use Rattle.plain_log.specs.Fetch.{is_within}
 use Rattle.laws_partition.specs.Log.{HasBytes, WouldPass, IsRunOf}
 use Rattle.laws_partition.specs.Log as seen
 use Rattle.laws_partition.proofs.BoolTests.{le_true}
-use Rattle.remote_view.specs.Fold.{Seen, entry_of}
+use Rattle.remote_view.specs.Fold.{EntriesSeen, entry_of}
 use Rattle.remote_find.specs.declared.piece.Piece.{Piece}
 use Rattle.remote_find.specs.Pieces.{piece_at}
 use Rattle.tier_fetch.specs.declared.turn.FetchRequest.{FetchRequest}
@@ -43,14 +43,14 @@ use Rattle.tier_fetch.specs.declared.turn.Span.{Span}
 use Rattle.tier_fetch.specs.declared.turn.FetchStep.{FetchStep}
 use Rattle.tier_fetch.specs.declared.turn.FetchStep.TheVariants.{Refresh, Index, Log}
 use Rattle.tier_fetch.specs.declared.turn.FetchTurn.TheVariants.{Ends}
-use Rattle.tier_fetch.specs.Turns.{spot_in, chosen, LoadsBytes, Loads, CutsBytes, Cuts, LoadRow, IndexRow, LogRow}
+use Rattle.tier_fetch.specs.Turns.{spot_in, chosen, LoadsBytes, Loads, CutsBytes, CutsRunOut, LoadRow, IndexRow, LogRow}
 use Rattle.tier_fetch.specs.Turns as fetch
 use Rattle.tier_safe.specs.Scene.{BrokerTierView, Scene}
 use Rattle.tier_safe.proofs.Agreeing.{back_at}
 use Rattle.tier_safe.proofs.Basics.{one_some}
 use Rattle.tier_safe.proofs.Serving.{FetchReads, fetch_from, fetch_runs, fetch_next}
 use Rattle.laws_tier_fetch.specs.Seeking.{sought_of, IsAtTurn}
-use Rattle.laws_tier_fetch.specs.Runs.{IsLogRun, ServesRun, FetchRunsAreLogs}
+use Rattle.laws_tier_fetch.specs.Runs.{IsRunBytes, ServesRun, FetchRunsAreLogs}
 use Rattle.laws_tier_fetch.proofs.Cutting.{parted, past_first, cut_run}
 use Rattle.laws_tier_fetch.proofs.Reading.{copy_of, gives}
 
@@ -126,9 +126,9 @@ record Stops (log : List (List ℕ)) (offset limit mark : ℕ) (stop : Stop) (ru
 
 -- a run out of the copy that a fetch has found is the log's
 copied_run : (c : Scene) (p : Plain) (a b : ℕ) (tier_view : BrokerTierView) (x : Broker) (stops epoch : ℕ) (wanted : FetchRequest) (line : List (ℕ × ℕ)) (piece : Piece) (span : Span) (s : store.Content) (n : meta.Content)
-    (view : Seen) (cache : Cache) (given : List ℕ) (tier : Tier) (size : ℕ) (stop : Stop) (bytes : List ℕ) → IsAtTurn c p a b tier_view x stops epoch wanted line (Log piece span) s n view cache
-    → (r : FetchReads c p x piece) → given ≡ take span.most (drop span.from (joined r.held.batches)) → fetch.IsRunOf wanted piece given tier size stop bytes
-    → IsLogRun x.log wanted.offset wanted.limit wanted.mark size stop bytes
+    (view : EntriesSeen) (cache : Cache) (given : List ℕ) (tier : Tier) (size : ℕ) (stop : Stop) (bytes : List ℕ) → IsAtTurn c p a b tier_view x stops epoch wanted line (Log piece span) s n view cache
+    → (r : FetchReads c p x piece) → given ≡ take span.most (drop span.from (joined r.held.batches)) → fetch.IsCutRun wanted piece given tier size stop bytes
+    → IsRunBytes x.log wanted.offset wanted.limit wanted.mark size stop bytes
 copied_run c p a b tier_view x stops epoch wanted line piece span s n view cache given tier size stop bytes h r given_is m =
     let sought = sought_of b stops epoch wanted.offset (Log piece span) in
     let k = (h.safe.tier.fetches a sought tier_view x h.shows.actor_state h.shows.tier_view_is h.broker_is).piece piece refl h.leads h.past in
@@ -177,7 +177,7 @@ from_checked offset (b ∷ batches) all = by (nat_lt (last_of b) offset) (from_c
     by false rest = all
 
 -- so those of a run are
-run_checked : {bytes : List ℕ} {limit mark piece_end : ℕ} {cut : Cutout} (offset : ℕ) (m : cutting.IsRun bytes offset limit mark piece_end cut) → AllByRecursion (λ (b : List ℕ). IsOk (checked b)) (m.first ∷ m.others)
+run_checked : {bytes : List ℕ} {limit mark piece_end : ℕ} {cut : Cutout} (offset : ℕ) (m : cutting.IsRunCutAt bytes offset limit mark piece_end cut) → AllByRecursion (λ (b : List ℕ). IsOk (checked b)) (m.first ∷ m.others)
 run_checked {bytes} {limit} {mark} {piece_end} offset m =
     subst (AllByRecursion (λ (b : List ℕ). IsOk (checked b))) m.run (from_checked offset m.batches (follow_checked None offset (min mark piece_end) m.batches m.stand.follow))
 
@@ -187,7 +187,7 @@ ServesChecked log wanted next tier size stop bytes = (s : ServesRun log wanted n
 
 module _ {S M : Type 0} (objects : S → store.Content) (calls : S → Control store_call.call_code)
     (notes : M → meta.Content) (notings : M → Control meta_call.call_code) where
-  log_run : (c : Scene) (p : Plain) (a b : ℕ) (tier_view : BrokerTierView) (x : Broker) (stops epoch : ℕ) (wanted : FetchRequest) (line : List (ℕ × ℕ)) (piece : Piece) (span : Span) (ns : meta.Content) (view : Seen)
+  log_run : (c : Scene) (p : Plain) (a b : ℕ) (tier_view : BrokerTierView) (x : Broker) (stops epoch : ℕ) (wanted : FetchRequest) (line : List (ℕ × ℕ)) (piece : Piece) (span : Span) (ns : meta.Content) (view : EntriesSeen)
       (cache : Cache) (old new : S) (tier : Tier) (size : ℕ) (stop : Stop) (bytes : List ℕ) (place : Option (ℕ × Spot))
       → IsAtTurn c p a b tier_view x stops epoch wanted line (Log piece span) (objects old) ns view cache
       → spot_in wanted.partition piece.id part.Log (entry_of piece.id view.entries) ≡ place
@@ -215,7 +215,7 @@ module _ {S M : Type 0} (objects : S → store.Content) (calls : S → Control s
           )
 
       by : (answer : Result (Option (List ℕ)) Trouble) → Gets objects calls place.1.key (some_of place.1 span.from span.most) answer old new
-          → Cuts wanted piece place.1 span answer (Ok (Ends (Run tier size stop bytes))) → ServesChecked x.log wanted (Log piece span) tier size stop bytes
+          → CutsRunOut wanted piece place.1 span answer (Ok (Ends (Run tier size stop bytes))) → ServesChecked x.log wanted (Log piece span) tier size stop bytes
       by (Err Failed) gets cuts = absurd (cc (cuts))
       by (Err NoMemory) gets cuts = absurd (cc (cuts))
       by (Ok None) gets cuts = absurd (cc (cuts))
@@ -238,19 +238,19 @@ module _ {S M : Type 0} (objects : S → store.Content) (calls : S → Control s
       by (Some end) k = cc (k.0)
       by None k = cc (k.0)
 
-  load_run : (wanted : FetchRequest) (piece : Piece) (view : Seen) (place : Option (ℕ × Spot)) (cache cache' : Cache) (old new : S) (tier : Tier) (size : ℕ) (stop : Stop) (bytes : List ℕ)
+  load_run : (wanted : FetchRequest) (piece : Piece) (view : EntriesSeen) (place : Option (ℕ × Spot)) (cache cache' : Cache) (old new : S) (tier : Tier) (size : ℕ) (stop : Stop) (bytes : List ℕ)
       → LoadRow objects calls wanted piece view place (Ok (Ends (Run tier size stop bytes))) cache cache' old new → ⊥
   load_run wanted piece view None cache cache' old new tier size stop bytes row = cc (row.0)
   load_run wanted piece view (Some place) cache cache' old new tier size stop bytes row = loads_run wanted piece place.0 place.1 row.answer cache cache' tier size stop bytes row.loads
 
-  index_run : (wanted : FetchRequest) (piece : Piece) (view : Seen) (there : Option OffsetTable) (cache cache' : Cache) (old new : S) (tier : Tier) (size : ℕ) (stop : Stop) (bytes : List ℕ)
+  index_run : (wanted : FetchRequest) (piece : Piece) (view : EntriesSeen) (there : Option OffsetTable) (cache cache' : Cache) (old new : S) (tier : Tier) (size : ℕ) (stop : Stop) (bytes : List ℕ)
       → IndexRow objects calls wanted piece view (Ok (Ends (Run tier size stop bytes))) there cache cache' old new → ⊥
   index_run wanted piece view (Some index) cache cache' old new tier size stop bytes row = cc (row.0)
   index_run wanted piece view None cache cache' old new tier size stop bytes row =
       load_run wanted piece view (spot_in wanted.partition piece.id part.Index (entry_of piece.id view.entries)) cache cache' old new tier size stop bytes row
 
   pub runs_are_checked : (wanted : FetchRequest) (line : List (ℕ × ℕ)) (next : FetchStep) (tier : Tier) (size : ℕ) (stop : Stop) (bytes : List ℕ) (old new : fetch.Tiers S M) (c : Scene) (p : Plain)
-      (a b : ℕ) (tier_view : BrokerTierView) (x : Broker) (stops epoch : ℕ) → fetch.FetchRow objects calls notes notings wanted line next (Ok (Ends (Run tier size stop bytes))) old new
+      (a b : ℕ) (tier_view : BrokerTierView) (x : Broker) (stops epoch : ℕ) → fetch.RemoteFetchRow objects calls notes notings wanted line next (Ok (Ends (Run tier size stop bytes))) old new
       → IsAtTurn c p a b tier_view x stops epoch wanted line next (objects old.store) (notes old.meta) old.view old.cache → ServesChecked x.log wanted next tier size stop bytes
   runs_are_checked wanted line Refresh tier size stop bytes old new c p a b tier_view x stops epoch row h =
       absurd (chosen_run wanted new.view.notes (piece_at new.view.entries line wanted.log_end wanted.offset) tier size stop bytes row.1.0)

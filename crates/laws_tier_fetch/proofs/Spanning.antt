@@ -12,7 +12,7 @@ use Rattle.record_batch.specs.Check.{checked}
 use Rattle.record_batch.proofs.Passing.{checked_long}
 use Rattle.sparse_index.specs.Offsets.{OffsetTable}
 use Rattle.segment_file.specs.Index.{placed_from, index_of}
-use Rattle.segment_file.specs.Run.{end_after, Begins, would_pass, Fits, GoesOn}
+use Rattle.segment_file.specs.Run.{end_after, MayBeginAt, would_pass, Fits, RunContinues}
 use Rattle.segment_file.specs.Segment.{IsSegment}
 use Rattle.segment_file.proofs.Joining.{all_parts, consecutive_parts}
 use Rattle.segment_file.proofs.Runs.{joined_append}
@@ -206,7 +206,7 @@ module _ (base interval : ℕ) (batches : List (List ℕ)) (offset limit end : �
 
   -- it is read
   is_read : (from most : ℕ) (given : List ℕ) (bs : List (List ℕ)) (rest : List ℕ) (x : Behind from most given bs rest) (bound : ℕ) (run : List (List ℕ)) → from_offset offset bs ≡ run
-      → Fits limit run → GoesOn limit bound (end_after None bs) run rest → length x.m ≤ length rest
+      → Fits limit run → RunContinues limit bound (end_after None bs) run rest → length x.m ≤ length rest
   is_read from most given bs rest x bound [] run_is fits goes =
       let g = gone_low offset (end_from base x.k.former) bs x.k.ends in
       let all : bs ≡ g.0 = g.1 ∙ ap (λ (l : List (List ℕ)). g.0 ++ l) run_is ∙ append-nil g.0 in
@@ -235,7 +235,7 @@ module _ (base interval : ℕ) (batches : List (List ℕ)) (offset limit end : �
       rest_long from most (length x.m) given bs rest x.k x.m x.others x.most_is x.stand x.more (omega arith) (omega (arith, room, size))
 
 -- a run that continues ends below its bound
-goes_low : (offset n limit bound : ℕ) (bs run : List (List ℕ)) (rest : List ℕ) → n ≤ offset → offset < bound → from_offset offset bs ≡ run → GoesOn limit bound (end_after None bs) run rest → end_from n bs < bound
+goes_low : (offset n limit bound : ℕ) (bs run : List (List ℕ)) (rest : List ℕ) → n ≤ offset → offset < bound → from_offset offset bs ≡ run → RunContinues limit bound (end_after None bs) run rest → end_from n bs < bound
 goes_low offset n limit bound bs [] rest low past is goes =
     let g = gone_low offset n bs low in
     let all : bs ≡ g.0 = g.1 ∙ ap (λ (l : List (List ℕ)). g.0 ++ l) is ∙ append-nil g.0 in
@@ -245,9 +245,9 @@ goes_low offset n limit bound bs [] rest low past is goes =
 goes_low offset n limit bound [] (first ∷ run) rest low past is goes = absurd (cc (is))
 goes_low offset n limit bound (b ∷ bs) (first ∷ run) rest low past is goes = goes.0 (end_from (last_of b + 1) bs) (after_end (last_of b + 1) bs)
 
-begins_next : (offset n base : ℕ) (bs : List (List ℕ)) → n ≤ offset → base ≡ end_from n bs → Begins (end_after None bs) offset base
+begins_next : (offset n base : ℕ) (bs : List (List ℕ)) → n ≤ offset → base ≡ end_from n bs → MayBeginAt (end_after None bs) offset base
 begins_next offset n base [] low is = omega (arith, low, is)
-begins_next offset n base (b ∷ bs) low is = subst (λ (o : Option ℕ). Begins o offset base) (sym (after_end (last_of b + 1) bs)) is
+begins_next offset n base (b ∷ bs) low is = subst (λ (o : Option ℕ). MayBeginAt o offset base) (sym (after_end (last_of b + 1) bs)) is
 
 pub spans_hold : SpansHoldRuns
 spans_hold base interval batches offset limit mark end at s low past bound piece bad =

@@ -25,7 +25,7 @@ use Rattle.view_refresh.specs.Refreshing.{Refreshes, Advances}
 use Rattle.plain_log.specs.declared.state.State.{State as Plain}
 use Rattle.plain_log.specs.declared.state.Broker.{Broker}
 use Rattle.plain_log.specs.declared.answer.Answer.TheVariants.{MetaFault}
-use Rattle.remote_view.specs.Fold.{Seen, entry_of, fold, view_of, AreKept, AreDistinct}
+use Rattle.remote_view.specs.Fold.{EntriesSeen, entry_of, fold, view_of, AreEntriesValid, AreDistinct}
 use Rattle.remote_find.specs.declared.piece.Piece.{Piece}
 use Rattle.remote_find.specs.Pieces.{piece_at}
 use Rattle.remote_find.proofs.Clipping.{piece_lies}
@@ -35,7 +35,7 @@ use Rattle.tier_fetch.specs.declared.turn.FetchStep.{FetchStep}
 use Rattle.tier_fetch.specs.declared.turn.FetchStep.TheVariants.{Refresh, Index, Log}
 use Rattle.tier_fetch.specs.declared.turn.FetchTurn.{FetchTurn}
 use Rattle.tier_fetch.specs.declared.turn.FetchTurn.TheVariants.{Goes, Ends}
-use Rattle.tier_fetch.specs.Turns.{chosen, spot_in, reads_by, IsLoaded, LoadsBytes, Loads, CutsBytes, Cuts, RefreshRow, LoadRow, IndexRow, LogRow, Tiers}
+use Rattle.tier_fetch.specs.Turns.{chosen, spot_in, reads_by, IsLoaded, LoadsBytes, Loads, CutsBytes, CutsRunOut, RefreshRow, LoadRow, IndexRow, LogRow, Tiers}
 use Rattle.tier_safe.specs.Scene.{BrokerTierView, TierTask, Free, Seeks, Scene}
 use Rattle.tier_safe.specs.Changes.{Moves, Finds, Reads, Caches, effect}
 use Rattle.tier_safe.specs.Views.{IsViewOf}
@@ -44,7 +44,7 @@ use Rattle.tier_safe.specs.Moves.{MayFind, MayRead}
 use Rattle.tier_safe.specs.May.{IsChanged}
 use Rattle.tier_safe.specs.Reads.{TellsEpochs, IsRightView}
 use Rattle.tier_safe.specs.Safe.{TierSafe}
-use Rattle.tier_safe.specs.Turns.{Shows, after_turn}
+use Rattle.tier_safe.specs.Turns.{ShowsScene, after_turn}
 use Rattle.tier_safe.proofs.Basics.{one_some}
 use Rattle.tier_safe.proofs.Covering.{readable}
 use Rattle.tier_safe.proofs.Lookups.{found_stands}
@@ -58,24 +58,24 @@ use Rattle.laws_tier_fetch.proofs.Reading.{copy_of, gives, index_read, index_cac
 -- scenes
 
 -- a cache that stays
-pub as_fetch : (c : Scene) (p : Plain) (a b : ℕ) (tier_view : BrokerTierView) (work : TierTask) (o : store.Objects) (n : List Note) (v : Seen) (cache : Cache) → tier_view.cache ≡ indexes_in cache
+pub as_fetch : (c : Scene) (p : Plain) (a b : ℕ) (tier_view : BrokerTierView) (work : TierTask) (o : store.Objects) (n : List Note) (v : EntriesSeen) (cache : Cache) → tier_view.cache ≡ indexes_in cache
     → IsChanged c p (after_turn c a b tier_view work o n v) → IsChanged c p (after_fetch c a b tier_view work o n v cache)
 as_fetch c p a b tier_view work o n v cache same h =
     as_scene c (after_turn c a b tier_view work o n v) (after_fetch c a b tier_view work o n v cache) p
     (scene_same _ _ refl refl refl (ap (λ (k : List (SegmentId × OffsetTable)). slice_set c.tier_views b (record tier_view { view = v; cache = k })) same) refl) h
 
 -- what a turn leaves is said of other names
-pub named : (c : Scene) (p : Plain) (a b : ℕ) (tier_view : BrokerTierView) (work other : TierTask) (o o2 : store.Objects) (n n2 : List Note) (v v2 : Seen) (k k2 : Cache) → work ≡ other → o ≡ o2 → n ≡ n2 → v ≡ v2 → k ≡ k2
+pub named : (c : Scene) (p : Plain) (a b : ℕ) (tier_view : BrokerTierView) (work other : TierTask) (o o2 : store.Objects) (n n2 : List Note) (v v2 : EntriesSeen) (k k2 : Cache) → work ≡ other → o ≡ o2 → n ≡ n2 → v ≡ v2 → k ≡ k2
     → IsChanged c p (after_fetch c a b tier_view work o n v k) → IsChanged c p (after_fetch c a b tier_view other o2 n2 v2 k2)
 named c p a b tier_view work other o o2 n n2 v v2 k k2 ew eo en ev ek h =
     as_scene c (after_fetch c a b tier_view work o n v k) (after_fetch c a b tier_view other o2 n2 v2 k2) p
     (scene_same _ _ refl eo en
-    (ap (λ (x : Seen). slice_set c.tier_views b (record tier_view { view = x; cache = indexes_in k })) ev ∙ ap (λ (x : Cache). slice_set c.tier_views b (record tier_view { view = v2; cache = indexes_in x })) ek)
+    (ap (λ (x : EntriesSeen). slice_set c.tier_views b (record tier_view { view = x; cache = indexes_in k })) ev ∙ ap (λ (x : Cache). slice_set c.tier_views b (record tier_view { view = v2; cache = indexes_in x })) ek)
     (ap (slice_set c.desk a) ew)) h
 
 -- a turn that left the view, the cache and the devices as they were
-pub quiet : (c : Scene) (p : Plain) (a b : ℕ) (tier_view : BrokerTierView) (before work : TierTask) (s : store.Content) (ns : meta.Content) (view : Seen) (cache : Cache) (o : store.Objects) (n : List Note) (v : Seen) (k : Cache)
-    → Shows c a b tier_view before s ns view → tier_view.cache ≡ indexes_in cache → IsChanged c p (after_turn c a b tier_view work c.objects c.notes tier_view.view)
+pub quiet : (c : Scene) (p : Plain) (a b : ℕ) (tier_view : BrokerTierView) (before work : TierTask) (s : store.Content) (ns : meta.Content) (view : EntriesSeen) (cache : Cache) (o : store.Objects) (n : List Note) (v : EntriesSeen) (k : Cache)
+    → ShowsScene c a b tier_view before s ns view → tier_view.cache ≡ indexes_in cache → IsChanged c p (after_turn c a b tier_view work c.objects c.notes tier_view.view)
     → o ≡ s.objects → n ≡ ns.notes → v ≡ view → k ≡ cache → IsChanged c p (after_fetch c a b tier_view work o n v k)
 quiet c p a b tier_view before work s ns view cache o n v k h same base eo en ev ek =
     as_fetch c p a b tier_view work o n v k (same ∙ ap indexes_in (sym ek))
@@ -89,7 +89,7 @@ none c p a b tier_view work at actor_state =
     (record { changes = []; may = refl; is = refl })
 
 -- the tier shows its own view
-pub shown : (c : Scene) (a b : ℕ) (tier_view : BrokerTierView) (work : TierTask) (s : store.Content) (n : meta.Content) (view : Seen) → Shows c a b tier_view work s n view → Shows c a b tier_view work s n tier_view.view
+pub shown : (c : Scene) (a b : ℕ) (tier_view : BrokerTierView) (work : TierTask) (s : store.Content) (n : meta.Content) (view : EntriesSeen) → ShowsScene c a b tier_view work s n view → ShowsScene c a b tier_view work s n tier_view.view
 shown c a b tier_view work s n view h = record {
   objects_are = h.objects_are;
   notes_are = h.notes_are;
@@ -103,7 +103,7 @@ shown c a b tier_view work s n view h = record {
 -- the piece
 
 -- what is found in a view of all metadata events may be taken, whatever the actor's state kept before
-may_find : (c : Scene) (p : Plain) (a b : ℕ) (tier_view : BrokerTierView) (x : Broker) (stops epoch offset log_end : ℕ) (line : List (ℕ × ℕ)) (before : TierTask) (after : Seen) (piece : Piece)
+may_find : (c : Scene) (p : Plain) (a b : ℕ) (tier_view : BrokerTierView) (x : Broker) (stops epoch offset log_end : ℕ) (line : List (ℕ × ℕ)) (before : TierTask) (after : EntriesSeen) (piece : Piece)
     → TierSafe c p → slice_get c.tier_views b ≡ Some tier_view → slice_get c.desk a ≡ Some before → slice_get p.brokers b ≡ Some x → log_end ≡ end_of x.log → TellsEpochs line x.log
     → after ≡ view_of c.notes → piece_at after.entries line log_end offset ≡ Some piece
     → MayFind a (sought_of b stops epoch offset Refresh) piece (after_turn c a b tier_view (Seeks (sought_of b stops epoch offset Refresh)) c.objects c.notes after) p
@@ -114,7 +114,7 @@ may_find c p a b tier_view x stops epoch offset log_end line before after piece 
       (let new : BrokerTierView = record tier_view { view = after } in
       let same : new ≡ other = one_some (slice_get (slice_set c.tier_views b new) b) new other (set_get c.tier_views b tier_view new tier_view_is) at in
       let kept = seen_kept c.notes c.notes c.desk safe.notes (prefix_self c.notes) in
-      let k = piece_lies after.entries line log_end offset piece (subst (λ (v : Seen). AreKept v.entries) (sym all) kept.0) (subst (λ (v : Seen). AreDistinct v.entries) (sym all) kept.1)
+      let k = piece_lies after.entries line log_end offset piece (subst (λ (v : EntriesSeen). AreEntriesValid v.entries) (sym all) kept.0) (subst (λ (v : EntriesSeen). AreDistinct v.entries) (sym all) kept.1)
       is_observable.rises made in
       let done = readable k.1.state k.2.readable in
       (k.1, subst (λ (t : BrokerTierView). entry_of piece.id t.view.entries ≡ Some k.1) same k.2.copy, λ e. absurd (cc (done, e))));
@@ -129,7 +129,7 @@ may_find c p a b tier_view x stops epoch offset log_end line before after piece 
 }
 
 -- and is taken up
-pub takes_up : (c : Scene) (p : Plain) (a b : ℕ) (tier_view : BrokerTierView) (x : Broker) (stops epoch offset log_end : ℕ) (line : List (ℕ × ℕ)) (before : TierTask) (after : Seen) (piece : Piece)
+pub takes_up : (c : Scene) (p : Plain) (a b : ℕ) (tier_view : BrokerTierView) (x : Broker) (stops epoch offset log_end : ℕ) (line : List (ℕ × ℕ)) (before : TierTask) (after : EntriesSeen) (piece : Piece)
     → TierSafe c p → slice_get c.tier_views b ≡ Some tier_view → slice_get c.desk a ≡ Some before → slice_get p.brokers b ≡ Some x → log_end ≡ end_of x.log → TellsEpochs line x.log
     → after ≡ view_of c.notes → piece_at after.entries line log_end offset ≡ Some piece
     → IsChanged c p (after_turn c a b tier_view (Seeks (sought_of b stops epoch offset Refresh)) c.objects c.notes after)
@@ -142,8 +142,8 @@ takes_up c p a b tier_view x stops epoch offset log_end line before after piece 
     (scene_same _ _ refl refl refl refl (set_set c.desk a (Seeks sought) (Seeks (sought_of b stops epoch offset (Index piece)))))
     (goes_on c d p (Moves a (Finds sought piece)) base (refl, may))
 
-chooses : (c : Scene) (p : Plain) (a b : ℕ) (tier_view : BrokerTierView) (x : Broker) (stops epoch : ℕ) (wanted : FetchRequest) (line : List (ℕ × ℕ)) (s : store.Content) (n : meta.Content) (view : Seen) (cache : Cache)
-    (after : Seen) (piece : Option Piece) → IsAtTurn c p a b tier_view x stops epoch wanted line Refresh s n view cache → after ≡ view_of c.notes
+chooses : (c : Scene) (p : Plain) (a b : ℕ) (tier_view : BrokerTierView) (x : Broker) (stops epoch : ℕ) (wanted : FetchRequest) (line : List (ℕ × ℕ)) (s : store.Content) (n : meta.Content) (view : EntriesSeen) (cache : Cache)
+    (after : EntriesSeen) (piece : Option Piece) → IsAtTurn c p a b tier_view x stops epoch wanted line Refresh s n view cache → after ≡ view_of c.notes
     → piece_at after.entries line wanted.log_end wanted.offset ≡ piece
     → IsChanged c p (after_turn c a b tier_view (Seeks (sought_of b stops epoch wanted.offset Refresh)) c.objects c.notes after)
     → IsChanged c p (after_turn c a b tier_view (fetch_work b stops epoch wanted.offset (chosen after.notes piece)) c.objects c.notes after)
@@ -180,14 +180,14 @@ module _ {S M : Type 0} (objects : S → store.Content) (calls : S → Control s
   -- refreshes
 
   refresh_turn : (c : Scene) (p : Plain) (a b : ℕ) (tier_view : BrokerTierView) (x : Broker) (stops epoch : ℕ) (wanted : FetchRequest) (line : List (ℕ × ℕ)) (result : Result FetchTurn AllocError) (s : store.Content)
-      (cache : Cache) (view after : Seen) (old new : M) → IsAtTurn c p a b tier_view x stops epoch wanted line Refresh s (notes old) view cache
+      (cache : Cache) (view after : EntriesSeen) (old new : M) → IsAtTurn c p a b tier_view x stops epoch wanted line Refresh s (notes old) view cache
       → RefreshRow notes notings wanted line result view after old new
       → IsChanged c p (after_fetch c a b tier_view (fetch_after b stops epoch wanted.offset Refresh result) s.objects (notes new).notes after cache)
   refresh_turn c p a b tier_view x stops epoch wanted line (Ok (Ends MetaFault)) s cache view after old new h row =
       quiet c p a b tier_view _ Free s (notes old) view cache s.objects (notes new).notes after cache h.shows h.cache_is (left c p a b tier_view h.shows.tier_view_is) refl row.content.notes row.view refl
   refresh_turn c p a b tier_view x stops epoch wanted line (Ok turn) s cache view after old new h row =
       let work = Seeks (sought_of b stops epoch wanted.offset Refresh) in
-      let r : Refreshes (notes old) tier_view.view after = subst (λ (v : Seen). Refreshes (notes old) v after) (sym h.shows.view_is) row.1.view in
+      let r : Refreshes (notes old) tier_view.view after = subst (λ (v : EntriesSeen). Refreshes (notes old) v after) (sym h.shows.view_is) row.1.view in
       let all = sees_all objects calls notes notings c p a b tier_view work s old after (shown c a b tier_view work s (notes old) view h.shows) h.few (h.safe.tier.views b tier_view h.shows.tier_view_is) r in
       named c p a b tier_view _ _ c.objects s.objects c.notes (notes new).notes after after cache cache (ap (fetch_work b stops epoch wanted.offset) (sym row.0)) h.shows.objects_are
       (h.shows.notes_are ∙ sym row.1.content.notes) refl refl
@@ -195,7 +195,7 @@ module _ {S M : Type 0} (objects : S → store.Content) (calls : S → Control s
       (chooses c p a b tier_view x stops epoch wanted line s (notes old) view cache after (piece_at after.entries line wanted.log_end wanted.offset) h all.0 refl all.1))
   refresh_turn c p a b tier_view x stops epoch wanted line (Err e) s cache view after old new h row =
       let work = Seeks (sought_of b stops epoch wanted.offset Refresh) in
-      let r : Advances (notes old) tier_view.view after = subst (λ (v : Seen). Advances (notes old) v after) (sym h.shows.view_is) row.view in
+      let r : Advances (notes old) tier_view.view after = subst (λ (v : EntriesSeen). Advances (notes old) v after) (sym h.shows.view_is) row.view in
       named c p a b tier_view work work c.objects s.objects c.notes (notes new).notes after after cache cache refl h.shows.objects_are (h.shows.notes_are ∙ sym row.content.notes) refl refl
       (as_fetch c p a b tier_view work c.objects c.notes after cache h.cache_is
       (sees_some objects calls notes notings c p a b tier_view work s old after (shown c a b tier_view work s (notes old) view h.shows) h.few (h.safe.tier.views b tier_view h.shows.tier_view_is) r))
@@ -203,13 +203,13 @@ module _ {S M : Type 0} (objects : S → store.Content) (calls : S → Control s
   -- reads of the store
 
   -- a turn that was answered, or ran out of memory, and left the cache
-  pub ended : (c : Scene) (p : Plain) (a b : ℕ) (tier_view : BrokerTierView) (x : Broker) (stops epoch : ℕ) (wanted : FetchRequest) (line : List (ℕ × ℕ)) (next : FetchStep) (ns : meta.Content) (view : Seen) (cache cache' : Cache)
+  pub ended : (c : Scene) (p : Plain) (a b : ℕ) (tier_view : BrokerTierView) (x : Broker) (stops epoch : ℕ) (wanted : FetchRequest) (line : List (ℕ × ℕ)) (next : FetchStep) (ns : meta.Content) (view : EntriesSeen) (cache cache' : Cache)
       (old new : S) → IsAtTurn c p a b tier_view x stops epoch wanted line next (objects old) ns view cache → (objects new).objects ≡ (objects old).objects → cache' ≡ cache
       → IsChanged c p (after_fetch c a b tier_view Free (objects new).objects ns.notes view cache')
   ended c p a b tier_view x stops epoch wanted line next ns view cache cache' old new h same kept =
       quiet c p a b tier_view _ Free (objects old) ns view cache (objects new).objects ns.notes view cache' h.shows h.cache_is (left c p a b tier_view h.shows.tier_view_is) same refl refl kept
 
-  pub halted : (c : Scene) (p : Plain) (a b : ℕ) (tier_view : BrokerTierView) (x : Broker) (stops epoch : ℕ) (wanted : FetchRequest) (line : List (ℕ × ℕ)) (next : FetchStep) (ns : meta.Content) (view : Seen) (cache cache' : Cache)
+  pub halted : (c : Scene) (p : Plain) (a b : ℕ) (tier_view : BrokerTierView) (x : Broker) (stops epoch : ℕ) (wanted : FetchRequest) (line : List (ℕ × ℕ)) (next : FetchStep) (ns : meta.Content) (view : EntriesSeen) (cache cache' : Cache)
       (old new : S) → IsAtTurn c p a b tier_view x stops epoch wanted line next (objects old) ns view cache → (objects new).objects ≡ (objects old).objects → cache' ≡ cache
       → IsChanged c p (after_fetch c a b tier_view (Seeks (sought_of b stops epoch wanted.offset next)) (objects new).objects ns.notes view cache')
   halted c p a b tier_view x stops epoch wanted line next ns view cache cache' old new h same kept =
@@ -217,7 +217,7 @@ module _ {S M : Type 0} (objects : S → store.Content) (calls : S → Control s
       (none c p a b tier_view (Seeks (sought_of b stops epoch wanted.offset next)) h.shows.tier_view_is h.shows.actor_state) same refl refl kept
 
   -- a turn with the index continues
-  went : (c : Scene) (p : Plain) (a b : ℕ) (tier_view : BrokerTierView) (x : Broker) (stops epoch : ℕ) (wanted : FetchRequest) (line : List (ℕ × ℕ)) (piece : Piece) (ns : meta.Content) (view : Seen) (cache cache' : Cache)
+  went : (c : Scene) (p : Plain) (a b : ℕ) (tier_view : BrokerTierView) (x : Broker) (stops epoch : ℕ) (wanted : FetchRequest) (line : List (ℕ × ℕ)) (piece : Piece) (ns : meta.Content) (view : EntriesSeen) (cache cache' : Cache)
       (old new : S) (turn : FetchTurn) (index : OffsetTable) → IsAtTurn c p a b tier_view x stops epoch wanted line (Index piece) (objects old) ns view cache → (objects new).objects ≡ (objects old).objects
       → turn ≡ reads_by wanted piece index
       → ((id : SegmentId) (t : OffsetTable) → In (id, t) (indexes_in cache') → In (id, t) tier_view.cache ⊎ CachedStands p.paths c.notes id t)
@@ -230,7 +230,7 @@ module _ {S M : Type 0} (objects : S → store.Content) (calls : S → Control s
 
   -- it was in the cache
   cached_turn : (c : Scene) (p : Plain) (a b : ℕ) (tier_view : BrokerTierView) (x : Broker) (stops epoch : ℕ) (wanted : FetchRequest) (line : List (ℕ × ℕ)) (piece : Piece) (result : Result FetchTurn AllocError)
-      (ns : meta.Content) (view : Seen) (cache cache' : Cache) (old new : S) (index : OffsetTable) → IsAtTurn c p a b tier_view x stops epoch wanted line (Index piece) (objects old) ns view cache
+      (ns : meta.Content) (view : EntriesSeen) (cache cache' : Cache) (old new : S) (index : OffsetTable) → IsAtTurn c p a b tier_view x stops epoch wanted line (Index piece) (objects old) ns view cache
       → found piece.id.0 cache.pairs ≡ Some index → IndexRow objects calls wanted piece view result (Some index) cache cache' old new
       → IsChanged c p (after_fetch c a b tier_view (fetch_after b stops epoch wanted.offset (Index piece) result) (objects new).objects ns.notes view cache')
   cached_turn c p a b tier_view x stops epoch wanted line piece result ns view cache cache' old new index h is row =
@@ -242,7 +242,7 @@ module _ {S M : Type 0} (objects : S → store.Content) (calls : S → Control s
       (λ id t has. inl (subst (In (id, t)) (sym h.cache_is) (brought_in piece.id index cache is (id, t) (subst (λ (k : Cache). In (id, t) (indexes_in k)) row.1 has)))) stand)
 
   -- it was read
-  loaded_turn : (c : Scene) (p : Plain) (a b : ℕ) (tier_view : BrokerTierView) (x : Broker) (stops epoch : ℕ) (wanted : FetchRequest) (line : List (ℕ × ℕ)) (piece : Piece) (next : FetchStep) (ns : meta.Content) (view : Seen)
+  loaded_turn : (c : Scene) (p : Plain) (a b : ℕ) (tier_view : BrokerTierView) (x : Broker) (stops epoch : ℕ) (wanted : FetchRequest) (line : List (ℕ × ℕ)) (piece : Piece) (next : FetchStep) (ns : meta.Content) (view : EntriesSeen)
       (cache cache' : Cache) (old new : S) (place : ℕ × Spot) (bytes : List ℕ) → IsAtTurn c p a b tier_view x stops epoch wanted line (Index piece) (objects old) ns view cache
       → spot_in wanted.partition piece.id part.Index (entry_of piece.id view.entries) ≡ Some place → Gets objects calls place.1.key (all_of place.1) (Ok (Some bytes)) old new
       → IsLoaded wanted piece place.0 bytes (Goes next) cache cache'
@@ -260,7 +260,7 @@ module _ {S M : Type 0} (objects : S → store.Content) (calls : S → Control s
 
   -- by where bytes are lacking
   bytes_turn : (end : Option ℕ) (c : Scene) (p : Plain) (a b : ℕ) (tier_view : BrokerTierView) (x : Broker) (stops epoch : ℕ) (wanted : FetchRequest) (line : List (ℕ × ℕ)) (piece : Piece)
-      (result : Result FetchTurn AllocError) (ns : meta.Content) (view : Seen) (cache cache' : Cache) (old new : S) (place : ℕ × Spot) (bytes : List ℕ)
+      (result : Result FetchTurn AllocError) (ns : meta.Content) (view : EntriesSeen) (cache cache' : Cache) (old new : S) (place : ℕ × Spot) (bytes : List ℕ)
       → IsAtTurn c p a b tier_view x stops epoch wanted line (Index piece) (objects old) ns view cache
       → spot_in wanted.partition piece.id part.Index (entry_of piece.id view.entries) ≡ Some place → Gets objects calls place.1.key (all_of place.1) (Ok (Some bytes)) old new
       → LoadsBytes end wanted piece place.0 place.1 bytes result cache cache'
@@ -276,7 +276,7 @@ module _ {S M : Type 0} (objects : S → store.Content) (calls : S → Control s
       halted c p a b tier_view x stops epoch wanted line (Index piece) ns view cache cache' old new h (fun_ext gets.content.objects) k
 
   read_turn : (c : Scene) (p : Plain) (a b : ℕ) (tier_view : BrokerTierView) (x : Broker) (stops epoch : ℕ) (wanted : FetchRequest) (line : List (ℕ × ℕ)) (piece : Piece) (result : Result FetchTurn AllocError) (ns : meta.Content)
-      (view : Seen) (cache cache' : Cache) (old new : S) (place : ℕ × Spot) (answer : Result (Option (List ℕ)) Trouble)
+      (view : EntriesSeen) (cache cache' : Cache) (old new : S) (place : ℕ × Spot) (answer : Result (Option (List ℕ)) Trouble)
       → IsAtTurn c p a b tier_view x stops epoch wanted line (Index piece) (objects old) ns view cache
       → spot_in wanted.partition piece.id part.Index (entry_of piece.id view.entries) ≡ Some place → Gets objects calls place.1.key (all_of place.1) answer old new
       → Loads wanted piece place.0 place.1 answer result cache cache'
@@ -294,7 +294,7 @@ module _ {S M : Type 0} (objects : S → store.Content) (calls : S → Control s
       bytes_turn (short_of place.1 bytes) c p a b tier_view x stops epoch wanted line piece result ns view cache cache' old new place bytes h at gets k
 
   load_turn : (c : Scene) (p : Plain) (a b : ℕ) (tier_view : BrokerTierView) (x : Broker) (stops epoch : ℕ) (wanted : FetchRequest) (line : List (ℕ × ℕ)) (piece : Piece) (result : Result FetchTurn AllocError) (ns : meta.Content)
-      (view : Seen) (cache cache' : Cache) (old new : S) (place : Option (ℕ × Spot)) → IsAtTurn c p a b tier_view x stops epoch wanted line (Index piece) (objects old) ns view cache
+      (view : EntriesSeen) (cache cache' : Cache) (old new : S) (place : Option (ℕ × Spot)) → IsAtTurn c p a b tier_view x stops epoch wanted line (Index piece) (objects old) ns view cache
       → spot_in wanted.partition piece.id part.Index (entry_of piece.id view.entries) ≡ place → LoadRow objects calls wanted piece view place result cache cache' old new
       → IsChanged c p (after_fetch c a b tier_view (fetch_after b stops epoch wanted.offset (Index piece) result) (objects new).objects ns.notes view cache')
   load_turn c p a b tier_view x stops epoch wanted line piece result ns view cache cache' old new None h at row =
@@ -304,7 +304,7 @@ module _ {S M : Type 0} (objects : S → store.Content) (calls : S → Control s
       read_turn c p a b tier_view x stops epoch wanted line piece result ns view cache cache' old new place row.answer h at row.gets row.loads
 
   index_turn : (c : Scene) (p : Plain) (a b : ℕ) (tier_view : BrokerTierView) (x : Broker) (stops epoch : ℕ) (wanted : FetchRequest) (line : List (ℕ × ℕ)) (piece : Piece) (result : Result FetchTurn AllocError) (ns : meta.Content)
-      (view : Seen) (cache cache' : Cache) (old new : S) (there : Option OffsetTable) → IsAtTurn c p a b tier_view x stops epoch wanted line (Index piece) (objects old) ns view cache
+      (view : EntriesSeen) (cache cache' : Cache) (old new : S) (there : Option OffsetTable) → IsAtTurn c p a b tier_view x stops epoch wanted line (Index piece) (objects old) ns view cache
       → found piece.id.0 cache.pairs ≡ there → IndexRow objects calls wanted piece view result there cache cache' old new
       → IsChanged c p (after_fetch c a b tier_view (fetch_after b stops epoch wanted.offset (Index piece) result) (objects new).objects ns.notes view cache')
   index_turn c p a b tier_view x stops epoch wanted line piece result ns view cache cache' old new (Some index) h is row =
@@ -314,12 +314,12 @@ module _ {S M : Type 0} (objects : S → store.Content) (calls : S → Control s
 
   -- the last turn changes nothing, and goes no further
 
-  log_keeps : (wanted : FetchRequest) (piece : Piece) (span : Span) (view : Seen) (place : Option (ℕ × Spot)) (result : Result FetchTurn AllocError) (old new : S)
+  log_keeps : (wanted : FetchRequest) (piece : Piece) (span : Span) (view : EntriesSeen) (place : Option (ℕ × Spot)) (result : Result FetchTurn AllocError) (old new : S)
       → LogRow objects calls wanted piece span view place result old new → (objects new).objects ≡ (objects old).objects
   log_keeps wanted piece span view None result old new row = ap (λ (t : S). (objects t).objects) row.1
   log_keeps wanted piece span view (Some place) result old new row = fun_ext row.gets.content.objects
 
-  cuts_end : (wanted : FetchRequest) (piece : Piece) (spot : Spot) (span : Span) (answer : Result (Option (List ℕ)) Trouble) (next : FetchStep) → Cuts wanted piece spot span answer (Ok (Goes next)) → ⊥
+  cuts_end : (wanted : FetchRequest) (piece : Piece) (spot : Spot) (span : Span) (answer : Result (Option (List ℕ)) Trouble) (next : FetchStep) → CutsRunOut wanted piece spot span answer (Ok (Goes next)) → ⊥
   cuts_end wanted piece spot span (Err Failed) next k = cc (k)
   cuts_end wanted piece spot span (Err NoMemory) next k = cc (k)
   cuts_end wanted piece spot span (Ok None) next k = cc (k)
@@ -329,13 +329,13 @@ module _ {S M : Type 0} (objects : S → store.Content) (calls : S → Control s
       by (Some end) k = cc (k)
       by None k = k
 
-  log_ends : (wanted : FetchRequest) (piece : Piece) (span : Span) (view : Seen) (place : Option (ℕ × Spot)) (next : FetchStep) (old new : S)
+  log_ends : (wanted : FetchRequest) (piece : Piece) (span : Span) (view : EntriesSeen) (place : Option (ℕ × Spot)) (next : FetchStep) (old new : S)
       → LogRow objects calls wanted piece span view place (Ok (Goes next)) old new → ⊥
   log_ends wanted piece span view None next old new row = cc (row.0)
   log_ends wanted piece span view (Some place) next old new row = cuts_end wanted piece place.1 span row.answer next row.cuts
 
   log_turn : (c : Scene) (p : Plain) (a b : ℕ) (tier_view : BrokerTierView) (x : Broker) (stops epoch : ℕ) (wanted : FetchRequest) (line : List (ℕ × ℕ)) (piece : Piece) (span : Span) (result : Result FetchTurn AllocError)
-      (ns : meta.Content) (view : Seen) (cache : Cache) (old new : S) (place : Option (ℕ × Spot)) → IsAtTurn c p a b tier_view x stops epoch wanted line (Log piece span) (objects old) ns view cache
+      (ns : meta.Content) (view : EntriesSeen) (cache : Cache) (old new : S) (place : Option (ℕ × Spot)) → IsAtTurn c p a b tier_view x stops epoch wanted line (Log piece span) (objects old) ns view cache
       → LogRow objects calls wanted piece span view place result old new
       → IsChanged c p (after_fetch c a b tier_view (fetch_after b stops epoch wanted.offset (Log piece span) result) (objects new).objects ns.notes view cache)
   log_turn c p a b tier_view x stops epoch wanted line piece span (Ok (Goes next)) ns view cache old new place h row = absurd (log_ends wanted piece span view place next old new row)

@@ -22,7 +22,7 @@ use Rattle.tier_fetch.specs.declared.turn.Span.{Span}
 use Rattle.tier_fetch.specs.declared.turn.FetchStep.{FetchStep}
 use Rattle.tier_fetch.specs.declared.turn.FetchStep.TheVariants.{Log}
 use Rattle.tier_fetch.specs.declared.turn.FetchTurn.TheVariants.{Ends}
-use Rattle.tier_fetch.specs.Turns.{Tiers, FetchRow}
+use Rattle.tier_fetch.specs.Turns.{Tiers, RemoteFetchRow}
 use Rattle.tier_safe.specs.Scene.{BrokerTierView, Scene}
 use Rattle.laws_tier_fetch.specs.Seeking.{IsAtTurn}
 
@@ -43,7 +43,7 @@ module _ {S M : Type 0} (objects : S → store.Content) (calls : S → Control s
   DamageIsOfLogs =
       (wanted : FetchRequest) (line : List (ℕ × ℕ)) (next : FetchStep) (place : Place) (at : ℕ) (old new : Tiers S M) (c : Scene) (p : Plain)
       (a b : ℕ) (tier_view : BrokerTierView) (x : Broker) (stops epoch : ℕ)
-      → FetchRow objects calls notes notings wanted line next (Ok (Ends (Damaged place at))) old new
+      → RemoteFetchRow objects calls notes notings wanted line next (Ok (Ends (Damaged place at))) old new
       → IsAtTurn c p a b tier_view x stops epoch wanted line next (objects old.store)
       (notes old.meta) old.view old.cache
       → IsOfLog wanted next place

@@ -20,12 +20,12 @@ use Rattle.remote_find.specs.declared.piece.Piece.{Piece}
 use Rattle.tier_fetch.specs.declared.turn.FetchRequest.{FetchRequest}
 use Rattle.tier_fetch.specs.declared.turn.FetchStep.{FetchStep}
 use Rattle.tier_fetch.specs.declared.turn.FetchTurn.TheVariants.{Ends}
-use Rattle.tier_fetch.specs.Turns.{Tiers, FetchRow}
+use Rattle.tier_fetch.specs.Turns.{Tiers, RemoteFetchRow}
 use Rattle.tier_safe.specs.Scene.{BrokerTierView, Scene}
 use Rattle.laws_tier_fetch.specs.Seeking.{piece_of, IsAtTurn}
 
 -- the bytes are those of the run of a log at the offset, up to a mark
-pub record IsLogRun (log : List (List ℕ)) (offset limit mark size : ℕ) (stop : Stop) (bytes : List ℕ) : Type 0 where
+pub record IsRunBytes (log : List (List ℕ)) (offset limit mark size : ℕ) (stop : Stop) (bytes : List ℕ) : Type 0 where
   pub run : List (List ℕ)
   pub is : IsRunOf log offset limit mark stop run
   pub spelled : bytes ≡ joined run
@@ -37,7 +37,7 @@ pub record ServesRun (log : List (List ℕ)) (wanted : FetchRequest) (next : Fet
   pub piece : Piece
   pub found : piece_of next ≡ Some piece
   pub tier_is : tier ≡ Remote piece.id
-  pub run : IsLogRun log wanted.offset wanted.limit wanted.mark size stop bytes
+  pub run : IsRunBytes log wanted.offset wanted.limit wanted.mark size stop bytes
 
 module _ {S M : Type 0} (objects : S → store.Content) (calls : S → Control store_call.call_code)
     (notes : M → meta.Content) (notings : M → Control meta_call.call_code) where
@@ -48,7 +48,7 @@ module _ {S M : Type 0} (objects : S → store.Content) (calls : S → Control s
       × ℕ)) (next : FetchStep) (tier : Tier) (size : ℕ) (stop : Stop) (bytes : List ℕ)
       (old new : Tiers S M) (c : Scene) (p : Plain) (a b : ℕ) (tier_view : BrokerTierView) (x : Broker)
       (stops epoch : ℕ)
-      → FetchRow objects calls notes notings wanted line next (Ok (Ends (Run tier size stop bytes))) old new
+      → RemoteFetchRow objects calls notes notings wanted line next (Ok (Ends (Run tier size stop bytes))) old new
       → IsAtTurn c p a b tier_view x stops epoch wanted line next (objects old.store)
       (notes old.meta) old.view old.cache
       → ServesRun x.log wanted next tier size stop bytes

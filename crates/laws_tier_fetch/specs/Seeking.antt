@@ -15,7 +15,7 @@ use Rattle.object_store.specs.Content as store
 use Rattle.meta_log.specs.Content as meta
 use Rattle.plain_log.specs.declared.state.State.{State as Plain}
 use Rattle.plain_log.specs.declared.state.Broker.{Broker}
-use Rattle.remote_view.specs.Fold.{Seen}
+use Rattle.remote_view.specs.Fold.{EntriesSeen}
 use Rattle.remote_find.specs.declared.piece.Piece.{Piece}
 use Rattle.tier_fetch.specs.declared.turn.FetchRequest.{FetchRequest}
 use Rattle.tier_fetch.specs.declared.turn.FetchStep.{FetchStep}
@@ -26,7 +26,7 @@ use Rattle.tier_safe.specs.Scene.{BrokerTierView, Sought, TierTask, Free, Seeks,
 use Rattle.tier_safe.specs.Fetches.{StillLeads}
 use Rattle.tier_safe.specs.Safe.{BothSafe}
 use Rattle.tier_safe.specs.Reads.{TellsEpochs}
-use Rattle.tier_safe.specs.Turns.{Shows}
+use Rattle.tier_safe.specs.Turns.{ShowsScene}
 
 -- a fetch
 
@@ -79,10 +79,10 @@ indexes_in cache = map under_id cache.pairs
 -- it still
 pub record IsAtTurn (c : Scene) (p : Plain) (a b : ℕ) (tier_view : BrokerTierView) (x : Broker) (stops epoch : ℕ)
     (wanted : FetchRequest)
-    (line : List (ℕ × ℕ)) (next : FetchStep) (objects : store.Content) (notes : meta.Content) (view : Seen) (cache : Cache) : Type 0 where
+    (line : List (ℕ × ℕ)) (next : FetchStep) (objects : store.Content) (notes : meta.Content) (view : EntriesSeen) (cache : Cache) : Type 0 where
   pub safe : BothSafe c p
   pub few : length c.notes < 2 ^ 64
-  pub shows : Shows c a b tier_view (Seeks (sought_of b stops epoch wanted.offset next)) objects notes view
+  pub shows : ShowsScene c a b tier_view (Seeks (sought_of b stops epoch wanted.offset next)) objects notes view
   pub cache_is : tier_view.cache ≡ indexes_in cache
   pub partition : wanted.partition ≡ c.partition
   pub broker_is : slice_get p.brokers b ≡ Some x
@@ -92,7 +92,8 @@ pub record IsAtTurn (c : Scene) (p : Plain) (a b : ℕ) (tier_view : BrokerTierV
   pub is_observable : TellsEpochs line x.log
 
 -- the tier after a turn of the fetch in that actor's state
-abbrev pub after_fetch : Scene → ℕ → ℕ → BrokerTierView → TierTask → store.Objects → List Note → Seen → Cache → Scene
+abbrev pub after_fetch : Scene → ℕ → ℕ → BrokerTierView → TierTask → store.Objects → List Note → EntriesSeen → Cache
+    → Scene
 after_fetch c a b tier_view work objects notes view cache = record {
   partition = c.partition;
   objects = objects;

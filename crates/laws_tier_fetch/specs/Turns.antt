@@ -23,7 +23,7 @@ use Rattle.tier_fetch.specs.declared.turn.FetchRequest.{FetchRequest}
 use Rattle.tier_fetch.specs.declared.turn.FetchStep.{FetchStep}
 use Rattle.tier_fetch.specs.declared.turn.FetchStep.TheVariants.{Refresh}
 use Rattle.tier_fetch.specs.declared.turn.FetchTurn.{FetchTurn}
-use Rattle.tier_fetch.specs.Turns.{Tiers, FetchRow}
+use Rattle.tier_fetch.specs.Turns.{Tiers, RemoteFetchRow}
 use Rattle.tier_safe.specs.Scene.{BrokerTierView, Free, Seeks, Scene}
 use Rattle.tier_safe.specs.Fetches.{StillLeads}
 use Rattle.tier_safe.specs.May.{IsChanged}
@@ -45,7 +45,7 @@ module _ {S M : Type 0} (objects : S → store.Content) (calls : S → Control s
       (wanted : FetchRequest) (line : List (ℕ
       × ℕ)) (next : FetchStep) (result : Result FetchTurn AllocError) (old new : Tiers S M)
       (c : Scene) (p : Plain) (a b : ℕ) (tier_view : BrokerTierView) (x : Broker) (stops epoch : ℕ)
-      → FetchRow objects calls notes notings wanted line next result old new
+      → RemoteFetchRow objects calls notes notings wanted line next result old new
       → IsAtTurn c p a b tier_view x stops epoch wanted line next (objects old.store)
       (notes old.meta) old.view old.cache
       → IsChanged c p (after_fetch c a b tier_view (fetch_after b stops epoch wanted.offset next result)

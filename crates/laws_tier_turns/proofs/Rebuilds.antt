@@ -29,7 +29,7 @@ use Rattle.plain_log.specs.Ends.{is_end}
 use Rattle.plain_log.specs.RowsOfFollowers.{extended, rebuilt as rebuilt_broker}
 use Rattle.plain_log.specs.Rows.{row}
 use Rattle.plain_log.specs.Step.{event_step, step}
-use Rattle.plain_log.specs.Safe.{Has, HasJoined, PlainSafe, is_followers}
+use Rattle.plain_log.specs.Safe.{HasOnPath, HasJoined, PlainSafe, is_followers}
 use Rattle.plain_log.proofs.Options.{when_some, map_some, both, eq_of}
 use Rattle.plain_log.proofs.StepLaw.{step_of}
 use Rattle.laws_partition.specs.declared.start_snapshot.StartSnapshot.{StartSnapshot}
@@ -41,7 +41,7 @@ use Rattle.laws_partition.specs.Sound.{NodeSound}
 use Rattle.tier_safe.specs.Scene.{BrokerTierView, Rebuild, Free, Rebuilds, Scene}
 use Rattle.tier_safe.specs.Changes.{Leaves, Restarts, Steps, Moves, Drops, effect}
 use Rattle.tier_safe.specs.Follow.{BrokerTierGoes, BrokerTiersFollow}
-use Rattle.tier_safe.specs.May.{MayDrop}
+use Rattle.tier_safe.specs.May.{MayDropLocal}
 use Rattle.laws_tier_turns.specs.BrokerTiers.{BrokerTierModel, next_of, greatest, start_of, tier_view_of, tier_views_of}
 use Rattle.laws_tier_turns.specs.Turns.{TurnStands, ShowsBrokerTiers, IsTurned}
 use Rattle.laws_tier_turns.proofs.Places.{one_at, set_get, set_set, beside, tier_view_has, tier_views_set}
@@ -231,7 +231,7 @@ restarts brokers h h' p q x y g answer order entry broker_tiers c a n rebuild t 
     follow = one_follows brokers h p q broker_tiers b x y (tier_view_of x broker_tier) between c t.sound t.before shows.count t.node (t.after.brokers ∙ ap (map broker_of) nodes)
         (shows.are ∙ sym (set-same (tier_views_of h.nodes broker_tiers) b (tier_view_of x broker_tier) (tier_view_has h.nodes broker_tiers b x broker_tier t.node there.1))) goes
 
-    has : Has q.paths rebuild.epoch y.log.batches
+    has : HasOnPath q.paths rebuild.epoch y.log.batches
     has =
         let one : r.epoch ≡ rebuild.epoch = cc (r.follows, role) in
         (r.path, ap (path_of q.paths) (sym one) ∙ r.path_is, subst (λ (w : List (List ℕ)). IsPrefix w r.path) (sym log) (up_to_prefix n r.path))
@@ -239,7 +239,7 @@ restarts brokers h h' p q x y g answer order entry broker_tiers c a n rebuild t 
     start : start_of y ≡ n
     start = m.start r.above
 
-    drop : MayDrop b between (start_of y) (Restarts a rebuild) (effect (Steps stepped) c) q
+    drop : MayDropLocal b between (start_of y) (Restarts a rebuild) (effect (Steps stepped) c) q
     drop = record {
       tier_view_is = set_get (tier_views_of h.nodes broker_tiers) b (tier_view_of x broker_tier) between (tier_view_has h.nodes broker_tiers b x broker_tier t.node there.1);
       x = broker_of y;

@@ -11,12 +11,12 @@ use Rattle.laws_partition.specs.declared.start_snapshot.StartSnapshot.{StartSnap
 use Rattle.laws_partition.specs.declared.start_snapshot.Turned.{Turned}
 use Rattle.laws_partition.specs.Seen.{Node, SeenPartition}
 use Rattle.laws_partition.specs.Partition.{broker_of, broken, kept_line, put_node}
-use Rattle.laws_partition.specs.RowsOfLog.{MayBegin}
+use Rattle.laws_partition.specs.RowsOfLog.{MayStartAt}
 use Rattle.laws_partition.specs.Sound.{NodeSound}
 use Rattle.tier_safe.specs.Scene.{BrokerTierView, Free, Scene}
 use Rattle.tier_safe.specs.Changes.{Leaves, Trims, Steps, Moves, Drops, effect}
 use Rattle.tier_safe.specs.Follow.{BrokerTierGoes, BrokerTiersFollow}
-use Rattle.tier_safe.specs.May.{MayDrop}
+use Rattle.tier_safe.specs.May.{MayDropLocal}
 use Rattle.laws_tier_turns.specs.BrokerTiers.{BrokerTierModel, next_of, greatest, start_of, tier_view_of, tier_views_of}
 use Rattle.laws_tier_turns.specs.Turns.{TurnStands, ShowsBrokerTiers, IsTrimmed, IsTurned}
 use Rattle.laws_tier_turns.proofs.Places.{set_get, beside, tier_view_has, tier_views_set}
@@ -31,7 +31,7 @@ pub record NodeTrims (x y : Node) : Type 0 where
   pub up : y.up ≡ true → x.up ≡ true
 
 -- a segment goes
-pub node_drops : (x : Node) (start : ℕ) → NodeSound x → x.up ≡ true → MayBegin x start → NodeTrims x (record x { local = start; saved = kept_line x })
+pub node_drops : (x : Node) (start : ℕ) → NodeSound x → x.up ≡ true → MayStartAt x start → NodeTrims x (record x { local = start; saved = kept_line x })
 node_drops x start s up may =
     let y : Node = record x { local = start; saved = kept_line x } in
     let high = ends_below x.flushed_end x.log.batches s.log.consecutive s.flushed_end in
@@ -39,7 +39,7 @@ node_drops x start s up may =
     record { within = omega (arith, is, may.flushed_end, high); log = refl; incarnation = refl; up = λ u. u }
 
 -- or the disk fails at it
-pub node_fails : (x : Node) (start : ℕ) → NodeSound x → MayBegin x start → NodeTrims x (broken x (x.flushed_end, kept_line x, start))
+pub node_fails : (x : Node) (start : ℕ) → NodeSound x → MayStartAt x start → NodeTrims x (broken x (x.flushed_end, kept_line x, start))
 node_fails x start s may =
     let high = ends_below x.flushed_end x.log.batches s.log.consecutive s.flushed_end in
     let is : start_of (broken x (x.flushed_end, kept_line x, start)) ≡ max x.local start = refl in
@@ -70,7 +70,7 @@ trims brokers h h' p q x y g turned order entry broker_tiers c a t shows n same 
     trimmed : IsTrimmed h.registry.start x y broker_tier
     trimmed = owes y broker_tier (ap (λ (ns : List Node). slice_get ns b) nodes ∙ set_get h.nodes b x y t.node) there.1
 
-    drop : MayDrop b (tier_view_of x broker_tier) (start_of y) Trims c p
+    drop : MayDropLocal b (tier_view_of x broker_tier) (start_of y) Trims c p
     drop = record {
       tier_view_is = ap (λ (ss : List BrokerTierView). slice_get ss b) shows.are ∙ tier_view_has h.nodes broker_tiers b x broker_tier t.node there.1;
       x = broker_of x;

@@ -4,14 +4,14 @@
 use Rattle.std.specs.Prelude.{ℕ, ◌==◌, if◌then◌else◌, max, List, [], ◌∷◌, Option, Some, None}
 use Rattle.tier_base.specs.declared.names.SegmentId.{SegmentId}
 use Rattle.sparse_index.specs.Offsets.{OffsetTable}
-use Rattle.remote_view.specs.Fold.{Seen, view_of}
+use Rattle.remote_view.specs.Fold.{EntriesSeen, view_of}
 use Rattle.laws_partition.specs.Seen.{Back, Node}
 use Rattle.tier_safe.specs.Scene.{BrokerTierView}
 
 -- what a broker knows of the remote tier: its view, the number of its next copy since its log was opened so often,
 -- and its cache of remote indexes
 pub record BrokerTierModel : Type 0 where
-  pub view : Seen
+  pub view : EntriesSeen
   pub incarnation : ℕ
   pub attempt : ℕ
   pub cache : List (SegmentId × OffsetTable)

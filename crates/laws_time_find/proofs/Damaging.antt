@@ -28,7 +28,7 @@ use Rattle.plain_log.specs.declared.answer.Answer.{Answer}
 use Rattle.plain_log.specs.declared.answer.Answer.TheVariants.{Damaged, Run}
 use Rattle.plain_log.specs.declared.answer.Place.{Place}
 use Rattle.plain_log.specs.declared.answer.Place.TheVariants.{Key, File, Meta}
-use Rattle.remote_view.specs.Fold.{Seen, entry_of, view_of, AreKept, AreDistinct}
+use Rattle.remote_view.specs.Fold.{EntriesSeen, entry_of, view_of, AreEntriesValid, AreDistinct}
 use Rattle.remote_find.specs.declared.piece.Piece.{Piece}
 use Rattle.remote_find.specs.Pieces.{piece_at}
 use Rattle.remote_find.proofs.Clipping.{piece_lies}
@@ -36,7 +36,7 @@ use Rattle.tier_fetch.specs.declared.turn.Span.{Span}
 use Rattle.tier_fetch.specs.declared.turn.FetchStep.TheVariants as fetch
 use Rattle.tier_fetch.specs.declared.turn.FetchTurn.{FetchTurn}
 use Rattle.tier_fetch.specs.declared.turn.FetchTurn.TheVariants as fetching
-use Rattle.tier_fetch.specs.Turns.{spot_in, Tiers, FetchRow}
+use Rattle.tier_fetch.specs.Turns.{spot_in, Tiers, RemoteFetchRow}
 use Rattle.tier_safe.specs.Scene.{BrokerTierView, Free, Scene}
 use Rattle.tier_safe.specs.May.{IsChanged}
 use Rattle.tier_safe.specs.Turns.{after_turn}
@@ -53,7 +53,7 @@ use Rattle.time_find.specs.declared.turn.Asked.{Asked}
 use Rattle.time_find.specs.declared.turn.SearchStep.TheVariants.{Seek, Times, Index, Log}
 use Rattle.time_find.specs.declared.turn.TimeTurn.TheVariants.{Ends}
 use Rattle.time_find.specs.Passing.{Passes, Stays, Over, SeeksNothing, Seeks}
-use Rattle.time_find.specs.Turns.{TimesBytes, Times as Timed, wanted_at, Indexes, Searches, SeekRow, TimesRow, IndexRow, LogRow}
+use Rattle.time_find.specs.Turns.{TimesBytes, Times as Timed, wanted_at, Indexes, SearchTakes, SeekRow, TimesRow, SearchIndexRow, SearchLogRow}
 use Rattle.laws_time_find.specs.Searching.{IsAtSearch}
 use Rattle.laws_time_find.specs.Answers.{IsOfLog, SearchDamageIsOfLogs}
 use Rattle.laws_time_find.proofs.Timing.{times_rise}
@@ -69,8 +69,8 @@ passes_up asked line entries cursor at holds (Over start before piece passes bel
     omega (arith, up, on)
 
 -- the view of all metadata events has a piece wherever a pass ends below the top
-none_lacks : (c : Scene) (p : Plain) (a b : ℕ) (tier_view : BrokerTierView) (x : Broker) (stops epoch : ℕ) (asked : Asked) (line : List (ℕ × ℕ)) (cursor : ℕ) (s : store.Content) (n : meta.Content) (view : Seen)
-    (cache : Cache) (after : Seen) → IsAtSearch c p a b tier_view x stops epoch asked line cursor Seek s n view cache → after ≡ view_of c.notes
+none_lacks : (c : Scene) (p : Plain) (a b : ℕ) (tier_view : BrokerTierView) (x : Broker) (stops epoch : ℕ) (asked : Asked) (line : List (ℕ × ℕ)) (cursor : ℕ) (s : store.Content) (n : meta.Content) (view : EntriesSeen)
+    (cache : Cache) (after : EntriesSeen) → IsAtSearch c p a b tier_view x stops epoch asked line cursor Seek s n view cache → after ≡ view_of c.notes
     → IsChanged c p (after_turn c a b tier_view Free c.objects c.notes after) → SeeksNothing asked line after.entries cursor → ⊥
 none_lacks c p a b tier_view x stops epoch asked line cursor s n view cache after h all change k =
     let d = after_turn c a b tier_view Free c.objects c.notes after in
@@ -78,7 +78,7 @@ none_lacks c p a b tier_view x stops epoch asked line cursor s n view cache afte
     let new : BrokerTierView = record tier_view { view = after } in
     let kept = seen_kept c.notes c.notes c.desk h.safe.tier.notes (prefix_self c.notes) in
     let up = passes_up asked line after.entries cursor k.at
-    (λ o piece made. (piece_lies after.entries line asked.log_end o piece (subst (λ (v : Seen). AreKept v.entries) (sym all) kept.0) (subst (λ (v : Seen). AreDistinct v.entries) (sym all) kept.1)
+    (λ o piece made. (piece_lies after.entries line asked.log_end o piece (subst (λ (v : EntriesSeen). AreEntriesValid v.entries) (sym all) kept.0) (subst (λ (v : EntriesSeen). AreDistinct v.entries) (sym all) kept.1)
     h.is_observable.rises made).2.holds.1) k.passes in
     let past = h.past in
     let below = k.below in
@@ -92,10 +92,10 @@ module _ {S M : Type 0} (objects : S → store.Content) (calls : S → Control s
     (notes : M → meta.Content) (notings : M → Control meta_call.call_code) where
   -- no refresh shows damage
   seek_damage : (c : Scene) (p : Plain) (a b : ℕ) (tier_view : BrokerTierView) (x : Broker) (stops epoch : ℕ) (asked : Asked) (line : List (ℕ × ℕ)) (cursor : ℕ) (s : store.Content) (cache : Cache)
-      (view after : Seen) (old new : M) (place : Place) (at : ℕ) → IsAtSearch c p a b tier_view x stops epoch asked line cursor Seek s (notes old) view cache
+      (view after : EntriesSeen) (old new : M) (place : Place) (at : ℕ) → IsAtSearch c p a b tier_view x stops epoch asked line cursor Seek s (notes old) view cache
       → SeekRow notes notings asked line cursor (Ok (Ends (Damaged place at))) view after old new → ⊥
   seek_damage c p a b tier_view x stops epoch asked line cursor s cache view after old new place at h row =
-      let r : Refreshes (notes old) tier_view.view after = subst (λ (v : Seen). Refreshes (notes old) v after) (sym h.shows.view_is) row.1.view in
+      let r : Refreshes (notes old) tier_view.view after = subst (λ (v : EntriesSeen). Refreshes (notes old) v after) (sym h.shows.view_is) row.1.view in
       let all = sees_all objects calls notes notings c p a b tier_view Free s old after (shown c a b tier_view Free s (notes old) view h.shows) h.few (h.safe.tier.views b tier_view h.shows.tier_view_is) r in
       by place row.0 (none_lacks c p a b tier_view x stops epoch asked line cursor s (notes old) view cache after h all.0 all.1)
     where
@@ -105,7 +105,7 @@ module _ {S M : Type 0} (objects : S → store.Content) (calls : S → Control s
       by Meta k none = none k.0
 
   -- nor does a time index
-  reads_damage : (c : Scene) (p : Plain) (a b : ℕ) (tier_view : BrokerTierView) (x : Broker) (stops epoch : ℕ) (asked : Asked) (line : List (ℕ × ℕ)) (cursor : ℕ) (piece : Piece) (ns : meta.Content) (view : Seen)
+  reads_damage : (c : Scene) (p : Plain) (a b : ℕ) (tier_view : BrokerTierView) (x : Broker) (stops epoch : ℕ) (asked : Asked) (line : List (ℕ × ℕ)) (cursor : ℕ) (piece : Piece) (ns : meta.Content) (view : EntriesSeen)
       (cache : Cache) (old new : S) (spot : ℕ × Spot) (place : Place) (at : ℕ) (answer : Result (Option (List ℕ)) Trouble)
       → IsAtTurn c p a b tier_view x stops epoch (wanted_at asked cursor) line (fetch.Index piece) (objects old) ns view cache
       → spot_in asked.partition piece.id part.TimeIndex (entry_of piece.id view.entries) ≡ Some spot → Gets objects calls spot.1.key (all_of spot.1) answer old new
@@ -130,7 +130,7 @@ module _ {S M : Type 0} (objects : S → store.Content) (calls : S → Control s
       none.1 (time_index_of r.entry.start r.held.interval (placed_from 0 r.held.batches)).entries (times_rise r.entry.start r.held.interval r.held.batches d.is)
       (same ∙ ap (λ (m : ℕ). bytes_of moment_bytes (time_index_of m r.held.interval (placed_from 0 r.held.batches)).entries) first)
 
-  times_damage : (c : Scene) (p : Plain) (a b : ℕ) (tier_view : BrokerTierView) (x : Broker) (stops epoch : ℕ) (asked : Asked) (line : List (ℕ × ℕ)) (cursor : ℕ) (piece : Piece) (ns : meta.Content) (view : Seen)
+  times_damage : (c : Scene) (p : Plain) (a b : ℕ) (tier_view : BrokerTierView) (x : Broker) (stops epoch : ℕ) (asked : Asked) (line : List (ℕ × ℕ)) (cursor : ℕ) (piece : Piece) (ns : meta.Content) (view : EntriesSeen)
       (cache : Cache) (old new : S) (spot : Option (ℕ × Spot)) (place : Place) (at : ℕ)
       → IsAtTurn c p a b tier_view x stops epoch (wanted_at asked cursor) line (fetch.Index piece) (objects old) ns view cache
       → spot_in asked.partition piece.id part.TimeIndex (entry_of piece.id view.entries) ≡ spot → TimesRow objects calls asked cursor piece view spot (Ok (Ends (Damaged place at))) old new → ⊥
@@ -145,7 +145,7 @@ module _ {S M : Type 0} (objects : S → store.Content) (calls : S → Control s
   -- what a fetch's turn says of
 
   indexes_damage : (asked : Asked) (line : List (ℕ × ℕ)) (cursor from : ℕ) (piece : Piece) (place : Place) (at : ℕ) (turn : Result FetchTurn AllocError) (old new : Tiers S M)
-      (c : Scene) (p : Plain) (a b : ℕ) (tier_view : BrokerTierView) (x : Broker) (stops epoch : ℕ) → FetchRow objects calls notes notings (wanted_at asked from) line (fetch.Index piece) turn old new
+      (c : Scene) (p : Plain) (a b : ℕ) (tier_view : BrokerTierView) (x : Broker) (stops epoch : ℕ) → RemoteFetchRow objects calls notes notings (wanted_at asked from) line (fetch.Index piece) turn old new
       → Indexes cursor piece from turn (Ok (Ends (Damaged place at)))
       → IsAtTurn c p a b tier_view x stops epoch (wanted_at asked from) line (fetch.Index piece) (objects old.store) (notes old.meta) old.view old.cache → ⊥
   indexes_damage asked line cursor from piece place at (Ok (fetching.Goes (fetch.Log found span))) old new c p a b tier_view x stops epoch row k h = (let is = k.1 in cc (is))
@@ -153,35 +153,35 @@ module _ {S M : Type 0} (objects : S → store.Content) (calls : S → Control s
   indexes_damage asked line cursor from piece place at (Ok (fetching.Goes (fetch.Index found))) old new c p a b tier_view x stops epoch row k h = k
   indexes_damage asked line cursor from piece place at (Ok (fetching.Ends answer)) old new c p a b tier_view x stops epoch row k h =
       let same : answer ≡ Damaged place at = cc (k) in
-      let told : FetchRow objects calls notes notings (wanted_at asked from) line (fetch.Index piece) (Ok (fetching.Ends (Damaged place at))) old new =
-      subst (λ (w : Answer). FetchRow objects calls notes notings (wanted_at asked from) line (fetch.Index piece) (Ok (fetching.Ends w)) old new) same row in
+      let told : RemoteFetchRow objects calls notes notings (wanted_at asked from) line (fetch.Index piece) (Ok (fetching.Ends (Damaged place at))) old new =
+      subst (λ (w : Answer). RemoteFetchRow objects calls notes notings (wanted_at asked from) line (fetch.Index piece) (Ok (fetching.Ends w)) old new) same row in
       let is = (damage_is_of_logs objects calls notes notings (wanted_at asked from) line (fetch.Index piece) place at old new c p a b tier_view x stops epoch told h).next_is in
       cc (is)
   indexes_damage asked line cursor from piece place at (Err e) old new c p a b tier_view x stops epoch row k h = cc (k)
 
   searches_damage : (asked : Asked) (line : List (ℕ × ℕ)) (from : ℕ) (piece : Piece) (span : Span) (place : Place) (at : ℕ) (turn : Result FetchTurn AllocError) (old new : Tiers S M)
-      (c : Scene) (p : Plain) (a b : ℕ) (tier_view : BrokerTierView) (x : Broker) (stops epoch : ℕ) → FetchRow objects calls notes notings (wanted_at asked from) line (fetch.Log piece span) turn old new
-      → Searches asked from turn (Ok (Ends (Damaged place at)))
+      (c : Scene) (p : Plain) (a b : ℕ) (tier_view : BrokerTierView) (x : Broker) (stops epoch : ℕ) → RemoteFetchRow objects calls notes notings (wanted_at asked from) line (fetch.Log piece span) turn old new
+      → SearchTakes asked from turn (Ok (Ends (Damaged place at)))
       → IsAtTurn c p a b tier_view x stops epoch (wanted_at asked from) line (fetch.Log piece span) (objects old.store) (notes old.meta) old.view old.cache
       → IsOfFetched (wanted_at asked from) (fetch.Log piece span) place
   searches_damage asked line from piece span place at (Ok (fetching.Ends (Run tier size stop bytes))) old new c p a b tier_view x stops epoch row k h = absurd k
   searches_damage asked line from piece span place at (Ok (fetching.Ends answer)) old new c p a b tier_view x stops epoch row k h =
       let same : answer ≡ Damaged place at = cc (k) in
-      let told : FetchRow objects calls notes notings (wanted_at asked from) line (fetch.Log piece span) (Ok (fetching.Ends (Damaged place at))) old new =
-      subst (λ (w : Answer). FetchRow objects calls notes notings (wanted_at asked from) line (fetch.Log piece span) (Ok (fetching.Ends w)) old new) same row in
+      let told : RemoteFetchRow objects calls notes notings (wanted_at asked from) line (fetch.Log piece span) (Ok (fetching.Ends (Damaged place at))) old new =
+      subst (λ (w : Answer). RemoteFetchRow objects calls notes notings (wanted_at asked from) line (fetch.Log piece span) (Ok (fetching.Ends w)) old new) same row in
       damage_is_of_logs objects calls notes notings (wanted_at asked from) line (fetch.Log piece span) place at old new c p a b tier_view x stops epoch told h
   searches_damage asked line from piece span place at (Ok (fetching.Goes next)) old new c p a b tier_view x stops epoch row k h = absurd k
   searches_damage asked line from piece span place at (Err e) old new c p a b tier_view x stops epoch row k h = absurd (cc (k))
 
   index_damage : (asked : Asked) (line : List (ℕ × ℕ)) (cursor from : ℕ) (piece : Piece) (place : Place) (at : ℕ) (old new : Tiers S M) (c : Scene) (p : Plain) (a b : ℕ) (tier_view : BrokerTierView)
-      (x : Broker) (stops epoch : ℕ) → IndexRow objects calls notes notings asked line cursor piece from (Ok (Ends (Damaged place at))) old new
+      (x : Broker) (stops epoch : ℕ) → SearchIndexRow objects calls notes notings asked line cursor piece from (Ok (Ends (Damaged place at))) old new
       → IsAtTurn c p a b tier_view x stops epoch (wanted_at asked from) line (fetch.Index piece) (objects old.store) (notes old.meta) old.view old.cache → ⊥
   index_damage asked line cursor from piece place at old new c p a b tier_view x stops epoch (inl row) h = (let is = row.1 in cc (is))
   index_damage asked line cursor from piece place at old new c p a b tier_view x stops epoch (inr row) h =
       indexes_damage asked line cursor from piece place at row.1.0 old new c p a b tier_view x stops epoch row.1.1 row.1.2 h
 
   log_damage : (asked : Asked) (line : List (ℕ × ℕ)) (from : ℕ) (piece : Piece) (span : Span) (place : Place) (at : ℕ) (old new : Tiers S M) (c : Scene) (p : Plain) (a b : ℕ) (tier_view : BrokerTierView)
-      (x : Broker) (stops epoch : ℕ) → LogRow objects calls notes notings asked line piece from span (Ok (Ends (Damaged place at))) old new
+      (x : Broker) (stops epoch : ℕ) → SearchLogRow objects calls notes notings asked line piece from span (Ok (Ends (Damaged place at))) old new
       → IsAtTurn c p a b tier_view x stops epoch (wanted_at asked from) line (fetch.Log piece span) (objects old.store) (notes old.meta) old.view old.cache
       → IsOfLog asked (Log piece from span) place
   log_damage asked line from piece span place at old new c p a b tier_view x stops epoch (inl row) h = absurd (let is = row.1 in cc (is))

@@ -13,7 +13,7 @@ use Rattle.segment_meta.specs.declared.note.Entry.{Entry}
 use Rattle.plain_log.specs.declared.state.State.{State as Plain}
 use Rattle.plain_log.specs.declared.state.Broker.{Broker}
 use Rattle.plain_log.specs.Safe.{PlainSafe}
-use Rattle.remote_view.specs.Fold.{Seen, entry_of, fold}
+use Rattle.remote_view.specs.Fold.{EntriesSeen, entry_of, fold}
 use Rattle.remote_find.specs.declared.piece.Piece.{Piece}
 use Rattle.remote_find.specs.Pieces.{piece_at}
 use Rattle.tier_safe.specs.Scene.{Scene}
@@ -141,13 +141,13 @@ early_is ts None is = absurd (cc (is))
 early_is ts (Some entry) is = record { entry = entry; there = refl; is = is }
 
 -- one piece
-pub over_piece : (c : Scene) (p : Plain) (n : ℕ) (x : Broker) (view : Seen) (ts : ℤ) (at : ℕ) (piece : Piece) → PlainSafe p → TierSafe c p → slice_get p.brokers n ≡ Some x → IsViewOf c.notes view
+pub over_piece : (c : Scene) (p : Plain) (n : ℕ) (x : Broker) (view : EntriesSeen) (ts : ℤ) (at : ℕ) (piece : Piece) → PlainSafe p → TierSafe c p → slice_get p.brokers n ≡ Some x → IsViewOf c.notes view
     → PieceStands c.notes x.log at piece → p.registry.start ≤ at → is_early ts (entry_of piece.id view.entries) ≡ true → HasPassed ts p.registry.start x.log at
     → HasPassed ts p.registry.start x.log piece.to
 over_piece c p n x view ts at piece s h bx v k past is passed =
     let r = piece_reads at n piece c p x s h bx k past in
     let e = early_is ts (entry_of piece.id view.entries) is in
-    let there : entry_of piece.id (fold v.before) ≡ Some e.entry = subst (λ (w : Seen). entry_of piece.id w.entries ≡ Some e.entry) v.is e.there in
+    let there : entry_of piece.id (fold v.before) ≡ Some e.entry = subst (λ (w : EntriesSeen). entry_of piece.id w.entries ≡ Some e.entry) v.is e.there in
     let y = prefix_goes v.before c.notes piece.id e.entry v.begins there in
     let same : y.0 ≡ r.entry = one_some (entry_of piece.id (fold c.notes)) y.0 r.entry y.1 r.there in
     let ts_is : r.entry.max_ts ≡ e.entry.max_ts = sym (ap (λ (z : Entry). z.max_ts) same) ∙ y.2.max_ts in
@@ -157,7 +157,7 @@ over_piece c p n x view ts at piece s h bx v k past is passed =
     (λ b log low high. copy_early c p x piece ts r early b (of_piece c p n x piece s bx r b log (omega (arith, holds.0, low)) high))
 
 -- all of them
-pub over_all : (c : Scene) (p : Plain) (n : ℕ) (x : Broker) (view : Seen) (asked : Asked) (line : List (ℕ × ℕ)) → PlainSafe p → TierSafe c p → slice_get p.brokers n ≡ Some x
+pub over_all : (c : Scene) (p : Plain) (n : ℕ) (x : Broker) (view : EntriesSeen) (asked : Asked) (line : List (ℕ × ℕ)) → PlainSafe p → TierSafe c p → slice_get p.brokers n ≡ Some x
     → IsViewOf c.notes view → IsRightView view → TellsEpochs line x.log → asked.log_end ≡ end_of x.log → (cursor at : ℕ) → Passes asked line view.entries cursor at → p.registry.start ≤ cursor
     → HasPassed asked.ts p.registry.start x.log cursor → (cursor ≤ at) × HasPassed asked.ts p.registry.start x.log at
 over_all c p n x view asked line s h bx v right is_observable end cursor at (Stays m) past passed = (omega arith, passed)

@@ -32,7 +32,7 @@ use Rattle.plain_log.specs.declared.answer.Answer.{Answer}
 use Rattle.plain_log.specs.declared.answer.Answer.TheVariants.{Offset, Run}
 use Rattle.plain_log.specs.declared.answer.Tier.{Tier}
 use Rattle.plain_log.specs.RowsOfReads.{first_at, offset_at}
-use Rattle.remote_view.specs.Fold.{Seen, entry_of, view_of}
+use Rattle.remote_view.specs.Fold.{EntriesSeen, entry_of, view_of}
 use Rattle.remote_find.specs.declared.piece.Piece.{Piece}
 use Rattle.tier_fetch.specs.declared.turn.FetchRequest.{FetchRequest}
 use Rattle.tier_fetch.specs.declared.turn.Span.{Span}
@@ -40,12 +40,12 @@ use Rattle.tier_fetch.specs.declared.turn.FetchTurn.{FetchTurn}
 use Rattle.tier_fetch.specs.declared.turn.FetchTurn.TheVariants as fetch
 use Rattle.tier_fetch.specs.declared.turn.FetchStep.{FetchStep as FetchNext}
 use Rattle.tier_fetch.specs.declared.turn.FetchStep.TheVariants as fetching
-use Rattle.tier_fetch.specs.Turns.{Tiers, FetchRow, spot_in, LoadsBytes, Loads, LoadRow, CutsBytes, Cuts}
+use Rattle.tier_fetch.specs.Turns.{Tiers, RemoteFetchRow, spot_in, LoadsBytes, Loads, LoadRow, CutsBytes, CutsRunOut}
 use Rattle.tier_fetch.specs.Turns as rows
 use Rattle.tier_safe.specs.Scene.{BrokerTierView, Free, Seeks, Scene}
 use Rattle.tier_safe.specs.Views.{IsViewOf}
 use Rattle.tier_safe.specs.Reads.{IsRightView}
-use Rattle.tier_safe.specs.Turns.{Shows}
+use Rattle.tier_safe.specs.Turns.{ShowsScene}
 use Rattle.tier_safe.proofs.Basics.{one_some}
 use Rattle.tier_safe.proofs.Rules.{seen_kept}
 use Rattle.tier_safe.proofs.Serving.{FetchReads}
@@ -59,7 +59,7 @@ use Rattle.time_find.specs.declared.turn.SearchStep.{SearchStep}
 use Rattle.time_find.specs.declared.turn.SearchStep.TheVariants.{Seek, Times as ReadsTimes, Index, Log}
 use Rattle.time_find.specs.declared.turn.TimeTurn.TheVariants.{Goes, Ends}
 use Rattle.time_find.specs.Passing.{top_of, Passes, Seeks as SeeksIn}
-use Rattle.time_find.specs.Turns.{IsSet, IsSearched, from_of, shown, IsTimed, TimesBytes, Times, wanted_at, Indexes, Searches, TimesRow, IndexRow, LogRow}
+use Rattle.time_find.specs.Turns.{IsSet, IsSearched, from_of, shown, IsTimeIndexRead, TimesBytes, Times, wanted_at, Indexes, SearchTakes, TimesRow, SearchIndexRow, SearchLogRow}
 use Rattle.laws_time_find.specs.Passed.{HasPassed, IsDatedTo, read_from}
 use Rattle.laws_time_find.specs.Searching.{IsAtSearch}
 use Rattle.laws_time_find.specs.Answers.{SearchesGoOn, SearchesAreRight}
@@ -69,8 +69,8 @@ use Rattle.laws_time_find.proofs.Searched.{runs_are_searched}
 
 -- a search that has taken up a piece is a fetch there
 at_turn : (c : Scene) (p : Plain) (a b : ℕ) (tier_view : BrokerTierView) (x : Broker) (stops epoch : ℕ) (asked : Asked) (line : List (ℕ × ℕ)) (cursor : ℕ) (next : SearchStep) (s : store.Content) (n : meta.Content)
-    (view : Seen) (cache : Cache) (from : ℕ) (turn : FetchNext) → IsAtSearch c p a b tier_view x stops epoch asked line cursor next s n view cache
-    → Shows c a b tier_view (Seeks (sought_of b stops epoch from turn)) s n view → cursor ≤ from → IsAtTurn c p a b tier_view x stops epoch (wanted_at asked from) line turn s n view cache
+    (view : EntriesSeen) (cache : Cache) (from : ℕ) (turn : FetchNext) → IsAtSearch c p a b tier_view x stops epoch asked line cursor next s n view cache
+    → ShowsScene c a b tier_view (Seeks (sought_of b stops epoch from turn)) s n view → cursor ≤ from → IsAtTurn c p a b tier_view x stops epoch (wanted_at asked from) line turn s n view cache
 at_turn c p a b tier_view x stops epoch asked line cursor next s n view cache from turn h shows le =
     let past = h.past in record {
       safe = h.safe;
@@ -122,7 +122,7 @@ cursor_below cursor (Some moment) = go cursor (moment.1 + 1)
 
 -- a piece whose time index was read
 timed : (c : Scene) (p : Plain) (a b : ℕ) (tier_view : BrokerTierView) (x : Broker) (stops epoch : ℕ) (asked : Asked) (line : List (ℕ × ℕ)) (cursor at : ℕ) (piece : Piece) (then : SearchStep) (s : store.Content)
-    (n : meta.Content) (view : Seen) (cache : Cache) (index : TimeTable) → IsAtSearch c p a b tier_view x stops epoch asked line cursor (ReadsTimes piece) s n view cache → cursor < piece.to
+    (n : meta.Content) (view : EntriesSeen) (cache : Cache) (index : TimeTable) → IsAtSearch c p a b tier_view x stops epoch asked line cursor (ReadsTimes piece) s n view cache → cursor < piece.to
     → (r : FetchReads c p x piece) → piece.from ≤ cursor → index ≡ time_index_of r.entry.start r.held.interval (placed_from 0 r.held.batches)
     → Goes at then ≡ shown asked cursor piece (from_of cursor (below_time index asked.ts)) → Dated p x asked cursor at then
 timed c p a b tier_view x stops epoch asked line cursor at piece then s n view cache index h set r first is turn = by (nat_lt from top) refl turn
@@ -166,7 +166,7 @@ timed c p a b tier_view x stops epoch asked line cursor at piece then s n view c
 
 -- a piece of which nothing is below the known high watermark any more
 topped : (c : Scene) (p : Plain) (a b : ℕ) (tier_view : BrokerTierView) (x : Broker) (stops epoch : ℕ) (asked : Asked) (line : List (ℕ × ℕ)) (cursor at : ℕ) (next then : SearchStep) (piece : Piece) (from : ℕ)
-    (s : store.Content) (n : meta.Content) (view : Seen) (cache : Cache) → IsAtSearch c p a b tier_view x stops epoch asked line cursor next s n view cache → read_from cursor next ≡ from
+    (s : store.Content) (n : meta.Content) (view : EntriesSeen) (cache : Cache) → IsAtSearch c p a b tier_view x stops epoch asked line cursor next s n view cache → read_from cursor next ≡ from
     → cursor < piece.to → asked.mark ≤ from → Goes at then ≡ Goes (top_of asked piece) Seek → Dated p x asked cursor at then
 topped c p a b tier_view x stops epoch asked line cursor at next then piece from s n view cache h reads set marked is =
     let at_is : at ≡ top_of asked piece = cc (is) in
@@ -182,7 +182,7 @@ topped c p a b tier_view x stops epoch asked line cursor at next then piece from
 
 -- a run that was read and searched
 searched_on : (c : Scene) (p : Plain) (a b : ℕ) (tier_view : BrokerTierView) (x : Broker) (stops epoch : ℕ) (asked : Asked) (line : List (ℕ × ℕ)) (cursor from at size : ℕ) (next then : SearchStep) (turn : FetchNext)
-    (stop : Stop) (bytes : List ℕ) (s : store.Content) (n : meta.Content) (view : Seen) (cache : Cache) (tier : Tier)
+    (stop : Stop) (bytes : List ℕ) (s : store.Content) (n : meta.Content) (view : EntriesSeen) (cache : Cache) (tier : Tier)
     → IsAtSearch c p a b tier_view x stops epoch asked line cursor next s n view cache → read_from cursor next ≡ from → cursor ≤ from
     → ServesChecked x.log (wanted_at asked from) turn tier size stop bytes → IsSearched asked from bytes (Goes at then) → Dated p x asked cursor at then
 searched_on c p a b tier_view x stops epoch asked line cursor from at size next Seek turn stop bytes s n view cache tier h reads low served searched =
@@ -200,7 +200,7 @@ searched_on c p a b tier_view x stops epoch asked line cursor from at size next 
 
 -- its first batch that isn't too early
 searched_at : (c : Scene) (p : Plain) (a b : ℕ) (tier_view : BrokerTierView) (x : Broker) (stops epoch : ℕ) (asked : Asked) (line : List (ℕ × ℕ)) (cursor from at size : ℕ) (next : SearchStep) (turn : FetchNext)
-    (stop : Stop) (bytes : List ℕ) (s : store.Content) (n : meta.Content) (view : Seen) (cache : Cache) (tier : Tier)
+    (stop : Stop) (bytes : List ℕ) (s : store.Content) (n : meta.Content) (view : EntriesSeen) (cache : Cache) (tier : Tier)
     → IsAtSearch c p a b tier_view x stops epoch asked line cursor next s n view cache → read_from cursor next ≡ from → cursor ≤ from
     → ServesChecked x.log (wanted_at asked from) turn tier size stop bytes → IsSearched asked from bytes (Ends (Offset at)) → offset_at p x asked.ts ≡ Some at
 searched_at c p a b tier_view x stops epoch asked line cursor from at size next turn stop bytes s n view cache tier h reads low served searched =
@@ -220,13 +220,13 @@ module _ {S M : Type 0} (objects : S → store.Content) (calls : S → Control s
   -- remote segments
 
   seek_on : (c : Scene) (p : Plain) (a b : ℕ) (tier_view : BrokerTierView) (x : Broker) (stops epoch : ℕ) (asked : Asked) (line : List (ℕ × ℕ)) (cursor at : ℕ) (then : SearchStep) (s : store.Content) (cache : Cache)
-      (before after : Seen) (old new : M) → IsAtSearch c p a b tier_view x stops epoch asked line cursor Seek s (notes old) before cache → cursor < asked.local
+      (before after : EntriesSeen) (old new : M) → IsAtSearch c p a b tier_view x stops epoch asked line cursor Seek s (notes old) before cache → cursor < asked.local
       → SeeksIn asked line after cursor (Goes at then) → Refreshed notes notings before after old new → Dated p x asked cursor at then
   seek_on c p a b tier_view x stops epoch asked line cursor at then s cache before after old new h local seeks fresh = by then seeks
     where
       all : after ≡ view_of c.notes
       all =
-          let r : Refreshes (notes old) tier_view.view after = subst (λ (v : Seen). Refreshes (notes old) v after) (sym h.shows.view_is) fresh.view in
+          let r : Refreshes (notes old) tier_view.view after = subst (λ (v : EntriesSeen). Refreshes (notes old) v after) (sym h.shows.view_is) fresh.view in
           (sees_all objects calls notes notings c p a b tier_view Free s old after (own_view c a b tier_view Free s (notes old) before h.shows) h.few (h.safe.tier.views b tier_view h.shows.tier_view_is) r).0
 
       over : Passes asked line after.entries cursor at → (cursor ≤ at) × HasPassed asked.ts p.registry.start x.log at
@@ -254,12 +254,12 @@ module _ {S M : Type 0} (objects : S → store.Content) (calls : S → Control s
 
   -- where a search continues, none of the bytes are lacking
   none_lack : (end : Option ℕ) (asked : Asked) (cursor at : ℕ) (piece : Piece) (base : ℕ) (spot : Spot) (bytes : List ℕ) (then : SearchStep)
-      → TimesBytes end asked cursor piece base spot bytes (Ok (Goes at then)) → IsTimed asked cursor piece base bytes (Goes at then)
+      → TimesBytes end asked cursor piece base spot bytes (Ok (Goes at then)) → IsTimeIndexRead asked cursor piece base bytes (Goes at then)
   none_lack (Some end) asked cursor at piece base spot bytes then k = absurd (cc (k))
   none_lack None asked cursor at piece base spot bytes then k = k
 
   times_on : (c : Scene) (p : Plain) (a b : ℕ) (tier_view : BrokerTierView) (x : Broker) (stops epoch : ℕ) (asked : Asked) (line : List (ℕ × ℕ)) (cursor at : ℕ) (piece : Piece) (then : SearchStep) (ns : meta.Content)
-      (view : Seen) (cache : Cache) (old new : S) (place : Option (ℕ × Spot)) → IsAtSearch c p a b tier_view x stops epoch asked line cursor (ReadsTimes piece) (objects old) ns view cache
+      (view : EntriesSeen) (cache : Cache) (old new : S) (place : Option (ℕ × Spot)) → IsAtSearch c p a b tier_view x stops epoch asked line cursor (ReadsTimes piece) (objects old) ns view cache
       → cursor < piece.to → spot_in asked.partition piece.id part.TimeIndex (entry_of piece.id view.entries) ≡ place
       → TimesRow objects calls asked cursor piece view place (Ok (Goes at then)) old new → Dated p x asked cursor at then
   times_on c p a b tier_view x stops epoch asked line cursor at piece then ns view cache old new None h set there row = absurd (cc (row.0))
@@ -289,7 +289,7 @@ module _ {S M : Type 0} (objects : S → store.Content) (calls : S → Control s
 
   index_on : (c : Scene) (p : Plain) (a b : ℕ) (tier_view : BrokerTierView) (x : Broker) (stops epoch : ℕ) (asked : Asked) (line : List (ℕ × ℕ)) (cursor at : ℕ) (piece : Piece) (from : ℕ) (then : SearchStep)
       (old new : Tiers S M) → IsAtSearch c p a b tier_view x stops epoch asked line cursor (Index piece from) (objects old.store) (notes old.meta) old.view old.cache
-      → IsSet cursor (Index piece from) → IndexRow objects calls notes notings asked line cursor piece from (Ok (Goes at then)) old new → Dated p x asked cursor at then
+      → IsSet cursor (Index piece from) → SearchIndexRow objects calls notes notings asked line cursor piece from (Ok (Goes at then)) old new → Dated p x asked cursor at then
   index_on c p a b tier_view x stops epoch asked line cursor at piece from then old new h set (inl k) =
       let low = set.0 in
       let high = set.1 in
@@ -311,14 +311,14 @@ module _ {S M : Type 0} (objects : S → store.Content) (calls : S → Control s
 
   log_on : (c : Scene) (p : Plain) (a b : ℕ) (tier_view : BrokerTierView) (x : Broker) (stops epoch : ℕ) (asked : Asked) (line : List (ℕ × ℕ)) (cursor at : ℕ) (piece : Piece) (from : ℕ) (span : Span) (then : SearchStep)
       (old new : Tiers S M) → IsAtSearch c p a b tier_view x stops epoch asked line cursor (Log piece from span) (objects old.store) (notes old.meta) old.view old.cache
-      → IsSet cursor (Log piece from span) → LogRow objects calls notes notings asked line piece from span (Ok (Goes at then)) old new → Dated p x asked cursor at then
+      → IsSet cursor (Log piece from span) → SearchLogRow objects calls notes notings asked line piece from span (Ok (Goes at then)) old new → Dated p x asked cursor at then
   log_on c p a b tier_view x stops epoch asked line cursor at piece from span then old new h set (inl k) =
       let low = set.0 in
       let high = set.1 in
       topped c p a b tier_view x stops epoch asked line cursor at (Log piece from span) then piece from (objects old.store) (notes old.meta) old.view old.cache h refl (omega (arith, low, high)) k.0 (cc (k.1))
   log_on c p a b tier_view x stops epoch asked line cursor at piece from span then old new h set (inr k) = by k.1.0 k.1.1 k.1.2
     where
-      by : (turn : Result FetchTurn AllocError) → FetchRow objects calls notes notings (wanted_at asked from) line (fetching.Log piece span) turn old new → Searches asked from turn (Ok (Goes at then))
+      by : (turn : Result FetchTurn AllocError) → RemoteFetchRow objects calls notes notings (wanted_at asked from) line (fetching.Log piece span) turn old new → SearchTakes asked from turn (Ok (Goes at then))
           → Dated p x asked cursor at then
       by (Ok (fetch.Ends (Run tier size stop bytes))) row k =
           let turn = at_turn c p a b tier_view x stops epoch asked line cursor (Log piece from span) (objects old.store) (notes old.meta) old.view old.cache from (fetching.Log piece span) h h.shows set.0 in
@@ -355,18 +355,18 @@ module _ {S M : Type 0} (objects : S → store.Content) (calls : S → Control s
       by (Some end) k = cc (k.0)
       by None k = cc (k.0)
 
-  no_offset_read : (wanted : FetchRequest) (piece : Piece) (n : ℕ) (view : Seen) (place : Option (ℕ × Spot)) (cache cache' : Cache) (old new : S)
+  no_offset_read : (wanted : FetchRequest) (piece : Piece) (n : ℕ) (view : EntriesSeen) (place : Option (ℕ × Spot)) (cache cache' : Cache) (old new : S)
       → LoadRow objects calls wanted piece view place (Ok (fetch.Ends (Offset n))) cache cache' old new → ⊥
   no_offset_read wanted piece n view None cache cache' old new row = cc (row.0)
   no_offset_read wanted piece n view (Some place) cache cache' old new row = no_offset_loaded wanted piece place.0 n place.1 row.answer cache cache' row.loads
 
-  no_offset_found : (wanted : FetchRequest) (piece : Piece) (n : ℕ) (view : Seen) (there : Option OffsetTable) (cache cache' : Cache) (old new : S)
+  no_offset_found : (wanted : FetchRequest) (piece : Piece) (n : ℕ) (view : EntriesSeen) (there : Option OffsetTable) (cache cache' : Cache) (old new : S)
       → rows.IndexRow objects calls wanted piece view (Ok (fetch.Ends (Offset n))) there cache cache' old new → ⊥
   no_offset_found wanted piece n view (Some index) cache cache' old new row = cc (row.0)
   no_offset_found wanted piece n view None cache cache' old new row =
       no_offset_read wanted piece n view (spot_in wanted.partition piece.id part.Index (entry_of piece.id view.entries)) cache cache' old new row
 
-  no_offset_cut : (wanted : FetchRequest) (piece : Piece) (n : ℕ) (spot : Spot) (span : Span) (answer : Result (Option (List ℕ)) Trouble) → Cuts wanted piece spot span answer (Ok (fetch.Ends (Offset n))) → ⊥
+  no_offset_cut : (wanted : FetchRequest) (piece : Piece) (n : ℕ) (spot : Spot) (span : Span) (answer : Result (Option (List ℕ)) Trouble) → CutsRunOut wanted piece spot span answer (Ok (fetch.Ends (Offset n))) → ⊥
   no_offset_cut wanted piece n spot span (Err Failed) k = cc (k)
   no_offset_cut wanted piece n spot span (Err NoMemory) k = cc (k)
   no_offset_cut wanted piece n spot span (Ok None) k = cc (k)
@@ -376,13 +376,13 @@ module _ {S M : Type 0} (objects : S → store.Content) (calls : S → Control s
       by (Some end) k = cc (k)
       by None k = k
 
-  no_offset_run : (wanted : FetchRequest) (piece : Piece) (n : ℕ) (span : Span) (view : Seen) (place : Option (ℕ × Spot)) (old new : S)
+  no_offset_run : (wanted : FetchRequest) (piece : Piece) (n : ℕ) (span : Span) (view : EntriesSeen) (place : Option (ℕ × Spot)) (old new : S)
       → rows.LogRow objects calls wanted piece span view place (Ok (fetch.Ends (Offset n))) old new → ⊥
   no_offset_run wanted piece n span view None old new row = cc (row.0)
   no_offset_run wanted piece n span view (Some place) old new row = no_offset_cut wanted piece n place.1 span row.answer row.cuts
 
   -- nor does that of a time index
-  no_offset_timed : (asked : Asked) (cursor n : ℕ) (piece : Piece) (view : Seen) (place : Option (ℕ × Spot)) (old new : S) → TimesRow objects calls asked cursor piece view place (Ok (Ends (Offset n))) old new → ⊥
+  no_offset_timed : (asked : Asked) (cursor n : ℕ) (piece : Piece) (view : EntriesSeen) (place : Option (ℕ × Spot)) (old new : S) → TimesRow objects calls asked cursor piece view place (Ok (Ends (Offset n))) old new → ⊥
   no_offset_timed asked cursor n piece view None old new row = cc (row.0)
   no_offset_timed asked cursor n piece view (Some place) old new row = by row.answer row.times
     where
@@ -397,11 +397,11 @@ module _ {S M : Type 0} (objects : S → store.Content) (calls : S → Control s
       by (Ok (Some bytes)) k = lacks bytes (short_of place.1 bytes) k
 
   index_at : (asked : Asked) (line : List (ℕ × ℕ)) (cursor at : ℕ) (piece : Piece) (from : ℕ) (old new : Tiers S M)
-      → IndexRow objects calls notes notings asked line cursor piece from (Ok (Ends (Offset at))) old new → ⊥
+      → SearchIndexRow objects calls notes notings asked line cursor piece from (Ok (Ends (Offset at))) old new → ⊥
   index_at asked line cursor at piece from old new (inl k) = cc (k.1)
   index_at asked line cursor at piece from old new (inr k) = by k.1.0 k.1.1 k.1.2
     where
-      by : (turn : Result FetchTurn AllocError) → FetchRow objects calls notes notings (wanted_at asked from) line (fetching.Index piece) turn old new → Indexes cursor piece from turn (Ok (Ends (Offset at))) → ⊥
+      by : (turn : Result FetchTurn AllocError) → RemoteFetchRow objects calls notes notings (wanted_at asked from) line (fetching.Index piece) turn old new → Indexes cursor piece from turn (Ok (Ends (Offset at))) → ⊥
       by (Ok (fetch.Goes (fetching.Log found span))) row k = cc (k.1)
       by (Ok (fetch.Goes fetching.Refresh)) row k = k
       by (Ok (fetch.Goes (fetching.Index found))) row k = k
@@ -413,16 +413,16 @@ module _ {S M : Type 0} (objects : S → store.Content) (calls : S → Control s
 
   log_at : (c : Scene) (p : Plain) (a b : ℕ) (tier_view : BrokerTierView) (x : Broker) (stops epoch : ℕ) (asked : Asked) (line : List (ℕ × ℕ)) (cursor at : ℕ) (piece : Piece) (from : ℕ) (span : Span)
       (old new : Tiers S M) → IsAtSearch c p a b tier_view x stops epoch asked line cursor (Log piece from span) (objects old.store) (notes old.meta) old.view old.cache
-      → IsSet cursor (Log piece from span) → LogRow objects calls notes notings asked line piece from span (Ok (Ends (Offset at))) old new → offset_at p x asked.ts ≡ Some at
+      → IsSet cursor (Log piece from span) → SearchLogRow objects calls notes notings asked line piece from span (Ok (Ends (Offset at))) old new → offset_at p x asked.ts ≡ Some at
   log_at c p a b tier_view x stops epoch asked line cursor at piece from span old new h set (inl k) = absurd (cc (k.1))
   log_at c p a b tier_view x stops epoch asked line cursor at piece from span old new h set (inr k) = by k.1.0 k.1.1 k.1.2
     where
-      none : (answer : Answer) → FetchRow objects calls notes notings (wanted_at asked from) line (fetching.Log piece span) (Ok (fetch.Ends answer)) old new → answer ≡ Offset at → ⊥
+      none : (answer : Answer) → RemoteFetchRow objects calls notes notings (wanted_at asked from) line (fetching.Log piece span) (Ok (fetch.Ends answer)) old new → answer ≡ Offset at → ⊥
       none answer row same =
           no_offset_run (wanted_at asked from) piece at span old.view (spot_in asked.partition piece.id part.Log (entry_of piece.id old.view.entries)) old.store new.store
           (subst (λ (o : Answer). rows.LogRow objects calls (wanted_at asked from) piece span old.view (spot_in asked.partition piece.id part.Log (entry_of piece.id old.view.entries)) (Ok (fetch.Ends o)) old.store new.store) same row.1)
 
-      by : (turn : Result FetchTurn AllocError) → FetchRow objects calls notes notings (wanted_at asked from) line (fetching.Log piece span) turn old new → Searches asked from turn (Ok (Ends (Offset at)))
+      by : (turn : Result FetchTurn AllocError) → RemoteFetchRow objects calls notes notings (wanted_at asked from) line (fetching.Log piece span) turn old new → SearchTakes asked from turn (Ok (Ends (Offset at)))
           → offset_at p x asked.ts ≡ Some at
       by (Ok (fetch.Ends (Run tier size stop bytes))) row k =
           let turn = at_turn c p a b tier_view x stops epoch asked line cursor (Log piece from span) (objects old.store) (notes old.meta) old.view old.cache from (fetching.Log piece span) h h.shows set.0 in

@@ -24,14 +24,14 @@ use Rattle.plain_log.specs.declared.state.Role.{Role}
 use Rattle.plain_log.specs.declared.answer.Answer.TheVariants.{MetaFault, StoreFault, Damaged, Run}
 use Rattle.plain_log.specs.declared.answer.Place.TheVariants.{Key, Meta}
 use Rattle.plain_log.specs.Safe.{RoleSafe}
-use Rattle.remote_view.specs.Fold.{Seen, view_of}
+use Rattle.remote_view.specs.Fold.{EntriesSeen, view_of}
 use Rattle.remote_find.specs.declared.piece.Piece.{Piece}
 use Rattle.tier_fetch.specs.declared.turn.Span.{Span}
 use Rattle.tier_fetch.specs.declared.turn.FetchStep.{FetchStep as Fetch}
 use Rattle.tier_fetch.specs.declared.turn.FetchStep.TheVariants as fetch
 use Rattle.tier_fetch.specs.declared.turn.FetchTurn.{FetchTurn}
 use Rattle.tier_fetch.specs.declared.turn.FetchTurn.TheVariants as fetching
-use Rattle.tier_fetch.specs.Turns.{Tiers, FetchRow}
+use Rattle.tier_fetch.specs.Turns.{Tiers, RemoteFetchRow}
 use Rattle.tier_safe.specs.Scene.{BrokerTierView, TierTask, Free, Seeks as Fetches, Scene}
 use Rattle.tier_safe.specs.Changes.{Moves, Asks, Skips, effect}
 use Rattle.tier_safe.specs.Fetches.{PieceStands}
@@ -48,13 +48,13 @@ use Rattle.time_find.specs.declared.turn.SearchStep.TheVariants.{Seek, Times, In
 use Rattle.time_find.specs.declared.turn.TimeTurn.{TimeTurn}
 use Rattle.time_find.specs.declared.turn.TimeTurn.TheVariants.{Goes, Ends}
 use Rattle.time_find.specs.Passing.{top_in, top_of, SeeksPiece, Seeks}
-use Rattle.time_find.specs.Turns.{from_of, shown, TimesBytes, Times as Timed, wanted_at, Indexes, Searches, SeekRow, TimesRow, IndexRow, LogRow}
+use Rattle.time_find.specs.Turns.{from_of, shown, TimesBytes, Times as Timed, wanted_at, Indexes, SearchTakes, SeekRow, TimesRow, SearchIndexRow, SearchLogRow}
 use Rattle.laws_time_find.specs.Searching.{search_of, search_work, search_after, IsAtSearch}
 use Rattle.laws_time_find.specs.Turns.{SearchTurnsChange}
 
 -- a search that has taken up a piece is a fetch there
 pub as_turn : (c : Scene) (p : Plain) (a b : ℕ) (tier_view : BrokerTierView) (x : Broker) (stops epoch : ℕ) (asked : Asked) (line : List (ℕ × ℕ)) (cursor : ℕ) (next : SearchStep) (s : store.Content) (n : meta.Content)
-    (view : Seen) (cache : Cache) (offset : ℕ) (turn : Fetch) → IsAtSearch c p a b tier_view x stops epoch asked line cursor next s n view cache
+    (view : EntriesSeen) (cache : Cache) (offset : ℕ) (turn : Fetch) → IsAtSearch c p a b tier_view x stops epoch asked line cursor next s n view cache
     → search_of b stops epoch cursor next ≡ Fetches (sought_of b stops epoch offset turn) → cursor ≤ offset
     → IsAtTurn c p a b tier_view x stops epoch (wanted_at asked offset) line turn s n view cache
 as_turn c p a b tier_view x stops epoch asked line cursor next s n view cache offset turn h is up = record {
@@ -81,8 +81,8 @@ as_turn c p a b tier_view x stops epoch asked line cursor next s n view cache of
 -- a piece is taken up
 
 -- a search in a free actor's state may ask for an offset that its local log lacks
-may_ask : (c : Scene) (p : Plain) (a b : ℕ) (tier_view : BrokerTierView) (x : Broker) (stops epoch : ℕ) (asked : Asked) (line : List (ℕ × ℕ)) (cursor : ℕ) (s : store.Content) (n : meta.Content) (view : Seen)
-    (cache : Cache) (after : Seen) (at : ℕ) → IsAtSearch c p a b tier_view x stops epoch asked line cursor Seek s n view cache → at < top_in asked
+may_ask : (c : Scene) (p : Plain) (a b : ℕ) (tier_view : BrokerTierView) (x : Broker) (stops epoch : ℕ) (asked : Asked) (line : List (ℕ × ℕ)) (cursor : ℕ) (s : store.Content) (n : meta.Content) (view : EntriesSeen)
+    (cache : Cache) (after : EntriesSeen) (at : ℕ) → IsAtSearch c p a b tier_view x stops epoch asked line cursor Seek s n view cache → at < top_in asked
     → MayAsk a (sought_of b stops epoch at fetch.Refresh) (after_turn c a b tier_view Free c.objects c.notes after) p
 may_ask c p a b tier_view x stops epoch asked line cursor s n view cache after at h below = record {
   actor_state = set_get c.desk a Free Free h.shows.actor_state;
@@ -97,8 +97,8 @@ may_ask c p a b tier_view x stops epoch asked line cursor s n view cache after a
 }
 
 -- and takes up what is found there
-takes : (c : Scene) (p : Plain) (a b : ℕ) (tier_view : BrokerTierView) (x : Broker) (stops epoch : ℕ) (asked : Asked) (line : List (ℕ × ℕ)) (cursor : ℕ) (s : store.Content) (n : meta.Content) (view : Seen)
-    (cache : Cache) (after : Seen) (at : ℕ) (piece : Piece) → IsAtSearch c p a b tier_view x stops epoch asked line cursor Seek s n view cache → after ≡ view_of c.notes
+takes : (c : Scene) (p : Plain) (a b : ℕ) (tier_view : BrokerTierView) (x : Broker) (stops epoch : ℕ) (asked : Asked) (line : List (ℕ × ℕ)) (cursor : ℕ) (s : store.Content) (n : meta.Content) (view : EntriesSeen)
+    (cache : Cache) (after : EntriesSeen) (at : ℕ) (piece : Piece) → IsAtSearch c p a b tier_view x stops epoch asked line cursor Seek s n view cache → after ≡ view_of c.notes
     → SeeksPiece asked line after.entries cursor at piece → IsChanged c p (after_turn c a b tier_view Free c.objects c.notes after)
     → IsChanged c p (after_turn c a b tier_view (Fetches (sought_of b stops epoch at (fetch.Index piece))) c.objects c.notes after)
 takes c p a b tier_view x stops epoch asked line cursor s n view cache after at piece h all k base =
@@ -111,8 +111,8 @@ takes c p a b tier_view x stops epoch asked line cursor s n view cache after at 
     (goes_on c d p (Moves a (Asks sought)) base (refl, may)))
 
 -- what a refreshed view shows
-seeks : (c : Scene) (p : Plain) (a b : ℕ) (tier_view : BrokerTierView) (x : Broker) (stops epoch : ℕ) (asked : Asked) (line : List (ℕ × ℕ)) (cursor : ℕ) (s : store.Content) (n : meta.Content) (view : Seen)
-    (cache : Cache) (after : Seen) (turn : TimeTurn) → IsAtSearch c p a b tier_view x stops epoch asked line cursor Seek s n view cache → after ≡ view_of c.notes
+seeks : (c : Scene) (p : Plain) (a b : ℕ) (tier_view : BrokerTierView) (x : Broker) (stops epoch : ℕ) (asked : Asked) (line : List (ℕ × ℕ)) (cursor : ℕ) (s : store.Content) (n : meta.Content) (view : EntriesSeen)
+    (cache : Cache) (after : EntriesSeen) (turn : TimeTurn) → IsAtSearch c p a b tier_view x stops epoch asked line cursor Seek s n view cache → after ≡ view_of c.notes
     → Seeks asked line after cursor turn → IsChanged c p (after_turn c a b tier_view Free c.objects c.notes after)
     → IsChanged c p (after_turn c a b tier_view (search_work b stops epoch turn) c.objects c.notes after)
 seeks c p a b tier_view x stops epoch asked line cursor s n view cache after (Goes at Seek) h all k base = base
@@ -126,7 +126,7 @@ seeks c p a b tier_view x stops epoch asked line cursor s n view cache after (En
 
 -- a piece that was found represents each later offset in it
 may_skip : (c : Scene) (p : Plain) (a b : ℕ) (tier_view : BrokerTierView) (x : Broker) (stops epoch : ℕ) (asked : Asked) (line : List (ℕ × ℕ)) (cursor : ℕ) (piece : Piece) (s : store.Content) (n : meta.Content)
-    (view : Seen) (cache : Cache) (from : ℕ) → IsAtSearch c p a b tier_view x stops epoch asked line cursor (Times piece) s n view cache → cursor ≤ from → from < piece.to
+    (view : EntriesSeen) (cache : Cache) (from : ℕ) → IsAtSearch c p a b tier_view x stops epoch asked line cursor (Times piece) s n view cache → cursor ≤ from → from < piece.to
     → MaySkip a (sought_of b stops epoch cursor (fetch.Index piece)) from c p
 may_skip c p a b tier_view x stops epoch asked line cursor piece s n view cache from h up low = record {
   actor_state = h.shows.actor_state;
@@ -153,7 +153,7 @@ may_skip c p a b tier_view x stops epoch asked line cursor piece s n view cache 
 }
 
 skips : (c : Scene) (p : Plain) (a b : ℕ) (tier_view : BrokerTierView) (x : Broker) (stops epoch : ℕ) (asked : Asked) (line : List (ℕ × ℕ)) (cursor : ℕ) (piece : Piece) (s : store.Content) (n : meta.Content)
-    (view : Seen) (cache : Cache) (from : ℕ) → IsAtSearch c p a b tier_view x stops epoch asked line cursor (Times piece) s n view cache → cursor ≤ from → from < piece.to
+    (view : EntriesSeen) (cache : Cache) (from : ℕ) → IsAtSearch c p a b tier_view x stops epoch asked line cursor (Times piece) s n view cache → cursor ≤ from → from < piece.to
     → IsChanged c p (after_turn c a b tier_view (Fetches (sought_of b stops epoch from (fetch.Index piece))) c.objects c.notes tier_view.view)
 skips c p a b tier_view x stops epoch asked line cursor piece s n view cache from h up low =
     let sought = sought_of b stops epoch cursor (fetch.Index piece) in
@@ -169,7 +169,7 @@ from_up cursor (Some moment) = omega arith
 
 -- what an index shows
 shows_on : (c : Scene) (p : Plain) (a b : ℕ) (tier_view : BrokerTierView) (x : Broker) (stops epoch : ℕ) (asked : Asked) (line : List (ℕ × ℕ)) (cursor : ℕ) (piece : Piece) (s : store.Content) (n : meta.Content)
-    (view : Seen) (cache : Cache) (from : ℕ) → IsAtSearch c p a b tier_view x stops epoch asked line cursor (Times piece) s n view cache → cursor ≤ from
+    (view : EntriesSeen) (cache : Cache) (from : ℕ) → IsAtSearch c p a b tier_view x stops epoch asked line cursor (Times piece) s n view cache → cursor ≤ from
     → IsChanged c p (after_turn c a b tier_view (search_work b stops epoch (shown asked cursor piece from)) c.objects c.notes tier_view.view)
 shows_on c p a b tier_view x stops epoch asked line cursor piece s n view cache from h up = by (nat_lt from (top_of asked piece)) refl
   where
@@ -193,7 +193,7 @@ indexes_same b stops epoch cursor from piece (Ok (fetching.Ends answer)) result 
 indexes_same b stops epoch cursor from piece (Err e) (Ok turn) k = absurd (cc (k))
 indexes_same b stops epoch cursor from piece (Err e) (Err f) k = refl
 
-searched_same : (b stops epoch cursor from : ℕ) (piece : Piece) (span : Span) (asked : Asked) (turn : Result FetchTurn AllocError) (result : Result TimeTurn AllocError) → Searches asked from turn result
+searched_same : (b stops epoch cursor from : ℕ) (piece : Piece) (span : Span) (asked : Asked) (turn : Result FetchTurn AllocError) (result : Result TimeTurn AllocError) → SearchTakes asked from turn result
     → fetch_after b stops epoch from (fetch.Log piece span) turn ≡ search_after b stops epoch cursor (Log piece from span) result
 searched_same b stops epoch cursor from piece span asked (Ok (fetching.Ends (Run tier size stop bytes))) (Ok (Ends answer)) k = refl
 searched_same b stops epoch cursor from piece span asked (Ok (fetching.Ends (Run tier size stop bytes))) (Ok (Goes at Seek)) k = refl
@@ -209,19 +209,19 @@ module _ {S M : Type 0} (objects : S → store.Content) (calls : S → Control s
   -- refreshes
 
   seek_turn : (c : Scene) (p : Plain) (a b : ℕ) (tier_view : BrokerTierView) (x : Broker) (stops epoch : ℕ) (asked : Asked) (line : List (ℕ × ℕ)) (cursor : ℕ) (result : Result TimeTurn AllocError) (s : store.Content)
-      (cache : Cache) (view after : Seen) (old new : M) → IsAtSearch c p a b tier_view x stops epoch asked line cursor Seek s (notes old) view cache
+      (cache : Cache) (view after : EntriesSeen) (old new : M) → IsAtSearch c p a b tier_view x stops epoch asked line cursor Seek s (notes old) view cache
       → SeekRow notes notings asked line cursor result view after old new
       → IsChanged c p (after_fetch c a b tier_view (search_after b stops epoch cursor Seek result) s.objects (notes new).notes after cache)
   seek_turn c p a b tier_view x stops epoch asked line cursor (Ok (Ends MetaFault)) s cache view after old new h row =
       quiet c p a b tier_view _ Free s (notes old) view cache s.objects (notes new).notes after cache h.shows h.cache_is (left c p a b tier_view h.shows.tier_view_is) refl row.content.notes row.view refl
   seek_turn c p a b tier_view x stops epoch asked line cursor (Ok turn) s cache view after old new h row =
-      let r : Refreshes (notes old) tier_view.view after = subst (λ (v : Seen). Refreshes (notes old) v after) (sym h.shows.view_is) row.1.view in
+      let r : Refreshes (notes old) tier_view.view after = subst (λ (v : EntriesSeen). Refreshes (notes old) v after) (sym h.shows.view_is) row.1.view in
       let all = sees_all objects calls notes notings c p a b tier_view Free s old after (shows c a b tier_view Free s (notes old) view h.shows) h.few (h.safe.tier.views b tier_view h.shows.tier_view_is) r in
       named c p a b tier_view _ _ c.objects s.objects c.notes (notes new).notes after after cache cache refl h.shows.objects_are (h.shows.notes_are ∙ sym row.1.content.notes) refl refl
       (as_fetch c p a b tier_view _ c.objects c.notes after cache h.cache_is
       (seeks c p a b tier_view x stops epoch asked line cursor s (notes old) view cache after turn h all.0 row.0 all.1))
   seek_turn c p a b tier_view x stops epoch asked line cursor (Err e) s cache view after old new h row =
-      let r : Advances (notes old) tier_view.view after = subst (λ (v : Seen). Advances (notes old) v after) (sym h.shows.view_is) row.view in
+      let r : Advances (notes old) tier_view.view after = subst (λ (v : EntriesSeen). Advances (notes old) v after) (sym h.shows.view_is) row.view in
       named c p a b tier_view Free Free c.objects s.objects c.notes (notes new).notes after after cache cache refl h.shows.objects_are (h.shows.notes_are ∙ sym row.content.notes) refl refl
       (as_fetch c p a b tier_view Free c.objects c.notes after cache h.cache_is
       (sees_some objects calls notes notings c p a b tier_view Free s old after (shows c a b tier_view Free s (notes old) view h.shows) h.few (h.safe.tier.views b tier_view h.shows.tier_view_is) r))
@@ -229,14 +229,14 @@ module _ {S M : Type 0} (objects : S → store.Content) (calls : S → Control s
   -- reads of a time index
 
   -- a turn that was answered, or ran out of memory
-  ends : (c : Scene) (p : Plain) (a b : ℕ) (tier_view : BrokerTierView) (x : Broker) (stops epoch : ℕ) (asked : Asked) (line : List (ℕ × ℕ)) (cursor : ℕ) (piece : Piece) (ns : meta.Content) (view : Seen)
+  ends : (c : Scene) (p : Plain) (a b : ℕ) (tier_view : BrokerTierView) (x : Broker) (stops epoch : ℕ) (asked : Asked) (line : List (ℕ × ℕ)) (cursor : ℕ) (piece : Piece) (ns : meta.Content) (view : EntriesSeen)
       (cache : Cache) (old new : S) → IsAtSearch c p a b tier_view x stops epoch asked line cursor (Times piece) (objects old) ns view cache → (objects new).objects ≡ (objects old).objects
       → IsChanged c p (after_fetch c a b tier_view Free (objects new).objects ns.notes view cache)
   ends c p a b tier_view x stops epoch asked line cursor piece ns view cache old new h same =
       let t = as_turn c p a b tier_view x stops epoch asked line cursor (Times piece) (objects old) ns view cache cursor (fetch.Index piece) h refl (omega arith) in
       ended objects calls notes notings c p a b tier_view x stops epoch (wanted_at asked cursor) line (fetch.Index piece) ns view cache cache old new t same refl
 
-  halts : (c : Scene) (p : Plain) (a b : ℕ) (tier_view : BrokerTierView) (x : Broker) (stops epoch : ℕ) (asked : Asked) (line : List (ℕ × ℕ)) (cursor : ℕ) (piece : Piece) (ns : meta.Content) (view : Seen)
+  halts : (c : Scene) (p : Plain) (a b : ℕ) (tier_view : BrokerTierView) (x : Broker) (stops epoch : ℕ) (asked : Asked) (line : List (ℕ × ℕ)) (cursor : ℕ) (piece : Piece) (ns : meta.Content) (view : EntriesSeen)
       (cache : Cache) (old new : S) → IsAtSearch c p a b tier_view x stops epoch asked line cursor (Times piece) (objects old) ns view cache → (objects new).objects ≡ (objects old).objects
       → IsChanged c p (after_fetch c a b tier_view (Fetches (sought_of b stops epoch cursor (fetch.Index piece))) (objects new).objects ns.notes view cache)
   halts c p a b tier_view x stops epoch asked line cursor piece ns view cache old new h same =
@@ -245,7 +245,7 @@ module _ {S M : Type 0} (objects : S → store.Content) (calls : S → Control s
 
   -- one whose answer is reported
   ends_as : (c : Scene) (p : Plain) (a b : ℕ) (tier_view : BrokerTierView) (x : Broker) (stops epoch : ℕ) (asked : Asked) (line : List (ℕ × ℕ)) (cursor : ℕ) (piece : Piece) (result : Result TimeTurn AllocError)
-      (turn : TimeTurn) (ns : meta.Content) (view : Seen) (cache : Cache) (old new : S) → IsAtSearch c p a b tier_view x stops epoch asked line cursor (Times piece) (objects old) ns view cache
+      (turn : TimeTurn) (ns : meta.Content) (view : EntriesSeen) (cache : Cache) (old new : S) → IsAtSearch c p a b tier_view x stops epoch asked line cursor (Times piece) (objects old) ns view cache
       → (objects new).objects ≡ (objects old).objects → search_work b stops epoch turn ≡ Free → result ≡ Ok turn
       → IsChanged c p (after_fetch c a b tier_view (search_after b stops epoch cursor (Times piece) result) (objects new).objects ns.notes view cache)
   ends_as c p a b tier_view x stops epoch asked line cursor piece result turn ns view cache old new h same free is =
@@ -255,7 +255,7 @@ module _ {S M : Type 0} (objects : S → store.Content) (calls : S → Control s
 
   -- by where bytes are lacking
   bytes_turn : (end : Option ℕ) (c : Scene) (p : Plain) (a b : ℕ) (tier_view : BrokerTierView) (x : Broker) (stops epoch : ℕ) (asked : Asked) (line : List (ℕ × ℕ)) (cursor : ℕ) (piece : Piece)
-      (result : Result TimeTurn AllocError) (ns : meta.Content) (view : Seen) (cache : Cache) (old new : S) (base : ℕ) (spot : Spot) (bytes : List ℕ)
+      (result : Result TimeTurn AllocError) (ns : meta.Content) (view : EntriesSeen) (cache : Cache) (old new : S) (base : ℕ) (spot : Spot) (bytes : List ℕ)
       → IsAtSearch c p a b tier_view x stops epoch asked line cursor (Times piece) (objects old) ns view cache → (objects new).objects ≡ (objects old).objects
       → TimesBytes end asked cursor piece base spot bytes result
       → IsChanged c p (after_fetch c a b tier_view (search_after b stops epoch cursor (Times piece) result) (objects new).objects ns.notes view cache)
@@ -274,7 +274,7 @@ module _ {S M : Type 0} (objects : S → store.Content) (calls : S → Control s
       halts c p a b tier_view x stops epoch asked line cursor piece ns view cache old new h same
 
   read_turn : (c : Scene) (p : Plain) (a b : ℕ) (tier_view : BrokerTierView) (x : Broker) (stops epoch : ℕ) (asked : Asked) (line : List (ℕ × ℕ)) (cursor : ℕ) (piece : Piece) (result : Result TimeTurn AllocError)
-      (ns : meta.Content) (view : Seen) (cache : Cache) (old new : S) (base : ℕ) (spot : Spot) (answer : Result (Option (List ℕ)) Trouble)
+      (ns : meta.Content) (view : EntriesSeen) (cache : Cache) (old new : S) (base : ℕ) (spot : Spot) (answer : Result (Option (List ℕ)) Trouble)
       → IsAtSearch c p a b tier_view x stops epoch asked line cursor (Times piece) (objects old) ns view cache → (objects new).objects ≡ (objects old).objects
       → Timed asked cursor piece base spot answer result
       → IsChanged c p (after_fetch c a b tier_view (search_after b stops epoch cursor (Times piece) result) (objects new).objects ns.notes view cache)
@@ -289,7 +289,7 @@ module _ {S M : Type 0} (objects : S → store.Content) (calls : S → Control s
       bytes_turn (short_of spot bytes) c p a b tier_view x stops epoch asked line cursor piece result ns view cache old new base spot bytes h same k
 
   times_turn : (c : Scene) (p : Plain) (a b : ℕ) (tier_view : BrokerTierView) (x : Broker) (stops epoch : ℕ) (asked : Asked) (line : List (ℕ × ℕ)) (cursor : ℕ) (piece : Piece) (result : Result TimeTurn AllocError)
-      (ns : meta.Content) (view : Seen) (cache : Cache) (old new : S) (place : Option (ℕ × Spot))
+      (ns : meta.Content) (view : EntriesSeen) (cache : Cache) (old new : S) (place : Option (ℕ × Spot))
       → IsAtSearch c p a b tier_view x stops epoch asked line cursor (Times piece) (objects old) ns view cache → TimesRow objects calls asked cursor piece view place result old new
       → IsChanged c p (after_fetch c a b tier_view (search_after b stops epoch cursor (Times piece) result) (objects new).objects ns.notes view cache)
   times_turn c p a b tier_view x stops epoch asked line cursor piece result ns view cache old new None h row =
@@ -313,7 +313,7 @@ module _ {S M : Type 0} (objects : S → store.Content) (calls : S → Control s
       (found : Result FetchTurn AllocError) (result : Result TimeTurn AllocError) (old new : Tiers S M)
       → IsAtSearch c p a b tier_view x stops epoch asked line cursor next (objects old.store) (notes old.meta) old.view old.cache
       → search_of b stops epoch cursor next ≡ Fetches (sought_of b stops epoch from turn) → cursor ≤ from
-      → FetchRow objects calls notes notings (wanted_at asked from) line turn found old new
+      → RemoteFetchRow objects calls notes notings (wanted_at asked from) line turn found old new
       → fetch_after b stops epoch from turn found ≡ search_after b stops epoch cursor next result
       → IsChanged c p (after_fetch c a b tier_view (search_after b stops epoch cursor next result) (objects new.store).objects (notes new.meta).notes new.view new.cache)
   fetches c p a b tier_view x stops epoch asked line cursor from next turn found result old new h is up row same =
@@ -324,7 +324,7 @@ module _ {S M : Type 0} (objects : S → store.Content) (calls : S → Control s
   index_turn : (c : Scene) (p : Plain) (a b : ℕ) (tier_view : BrokerTierView) (x : Broker) (stops epoch : ℕ) (asked : Asked) (line : List (ℕ × ℕ)) (cursor from : ℕ) (piece : Piece)
       (result : Result TimeTurn AllocError) (old new : Tiers S M)
       → IsAtSearch c p a b tier_view x stops epoch asked line cursor (Index piece from) (objects old.store) (notes old.meta) old.view old.cache → cursor ≤ from
-      → IndexRow objects calls notes notings asked line cursor piece from result old new
+      → SearchIndexRow objects calls notes notings asked line cursor piece from result old new
       → IsChanged c p (after_fetch c a b tier_view (search_after b stops epoch cursor (Index piece from) result) (objects new.store).objects (notes new.meta).notes new.view new.cache)
   index_turn c p a b tier_view x stops epoch asked line cursor from piece result old new h up (inl row) =
       turns_back c p a b tier_view x stops epoch asked line cursor (top_of asked piece) (Index piece from) result old new h row.1 row.2
@@ -335,7 +335,7 @@ module _ {S M : Type 0} (objects : S → store.Content) (calls : S → Control s
   log_turn : (c : Scene) (p : Plain) (a b : ℕ) (tier_view : BrokerTierView) (x : Broker) (stops epoch : ℕ) (asked : Asked) (line : List (ℕ × ℕ)) (cursor from : ℕ) (piece : Piece) (span : Span)
       (result : Result TimeTurn AllocError) (old new : Tiers S M)
       → IsAtSearch c p a b tier_view x stops epoch asked line cursor (Log piece from span) (objects old.store) (notes old.meta) old.view old.cache → cursor ≤ from
-      → LogRow objects calls notes notings asked line piece from span result old new
+      → SearchLogRow objects calls notes notings asked line piece from span result old new
       → IsChanged c p (after_fetch c a b tier_view (search_after b stops epoch cursor (Log piece from span) result) (objects new.store).objects (notes new.meta).notes new.view new.cache)
   log_turn c p a b tier_view x stops epoch asked line cursor from piece span result old new h up (inl row) =
       turns_back c p a b tier_view x stops epoch asked line cursor (top_of asked piece) (Log piece from span) result old new h row.1 row.2

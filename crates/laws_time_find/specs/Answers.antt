@@ -28,8 +28,8 @@ use Rattle.time_find.specs.declared.turn.Asked.{Asked}
 use Rattle.time_find.specs.declared.turn.SearchStep.{SearchStep}
 use Rattle.time_find.specs.declared.turn.SearchStep.TheVariants.{Seek, Log}
 use Rattle.time_find.specs.declared.turn.TimeTurn.TheVariants.{Goes, Ends}
-use Rattle.time_find.specs.Dates.{AreChecked}
-use Rattle.time_find.specs.Turns.{IsBelow, IsSet, IsSearched, TimeRow}
+use Rattle.time_find.specs.Dates.{AreAllChecked}
+use Rattle.time_find.specs.Turns.{IsBelowLocal, IsSet, IsSearched, TimeRow}
 use Rattle.laws_partition.specs.Log.{IsRunOf}
 use Rattle.laws_time_find.specs.Passed.{IsDatedTo, HasPassed}
 use Rattle.laws_time_find.specs.Searching.{IsAtSearch}
@@ -39,7 +39,7 @@ use Rattle.laws_time_find.specs.Searching.{IsAtSearch}
 -- come to its end, which is past the offset
 abbrev pub RunsAreSearched : Type 0
 RunsAreSearched = (asked : Asked) (offset at limit : ℕ) (log run : List (List ℕ)) (stop : Stop) → IsConsecutive 0 log
-    → HasPassed asked.ts asked.start log offset → asked.start ≤ offset → IsRunOf log offset limit asked.mark stop run → AreChecked run
+    → HasPassed asked.ts asked.start log offset → asked.start ≤ offset → IsRunOf log offset limit asked.mark stop run → AreAllChecked run
     → (IsSearched asked offset (joined run) (Ends (Offset at)) → first_at asked.ts asked.start (from_offset asked.start (up_to asked.mark log)) ≡ Some at)
     × (IsSearched asked offset (joined run) (Goes at Seek) → HasPassed asked.ts asked.start log at × (offset < at))
 
@@ -61,7 +61,7 @@ module _ {S M : Type 0} (objects : S → store.Content) (calls : S → Control s
   SearchesGoOn =
       (asked : Asked) (line : List (ℕ × ℕ)) (cursor at : ℕ) (next then : SearchStep) (old new : Tiers S M)
       (c : Scene) (p : Plain) (a b : ℕ) (tier_view : BrokerTierView) (x : Broker) (stops epoch : ℕ)
-      → TimeRow objects calls notes notings asked line cursor next (Ok (Goes at then)) old new → IsBelow asked cursor next → IsSet cursor next
+      → TimeRow objects calls notes notings asked line cursor next (Ok (Goes at then)) old new → IsBelowLocal asked cursor next → IsSet cursor next
       → IsAtSearch c p a b tier_view x stops epoch asked line cursor next (objects old.store) (notes old.meta) old.view old.cache
       → IsDatedTo asked.ts p.registry.start x.log at then × (cursor ≤ at) × (then ≡ Seek → cursor < at)
 
@@ -70,7 +70,7 @@ module _ {S M : Type 0} (objects : S → store.Content) (calls : S → Control s
   SearchesAreRight =
       (asked : Asked) (line : List (ℕ × ℕ)) (cursor at : ℕ) (next : SearchStep) (old new : Tiers S M)
       (c : Scene) (p : Plain) (a b : ℕ) (tier_view : BrokerTierView) (x : Broker) (stops epoch : ℕ)
-      → TimeRow objects calls notes notings asked line cursor next (Ok (Ends (Offset at))) old new → IsBelow asked cursor next → IsSet cursor next
+      → TimeRow objects calls notes notings asked line cursor next (Ok (Ends (Offset at))) old new → IsBelowLocal asked cursor next → IsSet cursor next
       → IsAtSearch c p a b tier_view x stops epoch asked line cursor next (objects old.store) (notes old.meta) old.view old.cache
       → offset_at p x asked.ts ≡ Some at
 
@@ -79,7 +79,7 @@ module _ {S M : Type 0} (objects : S → store.Content) (calls : S → Control s
   SearchDamageIsOfLogs =
       (asked : Asked) (line : List (ℕ × ℕ)) (cursor at : ℕ) (next : SearchStep) (place : Place) (old new : Tiers S M)
       (c : Scene) (p : Plain) (a b : ℕ) (tier_view : BrokerTierView) (x : Broker) (stops epoch : ℕ)
-      → TimeRow objects calls notes notings asked line cursor next (Ok (Ends (Damaged place at))) old new → IsBelow asked cursor next
+      → TimeRow objects calls notes notings asked line cursor next (Ok (Ends (Damaged place at))) old new → IsBelowLocal asked cursor next
       → IsSet cursor next
       → IsAtSearch c p a b tier_view x stops epoch asked line cursor next (objects old.store) (notes old.meta) old.view old.cache
       → IsOfLog asked next place

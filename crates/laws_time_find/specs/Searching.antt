@@ -14,12 +14,12 @@ use Rattle.meta_log.specs.Content as meta
 use Rattle.plain_log.specs.declared.state.State.{State as Plain}
 use Rattle.plain_log.specs.declared.state.Broker.{Broker}
 use Rattle.plain_log.specs.declared.state.Role.TheVariants.{Leads}
-use Rattle.remote_view.specs.Fold.{Seen}
+use Rattle.remote_view.specs.Fold.{EntriesSeen}
 use Rattle.tier_fetch.specs.declared.turn.FetchStep.TheVariants as fetch
 use Rattle.tier_safe.specs.Scene.{BrokerTierView, TierTask, Free, Seeks, Scene}
 use Rattle.tier_safe.specs.Safe.{BothSafe}
 use Rattle.tier_safe.specs.Reads.{TellsEpochs}
-use Rattle.tier_safe.specs.Turns.{Shows}
+use Rattle.tier_safe.specs.Turns.{ShowsScene}
 use Rattle.laws_tier_fetch.specs.Seeking.{sought_of, indexes_in}
 use Rattle.time_find.specs.declared.turn.Asked.{Asked}
 use Rattle.time_find.specs.declared.turn.SearchStep.{SearchStep}
@@ -49,11 +49,11 @@ search_after broker stops epoch cursor next (Err e) = search_of broker stops epo
 -- leads
 pub record IsAtSearch (c : Scene) (p : Plain) (a b : ℕ) (tier_view : BrokerTierView) (x : Broker) (stops epoch : ℕ)
     (asked : Asked)
-    (line : List (ℕ × ℕ)) (cursor : ℕ) (next : SearchStep) (objects : store.Content) (notes : meta.Content) (view : Seen) (cache : Cache)
+    (line : List (ℕ × ℕ)) (cursor : ℕ) (next : SearchStep) (objects : store.Content) (notes : meta.Content) (view : EntriesSeen) (cache : Cache)
     : Type 0 where
   pub safe : BothSafe c p
   pub few : length c.notes < 2 ^ 64
-  pub shows : Shows c a b tier_view (search_of b stops epoch cursor next) objects notes view
+  pub shows : ShowsScene c a b tier_view (search_of b stops epoch cursor next) objects notes view
   pub cache_is : tier_view.cache ≡ indexes_in cache
   pub partition : asked.partition ≡ c.partition
   pub broker_is : slice_get p.brokers b ≡ Some x

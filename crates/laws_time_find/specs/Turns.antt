@@ -25,7 +25,7 @@ use Rattle.laws_tier_fetch.specs.Seeking.{after_fetch}
 use Rattle.time_find.specs.declared.turn.Asked.{Asked}
 use Rattle.time_find.specs.declared.turn.SearchStep.{SearchStep}
 use Rattle.time_find.specs.declared.turn.TimeTurn.{TimeTurn}
-use Rattle.time_find.specs.Turns.{IsBelow, IsSet, TimeRow}
+use Rattle.time_find.specs.Turns.{IsBelowLocal, IsSet, TimeRow}
 use Rattle.laws_time_find.specs.Searching.{search_after, IsAtSearch}
 
 module _ {S M : Type 0} (objects : S → store.Content) (calls : S → Control store_call.call_code)
@@ -35,7 +35,7 @@ module _ {S M : Type 0} (objects : S → store.Content) (calls : S → Control s
   SearchTurnsChange =
       (asked : Asked) (line : List (ℕ × ℕ)) (cursor : ℕ) (next : SearchStep) (result : Result TimeTurn AllocError) (old new : Tiers S M)
       (c : Scene) (p : Plain) (a b : ℕ) (tier_view : BrokerTierView) (x : Broker) (stops epoch : ℕ)
-      → TimeRow objects calls notes notings asked line cursor next result old new → IsBelow asked cursor next → IsSet cursor next
+      → TimeRow objects calls notes notings asked line cursor next result old new → IsBelowLocal asked cursor next → IsSet cursor next
       → IsAtSearch c p a b tier_view x stops epoch asked line cursor next (objects old.store) (notes old.meta) old.view old.cache
       → IsChanged c p (after_fetch c a b tier_view (search_after b stops epoch cursor next result)
       (objects new.store).objects (notes new.meta).notes new.view new.cache)

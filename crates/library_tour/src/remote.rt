@@ -3,7 +3,7 @@
 ghost use Rattle.std.specs.Prelude.{◌≡◌, IfOk, OnOk, IsTrue, slice_range};
 ghost use Rattle.remote_find.specs.Pieces.{covered_to};
 ghost use Rattle.segment_file.specs.declared.taking.Cutout.{Cutout};
-ghost use Rattle.segment_file.specs.Run.{IsRun};
+ghost use Rattle.segment_file.specs.Run.{IsRunCutAt};
 ghost use Rattle.local_log.specs.Dropping.{IsFirstFlushed, SpansFirst};
 
 use anyhow::{Context, Result, bail, ensure};
@@ -210,7 +210,7 @@ fn drop_below<L: Disk>(log: &mut LocalLog<L>, covered: u64) -> Result<(u64, u64)
 
 /// Cuts the batches at an offset out of a segment's bytes. They are checked on the way.
 fn run_of(bytes: &Bytes, offset: u64, limit: u64, mark: u64, end: u64) -> Result<Bytes>
-    ensures { IfOk result (λ run. (cut : Cutout) × IsRun bytes.now offset limit mark end cut
+    ensures { IfOk result (λ run. (cut : Cutout) × IsRunCutAt bytes.now offset limit mark end cut
         × (run ≡ slice_range bytes.now cut.from cut.to)) }
 {
     if mark <= offset || end <= offset {

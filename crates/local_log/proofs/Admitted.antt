@@ -9,17 +9,17 @@ use Rattle.record_batch.specs.declared.head.Head.{Head}
 use Rattle.record_batch.specs.Check.{checked}
 use Rattle.epoch_line.specs.Line.{last_epoch}
 use Rattle.segment_file.specs.Walk.{size_in}
-use Rattle.segment_file.specs.Gathering.{Tells}
+use Rattle.segment_file.specs.Gathering.{HeadDescribes}
 use Rattle.segment_file.specs.Segment.{EpochsRise}
 use Rattle.segment_file.proofs.Joining.{parts_same}
 use Rattle.log_steps.specs.Fronts.{Each}
 use Rattle.local_log.specs.declared.admitting.Spot.{Spot}
-use Rattle.local_log.specs.Run.{IsRun}
-use Rattle.local_log.specs.Admitting.{AreTaken, AreFrom, Meets, GoesOn, spot_after}
+use Rattle.local_log.specs.Run.{IsRunFor}
+use Rattle.local_log.specs.Admitting.{AreAdmitted, AreFrom, Meets, AdvancesTo, spot_after}
 use Rattle.local_log.proofs.Heads.{long_batch}
 
 -- none are taken
-pub none_taken : (end epoch : ℕ) (bytes : List ℕ) → bytes ≡ [] → AreTaken end epoch bytes
+pub none_taken : (end epoch : ℕ) (bytes : List ℕ) → bytes ≡ [] → AreAdmitted end epoch bytes
 none_taken end epoch bytes none = record { batches = []; bytes_are = none; are = tt; consecutive = tt; epochs = tt }
 
 -- the first of them
@@ -31,9 +31,9 @@ pub record FirstTaken (end epoch : ℕ) (bytes : List ℕ) : Type 0 where
   pub begins : base_of batch ≡ end
   pub rises : epoch ≤ epoch_of batch
   pub fits : epoch_of batch < 2 ^ 31
-  pub rest : AreTaken (last_of batch + 1) (epoch_of batch) more
+  pub rest : AreAdmitted (last_of batch + 1) (epoch_of batch) more
 
-pub first_taken : (end epoch : ℕ) (bytes : List ℕ) → 0 < length bytes → AreTaken end epoch bytes → FirstTaken end epoch bytes
+pub first_taken : (end epoch : ℕ) (bytes : List ℕ) → 0 < length bytes → AreAdmitted end epoch bytes → FirstTaken end epoch bytes
 first_taken end epoch bytes some a = go a.batches a.bytes_are a.are a.consecutive a.epochs
   where
     go : (bs : List (List ℕ)) → bytes ≡ joined bs → Each (λ (b : List ℕ). IsOk (checked b)) bs → IsConsecutive end bs → EpochsRise epoch bs → FirstTaken end epoch bytes
@@ -54,12 +54,12 @@ by_recursion [] h = tt
 by_recursion (b ∷ bs) h = (h.0, by_recursion bs h.1)
 
 -- what begins with a batch has it in front
-pub front_taken : (end epoch : ℕ) (bytes batch rest : List ℕ) → bytes ≡ batch ++ rest → IsOk (checked batch) → (a : AreTaken end epoch bytes) → (more : List (List ℕ)) × (a.batches ≡ batch ∷ more) × (rest ≡ joined more)
+pub front_taken : (end epoch : ℕ) (bytes batch rest : List ℕ) → bytes ≡ batch ++ rest → IsOk (checked batch) → (a : AreAdmitted end epoch bytes) → (more : List (List ℕ)) × (a.batches ≡ batch ∷ more) × (rest ≡ joined more)
 front_taken end epoch bytes batch rest parts is a =
     parts_same (batch ∷ []) a.batches rest (is, tt) (by_recursion a.batches a.are) (sym a.bytes_are ∙ parts ∙ ap (λ (l : List ℕ). l ++ rest) (sym (append-nil batch)))
 
 -- the head of the batch at a spot
-module _ (run : List ℕ) (spot : Spot) (head : Head) (batch : List ℕ) (is : IsOk (checked batch)) (parts : drop spot.at run ≡ batch ++ drop (spot.at + size_in head) run) (t : Tells batch head) where
+module _ (run : List ℕ) (spot : Spot) (head : Head) (batch : List ℕ) (is : IsOk (checked batch)) (parts : drop spot.at run ≡ batch ++ drop (spot.at + size_in head) run) (t : HeadDescribes batch head) where
   abbrev pub next : Spot
   next = spot_after spot.at head
 
@@ -103,7 +103,7 @@ module _ (run : List ℕ) (spot : Spot) (head : Head) (batch : List ℕ) (is : I
       epochs = subst (λ (n : ℕ). EpochsRise n more) (sym t.epoch) rise.2;
     }
 
-module _ (run : List ℕ) (spot : Spot) (head : Head) (batch : List ℕ) (is : IsOk (checked batch)) (parts : drop spot.at run ≡ batch ++ drop (spot.at + size_in head) run) (t : Tells batch head) where
+module _ (run : List ℕ) (spot : Spot) (head : Head) (batch : List ℕ) (is : IsOk (checked batch)) (parts : drop spot.at run ≡ batch ++ drop (spot.at + size_in head) run) (t : HeadDescribes batch head) where
   abbrev pub after : Spot
   after = spot_after spot.at head
 
@@ -123,7 +123,7 @@ module _ (run : List ℕ) (spot : Spot) (head : Head) (batch : List ℕ) (is : I
     );
   }
 
-  pub goes_on : spot.at + size_in head ≤ length run → Meets spot head → GoesOn run spot after
+  pub goes_on : spot.at + size_in head ≤ length run → Meets spot head → AdvancesTo run spot after
   goes_on inside m =
       let long = long_batch batch is in
       record {
@@ -133,7 +133,7 @@ module _ (run : List ℕ) (spot : Spot) (head : Head) (batch : List ℕ) (is : I
       }
 
 -- a run is batches, and not none
-pub run_taken : (end : ℕ) (line : List (ℕ × ℕ)) (run : List ℕ) → IsRun end line run → (0 < length run) × AreTaken end (unwrap_or (last_epoch line) 0) run
+pub run_taken : (end : ℕ) (line : List (ℕ × ℕ)) (run : List ℕ) → IsRunFor end line run → (0 < length run) × AreAdmitted end (unwrap_or (last_epoch line) 0) run
 run_taken end line run r = (some r.batches r.some r.bytes r.are, record { batches = r.batches; bytes_are = r.bytes; are = r.are; consecutive = r.consecutive; epochs = r.epochs })
   where
     some : (bs : List (List ℕ)) → bs ≢ [] → run ≡ joined bs → Each (λ (b : List ℕ). IsOk (checked b)) bs → 0 < length run
@@ -143,5 +143,5 @@ run_taken end line run r = (some r.batches r.some r.bytes r.are, record { batche
         let size = ap length is ∙ length-append b (joined bs) in
         omega (arith, long, size)
 
-pub taken_run : (end : ℕ) (line : List (ℕ × ℕ)) (run : List ℕ) → 0 < length run → AreTaken end (unwrap_or (last_epoch line) 0) run → IsRun end line run
+pub taken_run : (end : ℕ) (line : List (ℕ × ℕ)) (run : List ℕ) → 0 < length run → AreAdmitted end (unwrap_or (last_epoch line) 0) run → IsRunFor end line run
 taken_run end line run some a = record { batches = a.batches; bytes = a.bytes_are; some = λ none. (let n = ap length (a.bytes_are ∙ ap joined none) in omega (arith, n, some)); are = a.are; consecutive = a.consecutive; epochs = a.epochs }

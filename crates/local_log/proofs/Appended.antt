@@ -4,7 +4,7 @@ use Rattle.std.proofs.lemmas.List.{take_all, append-nil}
 use Rattle.std.proofs.lemmas.Bool.{cases_lt}
 use Rattle.tier_base.specs.declared.plain.FileName.TheVariants as file
 use Rattle.tier_base.specs.Told.{bytes_in}
-use Rattle.disk_model.specs.Content.{Content, Lawful, Changes, LeavesOnly, appended, Grown as MayGrow}
+use Rattle.disk_model.specs.Content.{Content, Lawful, Changes, LeavesOnly, appended, HasGrown as MayGrow}
 use Rattle.log_terms.specs.Batch.{base_of, last_of, epoch_of}
 use Rattle.log_terms.specs.Log.{joined, IsConsecutive, end_from, up_to}
 use Rattle.log_terms.specs.Line.{epoch_at}
@@ -17,9 +17,9 @@ use Rattle.segment_file.specs.Index.{placed_from}
 use Rattle.segment_file.specs.Growing.{Grown, size_after}
 use Rattle.segment_file.proofs.Laying.{end_append}
 use Rattle.log_steps.specs.Fronts.{Each}
-use Rattle.log_steps.specs.Opens.{IsPlaced, IsRead}
+use Rattle.log_steps.specs.Opens.{IsPlaced, IsOpenedBy}
 use Rattle.log_steps.specs.Reopens.{Reopens}
-use Rattle.log_steps.specs.Stands.{Stands}
+use Rattle.log_steps.specs.Stands.{ImagesHold}
 use Rattle.log_steps.proofs.Lists.{each_map, each_both, each_join, each_left, each_right}
 use Rattle.log_steps.proofs.Moments.{leaves_weaker}
 use Rattle.log_steps.proofs.Restored.{manifest_other, log_differs}
@@ -28,7 +28,7 @@ use Rattle.log_steps.proofs.Standing.{append_stands, append_since, files_grown, 
 use Rattle.log_steps.proofs.Reading.{read_moved, segments_whole, stands_reopens}
 use Rattle.local_log.specs.Stored.{bytes_of, pieces, batches_of, all_batches, size_of, end_of, extent_of, IsStored}
 use Rattle.local_log.specs.Listing.{IsLaidOut, AreSegmentsOf}
-use Rattle.local_log.specs.Inside.{HasLog}
+use Rattle.local_log.specs.Inside.{DiskHasLog}
 use Rattle.local_log.specs.Run.{lined}
 use Rattle.local_log.specs.Taking.{grown_by}
 use Rattle.local_log.proofs.Pieces.{joined_append, placed_append, size_placed, end_placed, stored_batches, stored_end, stored_same, all_append, all_each, all_kept, all_end, pieces_placed, chain_snoc, consecutive_append, consecutive_segments, stored_segments}
@@ -55,7 +55,7 @@ all_placed line base n (b ∷ bs) c near low oks epochs =
     let up = end_above (last_of b + 1) bs c.1 in
     (record { is = oks.0; near = omega (arith, up, near); low = omega (arith, up, low); epoch = epochs.0 }, all_placed line base (last_of b + 1) bs c.1 near low oks.1 epochs.1)
 
-module _ (d d' : Content) (laws : Lawful d) (laws' : Lawful d') (incarnation local_start : ℕ) (closed : List Grown) (active : Grown) (line : List (ℕ × ℕ)) (flushed_end : ℕ) (has : HasLog d incarnation local_start closed active line flushed_end)
+module _ (d d' : Content) (laws : Lawful d) (laws' : Lawful d') (incarnation local_start : ℕ) (closed : List Grown) (active : Grown) (line : List (ℕ × ℕ)) (flushed_end : ℕ) (has : DiskHasLog d incarnation local_start closed active line flushed_end)
     (more : List ℕ) (M : Bool → Type 0) (change : Changes (file.Log active.base) (appended more) MayGrow M d d') where
   abbrev pub segments : List Grown
   segments = closed ++ active ∷ []
@@ -71,10 +71,10 @@ module _ (d d' : Content) (laws : Lawful d) (laws' : Lawful d') (incarnation loc
       leaves_weaker d d' _ _ (held_up d laws incarnation local_start closed active line flushed_end has)
       (append_since d d' laws laws' bytes has.listed.segments (map extent_of closed) has.images (file.Log active.base) (manifest_other active.base) more M change)
 
-  stands : Stands d' bytes has.listed.segments (map extent_of closed)
+  stands : ImagesHold d' bytes has.listed.segments (map extent_of closed)
   stands = append_stands d d' laws laws' bytes has.listed.segments (map extent_of closed) has.images (file.Log active.base) (manifest_other active.base) more M change
 
-  read : IsTrue d.is_observable → IsRead has.listed d'.files has.opened
+  read : IsTrue d.is_observable → IsOpenedBy has.listed d'.files has.opened
   read t =
       let grown = files_grown d d' laws laws' bytes has.listed.segments (map extent_of closed) has.images (file.Log active.base) (manifest_other active.base) more M change t in
       let r = has.read t in
@@ -91,7 +91,7 @@ module _ (d d' : Content) (laws : Lawful d) (laws' : Lawful d') (incarnation loc
       all_kept d.files d'.files line segments (grown_kept (file.Log active.base) d.files d'.files grown) (has.stored t)
 
   -- it wasn't done
-  pub appended_dry : (M true → ⊥) → HasLog d' incarnation local_start closed active line flushed_end
+  pub appended_dry : (M true → ⊥) → DiskHasLog d' incarnation local_start closed active line flushed_end
   appended_dry not =
       has_same d laws incarnation local_start closed active line flushed_end has d' laws' change.is_observable (change.undone not)
       (λ t. undone_files (file.Log active.base) (appended more) M d.files d'.files not (change.files t))
@@ -236,7 +236,7 @@ module _ (d d' : Content) (laws : Lawful d) (laws' : Lawful d') (incarnation loc
         (consecutive_append local_start (all_batches d.files segments) taken (all_consecutive t) (subst (λ (n : ℕ). IsConsecutive n taken) (sym (all_ends t)) follow))
         (omega (arith, flushed_end_low, all_ends t))
 
-    pub appended_has : HasLog d' incarnation local_start closed active' line' flushed_end
+    pub appended_has : DiskHasLog d' incarnation local_start closed active' line' flushed_end
     appended_has = record {
       listed = has.listed;
       opened = has.opened;

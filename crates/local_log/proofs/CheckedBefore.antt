@@ -6,10 +6,10 @@ use Rattle.log_terms.specs.Log.{joined}
 use Rattle.record_batch.specs.declared.head.Head.{Head}
 use Rattle.record_batch.specs.Check.{checked, headed, AreChecked}
 use Rattle.segment_file.specs.Walk.{size_in}
-use Rattle.segment_file.specs.Gathering.{Tells}
+use Rattle.segment_file.specs.Gathering.{HeadDescribes}
 use Rattle.segment_file.proofs.Standing.{AreBytes, bytes_drop}
 use Rattle.local_log.specs.Epochs.{IsRow}
-use Rattle.local_log.specs.Reading.{IsCut}
+use Rattle.local_log.specs.Reading.{IsCutOut}
 use Rattle.local_log.specs.declared.reading.RunOut.{RunOut}
 use Rattle.local_log.proofs.Admitted.{by_recursion}
 use Rattle.local_log.proofs.CutOut.{run_row}
@@ -41,7 +41,7 @@ pub record CheckedAt (run : List ℕ) (at : ℕ) (head : Head) : Type 0 where
   pub batch : List ℕ
   pub is : IsOk (checked batch)
   pub parts : drop at run ≡ batch ++ drop (at + size_in head) run
-  pub is_observable : Tells batch head
+  pub is_observable : HeadDescribes batch head
   pub inside : at + size_in head ≤ length run
   pub rest : AreChecked (drop (at + size_in head) run)
 
@@ -55,7 +55,7 @@ module _ (run : List ℕ) (at : ℕ) (inside : at < length run) (a : AreChecked 
 
   pub checked_at : (head : Head) → AreBytes run → headed (drop at run) ≡ Ok head → CheckedAt run at head
   checked_at head clean e =
-      let t : Tells first.batch head = front_tells first.batch first.more head (subst AreBytes first.parts (bytes_drop at run clean)) first.is (ap headed (sym first.parts) ∙ e) in
+      let t : HeadDescribes first.batch head = front_tells first.batch first.more head (subst AreBytes first.parts (bytes_drop at run clean)) first.is (ap headed (sym first.parts) ∙ e) in
       let behind : drop (at + size_in head) run ≡ first.more =
       sym (drop-drop (size_in head) at run) ∙ ap (λ (l : List ℕ). drop (size_in head) l) first.parts ∙ drop_at first.batch first.more (size_in head) (sym t.size) in
       let all = length-drop at run in
@@ -70,7 +70,7 @@ module _ (run : List ℕ) (at : ℕ) (inside : at < length run) (a : AreChecked 
       }
 
 -- a run that was read is checked batches
-pub cut_checked : (line : List (ℕ × ℕ)) (bytes : List ℕ) (offset limit mark piece : ℕ) (out : RunOut) → IsCut line bytes offset limit mark piece out → AreChecked out.bytes
+pub cut_checked : (line : List (ℕ × ℕ)) (bytes : List ℕ) (offset limit mark piece : ℕ) (out : RunOut) → IsCutOut line bytes offset limit mark piece out → AreChecked out.bytes
 cut_checked line bytes offset limit mark piece out c =
     let row : IsRow out.bytes = run_row bytes offset limit mark piece c.cut c.is out.bytes c.part in
     record { batches = row.batches; are = row.bytes_are; checked = by_recursion row.batches row.are }

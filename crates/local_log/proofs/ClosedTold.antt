@@ -14,7 +14,7 @@ use Rattle.record_batch.specs.Check.{checked}
 use Rattle.epoch_line.specs.Line.{IsLine}
 use Rattle.segment_file.specs.Growing.{Grown}
 use Rattle.segment_file.specs.Segment.{EpochsRise, IsSegment}
-use Rattle.segment_file.specs.Closed.{Whole, IsBadPlace}
+use Rattle.segment_file.specs.Closed.{ClosedSegment, IsBadPlace}
 use Rattle.segment_file.proofs.Joining.{segment_same}
 use Rattle.segment_file.proofs.Laying.{end_up}
 use Rattle.log_steps.specs.Fronts.{Each}
@@ -26,8 +26,8 @@ use Rattle.local_log.specs.declared.refusal.ReadRefusal.TheVariants as refusal
 use Rattle.local_log.specs.Stored.{bytes_of, batches_of, all_batches, size_of, end_of, AreChained, IsStored}
 use Rattle.local_log.specs.Listing.{IsLaidOut}
 use Rattle.local_log.specs.Epochs.{IsOfLine}
-use Rattle.local_log.specs.Inside.{log_in, IsSound}
-use Rattle.local_log.specs.Reading.{first_past, IsFront, HasStray, HasNoSegment, FrontFails, IsPartOf, IsOfDevice}
+use Rattle.local_log.specs.Inside.{log_in, IsLogSound}
+use Rattle.local_log.specs.Reading.{first_past, IsSegmentFront, HasStray, HasNoSegment, FrontFails, IsPartOf, IsOfDevice}
 use Rattle.local_log.proofs.Pieces.{stored_batches, stored_end, size_placed}
 use Rattle.local_log.proofs.Edges.{holder, holder_each}
 use Rattle.local_log.proofs.Strays.{epoch_low, placed_given, none_strays}
@@ -156,7 +156,7 @@ found_holder offset closed active g found = ap (λ (o : Option Grown). unwrap_or
 not_none : (batches : List (List ℕ)) → 0 < length (joined batches) → batches ≢ []
 not_none batches some e = let n = ap (λ (l : List (List ℕ)). length (joined l)) e in omega (arith, n, some)
 
-module _ {D : Type 0} (content : D → Content) (s : Inside D) (sound : IsSound content s) (unbroken : s.broken ≡ false) (t : IsTrue (content s.disk).is_observable) (offset : ℕ) (found : Grown) (is : first_past offset s.closed.items ≡ Some found) where
+module _ {D : Type 0} (content : D → Content) (s : Inside D) (sound : IsLogSound content s) (unbroken : s.broken ≡ false) (t : IsTrue (content s.disk).is_observable) (offset : ℕ) (found : Grown) (is : first_past offset s.closed.items ≡ Some found) where
   abbrev pub f : Files
   f = (content s.disk).files
 
@@ -221,7 +221,7 @@ module _ {D : Type 0} (content : D → Content) (s : Inside D) (sound : IsSound 
   front_told b size read refusal.DiskFault at_b at_size same why = absurd why
   front_told b size read refusal.NoMemory at_b at_size same why = why
 
-  pub part_told : (read : List ℕ) (whole : Whole) → read ≡ take (size_of found) (bytes_of f found) → IsFront s.line found.base (size_of found) read whole → IsPartOf (log_in content s) whole
+  pub part_told : (read : List ℕ) (whole : ClosedSegment) → read ≡ take (size_of found) (bytes_of f found) → IsSegmentFront s.line found.base (size_of found) read whole → IsPartOf (log_in content s) whole
   part_told read whole same front =
       let w = front.whole in
       let stands = subst (StandsAt f s.local_start closed s.active) at_holder (holder_stands f s.line s.local_start offset closed s.active sound.segments.chained ((sound.has unbroken).stored t)) in

@@ -9,10 +9,10 @@ use Rattle.local_log.specs.declared.log.LocalLog.TheInside.{Inside}
 use mathlib.Core.List.{IsPrefix}
 use Rattle.log_terms.proofs.Logs.{up_to_is}
 use Rattle.local_log.specs.Stored.{all_batches, end_of, extent_of, AreChained, IsStored}
-use Rattle.local_log.specs.Inside.{log_in, IsSound}
+use Rattle.local_log.specs.Inside.{log_in, IsLogSound}
 use Rattle.local_log.specs.Reading.{begin_of}
 use Rattle.local_log.specs.Cutting.{open_by}
-use Rattle.local_log.specs.Coheres.{Coheres, Hold}
+use Rattle.local_log.specs.Coheres.{Coheres, SegmentsHold}
 use Rattle.local_log.proofs.Pieces.{all_end, chain_snoc, consecutive_segments, stored_batches, stored_end, stored_segments}
 use Rattle.local_log.proofs.Lines.{cut_within}
 use Rattle.local_log.proofs.Edges.{holder}
@@ -42,13 +42,13 @@ first_edge f line start (h ∷ hs) active chained each g rest is =
     (chained.0, ap (end_from start) (up_to_is start (end_of h) s.batches all c front end) ∙ end)
 
 -- stored segments hold their batches
-held : (f : Files) (line : List (ℕ × ℕ)) (start : ℕ) (segments : List Grown) → AreChained start segments → Each (IsStored f line) segments → Hold start segments (all_batches f segments)
+held : (f : Files) (line : List (ℕ × ℕ)) (start : ℕ) (segments : List Grown) → AreChained start segments → Each (IsStored f line) segments → SegmentsHold start segments (all_batches f segments)
 held f line start [] chained each = refl
 held f line start (g ∷ segments) chained each =
     let s = each.0 in
     (s.batches, all_batches f segments, ap (λ (l : List (List ℕ)). l ++ all_batches f segments) (stored_batches f line g s), chained.0, s.placed, held f line (end_of g) segments chained.1 each.1)
 
-module _ {D : Type 0} (content : D → Content) (s : Inside D) (sound : IsSound content s) (unbroken : s.broken ≡ false) (t : IsTrue (content s.disk).is_observable) where
+module _ {D : Type 0} (content : D → Content) (s : Inside D) (sound : IsLogSound content s) (unbroken : s.broken ≡ false) (t : IsTrue (content s.disk).is_observable) where
   abbrev pub segments : List Grown
   segments = s.closed.items ++ s.active ∷ []
 

@@ -13,12 +13,12 @@ use Rattle.log_steps.specs.Publishes.{Publishes}
 use Rattle.log_steps.proofs.Moments.{leaves_weaker, leaves_then}
 use Rattle.local_log.specs.Stored.{all_batches, end_of}
 use Rattle.local_log.specs.Listing.{AreSegmentsOf, manifest_of}
-use Rattle.local_log.specs.Inside.{HasLog}
+use Rattle.local_log.specs.Inside.{DiskHasLog}
 use Rattle.local_log.specs.Cutting.{OpensAsOr}
 use Rattle.local_log.proofs.Retold.{kept_opens, or_last}
 use Rattle.local_log.proofs.Having.{OpensUpTo, has_kept, kept_batches, kept_since, has_reopens, published_since, published_as, published_batches, has_published, published_dry, published_reopens, published_opens}
 
-module _ (d m : Content) (laws : Lawful d) (laws-m : Lawful m) (incarnation local_start : ℕ) (closed : List Grown) (active : Grown) (line : List (ℕ × ℕ)) (flushed_end : ℕ) (has : HasLog d incarnation local_start closed active line flushed_end) (k : Keeps d m) where
+module _ (d m : Content) (laws : Lawful d) (laws-m : Lawful m) (incarnation local_start : ℕ) (closed : List Grown) (active : Grown) (line : List (ℕ × ℕ)) (flushed_end : ℕ) (has : DiskHasLog d incarnation local_start closed active line flushed_end) (k : Keeps d m) where
   abbrev pub segments : List Grown
   segments = closed ++ active ∷ []
 
@@ -28,7 +28,7 @@ module _ (d m : Content) (laws : Lawful d) (laws-m : Lawful m) (incarnation loca
       OpensUpTo incarnation local_start flushed_end (all_batches d.files segments) line c
       ⊎ OpensUpTo incarnation local_start (end_of active) (all_batches d.files segments) other c
 
-  pub room_has : HasLog m incarnation local_start closed active line flushed_end
+  pub room_has : DiskHasLog m incarnation local_start closed active line flushed_end
   room_has = has_kept d laws incarnation local_start closed active line flushed_end has m laws-m k
 
   room_batches : all_batches m.files segments ≡ all_batches d.files segments
@@ -66,10 +66,10 @@ module _ (d m : Content) (laws : Lawful d) (laws-m : Lawful m) (incarnation loca
         published_batches m laws-m incarnation local_start closed active line flushed_end room_has d' laws' are opened fits other is is' same_line fate change (subst IsTrue (sym k.is_observable) t) segments
         ∙ room_batches
 
-    pub commit_has : fate ≡ Went → HasLog d' incarnation local_start closed active other (end_of active)
+    pub commit_has : fate ≡ Went → DiskHasLog d' incarnation local_start closed active other (end_of active)
     commit_has = has_published m laws-m incarnation local_start closed active line flushed_end room_has d' laws' are opened fits other is is' same_line fate change
 
-    pub commit_dry : fate ≡ Dry → HasLog d' incarnation local_start closed active line flushed_end
+    pub commit_dry : fate ≡ Dry → DiskHasLog d' incarnation local_start closed active line flushed_end
     commit_dry = published_dry m laws-m incarnation local_start closed active line flushed_end room_has d' laws' are opened fits other is is' same_line fate change
 
     pub commit_reopens : Reopens d'

@@ -12,7 +12,7 @@ use Rattle.log_manifest.specs.Rules.{IsManifest}
 use Rattle.log_manifest.proofs.Again.{manifest_again}
 use Rattle.segment_file.specs.Growing.{Grown}
 use Rattle.log_steps.specs.Fronts.{Each, Agrees}
-use Rattle.log_steps.specs.Opens.{IsRead, Opens}
+use Rattle.log_steps.specs.Opens.{IsOpenedBy, Opens}
 use Rattle.log_steps.specs.Reopens.{Reopens}
 use Rattle.log_steps.specs.Publishes.{IsLike}
 use Rattle.log_steps.proofs.Lists.{each_map}
@@ -22,7 +22,7 @@ use Rattle.log_steps.proofs.Standing.{agrees_then, agrees_read, same_kept}
 use Rattle.log_steps.proofs.Reading.{opens_by, opens_like, says_is}
 use Rattle.local_log.specs.Log.{first_log, Creating}
 use Rattle.local_log.specs.Listing.{AreSegmentsOf, manifest_of}
-use Rattle.local_log.specs.Inside.{HasLog}
+use Rattle.local_log.specs.Inside.{DiskHasLog}
 use Rattle.local_log.proofs.Listed.{rules_of}
 
 -- the first segment
@@ -50,7 +50,7 @@ pub first_reading : (interval : ℕ) → manifest_in (manifest_bytes (first_mani
 first_reading interval = manifest_again (first_manifest interval) (first_rules interval) (omega arith)
 
 -- any files are read as nothing by it
-pub first_read : (interval : ℕ) (c : Files) → IsRead (first_manifest interval) c first_log
+pub first_read : (interval : ℕ) (c : Files) → IsOpenedBy (first_manifest interval) c first_log
 first_read interval c = record {
   incarnation = refl;
   local_start = refl;
@@ -108,7 +108,7 @@ module _ (d d' : Content) (interval : ℕ) (M : Bool → Type 0) (change : Chang
     none_now : IsTrue d'.is_observable → (b : ℕ) → d'.files (file.Log b) ≡ None
     none_now t b = let told = subst IsTrue change.is_observable t in (change.files told).2.others (file.Log b) (log_no_manifest b) ∙ empty told (file.Log b)
 
-    pub create_has : HasLog d' 1 0 [] (first interval) [] 0
+    pub create_has : DiskHasLog d' 1 0 [] (first interval) [] 0
     create_has = record {
       listed = first_manifest interval;
       opened = first_log;

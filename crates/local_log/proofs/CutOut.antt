@@ -21,7 +21,7 @@ use Rattle.segment_file.specs.declared.walking.Found.TheVariants as found
 use Rattle.segment_file.specs.declared.taking.Cutout.{Cutout}
 use Rattle.segment_file.specs.Walk.{size_in, found_at}
 use Rattle.segment_file.specs.Growing.{Grown, AreParted, BeginsSearch}
-use Rattle.segment_file.specs.Run.{end_after, Begins, Follows, AreBatches, Stand, would_pass, Fits, GoesOn, StopIs, IsRun, IsBadAt}
+use Rattle.segment_file.specs.Run.{end_after, MayBeginAt, Follows, AreBatches, HasBatchesUpTo, would_pass, Fits, RunContinues, StopIs, IsRunCutAt, IsBadAt}
 use Rattle.segment_file.proofs.Finding.{batch_found, head_kept, head_sized}
 use Rattle.segment_file.proofs.Standing.{same_head}
 use Rattle.segment_file.proofs.Joining.{consecutive_parts}
@@ -31,14 +31,14 @@ use Rattle.log_steps.specs.Opens.{IsPlaced}
 use Rattle.log_steps.proofs.Lists.{each_map, each_right}
 use Rattle.local_log.specs.Stored.{bytes_of, size_of, end_of, IsStored}
 use Rattle.local_log.specs.Epochs.{IsRow}
-use Rattle.local_log.specs.Reading.{HasNoRun, passes}
+use Rattle.local_log.specs.Reading.{HasNoLocalRun, passes}
 use Rattle.local_log.proofs.Pieces.{joined_append, stored_end}
 use Rattle.local_log.proofs.Heads.{head_front, headed_batch}
 use Rattle.local_log.proofs.Reached.{Enough, front_whole}
 use Rattle.local_log.proofs.Edges.{Ends, from_skip}
 
 -- there is no run in nothing
-pub no_run_in_nothing : (line : List (ℕ × ℕ)) (offset limit mark piece position : ℕ) → HasNoRun line [] offset limit mark piece position 0
+pub no_run_in_nothing : (line : List (ℕ × ℕ)) (offset limit mark piece position : ℕ) → HasNoLocalRun line [] offset limit mark piece position 0
 no_run_in_nothing line offset limit mark piece position = record {
   found = 0;
   bad = inl (record {
@@ -182,7 +182,7 @@ follow_checked last offset bound [] are = tt
 follow_checked last offset bound (x ∷ xs) are = (are.0.is, follow_checked (Some (last_of x + 1)) offset bound xs are.1)
 
 -- the bytes of a run that is cut out are its batches
-module _ (part : List ℕ) (offset limit mark piece : ℕ) (cut : Cutout) (r : IsRun part offset limit mark piece cut) where
+module _ (part : List ℕ) (offset limit mark piece : ℕ) (cut : Cutout) (r : IsRunCutAt part offset limit mark piece cut) where
   skipping : (skipped : List (List ℕ)) × (r.batches ≡ skipped ++ r.first ∷ r.others)
   skipping = let p = from_parts offset r.batches in (p.0, p.1 ∙ ap (λ (l : List (List ℕ)). p.0 ++ l) r.run)
 
@@ -280,7 +280,7 @@ module _ (f : Files) (line : List (ℕ × ℕ)) (g : Grown) (s : IsStored f line
 
   -- a part of them is read
   module _ (part behind : List ℕ) (read : drop position (bytes_of f g) ≡ part ++ behind) where
-    module _ (batches : List (List ℕ)) (rest : List ℕ) (at : ℕ) (stand : Stand offset (min mark piece) part batches rest at) where
+    module _ (batches : List (List ℕ)) (rest : List ℕ) (at : ℕ) (stand : HasBatchesUpTo offset (min mark piece) part batches rest at) where
       all_of : joined batches ++ (rest ++ behind) ≡ joined latter ++ tail
       all_of = sym (append_assoc (joined batches) rest behind) ∙ ap (λ (l : List ℕ). l ++ behind) (sym stand.parts) ∙ sym read ∙ bytes_are
 
@@ -293,7 +293,7 @@ module _ (f : Files) (line : List (ℕ × ℕ)) (g : Grown) (s : IsStored f line
         → (at : ℕ) → IsBadAt part offset limit (min mark piece) at → ⊥
     never_bad holds enough at bad = none (goes bad.batches bad.rest at bad.stand)
       where
-        going : (fs : List (List ℕ)) → from_offset offset bad.batches ≡ fs → GoesOn limit (min mark piece) (end_after None bad.batches) fs bad.rest → end_from n bad.batches < min mark piece
+        going : (fs : List (List ℕ)) → from_offset offset bad.batches ≡ fs → RunContinues limit (min mark piece) (end_after None bad.batches) fs bad.rest → end_from n bad.batches < min mark piece
         going [] e on = let h = none_from n offset bad.batches early e in omega (arith, h, under, inside)
         going (first ∷ run) e on =
             let p = from_parts offset bad.batches in
@@ -306,9 +306,9 @@ module _ (f : Files) (line : List (ℕ × ℕ)) (g : Grown) (s : IsStored f line
         lt : end_from n bad.batches < min mark piece
         lt = going (from_offset offset bad.batches) refl bad.goes_on
 
-        begins : (bs : List (List ℕ)) (m : List ℕ) (ms : List (List ℕ)) → IsConsecutive n (bs ++ m ∷ ms) → Begins (end_after None bs) offset (base_of m)
+        begins : (bs : List (List ℕ)) (m : List ℕ) (ms : List (List ℕ)) → IsConsecutive n (bs ++ m ∷ ms) → MayBeginAt (end_after None bs) offset (base_of m)
         begins [] m ms c = omega (arith, c.0, early)
-        begins (x ∷ xs) m ms c = subst (λ (o : Option ℕ). Begins o offset (base_of m)) (sym (end_some (last_of x + 1) xs)) ((consecutive_parts n (x ∷ xs) (m ∷ ms) c).1.0)
+        begins (x ∷ xs) m ms c = subst (λ (o : Option ℕ). MayBeginAt o offset (base_of m)) (sym (end_some (last_of x + 1) xs)) ((consecutive_parts n (x ∷ xs) (m ∷ ms) c).1.0)
 
         -- none of the batches is passed over
         all_from : (bs more : List (List ℕ)) → latter ≡ bs ++ more → from_offset offset bs ≡ bs
@@ -324,7 +324,7 @@ module _ (f : Files) (line : List (ℕ × ℕ)) (g : Grown) (s : IsStored f line
             let whole = front_whole bad.rest behind m more e (omega (arith, long, size)) in
             bad.nothing m whole.0 whole.1 follows
 
-        stops : (bs : List (List ℕ)) → bs ≢ [] → GoesOn limit (min mark piece) (end_after None bad.batches) bs bad.rest → would_pass limit (length (joined bs)) (headed bad.rest) ≡ false
+        stops : (bs : List (List ℕ)) → bs ≢ [] → RunContinues limit (min mark piece) (end_after None bad.batches) bs bad.rest → would_pass limit (length (joined bs)) (headed bad.rest) ≡ false
         stops [] some on = absurd (some refl)
         stops (b ∷ bs) some on = on.1
 
@@ -349,7 +349,7 @@ module _ (f : Files) (line : List (ℕ × ℕ)) (g : Grown) (s : IsStored f line
             let below = next_below n bad.batches m ms edge'.0 row' (subst (IsPrefix edge'.0) parts edge'.1) lt' in
             let bytes : bad.rest ++ behind ≡ m ++ (joined ms ++ tail) = e ∙ append_assoc m (joined ms) tail in
             let fits = subst (Fits limit) (from_is (m ∷ ms) parts) bad.fits in
-            let on = subst (λ (l : List (List ℕ)). GoesOn limit (min mark piece) (end_after None bad.batches) l bad.rest) (from_is (m ∷ ms) parts) bad.goes_on in
+            let on = subst (λ (l : List (List ℕ)). RunContinues limit (min mark piece) (end_after None bad.batches) l bad.rest) (from_is (m ∷ ms) parts) bad.goes_on in
             elim (enough bad.batches m ms parts lt (omega (arith, below, at_edge)) fits) [
               | inl fits' ↦ missed m (joined ms ++ tail) ok.0 (record {
                 is = ok.0;
@@ -363,7 +363,7 @@ module _ (f : Files) (line : List (ℕ × ℕ)) (g : Grown) (s : IsStored f line
         none h = next h.0 h.1 h.2
 
     -- the run in terms of the segment's batches, and of others after them
-    pub record Told (cut : Cutout) (r : IsRun part offset limit mark piece cut) (beyond : List (List ℕ)) : Type 0 where
+    pub record Told (cut : Cutout) (r : IsRunCutAt part offset limit mark piece cut) (beyond : List (List ℕ)) : Type 0 where
       pub rest : List (List ℕ)
       pub parts : from_offset offset (s.batches ++ beyond) ≡ r.first ∷ r.others ++ rest
       pub bytes : slice_range part cut.from cut.to ≡ joined (r.first ∷ r.others)
@@ -371,7 +371,7 @@ module _ (f : Files) (line : List (ℕ × ℕ)) (g : Grown) (s : IsStored f line
       pub below : cut.next ≤ min mark piece
       pub stop : StopIs cut.stop cut.next mark piece (passes limit (length (joined (r.first ∷ r.others))) rest)
 
-    module _ (cut : Cutout) (r : IsRun part offset limit mark piece cut) (beyond : List (List ℕ)) where
+    module _ (cut : Cutout) (r : IsRunCutAt part offset limit mark piece cut) (beyond : List (List ℕ)) where
       abbrev pub run : List (List ℕ)
       run = r.first ∷ r.others
 

@@ -7,7 +7,7 @@ use Rattle.disk_model.specs.Content.{Files}
 use Rattle.log_terms.specs.Log.{end_from, up_to}
 use Rattle.log_terms.proofs.Logs.{up_to_is, up_to_prefix}
 use Rattle.segment_file.specs.declared.placed.Placed.{Placed}
-use Rattle.segment_file.specs.Growing.{Grown, end_after, ending_by, AreLaid}
+use Rattle.segment_file.specs.Growing.{Grown, end_after, ending_by, AreBatchesLaid}
 use Rattle.segment_file.proofs.Laying.{end_up}
 use Rattle.segment_file.proofs.Searching.{ending_kept}
 use Rattle.log_steps.specs.Fronts.{Each}
@@ -25,7 +25,7 @@ lt_false : (a b : ℕ) → b < a → nat_le a b ≡ false
 lt_false a b lt = grind (arith, nat_tests, lt)
 
 -- the batches that end by an offset are those that end by where they end
-ending_again : (base at n : ℕ) (bs : List Placed) → AreLaid base at bs → ending_by (end_after base (ending_by n bs)) bs ≡ ending_by n bs
+ending_again : (base at n : ℕ) (bs : List Placed) → AreBatchesLaid base at bs → ending_by (end_after base (ending_by n bs)) bs ≡ ending_by n bs
 ending_again base at n [] laid = refl
 ending_again base at n (x ∷ bs) laid = elim (cases_lt x.last n) [
   | inl lt ↦ (
@@ -45,7 +45,7 @@ ending_again base at n (x ∷ bs) laid = elim (cases_lt x.last n) [
     first : (m : ℕ) → x.last < m → ending_by m (x ∷ bs) ≡ x ∷ ending_by m bs
     first m lt = rw (lt-ltb x.last m lt) refl
 
-    ending_laid : (base at n : ℕ) (bs : List Placed) → AreLaid base at bs → AreLaid base at (ending_by n bs)
+    ending_laid : (base at n : ℕ) (bs : List Placed) → AreBatchesLaid base at bs → AreBatchesLaid base at (ending_by n bs)
     ending_laid base at n [] laid = tt
     ending_laid base at n (x ∷ bs) laid = elim (cases_lt x.last n) [
       | inl lt ↦ rw (lt-ltb x.last n lt) (laid.0, laid.1, ending_laid (x.last + 1) x.to n bs laid.2)

@@ -18,7 +18,7 @@ use Rattle.log_manifest.proofs.Again.{manifest_again}
 use Rattle.segment_file.specs.Growing.{Grown}
 use Rattle.segment_file.proofs.Laying.{end_up}
 use Rattle.log_steps.specs.Fronts.{Each, Agrees}
-use Rattle.log_steps.specs.Opens.{Opened, IsRead, Opens, Segments}
+use Rattle.log_steps.specs.Opens.{Opened, IsOpenedBy, Opens, Segments}
 use Rattle.log_steps.specs.Reopens.{Reopens}
 use Rattle.log_steps.proofs.Lists.{each_map, each_both, each_join, each_left, each_right}
 use Rattle.log_steps.proofs.Reading.{read_moved}
@@ -26,7 +26,7 @@ use Rattle.log_steps.proofs.Rewritten.{log_no_manifest}
 use Rattle.log_steps.proofs.Standing.{both_agree}
 use Rattle.local_log.specs.Stored.{bytes_of, batches_of, all_batches, end_of, extent_of, IsStored}
 use Rattle.local_log.specs.Listing.{IsLaidOut, AreSegmentsOf, AreListed, front_to, manifest_of}
-use Rattle.local_log.specs.Inside.{HasLog}
+use Rattle.local_log.specs.Inside.{DiskHasLog}
 use Rattle.local_log.specs.Cutting.{closed_by, open_by, behind, cut_point, names_of, OpensAsOr, LeavesBeforeOrNow}
 use Rattle.local_log.specs.Renewing.{Renews}
 use Rattle.local_log.specs.Dropping.{first_of, rest_of, start_behind, IsFirstFlushed, SpansFirst}
@@ -118,12 +118,12 @@ pub record Drops (d d' : Content) (incarnation start : ℕ) (closed : List Grown
   pub opens_as : LeavesOnly d d' (OpensAsOr d (opened_behind d.files incarnation start closed active line flushed_end))
   pub either : LeavesBeforeOrNow d d'
   pub reopens : Reopens d'
-  pub dry : fate ≡ Dry → HasLog d' incarnation start closed active line flushed_end
-  pub has : fate ≡ Went → HasLog d' incarnation (start_behind start closed) (rest_of closed) active line flushed_end
+  pub dry : fate ≡ Dry → DiskHasLog d' incarnation start closed active line flushed_end
+  pub has : fate ≡ Went → DiskHasLog d' incarnation (start_behind start closed) (rest_of closed) active line flushed_end
   pub opens : fate ≡ Went → (c : Files) → Image d' c → Opens c (opened_behind d.files incarnation start closed active line flushed_end)
   pub batches : fate ≡ Went → IsTrue d.is_observable → all_batches d'.files (rest_of closed ++ active ∷ []) ≡ from_offset (start_behind start closed) (all_batches d.files (closed ++ active ∷ []))
 
-module _ (d : Content) (laws : Lawful d) (incarnation start : ℕ) (first : Grown) (rest : List Grown) (active : Grown) (line : List (ℕ × ℕ)) (flushed_end : ℕ) (has : HasLog d incarnation start (first ∷ rest) active line flushed_end)
+module _ (d : Content) (laws : Lawful d) (incarnation start : ℕ) (first : Grown) (rest : List Grown) (active : Grown) (line : List (ℕ × ℕ)) (flushed_end : ℕ) (has : DiskHasLog d incarnation start (first ∷ rest) active line flushed_end)
     (are : AreSegmentsOf start (first ∷ rest) active) (is : IsLine line) (low : end_of first ≤ flushed_end) (within : flushed_end ≤ end_of active) (one : 1 ≤ incarnation) (fits : incarnation < 2 ^ 32)
     (d' : Content) (laws' : Lawful d') (fate : Fate) (change : Renews (manifest_bytes (manifest_behind incarnation start (first ∷ rest) active line flushed_end)) (names_of (first ∷ [])) fate d d') where
   abbrev start' : ℕ
@@ -240,7 +240,7 @@ module _ (d : Content) (laws : Lawful d) (incarnation start : ℕ) (first : Grow
         ∙ ap (λ (n : ℕ). end_from n (up_to flushed_end all)) are.chained.0
         ∙ stable_end
 
-    read : IsRead next d.files o
+    read : IsOpenedBy next d.files o
     read = record {
       incarnation = refl;
       local_start = refl;
@@ -317,7 +317,7 @@ module _ (d : Content) (laws : Lawful d) (incarnation start : ℕ) (first : Grow
     front_bases : Each (λ g. g.base ≤ flushed_end) front
     front_bases = each_both (λ g l e. (let up = end_up g.base 0 g.batches l.laid in omega (arith, up, e))) front next_are.laid (closed_low flushed_end rest)
 
-    drop_has : HasLog d' incarnation start' rest active line flushed_end
+    drop_has : DiskHasLog d' incarnation start' rest active line flushed_end
     drop_has = record {
       listed = next;
       opened = o;
@@ -354,7 +354,7 @@ module _ (d : Content) (laws : Lawful d) (incarnation start : ℕ) (first : Grow
     batches = drop_batches;
   }
 
-pub drops : (d : Content) → Lawful d → (incarnation start : ℕ) (closed : List Grown) (active : Grown) (line : List (ℕ × ℕ)) (flushed_end : ℕ) → HasLog d incarnation start closed active line flushed_end
+pub drops : (d : Content) → Lawful d → (incarnation start : ℕ) (closed : List Grown) (active : Grown) (line : List (ℕ × ℕ)) (flushed_end : ℕ) → DiskHasLog d incarnation start closed active line flushed_end
     → AreSegmentsOf start closed active → IsLine line → IsFirstFlushed flushed_end closed → flushed_end ≤ end_of active → 1 ≤ incarnation → incarnation < 2 ^ 32
     → (d' : Content) → Lawful d' → (fate : Fate) → Renews (manifest_bytes (manifest_behind incarnation start closed active line flushed_end)) (names_of (first_of closed)) fate d d'
     → Drops d d' incarnation start closed active line flushed_end fate

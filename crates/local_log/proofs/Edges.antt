@@ -10,7 +10,7 @@ use Rattle.log_terms.specs.Log.{IsConsecutive, end_from, up_to, from_offset}
 use Rattle.log_terms.proofs.Logs.{lt_true, lt_false, end_append, end_above, up_to_prefix}
 use Rattle.log_terms.proofs.Lists.{prefix_self}
 use Rattle.segment_file.specs.declared.placed.Placed.{Placed}
-use Rattle.segment_file.specs.Growing.{Grown, end_after, ending_by, AreLaid}
+use Rattle.segment_file.specs.Growing.{Grown, end_after, ending_by, AreBatchesLaid}
 use Rattle.segment_file.proofs.Laying.{end_up}
 use Rattle.segment_file.proofs.Placing.{placed_up_to}
 use Rattle.log_steps.specs.Fronts.{Each}
@@ -25,7 +25,7 @@ and_both true false e = absurd (cc (e))
 and_both false b e = absurd (cc (e))
 
 -- some batches end before all do
-pub ending_below : (first at end : ℕ) (batches : List Placed) → AreLaid first at batches → end_after first (ending_by end batches) ≤ end_after first batches
+pub ending_below : (first at end : ℕ) (batches : List Placed) → AreBatchesLaid first at batches → end_after first (ending_by end batches) ≤ end_after first batches
 ending_below first at end [] laid = omega arith
 ending_below first at end (b ∷ batches) laid = go (nat_lt b.last end) refl (ending_below (b.last + 1) b.to end batches laid.2)
   where

@@ -11,10 +11,10 @@ use Rattle.record_batch.specs.Check.{checked, headed}
 use Rattle.record_batch.specs.Head.{head_of}
 use Rattle.epoch_line.specs.Line.{last_epoch, assign, cut_end}
 use Rattle.segment_file.specs.declared.placed.Placed.{Placed}
-use Rattle.segment_file.specs.Gathering.{Tells}
+use Rattle.segment_file.specs.Gathering.{HeadDescribes}
 use Rattle.segment_file.specs.Segment.{EpochsRise}
 use Rattle.segment_file.specs.Index.{placed, placed_in, placed_from}
-use Rattle.segment_file.specs.Growing.{Grown, end_after, size_after, AreLaid, MayPush, with_batch}
+use Rattle.segment_file.specs.Growing.{Grown, end_after, size_after, AreBatchesLaid, MayPush, with_batch}
 use Rattle.segment_file.proofs.Joining.{consecutive_parts}
 use Rattle.segment_file.proofs.Laying.{end_append, size_append, size_up, end_up, laid_push}
 use Rattle.segment_file.proofs.Standing.{AreBytes, bytes_drop}
@@ -23,7 +23,7 @@ use Rattle.log_steps.specs.Fronts.{Each}
 use Rattle.log_steps.proofs.Lists.{each_right}
 use Rattle.local_log.specs.Stored.{size_of, end_of}
 use Rattle.local_log.specs.Listing.{IsLaidOut}
-use Rattle.local_log.specs.Run.{IsRun, rolls_before, taking, snapshot, lined, is_last}
+use Rattle.local_log.specs.Run.{IsRunFor, rolls_before, taking, snapshot, lined, is_last}
 use Rattle.local_log.specs.Taking.{head_asks, AsksOf, line_or, grown_by, IsGathering, IsTakenIn}
 use Rattle.local_log.proofs.Pieces.{joined_append, size_placed, end_placed, placed_append}
 use Rattle.local_log.proofs.Heads.{headed_batch, front_tells, short_batch, long_batch, asks}
@@ -88,7 +88,7 @@ goes_in most base size len last e =
       low = leb_false (2 ^ 62) last both.1;
     }
 
-empty_end : (base : ℕ) (bs : List Placed) → AreLaid base 0 bs → size_after 0 bs ≡ 0 → end_after base bs ≡ base
+empty_end : (base : ℕ) (bs : List Placed) → AreBatchesLaid base 0 bs → size_after 0 bs ≡ 0 → end_after base bs ≡ base
 empty_end base [] laid e = refl
 empty_end base (x ∷ xs) laid e = let up = size_up (x.last + 1) x.to xs laid.2 in absurd (omega (arith, up, e, laid.1))
 
@@ -159,7 +159,7 @@ module _ (old : Grown) (line : List (ℕ × ℕ)) (run : List ℕ) (most at : �
     coming_headed = ap headed k.parts ∙ headed_batch k.batch (joined k.more) k.ok
 
     module _ (head : Head) (is : headed (drop at run) ≡ Ok head) where
-      pub coming_tells : Tells k.batch head
+      pub coming_tells : HeadDescribes k.batch head
       coming_tells = front_tells k.batch (joined k.more) head (subst AreBytes k.parts (bytes_drop at run clean)) k.ok (ap headed (sym k.parts) ∙ is)
 
       pub coming_asks : AsksOf k.batch (head_asks head)
@@ -290,7 +290,7 @@ module _ (old : Grown) (line : List (ℕ × ℕ)) (run : List ℕ) (most at : �
       }
 
 -- before the first
-pub nothing_gathered : (old : Grown) (line : List (ℕ × ℕ)) (run : List ℕ) (most : ℕ) → IsRun (end_of old) line run → IsGathering old line run most 0 old None
+pub nothing_gathered : (old : Grown) (line : List (ℕ × ℕ)) (run : List ℕ) (most : ℕ) → IsRunFor (end_of old) line run → IsGathering old line run most 0 old None
 nothing_gathered old line run most is = record {
   is = is;
   front = [];

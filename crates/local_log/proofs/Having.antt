@@ -5,7 +5,7 @@ use Rattle.tier_base.specs.declared.plain.FileName.{FileName}
 use Rattle.tier_base.specs.declared.plain.FileName.TheVariants as file
 use Rattle.tier_base.specs.Device.{Fate, Went, Dry}
 use Rattle.tier_base.specs.Told.{bytes_in}
-use Rattle.disk_model.specs.Content.{Content, Lawful, Files, Image, Keeps, LeavesOnly, Begins}
+use Rattle.disk_model.specs.Content.{Content, Lawful, Files, Image, Keeps, LeavesOnly, BeginsWith}
 use Rattle.log_terms.specs.Log.{up_to, end_from}
 use Rattle.epoch_line.specs.Line.{IsLine, cut_end}
 use Rattle.log_manifest.specs.declared.manifest.Manifest.{Manifest}
@@ -14,9 +14,9 @@ use Rattle.log_manifest.specs.Spelling.{manifest_bytes}
 use Rattle.log_manifest.proofs.Again.{manifest_again}
 use Rattle.segment_file.specs.Growing.{Grown}
 use Rattle.log_steps.specs.Fronts.{Each, Agrees}
-use Rattle.log_steps.specs.Opens.{Opened, IsRead, Opens}
+use Rattle.log_steps.specs.Opens.{Opened, IsOpenedBy, Opens}
 use Rattle.log_steps.specs.Reopens.{Reopens}
-use Rattle.log_steps.specs.Stands.{Holds, Stands}
+use Rattle.log_steps.specs.Stands.{ImageHolds, ImagesHold}
 use Rattle.log_steps.specs.Publishes.{IsLike, Publishes}
 use Rattle.log_steps.proofs.Lists.{each_map, each_both, each_join, each_left}
 use Rattle.log_steps.proofs.Moments.{leaves_weaker}
@@ -26,7 +26,7 @@ use Rattle.log_steps.proofs.Reading.{held_opens, opens_as, opened_by, segments_l
 use Rattle.local_log.specs.Stored.{bytes_of, all_batches, size_of, end_of, extent_of, IsStored}
 use Rattle.local_log.specs.Log.{IsUpTo}
 use Rattle.local_log.specs.Listing.{IsLaidOut, AreSegmentsOf, AreListed, manifest_of}
-use Rattle.local_log.specs.Inside.{HasLog}
+use Rattle.local_log.specs.Inside.{DiskHasLog}
 use Rattle.local_log.specs.Cutting.{OpensAs, OpensAsOr}
 use Rattle.local_log.proofs.Pieces.{stored_segments, consecutive_segments, all_end, chain_snoc, up_to_all, all_append, all_same, stored_same, stored_end}
 use Rattle.local_log.proofs.Lines.{cut_cut, placed_same}
@@ -37,10 +37,10 @@ use Rattle.local_log.proofs.Listings.{listed_more, listed_all, end_unlisted}
 abbrev pub OpensUpTo : ℕ → ℕ → ℕ → List (List ℕ) → List (ℕ × ℕ) → Files → Type 0
 OpensUpTo incarnation local_start flushed_end batches line c = (o : Opened) × Opens c o × IsUpTo incarnation local_start flushed_end batches line o
 
-read_same : (f h : Files) (m : Manifest) (o : Opened) → ((n : FileName) → h n ≡ f n) → IsRead m f o → IsRead m h o
+read_same : (f h : Files) (m : Manifest) (o : Opened) → ((n : FileName) → h n ≡ f n) → IsOpenedBy m f o → IsOpenedBy m h o
 read_same f h m o same r = record { incarnation = r.incarnation; local_start = r.local_start; batches = segments_like h f same m.line m.local_start m.segments o.batches r.batches; line = r.line }
 
-module _ (d : Content) (laws : Lawful d) (incarnation local_start : ℕ) (closed : List Grown) (active : Grown) (line : List (ℕ × ℕ)) (flushed_end : ℕ) (has : HasLog d incarnation local_start closed active line flushed_end) where
+module _ (d : Content) (laws : Lawful d) (incarnation local_start : ℕ) (closed : List Grown) (active : Grown) (line : List (ℕ × ℕ)) (flushed_end : ℕ) (has : DiskHasLog d incarnation local_start closed active line flushed_end) where
   abbrev pub segments : List Grown
   segments = closed ++ active ∷ []
 
@@ -50,7 +50,7 @@ module _ (d : Content) (laws : Lawful d) (incarnation local_start : ℕ) (closed
   pub reading : manifest_in bytes ≡ Ok has.listed
   reading = manifest_again has.listed has.rules has.fits
 
-  pub held_up : (c : Files) → IsTrue d.is_observable × Holds c d.files bytes has.listed.segments (map extent_of closed) → OpensUpTo incarnation local_start flushed_end (all_batches d.files segments) line c
+  pub held_up : (c : Files) → IsTrue d.is_observable × ImageHolds c d.files bytes has.listed.segments (map extent_of closed) → OpensUpTo incarnation local_start flushed_end (all_batches d.files segments) line c
   held_up c h = (
     has.opened,
     held_opens c d.files bytes has.listed (map extent_of closed) has.opened reading h.1 (has.read h.0),
@@ -65,7 +65,7 @@ module _ (d : Content) (laws : Lawful d) (incarnation local_start : ℕ) (closed
     λ o opens. opens_as c d.files bytes has.listed o there reading fronts (opened_by d.files bytes has.listed o (has.images d.files (laws.reads t)).manifest reading opens),
   )
 
-  pub held_as : (c : Files) → IsTrue d.is_observable × Holds c d.files bytes has.listed.segments (map extent_of closed) → OpensAs d c
+  pub held_as : (c : Files) → IsTrue d.is_observable × ImageHolds c d.files bytes has.listed.segments (map extent_of closed) → OpensAs d c
   held_as c h = listed_as c h.0 h.1.manifest h.1.listed_fronts
 
   pub image_opens : (c : Files) → Image d c → OpensUpTo incarnation local_start flushed_end (all_batches d.files segments) line c
@@ -76,7 +76,7 @@ module _ (d : Content) (laws : Lawful d) (incarnation local_start : ℕ) (closed
 
   pub start_since : LeavesOnly d d (OpensUpTo incarnation local_start flushed_end (all_batches d.files segments) line)
   start_since =
-      leaves_weaker d d (λ c. IsTrue d.is_observable × Holds c d.files bytes has.listed.segments (map extent_of closed)) _ held_up
+      leaves_weaker d d (λ c. IsTrue d.is_observable × ImageHolds c d.files bytes has.listed.segments (map extent_of closed)) _ held_up
       (stands_since d d laws laws bytes has.listed.segments (map extent_of closed) has.images)
 
   module _ (d' : Content) (laws' : Lawful d') where
@@ -88,7 +88,7 @@ module _ (d : Content) (laws : Lawful d) (incarnation local_start : ℕ) (closed
       pub batches_same : IsTrue d.is_observable → (gs : List Grown) → all_batches d'.files gs ≡ all_batches d.files gs
       batches_same t gs = all_same d.files d'.files gs (λ g. ap bytes_in (same t (file.Log g.base)))
 
-      pub has_same : HasLog d' incarnation local_start closed active line flushed_end
+      pub has_same : DiskHasLog d' incarnation local_start closed active line flushed_end
       has_same = record {
         listed = has.listed;
         opened = has.opened;
@@ -108,7 +108,7 @@ module _ (d : Content) (laws : Lawful d) (incarnation local_start : ℕ) (closed
       }
 
     module _ (k : Keeps d d') where
-      pub has_kept : HasLog d' incarnation local_start closed active line flushed_end
+      pub has_kept : DiskHasLog d' incarnation local_start closed active line flushed_end
       has_kept = has_same k.is_observable k.images (λ t n. k.files n)
 
       pub kept_batches : (gs : List Grown) → all_batches d'.files gs ≡ all_batches d.files gs
@@ -116,11 +116,11 @@ module _ (d : Content) (laws : Lawful d) (incarnation local_start : ℕ) (closed
 
       pub kept_since : LeavesOnly d d' (OpensUpTo incarnation local_start flushed_end (all_batches d.files segments) line)
       kept_since =
-          leaves_weaker d d' (λ c. IsTrue d.is_observable × Holds c d.files bytes has.listed.segments (map extent_of closed)) _ held_up
+          leaves_weaker d d' (λ c. IsTrue d.is_observable × ImageHolds c d.files bytes has.listed.segments (map extent_of closed)) _ held_up
           (keeps_since d d' laws laws' bytes has.listed.segments (map extent_of closed) has.images k)
 
       -- the open segment is synced and closed
-      module _ (interval : ℕ) (are : AreSegmentsOf local_start closed active) (some : 0 < size_of active) (low : flushed_end ≤ end_of active) (synced : (c : Files) → Image d' c → Begins (d.files (file.Log active.base)) (c (file.Log active.base))) where
+      module _ (interval : ℕ) (are : AreSegmentsOf local_start closed active) (some : 0 < size_of active) (low : flushed_end ≤ end_of active) (synced : (c : Files) → Image d' c → BeginsWith (d.files (file.Log active.base)) (c (file.Log active.base))) where
         abbrev pub next : Grown
         next = record { base = end_of active; interval = interval; batches = [] }
 
@@ -130,14 +130,14 @@ module _ (d : Content) (laws : Lawful d) (incarnation local_start : ℕ) (closed
         pub rolled_batches : all_batches d'.files (segments ++ next ∷ []) ≡ all_batches d.files segments
         rolled_batches = all_append d'.files segments (next ∷ []) ∙ append-nil (all_batches d'.files segments) ∙ kept_batches segments
 
-        pub has_rolled : HasLog d' incarnation local_start segments next line flushed_end
+        pub has_rolled : DiskHasLog d' incarnation local_start segments next line flushed_end
         unfolding has_kept has_same
         has_rolled = record {
           listed = has.listed;
           opened = has.opened;
           rules = has.rules;
           fits = has.fits;
-          images = subst (Stands d' bytes has.listed.segments) (sym (map-append extent_of closed (active ∷ [])))
+          images = subst (ImagesHold d' bytes has.listed.segments) (sym (map-append extent_of closed (active ∷ [])))
               (sync_stands d d' laws laws' bytes has.listed.segments (map extent_of closed) has.images k (extent_of active) (λ t. omega (arith, has.exact t)) synced);
           read = has_kept.read;
           incarnation_is = has.incarnation_is;
@@ -193,7 +193,7 @@ module _ (d : Content) (laws : Lawful d) (incarnation local_start : ℕ) (closed
             };
           }
 
-      read_whole : IsTrue d.is_observable → IsRead all d.files now_open
+      read_whole : IsTrue d.is_observable → IsOpenedBy all d.files now_open
       read_whole t = record {
         incarnation = refl;
         local_start = refl;
@@ -210,7 +210,7 @@ module _ (d : Content) (laws : Lawful d) (incarnation local_start : ℕ) (closed
       told_p : IsTrue d'.is_observable → IsTrue d.is_observable
       told_p t = subst IsTrue change.is_observable t
 
-      after_up : (c : Files) → IsTrue d.is_observable × Holds c d.files (manifest_bytes all) (map extent_of segments) (map extent_of closed) → OpensUpTo incarnation local_start (end_of active) whole other c
+      after_up : (c : Files) → IsTrue d.is_observable × ImageHolds c d.files (manifest_bytes all) (map extent_of segments) (map extent_of closed) → OpensUpTo incarnation local_start (end_of active) whole other c
       after_up c h =
           let up = up_to_all local_start whole (consecutive_segments d.files other local_start (map extent_of segments) whole (read_whole h.0).batches) in (
             now_open,
@@ -233,7 +233,7 @@ module _ (d : Content) (laws : Lawful d) (incarnation local_start : ℕ) (closed
       abbrev pub all_open : Opened
       all_open = record { incarnation = incarnation; local_start = local_start; batches = up_to (end_of active) whole; line = cut_end other (end_of active + 1) }
 
-      after_opens : (c : Files) → IsTrue d.is_observable × Holds c d.files (manifest_bytes all) (map extent_of segments) (map extent_of closed) → Opens c all_open
+      after_opens : (c : Files) → IsTrue d.is_observable × ImageHolds c d.files (manifest_bytes all) (map extent_of segments) (map extent_of closed) → Opens c all_open
       after_opens c h =
           let up = up_to_all local_start whole (consecutive_segments d.files other local_start (map extent_of segments) whole (read_whole h.0).batches) in
           subst (λ (l : List (List ℕ)). Opens c (record { incarnation = incarnation; local_start = local_start; batches = l; line = cut_end other (end_of active + 1) })) (sym up ∙ ap (λ (n : ℕ). up_to n whole) (whole_end h.0))
@@ -260,7 +260,7 @@ module _ (d : Content) (laws : Lawful d) (incarnation local_start : ℕ) (closed
       end_after_it : IsTrue d.is_observable → end_from local_start (all_batches d'.files segments) ≡ end_of active
       end_after_it t = ap (λ (l : List (List ℕ)). end_from local_start l) (published_batches t segments) ∙ whole_end t
 
-      read_after : IsTrue d.is_observable → IsRead all d'.files open_after
+      read_after : IsTrue d.is_observable → IsOpenedBy all d'.files open_after
       read_after t = record {
         incarnation = refl;
         local_start = refl;
@@ -273,7 +273,7 @@ module _ (d : Content) (laws : Lawful d) (incarnation local_start : ℕ) (closed
           sym (up_to_all local_start (all_batches d'.files segments) (consecutive_segments d'.files other local_start (map extent_of segments) (all_batches d'.files segments) (read_after t).batches))
           ∙ ap (λ (n : ℕ). up_to n (all_batches d'.files segments)) (end_after_it t)
 
-      stands_after : fate ≡ Went → Stands d' (manifest_bytes all) (map extent_of segments) (map extent_of closed)
+      stands_after : fate ≡ Went → ImagesHold d' (manifest_bytes all) (map extent_of segments) (map extent_of closed)
       stands_after went = publish_stands d d' laws laws' bytes has.listed.segments (map extent_of closed) has.images (extent_of active) long (manifest_bytes all) (map extent_of segments) lists fate change went
 
       all_listed : AreListed (end_of active) (map extent_of segments) segments
@@ -281,7 +281,7 @@ module _ (d : Content) (laws : Lawful d) (incarnation local_start : ℕ) (closed
           let laid = each_join IsLaidOut closed (active ∷ []) are.laid (are.active_laid, tt) in
           listed_all (end_of active) segments laid (subst (λ (n : ℕ). Each (λ g. end_of g ≤ n) segments) (chain_snoc local_start closed active) (chain_up local_start segments are.chained laid))
 
-      pub has_published : fate ≡ Went → HasLog d' incarnation local_start closed active other (end_of active)
+      pub has_published : fate ≡ Went → DiskHasLog d' incarnation local_start closed active other (end_of active)
       has_published went = record {
         listed = all;
         opened = open_after;
@@ -310,7 +310,7 @@ module _ (d : Content) (laws : Lawful d) (incarnation local_start : ℕ) (closed
               (λ c now. (let h = like_fronts d d' laws laws' bytes has.listed.segments (map extent_of closed) has.images c (like c now) in (inl h.1.manifest, h.1.listed_fronts, h.1.listed_fronts)))
               (λ c now. (let r = has.read (told_p (laws'.told c now)) in (r, r)))
 
-          both_whole : ((c : Files) → Image d' c → Begins (d.files (file.Log active.base)) (c (file.Log active.base))) → Reopens d'
+          both_whole : ((c : Files) → Image d' c → BeginsWith (d.files (file.Log active.base)) (c (file.Log active.base))) → Reopens d'
           both_whole begins =
               reopens_two d' d.files bytes (manifest_bytes all) has.listed all has.opened now_open reading rules
               (λ c now. publish_whole d d' laws laws' bytes has.listed.segments (map extent_of closed) has.images (extent_of active) long (manifest_bytes all) (map extent_of segments) lists fate change c now (begins c now))
@@ -324,5 +324,5 @@ module _ (d : Content) (laws : Lawful d) (incarnation local_start : ℕ) (closed
           (held_opens c d'.files (manifest_bytes all) all (map extent_of closed) open_after rules (stands_after went c now) (read_after t))
 
       -- the call found no memory
-      pub published_dry : fate ≡ Dry → HasLog d' incarnation local_start closed active line flushed_end
+      pub published_dry : fate ≡ Dry → DiskHasLog d' incarnation local_start closed active line flushed_end
       published_dry is = has_same change.is_observable (change.dry is) (change.dry_files is)

@@ -8,13 +8,13 @@ use Rattle.record_batch.specs.declared.refusal.BatchRefusal.{BatchRefusal}
 use Rattle.record_batch.specs.Head.{head_of}
 use Rattle.record_batch.specs.Check.{Batch, checked, headed}
 use Rattle.record_batch.proofs.Passing.{is_batch_of}
-use Rattle.segment_file.specs.Gathering.{Tells}
+use Rattle.segment_file.specs.Gathering.{HeadDescribes}
 use Rattle.segment_file.proofs.Finding.{drop_append, length_drop, headed_front}
 use Rattle.segment_file.proofs.Standing.{AreBytes, front_bytes}
 use Rattle.segment_file.proofs.Telling.{is_observable}
 use Rattle.log_terms.specs.Log.{joined, IsConsecutive}
 use Rattle.log_steps.specs.Fronts.{Each}
-use Rattle.local_log.specs.Run.{IsRun, first_size}
+use Rattle.local_log.specs.Run.{IsRunFor, first_size}
 use Rattle.local_log.specs.Taking.{head_asks, AsksOf}
 
 index_append : (n : ℕ) (xs ys : List ℕ) → n < length xs → slice_index (xs ++ ys) n ≡ slice_index xs n
@@ -62,12 +62,12 @@ unfolding base_of last_offset_delta_of
 last_front batch more long = rw (field_front w64 0 batch more (omega (arith, long)), field_front w32 23 batch more (omega (arith, long))) refl
 
 -- the numbers that a log asks of the batch at the front of bytes
-pub front_tells : (batch more : List ℕ) (head : Head) → AreBytes (batch ++ more) → IsOk (checked batch) → headed (batch ++ more) ≡ Ok head → Tells batch head
+pub front_tells : (batch more : List ℕ) (head : Head) → AreBytes (batch ++ more) → IsOk (checked batch) → headed (batch ++ more) ≡ Ok head → HeadDescribes batch head
 front_tells batch more head clean ok e =
     let same : head_of batch ≡ head = cc (headed_batch batch more ok, e) in
-    subst (Tells batch) same (is_observable batch (front_bytes batch more clean) ok)
+    subst (HeadDescribes batch) same (is_observable batch (front_bytes batch more clean) ok)
 
-pub asks : (batch : List ℕ) (head : Head) → Tells batch head → AsksOf batch (head_asks head)
+pub asks : (batch : List ℕ) (head : Head) → HeadDescribes batch head → AsksOf batch (head_asks head)
 asks batch head t = record { base = t.base; last = rw (t.base, t.delta) refl; size = t.size; epoch = t.epoch }
 
 pub long_batch : (batch : List ℕ) → IsOk (checked batch) → 61 ≤ length batch
@@ -92,7 +92,7 @@ pub record First (end : ℕ) (run : List ℕ) : Type 0 where
   pub ok : IsOk (checked batch)
   pub base : base_of batch ≡ end
 
-pub first_of : (end : ℕ) (line : List (ℕ × ℕ)) (run : List ℕ) → IsRun end line run → First end run
+pub first_of : (end : ℕ) (line : List (ℕ × ℕ)) (run : List ℕ) → IsRunFor end line run → First end run
 first_of end line run is = go is.batches is.some is.bytes is.are is.consecutive
   where
     go : (bs : List (List ℕ)) → bs ≢ [] → run ≡ joined bs → Each (λ (b : List ℕ). IsOk (checked b)) bs → IsConsecutive end bs → First end run

@@ -4,7 +4,7 @@ use Rattle.std.proofs.lemmas.List.{length-map}
 use Rattle.epoch_line.specs.Line.{IsLine}
 use Rattle.log_manifest.specs.Rules.{BeginsAt, AreSegments, IsManifest}
 use Rattle.segment_file.specs.declared.placed.Placed.{Placed}
-use Rattle.segment_file.specs.Growing.{Grown, end_after, size_after, AreLaid}
+use Rattle.segment_file.specs.Growing.{Grown, end_after, size_after, AreBatchesLaid}
 use Rattle.segment_file.proofs.Laying.{end_up}
 use Rattle.log_steps.specs.Fronts.{Each}
 use Rattle.log_steps.proofs.Lists.{each_join}
@@ -13,7 +13,7 @@ use Rattle.local_log.specs.Stored.{size_of, end_of, extent_of, AreChained, chain
 use Rattle.local_log.specs.Listing.{IsLaidOut, AreSegmentsOf, manifest_of}
 
 -- a segment that holds a batch ends past its base
-pub base_below : (base : ℕ) (batches : List Placed) → AreLaid base 0 batches → 0 < size_after 0 batches → base < end_after base batches
+pub base_below : (base : ℕ) (batches : List Placed) → AreBatchesLaid base 0 batches → 0 < size_after 0 batches → base < end_after base batches
 base_below base [] laid some = absurd (omega (arith, some))
 base_below base (b ∷ bs) laid some = let up = end_up (b.last + 1) b.to bs laid.2 in omega (arith, up, laid.0)
 

@@ -3,7 +3,7 @@ use Rattle.std.proofs.Common.{◌≡◌, ◌≢◌, ◌∙◌, ap, sym, refl, in
 use Rattle.std.proofs.lemmas.Bool.{cases_lt}
 use Rattle.log_manifest.specs.declared.manifest.Extent.{Extent}
 use Rattle.segment_file.specs.declared.placed.Placed.{Placed}
-use Rattle.segment_file.specs.Growing.{Grown, end_after, ending_by, AreLaid}
+use Rattle.segment_file.specs.Growing.{Grown, end_after, ending_by, AreBatchesLaid}
 use Rattle.segment_file.proofs.Laying.{end_up}
 use Rattle.log_steps.specs.Fronts.{Each}
 use Rattle.log_steps.proofs.Lists.{each_join, each_map}
@@ -12,19 +12,19 @@ use Rattle.local_log.specs.Listing.{IsLaidOut, AreSegmentsOf, front_to, AreListe
 use Rattle.local_log.proofs.Listed.{base_below, bases_below}
 
 -- no batch of these ends at or below where they begin
-pub ending_none : (base at n : ℕ) (bs : List Placed) → AreLaid base at bs → n ≤ base → ending_by n bs ≡ []
+pub ending_none : (base at n : ℕ) (bs : List Placed) → AreBatchesLaid base at bs → n ≤ base → ending_by n bs ≡ []
 ending_none base at n [] laid le = refl
 ending_none base at n (x ∷ bs) laid le = rw (le-ltb x.last n (omega (arith, laid.0, le))) refl
 
 -- all of them end at or below where they end
-pub ending_all : (base at n : ℕ) (bs : List Placed) → AreLaid base at bs → end_after base bs ≤ n → ending_by n bs ≡ bs
+pub ending_all : (base at n : ℕ) (bs : List Placed) → AreBatchesLaid base at bs → end_after base bs ≤ n → ending_by n bs ≡ bs
 ending_all base at n [] laid le = refl
 ending_all base at n (x ∷ bs) laid le =
     let up = end_up (x.last + 1) x.to bs laid.2 in
     rw (lt-ltb x.last n (omega (arith, up, le))) (ap (λ (l : List Placed). x ∷ l) (ending_all (x.last + 1) x.to n bs laid.2 le))
 
 -- what is added at their end isn't below it
-pub ending_more : (base at n : ℕ) (bs more : List Placed) → AreLaid base at (bs ++ more) → n ≤ end_after base bs → ending_by n (bs ++ more) ≡ ending_by n bs
+pub ending_more : (base at n : ℕ) (bs more : List Placed) → AreBatchesLaid base at (bs ++ more) → n ≤ end_after base bs → ending_by n (bs ++ more) ≡ ending_by n bs
 ending_more base at n [] more laid le = ending_none base at n more laid le
 ending_more base at n (x ∷ bs) more laid le = elim (cases_lt x.last n) [
   | inl lt ↦ rw (lt-ltb x.last n lt) (ap (λ (l : List Placed). x ∷ l) (ending_more (x.last + 1) x.to n bs more laid.2 le))

@@ -12,7 +12,7 @@ use Rattle.segment_file.specs.Growing.{Grown}
 use Rattle.segment_file.proofs.Joining.{parts_same, joined_same, consecutive_parts}
 use Rattle.epoch_line.specs.Line.{cut_end}
 use Rattle.log_steps.specs.Fronts.{Each, log_at}
-use Rattle.log_steps.specs.Opens.{Opened, IsPlaced, Segment, Segments, IsRead}
+use Rattle.log_steps.specs.Opens.{Opened, IsPlaced, Segment, Segments, IsOpenedBy}
 use Rattle.log_steps.proofs.Lists.{each_right}
 use Rattle.local_log.specs.Stored.{end_of, extent_of, AreChained, chain_end, IsStored}
 use Rattle.local_log.specs.Parsing.{HasNoBatchAt}
@@ -33,7 +33,7 @@ segments_one f line n (e ∷ es) xs ys s t =
     let rest = segments_one f line (end_from n s.0) es s.1 t.1 s.5 (subst (λ (l : List (List ℕ)). Segments f line (end_from n l) es t.1) (sym here) t.5) in
     s.2 ∙ ap (λ (l : List (List ℕ)). l ++ s.1) here ∙ ap (λ (l : List (List ℕ)). t.0 ++ l) rest ∙ sym t.2
 
-pub read_one : (f : Files) (m : Manifest) (a b : Opened) → IsRead m f a → IsRead m f b → a ≡ b
+pub read_one : (f : Files) (m : Manifest) (a b : Opened) → IsOpenedBy m f a → IsOpenedBy m f b → a ≡ b
 read_one f m a b r s =
     let incarnation : a.incarnation ≡ b.incarnation = r.incarnation ∙ sym s.incarnation in
     let start : a.local_start ≡ b.local_start = r.local_start ∙ sym s.local_start in

@@ -12,7 +12,7 @@ use Rattle.log_manifest.specs.declared.refusal.ManifestRefusal.{ManifestRefusal}
 use Rattle.log_manifest.specs.Reading.{manifest_in}
 use Rattle.segment_file.proofs.Joining.{joined_same}
 use Rattle.log_steps.specs.Fronts.{Each}
-use Rattle.log_steps.specs.Opens.{Opened, IsPlaced, Segment, Segments, IsRead, OpensBy, OpensFrom, Opens}
+use Rattle.log_steps.specs.Opens.{Opened, IsPlaced, Segment, Segments, IsOpenedBy, OpensBy, OpensFrom, Opens}
 
 all_checked : (line : List (ℕ × ℕ)) (base : ℕ) (bs : List (List ℕ)) → Each (IsPlaced line base) bs → AllByRecursion (λ (b : List ℕ). IsOk (checked b)) bs
 all_checked line base [] h = tt
@@ -29,7 +29,7 @@ segments_once c line n (e ∷ es) xs ys s t =
     let rest : s.1 ≡ t.1 = segments_once c line (end_from n t.0) es s.1 t.1 (subst (λ (l : List (List ℕ)). Segments c line (end_from n l) es s.1) here s.5) t.5 in
     s.2 ∙ ap (λ (l : List (List ℕ)). l ++ s.1) here ∙ ap (λ (l : List (List ℕ)). t.0 ++ l) rest ∙ sym t.2
 
-read_once : (m : Manifest) (c : Files) (o p : Opened) → IsRead m c o → IsRead m c p → o ≡ p
+read_once : (m : Manifest) (c : Files) (o p : Opened) → IsOpenedBy m c o → IsOpenedBy m c p → o ≡ p
 read_once m c o p r q =
     let inc : o.incarnation ≡ p.incarnation = r.incarnation ∙ sym q.incarnation in
     let start : o.local_start ≡ p.local_start = r.local_start ∙ sym q.local_start in

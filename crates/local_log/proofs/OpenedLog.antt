@@ -6,7 +6,7 @@ use Rattle.std.proofs.lemmas.List.{length-map, map-append}
 use Rattle.tier_base.specs.declared.plain.FileName.{FileName}
 use Rattle.tier_base.specs.declared.plain.FileName.TheVariants as file
 use Rattle.tier_base.specs.Device.{Fate, Went}
-use Rattle.tier_base.specs.Told.{bytes_in, replaced, Names}
+use Rattle.tier_base.specs.Told.{bytes_in, replaced, NamesAllHeld}
 use Rattle.disk_model.specs.Content.{Content, Lawful, Files, Image, Keeps, Changes, Swapped}
 use Rattle.log_terms.specs.Log.{end_from, up_to}
 use Rattle.epoch_line.specs.Line.{IsLine, cut_end}
@@ -16,10 +16,10 @@ use Rattle.log_manifest.specs.declared.manifest.Manifest.{Manifest}
 use Rattle.log_manifest.specs.Rules.{AreSegments}
 use Rattle.segment_file.specs.Growing.{Grown}
 use Rattle.log_steps.specs.Fronts.{log_at, Each, Agrees}
-use Rattle.log_steps.specs.Opens.{IsRead, Segments}
+use Rattle.log_steps.specs.Opens.{IsOpenedBy, Segments}
 use Rattle.log_steps.specs.Reopens.{Reopens}
 use Rattle.log_steps.specs.Rewrites.{Rewrites, IsUnlisted}
-use Rattle.log_steps.specs.Stands.{Stands}
+use Rattle.log_steps.specs.Stands.{ImagesHold}
 use Rattle.log_steps.proofs.Lists.{each_map, each_both, each_left, each_right}
 use Rattle.log_steps.proofs.Reading.{read_moved, held_opens, opens_like, stands_reopens}
 use Rattle.log_steps.proofs.Opening.{next_files, next_sizes, next_was, next_stands}
@@ -27,9 +27,9 @@ use Rattle.local_log.specs.declared.opening.Plan.{Plan}
 use Rattle.local_log.specs.declared.opening.Parts.{Parts}
 use Rattle.local_log.specs.Stored.{all_batches, size_of, end_of, extent_of, AreChained, chain_end, IsStored}
 use Rattle.local_log.specs.Listing.{IsLaidOut, AreSegmentsOf, AreListed}
-use Rattle.local_log.specs.Inside.{HasLog}
+use Rattle.local_log.specs.Inside.{DiskHasLog}
 use Rattle.local_log.specs.Opening.{ListsFrom}
-use Rattle.local_log.specs.Planning.{IsPlanOf, AreRead, IsOpened, whole_of}
+use Rattle.local_log.specs.Planning.{IsPlanOf, AreSegmentsRead, IsLogOpened, whole_of}
 use Rattle.local_log.proofs.Pieces.{stored_segments, consecutive_segments, all_end, chain_snoc, up_to_all, stored_same, stored_end}
 use Rattle.local_log.proofs.Lines.{cut_cut, placed_same}
 use Rattle.local_log.proofs.Listed.{chain_up}
@@ -80,11 +80,11 @@ all_long f line [] h = tt
 all_long f line (g ∷ gs) h = (h.0.stands.long, all_long f line gs h.1)
 
 module _ (d : Content) (plan : Plan) (p : IsPlanOf d plan)
-    (names : List FileName) (named : IsTrue d.is_observable → Names d.files names) (fate : Fate) (went : fate ≡ Went) (d1 : Content)
+    (names : List FileName) (named : IsTrue d.is_observable → NamesAllHeld d.files names) (fate : Fate) (went : fate ≡ Went) (d1 : Content)
     (rewrites : Rewrites plan.present plan.manifest.segments names fate d d1) (d2 : Content) (k : Keeps d1 d2)
     (M : Bool → Type 0) (d3 : Content) (laws3 : Lawful d3) (change : Changes file.Manifest (replaced plan.next.items) (Swapped plan.next.items) M d2 d3)
     (sure : (c : Files) → Image d3 c → c file.Manifest ≡ Some plan.next.items)
-    (interval : ℕ) (parts : Parts) (read : AreRead d1 plan.manifest.line interval plan.manifest.local_start plan.manifest.segments (parts.closed.items ++ parts.active ∷ []))
+    (interval : ℕ) (parts : Parts) (read : AreSegmentsRead d1 plan.manifest.line interval plan.manifest.local_start plan.manifest.segments (parts.closed.items ++ parts.active ∷ []))
     (incarnation_is : parts.incarnation ≡ plan.manifest.incarnation) (start_is : parts.local_start ≡ plan.manifest.local_start)
     (line_is : parts.line ≡ cut_end plan.manifest.line (end_of parts.active + 1)) where
   abbrev m : Manifest
@@ -119,7 +119,7 @@ module _ (d : Content) (plan : Plan) (p : IsPlanOf d plan)
   fronts_before : IsTrue d.is_observable → Each (Agrees d.files d3.files) m.segments
   fronts_before = next_was d d1 d2 d3 laws3 plan.present plan.next.items m.segments names fate went rewrites k M change whole
 
-  stands : Stands d3 plan.next.items m.segments (map extent_of parts.closed.items)
+  stands : ImagesHold d3 plan.next.items m.segments (map extent_of parts.closed.items)
   stands =
       next_stands d d1 d2 d3 laws3 plan.present plan.next.items m.segments names fate went rewrites k M change whole
       sure (map extent_of parts.closed.items)
@@ -149,7 +149,7 @@ module _ (d : Content) (plan : Plan) (p : IsPlanOf d plan)
   end_there : IsTrue d3.is_observable → end_from parts.local_start (all_batches d3.files segments) ≡ end
   end_there t = ap (λ (n : ℕ). end_from n (all_batches d3.files segments)) start_is ∙ all_end d3.files m.line m.local_start segments read.chained (stored_there t) ∙ end_is
 
-  read_now : IsTrue d3.is_observable → IsRead m d3.files (whole_of d3.files parts)
+  read_now : IsTrue d3.is_observable → IsOpenedBy m d3.files (whole_of d3.files parts)
   read_now t = record {
     incarnation = incarnation_is;
     local_start = start_is;
@@ -184,13 +184,13 @@ module _ (d : Content) (plan : Plan) (p : IsPlanOf d plan)
       go None is = rewrites.absent went (told t) b not_listed is
       go (Some bytes) is = rewrites.gone went (told t) b not_listed (((named (told t)).are (file.Log b)).0 (cc (is)))
 
-  pub opened_has : HasLog d3 parts.incarnation parts.local_start parts.closed.items parts.active parts.line end
+  pub opened_has : DiskHasLog d3 parts.incarnation parts.local_start parts.closed.items parts.active parts.line end
   opened_has = record {
     listed = m;
     opened = whole_of d3.files parts;
     rules = p.is.rules;
     fits = p.is.fits;
-    images = subst (λ (l : List ℕ). Stands d3 l m.segments (map extent_of parts.closed.items)) p.is.next_is stands;
+    images = subst (λ (l : List ℕ). ImagesHold d3 l m.segments (map extent_of parts.closed.items)) p.is.next_is stands;
     read = read_now;
     incarnation_is = refl;
     start_is = refl;
@@ -206,7 +206,7 @@ module _ (d : Content) (plan : Plan) (p : IsPlanOf d plan)
     clear = clear_now;
   }
 
-  pub opened_log : IsOpened d d3 interval parts
+  pub opened_log : IsLogOpened d d3 interval parts
   opened_log = record {
     is_observable = tells_is;
     segments = are_segments;
@@ -226,7 +226,7 @@ module _ (d : Content) (plan : Plan) (p : IsPlanOf d plan)
   opened_again = stands_reopens d3 laws3 plan.next.items m (map extent_of parts.closed.items) (whole_of d3.files parts) (reading_next d plan p) stands read_now
 
 -- of the disk before a call that changed no file
-pub opened_kept : (d m d' : Content) (interval : ℕ) (parts : Parts) → Keeps d m → IsOpened m d' interval parts → IsOpened d d' interval parts
+pub opened_kept : (d m d' : Content) (interval : ℕ) (parts : Parts) → Keeps d m → IsLogOpened m d' interval parts → IsLogOpened d d' interval parts
 opened_kept d m d' interval parts k o = record {
   is_observable = o.is_observable ∙ k.is_observable;
   segments = o.segments;

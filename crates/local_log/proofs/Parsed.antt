@@ -15,9 +15,9 @@ use Rattle.disk_model.specs.Content.{Files}
 use Rattle.log_manifest.specs.declared.manifest.Extent.{Extent}
 use Rattle.segment_file.specs.declared.placed.Placed.{Placed}
 use Rattle.segment_file.specs.Walk.{size_in}
-use Rattle.segment_file.specs.Gathering.{Tells}
+use Rattle.segment_file.specs.Gathering.{HeadDescribes}
 use Rattle.segment_file.specs.Index.{placed, placed_in, placed_from}
-use Rattle.segment_file.specs.Growing.{Grown, AreLaid, MayPush, with_batch}
+use Rattle.segment_file.specs.Growing.{Grown, AreBatchesLaid, MayPush, with_batch}
 use Rattle.segment_file.proofs.Telling.{placed_same}
 use Rattle.segment_file.proofs.Laying.{size_append}
 use Rattle.segment_file.proofs.Placing.{placed_push}
@@ -27,7 +27,7 @@ use Rattle.log_steps.specs.Opens.{IsPlaced, Segment}
 use Rattle.log_steps.proofs.Lists.{each_join}
 use Rattle.local_log.specs.Stored.{size_of, end_of, extent_of, IsStored}
 use Rattle.local_log.specs.Listing.{IsLaidOut}
-use Rattle.local_log.specs.Parsing.{Fronts, IsParsed, HasNoBatchAt, IsParsing, MayStand, StandsNext, NothingNext}
+use Rattle.local_log.specs.Parsing.{ParsesFront, IsParsed, HasNoBatchAt, IsParsing, MayStand, StandsNext, NoBatchNext}
 use Rattle.local_log.proofs.Pieces.{joined_append, size_placed, end_placed}
 use Rattle.local_log.proofs.Heads.{long_batch}
 
@@ -43,7 +43,7 @@ pub some_same : (o : Option ℕ) (n : ℕ) → o ≡ Some n → option_eq eqb o 
 some_same o n e = ap (λ (x : Option ℕ). option_eq eqb x (Some n)) e ∙ eq-eqb n n refl
 
 -- batches that may be in a segment are laid one after another
-pub laid_placed : (line : List (ℕ × ℕ)) (base n at : ℕ) (bs : List (List ℕ)) → Each (IsPlaced line base) bs → IsConsecutive n bs → AreLaid n at (placed_from at bs)
+pub laid_placed : (line : List (ℕ × ℕ)) (base n at : ℕ) (bs : List (List ℕ)) → Each (IsPlaced line base) bs → IsConsecutive n bs → AreBatchesLaid n at (placed_from at bs)
 laid_placed line base n at [] h c = tt
 laid_placed line base n at (b ∷ bs) h c =
     let long = long_batch b h.0.is in
@@ -138,13 +138,13 @@ module _ (line : List (ℕ × ℕ)) (interval : ℕ) (e : Extent) (bytes : List 
       let none : p.rest ≡ [] = nil_from_length p.rest (omega (arith, l, size, few, all)) in
       record {
         batches = p.batches;
-        fronts = subst (Fronts line e.base (take e.len bytes) p.batches) none p.fronts;
+        fronts = subst (ParsesFront line e.base (take e.len bytes) p.batches) none p.fronts;
         long = omega (arith, l, size, few, all);
         segment_is = p.segment_is;
       }
 
   -- nothing comes next
-  pub parsed_not : size_of segment < e.len → NothingNext line e.base (take e.len bytes) (size_of segment) (end_of segment) → HasNoBatchAt line e bytes (size_of segment)
+  pub parsed_not : size_of segment < e.len → NoBatchNext line e.base (take e.len bytes) (size_of segment) (end_of segment) → HasNoBatchAt line e bytes (size_of segment)
   parsed_not short none = record {
     batches = p.batches;
     rest = p.rest;
@@ -158,7 +158,7 @@ module _ (line : List (ℕ × ℕ)) (interval : ℕ) (e : Extent) (bytes : List 
 
 -- what a head says of whether its batch may exist
 module _ (line : List (ℕ × ℕ)) (base end : ℕ) where
-  pub stands_next : (bytes : List ℕ) (at : ℕ) (head : Head) (batch : List ℕ) → IsOk (checked batch) → drop at bytes ≡ batch ++ drop (at + size_in head) bytes → Tells batch head
+  pub stands_next : (bytes : List ℕ) (at : ℕ) (head : Head) (batch : List ℕ) → IsOk (checked batch) → drop at bytes ≡ batch ++ drop (at + size_in head) bytes → HeadDescribes batch head
       → at + size_in head ≤ length bytes → MayStand line base end head → StandsNext line base bytes at end head
   stands_next bytes at head batch ok parts t inside may = record {
     batch = batch;
@@ -174,7 +174,7 @@ module _ (line : List (ℕ × ℕ)) (base end : ℕ) where
     inside = inside;
   }
 
-  pub stand_of : (batch : List ℕ) (head : Head) → Tells batch head → IsPlaced line base batch → base_of batch ≡ end → MayStand line base end head
+  pub stand_of : (batch : List ℕ) (head : Head) → HeadDescribes batch head → IsPlaced line base batch → base_of batch ≡ end → MayStand line base end head
   stand_of batch head t placed begins = record {
     begins = t.base ∙ begins;
     near = omega (arith, t.delta, begins, placed.near);

@@ -6,7 +6,7 @@ use Rattle.std.proofs.lemmas.Bool.{cases_lt}
 use Rattle.std.proofs.lemmas.Bool.Decides.{nat_tests}
 use Rattle.std.proofs.lemmas.Option.{same_Some, slice_get_read}
 use Rattle.segment_file.specs.declared.placed.Placed.{Placed}
-use Rattle.segment_file.specs.Growing.{Grown, end_after, size_after, ending_by, AreLaid}
+use Rattle.segment_file.specs.Growing.{Grown, end_after, size_after, ending_by, AreBatchesLaid}
 use Rattle.segment_file.proofs.Laying.{end_up}
 use Rattle.segment_file.proofs.Searching.{ending_kept}
 use Rattle.log_steps.specs.Fronts.{Each}
@@ -155,7 +155,7 @@ ending_ending m n (x ∷ bs) le = elim (cases_lt x.last n) [
   | inr ge ↦ rw (le-ltb x.last n ge, le-ltb x.last m (omega (arith, ge, le))) refl
 ]
 
-pub front_less : (m n : ℕ) (g : Grown) → AreLaid g.base 0 g.batches → m ≤ n → size_of (front_to m g) ≤ size_of (front_to n g)
+pub front_less : (m n : ℕ) (g : Grown) → AreBatchesLaid g.base 0 g.batches → m ≤ n → size_of (front_to m g) ≤ size_of (front_to n g)
 front_less m n g laid le =
     let k = ending_kept g.base n g.batches laid in
     let h = ending_kept g.base m (ending_by n g.batches) k.laid in

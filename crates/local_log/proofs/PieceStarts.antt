@@ -13,7 +13,7 @@ use Rattle.log_steps.proofs.Lists.{each_map, each_join}
 use Rattle.local_log.specs.declared.log.LocalLog.TheInside.{Inside}
 use Rattle.local_log.specs.Stored.{batches_of, all_batches, end_of, IsStored}
 use Rattle.local_log.specs.Listing.{IsLaidOut}
-use Rattle.local_log.specs.Inside.{IsSound}
+use Rattle.local_log.specs.Inside.{IsLogSound}
 use Rattle.local_log.specs.Reading.{begin_of, is_edge, piece_end}
 use Rattle.local_log.proofs.Pieces.{stored_batches}
 use Rattle.local_log.proofs.Edges.{piece_ends, holder, holder_each, holder_same}
@@ -70,7 +70,7 @@ stored_checked f line (g ∷ gs) each =
     (subst (Each (λ (batch : List ℕ). IsOk (checked batch))) (sym (stored_batches f line g each.0)) (each_map (λ batch placed. placed.is) each.0.batches each.0.stands.placed))
     (stored_checked f line gs each.1)
 
-module _ {D : Type 0} (content : D → Content) (s : Inside D) (sound : IsSound content s) (unbroken : s.broken ≡ false) (t : IsTrue (content s.disk).is_observable) where
+module _ {D : Type 0} (content : D → Content) (s : Inside D) (sound : IsLogSound content s) (unbroken : s.broken ≡ false) (t : IsTrue (content s.disk).is_observable) where
   abbrev pub closed : List Grown
   closed = s.closed.items
 

@@ -10,7 +10,7 @@ use Rattle.segment_file.specs.declared.placed.Placed.{Placed}
 use Rattle.segment_file.specs.Index.{placed, placed_from}
 use Rattle.segment_file.specs.Growing.{Grown, end_after, size_after}
 use Rattle.log_manifest.specs.declared.manifest.Extent.{Extent}
-use Rattle.log_steps.specs.Fronts.{Each, Kept}
+use Rattle.log_steps.specs.Fronts.{Each, KeepsFront}
 use Rattle.log_steps.specs.Opens.{Segments}
 use Rattle.local_log.specs.Stored.{bytes_of, pieces, batches_of, all_batches, size_of, end_of, extent_of, AreChained, chain_end, IsStored}
 
@@ -127,7 +127,7 @@ all_each f h [] same = refl
 all_each f h (g ∷ gs) same = ap (λ (l : List ℕ). pieces 0 g.batches l ++ all_batches h gs) same.0 ∙ ap (λ (l : List (List ℕ)). batches_of f g ++ l) (all_each f h gs same.1)
 
 -- where the fronts are whole still, the batches are the same
-stored_kept : (f h : Files) (line : List (ℕ × ℕ)) (g : Grown) → Kept f h (extent_of g) → (s : IsStored f line g) → batches_of h g ≡ s.batches
+stored_kept : (f h : Files) (line : List (ℕ × ℕ)) (g : Grown) → KeepsFront f h (extent_of g) → (s : IsStored f line g) → batches_of h g ≡ s.batches
 stored_kept f h line g kept s =
     let a = kept s.stands.long in
     let t : IsStored h line g = record {
@@ -137,7 +137,7 @@ stored_kept f h line g kept s =
     } in
     stored_batches h line g t
 
-pub all_kept : (f h : Files) (line : List (ℕ × ℕ)) (gs : List Grown) → ((e : Extent) → Kept f h e) → Each (IsStored f line) gs → all_batches h gs ≡ all_batches f gs
+pub all_kept : (f h : Files) (line : List (ℕ × ℕ)) (gs : List Grown) → ((e : Extent) → KeepsFront f h e) → Each (IsStored f line) gs → all_batches h gs ≡ all_batches f gs
 all_kept f h line [] kept s = refl
 all_kept f h line (g ∷ gs) kept s =
     ap (λ (l : List (List ℕ)). l ++ all_batches h gs) (stored_kept f h line g (kept (extent_of g)) s.0 ∙ sym (stored_batches f line g s.0))

@@ -5,7 +5,7 @@ use Rattle.std.proofs.lemmas.List.{length-take, length-take-le, take-take}
 use Rattle.tier_base.specs.declared.plain.FileName.{FileName}
 use Rattle.tier_base.specs.declared.plain.FileName.TheVariants as file
 use Rattle.tier_base.specs.Device.{Fate, Went}
-use Rattle.tier_base.specs.Told.{replaced, Names, In, bytes_in}
+use Rattle.tier_base.specs.Told.{replaced, NamesAllHeld, In, bytes_in}
 use Rattle.disk_model.specs.Content.{Content, Lawful, Files, Image, Keeps, Changes, LeavesOnly, Swapped}
 use Rattle.log_manifest.specs.declared.manifest.Extent.{Extent}
 use Rattle.log_manifest.specs.declared.manifest.Manifest.{Manifest}
@@ -14,7 +14,7 @@ use Rattle.log_manifest.specs.Reading.{manifest_in}
 use Rattle.log_manifest.specs.Spelling.{manifest_bytes}
 use Rattle.log_manifest.proofs.Again.{manifest_again}
 use Rattle.log_steps.specs.Fronts.{log_at, front, Each, Agrees}
-use Rattle.log_steps.specs.Opens.{Opened, IsRead, OpensFrom, Opens, Segments, nothing}
+use Rattle.log_steps.specs.Opens.{Opened, IsOpenedBy, OpensFrom, Opens, Segments, nothing}
 use Rattle.log_steps.specs.Reopens.{Reopens, raised, Opening}
 use Rattle.log_steps.specs.Rewrites.{Rewrites}
 use Rattle.log_steps.proofs.Lists.{each_both, each_left, each_right}
@@ -27,7 +27,7 @@ use Rattle.local_log.specs.declared.refusal.OpenRefusal.{OpenRefusal}
 use Rattle.local_log.specs.declared.refusal.OpenRefusal.TheVariants.{DiskFault, Damaged, LastIncarnation, NoMemory}
 use Rattle.local_log.specs.Refusing.{IsSoundCause}
 use Rattle.local_log.specs.Stored.{extent_of}
-use Rattle.local_log.specs.Parsing.{Fronts}
+use Rattle.local_log.specs.Parsing.{ParsesFront}
 use Rattle.local_log.specs.Opening.{SegmentFails, MissesIn, ReadFailsIn, OpenFailsIn, ListsFrom, Lists}
 use Rattle.local_log.specs.Planning.{first_manifest, PlansFrom, IsPlan, IsPlanOf, FileFails}
 use Rattle.local_log.proofs.OneReading.{read_one}
@@ -41,7 +41,7 @@ fails_front line end e x y name at same fails = (
     record {
       batches = h.1.batches;
       rest = h.1.rest;
-      fronts = subst (λ (l : List ℕ). Fronts line e.base l h.1.batches h.1.rest) same h.1.fronts;
+      fronts = subst (λ (l : List ℕ). ParsesFront line e.base l h.1.batches h.1.rest) same h.1.fronts;
       place = h.1.place;
       short = h.1.short;
       nothing = h.1.nothing;
@@ -104,7 +104,7 @@ seen d laws reopens = go d.is_observable refl
 pub plan_kept : (d m : Content) (plan : Plan) → Keeps d m → IsPlanOf d plan → IsPlanOf m plan
 plan_kept d m plan k p = record { held = p.held; is = p.is; told = λ t. k.files file.Manifest ∙ p.told (subst IsTrue k.is_observable t) }
 
-pub names_kept : (d m : Content) (names : List FileName) → Keeps d m → (IsTrue d.is_observable → Names d.files names) → IsTrue m.is_observable → Names m.files names
+pub names_kept : (d m : Content) (names : List FileName) → Keeps d m → (IsTrue d.is_observable → NamesAllHeld d.files names) → IsTrue m.is_observable → NamesAllHeld m.files names
 names_kept d m names k named t =
     let n = named (subst IsTrue k.is_observable t) in
     record { are = λ f. subst (λ (o : Option (List ℕ)). IsSome o ↔ In f names) (sym (k.files f)) (n.are f); once = n.once }
@@ -126,7 +126,7 @@ pub reading_next : (d : Content) (plan : Plan) → IsPlanOf d plan → manifest_
 reading_next d plan p = ap manifest_in p.is.next_is ∙ manifest_again plan.manifest p.is.rules p.is.fits
 
 -- a manifest of one empty segment at 0 is read so on any files
-read_first : (f : Files) → IsRead first_manifest f (raised nothing)
+read_first : (f : Files) → IsOpenedBy first_manifest f (raised nothing)
 read_first f = record {
   incarnation = refl;
   local_start = refl;
@@ -136,19 +136,19 @@ read_first f = record {
 
 module _ (d : Content) (plan : Plan) (p : IsPlanOf d plan) (told : IsTrue d.is_observable) where
   -- what is read by the next manifest opened before, under the incarnation before
-  pub plan_was : (o : Opened) → IsRead plan.manifest d.files o → (x : Opened) × Opens d.files x × (o ≡ raised x)
+  pub plan_was : (o : Opened) → IsOpenedBy plan.manifest d.files o → (x : Opened) × Opens d.files x × (o ≡ raised x)
   plan_was o r = go p.held (p.told told) p.is.from
     where
       go : (held : Option (List ℕ)) → d.files file.Manifest ≡ held → PlansFrom held plan → (x : Opened) × Opens d.files x × (o ≡ raised x)
       go None is from = (
         nothing,
         subst (λ (y : Option (List ℕ)). OpensFrom y d.files nothing) (sym is) refl,
-        read_one d.files first_manifest o (raised nothing) (subst (λ (m : Manifest). IsRead m d.files o) from.1 r) (read_first d.files),
+        read_one d.files first_manifest o (raised nothing) (subst (λ (m : Manifest). IsOpenedBy m d.files o) from.1 r) (read_first d.files),
       )
       go (Some bytes) is from =
           let number = from.1.0 in
           let x : Opened = record { incarnation = number; local_start = o.local_start; batches = o.batches; line = o.line } in
-          let reads : IsRead (present_of plan number) d.files x = record { incarnation = refl; local_start = r.local_start; batches = r.batches; line = r.line } in
+          let reads : IsOpenedBy (present_of plan number) d.files x = record { incarnation = refl; local_start = r.local_start; batches = r.batches; line = r.line } in
           let under : ℕ → Opened = λ n. record { incarnation = n; local_start = o.local_start; batches = o.batches; line = o.line } in
           (x, opens_by d.files bytes (present_of plan number) x is from.1.1 reads, ap under (r.incarnation ∙ from.1.2))
 
@@ -234,8 +234,8 @@ pub record Way (d : Content) (plan : Plan) : Type 0 where
   pub now : Opened
   pub reading : manifest_in plan.present ≡ Ok (present_of plan number)
   pub opens : IsTrue d.is_observable → Opens d.files first
-  pub reads : IsTrue d.is_observable → IsRead (present_of plan number) d.files now
-  pub reads_next : IsTrue d.is_observable → IsRead plan.manifest d.files (raised first)
+  pub reads : IsTrue d.is_observable → IsOpenedBy (present_of plan number) d.files now
+  pub reads_next : IsTrue d.is_observable → IsOpenedBy plan.manifest d.files (raised first)
   pub first_is : (now ≡ first) ⊎ (now ≡ raised first)
   pub agree : IsTrue d.is_observable → (c : Files) → Image d c → Each (Agrees c d.files) plan.manifest.segments
 
@@ -244,7 +244,7 @@ module _ (d : Content) (laws : Lawful d) (reopens : Reopens d) (plan : Plan) whe
       → plan.manifest.incarnation ≡ number + 1 → Way d plan
   way_again bytes told present number reading next =
       let s = seen d laws reopens in
-      let reads : IsTrue d.is_observable → IsRead (present_of plan number) d.files s.opened = λ t. opened_by d.files bytes (present_of plan number) s.opened (told t) reading (s.opens t) in
+      let reads : IsTrue d.is_observable → IsOpenedBy (present_of plan number) d.files s.opened = λ t. opened_by d.files bytes (present_of plan number) s.opened (told t) reading (s.opens t) in
       record {
         number = number;
         first = s.opened;
@@ -265,8 +265,8 @@ module _ (d : Content) (laws : Lawful d) (reopens : Reopens d) (plan : Plan) whe
     now = raised nothing;
     reading = ap manifest_in (present ∙ next) ∙ manifest_again plan.manifest rules fits ∙ ap (λ (m : Manifest). Ok m) (subst (λ (m : Manifest). m ≡ record m { incarnation = 1 }) (sym is) refl);
     opens = λ t. subst (λ (x : Option (List ℕ)). OpensFrom x d.files nothing) (sym (told t)) refl;
-    reads = λ t. subst (λ (m : Manifest). IsRead (record m { incarnation = 1 }) d.files (raised nothing)) (sym is) (read_first d.files);
-    reads_next = λ t. subst (λ (m : Manifest). IsRead m d.files (raised nothing)) (sym is) (read_first d.files);
+    reads = λ t. subst (λ (m : Manifest). IsOpenedBy (record m { incarnation = 1 }) d.files (raised nothing)) (sym is) (read_first d.files);
+    reads_next = λ t. subst (λ (m : Manifest). IsOpenedBy m d.files (raised nothing)) (sym is) (read_first d.files);
     first_is = inr refl;
     agree = λ t c image. subst (λ (m : Manifest). Each (Agrees c d.files) m.segments) (sym is) (record { long = omega arith; same = refl }, tt);
   }

@@ -13,7 +13,7 @@ use Rattle.log_manifest.specs.Reading.{manifest_in}
 use Rattle.log_manifest.specs.Spelling.{manifest_bytes}
 use Rattle.segment_file.specs.Growing.{Grown}
 use Rattle.log_steps.specs.Fronts.{Each, Agrees}
-use Rattle.log_steps.specs.Opens.{Opened, IsRead, Opens}
+use Rattle.log_steps.specs.Opens.{Opened, IsOpenedBy, Opens}
 use Rattle.log_steps.specs.Reopens.{Reopens}
 use Rattle.log_steps.specs.Rewrites.{Rewritten}
 use Rattle.log_steps.proofs.Lists.{each_map, each_both}
@@ -25,7 +25,7 @@ use Rattle.log_steps.proofs.Rewritten.{log_no_manifest}
 use Rattle.log_steps.proofs.Standing.{agrees_then, same_kept}
 use Rattle.log_steps.proofs.Reading.{opens_as, reopens_two}
 use Rattle.local_log.specs.Stored.{all_batches, extent_of}
-use Rattle.local_log.specs.Inside.{HasLog}
+use Rattle.local_log.specs.Inside.{DiskHasLog}
 use Rattle.local_log.specs.Cutting.{names_of, Without, RemovesAll, OpensAs, OpensAsOr, OpensBeforeOrNow, LeavesBeforeOrNow}
 use Rattle.local_log.specs.Renewing.{HasNew, Renewed, Renews}
 use Rattle.local_log.proofs.Having.{OpensUpTo, reading, listed_as, has_same}
@@ -120,8 +120,8 @@ module _ (bytes : List ℕ) (gs : List Grown) (d m : Content) (M : Bool → Type
       between = inr new_now;
     }
 
-module _ (d : Content) (laws : Lawful d) (incarnation local_start : ℕ) (closed : List Grown) (active : Grown) (line : List (ℕ × ℕ)) (flushed_end : ℕ) (has : HasLog d incarnation local_start closed active line flushed_end)
-    (next : Manifest) (o : Opened) (reads : manifest_in (manifest_bytes next) ≡ Ok next) (read : IsTrue d.is_observable → IsRead next d.files o)
+module _ (d : Content) (laws : Lawful d) (incarnation local_start : ℕ) (closed : List Grown) (active : Grown) (line : List (ℕ × ℕ)) (flushed_end : ℕ) (has : DiskHasLog d incarnation local_start closed active line flushed_end)
+    (next : Manifest) (o : Opened) (reads : manifest_in (manifest_bytes next) ≡ Ok next) (read : IsTrue d.is_observable → IsOpenedBy next d.files o)
     (lists : (c : Files) → Each (Agrees c d.files) has.listed.segments → Each (Agrees c d.files) (map extent_of closed) → Each (Agrees c d.files) next.segments)
     (gs : List Grown) (safe : Each (λ (e : Extent). (e.len ≡ 0) ⊎ Each (λ (g : Grown). e.base ≢ g.base) gs) next.segments)
     (d' : Content) (laws' : Lawful d') (fate : Fate) (change : Renews (manifest_bytes next) (names_of gs) fate d d') where
@@ -264,7 +264,7 @@ module _ (d : Content) (laws : Lawful d) (incarnation local_start : ℕ) (closed
           (λ c now. (let f = renew_fronts c now in (inl (sure c now), f, f)))
           (λ c now. (let r = read (told_of c now) in (r, r)))
 
-  pub renew_dry : fate ≡ Dry → HasLog d' incarnation local_start closed active line flushed_end
+  pub renew_dry : fate ≡ Dry → DiskHasLog d' incarnation local_start closed active line flushed_end
   renew_dry is = has_same d laws incarnation local_start closed active line flushed_end has d' laws' change.is_observable (change.dry is) (change.dry_files is)
 
   pub renew_opens : fate ≡ Went → (c : Files) → Image d' c → Opens c o

@@ -11,12 +11,12 @@ use Rattle.log_manifest.specs.Spelling.{manifest_bytes}
 use Rattle.log_manifest.proofs.Again.{manifest_again}
 use Rattle.segment_file.specs.Growing.{Grown}
 use Rattle.log_steps.specs.Fronts.{Each, Agrees}
-use Rattle.log_steps.specs.Opens.{Opened, IsRead, Opens}
+use Rattle.log_steps.specs.Opens.{Opened, IsOpenedBy, Opens}
 use Rattle.log_steps.specs.Reopens.{Reopens}
 use Rattle.log_steps.proofs.Rewritten.{log_no_manifest}
 use Rattle.local_log.specs.Stored.{all_batches}
 use Rattle.local_log.specs.Listing.{AreSegmentsOf, manifest_of}
-use Rattle.local_log.specs.Inside.{HasLog}
+use Rattle.local_log.specs.Inside.{DiskHasLog}
 use Rattle.local_log.specs.Cutting.{names_of, OpensAsOr, LeavesBeforeOrNow}
 use Rattle.local_log.specs.Renewing.{Renews}
 use Rattle.local_log.proofs.Having.{OpensUpTo}
@@ -40,7 +40,7 @@ fresh_are start interval low = record {
   few = omega arith;
 }
 
-module _ (d : Content) (laws : Lawful d) (incarnation local_start : ℕ) (closed : List Grown) (active : Grown) (line : List (ℕ × ℕ)) (flushed_end : ℕ) (has : HasLog d incarnation local_start closed active line flushed_end)
+module _ (d : Content) (laws : Lawful d) (incarnation local_start : ℕ) (closed : List Grown) (active : Grown) (line : List (ℕ × ℕ)) (flushed_end : ℕ) (has : DiskHasLog d incarnation local_start closed active line flushed_end)
     (one : 1 ≤ incarnation) (fits : incarnation < 2 ^ 32) (start interval : ℕ) (low : start ≤ 2 ^ 62) (other : List (ℕ × ℕ)) (is : IsLine other) (within : Each (λ (entry : ℕ × ℕ). entry.1 ≤ start) other)
     (d' : Content) (laws' : Lawful d') (fate : Fate) (change : Renews (manifest_bytes (manifest_of incarnation start [] (fresh start interval) other)) (names_of (closed ++ active ∷ [])) fate d d') where
   abbrev pub segments : List Grown
@@ -56,7 +56,7 @@ module _ (d : Content) (laws : Lawful d) (incarnation local_start : ℕ) (closed
   next_reads = manifest_again next (rules_of incarnation start [] (fresh start interval) other one (fresh_are start interval low) is) fits
 
   -- any files are read as nothing by it
-  read_empty : (f : Files) → IsRead next f now_open
+  read_empty : (f : Files) → IsOpenedBy next f now_open
   read_empty f = record {
     incarnation = refl;
     local_start = refl;
@@ -79,7 +79,7 @@ module _ (d : Content) (laws : Lawful d) (incarnation local_start : ℕ) (closed
   pub restart_reopens : Reopens d'
   restart_reopens = renew_reopens d laws incarnation local_start closed active line flushed_end has next now_open next_reads (λ t. read_empty d.files) (λ c a b. next_agrees c d.files) segments (inl refl, tt) d' laws' fate change
 
-  pub restart_dry : fate ≡ Dry → HasLog d' incarnation local_start closed active line flushed_end
+  pub restart_dry : fate ≡ Dry → DiskHasLog d' incarnation local_start closed active line flushed_end
   restart_dry = renew_dry d laws incarnation local_start closed active line flushed_end has next now_open next_reads (λ t. read_empty d.files) (λ c a b. next_agrees c d.files) segments (inl refl, tt) d' laws' fate change
 
   module _ (went : fate ≡ Went) where
@@ -97,7 +97,7 @@ module _ (d : Content) (laws : Lawful d) (incarnation local_start : ℕ) (closed
         (λ out. ⊎_elim (λ same. same ∙ has.clear t b out) (λ gone. gone.1) (change.files went t (file.Log b) (log_no_manifest b)))
         (in_or_out b segments)
 
-    pub restart_has : HasLog d' incarnation start [] (fresh start interval) other start
+    pub restart_has : DiskHasLog d' incarnation start [] (fresh start interval) other start
     restart_has = record {
       listed = next;
       opened = now_open;

@@ -1,7 +1,7 @@
 -- An image opens as it did: a call has changed nothing that its manifest lists.
 use Rattle.std.proofs.Common.{ℕ, ◌<◌, ◌≤◌, Bool, List, [], ◌∷◌, ◌++◌, map, inl, inr, ⊎_elim}
 use Rattle.tier_base.specs.declared.plain.FileName.TheVariants as file
-use Rattle.disk_model.specs.Content.{Content, Lawful, Files, Image, Keeps, LeavesOnly, Changes, Begins, appended, Grown as MayGrow}
+use Rattle.disk_model.specs.Content.{Content, Lawful, Files, Image, Keeps, LeavesOnly, Changes, BeginsWith, appended, HasGrown as MayGrow}
 use Rattle.segment_file.specs.Growing.{Grown}
 use Rattle.log_steps.specs.Opens.{Opened}
 use Rattle.log_manifest.specs.Spelling.{manifest_bytes}
@@ -10,7 +10,7 @@ use Rattle.log_steps.proofs.Restored.{manifest_other}
 use Rattle.log_steps.proofs.Standing.{append_since}
 use Rattle.local_log.specs.Stored.{size_of, end_of, extent_of}
 use Rattle.local_log.specs.Listing.{AreSegmentsOf}
-use Rattle.local_log.specs.Inside.{HasLog}
+use Rattle.local_log.specs.Inside.{DiskHasLog}
 use Rattle.local_log.specs.Cutting.{OpensAs, OpensAsOr}
 use Rattle.local_log.proofs.Having.{held_as}
 use Rattle.local_log.proofs.Behind.{rolled_has}
@@ -62,14 +62,14 @@ or_first d m new o laws-m h k =
     (λ made. inr (like.2 o made))
     (h.each like.0 (laws-m.earlier d.moment m.moment like.0 h.later like.1))) k)
 
-module _ (d : Content) (laws : Lawful d) (incarnation local_start : ℕ) (closed : List Grown) (active : Grown) (line : List (ℕ × ℕ)) (flushed_end : ℕ) (has : HasLog d incarnation local_start closed active line flushed_end) where
+module _ (d : Content) (laws : Lawful d) (incarnation local_start : ℕ) (closed : List Grown) (active : Grown) (line : List (ℕ × ℕ)) (flushed_end : ℕ) (has : DiskHasLog d incarnation local_start closed active line flushed_end) where
   pub appended_opens : (d' : Content) → Lawful d' → (more : List ℕ) (M : Bool → Type 0) → Changes (file.Log active.base) (appended more) MayGrow M d d' → LeavesOnly d d' (OpensAs d)
   appended_opens d' laws' more M change =
       leaves_weaker d d' _ (OpensAs d) (held_as d laws incarnation local_start closed active line flushed_end has)
       (append_since d d' laws laws' (manifest_bytes has.listed) has.listed.segments (map extent_of closed) has.images (file.Log active.base) (manifest_other active.base) more M change)
 
-module _ (d m m2 : Content) (laws : Lawful d) (laws-m : Lawful m) (laws2 : Lawful m2) (incarnation local_start : ℕ) (closed : List Grown) (active : Grown) (line : List (ℕ × ℕ)) (flushed_end : ℕ) (has : HasLog d incarnation local_start closed active line flushed_end) (k : Keeps d m) (k2 : Keeps m m2)
-    (interval : ℕ) (are : AreSegmentsOf local_start closed active) (some : 0 < size_of active) (low : flushed_end ≤ end_of active) (synced : (c : Files) → Image m2 c → Begins (m.files (file.Log active.base)) (c (file.Log active.base))) where
+module _ (d m m2 : Content) (laws : Lawful d) (laws-m : Lawful m) (laws2 : Lawful m2) (incarnation local_start : ℕ) (closed : List Grown) (active : Grown) (line : List (ℕ × ℕ)) (flushed_end : ℕ) (has : DiskHasLog d incarnation local_start closed active line flushed_end) (k : Keeps d m) (k2 : Keeps m m2)
+    (interval : ℕ) (are : AreSegmentsOf local_start closed active) (some : 0 < size_of active) (low : flushed_end ≤ end_of active) (synced : (c : Files) → Image m2 c → BeginsWith (m.files (file.Log active.base)) (c (file.Log active.base))) where
   pub behind_opens : (d' : Content) → Lawful d' → (more : List ℕ) (M : Bool → Type 0) → Changes (file.Log (end_of active)) (appended more) MayGrow M m2 d' → LeavesOnly d d' (OpensAs d)
   behind_opens d' laws' more M change =
       opens_then d m2 d' laws2 (twice_opens d m m2 laws-m k k2)

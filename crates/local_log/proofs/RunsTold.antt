@@ -10,7 +10,7 @@ use Rattle.segment_file.specs.Growing.{Grown, BeginsSearch, ending_by}
 use Rattle.segment_file.specs.Index.{placed, placed_from}
 use Rattle.segment_file.specs.Reach.{reach_from, reach_at}
 use Rattle.segment_file.specs.declared.taking.Cutout.{Cutout}
-use Rattle.segment_file.specs.Run.{Fits, IsRun}
+use Rattle.segment_file.specs.Run.{Fits, IsRunCutAt}
 use Rattle.log_steps.specs.Fronts.{Each}
 use Rattle.log_steps.proofs.Lists.{each_join, each_left, each_right}
 use Rattle.local_log.specs.declared.log.LocalLog.TheInside.{Inside}
@@ -19,8 +19,8 @@ use Rattle.local_log.specs.declared.refusal.ReadRefusal.{ReadRefusal}
 use Rattle.local_log.specs.declared.refusal.ReadRefusal.TheVariants as refusal
 use Rattle.local_log.specs.Stored.{bytes_of, all_batches, size_of, IsStored}
 use Rattle.local_log.specs.Listing.{AreSegmentsOf, IsLaidOut}
-use Rattle.local_log.specs.Inside.{log_in, IsSound}
-use Rattle.local_log.specs.Reading.{begin_of, position_of, is_edge, piece_end, IsCut, IsStray, HasNoRun, IsRunOf, CutFails, IsOfDevice}
+use Rattle.local_log.specs.Inside.{log_in, IsLogSound}
+use Rattle.local_log.specs.Reading.{begin_of, position_of, is_edge, piece_end, IsCutOut, IsStray, HasNoLocalRun, IsRunOf, CutFails, IsOfDevice}
 use Rattle.local_log.specs.Epochs.{IsOfLine}
 use Rattle.local_log.proofs.Strays.{placed_given, none_strays}
 use Rattle.local_log.proofs.Heads.{long_batch}
@@ -62,7 +62,7 @@ piece_past local_start closed active line offset mark are under edge =
     let laid = holder_each IsLaidOut offset closed active (each_join IsLaidOut closed (active ∷ []) are.laid (are.active_laid, tt)) in
     piece_ends line (holder offset closed active) offset laid (holder_end offset mark closed active are.active_laid under edge)
 
-module _ {D : Type 0} (content : D → Content) (s : Inside D) (sound : IsSound content s) (unbroken : s.broken ≡ false) (t : IsTrue (content s.disk).is_observable) where
+module _ {D : Type 0} (content : D → Content) (s : Inside D) (sound : IsLogSound content s) (unbroken : s.broken ≡ false) (t : IsTrue (content s.disk).is_observable) where
   abbrev pub f : Files
   f = (content s.disk).files
 
@@ -165,7 +165,7 @@ module _ {D : Type 0} (content : D → Content) (s : Inside D) (sound : IsSound 
         go (inr head) = inr (head.0, head.1, take_long (length (joined xs) + 61) most (drop position (bytes_of f g)) head.2 (omega (arith, all, long, big)))
 
     -- the batches of a run are the segment's
-    run_given : (cut : Cutout) (r : IsRun part offset limit mark piece cut) → Each (IsOfLine s.line) (r.first ∷ r.others)
+    run_given : (cut : Cutout) (r : IsRunCutAt part offset limit mark piece cut) → Each (IsOfLine s.line) (r.first ∷ r.others)
     run_given cut r =
         let t = told f s.line g k offset limit mark piece position search base under p.above ends p.below part unread read cut r [] in
         let all = each_join (IsOfLine s.line) k.batches [] (placed_given s.line g.base k.batches k.stands.placed) tt in
@@ -176,9 +176,9 @@ module _ {D : Type 0} (content : D → Content) (s : Inside D) (sound : IsSound 
     no_stray : (at : ℕ) → IsStray s.line part offset limit mark piece at → ⊥
     no_stray at h = none_strays s.line (h.is.first ∷ h.is.others) h.behind (run_given h.cut h.is) h.strays
 
-    pub no_bad : (bytes : List ℕ) (at : ℕ) → bytes ≡ part → HasNoRun s.line bytes offset limit mark piece position at → ⊥
+    pub no_bad : (bytes : List ℕ) (at : ℕ) → bytes ≡ part → HasNoLocalRun s.line bytes offset limit mark piece position at → ⊥
     no_bad bytes at is none =
-        let here = subst (λ (b : List ℕ). HasNoRun s.line b offset limit mark piece position at) is none in
+        let here = subst (λ (b : List ℕ). HasNoLocalRun s.line b offset limit mark piece position at) is none in
         elim here.bad [
           | inl bad ↦ never_bad f s.line g k offset limit mark piece position search base under p.above ends p.below part unread read holds enough_read here.found bad
           | inr stray ↦ no_stray here.found stray
@@ -189,9 +189,9 @@ module _ {D : Type 0} (content : D → Content) (s : Inside D) (sound : IsSound 
     fails_told b bytes refusal.DiskFault is why = tt
     fails_told b bytes refusal.NoMemory is why = tt
 
-    pub run_told : (bytes : List ℕ) (out : RunOut) → bytes ≡ part → IsCut s.line bytes offset limit mark piece out → IsRunOf (log_in content s) offset limit mark out
+    pub run_told : (bytes : List ℕ) (out : RunOut) → bytes ≡ part → IsCutOut s.line bytes offset limit mark piece out → IsRunOf (log_in content s) offset limit mark out
     run_told bytes out is there =
-        let here = subst (λ (b : List ℕ). IsCut s.line b offset limit mark piece out) is there in
+        let here = subst (λ (b : List ℕ). IsCutOut s.line b offset limit mark piece out) is there in
         let more = holder_from f s.line offset closed s.active each in
         let r = told f s.line g k offset limit mark piece position search base under p.above ends p.below part unread read here.cut here.is more.0 in
         let cut_is = here.part ∙ r.bytes in

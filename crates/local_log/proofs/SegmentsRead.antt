@@ -19,7 +19,7 @@ use Rattle.local_log.specs.Stored.{end_of, extent_of, all_batches, chain_end, Is
 use Rattle.local_log.specs.Listing.{IsLaidOut}
 use Rattle.local_log.specs.Parsing.{IsParsed, ParseFails}
 use Rattle.local_log.specs.Opening.{SegmentFails, ReadsTo, ReadFails, ReadFailsIn}
-use Rattle.local_log.specs.Planning.{AreRead, LastRead, IsRead}
+use Rattle.local_log.specs.Planning.{AreSegmentsRead, LastRead, IsSegmentRead}
 use Rattle.local_log.proofs.Pieces.{chained_snoc, chain_snoc, stored_same, stored_segments, all_end}
 use Rattle.local_log.proofs.Parsed.{parsed_extent, parsed_end, parsed_laid, parsed_low, parsed_stored}
 use Rattle.local_log.proofs.OneReading.{no_miss, segments_next}
@@ -30,7 +30,7 @@ whole_file None p is = ap bytes_in is
 whole_file (Some bytes) p is = ap bytes_in is
 
 pub read_of : (d : Content) (line : List (ℕ × ℕ)) (interval end : ℕ) (e : Extent) (bytes : List ℕ) (segment : Grown) → e.base ≤ 2 ^ 62 → e.len < 2 ^ 31 → e.base ≡ end
-    → (IsTrue d.is_observable → bytes ≡ log_at d.files e) → IsParsed line interval e bytes segment → IsRead d line interval end e segment
+    → (IsTrue d.is_observable → bytes ≡ log_at d.files e) → IsParsed line interval e bytes segment → IsSegmentRead d line interval end e segment
 read_of d line interval end e bytes segment low small begins told p = record {
   begins = begins;
   is = parsed_extent line interval e bytes segment p;
@@ -61,7 +61,7 @@ module _ (d m : Content) (k : Keeps d m) where
     consecutive = s.consecutive;
   }
 
-  pub read_back : (line : List (ℕ × ℕ)) (interval end : ℕ) (e : Extent) (segment : Grown) → IsRead m line interval end e segment → IsRead d line interval end e segment
+  pub read_back : (line : List (ℕ × ℕ)) (interval end : ℕ) (e : Extent) (segment : Grown) → IsSegmentRead m line interval end e segment → IsSegmentRead d line interval end e segment
   read_back line interval end e segment r = record {
     begins = r.begins;
     is = r.is;
@@ -92,12 +92,12 @@ start_low m rules = go m.segments rules.begins (segments_fit m.segments rules.se
     go (e ∷ es) h fit = omega (arith, h, fit.0.0)
 
 -- no segment yet
-pub none_read : (d : Content) (line : List (ℕ × ℕ)) (interval start : ℕ) → start ≤ 2 ^ 62 → AreRead d line interval start [] []
+pub none_read : (d : Content) (line : List (ℕ × ℕ)) (interval start : ℕ) → start ≤ 2 ^ 62 → AreSegmentsRead d line interval start [] []
 none_read d line interval start low = record { are = refl; chained = tt; laid = tt; intervals = tt; low = low; stored = λ t. tt }
 
-module _ (d : Content) (line : List (ℕ × ℕ)) (interval start : ℕ) (done : List Extent) (segments : List Grown) (r : AreRead d line interval start done segments) (e : Extent) where
+module _ (d : Content) (line : List (ℕ × ℕ)) (interval start : ℕ) (done : List Extent) (segments : List Grown) (r : AreSegmentsRead d line interval start done segments) (e : Extent) where
   -- a segment more
-  pub more_read : (segment : Grown) → IsRead d line interval (chain_end start segments) e segment → AreRead d line interval start (done ++ e ∷ []) (segments ++ segment ∷ [])
+  pub more_read : (segment : Grown) → IsSegmentRead d line interval (chain_end start segments) e segment → AreSegmentsRead d line interval start (done ++ e ∷ []) (segments ++ segment ∷ [])
   more_read segment s = record {
     are = map-append extent_of segments (segment ∷ []) ∙ ap (λ (l : List Extent). l ++ extent_of segment ∷ []) r.are ∙ ap (λ (x : Extent). done ++ x ∷ []) s.is;
     chained = chained_snoc start segments segment r.chained (ap (λ (x : Extent). x.base) s.is ∙ s.begins);

@@ -4,7 +4,7 @@ use Rattle.std.proofs.lemmas.List.{map-append, take-take}
 use Rattle.tier_base.specs.declared.plain.FileName.TheVariants as file
 use Rattle.tier_base.specs.Device.{Fate, Went, Dry}
 use Rattle.tier_base.specs.Told.{bytes_in}
-use Rattle.disk_model.specs.Content.{Content, Lawful, Files, Image, LeavesOnly, Begins}
+use Rattle.disk_model.specs.Content.{Content, Lawful, Files, Image, LeavesOnly, BeginsWith}
 use Rattle.log_terms.specs.Log.{up_to}
 use Rattle.epoch_line.specs.Line.{IsLine, cut_end}
 use Rattle.log_manifest.specs.declared.manifest.Extent.{Extent}
@@ -14,10 +14,10 @@ use Rattle.log_manifest.specs.Spelling.{manifest_bytes}
 use Rattle.segment_file.specs.Growing.{Grown}
 use Rattle.segment_file.proofs.Laying.{end_up}
 use Rattle.log_steps.specs.Fronts.{Each, Agrees, log_at}
-use Rattle.log_steps.specs.Opens.{Opened, IsRead, Opens}
+use Rattle.log_steps.specs.Opens.{Opened, IsOpenedBy, Opens}
 use Rattle.log_steps.specs.Publishes.{IsLike, Publishes}
 use Rattle.log_steps.specs.Reopens.{Reopens}
-use Rattle.log_steps.specs.Stands.{Holds, Stands}
+use Rattle.log_steps.specs.Stands.{ImageHolds, ImagesHold}
 use Rattle.log_steps.proofs.Lists.{each_map, each_both, each_join, each_left, each_right}
 use Rattle.log_steps.proofs.Moments.{leaves_weaker}
 use Rattle.log_steps.proofs.Rewritten.{log_no_manifest}
@@ -25,7 +25,7 @@ use Rattle.log_steps.proofs.Standing.{same_kept, like_fronts, publish_since, pub
 use Rattle.log_steps.proofs.Reading.{held_opens, read_moved, segments_whole, reopens_two}
 use Rattle.local_log.specs.Stored.{all_batches, size_of, end_of, extent_of, IsStored}
 use Rattle.local_log.specs.Listing.{IsLaidOut, AreSegmentsOf, AreListed, front_to}
-use Rattle.local_log.specs.Inside.{HasLog}
+use Rattle.local_log.specs.Inside.{DiskHasLog}
 use Rattle.local_log.specs.Cutting.{closed_by, open_by, behind, cut_point, OpensAsOr}
 use Rattle.local_log.proofs.Pieces.{all_same, stored_same}
 use Rattle.local_log.proofs.Lines.{cut_cut}
@@ -72,7 +72,7 @@ listed_cut n (g ∷ front) last later laid low bases base high = (
   listed_cut n front last later laid.1 low.1 bases.1 base high,
 )
 
-module _ (d : Content) (laws : Lawful d) (incarnation local_start : ℕ) (closed : List Grown) (active : Grown) (line : List (ℕ × ℕ)) (flushed_end : ℕ) (has : HasLog d incarnation local_start closed active line flushed_end)
+module _ (d : Content) (laws : Lawful d) (incarnation local_start : ℕ) (closed : List Grown) (active : Grown) (line : List (ℕ × ℕ)) (flushed_end : ℕ) (has : DiskHasLog d incarnation local_start closed active line flushed_end)
     (are : AreSegmentsOf local_start closed active) (is : IsLine line) (n : ℕ) (from : local_start ≤ n) (exact : cut_point n closed active ≡ n) (within : n ≤ end_of active) (one : 1 ≤ incarnation) (fits : incarnation < 2 ^ 32) where
   abbrev pub segments : List Grown
   segments = closed ++ active ∷ []
@@ -110,7 +110,7 @@ module _ (d : Content) (laws : Lawful d) (incarnation local_start : ℕ) (closed
   next_reading : manifest_in bytes ≡ Ok next
   next_reading = short_reading d incarnation local_start closed active line flushed_end has are is n from exact within one fits
 
-  reads : IsTrue d.is_observable → IsRead next d.files now_open
+  reads : IsTrue d.is_observable → IsOpenedBy next d.files now_open
   reads = short_read d incarnation local_start closed active line flushed_end has are is n from exact within
 
   last_long : IsTrue d.is_observable → last_front.len ≤ length (log_at d.files last_front)
@@ -129,7 +129,7 @@ module _ (d : Content) (laws : Lawful d) (incarnation local_start : ℕ) (closed
     told : IsTrue d'.is_observable → IsTrue d.is_observable
     told t = subst IsTrue change.is_observable t
 
-    held_either : (c : Files) → IsTrue d.is_observable × (Holds c d.files old_bytes has.listed.segments (map extent_of closed) ⊎ Holds c d.files bytes next.segments (map extent_of closed))
+    held_either : (c : Files) → IsTrue d.is_observable × (ImageHolds c d.files old_bytes has.listed.segments (map extent_of closed) ⊎ ImageHolds c d.files bytes next.segments (map extent_of closed))
         → OpensUpTo incarnation local_start flushed_end (all_batches d.files segments) line c ⊎ Opens c now_open
     held_either c h =
         ⊎_elim
@@ -161,14 +161,14 @@ module _ (d : Content) (laws : Lawful d) (incarnation local_start : ℕ) (closed
             (λ c now. (let h = like_fronts d d' laws laws' old_bytes has.listed.segments (map extent_of closed) has.images c (like c now) in (inl h.1.manifest, h.1.listed_fronts, h.1.listed_fronts)))
             (λ c now. (let r = has.read (told (laws'.told c now)) in (r, r)))
 
-        both_whole : ((c : Files) → Image d' c → Begins (d.files (file.Log last.base)) (c (file.Log last.base))) → Reopens d'
+        both_whole : ((c : Files) → Image d' c → BeginsWith (d.files (file.Log last.base)) (c (file.Log last.base))) → Reopens d'
         both_whole begins =
             reopens_two d' d.files old_bytes bytes has.listed next has.opened now_open old_reading next_reading
             (λ c now. publish_whole d d' laws laws' old_bytes has.listed.segments (map extent_of closed) has.images last_front last_long bytes next.segments next_lists fate change c now (begins c now))
             (λ c now. (let t = told (laws'.told c now) in (has.read t, reads t)))
 
     -- the call found no memory
-    pub settle_dry : fate ≡ Dry → HasLog d' incarnation local_start closed active line flushed_end
+    pub settle_dry : fate ≡ Dry → DiskHasLog d' incarnation local_start closed active line flushed_end
     settle_dry dry = has_same d laws incarnation local_start closed active line flushed_end has d' laws' change.is_observable (change.dry dry) (change.dry_files dry)
 
     log_files : IsTrue d.is_observable → (b : ℕ) → d'.files (file.Log b) ≡ d.files (file.Log b)
@@ -177,20 +177,20 @@ module _ (d : Content) (laws : Lawful d) (incarnation local_start : ℕ) (closed
     pub settle_batches : IsTrue d.is_observable → (gs : List Grown) → all_batches d'.files gs ≡ all_batches d.files gs
     settle_batches t gs = all_same d.files d'.files gs (λ g. ap bytes_in (log_files t g.base))
 
-    read_after : IsTrue d.is_observable → IsRead next d'.files now_open
+    read_after : IsTrue d.is_observable → IsOpenedBy next d'.files now_open
     read_after t =
         let r = reads t in
         read_moved d'.files d.files next now_open
         (each_map (λ e w. same_kept d.files d'.files (λ k ne. change.files t k ne) e w.long) next.segments (segments_whole d.files next.line next.local_start next.segments now_open.batches r.batches)) r
 
     module _ (went : fate ≡ Went) where
-      stands : Stands d' bytes next.segments (map extent_of closed)
+      stands : ImagesHold d' bytes next.segments (map extent_of closed)
       stands = publish_stands d d' laws laws' old_bytes has.listed.segments (map extent_of closed) has.images last_front last_long bytes next.segments next_lists fate change went
 
       pub settled_opens : (c : Files) → Image d' c → Opens c now_open
       settled_opens c now = held_opens c d'.files bytes next (map extent_of closed) now_open next_reading (stands c now) (read_after (told (laws'.told c now)))
 
-      pub settled_has : HasLog d' incarnation local_start closed active line n
+      pub settled_has : DiskHasLog d' incarnation local_start closed active line n
       settled_has = record {
         listed = next;
         opened = now_open;

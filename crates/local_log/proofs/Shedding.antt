@@ -12,8 +12,8 @@ use Rattle.log_terms.specs.Log.{up_to}
 use Rattle.epoch_line.specs.Line.{IsLine, cut_end}
 use Rattle.log_manifest.specs.declared.manifest.Extent.{Extent}
 use Rattle.log_manifest.specs.Spelling.{manifest_bytes}
-use Rattle.segment_file.specs.Growing.{Grown, AreLaid}
-use Rattle.log_steps.specs.Fronts.{Each, Agrees, Kept}
+use Rattle.segment_file.specs.Growing.{Grown, AreBatchesLaid}
+use Rattle.log_steps.specs.Fronts.{Each, Agrees, KeepsFront}
 use Rattle.log_steps.specs.Reopens.{Reopens}
 use Rattle.log_steps.proofs.Lists.{each_map, each_both, each_join, each_left, each_right}
 use Rattle.log_steps.proofs.Moments.{leaves_weaker}
@@ -22,7 +22,7 @@ use Rattle.log_steps.proofs.Standing.{agrees_then, both_agree}
 use Rattle.log_steps.proofs.Reading.{opens_as, opened_by, read_moved, reopens_two}
 use Rattle.local_log.specs.Stored.{bytes_of, batches_of, all_batches, size_of, end_of, extent_of, IsStored}
 use Rattle.local_log.specs.Listing.{AreSegmentsOf, AreListed, front_to}
-use Rattle.local_log.specs.Inside.{HasLog}
+use Rattle.local_log.specs.Inside.{DiskHasLog}
 use Rattle.local_log.specs.Cutting.{closed_by, open_by, behind, cut_point, names_of, OpensAs, Trimmed, Trims}
 use Rattle.local_log.proofs.Pieces.{stored_batches}
 use Rattle.local_log.proofs.Lines.{cut_cut}
@@ -40,7 +40,7 @@ none_listed flushed_end n base len [] later up high l = tt
 none_listed flushed_end n base len (e ∷ es) [] up high l = absurd l
 none_listed flushed_end n base len (e ∷ es) (g ∷ later) up high l = absurd (omega (arith, up, high.0, l.0))
 
-listed_safe : (flushed_end n : ℕ) (es : List Extent) (front : List Grown) (last : Grown) (later : List Grown) → AreLaid last.base 0 last.batches → flushed_end ≤ n → Each (λ g. g.base < last.base) front → Each (λ g. n < g.base) later
+listed_safe : (flushed_end n : ℕ) (es : List Extent) (front : List Grown) (last : Grown) (later : List Grown) → AreBatchesLaid last.base 0 last.batches → flushed_end ≤ n → Each (λ g. g.base < last.base) front → Each (λ g. n < g.base) later
     → AreListed flushed_end es (front ++ last ∷ later) → Each (IsSafe last.base (size_of (front_to n last))) es
 listed_safe flushed_end n [] front last later laid up below high l = tt
 listed_safe flushed_end n (e ∷ es) [] last later laid up below high l = (
@@ -76,7 +76,7 @@ module _ (base len n : ℕ) (later : List Grown) (le : base ≤ n) (high : Each 
   pub trimmed_manifest : c file.Manifest ≡ x file.Manifest
   trimmed_manifest = ⊎_elim (λ same. same) (λ none. (let h = in_names file.Manifest n later high none.0 in let ne = manifest_other h.0 in absurd (ne h.1))) (t.others file.Manifest (manifest_other base))
 
-  pub trimmed_kept : (e : Extent) → IsSafe base len e → Kept x c e
+  pub trimmed_kept : (e : Extent) → IsSafe base len e → KeepsFront x c e
   trimmed_kept e safe long = elim (cases_name (file.Log e.base) (file.Log base)) [
     | inl same ↦ (
         let is : e.base ≡ base = cc in
@@ -136,7 +136,7 @@ listed_short flushed_end n (e ∷ es) [] last later up high l =
     rest (e ∷ es) (g ∷ later) high l = absurd (omega (arith, up, high.0, l.0))
 listed_short flushed_end n (e ∷ es) (g ∷ front) last later up high l = (l.0, l.1, listed_short flushed_end n es front last later up high l.2)
 
-module _ (d : Content) (laws : Lawful d) (incarnation local_start : ℕ) (closed : List Grown) (active : Grown) (line : List (ℕ × ℕ)) (flushed_end : ℕ) (has : HasLog d incarnation local_start closed active line flushed_end)
+module _ (d : Content) (laws : Lawful d) (incarnation local_start : ℕ) (closed : List Grown) (active : Grown) (line : List (ℕ × ℕ)) (flushed_end : ℕ) (has : DiskHasLog d incarnation local_start closed active line flushed_end)
     (are : AreSegmentsOf local_start closed active) (is : IsLine line) (n : ℕ) (from : local_start ≤ n) (exact : cut_point n closed active ≡ n) (within : n ≤ end_of active) (up : flushed_end ≤ n)
     (d' : Content) (laws' : Lawful d') (fate : Fate) (change : Trims (names_of (behind n closed active)) (open_by n closed active).base (size_of (front_to n (open_by n closed active))) fate d d') where
   abbrev pub segments : List Grown
@@ -271,7 +271,7 @@ module _ (d : Content) (laws : Lawful d) (incarnation local_start : ℕ) (closed
         ))
         (in_or_out b later)
 
-    pub shed_has : HasLog d' incarnation local_start front (front_to n last) (cut_end line n) flushed_end
+    pub shed_has : DiskHasLog d' incarnation local_start front (front_to n last) (cut_end line n) flushed_end
     shed_has = record {
       listed = has.listed;
       opened = has.opened;

@@ -15,14 +15,14 @@ use Rattle.log_manifest.specs.Spelling.{manifest_bytes}
 use Rattle.log_manifest.proofs.Again.{manifest_again}
 use Rattle.segment_file.specs.declared.placed.Placed.{Placed}
 use Rattle.segment_file.specs.Index.{placed, placed_from}
-use Rattle.segment_file.specs.Growing.{Grown, end_after, size_after, ending_by, AreLaid}
+use Rattle.segment_file.specs.Growing.{Grown, end_after, size_after, ending_by, AreBatchesLaid}
 use Rattle.segment_file.proofs.Searching.{ending_kept}
 use Rattle.log_steps.specs.Fronts.{Each}
-use Rattle.log_steps.specs.Opens.{Opened, IsPlaced, IsRead, Segments}
+use Rattle.log_steps.specs.Opens.{Opened, IsPlaced, IsOpenedBy, Segments}
 use Rattle.log_steps.proofs.Lists.{each_both, each_join, each_left, each_right}
 use Rattle.local_log.specs.Stored.{bytes_of, batches_of, all_batches, size_of, end_of, extent_of, IsStored}
 use Rattle.local_log.specs.Listing.{AreSegmentsOf, front_to, manifest_of}
-use Rattle.local_log.specs.Inside.{HasLog}
+use Rattle.local_log.specs.Inside.{DiskHasLog}
 use Rattle.local_log.specs.Cutting.{closed_by, open_by, behind, cut_point}
 use Rattle.local_log.proofs.Pieces.{joined_append, size_placed, end_placed, stored_batches, stored_segments, stored_end, consecutive_segments, all_append, all_end, chain_snoc}
 use Rattle.local_log.proofs.Lines.{cut_cut, cut_within, below_cut, placed_same}
@@ -52,7 +52,7 @@ stored_below f line other n g is is' same s le = record {
   };
 }
 
-module _ (f : Files) (line other : List (ℕ × ℕ)) (n : ℕ) (g : Grown) (is : IsLine line) (is' : IsLine other) (same : cut_end other n ≡ cut_end line n) (s : IsStored f line g) (laid : AreLaid g.base 0 g.batches) (le : end_of (front_to n g) ≤ n) where
+module _ (f : Files) (line other : List (ℕ × ℕ)) (n : ℕ) (g : Grown) (is : IsLine line) (is' : IsLine other) (same : cut_end other n ≡ cut_end line n) (s : IsStored f line g) (laid : AreBatchesLaid g.base 0 g.batches) (le : end_of (front_to n g) ≤ n) where
   abbrev pub kept : List (List ℕ)
   kept = up_to n s.batches
 
@@ -100,7 +100,7 @@ module _ (f : Files) (line other : List (ℕ × ℕ)) (n : ℕ) (g : Grown) (is 
       let p = up_to_prefix n s.batches in
       stored_batches f line g s ∙ sym p.1 ∙ ap (λ (l : List (List ℕ)). l ++ p.0) (sym (stored_batches f other (front_to n g) stored_front))
 
-module _ (d : Content) (incarnation local_start : ℕ) (closed : List Grown) (active : Grown) (line : List (ℕ × ℕ)) (flushed_end : ℕ) (has : HasLog d incarnation local_start closed active line flushed_end)
+module _ (d : Content) (incarnation local_start : ℕ) (closed : List Grown) (active : Grown) (line : List (ℕ × ℕ)) (flushed_end : ℕ) (has : DiskHasLog d incarnation local_start closed active line flushed_end)
     (are : AreSegmentsOf local_start closed active) (is : IsLine line) (n : ℕ) (from : local_start ≤ n) (exact : cut_point n closed active ≡ n) (within : n ≤ end_of active) where
   abbrev pub segments : List Grown
   segments = closed ++ active ∷ []
@@ -186,7 +186,7 @@ module _ (d : Content) (incarnation local_start : ℕ) (closed : List Grown) (ac
   pub up_to_end : IsTrue d.is_observable → end_from local_start (up_to n whole) ≡ n
   up_to_end t = ap (λ (l : List (List ℕ)). end_from local_start l) (sym (short_batches t)) ∙ short_end t
 
-  pub short_read : IsTrue d.is_observable → IsRead manifest d.files opened
+  pub short_read : IsTrue d.is_observable → IsOpenedBy manifest d.files opened
   short_read t = record {
     incarnation = refl;
     local_start = refl;

@@ -13,7 +13,7 @@ use Rattle.record_batch.specs.declared.head.Head.{Head}
 use Rattle.record_batch.specs.Check.{checked, headed}
 use Rattle.record_batch.specs.Head.{head_of}
 use Rattle.epoch_line.specs.Line.{IsLine, end_of}
-use Rattle.segment_file.specs.Gathering.{Tells}
+use Rattle.segment_file.specs.Gathering.{HeadDescribes}
 use Rattle.segment_file.specs.Segment.{IsSegment}
 use Rattle.segment_file.proofs.Joining.{joined_same}
 use Rattle.segment_file.proofs.Standing.{AreBytes, bytes_drop}
@@ -160,7 +160,7 @@ module _ (line : List (ℕ × ℕ)) (bytes : List ℕ) (at : ℕ) (p : ArePassed
   pub coming_headed : (c : Coming) → headed (drop at bytes) ≡ Ok (head_of c.batch)
   coming_headed c = ap headed c.there ∙ headed_batch c.batch (joined c.more) c.ok
 
-  pub coming_tells : (c : Coming) (head : Head) → AreBytes bytes → headed (drop at bytes) ≡ Ok head → Tells c.batch head
+  pub coming_tells : (c : Coming) (head : Head) → AreBytes bytes → headed (drop at bytes) ≡ Ok head → HeadDescribes c.batch head
   coming_tells c head clean is = front_tells c.batch (joined c.more) head (subst AreBytes c.there (bytes_drop at bytes clean)) c.ok (sym (ap headed c.there) ∙ is)
 
   pub coming_some : (c : Coming) → 61 ≤ length c.batch

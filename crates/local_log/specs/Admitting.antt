@@ -14,7 +14,7 @@ use Rattle.log_steps.specs.Fronts.{Each}
 use Rattle.local_log.specs.declared.admitting.Spot.{Spot}
 
 -- bytes are batches, one after another from an offset on, whose epochs don't fall and aren't below this one; or none
-pub record AreTaken (end epoch : ℕ) (bytes : List ℕ) : Type 0 where
+pub record AreAdmitted (end epoch : ℕ) (bytes : List ℕ) : Type 0 where
   pub batches : List (List ℕ)
   pub bytes_are : bytes ≡ joined batches
   pub are : Each (λ (batch : List ℕ). IsOk (checked batch)) batches
@@ -23,7 +23,7 @@ pub record AreTaken (end epoch : ℕ) (bytes : List ℕ) : Type 0 where
 
 -- so are those from a spot on
 abbrev pub AreFrom : List ℕ → Spot → Type 0
-AreFrom run spot = AreTaken (spot.base + spot.more) spot.epoch (drop spot.at run)
+AreFrom run spot = AreAdmitted (spot.base + spot.more) spot.epoch (drop spot.at run)
 
 -- the spot at the front of bytes that are to go after a log of this end and line
 abbrev pub spot_behind : ℕ → List (ℕ × ℕ) → Spot
@@ -45,7 +45,7 @@ spot_after at head = record {
 }
 
 -- a batch is at a spot, the next spot is after it, and nothing else is asked
-pub record GoesOn (run : List ℕ) (spot next : Spot) : Type 0 where
+pub record AdvancesTo (run : List ℕ) (spot next : Spot) : Type 0 where
   pub further : spot.at < next.at
   pub inside : next.at ≤ length run
   pub same : AreFrom run spot ↔ AreFrom run next

@@ -12,10 +12,11 @@ use Rattle.local_log.specs.Reading.{IsEdge, piece_of}
 use Rattle.local_log.specs.Cutting.{cut_point}
 
 -- segments hold these batches, each where the one before it ends, the first from an offset on
-abbrev pub Hold : ℕ → List Grown → List (List ℕ) → Type 0
-Hold first [] batches = batches ≡ []
-Hold first (segment ∷ segments) batches = (own : List (List ℕ)) × (rest : List (List ℕ)) × (batches ≡ own ++ rest)
-    × (segment.base ≡ first) × (segment.batches ≡ placed_from 0 own) × Hold (end_of segment) segments rest
+abbrev pub SegmentsHold : ℕ → List Grown → List (List ℕ) → Type 0
+SegmentsHold first [] batches = batches ≡ []
+SegmentsHold first (segment ∷ segments) batches =
+    (own : List (List ℕ)) × (rest : List (List ℕ)) × (batches ≡ own ++ rest)
+    × (segment.base ≡ first) × (segment.batches ≡ placed_from 0 own) × SegmentsHold (end_of segment) segments rest
 
 pub record Coheres {D : Type 0} (log : Log D) : Type 0 where
   pub consecutive : IsConsecutive log.local_start log.batches
@@ -27,7 +28,7 @@ pub record Coheres {D : Type 0} (log : Log D) : Type 0 where
   pub cuts : (n : ℕ) → log.local_start ≤ n
       → cut_point n log.closed log.active ≡ end_from log.local_start (up_to n log.batches)
   -- its segments hold the batches
-  pub segments : Hold log.local_start (log.closed ++ log.active ∷ []) log.batches
+  pub segments : SegmentsHold log.local_start (log.closed ++ log.active ∷ []) log.batches
   -- the first closed segment begins where the log does, and ends where a batch does
   pub first : (segment : Grown) (behind : List Grown) → log.closed ≡ segment ∷ behind
       → (segment.base ≡ log.local_start) × IsEdge log (end_of segment)

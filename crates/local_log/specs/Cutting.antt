@@ -17,7 +17,7 @@ use Rattle.segment_file.specs.Growing.{Grown}
 use Rattle.log_steps.specs.Opens.{Opened, Opens}
 use Rattle.local_log.specs.Stored.{end_of}
 use Rattle.local_log.specs.Listing.{front_to}
-use Rattle.local_log.specs.Log.{Log, Becomes, OpensFlushed}
+use Rattle.local_log.specs.Log.{Log, LogBecomes, OpensFlushed}
 
 -- the segments that end at or below an offset: they stay closed
 abbrev pub closed_by : ℕ → List Grown → List Grown
@@ -121,14 +121,14 @@ module _ {D : Type 0} where
   Cutting log end c = OpensFlushed log c ⊎ Opens c (opened_to log end)
 
   -- a fault of the disk broke the log, and its files may be those of before or not
-  pub record Breaks (content : D → Content) (before new : Log D) : Type 0 where
+  pub record LogBreaks (content : D → Content) (before new : Log D) : Type 0 where
     pub fields : new ≡ record before { disk = new.disk; batches = new.batches; broken = true }
     pub is_observable : (content new.disk).is_observable ≡ (content before.disk).is_observable
 
 -- an error leaves the log and its images as they were where memory is out, and a broken log where the disk failed
 pub record StaysOrBreaks {D T : Type 0} (content : D → Content) (old new : Log D) (result : Result T Trouble) : Type 0 where
   pub others : OnErr result (IsErrOf result fault.NoMemory ⊎ IsErrOf result fault.Failed)
-  pub no_memory : IsErrOf result fault.NoMemory → Becomes content old new
+  pub no_memory : IsErrOf result fault.NoMemory → LogBecomes content old new
   pub no_image : IsErrOf result fault.NoMemory → (c : Files) → Image (content new.disk) c → Image (content old.disk) c
   pub broken : IsErrOf result fault.Failed → new.broken ≡ true
 

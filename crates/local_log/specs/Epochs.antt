@@ -31,8 +31,9 @@ pub record IsRow (bytes : List ℕ) : Type 0 where
   pub are : Each (λ (batch : List ℕ). IsOk (checked batch)) batches
 
 -- the leader epochs give this from one offset up to another
-abbrev pub Gives : List (ℕ × ℕ) → Stretch → Type 0
-Gives line stretch = (offset : ℕ) → stretch.from ≤ offset → offset < stretch.end → epoch_at line offset ≡ stretch.epoch
+abbrev pub HasEpoch : List (ℕ × ℕ) → Stretch → Type 0
+HasEpoch line stretch =
+    (offset : ℕ) → stretch.from ≤ offset → offset < stretch.end → epoch_at line offset ≡ stretch.epoch
 
 -- the front of the bytes is batches whose epochs the leader epochs give
 pub record ArePassed (line : List (ℕ × ℕ)) (bytes : List ℕ) (at : ℕ) : Type 0 where

@@ -9,24 +9,24 @@ use Rattle.log_manifest.specs.Rules.{IsManifest}
 use Rattle.log_manifest.specs.Spelling.{manifest_bytes}
 use Rattle.segment_file.specs.Growing.{Grown}
 use Rattle.log_steps.specs.Fronts.{Each}
-use Rattle.log_steps.specs.Opens.{Opened, IsRead}
+use Rattle.log_steps.specs.Opens.{Opened, IsOpenedBy}
 use Rattle.log_steps.specs.Reopens.{Reopens}
-use Rattle.log_steps.specs.Stands.{Stands}
+use Rattle.log_steps.specs.Stands.{ImagesHold}
 use Rattle.local_log.specs.declared.log.LocalLog.TheInside.{Inside}
 use Rattle.local_log.specs.Stored.{bytes_of, all_batches, size_of, end_of, extent_of, IsStored}
 use Rattle.local_log.specs.Log.{Log, AreSettings}
 use Rattle.local_log.specs.Listing.{AreSegmentsOf, AreListed}
 
 -- the disk has the log: its images the flushed log, and its files all of it
-pub record HasLog (d : Content) (incarnation local_start : ℕ) (closed : List Grown) (active : Grown)
+pub record DiskHasLog (d : Content) (incarnation local_start : ℕ) (closed : List Grown) (active : Grown)
     (line : List (ℕ × ℕ)) (flushed_end : ℕ) : Type 0 where
   -- what each image's manifest says, and what it is read as
   pub listed : Manifest
   pub opened : Opened
   pub rules : IsManifest listed
   pub fits : listed.incarnation < 2 ^ 32
-  pub images : Stands d (manifest_bytes listed) listed.segments (map extent_of closed)
-  pub read : IsTrue d.is_observable → IsRead listed d.files opened
+  pub images : ImagesHold d (manifest_bytes listed) listed.segments (map extent_of closed)
+  pub read : IsTrue d.is_observable → IsOpenedBy listed d.files opened
   pub incarnation_is : opened.incarnation ≡ incarnation
   pub start_is : opened.local_start ≡ local_start
   pub end_is : IsTrue d.is_observable → end_from opened.local_start opened.batches ≡ flushed_end
@@ -58,7 +58,7 @@ module _ {D : Type 0} (content : D → Content) where
     broken = log.broken;
   }
 
-  pub record IsSound (log : Inside D) : Type 0 where
+  pub record IsLogSound (log : Inside D) : Type 0 where
     pub segments : AreSegmentsOf log.local_start log.closed.items log.active
     pub settings : AreSettings log.settings
     pub opened : 1 ≤ log.incarnation
@@ -67,6 +67,6 @@ module _ {D : Type 0} (content : D → Content) where
     pub line_within : Each (λ (entry : ℕ × ℕ). entry.1 ≤ end_of log.active) log.line
     pub flushed_end_within : log.flushed_end ≤ end_of log.active
     pub has : log.broken ≡ false
-        → HasLog (content log.disk) log.incarnation log.local_start log.closed.items log.active log.line log.flushed_end
+        → DiskHasLog (content log.disk) log.incarnation log.local_start log.closed.items log.active log.line log.flushed_end
     -- a broken log can be opened again too
     pub reopens : Reopens (content log.disk)

@@ -3,12 +3,12 @@ use Rattle.std.specs.Prelude.{◌≡◌, ℕ, ◌+◌, ◌^◌, ◌≤◌, ◌<�
 use Rattle.log_manifest.specs.declared.manifest.Extent.{Extent}
 use Rattle.log_manifest.specs.declared.manifest.Manifest.{Manifest}
 use Rattle.log_steps.specs.Fronts.{Each}
-use Rattle.segment_file.specs.Growing.{Grown, AreLaid, ending_by}
+use Rattle.segment_file.specs.Growing.{Grown, AreBatchesLaid, ending_by}
 use Rattle.local_log.specs.Stored.{size_of, end_of, extent_of, AreChained}
 
 -- a segment whose batches follow one another, and are as far from its base as its index reaches
 pub record IsLaidOut (segment : Grown) : Type 0 where
-  pub laid : AreLaid segment.base 0 segment.batches
+  pub laid : AreBatchesLaid segment.base 0 segment.batches
   pub near : end_of segment ≤ segment.base + 2 ^ 31
   pub small : size_of segment < 2 ^ 31
 

@@ -71,7 +71,7 @@ module _ {D : Type 0} where
   Committing log line c = OpensFlushed log c ⊎ OpensFlushed (committed log line) c
 
   -- a log that was just made
-  pub record IsFirst (settings : Settings) (log : Log D) : Type 0 where
+  pub record IsNewLog (settings : Settings) (log : Log D) : Type 0 where
     pub settings_are : log.settings ≡ settings
     pub incarnation : log.incarnation ≡ 1
     pub local_start : log.local_start ≡ 0
@@ -83,7 +83,7 @@ module _ {D : Type 0} where
     pub broken : log.broken ≡ false
 
 -- a call makes this of a log, on the disk as the call left it
-pub record Becomes {D : Type 0} (content : D → Content) (then new : Log D) : Type 0 where
+pub record LogBecomes {D : Type 0} (content : D → Content) (then new : Log D) : Type 0 where
   pub fields : new ≡ record then { disk = new.disk; batches = new.batches }
   pub is_observable : (content new.disk).is_observable ≡ (content then.disk).is_observable
   pub batches : IsTrue (content then.disk).is_observable → new.batches ≡ then.batches

@@ -21,7 +21,7 @@ use Rattle.local_log.specs.declared.refusal.OpenRefusal.{OpenRefusal}
 use Rattle.local_log.specs.declared.refusal.OpenRefusal.TheVariants.{DiskFault, Damaged, LastIncarnation, NoMemory}
 use Rattle.local_log.specs.Stored.{extent_of}
 use Rattle.local_log.specs.Log.{Log}
-use Rattle.local_log.specs.Parsing.{Fronts, HasNoBatchAt}
+use Rattle.local_log.specs.Parsing.{ParsesFront, HasNoBatchAt}
 
 -- bytes say a manifest of the last incarnation
 abbrev pub IsLastOf : List ℕ → Type 0
@@ -42,7 +42,7 @@ SegmentFails line end e last_read NoMemory = Unit {0}
 -- what was returned is a segment's file, and its batches end there
 pub record ReadsTo (line : List (ℕ × ℕ)) (e : Extent) (last_read : List ℕ) (end : ℕ) : Type 0 where
   pub batches : List (List ℕ)
-  pub fronts : Fronts line e.base (take e.len last_read) batches []
+  pub fronts : ParsesFront line e.base (take e.len last_read) batches []
   pub long : e.len ≤ length last_read
   pub end_is : end ≡ end_from e.base batches
 
@@ -142,7 +142,7 @@ module _ {D : Type 0} where
     pub broken : log.broken ≡ false
 
   -- the log of what was read, under the next incarnation
-  pub record IsOf (o : Opened) (log : Log D) : Type 0 where
+  pub record IsLogOf (o : Opened) (log : Log D) : Type 0 where
     pub incarnation : log.incarnation ≡ o.incarnation + 1
     pub local_start : log.local_start ≡ o.local_start
     pub batches : log.batches ≡ o.batches

@@ -8,7 +8,7 @@ use Rattle.log_terms.specs.Log.{joined, IsConsecutive}
 use Rattle.record_batch.specs.declared.head.Head.{Head}
 use Rattle.log_manifest.specs.declared.manifest.Extent.{Extent}
 use Rattle.segment_file.specs.Walk.{size_in}
-use Rattle.segment_file.specs.Gathering.{Tells}
+use Rattle.segment_file.specs.Gathering.{HeadDescribes}
 use Rattle.segment_file.specs.Index.{placed_from}
 use Rattle.segment_file.specs.Growing.{Grown}
 use Rattle.log_steps.specs.Fronts.{Each}
@@ -17,7 +17,7 @@ use Rattle.local_log.specs.declared.refusal.OpenRefusal.{OpenRefusal}
 use Rattle.local_log.specs.declared.refusal.OpenRefusal.TheVariants.{DiskFault, Damaged, LastIncarnation, NoMemory}
 
 -- batches that may be in a segment are the front of bytes
-pub record Fronts (line : List (ℕ × ℕ)) (base : ℕ) (bytes : List ℕ) (batches : List (List ℕ))
+pub record ParsesFront (line : List (ℕ × ℕ)) (base : ℕ) (bytes : List ℕ) (batches : List (List ℕ))
     (rest : List ℕ) : Type 0 where
   pub parts : bytes ≡ joined batches ++ rest
   pub placed : Each (IsPlaced line base) batches
@@ -26,7 +26,7 @@ pub record Fronts (line : List (ℕ × ℕ)) (base : ℕ) (bytes : List ℕ) (ba
 -- the segment has these bytes
 pub record IsParsed (line : List (ℕ × ℕ)) (interval : ℕ) (e : Extent) (bytes : List ℕ) (segment : Grown) : Type 0 where
   pub batches : List (List ℕ)
-  pub fronts : Fronts line e.base (take e.len bytes) batches []
+  pub fronts : ParsesFront line e.base (take e.len bytes) batches []
   pub long : e.len ≤ length bytes
   pub segment_is : segment ≡ record { base = e.base; interval = interval; batches = placed_from 0 batches }
 
@@ -34,7 +34,7 @@ pub record IsParsed (line : List (ℕ × ℕ)) (interval : ℕ) (e : Extent) (by
 pub record HasNoBatchAt (line : List (ℕ × ℕ)) (e : Extent) (bytes : List ℕ) (at : ℕ) : Type 0 where
   pub batches : List (List ℕ)
   pub rest : List ℕ
-  pub fronts : Fronts line e.base (take e.len bytes) batches rest
+  pub fronts : ParsesFront line e.base (take e.len bytes) batches rest
   pub place : at ≡ length (joined batches)
   pub short : at < e.len
   pub nothing : (batch more : List ℕ) → rest ≡ batch ++ more → IsPlaced line e.base batch
@@ -51,7 +51,7 @@ ParseFails line e bytes NoMemory = Unit {0}
 pub record IsParsing (line : List (ℕ × ℕ)) (interval base : ℕ) (front : List ℕ) (segment : Grown) : Type 0 where
   pub batches : List (List ℕ)
   pub rest : List ℕ
-  pub fronts : Fronts line base front batches rest
+  pub fronts : ParsesFront line base front batches rest
   pub segment_is : segment ≡ record { base = base; interval = interval; batches = placed_from 0 batches }
 
 -- a batch of this head may be in a segment, after batches that end there
@@ -67,10 +67,10 @@ pub record StandsNext (line : List (ℕ × ℕ)) (base : ℕ) (bytes : List ℕ)
   pub parts : drop at bytes ≡ batch ++ drop (at + size_in head) bytes
   pub placed : IsPlaced line base batch
   pub begins : base_of batch ≡ end
-  pub is_observable : Tells batch head
+  pub is_observable : HeadDescribes batch head
   pub inside : at + size_in head ≤ length bytes
 
 -- no batch follows
-abbrev pub NothingNext : List (ℕ × ℕ) → ℕ → List ℕ → ℕ → ℕ → Type 0
-NothingNext line base bytes at end =
+abbrev pub NoBatchNext : List (ℕ × ℕ) → ℕ → List ℕ → ℕ → ℕ → Type 0
+NoBatchNext line base bytes at end =
     (batch more : List ℕ) → drop at bytes ≡ batch ++ more → IsPlaced line base batch → base_of batch ≡ end → ⊥

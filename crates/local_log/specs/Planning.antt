@@ -24,7 +24,7 @@ use Rattle.local_log.specs.Refusing.{IsDry}
 use Rattle.local_log.specs.Stored.{end_of, extent_of, all_batches, AreChained, chain_end, IsStored}
 use Rattle.local_log.specs.Listing.{IsLaidOut, AreSegmentsOf}
 use Rattle.local_log.specs.Opening.{IsLastOf, ReadsTo, Lists}
-use Rattle.local_log.specs.Inside.{HasLog}
+use Rattle.local_log.specs.Inside.{DiskHasLog}
 
 -- the manifest of the log that is made where a disk has none
 abbrev pub first_manifest : Manifest
@@ -71,7 +71,7 @@ StudyFails last_read LastIncarnation = IsLastOf last_read
 StudyFails last_read NoMemory = Unit {0}
 
 -- segments were read from their files, one after another
-pub record AreRead (d : Content) (line : List (ℕ × ℕ)) (interval start : ℕ) (extents : List Extent)
+pub record AreSegmentsRead (d : Content) (line : List (ℕ × ℕ)) (interval start : ℕ) (extents : List Extent)
     (segments : List Grown) : Type 0 where
   pub are : map extent_of segments ≡ extents
   pub chained : AreChained start segments
@@ -87,7 +87,8 @@ LastRead line start extents end last_read =
     ⊎ ((before : List Extent) × (e : Extent) × (extents ≡ before ++ e ∷ []) × ReadsTo line e last_read end)
 
 -- a segment was read from its file, after segments that end there
-pub record IsRead (d : Content) (line : List (ℕ × ℕ)) (interval end : ℕ) (e : Extent) (segment : Grown) : Type 0 where
+pub record IsSegmentRead (d : Content) (line : List (ℕ × ℕ)) (interval end : ℕ) (e : Extent)
+    (segment : Grown) : Type 0 where
   pub begins : e.base ≡ end
   pub is : extent_of segment ≡ e
   pub laid : IsLaidOut segment
@@ -105,7 +106,7 @@ whole_of f parts = record {
 }
 
 -- a log was opened: its parts, what the disk has of it, and what the disk read before
-pub record IsOpened (d d' : Content) (interval : ℕ) (parts : Parts) : Type 0 where
+pub record IsLogOpened (d d' : Content) (interval : ℕ) (parts : Parts) : Type 0 where
   pub is_observable : d'.is_observable ≡ d.is_observable
   pub segments : AreSegmentsOf parts.local_start parts.closed.items parts.active
   pub intervals : Each (λ (segment : Grown). segment.interval ≡ interval) (parts.closed.items ++ parts.active ∷ [])
@@ -113,7 +114,7 @@ pub record IsOpened (d d' : Content) (interval : ℕ) (parts : Parts) : Type 0 w
   pub fits : parts.incarnation < 2 ^ 32
   pub line : IsLine parts.line
   pub line_within : Each (λ (entry : ℕ × ℕ). entry.1 ≤ end_of parts.active) parts.line
-  pub has : HasLog d' parts.incarnation parts.local_start parts.closed.items parts.active parts.line
+  pub has : DiskHasLog d' parts.incarnation parts.local_start parts.closed.items parts.active parts.line
       (end_of parts.active)
   pub lists : IsTrue d.is_observable → Lists d.files (parts.closed.items ++ parts.active ∷ [])
   pub was : IsTrue d.is_observable → (o : Opened) × Opens d.files o × (whole_of d'.files parts ≡ raised o)

@@ -12,8 +12,8 @@ use Rattle.disk_model.specs.Call.{call_code}
 use Rattle.log_terms.specs.Log.{joined, from_offset, up_to, end_from}
 use Rattle.segment_file.specs.declared.taking.Cutout.{Cutout}
 use Rattle.segment_file.specs.Growing.{Grown, end_after, size_after, ending_by, BeginsSearch}
-use Rattle.segment_file.specs.Closed.{Whole, IsWhole, IsBadPlace}
-use Rattle.segment_file.specs.Run.{Fits, StopIs, IsRun, IsBadAt}
+use Rattle.segment_file.specs.Closed.{ClosedSegment, IsWholeSegment, IsBadPlace}
+use Rattle.segment_file.specs.Run.{Fits, StopIs, IsRunCutAt, IsBadAt}
 use Rattle.segment_file.specs.Segment.{IsSegment}
 use Rattle.log_steps.specs.Fronts.{Each}
 use Rattle.local_log.specs.Stored.{size_of, end_of}
@@ -53,9 +53,9 @@ passes limit size [] = false
 passes limit size (batch ∷ batches) = nat_lt limit (size + length batch)
 
 -- a run was cut out of bytes, of a piece that ends there, and the leader epochs give its batches' epochs
-pub record IsCut (line : List (ℕ × ℕ)) (bytes : List ℕ) (offset limit mark piece : ℕ) (out : RunOut) : Type 0 where
+pub record IsCutOut (line : List (ℕ × ℕ)) (bytes : List ℕ) (offset limit mark piece : ℕ) (out : RunOut) : Type 0 where
   pub cut : Cutout
-  pub is : IsRun bytes offset limit mark piece cut
+  pub is : IsRunCutAt bytes offset limit mark piece cut
   pub epochs : Each (IsOfLine line) (is.first ∷ is.others)
   pub part : out.bytes ≡ slice_range bytes cut.from cut.to
   pub next_is : out.next ≡ cut.next
@@ -64,20 +64,21 @@ pub record IsCut (line : List (ℕ × ℕ)) (bytes : List ℕ) (offset limit mar
 -- bytes have a run, and there is its first batch whose epoch the line doesn't give
 pub record IsStray (line : List (ℕ × ℕ)) (bytes : List ℕ) (offset limit mark piece at : ℕ) : Type 0 where
   pub cut : Cutout
-  pub is : IsRun bytes offset limit mark piece cut
+  pub is : IsRunCutAt bytes offset limit mark piece cut
   pub behind : ℕ
   pub strays : StraysAt line (is.first ∷ is.others) behind
   pub place : at ≡ cut.from + behind
 
 -- bytes that are at a position have no such run from this place on; those of an absent file have none at 0
-pub record HasNoRun (line : List (ℕ × ℕ)) (bytes : List ℕ) (offset limit mark piece position at : ℕ) : Type 0 where
+pub record HasNoLocalRun (line : List (ℕ × ℕ)) (bytes : List ℕ) (offset limit mark piece position at : ℕ) : Type 0 where
   pub found : ℕ
   pub bad : IsBadAt bytes offset limit (min mark piece) found ⊎ IsStray line bytes offset limit mark piece found
   pub place : (at ≡ position + found) ⊎ ((bytes ≡ []) × (at ≡ 0))
 
 -- the segment of this base and size is the front of bytes, and the leader epochs give its batches' epochs
-pub record IsFront (line : List (ℕ × ℕ)) (base size : ℕ) (bytes : List ℕ) (segment : Whole) : Type 0 where
-  pub whole : IsWhole segment
+pub record IsSegmentFront (line : List (ℕ × ℕ)) (base size : ℕ) (bytes : List ℕ)
+    (segment : ClosedSegment) : Type 0 where
+  pub whole : IsWholeSegment segment
   pub epochs : Each (IsOfLine line) whole.batches
   pub base_is : segment.base ≡ base
   pub long : size ≤ length bytes
@@ -105,7 +106,7 @@ FrontFails line base size bytes NoMemory = Unit {0}
 -- why nothing was cut out of bytes that are at a position of a segment's file
 abbrev pub CutFails : List (ℕ × ℕ) → ℕ → ℕ → List ℕ → ℕ → ℕ → ℕ → ℕ → ReadRefusal → Type 0
 CutFails line base position bytes offset limit mark piece (Damaged name at) =
-    (name ≡ file.Log base) × HasNoRun line bytes offset limit mark piece position at
+    (name ≡ file.Log base) × HasNoLocalRun line bytes offset limit mark piece position at
 CutFails line base position bytes offset limit mark piece DiskFault = ⊥
 CutFails line base position bytes offset limit mark piece NoMemory = Unit {0}
 
@@ -150,11 +151,11 @@ module _ {D : Type 0} where
     pub stop_is : StopIs out.stop out.next mark (piece_of log offset) (passes limit (length out.bytes) rest)
 
   -- what is answered for the first closed segment that ends past an offset
-  abbrev pub IsClosedFrom : Log D → ℕ → List ℕ → Option Whole → Type 0
+  abbrev pub IsClosedFrom : Log D → ℕ → List ℕ → Option ClosedSegment → Type 0
   IsClosedFrom log offset last_read None = first_past offset log.closed ≡ None
   IsClosedFrom log offset last_read (Some whole) =
       (segment : Grown) × (first_past offset log.closed ≡ Some segment)
-      × IsFront log.line segment.base (size_of segment) last_read whole
+      × IsSegmentFront log.line segment.base (size_of segment) last_read whole
 
   -- why it isn't read
   abbrev pub ClosedFails : Log D → ℕ → List ℕ → ReadRefusal → Type 0
@@ -165,7 +166,7 @@ module _ {D : Type 0} where
   ClosedFails log offset last_read NoMemory = Unit {0}
 
   -- the segment's batches are in the log, from its base to its last offset
-  pub record IsPartOf (log : Log D) (whole : Whole) : Type 0 where
+  pub record IsPartOf (log : Log D) (whole : ClosedSegment) : Type 0 where
     pub before : List (List ℕ)
     pub batches : List (List ℕ)
     pub after : List (List ℕ)
@@ -188,7 +189,7 @@ module _ {D : Type 0} where
     pub position : ℕ
     pub position_is : position ≡ position_of (segment_at log offset) offset
     pub search : BeginsSearch (segment_at log offset).base (segment_at log offset).batches offset position
-    pub bad : HasNoRun log.line last_read offset limit mark (piece_of log offset) position at
+    pub bad : HasNoLocalRun log.line last_read offset limit mark (piece_of log offset) position at
 
   -- why there is no run
   abbrev pub RunFails : Log D → ℕ → ℕ → ℕ → List ℕ → ReadRefusal → Type 0

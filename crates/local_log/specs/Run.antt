@@ -14,10 +14,10 @@ use Rattle.segment_file.specs.Index.{placed_from}
 use Rattle.segment_file.specs.Segment.{EpochsRise}
 use Rattle.log_steps.specs.Fronts.{Each}
 use Rattle.local_log.specs.Stored.{size_of}
-use Rattle.local_log.specs.Log.{Log, Becomes}
+use Rattle.local_log.specs.Log.{Log, LogBecomes}
 
 -- bytes that are batches, one after another from an offset on, whose epochs don't fall and aren't below the line's last
-pub record IsRun (end : ℕ) (line : List (ℕ × ℕ)) (run : List ℕ) : Type 0 where
+pub record IsRunFor (end : ℕ) (line : List (ℕ × ℕ)) (run : List ℕ) : Type 0 where
   pub batches : List (List ℕ)
   pub bytes : run ≡ joined batches
   pub some : batches ≢ []
@@ -88,8 +88,8 @@ module _ {D : Type 0} where
   -- a run was appended to a base, the log rolled or not, and these are its first offset and the last one of what was
   -- taken
   pub record IsAppendedTo (content : D → Content) (old base new : Log D) (run : List ℕ) (answer : ℕ × ℕ) : Type 0 where
-    pub is : IsRun old.end old.line run
-    pub becomes : Becomes content (with_first base is.batches) new
+    pub is : IsRunFor old.end old.line run
+    pub becomes : LogBecomes content (with_first base is.batches) new
     pub base_is : answer.0 ≡ old.end
     pub last_is : answer.1 + 1 ≡ new.end
 

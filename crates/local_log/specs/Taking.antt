@@ -7,11 +7,11 @@ use Rattle.record_batch.specs.declared.head.Head.{Head}
 use Rattle.segment_file.specs.Walk.{size_in}
 use Rattle.segment_file.specs.declared.placed.Placed.{Placed}
 use Rattle.segment_file.specs.Index.{placed_from}
-use Rattle.segment_file.specs.Growing.{Grown, AreLaid}
+use Rattle.segment_file.specs.Growing.{Grown, AreBatchesLaid}
 use Rattle.local_log.specs.declared.run.Asked.{Asked}
 use Rattle.local_log.specs.Stored.{size_of, end_of}
 use Rattle.local_log.specs.Listing.{IsLaidOut}
-use Rattle.local_log.specs.Run.{IsRun, taking, lined}
+use Rattle.local_log.specs.Run.{IsRunFor, taking, lined}
 
 -- what a head says of its batch
 abbrev pub head_asks : Head → Asked
@@ -41,7 +41,7 @@ grown_by segment batches = record segment { batches = segment.batches ++ placed_
 -- the front of a run is in the segment, and the line is that of the front
 pub record IsGathering (old : Grown) (line : List (ℕ × ℕ)) (run : List ℕ) (most at : ℕ) (segment : Grown)
     (newer : Option (List (ℕ × ℕ))) : Type 0 where
-  pub is : IsRun (end_of old) line run
+  pub is : IsRunFor (end_of old) line run
   pub front : List (List ℕ)
   pub rest : List (List ℕ)
   pub parts : is.batches ≡ front ++ rest
@@ -53,7 +53,7 @@ pub record IsGathering (old : Grown) (line : List (ℕ × ℕ)) (run : List ℕ)
 -- as many batches of a run as fit a segment are in it
 pub record IsTakenIn (old new : Grown) (line : List (ℕ × ℕ)) (run : List ℕ) (most : ℕ)
     (taken : ℕ × Option (List (ℕ × ℕ))) : Type 0 where
-  pub is : IsRun (end_of old) line run
+  pub is : IsRunFor (end_of old) line run
   pub segment_is : new ≡ grown_by old (taking most old.base (size_of old) is.batches)
   pub len_is : taken.0 ≡ length (joined (taking most old.base (size_of old) is.batches))
   pub line_is : line_or line taken.1 ≡ lined line (taking most old.base (size_of old) is.batches)
@@ -64,4 +64,4 @@ pub record IsTakenIn (old new : Grown) (line : List (ℕ × ℕ)) (run : List �
 pub record HasFront (old new : Grown) : Type 0 where
   pub rest : List Placed
   pub segment_is : new ≡ record old { batches = old.batches ++ rest }
-  pub laid : AreLaid old.base 0 (old.batches ++ rest)
+  pub laid : AreBatchesLaid old.base 0 (old.batches ++ rest)

@@ -4,8 +4,8 @@
 ghost use Rattle.std.specs.Prelude.{◌≡◌, ◌↔◌, ◌+◌, ◌<◌, ◌≤◌, ◌^◌, None, length, drop, IsTrue, IfSome};
 ghost use Rattle.record_batch.specs.Check.{AreChecked};
 ghost use Rattle.segment_file.specs.Walk.{size_in};
-ghost use Rattle.local_log.specs.Run.{IsRun};
-ghost use Rattle.local_log.specs.Admitting.{AreFrom, Meets, GoesOn, spot_behind, spot_after};
+ghost use Rattle.local_log.specs.Run.{IsRunFor};
+ghost use Rattle.local_log.specs.Admitting.{AreFrom, Meets, AdvancesTo, spot_behind, spot_after};
 
 use crate::log::LocalLog;
 use crate::run::head_at;
@@ -29,7 +29,7 @@ struct Spot {
 impl<D: Disk> LocalLog<D> {
     /// Whether the log may take bytes as a run.
     pub fn takes(&self, run: &[u8]) -> bool
-        ensures { IsTrue result ↔ IsRun self.now.end self.now.line run.now }
+        ensures { IsTrue result ↔ IsRunFor self.now.end self.now.line run.now }
     {
         run.len() > 0 && are_from(run, self.first_spot())
     }
@@ -38,7 +38,7 @@ impl<D: Disk> LocalLog<D> {
     /// records are read again.
     pub fn takes_checked(&self, run: &[u8]) -> bool
         requires { AreChecked run.now }
-        ensures { IsTrue result ↔ IsRun self.now.end self.now.line run.now }
+        ensures { IsTrue result ↔ IsRunFor self.now.end self.now.line run.now }
     {
         run.len() > 0 && checked_are_from(run, self.first_spot())
     }
@@ -74,7 +74,7 @@ fn are_from(run: &[u8], first: Spot) -> bool
 /// The spot after the batch that is at one and meets what is asked there.
 fn next_spot(run: &[u8], spot: Spot) -> Option<Spot>
     requires { spot.at < length run.now }
-    ensures some { IfSome result (λ next. GoesOn run.now spot next) }
+    ensures some { IfSome result (λ next. AdvancesTo run.now spot next) }
     ensures none { result ≡ None → AreFrom run.now spot → ⊥ }
 {
     let Found::Batch(head) = walk(run, spot.at) else {
@@ -107,7 +107,7 @@ fn checked_are_from(run: &[u8], first: Spot) -> bool
 fn next_checked(run: &[u8], spot: Spot) -> Option<Spot>
     requires inside { spot.at < length run.now }
     requires checked { AreChecked (drop spot.at run.now) }
-    ensures some { IfSome result (λ next. GoesOn run.now spot next) }
+    ensures some { IfSome result (λ next. AdvancesTo run.now spot next) }
     ensures rest { IfSome result (λ next. AreChecked (drop next.at run.now)) }
     ensures none { result ≡ None → AreFrom run.now spot → ⊥ }
 {

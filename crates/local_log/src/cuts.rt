@@ -15,8 +15,8 @@ ghost use Rattle.epoch_line.specs.Line.{cut_end};
 ghost use Rattle.log_manifest.specs.Spelling.{manifest_bytes};
 ghost use Rattle.log_steps.specs.Opens.{Opens};
 ghost use Rattle.local_log.specs.Listing.{front_to, manifest_of};
-ghost use Rattle.local_log.specs.Log.{Becomes};
-ghost use Rattle.local_log.specs.Cutting.{closed_by, open_by, cut_point, shortened, settled, cut, restarted, cut_at, IsLeftUpTo, all_of, opened_to, Cutting, OpensEither, Breaks, OpensAs, OpensAsOr, LeavesBeforeOrNow, StaysOrBreaks};
+ghost use Rattle.local_log.specs.Log.{LogBecomes};
+ghost use Rattle.local_log.specs.Cutting.{closed_by, open_by, cut_point, shortened, settled, cut, restarted, cut_at, IsLeftUpTo, all_of, opened_to, Cutting, OpensEither, LogBreaks, OpensAs, OpensAsOr, LeavesBeforeOrNow, StaysOrBreaks};
 
 use crate::log::{LocalLog, refused};
 use crate::seeking::end_by;
@@ -32,7 +32,7 @@ impl<D: Disk> LocalLog<D> {
     pub fn cut_to(&mut self, end: u64) -> Result<(), Trouble>
         requires unbroken { self.old.broken ≡ false }
         requires within { end ≤ self.old.end }
-        ensures ok { OnOk result (Becomes D.content (cut_at self.old end) self.new) }
+        ensures ok { OnOk result (LogBecomes D.content (cut_at self.old end) self.new) }
         ensures told { IsTrue (D.content self.old.disk).is_observable → self.old.local_start ≤ end
             → OnOk result (IsLeftUpTo self.old end self.new) }
         ensures durable { OnOk result ((c : Files) → Image (D.content self.new.disk) c
@@ -48,7 +48,7 @@ impl<D: Disk> LocalLog<D> {
         ensures either { LeavesBeforeOrNow (D.content self.old.disk) (D.content self.new.disk) }
 
         ensures others { OnErr result (IsErrOf result fault.NoMemory ⊎ IsErrOf result fault.Failed) }
-        ensures no_memory { IsErrOf result fault.NoMemory → Becomes D.content self.old self.new }
+        ensures no_memory { IsErrOf result fault.NoMemory → LogBecomes D.content self.old self.new }
         ensures no_image { IsErrOf result fault.NoMemory → (c : Files) → Image (D.content self.new.disk) c
             → Image (D.content self.old.disk) c }
         ensures broken { IsErrOf result fault.Failed → self.new.broken ≡ true }
@@ -72,7 +72,7 @@ impl<D: Disk> LocalLog<D> {
     fn cut_before(&mut self, end: u64) -> Result<(), Trouble>
         requires unbroken { self.old.broken ≡ false }
         requires below { end < self.old.local_start }
-        ensures ok { OnOk result (Becomes D.content (restarted self.old end (cut_end self.old.line end)) self.new) }
+        ensures ok { OnOk result (LogBecomes D.content (restarted self.old end (cut_end self.old.line end)) self.new) }
         ensures durable { OnOk result ((c : Files) → Image (D.content self.new.disk) c
             → Opens c (all_of (restarted self.old end (cut_end self.old.line end)))) }
         ensures any_moment { LeavesOnly (D.content self.old.disk) (D.content self.new.disk)
@@ -97,7 +97,7 @@ impl<D: Disk> LocalLog<D> {
         requires unbroken { self.old.broken ≡ false }
         requires from { self.old.local_start ≤ end }
         requires within { end ≤ self.old.end }
-        ensures ok { OnOk result (Becomes D.content
+        ensures ok { OnOk result (LogBecomes D.content
             (cut self.old (cut_point end self.old.closed self.old.active)) self.new) }
         ensures told { IsTrue (D.content self.old.disk).is_observable → OnOk result (IsLeftUpTo self.old end self.new) }
         ensures durable { OnOk result ((c : Files) → Image (D.content self.new.disk) c
@@ -121,7 +121,7 @@ impl<D: Disk> LocalLog<D> {
     /// Makes room for so many calls of the disk.
     pub(crate) fn make_room(&mut self, calls: u32) -> Result<(), AllocError>
         requires { self.old.broken ≡ false }
-        ensures log { Becomes D.content self.old self.new }
+        ensures log { LogBecomes D.content self.old self.new }
         ensures same { self.new ≡ record self.old { disk = self.new.disk } }
         ensures keeps { Keeps (D.content self.old.disk) (D.content self.new.disk) }
         ensures room { OnOk result (calls ≤ D.spare self.new.disk) }
@@ -142,7 +142,7 @@ impl<D: Disk> LocalLog<D> {
         requires bytes { bytes.now ≡ manifest_bytes (manifest_of self.old.incarnation self.old.local_start
             (closed_by end self.old.closed) (front_to end (open_by end self.old.closed self.old.active))
             (cut_end self.old.line end)) }
-        ensures ok { OnOk result (Becomes D.content (settled self.old end) self.new) }
+        ensures ok { OnOk result (LogBecomes D.content (settled self.old end) self.new) }
         ensures durable { OnOk result ((c : Files) → Image (D.content self.new.disk) c
             → Opens c (opened_to self.old end)) }
         ensures any_moment { LeavesOnly (D.content self.old.disk) (D.content self.new.disk) (Cutting self.old end) }
@@ -152,10 +152,10 @@ impl<D: Disk> LocalLog<D> {
         // So it opens as before the call, or as after it, whatever the answer is.
         ensures either { LeavesBeforeOrNow (D.content self.old.disk) (D.content self.new.disk) }
         ensures others { OnErr result (IsErrOf result fault.NoMemory ⊎ IsErrOf result fault.Failed) }
-        ensures no_memory { IsErrOf result fault.NoMemory → Becomes D.content self.old self.new }
+        ensures no_memory { IsErrOf result fault.NoMemory → LogBecomes D.content self.old self.new }
         ensures no_image { IsErrOf result fault.NoMemory → (c : Files) → Image (D.content self.new.disk) c
             → Image (D.content self.old.disk) c }
-        ensures broken { IsErrOf result fault.Failed → Breaks D.content self.old self.new }
+        ensures broken { IsErrOf result fault.Failed → LogBreaks D.content self.old self.new }
         ensures room { OnOk result (D.spare self.new.disk + 1 ≡ D.spare self.old.disk) }
         ensures is_observable { (D.content self.new.disk).is_observable ≡ (D.content self.old.disk).is_observable }
         ensures control { Runs (fate_of result) (D.control self.old.disk) (D.control self.new.disk) }
@@ -178,10 +178,10 @@ impl<D: Disk> LocalLog<D> {
         requires within { end ≤ self.old.end }
         requires exact { cut_point end self.old.closed self.old.active ≡ end }
         requires room { length self.old.closed + 1 ≤ D.spare self.old.disk }
-        ensures ok { OnOk result (Becomes D.content (shortened self.old end) self.new) }
+        ensures ok { OnOk result (LogBecomes D.content (shortened self.old end) self.new) }
         ensures any_moment { LeavesOnly (D.content self.old.disk) (D.content self.new.disk)
             (OpensAs (D.content self.old.disk)) }
-        ensures broken { OnErr result (Breaks D.content self.old self.new) }
+        ensures broken { OnErr result (LogBreaks D.content self.old self.new) }
         ensures is_observable { (D.content self.new.disk).is_observable ≡ (D.content self.old.disk).is_observable }
         ensures control { Runs (failing result) (D.control self.old.disk) (D.control self.new.disk) }
     {
@@ -214,7 +214,7 @@ impl<D: Disk> LocalLog<D> {
         requires bytes { bytes.now ≡ manifest_bytes (manifest_of self.old.incarnation self.old.local_start
             (closed_by end self.old.closed) (front_to end (open_by end self.old.closed self.old.active))
             (cut_end self.old.line end)) }
-        ensures ok { OnOk result (Becomes D.content (cut self.old end) self.new) }
+        ensures ok { OnOk result (LogBecomes D.content (cut self.old end) self.new) }
         ensures durable { OnOk result ((c : Files) → Image (D.content self.new.disk) c
             → Opens c (opened_to self.old end)) }
         ensures any_moment { LeavesOnly (D.content self.old.disk) (D.content self.new.disk) (Cutting self.old end) }
@@ -237,7 +237,7 @@ impl<D: Disk> LocalLog<D> {
         requires from { self.old.local_start ≤ end }
         requires within { end ≤ self.old.end }
         requires exact { cut_point end self.old.closed self.old.active ≡ end }
-        ensures ok { OnOk result (Becomes D.content (cut self.old end) self.new) }
+        ensures ok { OnOk result (LogBecomes D.content (cut self.old end) self.new) }
         ensures durable { OnOk result ((c : Files) → Image (D.content self.new.disk) c
             → Opens c (opened_to self.old end)) }
         ensures any_moment { LeavesOnly (D.content self.old.disk) (D.content self.new.disk) (Cutting self.old end) }

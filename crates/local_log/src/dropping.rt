@@ -13,7 +13,7 @@ ghost use Rattle.epoch_line.specs.Line.{cut_end};
 ghost use Rattle.log_manifest.specs.Spelling.{manifest_bytes};
 ghost use Rattle.log_steps.specs.Opens.{Opens};
 ghost use Rattle.local_log.specs.Listing.{front_to, manifest_of};
-ghost use Rattle.local_log.specs.Log.{Becomes, flushed_log};
+ghost use Rattle.local_log.specs.Log.{LogBecomes, flushed_log};
 ghost use Rattle.local_log.specs.Cutting.{closed_by, open_by, OpensAsOr, LeavesBeforeOrNow, StaysOrBreaks};
 ghost use Rattle.local_log.specs.Dropping.{rest_of, start_behind, IsFirstFlushed, SpansFirst, dropped, OpensDropped};
 
@@ -31,7 +31,7 @@ impl<D: Disk> LocalLog<D> {
         requires unbroken { self.old.broken ≡ false }
         requires first { IsFirstFlushed self.old.flushed_end self.old.closed }
         ensures answer { IfOk result (λ answer. SpansFirst self.old.closed answer) }
-        ensures ok { OnOk result (Becomes D.content (dropped self.old) self.new) }
+        ensures ok { OnOk result (LogBecomes D.content (dropped self.old) self.new) }
         ensures durable { OnOk result ((c : Files) → Image (D.content self.new.disk) c
             → Opens c (flushed_log (dropped self.old))) }
 
@@ -44,7 +44,7 @@ impl<D: Disk> LocalLog<D> {
         ensures either { LeavesBeforeOrNow (D.content self.old.disk) (D.content self.new.disk) }
 
         ensures others { OnErr result (IsErrOf result fault.NoMemory ⊎ IsErrOf result fault.Failed) }
-        ensures no_memory { IsErrOf result fault.NoMemory → Becomes D.content self.old self.new }
+        ensures no_memory { IsErrOf result fault.NoMemory → LogBecomes D.content self.old self.new }
         ensures no_image { IsErrOf result fault.NoMemory → (c : Files) → Image (D.content self.new.disk) c
             → Image (D.content self.old.disk) c }
         ensures broken { IsErrOf result fault.Failed → self.new.broken ≡ true }
@@ -99,7 +99,7 @@ impl<D: Disk> LocalLog<D> {
             (front_to self.old.flushed_end (open_by self.old.flushed_end (rest_of self.old.closed) self.old.active))
             (cut_end self.old.line (self.old.flushed_end + 1))) }
         ensures answer { IfOk result (λ answer. SpansFirst self.old.closed answer) }
-        ensures ok { OnOk result (Becomes D.content (dropped self.old) self.new) }
+        ensures ok { OnOk result (LogBecomes D.content (dropped self.old) self.new) }
         ensures durable { OnOk result ((c : Files) → Image (D.content self.new.disk) c
             → Opens c (flushed_log (dropped self.old))) }
         ensures any_moment { LeavesOnly (D.content self.old.disk) (D.content self.new.disk) (OpensDropped self.old) }

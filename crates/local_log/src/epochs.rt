@@ -8,7 +8,7 @@ ghost use Rattle.std.specs.Int.{w32, w64, cast_unsigned};
 ghost use Rattle.log_terms.specs.Line.{epoch_at};
 ghost use Rattle.segment_file.specs.Walk.{size_in};
 ghost use Rattle.log_steps.specs.Fronts.{Each};
-ghost use Rattle.local_log.specs.Epochs.{IsOfLine, StraysAt, IsRow, Gives};
+ghost use Rattle.local_log.specs.Epochs.{IsOfLine, StraysAt, IsRow, HasEpoch};
 
 use crate::run::head_at;
 use epoch_line::Line;
@@ -61,8 +61,8 @@ fn gives(stretch: Stretch, head: &Head) -> bool
 
 /// The stretch that a head's base offset lies in, which often is the last one.
 fn stretch_at(line: &Line, last: Stretch, head: &Head) -> Stretch
-    requires { Gives line.now last }
-    ensures gives { Gives line.now result }
+    requires { HasEpoch line.now last }
+    ensures gives { HasEpoch line.now result }
     ensures here { result.epoch ≡ epoch_at line.now (cast_unsigned w64 head.now.base_offset) }
 {
     let offset = head.base_offset.cast_unsigned();
@@ -75,7 +75,7 @@ fn stretch_at(line: &Line, last: Stretch, head: &Head) -> Stretch
 
 /// The stretch from an offset on.
 fn stretch_from(line: &Line, offset: u64) -> Stretch
-    ensures gives { Gives line.now result }
+    ensures gives { HasEpoch line.now result }
     ensures here { result.epoch ≡ epoch_at line.now offset }
 {
     // Called for its clause `line`, by which the proof knows that the entries rise.

@@ -22,14 +22,14 @@ ghost use Rattle.local_log.specs.declared.refusal.RollRefusal.TheVariants as rol
 ghost use Rattle.std.specs.Option.{ForSome};
 ghost use Rattle.log_steps.specs.Fronts.{Each};
 ghost use Rattle.local_log.specs.Stored.{size_of};
-ghost use Rattle.local_log.specs.Run.{IsRun, is_due, rolled, IsAppended, IsAppendedTo};
+ghost use Rattle.local_log.specs.Run.{IsRunFor, is_due, rolled, IsAppended, IsAppendedTo};
 ghost use Rattle.local_log.specs.Taking.{line_or};
 ghost use Rattle.local_log.specs.Coheres.{Coheres};
 ghost use Rattle.local_log.specs.Cutting.{OpensAs, OpensAsOr, LeavesBeforeOrNow};
 ghost use Rattle.local_log.specs.Refusing.{IsSoundCause, IsOfManifest};
-ghost use Rattle.local_log.specs.Opening.{IsOpenLog, IsOf, Lists, HoldsLast, OpenFails, OpenFailsIn};
+ghost use Rattle.local_log.specs.Opening.{IsOpenLog, IsLogOf, Lists, HoldsLast, OpenFails, OpenFailsIn};
 ghost use Rattle.local_log.specs.Cutting.{whole_log};
-ghost use Rattle.local_log.specs.Log.{IsFirst, committed, Committing, AreSettings, Becomes, OpensFlushed, flushed_log, Creating, first_log};
+ghost use Rattle.local_log.specs.Log.{IsNewLog, committed, Committing, AreSettings, LogBecomes, OpensFlushed, flushed_log, Creating, first_log};
 
 use crate::listing::listing;
 use crate::opening::open_log;
@@ -67,11 +67,11 @@ impl<D: Disk> Model for LocalLog<D> {
 
     ghost Value = { Log D };
 
-    ghost use Rattle.local_log.specs.Inside.{log_in, IsSound};
+    ghost use Rattle.local_log.specs.Inside.{log_in, IsLogSound};
 
     ghost view = { log_in D.content };
 
-    ghost invariant = { IsSound D.content };
+    ghost invariant = { IsLogSound D.content };
 }
 
 impl<D: Disk> LocalLog<D> {
@@ -83,7 +83,7 @@ impl<D: Disk> LocalLog<D> {
     ) -> Result<LocalLog<D>, (D, CreateRefusal)>
         requires settings { AreSettings settings }
         requires empty { IsTrue (D.content disk).is_observable → (n : FileName) → (D.content disk).files n ≡ None }
-        ensures log { IfOk result (λ log. IsFirst settings log) }
+        ensures log { IfOk result (λ log. IsNewLog settings log) }
         ensures batches { IfOk result (λ log. IsTrue (D.content disk).is_observable → log.batches ≡ []) }
         ensures is_observable { IfOk result
             (λ log. (D.content log.disk).is_observable ≡ (D.content disk).is_observable) }
@@ -145,7 +145,7 @@ impl<D: Disk> LocalLog<D> {
             (λ log. (D.content log.disk).is_observable ≡ (D.content disk).is_observable) }
         ensures tells_err { IfErr result (λ e. (D.content e.0).is_observable ≡ (D.content disk).is_observable) }
         ensures opened { IfOk result (λ log. IsTrue (D.content disk).is_observable
-            → (o : Opened) × Opens (D.content disk).files o × IsOf o log) }
+            → (o : Opened) × Opens (D.content disk).files o × IsLogOf o log) }
         ensures segments { IfOk result (λ log. IsTrue (D.content disk).is_observable
             → Lists (D.content disk).files (log.closed ++ log.active ∷ [])) }
         ensures durable { IfOk result (λ log. (c : Files) → Image (D.content log.disk) c → Opens c (whole_log log)) }
@@ -238,7 +238,7 @@ impl<D: Disk> LocalLog<D> {
     /// `flush`. `takes` tests whether the log can take `run`. `AppendRefusal` has the causes of a failure.
     pub fn append(&mut self, run: &[u8]) -> Result<(u64, u64), AppendRefusal>
         requires unbroken { self.old.broken ≡ false }
-        requires run { IsRun self.old.end self.old.line run.now }
+        requires run { IsRunFor self.old.end self.old.line run.now }
         ensures ok { IfOk result (λ answer. IsAppended D.content self.old self.new run.now answer) }
         ensures some { IfOk result (λ answer. answer.0 ≤ answer.1) }
 
@@ -257,9 +257,9 @@ impl<D: Disk> LocalLog<D> {
             ⊎ (IsErrOf result append.NoMemory ⊎ IsErrOf result append.DiskFault)) }
         ensures unchanged { (IsErrOf result append.LastOffset ⊎ IsErrOf result append.TooManySegments)
             → self.new ≡ self.old }
-        ensures no_memory { IsErrOf result append.NoMemory → Becomes D.content self.old self.new }
+        ensures no_memory { IsErrOf result append.NoMemory → LogBecomes D.content self.old self.new }
         ensures broken { IsErrOf result append.DiskFault
-            → Becomes D.content (record self.old { broken = true }) self.new }
+            → LogBecomes D.content (record self.old { broken = true }) self.new }
         ensures control { Lasts (D.control self.old.disk) (D.control self.new.disk) }
         ensures cause { IsErrOf result append.DiskFault
             → Rose (D.control self.old.disk).faults (D.control self.new.disk).faults }
@@ -287,7 +287,7 @@ impl<D: Disk> LocalLog<D> {
     /// Appends to the open segment.
     fn append_here(&mut self, run: &[u8]) -> Result<(u64, u64), Trouble>
         requires unbroken { self.old.broken ≡ false }
-        requires run { IsRun self.old.end self.old.line run.now }
+        requires run { IsRunFor self.old.end self.old.line run.now }
         requires fits { is_due self.old run.now ≡ false }
         requires low { last_of run.now < 2 ^ 62 }
         ensures ok { IfOk result (λ answer. IsAppendedTo D.content self.old self.old self.new run.now answer) }
@@ -301,8 +301,9 @@ impl<D: Disk> LocalLog<D> {
         ensures opens { LeavesOnly (D.content self.old.disk) (D.content self.new.disk)
             (OpensAs (D.content self.old.disk)) }
 
-        ensures no_memory { IsErrOf result fault.NoMemory → Becomes D.content self.old self.new }
-        ensures broken { IsErrOf result fault.Failed → Becomes D.content (record self.old { broken = true }) self.new }
+        ensures no_memory { IsErrOf result fault.NoMemory → LogBecomes D.content self.old self.new }
+        ensures broken { IsErrOf result fault.Failed
+            → LogBecomes D.content (record self.old { broken = true }) self.new }
         ensures control { Runs (fate_of result) (D.control self.old.disk) (D.control self.new.disk) }
     {
         let end = self.active.end();
@@ -323,7 +324,7 @@ impl<D: Disk> LocalLog<D> {
     /// Closes the open segment and appends to a new one. The closing one is synced before anything is appended.
     fn append_behind(&mut self, run: &[u8]) -> Result<(u64, u64), Trouble>
         requires unbroken { self.old.broken ≡ false }
-        requires run { IsRun self.old.end self.old.line run.now }
+        requires run { IsRunFor self.old.end self.old.line run.now }
         requires some { 0 < size_of self.old.active }
         requires few { length self.old.closed < 4095 }
         requires low { last_of run.now < 2 ^ 62 }
@@ -338,8 +339,9 @@ impl<D: Disk> LocalLog<D> {
         ensures opens { LeavesOnly (D.content self.old.disk) (D.content self.new.disk)
             (OpensAs (D.content self.old.disk)) }
 
-        ensures no_memory { IsErrOf result fault.NoMemory → Becomes D.content self.old self.new }
-        ensures broken { IsErrOf result fault.Failed → Becomes D.content (record self.old { broken = true }) self.new }
+        ensures no_memory { IsErrOf result fault.NoMemory → LogBecomes D.content self.old self.new }
+        ensures broken { IsErrOf result fault.Failed
+            → LogBecomes D.content (record self.old { broken = true }) self.new }
         ensures control { Runs (fate_of result) (D.control self.old.disk) (D.control self.new.disk) }
     {
         self.closed.reserve(1)?;
@@ -373,7 +375,7 @@ impl<D: Disk> LocalLog<D> {
     pub fn roll(&mut self) -> Result<u64, RollRefusal>
         requires { self.old.broken ≡ false }
         ensures base { IfOk result (λ base. base ≡ self.old.end) }
-        ensures ok { OnOk result (Becomes D.content (rolled self.old) self.new) }
+        ensures ok { OnOk result (LogBecomes D.content (rolled self.old) self.new) }
 
         // A crash at any moment of the call leaves the flushed log of before.
         ensures any_moment { LeavesOnly (D.content self.old.disk) (D.content self.new.disk)
@@ -390,9 +392,9 @@ impl<D: Disk> LocalLog<D> {
             ⊎ (IsErrOf result roll.NoMemory ⊎ IsErrOf result roll.DiskFault)) }
         ensures unchanged { (IsErrOf result roll.EmptySegment ⊎ IsErrOf result roll.TooManySegments)
             → self.new ≡ self.old }
-        ensures no_memory { IsErrOf result roll.NoMemory → Becomes D.content self.old self.new }
+        ensures no_memory { IsErrOf result roll.NoMemory → LogBecomes D.content self.old self.new }
         ensures broken { IsErrOf result roll.DiskFault
-            → Becomes D.content (record self.old { broken = true }) self.new }
+            → LogBecomes D.content (record self.old { broken = true }) self.new }
         ensures control { Lasts (D.control self.old.disk) (D.control self.new.disk) }
         ensures cause { IsErrOf result roll.DiskFault
             → Rose (D.control self.old.disk).faults (D.control self.new.disk).faults }
@@ -429,7 +431,7 @@ impl<D: Disk> LocalLog<D> {
     pub fn flush(&mut self) -> Result<u64, Trouble>
         requires { self.old.broken ≡ false }
         ensures end { IfOk result (λ end. end ≡ self.old.end) }
-        ensures ok { OnOk result (Becomes D.content (committed self.old self.old.line) self.new) }
+        ensures ok { OnOk result (LogBecomes D.content (committed self.old self.old.line) self.new) }
         ensures others { OnErr result (IsErrOf result fault.NoMemory ⊎ IsErrOf result fault.Failed) }
         ensures durable { OnOk result ((c : Files) → Image (D.content self.new.disk) c
             → Opens c (flushed_log self.new)) }
@@ -443,10 +445,11 @@ impl<D: Disk> LocalLog<D> {
         // So it opens as before the call, or as after it, whatever the answer is.
         ensures either { LeavesBeforeOrNow (D.content self.old.disk) (D.content self.new.disk) }
 
-        ensures no_memory { IsErrOf result fault.NoMemory → Becomes D.content self.old self.new }
+        ensures no_memory { IsErrOf result fault.NoMemory → LogBecomes D.content self.old self.new }
         ensures no_image { IsErrOf result fault.NoMemory → (c : Files) → Image (D.content self.new.disk) c
             → Image (D.content self.old.disk) c }
-        ensures broken { IsErrOf result fault.Failed → Becomes D.content (record self.old { broken = true }) self.new }
+        ensures broken { IsErrOf result fault.Failed
+            → LogBecomes D.content (record self.old { broken = true }) self.new }
         ensures control { Lasts (D.control self.old.disk) (D.control self.new.disk) }
         ensures cause { IsErrOf result fault.Failed
             → Rose (D.control self.old.disk).faults (D.control self.new.disk).faults }
@@ -466,7 +469,7 @@ impl<D: Disk> LocalLog<D> {
         requires fits { epoch < 2 ^ 31 }
         requires above { ForSome (last_epoch self.old.line) (λ last. last < epoch) }
         ensures end { IfOk result (λ end. end ≡ self.old.end) }
-        ensures ok { OnOk result (Becomes D.content
+        ensures ok { OnOk result (LogBecomes D.content
             (committed self.old (assign self.old.line epoch self.old.end)) self.new) }
         ensures others { OnErr result (IsErrOf result fault.NoMemory ⊎ IsErrOf result fault.Failed) }
         ensures durable { OnOk result ((c : Files) → Image (D.content self.new.disk) c
@@ -482,10 +485,11 @@ impl<D: Disk> LocalLog<D> {
         // So it opens as before the call, or as after it, whatever the answer is.
         ensures either { LeavesBeforeOrNow (D.content self.old.disk) (D.content self.new.disk) }
 
-        ensures no_memory { IsErrOf result fault.NoMemory → Becomes D.content self.old self.new }
+        ensures no_memory { IsErrOf result fault.NoMemory → LogBecomes D.content self.old self.new }
         ensures no_image { IsErrOf result fault.NoMemory → (c : Files) → Image (D.content self.new.disk) c
             → Image (D.content self.old.disk) c }
-        ensures broken { IsErrOf result fault.Failed → Becomes D.content (record self.old { broken = true }) self.new }
+        ensures broken { IsErrOf result fault.Failed
+            → LogBecomes D.content (record self.old { broken = true }) self.new }
         ensures control { Lasts (D.control self.old.disk) (D.control self.new.disk) }
         ensures cause { IsErrOf result fault.Failed
             → Rose (D.control self.old.disk).faults (D.control self.new.disk).faults }
@@ -506,7 +510,7 @@ impl<D: Disk> LocalLog<D> {
         requires same { cut_end line self.old.end ≡ cut_end self.old.line self.old.end }
         requires within { Each (λ (entry : ℕ × ℕ). entry.1 ≤ self.old.end) line }
         ensures end { IfOk result (λ end. end ≡ self.old.end) }
-        ensures ok { OnOk result (Becomes D.content (committed self.old line) self.new) }
+        ensures ok { OnOk result (LogBecomes D.content (committed self.old line) self.new) }
         ensures others { OnErr result (IsErrOf result fault.NoMemory ⊎ IsErrOf result fault.Failed) }
         ensures durable { OnOk result ((c : Files) → Image (D.content self.new.disk) c
             → Opens c (flushed_log self.new)) }
@@ -521,10 +525,11 @@ impl<D: Disk> LocalLog<D> {
         // So it opens as before the call, or as after it, whatever the answer is.
         ensures either { LeavesBeforeOrNow (D.content self.old.disk) (D.content self.new.disk) }
 
-        ensures no_memory { IsErrOf result fault.NoMemory → Becomes D.content self.old self.new }
+        ensures no_memory { IsErrOf result fault.NoMemory → LogBecomes D.content self.old self.new }
         ensures no_image { IsErrOf result fault.NoMemory → (c : Files) → Image (D.content self.new.disk) c
             → Image (D.content self.old.disk) c }
-        ensures broken { IsErrOf result fault.Failed → Becomes D.content (record self.old { broken = true }) self.new }
+        ensures broken { IsErrOf result fault.Failed
+            → LogBecomes D.content (record self.old { broken = true }) self.new }
         ensures control { Runs (fate_of result) (D.control self.old.disk) (D.control self.new.disk) }
     {
         self.disk.reserve(1)?;

@@ -7,7 +7,7 @@
 ghost use Rattle.std.specs.Prelude.{◌≡◌, ◌≢◌, ◌+◌, ◌*◌, ◌<◌, ◌≤◌, ◌^◌, ◌++◌, ◌∷◌, ℕ, List, [], length, Some, None, Ok, IfOk, IfErr, OnOk, IsErrOf, IsTrue};
 ghost use Rattle.tier_base.specs.Counts.{counted, Rose};
 ghost use Rattle.tier_base.specs.Device.{Lasts};
-ghost use Rattle.tier_base.specs.Told.{Names, bytes_in};
+ghost use Rattle.tier_base.specs.Told.{NamesAllHeld, bytes_in};
 ghost use Rattle.disk_model.specs.Content.{Keeps, LeavesOnly};
 ghost use Rattle.epoch_line.specs.Line.{cut_end};
 ghost use Rattle.log_manifest.specs.Rules.{IsManifest};
@@ -20,7 +20,7 @@ ghost use Rattle.local_log.specs.Refusing.{IsDry, IsSoundCause, IsOfManifest};
 ghost use Rattle.local_log.specs.Stored.{end_of, chain_end};
 ghost use Rattle.local_log.specs.Parsing.{IsParsed, ParseFails};
 ghost use Rattle.local_log.specs.Opening.{HoldsLast, SegmentFails, ReadsTo, ReadFails, ReadFailsIn, OpenFails, OpenFailsIn};
-ghost use Rattle.local_log.specs.Planning.{IsPlan, IsPlanOf, PlanFails, FileFails, StudyFails, AreRead, IsRead, IsOpened};
+ghost use Rattle.local_log.specs.Planning.{IsPlan, IsPlanOf, PlanFails, FileFails, StudyFails, AreSegmentsRead, IsSegmentRead, IsLogOpened};
 
 use crate::parsing::{damaged, parse};
 use crate::refusal::OpenRefusal;
@@ -57,7 +57,7 @@ pub(crate) fn open_log<D: Disk>(
     disk: &mut D,
     interval: u32,
 ) -> Result<Parts, OpenRefusal>
-    ensures opened { IfOk result (λ parts. IsOpened (D.content disk.old) (D.content disk.new) interval parts) }
+    ensures opened { IfOk result (λ parts. IsLogOpened (D.content disk.old) (D.content disk.new) interval parts) }
     ensures is_observable { (D.content disk.new).is_observable ≡ (D.content disk.old).is_observable }
     ensures leaves { Reopens (D.content disk.old)
         → LeavesOnly (D.content disk.old) (D.content disk.new) (Opening (D.content disk.old)) }
@@ -92,7 +92,7 @@ fn study<D: Disk>(alloc: Global, disk: &mut D) -> Result<(Plan, Row<FileName>), 
     ensures content { Keeps (D.content disk.old) (D.content disk.new) }
     ensures plan { IfOk result (λ x. IsPlanOf (D.content disk.old) x.0) }
     ensures names { IfOk result (λ x. IsTrue (D.content disk.old).is_observable
-        → Names (D.content disk.old).files x.1) }
+        → NamesAllHeld (D.content disk.old).files x.1) }
     ensures room { IfOk result (λ x. 2 * length x.0.manifest.segments + length x.1 ≤ D.spare disk.new) }
     ensures err { IfErr result (λ e. StudyFails (D.control disk.new).last_read e) }
     ensures place { IfErr result (λ e. IsTrue (D.content disk.old).is_observable
@@ -223,7 +223,7 @@ fn read_segments<D: Disk>(
     requires { IsManifest manifest.now }
     ensures content { Keeps (D.content disk.old) (D.content disk.new) }
     ensures read { IfOk result
-        (λ segments. AreRead (D.content disk.old) manifest.now.line interval manifest.now.local_start
+        (λ segments. AreSegmentsRead (D.content disk.old) manifest.now.line interval manifest.now.local_start
         manifest.now.segments segments.items) }
     ensures err { IfErr result (λ e. ReadFails manifest.now (D.control disk.new).last_read e) }
     ensures place { IfErr result (λ e. IsTrue (D.content disk.old).is_observable
@@ -260,7 +260,7 @@ fn read_segment<D: Disk>(
     requires base { extent.base ≤ 2 ^ 62 }
     requires small { extent.len < 2 ^ 31 }
     ensures content { Keeps (D.content disk.old) (D.content disk.new) }
-    ensures read { IfOk result (λ segment. IsRead (D.content disk.old) line.now interval end extent segment) }
+    ensures read { IfOk result (λ segment. IsSegmentRead (D.content disk.old) line.now interval end extent segment) }
     ensures last_read { IfOk result
         (λ segment. ReadsTo line.now extent (D.control disk.new).last_read (end_of segment)) }
     ensures early { extent.base ≢ end → (D.control disk.new).last_read ≡ (D.control disk.old).last_read }

@@ -3,7 +3,7 @@
 ghost use Rattle.std.specs.Prelude.{◌≡◌, ◌↔◌, ◌+◌, ◌<◌, ◌≤◌, ◌^◌, None, length, IsTrue, IfOk, IfErr, IfSome};
 ghost use Rattle.tier_base.specs.declared.plain.FileName.TheVariants as file;
 ghost use Rattle.local_log.specs.declared.refusal.OpenRefusal.TheVariants.{Damaged};
-ghost use Rattle.local_log.specs.Parsing.{MayStand, StandsNext, NothingNext, IsParsed, ParseFails};
+ghost use Rattle.local_log.specs.Parsing.{MayStand, StandsNext, NoBatchNext, IsParsed, ParseFails};
 
 use crate::refusal::OpenRefusal;
 use disk_model::FileName;
@@ -58,7 +58,7 @@ fn next_head(bytes: &[u8], at: usize, end: u64, base: u64, line: &Line) -> Optio
     requires from_base { base ≤ end }
     requires end_fits { end ≤ 2 ^ 62 }
     ensures some { IfSome result (λ head. StandsNext line.now base bytes.now at end head) }
-    ensures none { result ≡ None → NothingNext line.now base bytes.now at end }
+    ensures none { result ≡ None → NoBatchNext line.now base bytes.now at end }
 {
     let Found::Batch(head) = walk(bytes, at) else {
         return None;

@@ -15,8 +15,8 @@ ghost use Rattle.tier_base.specs.Told.{bytes_in};
 ghost use Rattle.disk_model.specs.declared.call.DiskCall.TheVariants.{Read};
 ghost use Rattle.disk_model.specs.Content.{LeavesOnly, Keeps, part_of};
 ghost use Rattle.local_log.specs.declared.refusal.ReadRefusal.TheVariants.{DiskFault};
-ghost use Rattle.local_log.specs.Log.{Becomes, OpensFlushed};
-ghost use Rattle.local_log.specs.Reading.{first_past, segment_at, piece_of, is_edge, ReadOnce, IsCut, IsRunOf, IsEdge, RunFails, CutFails, IsOfDevice, IsClosedFrom, ClosedFails, IsPartOf, IsFront, FrontFails};
+ghost use Rattle.local_log.specs.Log.{LogBecomes, OpensFlushed};
+ghost use Rattle.local_log.specs.Reading.{first_past, segment_at, piece_of, is_edge, ReadOnce, IsCutOut, IsRunOf, IsEdge, RunFails, CutFails, IsOfDevice, IsClosedFrom, ClosedFails, IsPartOf, IsSegmentFront, FrontFails};
 
 use crate::epochs::first_stray;
 use crate::log::LocalLog;
@@ -46,12 +46,12 @@ impl<D: Disk> LocalLog<D> {
         requires unbroken { self.old.broken ≡ false }
         requires start { self.old.local_start ≤ offset }
         requires below { offset < mark }
-        ensures log { Becomes D.content self.old self.new }
+        ensures log { LogBecomes D.content self.old self.new }
         ensures keeps { Keeps (D.content self.old.disk) (D.content self.new.disk) }
         ensures run { IfOk result (λ run. IsTrue (D.content self.old.disk).is_observable
             → IsRunOf self.old offset limit mark run) }
         ensures base { IfOk result (λ run. run.base ≡ (segment_at self.old offset).base) }
-        ensures bytes { IfOk result (λ run. IsCut self.old.line (D.control self.new.disk).last_read offset limit mark
+        ensures bytes { IfOk result (λ run. IsCutOut self.old.line (D.control self.new.disk).last_read offset limit mark
             (piece_of self.old offset) run) }
 
         // A crash at any moment of the call leaves the flushed log.
@@ -98,7 +98,7 @@ impl<D: Disk> LocalLog<D> {
     /// past the end. `ReadRefusal` has the causes of a failure.
     pub fn closed_from(&mut self, offset: u64) -> Result<Option<Closed>, ReadRefusal>
         requires { self.old.broken ≡ false }
-        ensures log { Becomes D.content self.old self.new }
+        ensures log { LogBecomes D.content self.old self.new }
         ensures keeps { Keeps (D.content self.old.disk) (D.content self.new.disk) }
         ensures segment { IfOk result
             (λ segment. IsClosedFrom self.old offset (D.control self.new.disk).last_read segment) }
@@ -156,7 +156,7 @@ impl<D: Disk> LocalLog<D> {
     /// Reads so many bytes of a segment's file from a position on.
     fn read_part(&mut self, base: u64, from: u32, most: u64) -> Result<Option<Bytes>, Trouble>
         requires { self.old.broken ≡ false }
-        ensures log { Becomes D.content self.old self.new }
+        ensures log { LogBecomes D.content self.old self.new }
         ensures keeps { Keeps (D.content self.old.disk) (D.content self.new.disk) }
         ensures file { IsTrue (D.content self.old.disk).is_observable → IfOk result (λ held. held
             ≡ option_map (part_of from most) ((D.content self.old.disk).files (file.Log base))) }
@@ -186,7 +186,7 @@ fn closed_in(
 ) -> Result<Closed, ReadRefusal>
     requires base { base ≤ 2 ^ 62 }
     requires some { 0 < size }
-    ensures ok { IfOk result (λ segment. IsFront line.now base size (bytes_in file) segment) }
+    ensures ok { IfOk result (λ segment. IsSegmentFront line.now base size (bytes_in file) segment) }
     ensures err { IfErr result (λ e. FrontFails line.now base size (bytes_in file) e) }
 {
     let name = FileName::Log(base);
@@ -228,7 +228,7 @@ fn run_in(
     requires mark { offset < mark }
     requires inside { offset < piece.end }
     ensures base { IfOk result (λ run. run.base ≡ piece.base) }
-    ensures ok { IfOk result (λ run. IsCut line.now (bytes_in file) offset limit mark piece.end run) }
+    ensures ok { IfOk result (λ run. IsCutOut line.now (bytes_in file) offset limit mark piece.end run) }
     ensures err { IfErr result
         (λ e. CutFails line.now piece.base piece.from (bytes_in file) offset limit mark piece.end e) }
 {

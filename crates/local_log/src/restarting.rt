@@ -14,7 +14,7 @@ ghost use Rattle.log_steps.specs.Fronts.{Each};
 ghost use Rattle.log_steps.specs.Opens.{Opens};
 ghost use Rattle.log_steps.specs.Runs.{Runs};
 ghost use Rattle.local_log.specs.Listing.{manifest_of};
-ghost use Rattle.local_log.specs.Log.{Becomes};
+ghost use Rattle.local_log.specs.Log.{LogBecomes};
 ghost use Rattle.local_log.specs.Cutting.{names_of, restarted, all_of, OpensEither, OpensAsOr, LeavesBeforeOrNow, StaysOrBreaks};
 ghost use Rattle.local_log.specs.Renewing.{Renews};
 
@@ -50,7 +50,7 @@ impl<D: Disk> LocalLog<D> {
         requires unbroken { self.old.broken ≡ false }
         requires low { start ≤ 2 ^ 62 }
         requires within { Each (λ (entry : ℕ × ℕ). entry.1 ≤ start) line }
-        ensures ok { OnOk result (Becomes D.content (restarted self.old start line) self.new) }
+        ensures ok { OnOk result (LogBecomes D.content (restarted self.old start line) self.new) }
         ensures durable { OnOk result ((c : Files) → Image (D.content self.new.disk) c
             → Opens c (all_of (restarted self.old start line))) }
 
@@ -64,7 +64,7 @@ impl<D: Disk> LocalLog<D> {
         ensures either { LeavesBeforeOrNow (D.content self.old.disk) (D.content self.new.disk) }
 
         ensures others { OnErr result (IsErrOf result fault.NoMemory ⊎ IsErrOf result fault.Failed) }
-        ensures no_memory { IsErrOf result fault.NoMemory → Becomes D.content self.old self.new }
+        ensures no_memory { IsErrOf result fault.NoMemory → LogBecomes D.content self.old self.new }
         ensures no_image { IsErrOf result fault.NoMemory → (c : Files) → Image (D.content self.new.disk) c
             → Image (D.content self.old.disk) c }
         ensures broken { IsErrOf result fault.Failed → self.new.broken ≡ true }
@@ -94,7 +94,7 @@ impl<D: Disk> LocalLog<D> {
         requires within { Each (λ (entry : ℕ × ℕ). entry.1 ≤ active.base) line }
         requires room { length self.old.closed + 1 ≤ D.spare self.old.disk }
         requires bytes { bytes.now ≡ manifest_bytes (manifest_of self.old.incarnation active.base [] active line) }
-        ensures ok { OnOk result (Becomes D.content (restarted self.old active.base line) self.new) }
+        ensures ok { OnOk result (LogBecomes D.content (restarted self.old active.base line) self.new) }
         ensures durable { OnOk result ((c : Files) → Image (D.content self.new.disk) c
             → Opens c (all_of (restarted self.old active.base line))) }
         ensures any_moment { LeavesOnly (D.content self.old.disk) (D.content self.new.disk)

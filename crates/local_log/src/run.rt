@@ -9,7 +9,7 @@ ghost use Rattle.epoch_line.specs.Line.{last_epoch, assign};
 ghost use Rattle.log_terms.specs.Batch.{last_of};
 ghost use Rattle.local_log.specs.Stored.{size_of, end_of};
 ghost use Rattle.local_log.specs.Listing.{IsLaidOut};
-ghost use Rattle.local_log.specs.Run.{IsRun, rolls_before, snapshot, first_size};
+ghost use Rattle.local_log.specs.Run.{IsRunFor, rolls_before, snapshot, first_size};
 ghost use Rattle.local_log.specs.Taking.{head_asks, line_or, IsTakenIn, HasFront};
 
 use epoch_line::Line;
@@ -59,7 +59,7 @@ fn asked_of(head: &Head) -> Asked
 
 /// What a log asks of the first batch of a run.
 pub(crate) fn first_asked(run: &[u8]) -> Asked
-    requires { (end : ℕ) × (line : List (ℕ × ℕ)) × (end ≤ 2 ^ 62) × IsRun end line run.now }
+    requires { (end : ℕ) × (line : List (ℕ × ℕ)) × (end ≤ 2 ^ 62) × IsRunFor end line run.now }
     ensures last { result.last ≡ last_of run.now }
     ensures size { result.size ≡ first_size run.now }
     ensures base { result.base ≤ result.last }
@@ -116,7 +116,7 @@ fn gather(
     requires laid { IsLaidOut segment.old }
     requires low { end_of segment.old ≤ 2 ^ 62 }
     requires most { most ≤ 16777216 }
-    requires run { IsRun (end_of segment.old) line.now run.now }
+    requires run { IsRunFor (end_of segment.old) line.now run.now }
     ensures ok { IfOk result (λ taken. IsTakenIn segment.old segment.new line.now run.now most taken) }
     ensures err { OnErr result (HasFront segment.old segment.new) }
 {
@@ -157,7 +157,7 @@ pub(crate) fn take_in(
     requires laid { IsLaidOut segment.old }
     requires low { end_of segment.old ≤ 2 ^ 62 }
     requires most { most ≤ 16777216 }
-    requires run { IsRun (end_of segment.old) line.now run.now }
+    requires run { IsRunFor (end_of segment.old) line.now run.now }
     ensures ok { IfOk result (λ taken. IsTakenIn segment.old segment.new line.now run.now most taken) }
     ensures err { OnErr result (segment.new ≡ segment.old) }
 {

@@ -3,7 +3,7 @@ use Rattle.std.proofs.Common.{◌≡◌, ◌∙◌, ap, sym, subst, ℕ, IsTrue,
 use Rattle.std.proofs.Math.Nat.{le_trans}
 use Rattle.tier_base.specs.Counts.{counted}
 use Rattle.tier_base.specs.declared.fault.Failed.{Failed}
-use Rattle.tier_base.specs.Device.{Control, Fate, Fault, failing, Lasts, Rests}
+use Rattle.tier_base.specs.Device.{Control, Fate, Fault, failing, Lasts, NoCalls}
 use Rattle.disk_model.specs.Call.{call_code}
 use Rattle.log_steps.specs.Runs.{Runs}
 
@@ -26,7 +26,7 @@ runs_then fate a b c h same k = record {
   cause = λ is. (let r = k.cause is in let l = h.never_falls in grind (arith, r, l));
 }
 
-pub rests_last : (a b : Control call_code) → Rests a b → Lasts a b
+pub rests_last : (a b : Control call_code) → NoCalls a b → Lasts a b
 rests_last a b r = record {
   plan = r.plan;
   armed = r.armed;

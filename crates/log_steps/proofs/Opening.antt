@@ -11,9 +11,9 @@ use Rattle.log_manifest.specs.declared.manifest.Extent.{Extent}
 use Rattle.log_manifest.specs.declared.manifest.Manifest.{Manifest}
 use Rattle.log_manifest.specs.Reading.{manifest_in}
 use Rattle.log_steps.specs.Fronts.{log_at, front, Each, Agrees}
-use Rattle.log_steps.specs.Opens.{Opened, IsRead, Opens}
+use Rattle.log_steps.specs.Opens.{Opened, IsOpenedBy, Opens}
 use Rattle.log_steps.specs.Reopens.{Reopens, raised, Opening}
-use Rattle.log_steps.specs.Stands.{Stands}
+use Rattle.log_steps.specs.Stands.{ImagesHold}
 use Rattle.log_steps.specs.Rewrites.{Underway, Rewriting, Rewritten, Rewrites}
 use Rattle.log_steps.proofs.Lists.{each_map, each_both}
 use Rattle.log_steps.proofs.Moments.{started, goes_on, leaves_weaker, leaves_then}
@@ -54,7 +54,7 @@ front_long n l k is long = let size = ap length is in grind (arith, length-take,
 module _ (d : Content) (laws : Lawful d) (reopens : Reopens d) (now next : List ℕ) (m n : Manifest) (p q o : Opened)
     (reading : manifest_in now ≡ Ok m) (reading' : manifest_in next ≡ Ok n) (same_segments : n.segments ≡ m.segments)
     (opens : IsTrue d.is_observable → Opens d.files o)
-    (reads : IsTrue d.is_observable → IsRead m d.files p) (reads' : IsTrue d.is_observable → IsRead n d.files q)
+    (reads : IsTrue d.is_observable → IsOpenedBy m d.files p) (reads' : IsTrue d.is_observable → IsOpenedBy n d.files q)
     (first_is : (p ≡ o) ⊎ (p ≡ raised o)) (second_is : q ≡ raised o)
     (agree : IsTrue d.is_observable → (c : Files) → Image d c → Each (Agrees c d.files) m.segments) where
   abbrev pub es : List Extent
@@ -203,7 +203,7 @@ module _ (d d1 d2 d3 : Content) (laws3 : Lawful d3) (now next : List ℕ) (es : 
       (λ e kept long. agrees_read c d1.files d3.files e (ap (λ (o : Option (List ℕ)). take e.len (bytes_in o)) (next_files t e.base)) (agrees_then x.0 c d1.files e (same_kept x.0 c x.2.others e) (kept long)))
       es (rewrites.synced went x.0 (k.images x.0 x.1)) (whole (told1 t))
 
-  pub next_stands : ((c : Files) → Image d3 c → c file.Manifest ≡ Some next) → (closed : List Extent) → ((c : Files) → Each (Agrees c d3.files) es → Each (Agrees c d3.files) closed) → Stands d3 next es closed
+  pub next_stands : ((c : Files) → Image d3 c → c file.Manifest ≡ Some next) → (closed : List Extent) → ((c : Files) → Each (Agrees c d3.files) es → Each (Agrees c d3.files) closed) → ImagesHold d3 next es closed
   next_stands sure closed part c left =
       let a = next_agree c left in
       record { manifest = sure c left; listed_fronts = a; closed_fronts = part c a }

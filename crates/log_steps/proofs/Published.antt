@@ -7,7 +7,7 @@ use Rattle.tier_base.specs.Device.{Control, MayBeDone, Fate, Went, Fault, Dry}
 use Rattle.disk_model.specs.declared.call.DiskCall.{DiskCall}
 use Rattle.disk_model.specs.Call.{call_code}
 use Rattle.tier_base.specs.Told.{OnlyAt, replaced}
-use Rattle.disk_model.specs.Content.{Content, Files, Image, Changes, Keeps, LeavesOnly, Begins, Swapped, Elapses}
+use Rattle.disk_model.specs.Content.{Content, Files, Image, Changes, Keeps, LeavesOnly, BeginsWith, Swapped, Elapses}
 use Rattle.disk_model.proofs.Names.{cases_name}
 use Rattle.log_steps.specs.Publishes.{Between, Publishes, LeavesEither}
 use Rattle.log_steps.proofs.Moments.{started, goes_on}
@@ -44,10 +44,10 @@ published_none name bytes d d1 k = record {
   settled = inl (λ c now. record { image = c; was = k.images c now; same = λ n. refl });
 }
 
-module _ (name : FileName) (ne : name ≢ Manifest) (bytes : List ℕ) (d d1 d2 : Content) (fate : Fate) (call : DiskCall) (control : Control call_code) (k : Keeps d d1) (synced : (c : Files) → Image d1 c → Begins (d.files name) (c name)) (change : Changes Manifest (replaced bytes) (Swapped bytes) (MayBeDone call fate control) d1 d2)
+module _ (name : FileName) (ne : name ≢ Manifest) (bytes : List ℕ) (d d1 d2 : Content) (fate : Fate) (call : DiskCall) (control : Control call_code) (k : Keeps d d1) (synced : (c : Files) → Image d1 c → BeginsWith (d.files name) (c name)) (change : Changes Manifest (replaced bytes) (Swapped bytes) (MayBeDone call fate control) d1 d2)
     (sure : fate ≡ Went → (c : Files) → Image d2 c → c Manifest ≡ Some bytes) where
-  begins_new : (c : Files) → Image d2 c → Begins (d.files name) (c name)
-  begins_new c now = let x = change.images c now in subst (λ (o : Option (List ℕ)). Begins (d.files name) o) (sym (x.2.others name ne)) (synced x.0 x.1)
+  begins_new : (c : Files) → Image d2 c → BeginsWith (d.files name) (c name)
+  begins_new c now = let x = change.images c now in subst (λ (o : Option (List ℕ)). BeginsWith (d.files name) o) (sym (x.2.others name ne)) (synced x.0 x.1)
 
   between_new : (c : Files) → Image d2 c → Between name bytes d c
   between_new c now =

@@ -11,9 +11,9 @@ use Rattle.log_manifest.specs.declared.manifest.Manifest.{Manifest}
 use Rattle.log_manifest.specs.declared.refusal.ManifestRefusal.{ManifestRefusal}
 use Rattle.log_manifest.specs.Reading.{manifest_in}
 use Rattle.log_steps.specs.Fronts.{front, Each, Agrees}
-use Rattle.log_steps.specs.Opens.{Opened, Segment, Segments, IsRead, OpensBy, OpensFrom, Opens}
+use Rattle.log_steps.specs.Opens.{Opened, Segment, Segments, IsOpenedBy, OpensBy, OpensFrom, Opens}
 use Rattle.log_steps.specs.Reopens.{Says, Reopens}
-use Rattle.log_steps.specs.Stands.{Holds, Stands}
+use Rattle.log_steps.specs.Stands.{ImageHolds, ImagesHold}
 use Rattle.log_steps.proofs.Lists.{each_both}
 use Rattle.log_steps.proofs.Standing.{both_agree}
 
@@ -32,7 +32,7 @@ segments_whole c line n [] batches s = tt
 segments_whole c line n (e ∷ es) batches s =
     (record { long = s.4.long; same = refl }, segments_whole c line (end_from n s.0) es s.1 s.5)
 
-pub read_moved : (c f : Files) (m : Manifest) (o : Opened) → Each (Agrees c f) m.segments → IsRead m f o → IsRead m c o
+pub read_moved : (c f : Files) (m : Manifest) (o : Opened) → Each (Agrees c f) m.segments → IsOpenedBy m f o → IsOpenedBy m c o
 read_moved c f m o h r = record {
   incarnation = r.incarnation;
   local_start = r.local_start;
@@ -41,20 +41,20 @@ read_moved c f m o h r = record {
 }
 
 -- an image with this manifest
-pub opens_by : (c : Files) (bytes : List ℕ) (m : Manifest) (o : Opened) → c file.Manifest ≡ Some bytes → manifest_in bytes ≡ Ok m → IsRead m c o → Opens c o
+pub opens_by : (c : Files) (bytes : List ℕ) (m : Manifest) (o : Opened) → c file.Manifest ≡ Some bytes → manifest_in bytes ≡ Ok m → IsOpenedBy m c o → Opens c o
 opens_by c bytes m o there reading r =
     subst (λ (x : Option (List ℕ)). OpensFrom x c o) (sym there)
     (subst (λ (x : Result Manifest ManifestRefusal). OpensBy x c o) (sym reading) r)
 
-pub opens_as : (c f : Files) (bytes : List ℕ) (m : Manifest) (o : Opened) → c file.Manifest ≡ Some bytes → manifest_in bytes ≡ Ok m → Each (Agrees c f) m.segments → IsRead m f o → Opens c o
+pub opens_as : (c f : Files) (bytes : List ℕ) (m : Manifest) (o : Opened) → c file.Manifest ≡ Some bytes → manifest_in bytes ≡ Ok m → Each (Agrees c f) m.segments → IsOpenedBy m f o → Opens c o
 opens_as c f bytes m o there reading h r = opens_by c bytes m o there reading (read_moved c f m o h r)
 
 -- an image that holds what is listed opens as that
-pub held_opens : (c f : Files) (bytes : List ℕ) (m : Manifest) (closed : List Extent) (o : Opened) → manifest_in bytes ≡ Ok m → Holds c f bytes m.segments closed → IsRead m f o → Opens c o
+pub held_opens : (c f : Files) (bytes : List ℕ) (m : Manifest) (closed : List Extent) (o : Opened) → manifest_in bytes ≡ Ok m → ImageHolds c f bytes m.segments closed → IsOpenedBy m f o → Opens c o
 held_opens c f bytes m closed o reading h r = opens_as c f bytes m o h.manifest reading h.listed_fronts r
 
 -- how an image with this manifest was read
-pub opened_by : (c : Files) (bytes : List ℕ) (m : Manifest) (o : Opened) → c file.Manifest ≡ Some bytes → manifest_in bytes ≡ Ok m → Opens c o → IsRead m c o
+pub opened_by : (c : Files) (bytes : List ℕ) (m : Manifest) (o : Opened) → c file.Manifest ≡ Some bytes → manifest_in bytes ≡ Ok m → Opens c o → IsOpenedBy m c o
 opened_by c bytes m o there reading h =
     subst (λ (x : Result Manifest ManifestRefusal). OpensBy x c o) reading
     (subst (λ (x : Option (List ℕ)). OpensFrom x c o) there h)
@@ -100,7 +100,7 @@ says_is x bytes m n there reading s =
 -- each image has one of two manifests, and the fronts of both
 pub reopens_two : (d : Content) (f : Files) (a b : List ℕ) (m n : Manifest) (o p : Opened) → manifest_in a ≡ Ok m → manifest_in b ≡ Ok n
     → ((c : Files) → Image d c → ((c file.Manifest ≡ Some a) ⊎ (c file.Manifest ≡ Some b)) × Each (Agrees c f) m.segments × Each (Agrees c f) n.segments)
-    → ((c : Files) → Image d c → IsRead m f o × IsRead n f p)
+    → ((c : Files) → Image d c → IsOpenedBy m f o × IsOpenedBy n f p)
     → Reopens d
 reopens_two d f a b m n o p reading reading' images reads = record {
   opens = λ c left. (
@@ -122,7 +122,7 @@ reopens_two d f a b m n o p reading reading' images reads = record {
 }
 
 -- a log's disk can be opened again
-pub stands_reopens : (d : Content) (laws : Lawful d) (bytes : List ℕ) (m : Manifest) (closed : List Extent) (o : Opened) → manifest_in bytes ≡ Ok m → Stands d bytes m.segments closed → (IsTrue d.is_observable → IsRead m d.files o) → Reopens d
+pub stands_reopens : (d : Content) (laws : Lawful d) (bytes : List ℕ) (m : Manifest) (closed : List Extent) (o : Opened) → manifest_in bytes ≡ Ok m → ImagesHold d bytes m.segments closed → (IsTrue d.is_observable → IsOpenedBy m d.files o) → Reopens d
 stands_reopens d laws bytes m closed o reading stands read =
     reopens_two d d.files bytes bytes m m o o reading reading
     (λ c left. (let h = stands c left in (inl h.manifest, h.listed_fronts, h.listed_fronts)))

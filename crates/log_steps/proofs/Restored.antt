@@ -8,7 +8,7 @@ use Rattle.tier_base.specs.Device.{Fate, Went}
 use Rattle.tier_base.specs.Told.{OnlyAt, bytes_in}
 use Rattle.disk_model.specs.Content.{Content, Lawful, Files, Image, LeavesOnly, CutBack}
 use Rattle.log_manifest.specs.declared.manifest.Extent.{Extent}
-use Rattle.log_steps.specs.Fronts.{log_at, front, Each, Agrees, Kept, Rising}
+use Rattle.log_steps.specs.Fronts.{log_at, front, Each, Agrees, KeepsFront, Rising}
 use Rattle.log_steps.specs.Rewrites.{AfterCut, Restores, KeepsFronts, AfterCuts, IsUnlisted, RestoresAll}
 use Rattle.log_steps.proofs.Lists.{each_map, each_both, each_join}
 use Rattle.log_steps.proofs.Moments.{leaves_weaker, leaves_then, started}
@@ -72,19 +72,19 @@ log_apart : (a b : ℕ) → (a < b) ⊎ (b < a) → Log a ≢ Log b
 log_apart a b lt e = let is : a ≡ b = cc in ⊎_elim (λ l. absurd (omega arith)) (λ l. absurd (omega arith)) lt
 
 -- the same file is there
-pub kept_same : (d c : Files) (e : Extent) → c (Log e.base) ≡ d (Log e.base) → Kept d c e
+pub kept_same : (d c : Files) (e : Extent) → c (Log e.base) ≡ d (Log e.base) → KeepsFront d c e
 kept_same d c e is long = record {
   long = subst (λ (o : Option (List ℕ)). e.len ≤ length (bytes_in o)) (sym is) long;
   same = ap (λ (o : Option (List ℕ)). take e.len (bytes_in o)) is;
 }
 
 -- it is kept of what has the same bytes
-pub kept_read : (f g c : Files) (e : Extent) → log_at g e ≡ log_at f e → Kept f c e → Kept g c e
+pub kept_read : (f g c : Files) (e : Extent) → log_at g e ≡ log_at f e → KeepsFront f c e → KeepsFront g c e
 kept_read f g c e is kept long =
     let a = kept (subst (λ (l : List ℕ). e.len ≤ length l) is long) in
     record { long = a.long; same = a.same ∙ ap (take e.len) (sym is) }
 
-pub then_kept : (a b c : Files) (x : Extent) → Kept a b x → Kept b c x → Kept a c x
+pub then_kept : (a b c : Files) (x : Extent) → KeepsFront a b x → KeepsFront b c x → KeepsFront a c x
 then_kept a b c x f g long = (let y = f long in let z = g y.long in record { long = z.long; same = z.same ∙ y.same })
 
 -- fronts that are kept once and again
@@ -101,7 +101,7 @@ module _ (es done : List Extent) (e : Extent) (rest : List Extent) (is : es ≡ 
   cut_step : (x c : Files) → OnlyAt (Log e.base) (CutBack e.len) x c → KeepsFronts es x c
   cut_step x c only = record {
     manifest = only.others Manifest (manifest_other e.base);
-    fronts = subst (λ (l : List Extent). Each (Kept x c) l) (sym is) (each_map (cut_keeps e x c only) (done ++ e ∷ rest) (all_fit done e rest rises));
+    fronts = subst (λ (l : List Extent). Each (KeepsFront x c) l) (sym is) (each_map (cut_keeps e x c only) (done ++ e ∷ rest) (all_fit done e rest rises));
   }
 
   after_step : (c : Files) → AfterCut e m c → AfterCuts es d c
@@ -116,7 +116,7 @@ module _ (es done : List Extent) (e : Extent) (rest : List Extent) (is : es ≡ 
   other_log t x apart = ap bytes_in (step.others (subst IsTrue (sym so_far.is_observable) t) (Log x.base) (log_apart x.base e.base apart))
 
   -- what was synced before is so still
-  synced_before : Lawful d' → (c : Files) → Image d' c → Each (Kept d'.files c) done
+  synced_before : Lawful d' → (c : Files) → Image d' c → Each (KeepsFront d'.files c) done
   synced_before laws' c now =
       let x = step.since.each c (laws'.earlier m.moment d'.moment c step.since.later now) in
       let t = subst IsTrue so_far.is_observable (laws.told x.0 x.1) in
@@ -134,7 +134,7 @@ module _ (es done : List Extent) (e : Extent) (rest : List Extent) (is : es ≡ 
         (each_both (λ x lt h. other_log t x (inl lt) ∙ h) done (rising_left done e rest rises) (so_far.cut t))
         (step.cut went (subst IsTrue (sym so_far.is_observable) t) ∙ ap (λ (l : List ℕ). take e.len l) (so_far.same t).0, tt);
     same = λ t. each_both (λ x lt h. other_log t x (inr lt) ∙ h) rest (rising_right done e rest rises) (so_far.same t).1;
-    synced = λ c now. each_join (Kept d'.files c) done (e ∷ []) (synced_before laws' c now) (step.synced went c now, tt);
+    synced = λ c now. each_join (KeepsFront d'.files c) done (e ∷ []) (synced_before laws' c now) (step.synced went c now, tt);
   }
 
 -- before the first
@@ -142,7 +142,7 @@ none_same : (f : Files) (es : List Extent) → Each (λ x. log_at f x ≡ log_at
 none_same f [] = tt
 none_same f (e ∷ es) = (refl, none_same f es)
 
-none_kept : (c : Files) (es : List Extent) → Each (Kept c c) es
+none_kept : (c : Files) (es : List Extent) → Each (KeepsFront c c) es
 none_kept c [] = tt
 none_kept c (e ∷ es) = (λ long. record { long = long; same = refl }, none_kept c es)
 

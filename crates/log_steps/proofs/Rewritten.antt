@@ -7,7 +7,7 @@ use Rattle.disk_model.proofs.Names.{cases_name}
 use Rattle.tier_base.specs.Told.{bytes_in, replaced}
 use Rattle.disk_model.specs.Content.{Content, Lawful, Files, Image, Changes, LeavesOnly, Swapped}
 use Rattle.log_manifest.specs.declared.manifest.Extent.{Extent}
-use Rattle.log_steps.specs.Fronts.{Each, Kept}
+use Rattle.log_steps.specs.Fronts.{Each, KeepsFront}
 use Rattle.log_steps.specs.Rewrites.{AfterCuts, RestoresAll, Removes, Underway, Rewriting, Rewrites}
 use Rattle.log_steps.proofs.Lists.{each_both, each_all}
 use Rattle.log_steps.proofs.Moments.{started, goes_on, leaves_weaker, leaves_then}
@@ -17,7 +17,7 @@ pub log_no_manifest : (b : ℕ) → Log b ≢ Manifest
 log_no_manifest b e = cc
 
 -- beside the manifest the files are the same
-pub all_like : (d c : Files) → ((n : FileName) → n ≢ Manifest → c n ≡ d n) → (es : List Extent) → Each (Kept d c) es
+pub all_like : (d c : Files) → ((n : FileName) → n ≢ Manifest → c n ≡ d n) → (es : List Extent) → Each (KeepsFront d c) es
 all_like d c others es = each_all (λ e. kept_same d c e (others (Log e.base) (log_no_manifest e.base))) es
 
 module _ (now : List ℕ) (es : List Extent) (names : List FileName) (d d1 : Content) (M : Bool → Type 0) (change : Changes Manifest (replaced now) (Swapped now) M d d1) where
@@ -101,7 +101,7 @@ module _ (now : List ℕ) (es : List Extent) (names : List FileName) (d d1 : Con
         unchanged t b = (change.files t).2.others (Log b) (log_no_manifest b)
 
         -- a removal of others leaves the fronts in each image
-        synced_still : (c : Files) → Image d2 c → Each (Kept d2.files c) es
+        synced_still : (c : Files) → Image d2 c → Each (KeepsFront d2.files c) es
         synced_still c left =
             let x = removed.since.each c (laws2.earlier d0.moment d2.moment c removed.since.later left) in
             let t = subst IsTrue removed.is_observable (laws2.told c left) in

@@ -4,7 +4,7 @@ use Rattle.std.proofs.Math.Seq.{take-nil}
 use Rattle.tier_base.specs.declared.plain.FileName.TheVariants.{Log}
 use Rattle.tier_base.specs.Device.{Fate, Went}
 use Rattle.tier_base.specs.Told.{bytes_in}
-use Rattle.disk_model.specs.Content.{Content, Files, Image, Changes, Keeps, LeavesOnly, cut_to, CutBack, Begins}
+use Rattle.disk_model.specs.Content.{Content, Files, Image, Changes, Keeps, LeavesOnly, cut_to, CutBack, BeginsWith}
 use Rattle.log_manifest.specs.declared.manifest.Extent.{Extent}
 use Rattle.log_steps.specs.Fronts.{log_at}
 use Rattle.log_steps.specs.Rewrites.{AfterCut, Restores}
@@ -33,7 +33,7 @@ module _ (e : Extent) (d d1 : Content) (M : Bool → Type 0) (change : Changes (
   }
 
   module _ (done : (b : Bool) → M b → IsTrue b) (d2 : Content) (k : Keeps d1 d2) (fate : Fate)
-      (durable : fate ≡ Went → (c : Files) → Image d2 c → Begins (d1.files (Log e.base)) (c (Log e.base))) where
+      (durable : fate ≡ Went → (c : Files) → Image d2 c → BeginsWith (d1.files (Log e.base)) (c (Log e.base))) where
     same_log : log_at d2.files e ≡ log_at d1.files e
     same_log = ap bytes_in (k.files (Log e.base))
 

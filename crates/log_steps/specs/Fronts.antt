@@ -24,8 +24,8 @@ pub record Agrees (c f : Files) (e : Extent) : Type 0 where
   pub same : front c e ≡ front f e
 
 -- where the front was whole, it is so still, with the same bytes
-abbrev pub Kept : Files → Files → Extent → Type 0
-Kept d c e = e.len ≤ length (log_at d e) → Agrees c d e
+abbrev pub KeepsFront : Files → Files → Extent → Type 0
+KeepsFront d c e = e.len ≤ length (log_at d e) → Agrees c d e
 
 -- each base is below the next
 abbrev pub Rising : List Extent → Type 0

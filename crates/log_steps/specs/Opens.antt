@@ -45,7 +45,7 @@ Segments c line n (e ∷ es) batches =
     × Segment c line e here × Segments c line (end_from n here) es rest
 
 -- an image is read so, by the manifest that it has
-pub record IsRead (m : Manifest) (c : Files) (o : Opened) : Type 0 where
+pub record IsOpenedBy (m : Manifest) (c : Files) (o : Opened) : Type 0 where
   pub incarnation : o.incarnation ≡ m.incarnation
   pub local_start : o.local_start ≡ m.local_start
   pub batches : Segments c m.line m.local_start m.segments o.batches
@@ -58,7 +58,7 @@ nothing = record { incarnation = 0; local_start = 0; batches = []; line = [] }
 
 -- by what the bytes of the manifest say
 abbrev pub OpensBy : Result Manifest ManifestRefusal → Files → Opened → Type 0
-OpensBy (Ok m) c o = IsRead m c o
+OpensBy (Ok m) c o = IsOpenedBy m c o
 OpensBy (Err why) c o = ⊥
 
 -- by the manifest's file

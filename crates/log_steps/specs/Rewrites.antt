@@ -7,7 +7,7 @@ use Rattle.tier_base.specs.Device.{Fate, Went}
 use Rattle.tier_base.specs.Told.{OnlyAt, In}
 use Rattle.disk_model.specs.Content.{Content, Files, Image, LeavesOnly, CutBack}
 use Rattle.log_manifest.specs.declared.manifest.Extent.{Extent}
-use Rattle.log_steps.specs.Fronts.{log_at, front, Each, Kept}
+use Rattle.log_steps.specs.Fronts.{log_at, front, Each, KeepsFront}
 use Rattle.log_steps.specs.Publishes.{IsLike}
 
 -- one segment's file cut to its length, or whole again
@@ -21,12 +21,12 @@ pub record Restores (e : Extent) (fate : Fate) (old new : Content) : Type 0 wher
   pub others : IsTrue old.is_observable → (n : FileName) → n ≢ file.Log e.base → new.files n ≡ old.files n
   pub cut : fate ≡ Went → IsTrue old.is_observable → log_at new.files e ≡ front old.files e
   -- each image has its front as it reads
-  pub synced : fate ≡ Went → (c : Files) → Image new c → Kept new.files c e
+  pub synced : fate ≡ Went → (c : Files) → Image new c → KeepsFront new.files c e
 
 -- the same manifest, and each front that was there
 pub record KeepsFronts (es : List Extent) (d c : Files) : Type 0 where
   pub manifest : c file.Manifest ≡ d file.Manifest
-  pub fronts : Each (Kept d c) es
+  pub fronts : Each (KeepsFront d c) es
 
 -- an image of before, but for what isn't listed
 abbrev pub AfterCuts : List Extent → Content → Files → Type 0
@@ -42,7 +42,7 @@ pub record RestoresAll (es done rest : List Extent) (old new : Content) : Type 0
   pub cut : IsTrue old.is_observable → Each (λ e. log_at new.files e ≡ front old.files e) done
   pub same : IsTrue old.is_observable → Each (λ e. log_at new.files e ≡ log_at old.files e) rest
   -- each image has their fronts as they read
-  pub synced : (c : Files) → Image new c → Each (Kept new.files c) done
+  pub synced : (c : Files) → Image new c → Each (KeepsFront new.files c) done
 
 -- no segment has this base
 abbrev pub IsUnlisted : List Extent → ℕ → Type 0
@@ -74,7 +74,7 @@ pub record Underway (now : List ℕ) (es : List Extent) (old : Content) (c : Fil
   pub image : Files
   pub was : Image old image
   pub manifest : c file.Manifest ≡ Some now
-  pub fronts : Each (Kept image c) es
+  pub fronts : Each (KeepsFront image c) es
 
 -- an image of before, or one with the manifest that was read
 abbrev pub Rewriting : List ℕ → List Extent → Content → Files → Type 0
@@ -98,6 +98,6 @@ pub record Rewrites (now : List ℕ) (es : List Extent) (names : List FileName) 
       → new.files (file.Log b) ≡ None
   pub gone : fate ≡ Went → IsTrue old.is_observable → (b : ℕ) → IsUnlisted es b → In (file.Log b) names → new.files (file.Log b) ≡ None
   -- each image has the fronts as they read
-  pub synced : fate ≡ Went → (c : Files) → Image new c → Each (Kept new.files c) es
+  pub synced : fate ≡ Went → (c : Files) → Image new c → Each (KeepsFront new.files c) es
   -- no file was cut, or each image has the manifest
   pub phase : ((c : Files) → Image new c → Rewritten now old c) ⊎ ((c : Files) → Image new c → Underway now es old c)

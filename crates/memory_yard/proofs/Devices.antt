@@ -2,7 +2,7 @@
 use Rattle.std.specs.Prelude.{◌≡◌, ◌↔◌, Bool, true, false, not, List, [], ◌∷◌, ℕ, Option, IsSome, IsTrue, refl}
 use Rattle.std.proofs.Common.{◌∙◌, sym, subst, inl, inr, ⊎_elim, arith}
 use Rattle.std.proofs.lemmas.Bool.{false≢true}
-use Rattle.tier_base.specs.Told.{Names}
+use Rattle.tier_base.specs.Told.{NamesAllHeld}
 use Rattle.disk_model.specs.Content.{Content, Lawful, Keeps}
 use Rattle.disk_model.specs.Memory.{IsEmptyDisk}
 
@@ -33,7 +33,7 @@ empty_kept a b e k = record {
 
 -- names are listed exactly where something is there
 pub some_named : {N : Type 0} → (was held : N → Option (List ℕ)) (names : List N) (empty : Bool) → ((n : N) → held n ≡ was n)
-    → Names held names → IsTrue empty ↔ (names ≡ []) → IsTrue (not empty) ↔ ((n : N) × IsSome (was n))
+    → NamesAllHeld held names → IsTrue empty ↔ (names ≡ []) → IsTrue (not empty) ↔ ((n : N) × IsSome (was n))
 some_named was held [] empty same are is = (
   λ filled. absurd (false≢true (subst (λ b. IsTrue (not b)) (is.1 refl) filled)),
   λ there. absurd ((are.are there.0).0 (subst (λ o. IsSome o) (sym (same there.0)) there.1)),

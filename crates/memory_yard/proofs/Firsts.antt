@@ -11,7 +11,7 @@ use Rattle.std.specs.Ordering.{nat_cmp, is_le}
 use Rattle.std.specs.declared.cmp.Ordering.{Ordering}
 use Rattle.tier_base.specs.declared.names.PartitionId.{PartitionId}
 use Rattle.tier_base.specs.Told.{In}
-use Rattle.device_yard.specs.YardContent.{IsUpTo, IsFirst}
+use Rattle.device_yard.specs.YardContent.{IsNameUpTo, IsFirstName}
 use Rattle.memory_yard.specs.First.{name_of, IsNameIn, IsFirstWith}
 
 -- the order as a test
@@ -24,34 +24,34 @@ is_upto : (xs ys : List ℕ) (o : Ordering) → o ≡ slice_cmp nat_cmp xs ys �
 is_upto = same_from_slice_cmp nat_cmp is_le upto refl (λ _ _. refl) (λ _ _. refl) (λ x y xs ys o h. grind (arith, nat_tests))
 
 -- one more letter that is the same
-more_same : (x y : ℕ) (xs ys : List ℕ) → x ≡ y → IsTrue (upto xs ys) ↔ IsUpTo xs ys → IsTrue (upto xs ys) ↔ IsUpTo (x ∷ xs) (y ∷ ys)
+more_same : (x y : ℕ) (xs ys : List ℕ) → x ≡ y → IsTrue (upto xs ys) ↔ IsNameUpTo xs ys → IsTrue (upto xs ys) ↔ IsNameUpTo (x ∷ xs) (y ∷ ys)
 more_same x y xs ys e h = (λ t. inr (e, h.0 t), λ up. ⊎_elim (λ below. absurd (omega arith)) (λ same. h.1 same.1) up)
 
 -- or another one
-more_other : (x y : ℕ) (xs ys : List ℕ) → (x ≡ y → ⊥) → IsTrue (ltb x y) ↔ IsUpTo (x ∷ xs) (y ∷ ys)
+more_other : (x y : ℕ) (xs ys : List ℕ) → (x ≡ y → ⊥) → IsTrue (ltb x y) ↔ IsNameUpTo (x ∷ xs) (y ∷ ys)
 more_other x y xs ys n =
     (λ t. inl ((Decides-ltb x y).0 t), λ up. ⊎_elim (λ below. (Decides-ltb x y).1 below) (λ same. absurd (n same.0)) up)
 
-upto_tells : (xs ys : List ℕ) → IsTrue (upto xs ys) ↔ IsUpTo xs ys
+upto_tells : (xs ys : List ℕ) → IsTrue (upto xs ys) ↔ IsNameUpTo xs ys
 upto_tells [] ys = (λ _. tt, λ _. refl)
 upto_tells (x ∷ xs) [] = (λ e. absurd (false≢true e), λ h. absurd h)
 upto_tells (x ∷ xs) (y ∷ ys) =
     ⊎_elim
-    (λ yes. subst (λ b. IsTrue (cond b (upto xs ys) (ltb x y)) ↔ IsUpTo (x ∷ xs) (y ∷ ys)) (sym yes.0) (more_same x y xs ys yes.1 (upto_tells xs ys)))
-    (λ no. subst (λ b. IsTrue (cond b (upto xs ys) (ltb x y)) ↔ IsUpTo (x ∷ xs) (y ∷ ys)) (sym no.0) (more_other x y xs ys no.1))
+    (λ yes. subst (λ b. IsTrue (cond b (upto xs ys) (ltb x y)) ↔ IsNameUpTo (x ∷ xs) (y ∷ ys)) (sym yes.0) (more_same x y xs ys yes.1 (upto_tells xs ys)))
+    (λ no. subst (λ b. IsTrue (cond b (upto xs ys) (ltb x y)) ↔ IsNameUpTo (x ∷ xs) (y ∷ ys)) (sym no.0) (more_other x y xs ys no.1))
     (eqb_tells x y)
 
 -- what a comparison answers
-pub compared : (xs ys : List ℕ) (o : Ordering) (r : Bool) → o ≡ slice_cmp nat_cmp xs ys → r ≡ is_le o → IsTrue r ↔ IsUpTo xs ys
+pub compared : (xs ys : List ℕ) (o : Ordering) (r : Bool) → o ≡ slice_cmp nat_cmp xs ys → r ≡ is_le o → IsTrue r ↔ IsNameUpTo xs ys
 compared xs ys o r e is =
     let same : r ≡ upto xs ys = is ∙ is_upto xs ys o e in
-    subst (λ b. IsTrue b ↔ IsUpTo xs ys) (sym same) (upto_tells xs ys)
+    subst (λ b. IsTrue b ↔ IsNameUpTo xs ys) (sym same) (upto_tells xs ys)
 
-up_to_itself : (xs : List ℕ) → IsUpTo xs xs
+up_to_itself : (xs : List ℕ) → IsNameUpTo xs xs
 up_to_itself [] = tt
 up_to_itself (x ∷ xs) = inr (refl, up_to_itself xs)
 
-up_to_along : (xs ys zs : List ℕ) → IsUpTo xs ys → IsUpTo ys zs → IsUpTo xs zs
+up_to_along : (xs ys zs : List ℕ) → IsNameUpTo xs ys → IsNameUpTo ys zs → IsNameUpTo xs zs
 up_to_along [] ys zs h k = tt
 up_to_along (x ∷ xs) [] zs h k = absurd h
 up_to_along (x ∷ xs) (y ∷ ys) [] h k = absurd k
@@ -61,7 +61,7 @@ up_to_along (x ∷ xs) (y ∷ ys) (z ∷ zs) (inr h) (inl k) = let e : x ≡ y =
 up_to_along (x ∷ xs) (y ∷ ys) (z ∷ zs) (inr h) (inr k) = inr (h.0 ∙ k.0, up_to_along xs ys zs h.1 k.1)
 
 -- of two one precedes the other
-up_to_either : (xs ys : List ℕ) → (IsUpTo xs ys → ⊥) → IsUpTo ys xs
+up_to_either : (xs ys : List ℕ) → (IsNameUpTo xs ys → ⊥) → IsNameUpTo ys xs
 up_to_either [] ys n = absurd (n tt)
 up_to_either (x ∷ xs) [] n = tt
 up_to_either (x ∷ xs) (y ∷ ys) n =
@@ -74,32 +74,32 @@ some_is : {A : Type 0} → (x y : A) → Some x ≡ Some y → x ≡ y
 some_is x y e = cc
 
 -- an offer that isn't taken
-pub offer_kept : (o : Option (List ℕ)) (name : List ℕ) → IsSomeAnd o (λ x. IsUpTo x name) → IsFirstWith (λ text. text ≡ name) o o
+pub offer_kept : (o : Option (List ℕ)) (name : List ℕ) → IsSomeAnd o (λ x. IsNameUpTo x name) → IsFirstWith (λ text. text ≡ name) o o
 offer_kept None name up = absurd up
 offer_kept (Some x) name up = (
   inl refl,
   λ text. ⊎_elim
-      (λ was. subst (λ t. IsUpTo x t) (some_is x text was) (up_to_itself x))
-      (λ is. subst (λ t. IsUpTo x t) (sym is) up),
+      (λ was. subst (λ t. IsNameUpTo x t) (some_is x text was) (up_to_itself x))
+      (λ is. subst (λ t. IsNameUpTo x t) (sym is) up),
 )
 
 -- and one that is
-pub offer_taken : (o : Option (List ℕ)) (name : List ℕ) → (IsSomeAnd o (λ x. IsUpTo x name) → ⊥) → IsFirstWith (λ text. text ≡ name) o (Some name)
-offer_taken None name n = (inr refl, λ text. ⊎_elim (λ was. absurd cc) (λ is. subst (λ t. IsUpTo name t) (sym is) (up_to_itself name)))
+pub offer_taken : (o : Option (List ℕ)) (name : List ℕ) → (IsSomeAnd o (λ x. IsNameUpTo x name) → ⊥) → IsFirstWith (λ text. text ≡ name) o (Some name)
+offer_taken None name n = (inr refl, λ text. ⊎_elim (λ was. absurd cc) (λ is. subst (λ t. IsNameUpTo name t) (sym is) (up_to_itself name)))
 offer_taken (Some x) name n = (
   inr refl,
   λ text. ⊎_elim
-      (λ was. subst (λ t. IsUpTo name t) (some_is x text was) (up_to_either x name n))
-      (λ is. subst (λ t. IsUpTo name t) (sym is) (up_to_itself name)),
+      (λ was. subst (λ t. IsNameUpTo name t) (some_is x text was) (up_to_either x name n))
+      (λ is. subst (λ t. IsNameUpTo name t) (sym is) (up_to_itself name)),
 )
 
 -- the first of the same names
-pub first_same : (P Q : List ℕ → Type 0) (o : Option (List ℕ)) → ((t : List ℕ) → P t → Q t) → ((t : List ℕ) → Q t → P t) → IsFirst P o → IsFirst Q o
+pub first_same : (P Q : List ℕ → Type 0) (o : Option (List ℕ)) → ((t : List ℕ) → P t → Q t) → ((t : List ℕ) → Q t → P t) → IsFirstName P o → IsFirstName Q o
 first_same P Q None to from h = λ t q. h t (from t q)
 first_same P Q (Some x) to from h = (to x h.0, λ t q. h.1 t (from t q))
 
 -- the first of some, and then of more
-pub first_then : (P Q : List ℕ → Type 0) (a b : Option (List ℕ)) → IsFirst P a → IsFirstWith Q a b → IsFirst (λ t. P t ⊎ Q t) b
+pub first_then : (P Q : List ℕ → Type 0) (a b : Option (List ℕ)) → IsFirstName P a → IsFirstWith Q a b → IsFirstName (λ t. P t ⊎ Q t) b
 first_then P Q None None h k = λ t. ⊎_elim (λ p. h t p) (λ q. k t (inr q))
 first_then P Q (Some x) None h k = absurd (k x (inl refl))
 first_then P Q None (Some y) h k =
@@ -120,7 +120,7 @@ first_with_then P Q o a b h k =
 -- nothing more
 pub first_with_none : (P : List ℕ → Type 0) (o : Option (List ℕ)) → ((t : List ℕ) → P t → ⊥) → IsFirstWith P o o
 first_with_none P None n = λ t. ⊎_elim (λ e. absurd cc) (λ p. n t p)
-first_with_none P (Some x) n = (inl refl, λ t. ⊎_elim (λ e. subst (λ y. IsUpTo x y) (some_is x t e) (up_to_itself x)) (λ p. absurd (n t p)))
+first_with_none P (Some x) n = (inl refl, λ t. ⊎_elim (λ e. subst (λ y. IsNameUpTo x y) (some_is x t e) (up_to_itself x)) (λ p. absurd (n t p)))
 
 -- a name of the list is at some place
 pub in_at : (t : List ℕ) (xs : List (List ℕ)) → In t xs → (k : ℕ) × (slice_get xs k ≡ Some t)
@@ -148,14 +148,14 @@ least_join names i name text e (inl h) = let le : h.0 < i = h.1 in (h.0, omega a
 least_join names i name text e (inr is) = (i, omega arith, e ∙ ap Some (sym is))
 
 pub least_more : (names : List (List ℕ)) (i : ℕ) (name : List ℕ) (a b : Option (List ℕ)) → slice_get names i ≡ Some name
-    → IsFirst (λ text. (k : ℕ) × (k < i) × (slice_get names k ≡ Some text)) a → IsFirstWith (λ text. text ≡ name) a b
-    → IsFirst (λ text. (k : ℕ) × (k < i + 1) × (slice_get names k ≡ Some text)) b
+    → IsFirstName (λ text. (k : ℕ) × (k < i) × (slice_get names k ≡ Some text)) a → IsFirstWith (λ text. text ≡ name) a b
+    → IsFirstName (λ text. (k : ℕ) × (k < i + 1) × (slice_get names k ≡ Some text)) b
 least_more names i name a b e h k =
     first_same _ _ b (λ t. least_join names i name t e) (λ t. least_split names i name t e)
     (first_then (λ text. (k : ℕ) × (k < i) × (slice_get names k ≡ Some text)) (λ text. text ≡ name) a b h k)
 
 pub least_all : (names : List (List ℕ)) (i : ℕ) (a : Option (List ℕ)) → length names ≤ i
-    → IsFirst (λ text. (k : ℕ) × (k < i) × (slice_get names k ≡ Some text)) a → IsFirst (λ text. In text names) a
+    → IsFirstName (λ text. (k : ℕ) × (k < i) × (slice_get names k ≡ Some text)) a → IsFirstName (λ text. In text names) a
 least_all names i a le h =
     first_same _ _ a
     (λ t r. at_in t names r.0 r.2)

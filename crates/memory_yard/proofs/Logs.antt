@@ -21,7 +21,7 @@ use Rattle.memory_yard.specs.Keeping.{log_keeps_itself}
 use Rattle.memory_yard.specs.Log.{told}
 use Rattle.memory_yard.specs.Place.{same_partition}
 use Rattle.memory_yard.specs.Places.{partitions_decide}
-use Rattle.memory_yard.specs.Shelf.{at, Leaves}
+use Rattle.memory_yard.specs.Shelf.{at, LeavesPlace}
 
 -- a count that stays none hasn't risen
 pub never_rose : (a b : ℕ) → a ≡ 0 → b ≡ counted a 1 → b ≡ a → ⊥
@@ -85,7 +85,7 @@ itself (Some m) = log_keeps_itself (told m)
 
 -- a log that was taken and came back with what it reports
 pub put_back : (old mid new : List (Slot PartitionId (NoteLog MemoryDisk))) (p : PartitionId) (m n : NoteLog MemoryDisk) → Some m ≡ at same_partition p old
-    → Leaves same_partition p None old mid → Leaves same_partition p (Some n) mid new → log.Keeps (told m) (told n)
+    → LeavesPlace same_partition p None old mid → LeavesPlace same_partition p (Some n) mid new → log.Keeps (told m) (told n)
     → (q : PartitionId) → Both (λ a b. log.Keeps (told a) (told b)) (at same_partition q old) (at same_partition q new)
 put_back old mid new p m n was taken put kept q =
     ⊎_elim
@@ -96,7 +96,7 @@ put_back old mid new p m n was taken put kept q =
     (is_or_not q p)
 
 -- none was there to take
-pub none_back : (old new : List (Slot PartitionId (NoteLog MemoryDisk))) (p : PartitionId) → None ≡ at same_partition p old → Leaves same_partition p None old new
+pub none_back : (old new : List (Slot PartitionId (NoteLog MemoryDisk))) (p : PartitionId) → None ≡ at same_partition p old → LeavesPlace same_partition p None old new
     → (q : PartitionId) → Both (λ a b. log.Keeps (told a) (told b)) (at same_partition q old) (at same_partition q new)
 none_back old new p was taken q =
     ⊎_elim

@@ -18,7 +18,7 @@ use Rattle.meta_log.specs.Content as logs
 use Rattle.disk_model.specs.contracts.memory_disk.MemoryDiskDisk.TheImpl as disk
 use Rattle.object_store.specs.contracts.memory_store.MemoryStoreStore.TheImpl as store
 use Rattle.memory_yard.specs.Log.{told}
-use Rattle.device_yard.specs.YardContent.{YardContent, Has, Both, IsFirst}
+use Rattle.device_yard.specs.YardContent.{YardContent, IsThereWith, Both, IsFirstName}
 use Rattle.memory_yard.specs.declared.place.DiskPlace.{DiskPlace}
 use Rattle.memory_yard.specs.declared.slot.Slot.{Slot}
 use Rattle.memory_yard.specs.First.{IsNameIn, IsFirstWith, AreWithout}
@@ -49,13 +49,13 @@ module _ (strays : List (List ℕ)) (disks : List (Slot DiskPlace MemoryDisk)) (
         (λ d. inl (
           d.0.broker,
           subst
-              (λ q. Has (λ x. (n : FileName) × IsSome (((disk.ghosts).content x).files n)) (at same_disk (record { partition = q; broker = d.0.broker }) disks))
+              (λ q. IsThereWith (λ x. (n : FileName) × IsSome (((disk.ghosts).content x).files n)) (at same_disk (record { partition = q; broker = d.0.broker }) disks))
               (sym d.2) d.1,
         ))
         ((h p).0 first))
-        (λ s. inr (inl (subst (λ q. Has (λ x. (k : ObjectKey) × IsSome (((store.ghosts).content x).objects k)) (at same_partition q stores)) (sym s.2) s.1)))
+        (λ s. inr (inl (subst (λ q. IsThereWith (λ x. (k : ObjectKey) × IsSome (((store.ghosts).content x).objects k)) (at same_partition q stores)) (sym s.2) s.1)))
         ((m p).0 earlier))
-        (λ l. inr (inr (subst (λ q. Has (λ x. (told x).notes ≢ []) (at same_partition q logs)) (sym l.2) l.1)))
+        (λ l. inr (inr (subst (λ q. IsThereWith (λ x. (told x).notes ≢ []) (at same_partition q logs)) (sym l.2) l.1)))
         ((n p).0 there),
   )
 
@@ -87,9 +87,9 @@ module _ (strays : List (List ℕ)) (disks : List (Slot DiskPlace MemoryDisk)) (
     λ there. ⊎_elim
         (λ earlier. ⊎_elim
         (λ none. absurd none)
-        (λ s. inl (subst (λ q. Has (λ x. (k : ObjectKey) × IsSome (((store.ghosts).content x).objects k)) (at same_partition q stores)) (sym s.2) s.1))
+        (λ s. inl (subst (λ q. IsThereWith (λ x. (k : ObjectKey) × IsSome (((store.ghosts).content x).objects k)) (at same_partition q stores)) (sym s.2) s.1))
         ((m p).0 earlier))
-        (λ l. inr (subst (λ q. Has (λ x. (told x).notes ≢ []) (at same_partition q logs)) (sym l.2) l.1))
+        (λ l. inr (subst (λ q. IsThereWith (λ x. (told x).notes ≢ []) (at same_partition q logs)) (sym l.2) l.1))
         ((n p).0 there),
   )
 
@@ -114,7 +114,7 @@ module _ (strays : List (List ℕ)) (disks : List (Slot DiskPlace MemoryDisk)) (
     λ has. (n p).1 (inr (p, has, refl)),
     λ there. ⊎_elim
         (λ none. absurd none)
-        (λ r. subst (λ q. Has (λ x. IsSome (((disk.ghosts).content x).files Registry)) (at same_partition q registries)) (sym r.2) r.1)
+        (λ r. subst (λ q. IsThereWith (λ x. IsSome (((disk.ghosts).content x).files Registry)) (at same_partition q registries)) (sym r.2) r.1)
         ((n p).0 there),
   )
 
@@ -152,16 +152,16 @@ same_joined a b c f g kept disks_are stores_are logs_are = record {
 pub bare_are : (a b : YardContent MemoryDisk MemoryStore (NoteLog MemoryDisk)) (tiers kept bare : List PartitionId) → ((p : PartitionId) → b.registries p ≡ a.registries p)
     → HaveTiers a tiers → HaveRegistries b kept → AreWithout tiers kept bare → AreBare a bare
 bare_are a b tiers kept bare same has keeps without p = (
-  λ is. (without p).1 ((has p).0 is.0, λ there. is.1 (subst (λ o. Has (λ x. IsSome (((disk.ghosts).content x).files Registry)) o) (same p) ((keeps p).1 there))),
+  λ is. (without p).1 ((has p).0 is.0, λ there. is.1 (subst (λ o. IsThereWith (λ x. IsSome (((disk.ghosts).content x).files Registry)) o) (same p) ((keeps p).1 there))),
   λ there. let both = (without p).0 there in (
     (has p).1 both.0,
-    λ registered. both.1 ((keeps p).0 (subst (λ o. Has (λ x. IsSome (((disk.ghosts).content x).files Registry)) o) (sym (same p)) registered)),
+    λ registered. both.1 ((keeps p).0 (subst (λ o. IsThereWith (λ x. IsSome (((disk.ghosts).content x).files Registry)) o) (sym (same p)) registered)),
   ),
 )
 
 -- the first of the strays' names and those of partitions
 pub first_of_all : (held : YardContent MemoryDisk MemoryStore (NoteLog MemoryDisk)) (seen : List (List ℕ)) (bare : List PartitionId) (a d : Option (List ℕ))
-    → seen ≡ held.strays → IsFirst (λ t. In t seen) a → AreBare held bare → IsFirstWith (IsNameIn bare) a d → IsFirstOf held d
+    → seen ≡ held.strays → IsFirstName (λ t. In t seen) a → AreBare held bare → IsFirstWith (IsNameIn bare) a d → IsFirstOf held d
 first_of_all held seen bare a d sees h are k =
     first_same _ _ d
     (λ t. ⊎_elim (λ stray. inl (subst (λ xs. In t xs) sees stray)) (λ x. inr (x.0, (are x.0).1 x.1, x.2)))

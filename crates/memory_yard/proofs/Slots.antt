@@ -5,10 +5,10 @@ use Rattle.std.proofs.lemmas.Bool.{false≢true}
 use Rattle.std.specs.declared.result.Result.{Result}
 use Rattle.std.proofs.lemmas.Option.{slice_get_within, slice_get_read}
 use Rattle.tier_base.specs.declared.names.PartitionId.{PartitionId}
-use Rattle.device_yard.specs.YardContent.{Has, Both}
+use Rattle.device_yard.specs.YardContent.{IsThereWith, Both}
 use Rattle.memory_yard.specs.declared.slot.Slot.{Slot}
 use Rattle.memory_yard.specs.Found.{Adds}
-use Rattle.memory_yard.specs.Shelf.{at, AreDistinct, IsAbsentBelow, IsSlotOf, Leaves, SlotKeeps, AreStill, IsPartitionOf, IsPartitionBelow, IsPartitionOn}
+use Rattle.memory_yard.specs.Shelf.{at, AreSlotsDistinct, IsAbsentBelow, IsSlotOf, LeavesPlace, SlotKeeps, AreStill, IsPartitionOf, IsPartitionBelow, IsPartitionOn}
 use Rattle.memory_yard.proofs.Finds.{adds_same}
 
 some_is : {A : Type 0} → (x y : A) → Some x ≡ Some y → x ≡ y
@@ -39,17 +39,17 @@ module _ {K T : Type 0} (same : K → K → Bool) (decides : (a b : K) → Decid
   at_behind : (p q : K) (d : Option T) (slots : List (Slot K T)) → same p q ≡ false → at same q (record { place = p; device = d } ∷ slots) ≡ at same q slots
   at_behind p q d slots e = rw e
 
-  distinct_behind : (x : Slot K T) (slots : List (Slot K T)) → AreDistinct same (x ∷ slots) → AreDistinct same slots
+  distinct_behind : (x : Slot K T) (slots : List (Slot K T)) → AreSlotsDistinct same (x ∷ slots) → AreSlotsDistinct same slots
   distinct_behind x slots h i j a b e f s = let r : suc i ≡ suc j = h (suc i) (suc j) a b e f s in omega arith
 
   -- the first of distinct slots isn't of a later one's place
-  not_first : (x s : Slot K T) (slots : List (Slot K T)) (i : ℕ) (place : K) → AreDistinct same (x ∷ slots) → slice_get slots i ≡ Some s
+  not_first : (x s : Slot K T) (slots : List (Slot K T)) (i : ℕ) (place : K) → AreSlotsDistinct same (x ∷ slots) → slice_get slots i ≡ Some s
       → s.place ≡ place → same x.place place ≡ false
   not_first x s slots i place h e is =
       not_same same decides x.place place (λ p. let r : 0 ≡ suc i = h 0 (suc i) x s refl e ((decides x.place s.place).1 (p ∙ sym is)) in absurd (omega arith))
 
   -- the device of a slot is at its place
-  pub at_slot : (slots : List (Slot K T)) (i : ℕ) (s : Slot K T) (place : K) → AreDistinct same slots → slice_get slots i ≡ Some s → s.place ≡ place → at same place slots ≡ s.device
+  pub at_slot : (slots : List (Slot K T)) (i : ℕ) (s : Slot K T) (place : K) → AreSlotsDistinct same slots → slice_get slots i ≡ Some s → s.place ≡ place → at same place slots ≡ s.device
   at_slot [] i s place h e is = absurd cc
   at_slot (x ∷ slots) zero s place h e is =
       let xs : x ≡ s = some_is x s e in
@@ -65,8 +65,8 @@ module _ {K T : Type 0} (same : K → K → Bool) (decides : (a b : K) → Decid
       ∙ at_absent slots place (λ n i s below e. h (suc n) (suc i) s (omega arith) e)
 
   -- a slot's device is another one now, or none
-  pub set_leaves : (slots : List (Slot K T)) (i : ℕ) (s : Slot K T) (place : K) (now : Option T) → AreDistinct same slots → slice_get slots i ≡ Some s → s.place ≡ place
-      → Leaves same place now slots (slice_set slots i (record { place = s.place; device = now }))
+  pub set_leaves : (slots : List (Slot K T)) (i : ℕ) (s : Slot K T) (place : K) (now : Option T) → AreSlotsDistinct same slots → slice_get slots i ≡ Some s → s.place ≡ place
+      → LeavesPlace same place now slots (slice_set slots i (record { place = s.place; device = now }))
   set_leaves [] i s place now h e is = absurd cc
   set_leaves (x ∷ slots) zero s place now h e is = record {
     there = at_there s.place place now slots ((decides s.place place).1 is);
@@ -90,7 +90,7 @@ module _ {K T : Type 0} (same : K → K → Bool) (decides : (a b : K) → Decid
 
   -- a slot of a new place is added
   pub push_leaves : (slots : List (Slot K T)) (place : K) (device : T) → ((n : ℕ) → IsAbsentBelow same n place slots)
-      → Leaves same place (Some device) slots (slots ++ record { place = place; device = Some device } ∷ [])
+      → LeavesPlace same place (Some device) slots (slots ++ record { place = place; device = Some device } ∷ [])
   push_leaves [] place device h = record {
     there = at_there place place (Some device) [] (same_itself same decides place);
     others = λ q other. at_behind place q (Some device) [] (not_same same decides place q (λ p. other (sym p)));
@@ -114,7 +114,7 @@ module _ {K T : Type 0} (same : K → K → Bool) (decides : (a b : K) → Decid
   pushed_slot (x ∷ slots) n s zero e = inl e
   pushed_slot (x ∷ slots) n s (suc i) e = ⊎_elim (λ was. inl was) (λ is. inr (is.0, ap suc is.1)) (pushed_slot slots n s i e)
 
-  pub push_distinct : (slots : List (Slot K T)) (n : Slot K T) → ((k : ℕ) → IsAbsentBelow same k n.place slots) → AreDistinct same slots → AreDistinct same (slots ++ n ∷ [])
+  pub push_distinct : (slots : List (Slot K T)) (n : Slot K T) → ((k : ℕ) → IsAbsentBelow same k n.place slots) → AreSlotsDistinct same slots → AreSlotsDistinct same (slots ++ n ∷ [])
   push_distinct slots n absent h i j a b e f s =
       let ab : a.place ≡ b.place = (decides a.place b.place).0 s in
       let none : (k : ℕ) (c : Slot K T) → slice_get slots k ≡ Some c → c.place ≡ n.place → ⊥ =
@@ -132,7 +132,7 @@ module _ {K T : Type 0} (same : K → K → Bool) (decides : (a b : K) → Decid
   was_there old new i b (Some x) None e f h = absurd h
   was_there old new i b (Some x) (Some y) e f h = (x, e, ap (λ s. s.place) (sym (some_is y b f)) ∙ h)
 
-  pub kept_distinct : (old new : List (Slot K T)) → ((i : ℕ) → Both (λ a b. b.place ≡ a.place) (slice_get old i) (slice_get new i)) → AreDistinct same old → AreDistinct same new
+  pub kept_distinct : (old new : List (Slot K T)) → ((i : ℕ) → Both (λ a b. b.place ≡ a.place) (slice_get old i) (slice_get new i)) → AreSlotsDistinct same old → AreSlotsDistinct same new
   kept_distinct old new still h i j a b e f s =
       let x = was_there old new i a (slice_get old i) (slice_get new i) refl e (still i) in
       let y = was_there old new j b (slice_get old j) (slice_get new j) refl f (still j) in
@@ -155,7 +155,7 @@ module _ {K T : Type 0} (same : K → K → Bool) (decides : (a b : K) → Decid
     still_places (Some x) None h = h
     still_places (Some x) (Some y) h = h.place
 
-    pub still_distinct : (old new : List (Slot K T)) → AreStill keeps old new → AreDistinct same old → AreDistinct same new
+    pub still_distinct : (old new : List (Slot K T)) → AreStill keeps old new → AreSlotsDistinct same old → AreSlotsDistinct same new
     still_distinct old new still = kept_distinct old new (λ i. still_places (slice_get old i) (slice_get new i) (still i))
 
     pub still_at : (old new : List (Slot K T)) → AreStill keeps old new → (q : K) → Both keeps (at same q old) (at same q new)
@@ -179,13 +179,13 @@ module _ {K T : Type 0} (same : K → K → Bool) (decides : (a b : K) → Decid
 
   module _ (partition_of : K → PartitionId) (used : T → Type 0) where
     -- what is at a place is in one of the slots
-    find_slot : (slots : List (Slot K T)) (q : K) → Has used (at same q slots) → (i : ℕ) × (s : Slot K T) × (slice_get slots i ≡ Some s) × (s.place ≡ q) × Has used s.device
+    find_slot : (slots : List (Slot K T)) (q : K) → IsThereWith used (at same q slots) → (i : ℕ) × (s : Slot K T) × (slice_get slots i ≡ Some s) × (s.place ≡ q) × IsThereWith used s.device
     find_slot [] q has = absurd has
     find_slot (x ∷ slots) q has =
         ⊎_elim
-        (λ yes. (0, x, refl, (decides x.place q).0 yes, subst (λ d. Has used d) (at_there x.place q x.device slots yes) has))
+        (λ yes. (0, x, refl, (decides x.place q).0 yes, subst (λ d. IsThereWith used d) (at_there x.place q x.device slots yes) has))
         (λ no.
-        let r = find_slot slots q (subst (λ d. Has used d) (at_behind x.place q x.device slots no) has) in
+        let r = find_slot slots q (subst (λ d. IsThereWith used d) (at_behind x.place q x.device slots no) has) in
         (suc r.0, r.1, r.2, r.3, r.4))
         (bool_cases (same x.place q))
 
@@ -199,18 +199,18 @@ module _ {K T : Type 0} (same : K → K → Bool) (decides : (a b : K) → Decid
           subst (λ o. IsSomeAnd o (λ s. IsPartitionOf partition_of used s p)) (sym r.2) (r.4, h.2 ∙ ap partition_of (sym r.3)),
         )
 
-    on_shelf : (slots : List (Slot K T)) (p : PartitionId) (i : ℕ) (o : Option (Slot K T)) → AreDistinct same slots → slice_get slots i ≡ o
+    on_shelf : (slots : List (Slot K T)) (p : PartitionId) (i : ℕ) (o : Option (Slot K T)) → AreSlotsDistinct same slots → slice_get slots i ≡ o
         → IsSomeAnd o (λ s. IsPartitionOf partition_of used s p) → IsPartitionOn partition_of used same slots p
     on_shelf slots p i None distinct e h = absurd h
-    on_shelf slots p i (Some s) distinct e h = (s.place, subst (λ d. Has used d) (sym (at_slot slots i s s.place distinct e refl)) h.0, h.1)
+    on_shelf slots p i (Some s) distinct e h = (s.place, subst (λ d. IsThereWith used d) (sym (at_slot slots i s s.place distinct e refl)) h.0, h.1)
 
-    pub partition_on_shelf : (slots : List (Slot K T)) (n : ℕ) (p : PartitionId) → AreDistinct same slots → IsPartitionBelow partition_of used n slots p
+    pub partition_on_shelf : (slots : List (Slot K T)) (n : ℕ) (p : PartitionId) → AreSlotsDistinct same slots → IsPartitionBelow partition_of used n slots p
         → IsPartitionOn partition_of used same slots p
     partition_on_shelf slots n p distinct h = on_shelf slots p h.0 (slice_get slots h.0) distinct refl h.2
 
 -- what a search for a place's slot reports
 module _ {K T : Type 0} (same : K → K → Bool) (decides : (a b : K) → Decides (same a b) (a ≡ b)) (told seen items : List (Slot K T)) (view : told ≡ items) (sees : seen ≡ items)
-    (distinct : AreDistinct same items) (place : K) where
+    (distinct : AreSlotsDistinct same items) (place : K) where
   found_slot : (i : ℕ) (s : Slot K T) → IsSlotOf same place seen (Some i) → s ≡ get_or items i s → (slice_get items i ≡ Some s) × (s.place ≡ place)
   found_slot i s found is =
       let within : i < length items = subst (λ xs. i < length xs) sees found.0 in
@@ -223,10 +223,10 @@ module _ {K T : Type 0} (same : K → K → Bool) (decides : (a b : K) → Decid
       ap (at same place) view ∙ at_slot same decides items i s place distinct h.0 h.1
 
   pub found_set : (i : ℕ) (s : Slot K T) (now : Option T) → IsSlotOf same place seen (Some i) → s ≡ get_or items i s
-      → Leaves same place now told (slice_set items i (record { place = s.place; device = now }))
+      → LeavesPlace same place now told (slice_set items i (record { place = s.place; device = now }))
   found_set i s now found is =
       let h = found_slot i s found is in
-      subst (λ xs. Leaves same place now xs (slice_set items i (record { place = s.place; device = now }))) (sym view)
+      subst (λ xs. LeavesPlace same place now xs (slice_set items i (record { place = s.place; device = now }))) (sym view)
       (set_leaves same decides items i s place now distinct h.0 h.1)
 
   absent_items : IsSlotOf same place seen None → (n : ℕ) → IsAbsentBelow same n place items
@@ -235,29 +235,29 @@ module _ {K T : Type 0} (same : K → K → Bool) (decides : (a b : K) → Decid
   pub none_at : IsSlotOf same place seen None → at same place told ≡ None
   none_at absent = ap (at same place) view ∙ at_absent same decides items place (absent_items absent)
 
-  pub none_stays : IsSlotOf same place seen None → Leaves same place None told told
+  pub none_stays : IsSlotOf same place seen None → LeavesPlace same place None told told
   none_stays absent = record { there = none_at absent; others = λ q other. refl }
 
   pub none_pushed : (d : T) (new : List (Slot K T)) → IsSlotOf same place seen None → new ≡ items ++ record { place = place; device = Some d } ∷ []
-      → Leaves same place (Some d) told new
+      → LeavesPlace same place (Some d) told new
   none_pushed d new absent e =
-      subst (λ xs. Leaves same place (Some d) xs new) (sym view)
-      (subst (λ xs. Leaves same place (Some d) items xs) (sym e) (push_leaves same decides items place d (absent_items absent)))
+      subst (λ xs. LeavesPlace same place (Some d) xs new) (sym view)
+      (subst (λ xs. LeavesPlace same place (Some d) items xs) (sym e) (push_leaves same decides items place d (absent_items absent)))
 
-  pub none_distinct : (d : T) (new : List (Slot K T)) → IsSlotOf same place seen None → new ≡ items ++ record { place = place; device = Some d } ∷ [] → AreDistinct same new
+  pub none_distinct : (d : T) (new : List (Slot K T)) → IsSlotOf same place seen None → new ≡ items ++ record { place = place; device = Some d } ∷ [] → AreSlotsDistinct same new
   none_distinct d new absent e =
-      subst (λ xs. AreDistinct same xs) (sym e)
+      subst (λ xs. AreSlotsDistinct same xs) (sym e)
       (push_distinct same decides items (record { place = place; device = Some d }) (absent_items absent) distinct)
 
 -- the partitions of the slots are those of the shelf
 pub found_on : {K T R E : Type 0} → (same : K → K → Bool) (decides : (a b : K) → Decides (same a b) (a ≡ b)) (partition_of : K → PartitionId) (used : T → Type 0)
-    (told seen items : List (Slot K T)) → told ≡ items → seen ≡ items → AreDistinct same items → (o a : List PartitionId) (result : Result R E)
+    (told seen items : List (Slot K T)) → told ≡ items → seen ≡ items → AreSlotsDistinct same items → (o a : List PartitionId) (result : Result R E)
     → OnOk result (Adds (IsPartitionBelow partition_of used (length seen) seen) o a)
     → OnOk result (Adds (IsPartitionOn partition_of used same told) o a)
 found_on same decides partition_of used told seen items view sees distinct o a (Err e) h = h
 found_on same decides partition_of used told seen items view sees distinct o a (Ok x) h =
     let both : seen ≡ told = sees ∙ sym view in
-    let d : AreDistinct same told = subst (λ xs. AreDistinct same xs) (sym view) distinct in
+    let d : AreSlotsDistinct same told = subst (λ xs. AreSlotsDistinct same xs) (sym view) distinct in
     let k : Adds (IsPartitionBelow partition_of used (length told) told) o a =
     subst (λ xs. Adds (IsPartitionBelow partition_of used (length xs) xs) o a) both h in
     adds_same _ _ o a

@@ -2,7 +2,7 @@
 use Rattle.std.specs.Prelude.{◌≡◌, ◌⊎◌, ◌↔◌, List, [], ◌∷◌, ℕ, ◌++◌, codes, decimal, Option, Some}
 use Rattle.tier_base.specs.declared.names.PartitionId.{PartitionId}
 use Rattle.tier_base.specs.Told.{In}
-use Rattle.device_yard.specs.YardContent.{IsFirst}
+use Rattle.device_yard.specs.YardContent.{IsFirstName}
 
 -- the name of a partition
 abbrev pub name_of : PartitionId → List ℕ
@@ -22,4 +22,4 @@ IsNameIn partitions text = (p : PartitionId) × In p partitions × (text ≡ nam
 
 -- the first of these names and of the one that was first before
 abbrev pub IsFirstWith : (List ℕ → Type 0) → Option (List ℕ) → Option (List ℕ) → Type 0
-IsFirstWith Named before first = IsFirst (λ text. (before ≡ Some text) ⊎ Named text) first
+IsFirstWith Named before first = IsFirstName (λ text. (before ≡ Some text) ⊎ Named text) first

@@ -8,7 +8,7 @@ use Rattle.disk_model.specs.contracts.memory_disk.MemoryDiskDisk.TheImpl as disk
 use Rattle.object_store.specs.contracts.memory_store.MemoryStoreStore.TheImpl as store
 use Rattle.tier_base.specs.Told.{In}
 use Rattle.memory_yard.specs.Log.{told}
-use Rattle.device_yard.specs.YardContent.{YardContent, Same, IsName, IsFirst, AreUsed, HasTier, HasRegistry, IsBare}
+use Rattle.device_yard.specs.YardContent.{YardContent, Same, IsNameInYard, IsFirstName, AreUsed, HasTier, HasRegistry, IsBare}
 
 -- no name and no content has changed
 abbrev pub SameYardContent : YardContent MemoryDisk MemoryStore (NoteLog MemoryDisk) → YardContent MemoryDisk MemoryStore (NoteLog MemoryDisk) → Type 0
@@ -20,7 +20,7 @@ AreUsedOf held list = AreUsed (disk.ghosts).content (store.ghosts).content told 
 
 -- the first of the names
 abbrev pub IsFirstOf : YardContent MemoryDisk MemoryStore (NoteLog MemoryDisk) → Option (List ℕ) → Type 0
-IsFirstOf held first = IsFirst (IsName (disk.ghosts).content (store.ghosts).content told held) first
+IsFirstOf held first = IsFirstName (IsNameInYard (disk.ghosts).content (store.ghosts).content told held) first
 
 -- the partitions that have an object or a metadata event
 abbrev pub HaveTiers : YardContent MemoryDisk MemoryStore (NoteLog MemoryDisk) → List PartitionId → Type 0

@@ -1,7 +1,7 @@
 -- Devices on a shelf by their places.
 use Rattle.std.specs.Prelude.{◌≡◌, ◌≢◌, ℕ, ◌<◌, length, Bool, true, false, if◌then◌else◌, List, [], ◌∷◌, slice_get, Option, Some, None, IsSomeAnd}
 use Rattle.tier_base.specs.declared.names.PartitionId.{PartitionId}
-use Rattle.device_yard.specs.YardContent.{Has, Both}
+use Rattle.device_yard.specs.YardContent.{IsThereWith, Both}
 use Rattle.memory_yard.specs.declared.slot.Slot.{Slot}
 
 -- the slots, and for how many further devices there is room
@@ -16,13 +16,13 @@ module _ {K T : Type 0} (same : K → K → Bool) where
   at place (s ∷ slots) = if same s.place place then s.device else at place slots
 
   -- what is held at one place now, and the other places hold what they held
-  pub record Leaves (place : K) (now : Option T) (old new : List (Slot K T)) : Type 0 where
+  pub record LeavesPlace (place : K) (now : Option T) (old new : List (Slot K T)) : Type 0 where
     pub there : at place new ≡ now
     pub others : (q : K) → q ≢ place → at q new ≡ at q old
 
   -- no two slots are of one place
-  abbrev pub AreDistinct : List (Slot K T) → Type 0
-  AreDistinct slots = (i j : ℕ) (a b : Slot K T) → slice_get slots i ≡ Some a → slice_get slots j ≡ Some b → same a.place b.place ≡ true → i ≡ j
+  abbrev pub AreSlotsDistinct : List (Slot K T) → Type 0
+  AreSlotsDistinct slots = (i j : ℕ) (a b : Slot K T) → slice_get slots i ≡ Some a → slice_get slots j ≡ Some b → same a.place b.place ≡ true → i ≡ j
 
   -- none of the first n slots is of the place
   abbrev pub IsAbsentBelow : ℕ → K → List (Slot K T) → Type 0
@@ -46,7 +46,7 @@ module _ {K T : Type 0} (keeps : T → T → Type 0) where
 module _ {K T : Type 0} (partition_of : K → PartitionId) (used : T → Type 0) where
   -- the partition of a slot, where its device has something
   abbrev pub IsPartitionOf : Slot K T → PartitionId → Type 0
-  IsPartitionOf s p = Has used s.device × (p ≡ partition_of s.place)
+  IsPartitionOf s p = IsThereWith used s.device × (p ≡ partition_of s.place)
 
   -- that of one of the first n slots
   abbrev pub IsPartitionBelow : ℕ → List (Slot K T) → PartitionId → Type 0
@@ -54,4 +54,4 @@ module _ {K T : Type 0} (partition_of : K → PartitionId) (used : T → Type 0)
 
   -- a partition that has something on the shelf
   abbrev pub IsPartitionOn : (K → K → Bool) → List (Slot K T) → PartitionId → Type 0
-  IsPartitionOn same slots p = (place : K) × Has used (at same place slots) × (p ≡ partition_of place)
+  IsPartitionOn same slots p = (place : K) × IsThereWith used (at same place slots) × (p ≡ partition_of place)

@@ -2,7 +2,7 @@
 
 ghost use Rattle.std.specs.Prelude.{◌≡◌, ◌↔◌, IfOk, OnOk, IsTrue, IsSomeAnd, string_bytes};
 ghost use Rattle.tier_base.specs.Told.{In};
-ghost use Rattle.device_yard.specs.YardContent.{IsUpTo, IsFirst};
+ghost use Rattle.device_yard.specs.YardContent.{IsNameUpTo, IsFirstName};
 ghost use Rattle.memory_yard.specs.First.{name_of, IsNameIn, IsFirstWith, AreWithout, PushesUnless};
 
 use std::alloc::{AllocError, Global};
@@ -20,7 +20,7 @@ fn name_of(alloc: Global, partition: PartitionId) -> Result<String, AllocError>
 
 /// The first of some names.
 pub fn least_of(alloc: Global, names: &[Blob]) -> Result<Option<Blob>, AllocError>
-    ensures { IfOk result (IsFirst (λ text. In text names.now)) }
+    ensures { IfOk result (IsFirstName (λ text. In text names.now)) }
 {
     let mut first = None;
     for name in names {
@@ -93,7 +93,7 @@ fn offer(alloc: Global, first: &mut Option<Blob>, name: &[u8]) -> Result<(), All
 
 /// Whether a name is the first one so far, or follows it.
 fn is_behind(name: &[u8], first: &Option<Blob>) -> bool
-    ensures { IsTrue result ↔ IsSomeAnd first.now (λ before. IsUpTo before name.now) }
+    ensures { IsTrue result ↔ IsSomeAnd first.now (λ before. IsNameUpTo before name.now) }
 {
     match first {
         Some(first) => is_up_to(first.as_slice(), name),
@@ -103,7 +103,7 @@ fn is_behind(name: &[u8], first: &Option<Blob>) -> bool
 
 /// Whether a text precedes another, or is it.
 fn is_up_to(a: &[u8], b: &[u8]) -> bool
-    ensures { IsTrue result ↔ IsUpTo a.now b.now }
+    ensures { IsTrue result ↔ IsNameUpTo a.now b.now }
 {
     a.cmp(b).is_le()
 }

@@ -1,7 +1,7 @@
 //! Devices that are provided from a shelf: one that came back with what it held, or an empty one.
 
 ghost use Rattle.std.specs.Prelude.{◌≡◌, ◌≢◌, ◌≤◌, ◌+◌, None, IfOk, OnOk, OnErr, IsErrOf, IsSome, IsTrue, not, is_some};
-ghost use Rattle.tier_base.specs.Device.{IsFresh};
+ghost use Rattle.tier_base.specs.Device.{IsFreshDevice};
 ghost use Rattle.tier_base.specs.declared.fault.Trouble.TheVariants.{Failed};
 ghost use Rattle.disk_model.specs.Content.{Keeps};
 ghost use Rattle.disk_model.specs.MemoryFiles.{fuse_of};
@@ -9,7 +9,7 @@ ghost use Rattle.meta_log.specs.Content as log;
 ghost use Rattle.device_yard.specs.YardContent.{Both, HandsDisk, HandsStore, HandsLog};
 ghost use Rattle.memory_yard.specs.Log.{told};
 ghost use Rattle.memory_yard.specs.Place.{same_partition};
-ghost use Rattle.memory_yard.specs.Shelf.{at, Leaves};
+ghost use Rattle.memory_yard.specs.Shelf.{at, LeavesPlace};
 
 use crate::device::RegistryDisk;
 use crate::log_place::{LogPlace, open};
@@ -23,10 +23,10 @@ use tier_base::{PartitionId, Trouble};
 
 /// Sets a fuse to a disk that was just provided, where there is one.
 fn fused(disk: MemoryDisk, fuse: Option<u64>) -> MemoryDisk
-    requires fresh { IsFresh (⟦<MemoryDisk as Disk>⟧.control disk) }
+    requires fresh { IsFreshDevice (⟦<MemoryDisk as Disk>⟧.control disk) }
     requires infallible { IsTrue (⟦<MemoryDisk as Disk>⟧.control disk).infallible }
     requires unfused { fuse_of disk ≡ None }
-    ensures fresh { IsFresh (⟦<MemoryDisk as Disk>⟧.control result) }
+    ensures fresh { IsFreshDevice (⟦<MemoryDisk as Disk>⟧.control result) }
     ensures content { Keeps (⟦<MemoryDisk as Disk>⟧.content disk) (⟦<MemoryDisk as Disk>⟧.content result) }
     ensures infallible { (⟦<MemoryDisk as Disk>⟧.control result).infallible ≡ not (is_some fuse) }
     ensures fuse { fuse_of result ≡ fuse }
@@ -40,7 +40,7 @@ fn fused(disk: MemoryDisk, fuse: Option<u64>) -> MemoryDisk
 
 /// Provides a disk that came back, or an empty one. Its calls can't fail but by the fuse, if there is one.
 pub fn hand_disk(alloc: Global, held: Option<MemoryDisk>, fuse: Option<u64>) -> MemoryDisk
-    ensures fresh { IsFresh (⟦<MemoryDisk as Disk>⟧.control result) }
+    ensures fresh { IsFreshDevice (⟦<MemoryDisk as Disk>⟧.control result) }
     ensures content { HandsDisk ⟦<MemoryDisk as Disk>⟧.content held (⟦<MemoryDisk as Disk>⟧.content result) }
     ensures infallible { (⟦<MemoryDisk as Disk>⟧.control result).infallible ≡ not (is_some fuse) }
     ensures fuse { fuse_of result ≡ fuse }
@@ -70,10 +70,10 @@ pub fn hand_store(
     stores: &mut Shelf<PartitionId, MemoryStore>,
     place: PartitionId,
 ) -> MemoryStore
-    ensures fresh { IsFresh (⟦<MemoryStore as Store>⟧.control result) }
+    ensures fresh { IsFreshDevice (⟦<MemoryStore as Store>⟧.control result) }
     ensures content { HandsStore ⟦<MemoryStore as Store>⟧.content (at same_partition place stores.old.slots)
         (⟦<MemoryStore as Store>⟧.content result) }
-    ensures leaves { Leaves same_partition place None stores.old.slots stores.new.slots }
+    ensures leaves { LeavesPlace same_partition place None stores.old.slots stores.new.slots }
     ensures room { stores.new.room ≡ stores.old.room }
 {
     match stores.take(place) {
@@ -94,9 +94,9 @@ pub fn hand_log(
     fuse: Option<u64>,
 ) -> Result<DiskLog<MemoryDisk>, Trouble>
     requires { 1 ≤ logs.old.room }
-    ensures fresh { IfOk result (λ l. IsFresh (⟦<DiskLog<MemoryDisk> as MetaLog>⟧.control l)) }
+    ensures fresh { IfOk result (λ l. IsFreshDevice (⟦<DiskLog<MemoryDisk> as MetaLog>⟧.control l)) }
     ensures content { IfOk result (λ l. HandsLog told (at same_partition place logs.old.slots) (told l)) }
-    ensures leaves { OnOk result (Leaves same_partition place None logs.old.slots logs.new.slots) }
+    ensures leaves { OnOk result (LeavesPlace same_partition place None logs.old.slots logs.new.slots) }
     ensures err { OnErr result ((q : _) → Both (λ m n. log.Keeps (told m) (told n))
         (at same_partition q logs.old.slots) (at same_partition q logs.new.slots)) }
     ensures cause { IsErrOf result Failed → IsSome fuse }

@@ -3,7 +3,7 @@
 
 ghost use Rattle.std.specs.Prelude.{◌≡◌, ◌≢◌, ◌↔◌, [], IfOk, IfErr, OnOk, IfSome, IsTrue};
 ghost use Rattle.std.specs.Option.{option_copied};
-ghost use Rattle.tier_base.specs.Device.{IsFresh, Went, Fault, fate_of};
+ghost use Rattle.tier_base.specs.Device.{IsFreshDevice, Went, Fault, fate_of};
 ghost use Rattle.tier_base.specs.declared.fault.Trouble.TheVariants.{NoMemory};
 ghost use Rattle.meta_log.specs.Content as log;
 ghost use Rattle.meta_log_file.specs.Crash.{Reopens};
@@ -111,8 +111,8 @@ impl LogPlace {
 /// Opens a log over a disk that was just provided. Where its calls can't fail it is opened, unless there is no memory.
 pub fn open(alloc: Global, disk: MemoryDisk) -> Result<DiskLog<MemoryDisk>, (MemoryDisk, Trouble)>
     requires reopens { Reopens (⟦<MemoryDisk as Disk>⟧.content disk) }
-    requires new { IsFresh (⟦<MemoryDisk as Disk>⟧.control disk) }
-    ensures fresh { IfOk result (λ l. IsFresh (⟦<DiskLog<MemoryDisk> as MetaLog>⟧.control l)) }
+    requires new { IsFreshDevice (⟦<MemoryDisk as Disk>⟧.control disk) }
+    ensures fresh { IfOk result (λ l. IsFreshDevice (⟦<DiskLog<MemoryDisk> as MetaLog>⟧.control l)) }
     ensures keeps { IfOk result (λ l. log.Keeps (told_of (⟦<MemoryDisk as Disk>⟧.content disk)) (told l)) }
     ensures stays_infallible { IfOk result (λ l. IsTrue (⟦<MemoryDisk as Disk>⟧.control disk).infallible
         → IsTrue (⟦<MemoryDisk as Disk>⟧.control l.disk).infallible) }
@@ -133,7 +133,7 @@ pub fn open(alloc: Global, disk: MemoryDisk) -> Result<DiskLog<MemoryDisk>, (Mem
 /// Whether a log over a disk has metadata events, and the place of what is left of it.
 fn has_notes(alloc: Global, disk: MemoryDisk) -> (LogPlace, Result<bool, AllocError>)
     requires reopens { Reopens (⟦<MemoryDisk as Disk>⟧.content disk) }
-    requires new { IsFresh (⟦<MemoryDisk as Disk>⟧.control disk) }
+    requires new { IsFreshDevice (⟦<MemoryDisk as Disk>⟧.control disk) }
     requires infallible { IsTrue (⟦<MemoryDisk as Disk>⟧.control disk).infallible }
     ensures keeps { log.Keeps (told_of (⟦<MemoryDisk as Disk>⟧.content disk)) (told result.0) }
     ensures has { IfOk result.1 (λ answer. IsTrue answer

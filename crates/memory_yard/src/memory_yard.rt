@@ -2,11 +2,11 @@
 
 ghost use Rattle.std.specs.Prelude.{◌≡◌, ◌≤◌, ◌↔◌, Some, None, IfSome, true, false, IfOk, OnOk, OnErr, IsTrue, Contains};
 ghost use Rattle.std.specs.Option.{option_copied};
-ghost use Rattle.tier_base.specs.Device.{Fault, fate_of, IsFresh};
+ghost use Rattle.tier_base.specs.Device.{Fault, fate_of, IsFreshDevice};
 ghost use Rattle.tier_base.specs.Told.{In};
 ghost use Rattle.device_yard.specs.Control as control;
-ghost use Rattle.device_yard.specs.Plan.{Plan, Counts, next_of};
-ghost use Rattle.device_yard.specs.YardContent.{IsFirst, IsName, AreUsed, Rise, Same, DiskIs, RegistryIs, IsOut, HandsDisk, HandsStore, HandsLog};
+ghost use Rattle.device_yard.specs.Plan.{Plan, CountsCall, next_of};
+ghost use Rattle.device_yard.specs.YardContent.{IsFirstName, IsNameInYard, AreUsed, Rise, Same, DiskIs, RegistryIs, IsOut, HandsDisk, HandsStore, HandsLog};
 ghost use Rattle.disk_model.specs.MemoryFiles.{fuse_of};
 ghost use Rattle.memory_yard.specs.Calls.{plan_of};
 ghost use Rattle.memory_yard.specs.First.{IsFirstWith};
@@ -52,7 +52,7 @@ impl MemoryYard {
     /// `first_name`, `partitions`, `disk`, `store`, `meta` and `registry`, counted together from 1, those fail whose
     /// number the plan names.
     pub fn new(alloc: Global, strays: Vec<Blob>, plan: Vec<u32>) -> MemoryYard
-        ensures fresh { control.IsFresh (⟦<MemoryYard as Yard>⟧.control result) }
+        ensures fresh { control.IsFreshYard (⟦<MemoryYard as Yard>⟧.control result) }
         ensures named { (⟦<MemoryYard as Yard>⟧.control result).named ≡ None }
         ensures plan { ⟦<MemoryYard as Yard>⟧.plan result ≡ Some (record { calls = 0; failing = plan.items; alone = true }) }
         ensures held { IsEmptyYard strays.items (⟦<MemoryYard as Yard>⟧.held result) }
@@ -174,7 +174,7 @@ impl MemoryYard {
     /// Counts a call that provides a device, where it continues.
     fn hand_out(&mut self) -> Result<(), Trouble>
         ensures control { control.Hands (fate_of result) self.old.counts self.new.counts }
-        ensures plan { Counts (fate_of result) (Some (plan_of self.old.plan)) (Some (plan_of self.new.plan)) }
+        ensures plan { CountsCall (fate_of result) (Some (plan_of self.old.plan)) (Some (plan_of self.new.plan)) }
         ensures fuse { self.new.plan.fuse ≡ self.old.plan.fuse }
         ensures disks { self.new.disks.slots ≡ self.old.disks.slots }
         ensures stores { self.new.stores.slots ≡ self.old.stores.slots }
@@ -327,11 +327,11 @@ impl Yard for MemoryYard {
     fn disk(&mut self, partition: PartitionId, broker: BrokerId) -> Result<MemoryDisk, Trouble>
         ensures control { control.Hands (fate_of result)
             (⟦<MemoryYard as Yard>⟧.control self.old) (⟦<MemoryYard as Yard>⟧.control self.new) }
-        ensures plan { Counts (fate_of result)
+        ensures plan { CountsCall (fate_of result)
             (⟦<MemoryYard as Yard>⟧.plan self.old) (⟦<MemoryYard as Yard>⟧.plan self.new) }
         ensures is_observable { (⟦<MemoryYard as Yard>⟧.held self.new).is_observable
             ≡ (⟦<MemoryYard as Yard>⟧.held self.old).is_observable }
-        ensures fresh { IfOk result (λ disk. IsFresh (⟦<MemoryDisk as Disk>⟧.control disk)) }
+        ensures fresh { IfOk result (λ disk. IsFreshDevice (⟦<MemoryDisk as Disk>⟧.control disk)) }
         ensures told { IfOk result (λ disk. (⟦<MemoryDisk as Disk>⟧.content disk).is_observable
             ≡ (⟦<MemoryYard as Yard>⟧.held self.old).is_observable) }
         ensures content { IsTrue (⟦<MemoryYard as Yard>⟧.held self.old).is_observable → IfOk result (λ disk.
@@ -372,11 +372,11 @@ impl Yard for MemoryYard {
     fn registry(&mut self, partition: PartitionId) -> Result<MemoryDisk, Trouble>
         ensures control { control.Hands (fate_of result)
             (⟦<MemoryYard as Yard>⟧.control self.old) (⟦<MemoryYard as Yard>⟧.control self.new) }
-        ensures plan { Counts (fate_of result)
+        ensures plan { CountsCall (fate_of result)
             (⟦<MemoryYard as Yard>⟧.plan self.old) (⟦<MemoryYard as Yard>⟧.plan self.new) }
         ensures is_observable { (⟦<MemoryYard as Yard>⟧.held self.new).is_observable
             ≡ (⟦<MemoryYard as Yard>⟧.held self.old).is_observable }
-        ensures fresh { IfOk result (λ disk. IsFresh (⟦<MemoryDisk as Disk>⟧.control disk)) }
+        ensures fresh { IfOk result (λ disk. IsFreshDevice (⟦<MemoryDisk as Disk>⟧.control disk)) }
         ensures told { IfOk result (λ disk. (⟦<MemoryDisk as Disk>⟧.content disk).is_observable
             ≡ (⟦<MemoryYard as Yard>⟧.held self.old).is_observable) }
         ensures content { IsTrue (⟦<MemoryYard as Yard>⟧.held self.old).is_observable → IfOk result (λ disk.

@@ -6,7 +6,7 @@ ghost use Rattle.std.specs.Prelude.{◌≡◌, ◌+◌, ◌≤◌, [], Option, S
 ghost use Rattle.std.specs.Option.{option_copied};
 ghost use Rattle.device_yard.specs.YardContent.{Both};
 ghost use Rattle.memory_yard.specs.Found.{Adds};
-ghost use Rattle.memory_yard.specs.Shelf.{at, Leaves, AreStill, IsSlotOf, IsPartitionBelow, IsPartitionOn};
+ghost use Rattle.memory_yard.specs.Shelf.{at, LeavesPlace, AreStill, IsSlotOf, IsPartitionBelow, IsPartitionOn};
 
 use crate::device::Device;
 use crate::place::DevicePlace;
@@ -24,13 +24,13 @@ pub struct Shelf<K: DevicePlace, T: Device> {
 
 impl<K: DevicePlace, T: Device> Model for Shelf<K, T> {
     ghost use Rattle.std.specs.Prelude.{◌-◌, vec_len, vec_capacity};
-    ghost use Rattle.memory_yard.specs.Shelf.{Shelved, AreDistinct};
+    ghost use Rattle.memory_yard.specs.Shelf.{Shelved, AreSlotsDistinct};
 
     ghost Value = { Shelved K T };
 
     ghost view = { λ s. record { slots = s.slots.items; room = vec_capacity s.slots - vec_len s.slots } };
 
-    ghost invariant = { λ s. AreDistinct K.same s.slots.items };
+    ghost invariant = { λ s. AreSlotsDistinct K.same s.slots.items };
 }
 
 impl<K: DevicePlace, T: Device> Shelf<K, T> {
@@ -66,7 +66,7 @@ impl<K: DevicePlace, T: Device> Shelf<K, T> {
     /// Takes the device at a place away.
     pub fn take(&mut self, place: K) -> Option<T>
         ensures taken { result ≡ at K.same place self.old.slots }
-        ensures leaves { Leaves K.same place None self.old.slots self.new.slots }
+        ensures leaves { LeavesPlace K.same place None self.old.slots self.new.slots }
         ensures room { self.new.room ≡ self.old.room }
     {
         match position(self.slots.as_slice(), place) {
@@ -78,7 +78,7 @@ impl<K: DevicePlace, T: Device> Shelf<K, T> {
     /// Puts a device at a place. One that was there is gone.
     pub fn put(&mut self, place: K, device: T)
         requires { 1 ≤ self.old.room }
-        ensures leaves { Leaves K.same place (Some device) self.old.slots self.new.slots }
+        ensures leaves { LeavesPlace K.same place (Some device) self.old.slots self.new.slots }
         ensures room { self.old.room ≤ self.new.room + 1 }
     {
         match position(self.slots.as_slice(), place) {

@@ -1,7 +1,7 @@
 //! A slot of a shelf: a place, and the device that came back to it.
 
 ghost use Rattle.std.specs.Prelude.{◌≡◌, ◌↔◌, IfOk, OnOk, IsTrue};
-ghost use Rattle.device_yard.specs.YardContent.{Has, Both};
+ghost use Rattle.device_yard.specs.YardContent.{IsThereWith, Both};
 ghost use Rattle.memory_yard.specs.Found.{Adds};
 ghost use Rattle.memory_yard.specs.Shelf.{SlotKeeps, IsPartitionOf};
 
@@ -21,7 +21,7 @@ impl<K: DevicePlace, T: Device> Slot<K, T> {
     /// Returns whether its device is here and it has content.
     fn is_used(&mut self, alloc: Global) -> Result<bool, AllocError>
         ensures keeps { SlotKeeps T.keeps self.old self.new }
-        ensures used { IfOk result (λ answer. IsTrue answer ↔ Has T.used self.old.device) }
+        ensures used { IfOk result (λ answer. IsTrue answer ↔ IsThereWith T.used self.old.device) }
     {
         match &mut self.device {
             Some(device) => device.is_used(alloc),

@@ -3,7 +3,7 @@ use Rattle.std.proofs.Common.{◌≡◌, ◌⊎◌, ◌∙◌, inl, inr, ℕ, Bo
 use Rattle.tier_base.specs.Device.{Fate, Ran, RanQuietly}
 use Rattle.tier_base.specs.Faults.{Faults, control_of}
 use Rattle.segment_meta.specs.declared.note.Note.{Note}
-use Rattle.meta_log.specs.Content.{Left, Grows, appended_if}
+use Rattle.meta_log.specs.Content.{Left, AppendsNote, appended_if}
 use Rattle.meta_log.specs.Memory.{content_of}
 
 -- a call that returns nothing
@@ -11,7 +11,7 @@ pub quiet : {K : Type 0} {code : K → ℕ} (call : K) (fate : Fate) (f g : Faul
 quiet call fate f g last_read ran = record { ran = ran last_read last_read; last_read = refl }
 
 -- a call that puts an event at the end
-pub grows : (old new : List Note) (done d : Bool) (note : Note) (M : Bool → Type 0) → new ≡ appended_if done note old → done ≡ d → M d → Grows note M (content_of old) (content_of new)
+pub grows : (old new : List Note) (done d : Bool) (note : Note) (M : Bool → Type 0) → new ≡ appended_if done note old → done ≡ d → M d → AppendsNote note M (content_of old) (content_of new)
 grows old new done d note M is same m = record { is_observable = refl; notes = λ told. (done, may, is); left = λ told l left. leaves done is may l left }
   where
     may : M done

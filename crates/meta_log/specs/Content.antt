@@ -38,7 +38,7 @@ appended_if done note notes = if done then notes ++ note ∷ [] else notes
 
 -- A call that puts an event at the end, where it was done. A power cut then may leave what it might have left before,
 -- or the events that were reported with the event after them.
-pub record Grows (note : Note) (may_be_done : Bool → Type 0) (old new : Content) : Type 0 where
+pub record AppendsNote (note : Note) (may_be_done : Bool → Type 0) (old new : Content) : Type 0 where
   pub is_observable : new.is_observable ≡ old.is_observable
   pub notes : IsTrue old.is_observable
       → (done : Bool) × may_be_done done × (new.notes ≡ appended_if done note old.notes)

@@ -8,7 +8,7 @@ ghost use Rattle.tier_base.specs.Device.{Control, RanQuietly, MayBeDone, Arms, F
 ghost use Rattle.segment_meta.specs.Rules.{IsNote};
 ghost use Rattle.meta_log.specs.declared.call.MetaCall.TheVariants.{Append, Read};
 ghost use Rattle.meta_log.specs.Call.{call_code};
-ghost use Rattle.meta_log.specs.Content.{Content, AreNotes, LeavesTold, Grows, Keeps};
+ghost use Rattle.meta_log.specs.Content.{Content, AreNotes, LeavesTold, AppendsNote, Keeps};
 
 use segment_meta::Note;
 use tier_base::{Row, Trouble};
@@ -26,7 +26,7 @@ pub trait MetaLog: Drop {
     fn append(&mut self, note: &Note) -> Result<u64, Trouble>
         requires { IsNote note.now }
         ensures control { RanQuietly Append (fate_of result) (control self.old) (control self.new) }
-        ensures content { Grows note.now (MayBeDone Append (fate_of result) (control self.old))
+        ensures content { AppendsNote note.now (MayBeDone Append (fate_of result) (control self.old))
             (content self.old) (content self.new) }
         ensures place { IsTrue (content self.old).is_observable
             → IfOk result (λ at. at ≡ length (content self.old).notes) };

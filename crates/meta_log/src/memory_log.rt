@@ -4,7 +4,7 @@
 //! so one that finds no memory has changed nothing and isn't counted.
 
 ghost use Rattle.std.specs.Prelude.{◌≡◌, [], IsTrue};
-ghost use Rattle.tier_base.specs.Device.{IsFresh};
+ghost use Rattle.tier_base.specs.Device.{IsFreshDevice};
 ghost use Rattle.tier_base.specs.Faults.{control_of};
 ghost use Rattle.tier_base.specs.Laws.{fails_as_planned};
 ghost use Rattle.meta_log.specs.Call.{call_code};
@@ -30,7 +30,7 @@ impl MemoryLog {
     pub fn new(alloc: Global, plan: Vec<Planned>) -> MemoryLog
         ensures is_observable { IsTrue (⟦<MemoryLog as MetaLog>⟧.content result).is_observable }
         ensures notes { (⟦<MemoryLog as MetaLog>⟧.content result).notes ≡ [] }
-        ensures fresh { IsFresh (⟦<MemoryLog as MetaLog>⟧.control result) }
+        ensures fresh { IsFreshDevice (⟦<MemoryLog as MetaLog>⟧.control result) }
         ensures plan { (⟦<MemoryLog as MetaLog>⟧.control result).plan ≡ plan.items }
         ensures infallible { IsTrue (⟦<MemoryLog as MetaLog>⟧.control result).infallible }
         ensures scripted { IsTrue (⟦<MemoryLog as MetaLog>⟧.control result).scripted }
@@ -45,7 +45,7 @@ impl MemoryLog {
     pub fn renew(&mut self, plan: Vec<Planned>)
         ensures content { Keeps (⟦<MemoryLog as MetaLog>⟧.content self.old)
             (⟦<MemoryLog as MetaLog>⟧.content self.new) }
-        ensures fresh { IsFresh (⟦<MemoryLog as MetaLog>⟧.control self.new) }
+        ensures fresh { IsFreshDevice (⟦<MemoryLog as MetaLog>⟧.control self.new) }
         ensures plan { (⟦<MemoryLog as MetaLog>⟧.control self.new).plan ≡ plan.items }
         ensures infallible { IsTrue (⟦<MemoryLog as MetaLog>⟧.control self.new).infallible }
         ensures scripted { IsTrue (⟦<MemoryLog as MetaLog>⟧.control self.new).scripted }

@@ -4,18 +4,18 @@ use Rattle.tier_base.specs.declared.plain.FileName.TheVariants as file
 use Rattle.tier_base.specs.Told.{bytes_in}
 use Rattle.disk_model.specs.Content.{Content, Files, Keeps}
 use Rattle.segment_meta.specs.declared.note.Note.{Note}
-use Rattle.meta_log_file.specs.Notes.{framed, frames, gate_bytes, AreTold, GateAt, Opens}
+use Rattle.meta_log_file.specs.Notes.{framed, frames, gate_bytes, AreWritable, GateAt, OpensWithNotes}
 use Rattle.meta_log_file.specs.Reading.{NoNote, BreakAt}
 use Rattle.meta_log_file.specs.Damage.{IsBroken, IsDamage}
 use Rattle.meta_log_file.proofs.Frames.{framed_once}
 use Rattle.meta_log_file.proofs.Confirmed.{gate_same, opens_gate, opens_unbroken}
 
 -- damaged files open with nothing
-pub damage_closes : (c : Files) (at : ℕ) (notes : List Note) → IsDamage c at → Opens c notes → ⊥
+pub damage_closes : (c : Files) (at : ℕ) (notes : List Note) → IsDamage c at → OpensWithNotes c notes → ⊥
 damage_closes c at notes damage o = ⊎_elim (λ none. opens_gate c notes o none.0) (λ broken. opens_unbroken c notes broken.gate at o broken.stands broken.breaks) damage
 
 -- events that no further one follows are as many as any that no further one follows
-rest_once : (a b : List Note) (x y : List ℕ) → AreTold a → AreTold b → NoNote x → NoNote y → frames a ++ x ≡ frames b ++ y → a ≡ b
+rest_once : (a b : List Note) (x y : List ℕ) → AreWritable a → AreWritable b → NoNote x → NoNote y → frames a ++ x ≡ frames b ++ y → a ≡ b
 rest_once [] [] x y ta tb nx ny is = refl
 rest_once [] (m ∷ b) x y ta tb nx ny is = absurd (nx m (frames b ++ y) tb.0 (is ∙ append_assoc (framed m) (frames b) y))
 rest_once (n ∷ a) [] x y ta tb nx ny is = absurd (ny n (frames a ++ x) ta.0 (sym is ∙ append_assoc (framed n) (frames a) x))

@@ -8,7 +8,7 @@ use Rattle.segment_meta.specs.declared.note.Note.TheVariants.{Add, Update}
 use Rattle.segment_meta.specs.Spelling.{ts_bytes, pair_bytes, pairs_bytes, span_bytes, event_bytes, entry_bytes, packed_bytes, update_bytes, note_bytes}
 use Rattle.segment_meta.specs.Reading.{note_in}
 use Rattle.segment_meta.proofs.Again.{note_again}
-use Rattle.meta_log_file.specs.Notes.{framed, frames, gate_bytes, IsTold, AreTold}
+use Rattle.meta_log_file.specs.Notes.{framed, frames, gate_bytes, IsWritable, AreWritable}
 use Rattle.meta_log_file.specs.Told.{size_in}
 
 pairs_len : (pairs : List (ℕ × ℕ)) → length (pairs_bytes pairs) ≡ 12 * length pairs
@@ -21,7 +21,7 @@ packed_len false = omega arith
 packed_len true = omega arith
 
 -- an event is short
-pub note_len : (note : Note) → IsTold note → length (note_bytes note) < 2 ^ 32
+pub note_len : (note : Note) → IsWritable note → length (note_bytes note) < 2 ^ 32
 unfolding note_bytes entry_bytes span_bytes event_bytes update_bytes ts_bytes
 note_len (Add entry) told =
     let few = told.rules.map.few in
@@ -55,17 +55,17 @@ framed_body note behind =
     ap (drop 4) (append_assoc (to_be_bytes w32 (length (note_bytes note))) (note_bytes note) behind)
     ∙ drop_at (to_be_bytes w32 (length (note_bytes note))) (note_bytes note ++ behind) 4 refl
 
-pub size_again : (note : Note) (behind : List ℕ) → IsTold note → size_in (framed note ++ behind) ≡ length (note_bytes note)
+pub size_again : (note : Note) (behind : List ℕ) → IsWritable note → size_in (framed note ++ behind) ≡ length (note_bytes note)
 unfolding size_in
 size_again note behind told = ap (from_be_bytes w32) (framed_size note behind) ∙ from_be_bytes-to_be_bytes_4 (length (note_bytes note)) (note_len note told)
 
-pub body_again : (note : Note) (behind : List ℕ) → IsTold note → take (size_in (framed note ++ behind)) (drop 4 (framed note ++ behind)) ≡ note_bytes note
+pub body_again : (note : Note) (behind : List ℕ) → IsWritable note → take (size_in (framed note ++ behind)) (drop 4 (framed note ++ behind)) ≡ note_bytes note
 body_again note behind told =
     ap (λ (n : ℕ). take n (drop 4 (framed note ++ behind))) (size_again note behind told)
     ∙ ap (take (length (note_bytes note))) (framed_body note behind)
     ∙ take_at (note_bytes note) behind (length (note_bytes note)) refl
 
-pub behind_again : (note : Note) (behind : List ℕ) → IsTold note → drop (4 + size_in (framed note ++ behind)) (framed note ++ behind) ≡ behind
+pub behind_again : (note : Note) (behind : List ℕ) → IsWritable note → drop (4 + size_in (framed note ++ behind)) (framed note ++ behind) ≡ behind
 behind_again note behind told =
     ap (λ (n : ℕ). drop (4 + n) (framed note ++ behind)) (size_again note behind told)
     ∙ drop_at (framed note) behind (4 + length (note_bytes note)) (framed_len note)
@@ -75,7 +75,7 @@ pub record Same (n m : Note) (x y : List ℕ) : Type 0 where
   pub note : n ≡ m
   pub behind : x ≡ y
 
-pub framed_once : (n m : Note) (x y : List ℕ) → IsTold n → IsTold m → framed n ++ x ≡ framed m ++ y → Same n m x y
+pub framed_once : (n m : Note) (x y : List ℕ) → IsWritable n → IsWritable m → framed n ++ x ≡ framed m ++ y → Same n m x y
 framed_once n m x y tn tm is =
     let bodies : note_bytes n ≡ note_bytes m = sym (body_again n x tn) ∙ ap (λ (b : List ℕ). take (size_in b) (drop 4 b)) is ∙ body_again m y tm in
     let read = note_again n tn.rules tn.fits in
@@ -94,18 +94,18 @@ frames_append (n ∷ a) b = ap (λ (l : List ℕ). framed n ++ l) (frames_append
 pub frames_more : (notes : List Note) (note : Note) → frames (notes ++ note ∷ []) ≡ frames notes ++ framed note
 frames_more notes note = frames_append notes (note ∷ []) ∙ ap (λ (l : List ℕ). frames notes ++ l) (append-nil (framed note))
 
-pub told_append : (a b : List Note) → AreTold a → AreTold b → AreTold (a ++ b)
+pub told_append : (a b : List Note) → AreWritable a → AreWritable b → AreWritable (a ++ b)
 told_append [] b ta tb = tb
 told_append (n ∷ a) b ta tb = (ta.0, told_append a b ta.1 tb)
 
 -- what follows events that begin others
 pub record Behind (notes all : List Note) (rest : List ℕ) : Type 0 where
   pub more : List Note
-  pub told : AreTold more
+  pub told : AreWritable more
   pub rest_is : rest ≡ frames more
   pub all_are : all ≡ notes ++ more
 
-pub frames_front : (notes all : List Note) (rest : List ℕ) → AreTold notes → AreTold all → frames all ≡ frames notes ++ rest → Behind notes all rest
+pub frames_front : (notes all : List Note) (rest : List ℕ) → AreWritable notes → AreWritable all → frames all ≡ frames notes ++ rest → Behind notes all rest
 frames_front [] all rest tn ta is = record { more = all; told = ta; rest_is = sym is; all_are = refl }
 frames_front (n ∷ notes) [] rest tn ta is =
     let long = ap length is in
@@ -124,7 +124,7 @@ frames_front (n ∷ notes) (m ∷ all) rest tn ta is =
     }
 
 -- events are those that their bytes say
-pub frames_once : (a b : List Note) → AreTold a → AreTold b → frames a ≡ frames b → a ≡ b
+pub frames_once : (a b : List Note) → AreWritable a → AreWritable b → frames a ≡ frames b → a ≡ b
 frames_once [] [] ta tb is = refl
 frames_once [] (m ∷ b) ta tb is = (let long = ap length is in let parts = length-append (framed m) (frames b) in let size = framed_len m in absurd (omega (arith, long, parts, size)))
 frames_once (n ∷ a) [] ta tb is = (let long = ap length is in let parts = length-append (framed n) (frames a) in let size = framed_len n in absurd (omega (arith, long, parts, size)))

@@ -6,7 +6,7 @@ use Rattle.disk_model.specs.Content.{Content, Files, Image, Keeps, Changes, Swap
 use Rattle.segment_meta.specs.declared.note.Note.{Note}
 use Rattle.meta_log_file.specs.declared.marks.Tail.{Tail}
 use Rattle.meta_log_file.specs.declared.marks.Tail.TheVariants.{Exact, Loose, Unsure}
-use Rattle.meta_log_file.specs.Notes.{frames, gate_bytes, GateAt, Fronts}
+use Rattle.meta_log_file.specs.Notes.{frames, gate_bytes, GateAt, HasFront}
 use Rattle.meta_log_file.specs.Ends.{ends_from}
 use Rattle.meta_log_file.specs.Reading.{IsGateOf, IsNoGateOf}
 use Rattle.meta_log_file.specs.Crash.{Reopens, OpensLike}
@@ -99,7 +99,7 @@ regated_or notes more d n g c all is r =
           (λ same. ⊎_elim (λ (a : GatedBy r.image notes). inl (same ∙ a)) (λ (b : GatedBy r.image more). inr (same ∙ b)) h.gate)
           (λ now. ⊎_elim (λ a. inl (now ∙ ap Some a)) (λ b. inr (now ∙ ap Some b)) is)
           r.gate;
-      front = subst (Fronts (frames more)) (sym r.notes) h.front;
+      front = subst (HasFront (frames more)) (sym r.notes) h.front;
     }
 
 -- what an open log's gate reads, where the disk is observable

@@ -4,10 +4,10 @@ use Rattle.std.proofs.lemmas.List.{append-nil, take_all}
 use Rattle.tier_base.specs.declared.plain.FileName.TheVariants as file
 use Rattle.disk_model.specs.Content.{Content, Files, Image}
 use Rattle.segment_meta.specs.declared.note.Note.{Note}
-use Rattle.meta_log_file.specs.Notes.{framed, frames, gate_bytes, IsTold, AreTold, GateAt, Fronts, Opens}
+use Rattle.meta_log_file.specs.Notes.{framed, frames, gate_bytes, IsWritable, AreWritable, GateAt, HasFront, OpensWithNotes}
 use Rattle.meta_log_file.specs.Ends.{ends_from, start_of}
 use Rattle.meta_log_file.specs.Crash.{OpensLike}
-use Rattle.meta_log_file.specs.Stands.{GatedBy, Holds, HoldsOr}
+use Rattle.meta_log_file.specs.Stands.{GatedBy, HoldsNotes, HoldsOr}
 use Rattle.meta_log_file.specs.Told.{notes_of, notes_told}
 use Rattle.meta_log_file.proofs.Frames.{frames_append, frames_more, told_append}
 
@@ -18,7 +18,7 @@ pub gate_not_notes : file.Gate ≢ file.Notes
 gate_not_notes is = cc
 
 -- the front of fewer events
-pub front_less : (notes more : List Note) (held : Option (List ℕ)) → Fronts (frames (notes ++ more)) held → Fronts (frames notes) held
+pub front_less : (notes more : List Note) (held : Option (List ℕ)) → HasFront (frames (notes ++ more)) held → HasFront (frames notes) held
 front_less notes more held f = record {
   behind = frames more ++ f.behind;
   is = f.is ∙ ap (λ (b : List ℕ). b ++ f.behind) (frames_append notes more) ∙ append_assoc (frames notes) (frames more) f.behind;
@@ -26,17 +26,17 @@ front_less notes more held f = record {
 
 -- events that may be all or the first of more
 pub record Choice (notes more : List Note) : Type 0 where
-  pub told : AreTold notes
-  pub told_more : AreTold more
+  pub told : AreWritable notes
+  pub told_more : AreWritable more
   pub low : length (frames notes) < 2 ^ 64
   pub low_more : length (frames more) < 2 ^ 64
-  pub front : (held : Option (List ℕ)) → Fronts (frames more) held → Fronts (frames notes) held
+  pub front : (held : Option (List ℕ)) → HasFront (frames more) held → HasFront (frames notes) held
 
 -- no choice
-pub one_choice : (notes : List Note) → AreTold notes → length (frames notes) < 2 ^ 64 → Choice notes notes
+pub one_choice : (notes : List Note) → AreWritable notes → length (frames notes) < 2 ^ 64 → Choice notes notes
 one_choice notes told low = record { told = told; told_more = told; low = low; low_more = low; front = λ held f. f }
 
-pub note_choice : (notes : List Note) (note : Note) → AreTold notes → IsTold note → length (frames (notes ++ note ∷ [])) < 2 ^ 64 → Choice notes (notes ++ note ∷ [])
+pub note_choice : (notes : List Note) (note : Note) → AreWritable notes → IsWritable note → length (frames (notes ++ note ∷ [])) < 2 ^ 64 → Choice notes (notes ++ note ∷ [])
 note_choice notes note told is low = record {
   told = told;
   told_more = told_append notes (note ∷ []) told (is, tt);
@@ -49,13 +49,13 @@ note_choice notes note told is low = record {
 pub gate_at : (held : Option (List ℕ)) (end : ℕ) → end < 2 ^ 64 → held ≡ Some (gate_bytes end) → GateAt held end
 gate_at held end low is = subst (λ (h : Option (List ℕ)). GateAt h end) (sym is) (low, refl)
 
-pub holds_opens : (notes : List Note) (c : Files) → AreTold notes → length (frames notes) < 2 ^ 64 → Holds notes c → Opens c notes
+pub holds_opens : (notes : List Note) (c : Files) → AreWritable notes → length (frames notes) < 2 ^ 64 → HoldsNotes notes c → OpensWithNotes c notes
 holds_opens notes c told low h = record { told = told; gate = gate_at (c file.Gate) (length (frames notes)) low h.gate; front = h.front }
 
-pub holds_or : (notes : List Note) (c : Files) → Holds notes c → HoldsOr notes notes c
+pub holds_or : (notes : List Note) (c : Files) → HoldsNotes notes c → HoldsOr notes notes c
 holds_or notes c h = record { gate = inl h.gate; front = h.front }
 
-pub or_holds : (notes : List Note) (c : Files) → HoldsOr notes notes c → Holds notes c
+pub or_holds : (notes : List Note) (c : Files) → HoldsOr notes notes c → HoldsNotes notes c
 or_holds notes c h = record { gate = ⊎_elim (λ g. g) (λ g. g) h.gate; front = h.front }
 
 -- with what such an image opens: it is decided by the gate alone
@@ -63,7 +63,7 @@ pub record OpensBy (notes more : List Note) (c : Files) : Type 0 where
   pub with : List Note
   pub one_of : (with ≡ notes) ⊎ (with ≡ more)
   pub gate : GatedBy c with
-  pub each : (x : Files) → HoldsOr notes more x → x file.Gate ≡ c file.Gate → Opens x with
+  pub each : (x : Files) → HoldsOr notes more x → x file.Gate ≡ c file.Gate → OpensWithNotes x with
 
 pub or_opens : (notes more : List Note) (c : Files) → Choice notes more → HoldsOr notes more c → OpensBy notes more c
 or_opens notes more c choice h = ⊎_elim

@@ -4,15 +4,15 @@ use Rattle.tier_base.specs.Device.{Fate, Went, MayBeDone}
 use Rattle.disk_model.specs.Content.{Content, Files, Image, Lawful, Keeps, LeavesOnly}
 use Rattle.disk_model.specs.Memory.{IsEmptyDisk}
 use Rattle.segment_meta.specs.declared.note.Note.{Note}
-use Rattle.meta_log.specs.Content.{Left, LeavesTold, Grows, appended_if}
+use Rattle.meta_log.specs.Content.{Left, LeavesTold, AppendsNote, appended_if}
 use Rattle.meta_log.specs.Content as log
 use Rattle.meta_log.specs.Call.{call_code}
 use Rattle.meta_log.specs.declared.call.MetaCall.TheVariants.{Append}
 use Rattle.device_tally.specs.Tally.{Counts, control_of}
-use Rattle.meta_log_file.specs.Notes.{GateAt, Opens}
+use Rattle.meta_log_file.specs.Notes.{GateAt, OpensWithNotes}
 use Rattle.meta_log_file.specs.Crash.{Reopens, OpensLike}
 use Rattle.meta_log_file.specs.Log.{IsDone}
-use Rattle.meta_log_file.specs.Told.{notes_told, told_of, IsLeft}
+use Rattle.meta_log_file.specs.Told.{notes_told, told_of, MayOpenWith}
 use Rattle.tier_base.specs.declared.plain.FileName.{FileName}
 use Rattle.tier_base.specs.declared.plain.FileName.TheVariants as file
 use Rattle.tier_base.specs.Told.{bytes_in}
@@ -24,7 +24,7 @@ pub like_left : (d m : Content) (laws_m : Lawful m) → LeavesOnly d m (OpensLik
 like_left d m laws_m since same l (inl is) = inl (is ∙ same)
 like_left d m laws_m since same l (inr (c, image, o)) =
     let x = since.each c (laws_m.earlier d.moment m.moment c since.later image) in
-    inr (x.0, x.1, subst (Opens x.0) (opens_once c x.2.0 l x.2.2 o) x.2.1)
+    inr (x.0, x.1, subst (OpensWithNotes x.0) (opens_once c x.2.0 l x.2.2 o) x.2.1)
 
 -- no other images
 pub kept_left : (d m : Content) → Keeps d m → notes_told m ≡ notes_told d → (l : List Note) → Left (told_of m) l → Left (told_of d) l
@@ -32,23 +32,23 @@ kept_left d m keeps same l (inl is) = inl (is ∙ same)
 kept_left d m keeps same l (inr (c, image, o)) = inr (c, keeps.images c image, o)
 
 -- each image opens with these events
-pub opens_left : (n : Content) (notes : List Note) → notes_told n ≡ notes → ((c : Files) → Image n c → Opens c notes) → (l : List Note) → Left (told_of n) l → l ≡ notes
+pub opens_left : (n : Content) (notes : List Note) → notes_told n ≡ notes → ((c : Files) → Image n c → OpensWithNotes c notes) → (l : List Note) → Left (told_of n) l → l ≡ notes
 opens_left n notes told all l (inl is) = is ∙ told
 opens_left n notes told all l (inr (c, image, o)) = opens_once c l notes o (all c image)
 
-pub durable_left : (n : Content) → ((c : Files) → Image n c → Opens c (notes_told n)) → LeavesTold (told_of n)
+pub durable_left : (n : Content) → ((c : Files) → Image n c → OpensWithNotes c (notes_told n)) → LeavesTold (told_of n)
 durable_left n all l left = opens_left n (notes_told n) refl all l left
 
 -- a call that didn't go and puts no event
 pub undone : (fate : Fate) → (fate ≡ Went → ⊥) → IsDone fate false
 undone fate not = record { went = λ went. absurd (not went); dry = λ dry. refl }
 
-pub grows_left : (d m : Content) (note : Note) (fate : Fate) → (fate ≡ Went → ⊥) → m.is_observable ≡ d.is_observable → notes_told m ≡ notes_told d → ((l : List Note) → Left (told_of m) l → Left (told_of d) l) → Grows note (IsDone fate) (told_of d) (told_of m)
+pub grows_left : (d m : Content) (note : Note) (fate : Fate) → (fate ≡ Went → ⊥) → m.is_observable ≡ d.is_observable → notes_told m ≡ notes_told d → ((l : List Note) → Left (told_of m) l → Left (told_of d) l) → AppendsNote note (IsDone fate) (told_of d) (told_of m)
 grows_left d m note fate not is_observable same left = record { is_observable = is_observable; notes = λ t. (false, undone fate not, same); left = λ t l at. inl (undone fate not, left l at) }
 
 -- a call that puts an event, after one that changes nothing
-pub grows_behind : (d m n : Content) (note : Note) (fate : Fate) → m.is_observable ≡ d.is_observable → notes_told m ≡ notes_told d → ((l : List Note) → Left (told_of m) l → Left (told_of d) l) → Grows note (IsDone fate) (told_of m) (told_of n)
-    → Grows note (IsDone fate) (told_of d) (told_of n)
+pub grows_behind : (d m n : Content) (note : Note) (fate : Fate) → m.is_observable ≡ d.is_observable → notes_told m ≡ notes_told d → ((l : List Note) → Left (told_of m) l → Left (told_of d) l) → AppendsNote note (IsDone fate) (told_of m) (told_of n)
+    → AppendsNote note (IsDone fate) (told_of d) (told_of n)
 grows_behind d m n note fate is_observable same left g = record {
   is_observable = g.is_observable ∙ is_observable;
   notes = λ t. (let x = g.notes (subst IsTrue (sym is_observable) t) in (x.0, x.1, subst (λ (l : List Note). notes_told n ≡ appended_if x.0 note l) same x.2));
@@ -66,11 +66,11 @@ told_kept d m keeps = told_same d m keeps.is_observable (λ t. notes_same m.file
 pub keeps_told : (d m : Content) → Keeps d m → log.Keeps (told_of d) (told_of m)
 keeps_told d m keeps = record { is_observable = keeps.is_observable; notes = told_kept d m keeps; left = kept_left d m keeps (told_kept d m keeps) }
 
-pub grows_kept : (d m : Content) (note : Note) (fate : Fate) → (fate ≡ Went → ⊥) → Keeps d m → Grows note (IsDone fate) (told_of d) (told_of m)
+pub grows_kept : (d m : Content) (note : Note) (fate : Fate) → (fate ≡ Went → ⊥) → Keeps d m → AppendsNote note (IsDone fate) (told_of d) (told_of m)
 grows_kept d m note fate not keeps = grows_left d m note fate not keeps.is_observable (told_kept d m keeps) (kept_left d m keeps (told_kept d m keeps))
 
 -- as the log's counts have it, of which no plan decides
-pub grows_for : (counts : Counts) (a b : log.Content) (note : Note) (fate : Fate) → Grows note (IsDone fate) a b → Grows note (MayBeDone Append fate (control_of call_code counts [])) a b
+pub grows_for : (counts : Counts) (a b : log.Content) (note : Note) (fate : Fate) → AppendsNote note (IsDone fate) a b → AppendsNote note (MayBeDone Append fate (control_of call_code counts [])) a b
 grows_for counts a b note fate g = record { is_observable = g.is_observable; notes = λ t. (let x = g.notes t in (x.0, may x.0 x.1, x.2)); left = λ t l at. more (g.left t l at) }
   where
     may : (done : Bool) → IsDone fate done → MayBeDone Append fate (control_of call_code counts []) done
@@ -82,21 +82,21 @@ grows_for counts a b note fate g = record { is_observable = g.is_observable; not
     more (inr (done, is)) = inr (may true done, is)
 
 -- an opening leaves no events but those that might have been left before
-pub open_left : (d n : Content) (laws : Lawful d) (laws_n : Lawful n) → IsTrue d.is_observable → LeavesOnly d n (OpensLike d) → Opens d.files (notes_told n) → (l : List Note) → Left (told_of n) l → IsLeft d l
-open_left d n laws laws_n is_observable since opened l (inl is) = (d.files, laws.reads is_observable, subst (Opens d.files) (sym is) opened)
+pub open_left : (d n : Content) (laws : Lawful d) (laws_n : Lawful n) → IsTrue d.is_observable → LeavesOnly d n (OpensLike d) → OpensWithNotes d.files (notes_told n) → (l : List Note) → Left (told_of n) l → MayOpenWith d l
+open_left d n laws laws_n is_observable since opened l (inl is) = (d.files, laws.reads is_observable, subst (OpensWithNotes d.files) (sym is) opened)
 open_left d n laws laws_n is_observable since opened l (inr (c, image, o)) =
     let x = since.each c (laws_n.earlier d.moment n.moment c since.later image) in
-    (x.0, x.1, subst (Opens x.0) (opens_once c x.2.0 l x.2.2 o) x.2.1)
+    (x.0, x.1, subst (OpensWithNotes x.0) (opens_once c x.2.0 l x.2.2 o) x.2.1)
 
 -- an opening keeps the events
-pub opening_keeps : (d n : Content) (laws : Lawful d) (laws_n : Lawful n) → n.is_observable ≡ d.is_observable → (IsTrue d.is_observable → (l : List Note) → Opens d.files l → Opens n.files l) → (Reopens d → LeavesOnly d n (OpensLike d)) → Reopens d
+pub opening_keeps : (d n : Content) (laws : Lawful d) (laws_n : Lawful n) → n.is_observable ≡ d.is_observable → (IsTrue d.is_observable → (l : List Note) → OpensWithNotes d.files l → OpensWithNotes n.files l) → (Reopens d → LeavesOnly d n (OpensLike d)) → Reopens d
     → log.Keeps (told_of d) (told_of n)
 opening_keeps d n laws laws_n is_observable same since reopens =
     let notes : notes_told n ≡ notes_told d = told_same d n is_observable (λ t. let o = reopens d.files (laws.reads t) in opens_told n.files o.0 (same t o.0 o.1) ∙ sym (opens_told d.files o.0 o.1)) in
     record { is_observable = is_observable; notes = notes; left = like_left d n laws_n (since reopens) notes }
 
 -- an empty disk has none
-pub empty_opens : (c : Files) → ((n : FileName) → c n ≡ None) → Opens c []
+pub empty_opens : (c : Files) → ((n : FileName) → c n ≡ None) → OpensWithNotes c []
 empty_opens c none = record {
   told = tt;
   gate = subst (λ (held : Option (List ℕ)). GateAt held 0) (sym (none file.Gate)) refl;

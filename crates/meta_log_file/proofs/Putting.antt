@@ -4,14 +4,14 @@ use Rattle.tier_base.specs.declared.plain.FileName.TheVariants as file
 use Rattle.tier_base.specs.Device.{Fate, Went, Fault, Dry}
 use Rattle.disk_model.specs.Content.{Content, Files, Image, Lawful, Keeps, LeavesOnly}
 use Rattle.segment_meta.specs.declared.note.Note.{Note}
-use Rattle.meta_log.specs.Content.{Left, Grows}
+use Rattle.meta_log.specs.Content.{Left, AppendsNote}
 use Rattle.meta_log_file.specs.declared.marks.Tail.{Tail}
 use Rattle.meta_log_file.specs.declared.marks.Tail.TheVariants.{Exact, Unsure}
-use Rattle.meta_log_file.specs.Notes.{framed, frames, IsTold, AreTold, Fronts, Opens}
+use Rattle.meta_log_file.specs.Notes.{framed, frames, IsWritable, AreWritable, HasFront, OpensWithNotes}
 use Rattle.meta_log_file.specs.Ends.{ends_from, start_of}
 use Rattle.meta_log_file.specs.Crash.{OpensLike, Appending}
-use Rattle.meta_log_file.specs.Stands.{Holds, HoldsOr, AllHold, EndsWith, HasNotes, IsSure}
-use Rattle.meta_log_file.specs.Writing.{Leaves, LeavesOr, Extends, Commits}
+use Rattle.meta_log_file.specs.Stands.{HoldsNotes, HoldsOr, AllHold, EndsWith, HasNotes, IsSure}
+use Rattle.meta_log_file.specs.Writing.{LeavesNotes, LeavesOr, WritesNote, Commits}
 use Rattle.meta_log_file.specs.Log.{IsDone}
 use Rattle.meta_log_file.specs.Told.{notes_told, told_of}
 use Rattle.meta_log_file.proofs.Frames.{frames_more, told_append}
@@ -26,14 +26,14 @@ use Rattle.meta_log_file.proofs.Written.{leaves_started, leaves_on, sure_all, ke
 pub record Ready (d : Content) (ends : List ℕ) (notes : List Note) (note : Note) (next : ℕ) : Type 0 where
   pub laws : Lawful d
   pub all : AllHold d notes
-  pub told : AreTold notes
-  pub is : IsTold note
+  pub told : AreWritable notes
+  pub is : IsWritable note
   pub ends_are : ends ≡ ends_from 0 notes
   pub low : length (frames notes) < 2 ^ 64
   pub next_is : next ≡ length (frames (notes ++ note ∷ []))
   pub next_low : next < 2 ^ 64
 
-pub ready : (d : Content) (laws : Lawful d) (ends : List ℕ) (tail : Tail) (h : HasNotes d ends tail) (note : Note) (bytes : List ℕ) (end next : ℕ) → IsSure tail → IsTold note → bytes ≡ framed note
+pub ready : (d : Content) (laws : Lawful d) (ends : List ℕ) (tail : Tail) (h : HasNotes d ends tail) (note : Note) (bytes : List ℕ) (end next : ℕ) → IsSure tail → IsWritable note → bytes ≡ framed note
     → end ≡ start_of ends (length ends) → next ≡ end + length bytes → next < 2 ^ 64 → Ready d ends h.notes note next
 ready d laws ends tail h note bytes end next sure told is end_is next_is low =
     let last = last_end ends h.notes h.ends_are in
@@ -51,15 +51,15 @@ ready d laws ends tail h note bytes end next sure told is end_is next_is low =
     }
 
 -- the disk reports the events that each image has
-all_told : (d : Content) (laws : Lawful d) (notes : List Note) → AllHold d notes → AreTold notes → length (frames notes) < 2 ^ 64 → IsTrue d.is_observable → notes_told d ≡ notes
+all_told : (d : Content) (laws : Lawful d) (notes : List Note) → AllHold d notes → AreWritable notes → length (frames notes) < 2 ^ 64 → IsTrue d.is_observable → notes_told d ≡ notes
 all_told d laws notes all told low is_observable = disk_told d notes is_observable (holds_opens notes d.files told low (all d.files (laws.reads is_observable)))
 
 -- and an image with them opens like before
-leaves_like : (d : Content) (laws : Lawful d) (notes : List Note) → AllHold d notes → AreTold notes → length (frames notes) < 2 ^ 64 → (c : Files) → IsTrue d.is_observable → Opens c notes → OpensLike d c
+leaves_like : (d : Content) (laws : Lawful d) (notes : List Note) → AllHold d notes → AreWritable notes → length (frames notes) < 2 ^ 64 → (c : Files) → IsTrue d.is_observable → OpensWithNotes c notes → OpensLike d c
 leaves_like d laws notes all told low c is_observable o = (d.files, laws.reads is_observable, (notes, holds_opens notes d.files told low (all d.files (laws.reads is_observable)), o))
 
 -- what is left with the events is what an append may leave
-holds_appending : (d : Content) (ends : List ℕ) (notes : List Note) (note : Note) (next : ℕ) → Ready d ends notes note next → (c : Files) → Leaves d notes c → Appending d (notes_told d) note c
+holds_appending : (d : Content) (ends : List ℕ) (notes : List Note) (note : Note) (next : ℕ) → Ready d ends notes note next → (c : Files) → LeavesNotes d notes c → Appending d (notes_told d) note c
 holds_appending d ends notes note next r c (is_observable, h) = inl (leaves_like d r.laws notes r.all r.told r.low c is_observable (holds_opens notes c r.told r.low h))
 
 or_appending : (d : Content) (ends : List ℕ) (notes : List Note) (note : Note) (next : ℕ) → Ready d ends notes note next → (c : Files) → LeavesOr d notes (notes ++ note ∷ []) c → Appending d (notes_told d) note c
@@ -68,27 +68,27 @@ or_appending d ends notes note next r c (is_observable, h) =
     let o = or_opens notes (notes ++ note ∷ []) c choice h in
     let opens = o.each c h refl in
     ⊎_elim
-    (λ is. inl (leaves_like d r.laws notes r.all r.told r.low c is_observable (subst (Opens c) is opens)))
-    (λ is. inr (subst (λ (l : List Note). Opens c (l ++ note ∷ [])) (sym (all_told d r.laws notes r.all r.told r.low is_observable)) (subst (Opens c) is opens)))
+    (λ is. inl (leaves_like d r.laws notes r.all r.told r.low c is_observable (subst (OpensWithNotes c) is opens)))
+    (λ is. inr (subst (λ (l : List Note). OpensWithNotes c (l ++ note ∷ [])) (sym (all_told d r.laws notes r.all r.told r.low is_observable)) (subst (OpensWithNotes c) is opens)))
     o.one_of
 
 -- the event was written, or not
-pub extended_since : (d m e : Content) (laws_m : Lawful m) (ends : List ℕ) (notes : List Note) (note : Note) (next : ℕ) (fate : Fate) → Ready d ends notes note next → Keeps d m → Extends notes note fate m e
+pub extended_since : (d m e : Content) (laws_m : Lawful m) (ends : List ℕ) (notes : List Note) (note : Note) (next : ℕ) (fate : Fate) → Ready d ends notes note next → Keeps d m → WritesNote notes note fate m e
     → LeavesOnly d e (Appending d (notes_told d) note)
 extended_since d m e laws_m ends notes note next fate r keeps x =
     let first = leaves_on d d m laws_m notes keeps.is_observable (leaves_started d r.laws notes r.all) keeps.time (keeps_all d m notes keeps r.all) in
-    let then = leaves_weaker m e (Leaves m notes) (Leaves d notes) (λ c (is_observable, h). (subst IsTrue keeps.is_observable is_observable, h)) x.since in
-    leaves_weaker d e (Leaves d notes) (Appending d (notes_told d) note) (holds_appending d ends notes note next r) (leaves_then d m e (Leaves d notes) first then)
+    let then = leaves_weaker m e (LeavesNotes m notes) (LeavesNotes d notes) (λ c (is_observable, h). (subst IsTrue keeps.is_observable is_observable, h)) x.since in
+    leaves_weaker d e (LeavesNotes d notes) (Appending d (notes_told d) note) (holds_appending d ends notes note next r) (leaves_then d m e (LeavesNotes d notes) first then)
 
-pub extended_has : (d e : Content) (ends now : List ℕ) (notes : List Note) (note : Note) (next : ℕ) (fate : Fate) (m : Content) → Ready d ends notes note next → Extends notes note fate m e → now ≡ ends → HasNotes e now (Unsure None)
+pub extended_has : (d e : Content) (ends now : List ℕ) (notes : List Note) (note : Note) (next : ℕ) (fate : Fate) (m : Content) → Ready d ends notes note next → WritesNote notes note fate m e → now ≡ ends → HasNotes e now (Unsure None)
 extended_has d e ends now notes note next fate m r x same = record { notes = notes; told = r.told; ends_are = same ∙ r.ends_are; low = r.low; stands = x.images }
 
 -- each image has the event after the others, and the gate before it
-pub extended_or : (notes : List Note) (note : Note) (c : Files) → Holds notes c → Fronts (frames (notes ++ note ∷ [])) (c file.Notes) → HoldsOr notes (notes ++ note ∷ []) c
+pub extended_or : (notes : List Note) (note : Note) (c : Files) → HoldsNotes notes c → HasFront (frames (notes ++ note ∷ [])) (c file.Notes) → HoldsOr notes (notes ++ note ∷ []) c
 extended_or notes note c h front = record { gate = inl h.gate; front = front }
 
 -- nothing was appended
-pub grows_not : (d e : Content) (laws_e : Lawful e) (ends : List ℕ) (notes : List Note) (note : Note) (next : ℕ) (fate : Fate) → Ready d ends notes note next → e.is_observable ≡ d.is_observable → AllHold e notes → (fate ≡ Went → ⊥) → Grows note (IsDone fate) (told_of d) (told_of e)
+pub grows_not : (d e : Content) (laws_e : Lawful e) (ends : List ℕ) (notes : List Note) (note : Note) (next : ℕ) (fate : Fate) → Ready d ends notes note next → e.is_observable ≡ d.is_observable → AllHold e notes → (fate ≡ Went → ⊥) → AppendsNote note (IsDone fate) (told_of d) (told_of e)
 grows_not d e laws_e ends notes note next fate r same all not = record {
   is_observable = same;
   notes = λ is_observable. (false, undone fate not, told is_observable ∙ sym (was is_observable));
@@ -110,7 +110,7 @@ committed_has d e n ends now notes note next fate r x same = record {
   stands = record { note = note; told = r.is; end_is = r.next_is; low = r.next_low; images = x.images };
 }
 
-pub committed_since : (d m e n : Content) (laws_m : Lawful m) (ends : List ℕ) (notes : List Note) (note : Note) (next : ℕ) (fate : Fate) → Ready d ends notes note next → Keeps d m → Extends notes note Went m e → e.is_observable ≡ d.is_observable → Commits notes (notes ++ note ∷ []) fate e n
+pub committed_since : (d m e n : Content) (laws_m : Lawful m) (ends : List ℕ) (notes : List Note) (note : Note) (next : ℕ) (fate : Fate) → Ready d ends notes note next → Keeps d m → WritesNote notes note Went m e → e.is_observable ≡ d.is_observable → Commits notes (notes ++ note ∷ []) fate e n
     → LeavesOnly d n (Appending d (notes_told d) note)
 committed_since d m e n laws_m ends notes note next fate r keeps x same y =
     let then = leaves_weaker e n (LeavesOr e notes (notes ++ note ∷ [])) (LeavesOr d notes (notes ++ note ∷ [])) (λ c (is_observable, h). (subst IsTrue same is_observable, h)) y.since in
@@ -128,7 +128,7 @@ more_told d n laws_n ends notes note next r same h is_observable =
     ⊎_elim (λ is. inl (now ∙ is ∙ sym was)) (λ is. inr (now ∙ is ∙ ap (λ (l : List Note). l ++ note ∷ []) (sym was))) o.one_of
 
 -- an image with these events or more of them opens with the one or the other
-or_left : (d : Content) (ends : List ℕ) (notes : List Note) (note : Note) (next : ℕ) → Ready d ends notes note next → (c : Files) → HoldsOr notes (notes ++ note ∷ []) c → (l : List Note) → Opens c l → IsTrue d.is_observable
+or_left : (d : Content) (ends : List ℕ) (notes : List Note) (note : Note) (next : ℕ) → Ready d ends notes note next → (c : Files) → HoldsOr notes (notes ++ note ∷ []) c → (l : List Note) → OpensWithNotes c l → IsTrue d.is_observable
     → (l ≡ notes_told d) ⊎ (l ≡ notes_told d ++ note ∷ [])
 or_left d ends notes note next r c h l o is_observable =
     let choice = note_choice notes note r.told r.is (omega (arith, r.next_is, r.next_low)) in
@@ -137,7 +137,7 @@ or_left d ends notes note next r c h l o is_observable =
     let was = all_told d r.laws notes r.all r.told r.low is_observable in
     ⊎_elim (λ is. inl (same ∙ is ∙ sym was)) (λ is. inr (same ∙ is ∙ ap (λ (k : List Note). k ++ note ∷ []) (sym was))) by.one_of
 
-pub grows_perhaps : (d e n : Content) (laws_n : Lawful n) (ends : List ℕ) (notes : List Note) (note : Note) (next : ℕ) (fate : Fate) → Ready d ends notes note next → n.is_observable ≡ d.is_observable → Commits notes (notes ++ note ∷ []) fate e n → (fate ≡ Went → ⊥) → Grows note (IsDone fate) (told_of d) (told_of n)
+pub grows_perhaps : (d e n : Content) (laws_n : Lawful n) (ends : List ℕ) (notes : List Note) (note : Note) (next : ℕ) (fate : Fate) → Ready d ends notes note next → n.is_observable ≡ d.is_observable → Commits notes (notes ++ note ∷ []) fate e n → (fate ≡ Went → ⊥) → AppendsNote note (IsDone fate) (told_of d) (told_of n)
 grows_perhaps d e n laws_n ends notes note next Went r same x not = absurd (not refl)
 grows_perhaps d e n laws_n ends notes note next Dry r same x not = grows_not d n laws_n ends notes note next Dry r same (x.dry refl) not
 grows_perhaps d e n laws_n ends notes note next Fault r same x not = record {
@@ -171,15 +171,15 @@ put_has d m e n ends now notes note next r x exact now_is = record {
 }
 
 -- and opens from each image
-put_opens : (d e n : Content) (ends : List ℕ) (notes : List Note) (note : Note) (next : ℕ) → Ready d ends notes note next → Commits notes (notes ++ note ∷ []) Went e n → (c : Files) → Image n c → Opens c (notes ++ note ∷ [])
+put_opens : (d e n : Content) (ends : List ℕ) (notes : List Note) (note : Note) (next : ℕ) → Ready d ends notes note next → Commits notes (notes ++ note ∷ []) Went e n → (c : Files) → Image n c → OpensWithNotes c (notes ++ note ∷ [])
 put_opens d e n ends notes note next r x c image = holds_opens (notes ++ note ∷ []) c (told_append notes (note ∷ []) r.told (r.is, tt)) (omega (arith, r.next_is, r.next_low)) (x.done refl c image)
 
-pub put_durable : (d e n : Content) (laws_n : Lawful n) (ends : List ℕ) (notes : List Note) (note : Note) (next : ℕ) → Ready d ends notes note next → n.is_observable ≡ d.is_observable → Commits notes (notes ++ note ∷ []) Went e n → (c : Files) → Image n c → Opens c (notes_told d ++ note ∷ [])
+pub put_durable : (d e n : Content) (laws_n : Lawful n) (ends : List ℕ) (notes : List Note) (note : Note) (next : ℕ) → Ready d ends notes note next → n.is_observable ≡ d.is_observable → Commits notes (notes ++ note ∷ []) Went e n → (c : Files) → Image n c → OpensWithNotes c (notes_told d ++ note ∷ [])
 put_durable d e n laws_n ends notes note next r same x c image =
     let is_observable = subst IsTrue same (laws_n.told c image) in
-    subst (λ (l : List Note). Opens c (l ++ note ∷ [])) (sym (all_told d r.laws notes r.all r.told r.low is_observable)) (put_opens d e n ends notes note next r x c image)
+    subst (λ (l : List Note). OpensWithNotes c (l ++ note ∷ [])) (sym (all_told d r.laws notes r.all r.told r.low is_observable)) (put_opens d e n ends notes note next r x c image)
 
-pub put_grows : (d e n : Content) (laws_n : Lawful n) (ends : List ℕ) (notes : List Note) (note : Note) (next : ℕ) → Ready d ends notes note next → n.is_observable ≡ d.is_observable → Commits notes (notes ++ note ∷ []) Went e n → Grows note (IsDone Went) (told_of d) (told_of n)
+pub put_grows : (d e n : Content) (laws_n : Lawful n) (ends : List ℕ) (notes : List Note) (note : Note) (next : ℕ) → Ready d ends notes note next → n.is_observable ≡ d.is_observable → Commits notes (notes ++ note ∷ []) Went e n → AppendsNote note (IsDone Went) (told_of d) (told_of n)
 put_grows d e n laws_n ends notes note next r same x = record {
   is_observable = same;
   notes = λ is_observable. (true, done, now is_observable ∙ was is_observable);
@@ -196,7 +196,7 @@ put_grows d e n laws_n ends notes note next r same x = record {
     was is_observable = ap (λ (l : List Note). l ++ note ∷ []) (sym (all_told d r.laws notes r.all r.told r.low is_observable))
 
 -- nothing was done
-pub grows_same : (d : Content) (note : Note) (fate : Fate) → (fate ≡ Went → ⊥) → Grows note (IsDone fate) (told_of d) (told_of d)
+pub grows_same : (d : Content) (note : Note) (fate : Fate) → (fate ≡ Went → ⊥) → AppendsNote note (IsDone fate) (told_of d) (told_of d)
 grows_same d note fate not = grows_left d d note fate not refl refl (λ l at. at)
 
 -- its number

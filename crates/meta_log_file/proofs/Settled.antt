@@ -5,7 +5,7 @@ use Rattle.tier_base.specs.declared.plain.FileName.TheVariants as file
 use Rattle.tier_base.specs.Told.{bytes_in, replaced}
 use Rattle.disk_model.specs.Content.{Content, Files, Image, Lawful, Keeps, Changes, Swapped, LeavesOnly}
 use Rattle.meta_log_file.specs.declared.marks.Tail.TheVariants.{Loose, Unsure}
-use Rattle.meta_log_file.specs.Notes.{frames, gate_bytes, GateAt, Fronts}
+use Rattle.meta_log_file.specs.Notes.{frames, gate_bytes, GateAt, HasFront}
 use Rattle.meta_log_file.specs.Ends.{ends_from, start_of}
 use Rattle.meta_log_file.specs.Reading.{IsGateOf, IsNoGateOf}
 use Rattle.meta_log_file.specs.Crash.{OpensLike}
@@ -65,9 +65,9 @@ sure_here d m n ends next end M h here keeps change durable =
       };
     }
   where
-    front_of : (next : Option ℕ) (h : HasNotes d ends (Unsure next)) (c : Files) → Regated d n (gate_bytes end) c → Fronts (frames h.notes) (c file.Notes)
-    front_of None h c r = subst (Fronts (frames h.notes)) (sym r.notes) (h.stands r.image r.was).front
-    front_of (Some e) h c r = subst (Fronts (frames h.notes)) (sym r.notes) ((in_doubt d ends (Unsure (Some e)) h).gated.choice.front (r.image file.Notes) (h.stands.images r.image r.was).front)
+    front_of : (next : Option ℕ) (h : HasNotes d ends (Unsure next)) (c : Files) → Regated d n (gate_bytes end) c → HasFront (frames h.notes) (c file.Notes)
+    front_of None h c r = subst (HasFront (frames h.notes)) (sym r.notes) (h.stands r.image r.was).front
+    front_of (Some e) h c r = subst (HasFront (frames h.notes)) (sym r.notes) ((in_doubt d ends (Unsure (Some e)) h).gated.choice.front (r.image file.Notes) (h.stands.images r.image r.was).front)
 
 -- the gate is where the next event ends
 pub sure_next : (d m n : Content) (ends : List ℕ) (next : Option ℕ) (end : ℕ) (M : Bool → Type 0) → HasNotes d ends (Unsure next) → next ≡ Some end
@@ -84,7 +84,7 @@ sure_next d m n ends (Some e) end M h is keeps change durable =
       low = omega (arith, s.end_is, s.low);
       stands = λ c image. record {
         gate = durable c image ∙ ap (λ (p : ℕ). Some (gate_bytes p)) end_is;
-        front = (let r = regated d m n (gate_bytes end) M keeps change c image in subst (Fronts (frames (h.notes ++ s.note ∷ []))) (sym r.notes) (s.images r.image r.was).front);
+        front = (let r = regated d m n (gate_bytes end) M keeps change c image in subst (HasFront (frames (h.notes ++ s.note ∷ []))) (sym r.notes) (s.images r.image r.was).front);
       };
     }
 

@@ -8,7 +8,7 @@ use Rattle.disk_model.specs.Content.{Content, Lawful, part_of}
 use Rattle.segment_meta.specs.declared.note.Note.{Note}
 use Rattle.segment_meta.specs.Rules.{IsNote}
 use Rattle.meta_log_file.specs.declared.marks.Tail.{Tail}
-use Rattle.meta_log_file.specs.Notes.{frames, AreTold}
+use Rattle.meta_log_file.specs.Notes.{frames, AreWritable}
 use Rattle.meta_log_file.specs.Ends.{start_of}
 use Rattle.meta_log_file.specs.Reading.{ReadsSpan}
 use Rattle.meta_log_file.specs.Stands.{HasNotes, IsSure}
@@ -39,13 +39,13 @@ front_bytes gate held part is = ap (λ (f : Option (List ℕ)). take gate (bytes
     twice (suc n) [] = refl
     twice (suc n) (x ∷ l) = ap (λ (t : List ℕ). x ∷ t) (twice n l)
 
-told_drop : (k : ℕ) (notes : List Note) → AreTold notes → AreTold (drop k notes)
+told_drop : (k : ℕ) (notes : List Note) → AreWritable notes → AreWritable (drop k notes)
 told_drop zero notes told = told
 told_drop (suc k) [] told = tt
 told_drop (suc k) (n ∷ notes) told = told_drop k notes told.1
 
 -- the rules hold of what is reported
-pub told_rules : (notes : List Note) → AreTold notes → All IsNote notes
+pub told_rules : (notes : List Note) → AreWritable notes → All IsNote notes
 told_rules [] told k d low = absurd (omega (arith, low))
 told_rules (n ∷ notes) told zero d low = told.0.rules
 told_rules (n ∷ notes) told (suc k) d low = told_rules notes told.1 k d (omega (arith, low))
@@ -53,7 +53,7 @@ told_rules (n ∷ notes) told (suc k) d low = told_rules notes told.1 k d (omega
 -- the events from a number on, as they are in the file
 pub record Span (d : Content) (from at size : ℕ) : Type 0 where
   pub notes : List Note
-  pub told : AreTold notes
+  pub told : AreWritable notes
   pub bytes : part_of at size (bytes_in (d.files file.Notes)) ≡ frames notes
   pub long : length (frames notes) ≡ size
   pub are : notes ≡ drop from (notes_told d)

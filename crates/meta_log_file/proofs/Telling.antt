@@ -7,7 +7,7 @@ use Rattle.disk_model.specs.Content.{Content, Files}
 use Rattle.segment_meta.specs.declared.note.Note.{Note}
 use Rattle.segment_meta.specs.Reading.{note_in}
 use Rattle.segment_meta.proofs.Again.{note_again}
-use Rattle.meta_log_file.specs.Notes.{framed, frames, AreTold, GateAt, Fronts, Opens}
+use Rattle.meta_log_file.specs.Notes.{framed, frames, AreWritable, GateAt, HasFront, OpensWithNotes}
 use Rattle.meta_log_file.specs.Told.{recorded, size_in, notes_at, gate_of, gated, notes_of, notes_told}
 use Rattle.meta_log_file.proofs.Frames.{body_again, behind_again, frames_long, gate_again}
 
@@ -18,7 +18,7 @@ none_again zero count = refl
 none_again (suc size) count = refl
 
 -- events are read again
-pub notes_again : (notes : List Note) (count : ℕ) → AreTold notes → length notes ≤ count → notes_at count (frames notes) ≡ notes
+pub notes_again : (notes : List Note) (count : ℕ) → AreWritable notes → length notes ≤ count → notes_at count (frames notes) ≡ notes
 notes_again [] zero told few = refl
 notes_again [] (suc count) told few = none_again (size_in []) count
 notes_again (n ∷ notes) zero told few = absurd (omega (arith, few))
@@ -34,7 +34,7 @@ gate_is None end at = sym at
 gate_is (Some bytes) end at = ap (λ (b : List ℕ). gate_of (Some b)) at.1 ∙ gate_again end at.0
 
 -- the files report the events with which they open
-pub opens_told : (c : Files) (notes : List Note) → Opens c notes → notes_of c ≡ notes
+pub opens_told : (c : Files) (notes : List Note) → OpensWithNotes c notes → notes_of c ≡ notes
 unfolding notes_of
 opens_told c notes o =
     let bytes : gated c ≡ frames notes =
@@ -43,17 +43,17 @@ opens_told c notes o =
     ∙ take_at (frames notes) o.front.behind (length (frames notes)) refl in
     ap (λ (b : List ℕ). notes_at (length b) b) bytes ∙ notes_again notes (length (frames notes)) o.told (frames_long notes)
 
-pub opens_once : (c : Files) (a b : List Note) → Opens c a → Opens c b → a ≡ b
+pub opens_once : (c : Files) (a b : List Note) → OpensWithNotes c a → OpensWithNotes c b → a ≡ b
 opens_once c a b p q = sym (opens_told c a p) ∙ opens_told c b q
 
 -- an observable disk reports the events with which its files open
-pub disk_told : (d : Content) (notes : List Note) → IsTrue d.is_observable → Opens d.files notes → notes_told d ≡ notes
+pub disk_told : (d : Content) (notes : List Note) → IsTrue d.is_observable → OpensWithNotes d.files notes → notes_told d ≡ notes
 disk_told d notes is_observable o = ap (λ b. cond b (notes_of d.files) []) is_observable ∙ opens_told d.files notes o
 
 -- files that are alike in both names open alike
-pub opens_same : (c d : Files) (notes : List Note) → c file.Gate ≡ d file.Gate → c file.Notes ≡ d file.Notes → Opens d notes → Opens c notes
+pub opens_same : (c d : Files) (notes : List Note) → c file.Gate ≡ d file.Gate → c file.Notes ≡ d file.Notes → OpensWithNotes d notes → OpensWithNotes c notes
 opens_same c d notes gate bytes o = record {
   told = o.told;
   gate = subst (λ (held : Option (List ℕ)). GateAt held (length (frames notes))) (sym gate) o.gate;
-  front = subst (Fronts (frames notes)) (sym bytes) o.front;
+  front = subst (HasFront (frames notes)) (sym bytes) o.front;
 }

@@ -2,14 +2,14 @@
 use Rattle.std.proofs.Common.{◌≡◌, ◌∙◌, sym, ap, refl, ℕ, ◌+◌, ◌<◌, ◌≤◌, List, [], ◌∷◌, ◌++◌, length, arith, length-append, append_assoc, zero-add}
 use Rattle.std.proofs.lemmas.List.{append-nil}
 use Rattle.segment_meta.specs.declared.note.Note.{Note}
-use Rattle.meta_log_file.specs.Notes.{framed, frames, IsTold, AreTold}
+use Rattle.meta_log_file.specs.Notes.{framed, frames, IsWritable, AreWritable}
 use Rattle.meta_log_file.specs.Ends.{ends_from}
 use Rattle.meta_log_file.specs.Reading.{NoNote, EndAt, BreakAt}
 use Rattle.meta_log_file.proofs.Frames.{frames_more, told_append, frames_front, Behind}
 
 -- events were found at the front, and these bytes are left
 pub record Found (bytes : List ℕ) (notes : List Note) (rest : List ℕ) : Type 0 where
-  pub told : AreTold notes
+  pub told : AreWritable notes
   pub bytes_are : bytes ≡ frames notes ++ rest
 
 -- none yet
@@ -17,7 +17,7 @@ pub found_none : (bytes : List ℕ) → Found bytes [] bytes
 found_none bytes = record { told = tt; bytes_are = refl }
 
 -- one more
-pub found_more : (bytes : List ℕ) (notes : List Note) (rest : List ℕ) (note : Note) (behind : List ℕ) → Found bytes notes rest → IsTold note → rest ≡ framed note ++ behind → Found bytes (notes ++ note ∷ []) behind
+pub found_more : (bytes : List ℕ) (notes : List Note) (rest : List ℕ) (note : Note) (behind : List ℕ) → Found bytes notes rest → IsWritable note → rest ≡ framed note ++ behind → Found bytes (notes ++ note ∷ []) behind
 found_more bytes notes rest note behind found told is = record {
   told = told_append notes (note ∷ []) found.told (told, tt);
   bytes_are = found.bytes_are ∙ ap (λ (b : List ℕ). frames notes ++ b) is ∙ sym (append_assoc (frames notes) (framed note) behind) ∙ ap (λ (b : List ℕ). b ++ behind) (sym (frames_more notes note));
@@ -28,13 +28,13 @@ pub found_all : (bytes : List ℕ) (notes : List Note) (rest : List ℕ) → Fou
 found_all bytes notes rest found nothing = found.bytes_are ∙ ap (λ (b : List ℕ). frames notes ++ b) nothing ∙ append-nil (frames notes)
 
 -- bytes that no event begins are no events, or none are left
-pub found_no : (notes all : List Note) (rest : List ℕ) → AreTold notes → AreTold all → NoNote rest → frames all ≡ frames notes ++ rest → (all ≡ notes) × (rest ≡ [])
+pub found_no : (notes all : List Note) (rest : List ℕ) → AreWritable notes → AreWritable all → NoNote rest → frames all ≡ frames notes ++ rest → (all ≡ notes) × (rest ≡ [])
 found_no notes all rest tn ta none is = by_more (frames_front notes all rest tn ta is)
   where
     by_more : Behind notes all rest → (all ≡ notes) × (rest ≡ [])
     by_more b = more_none b.more b.told b.rest_is b.all_are
       where
-        more_none : (more : List Note) → AreTold more → rest ≡ frames more → all ≡ notes ++ more → (all ≡ notes) × (rest ≡ [])
+        more_none : (more : List Note) → AreWritable more → rest ≡ frames more → all ≡ notes ++ more → (all ≡ notes) × (rest ≡ [])
         more_none [] told rest_is all_are = (all_are ∙ append-nil notes, rest_is)
         more_none (m ∷ more) told rest_is all_are = absurd (none m (frames more) told.0 rest_is)
 
@@ -56,7 +56,7 @@ ends_more start (n ∷ notes) note =
     let long : next + length (frames (notes ++ note ∷ [])) ≡ start + length (framed n ++ frames (notes ++ note ∷ [])) = omega (arith, length-append (framed n) (frames (notes ++ note ∷ []))) in
     ap (λ (l : List ℕ). next ∷ l) (ends_more next notes note ∙ ap (λ (m : ℕ). ends_from next notes ++ m ∷ []) long)
 
-pub ended_more : (bytes ends : List ℕ) (end : ℕ) (rest : List ℕ) (note : Note) (behind more : List ℕ) (now : ℕ) → Ended bytes ends end rest → IsTold note → rest ≡ framed note ++ behind
+pub ended_more : (bytes ends : List ℕ) (end : ℕ) (rest : List ℕ) (note : Note) (behind more : List ℕ) (now : ℕ) → Ended bytes ends end rest → IsWritable note → rest ≡ framed note ++ behind
     → more ≡ ends ++ now ∷ [] → now + length behind ≡ end + length rest → Ended bytes more now behind
 ended_more bytes ends end rest note behind more now so_far told is more_is grows =
     let notes = so_far.notes in

@@ -4,24 +4,24 @@ use Rattle.std.proofs.lemmas.List.{take_at}
 use Rattle.tier_base.specs.declared.plain.FileName.TheVariants as file
 use Rattle.tier_base.specs.Device.{Fate, Went, Dry}
 use Rattle.tier_base.specs.Told.{bytes_in, replaced}
-use Rattle.disk_model.specs.Content.{Content, Files, Image, Lawful, Keeps, Changes, Swapped, Grown, appended, CutBack, cut_to, Begins, Elapses, LeavesOnly}
+use Rattle.disk_model.specs.Content.{Content, Files, Image, Lawful, Keeps, Changes, Swapped, HasGrown, appended, CutBack, cut_to, BeginsWith, Elapses, LeavesOnly}
 use Rattle.segment_meta.specs.declared.note.Note.{Note}
 use Rattle.meta_log_file.specs.declared.marks.Tail.{Tail}
 use Rattle.meta_log_file.specs.declared.marks.Tail.TheVariants.{Exact, Loose, Unsure}
-use Rattle.meta_log_file.specs.Notes.{framed, frames, gate_bytes, Fronts}
+use Rattle.meta_log_file.specs.Notes.{framed, frames, gate_bytes, HasFront}
 use Rattle.meta_log_file.specs.Stands.{GatedBy, HoldsOr, AllHold, EndsWith, StandsBy, IsSure}
-use Rattle.meta_log_file.specs.Writing.{Leaves, LeavesOr, Extends, Commits}
+use Rattle.meta_log_file.specs.Writing.{LeavesNotes, LeavesOr, WritesNote, Commits}
 use Rattle.meta_log_file.proofs.Frames.{frames_more}
 use Rattle.meta_log_file.proofs.Moments.{started, goes_on}
 use Rattle.meta_log_file.proofs.Holding.{gate_not_notes, notes_not_gate}
 
 -- before the first call
-pub leaves_started : (d : Content) (laws : Lawful d) (notes : List Note) → AllHold d notes → LeavesOnly d d (Leaves d notes)
-leaves_started d laws notes all = started d (Leaves d notes) (λ c image. (laws.told c image, all c image))
+pub leaves_started : (d : Content) (laws : Lawful d) (notes : List Note) → AllHold d notes → LeavesOnly d d (LeavesNotes d notes)
+leaves_started d laws notes all = started d (LeavesNotes d notes) (λ c image. (laws.told c image, all c image))
 
 -- one call more
-pub leaves_on : (old mid new : Content) (laws : Lawful new) (notes : List Note) → new.is_observable ≡ old.is_observable → LeavesOnly old mid (Leaves old notes) → Elapses mid new → AllHold new notes → LeavesOnly old new (Leaves old notes)
-leaves_on old mid new laws notes is_observable so_far time all = goes_on old mid new (Leaves old notes) so_far time (λ c image. (subst IsTrue is_observable (laws.told c image), all c image))
+pub leaves_on : (old mid new : Content) (laws : Lawful new) (notes : List Note) → new.is_observable ≡ old.is_observable → LeavesOnly old mid (LeavesNotes old notes) → Elapses mid new → AllHold new notes → LeavesOnly old new (LeavesNotes old notes)
+leaves_on old mid new laws notes is_observable so_far time all = goes_on old mid new (LeavesNotes old notes) so_far time (λ c image. (subst IsTrue is_observable (laws.told c image), all c image))
 
 -- where the tail is sure, each image has the events
 pub sure_all : (d : Content) (notes : List Note) (tail : Tail) → StandsBy d notes tail → IsSure tail → AllHold d notes
@@ -34,14 +34,14 @@ pub keeps_all : (d m : Content) (notes : List Note) → Keeps d m → AllHold d 
 keeps_all d m notes keeps all c image = all c (keeps.images c image)
 
 -- the front of a file that is cut after it, or grows
-cut_front : (notes : List Note) (end : ℕ) (before after : Option (List ℕ)) → end ≡ length (frames notes) → Fronts (frames notes) before → CutBack end before after → Fronts (frames notes) after
-cut_front notes end before after is f (inl same) = subst (Fronts (frames notes)) (sym same) f
+cut_front : (notes : List Note) (end : ℕ) (before after : Option (List ℕ)) → end ≡ length (frames notes) → HasFront (frames notes) before → CutBack end before after → HasFront (frames notes) after
+cut_front notes end before after is f (inl same) = subst (HasFront (frames notes)) (sym same) f
 cut_front notes end before after is f (inr (some, (behind, now))) =
     let front : take end (bytes_in before) ≡ frames notes = ap (take end) f.is ∙ take_at (frames notes) f.behind end (sym is) in
     record { behind = behind; is = ap bytes_in now ∙ ap (λ (b : List ℕ). b ++ behind) front }
 
-grown_front : (notes : List Note) (before after : Option (List ℕ)) → Fronts (frames notes) before → Grown before after → Fronts (frames notes) after
-grown_front notes before after f (inl same) = subst (Fronts (frames notes)) (sym same) f
+grown_front : (notes : List Note) (before after : Option (List ℕ)) → HasFront (frames notes) before → HasGrown before after → HasFront (frames notes) after
+grown_front notes before after f (inl same) = subst (HasFront (frames notes)) (sym same) f
 grown_front notes before after f (inr (behind, now)) = record {
   behind = f.behind ++ behind;
   is = ap bytes_in now ∙ ap (λ (b : List ℕ). b ++ behind) f.is ∙ append_assoc (frames notes) f.behind behind;
@@ -68,26 +68,26 @@ cut_exact d m laws notes end M is all went change is_observable =
     ap bytes_in now ∙ take_bytes end (d.files file.Notes) ∙ ap (take end) h.front.is ∙ take_at (frames notes) h.front.behind end (sym is)
 
 -- an append after the events
-pub append_all : (d m : Content) (notes : List Note) (bytes : List ℕ) (M : Bool → Type 0) → AllHold d notes → Changes file.Notes (appended bytes) Grown M d m → AllHold m notes
+pub append_all : (d m : Content) (notes : List Note) (bytes : List ℕ) (M : Bool → Type 0) → AllHold d notes → Changes file.Notes (appended bytes) HasGrown M d m → AllHold m notes
 append_all d m notes bytes M all change c image =
     let x = change.images c image in
     let h = all x.0 x.1 in
     record { gate = x.2.others file.Gate gate_not_notes ∙ h.gate; front = grown_front notes (x.0 file.Notes) (c file.Notes) h.front x.2.there }
 
 -- what reads of the file then
-appended_is : (d m : Content) (bytes : List ℕ) (M : Bool → Type 0) → ((done : Bool) → M done → IsTrue done) → Changes file.Notes (appended bytes) Grown M d m → IsTrue d.is_observable → m.files file.Notes ≡ Some (bytes_in (d.files file.Notes) ++ bytes)
+appended_is : (d m : Content) (bytes : List ℕ) (M : Bool → Type 0) → ((done : Bool) → M done → IsTrue done) → Changes file.Notes (appended bytes) HasGrown M d m → IsTrue d.is_observable → m.files file.Notes ≡ Some (bytes_in (d.files file.Notes) ++ bytes)
 appended_is d m bytes M went change told =
     let x = change.files told in
     x.2.there ∙ ap (λ (done : Bool). cond done (appended bytes (d.files file.Notes)) (d.files file.Notes)) (went x.0 x.1)
 
-pub append_exact : (d m : Content) (notes : List Note) (note : Note) (bytes : List ℕ) (M : Bool → Type 0) → EndsWith d notes → bytes ≡ framed note → ((done : Bool) → M done → IsTrue done) → Changes file.Notes (appended bytes) Grown M d m → EndsWith m (notes ++ note ∷ [])
+pub append_exact : (d m : Content) (notes : List Note) (note : Note) (bytes : List ℕ) (M : Bool → Type 0) → EndsWith d notes → bytes ≡ framed note → ((done : Bool) → M done → IsTrue done) → Changes file.Notes (appended bytes) HasGrown M d m → EndsWith m (notes ++ note ∷ [])
 append_exact d m notes note bytes M exact is went change is_observable =
     let told : IsTrue d.is_observable = subst IsTrue change.is_observable is_observable in
     ap bytes_in (appended_is d m bytes M went change told) ∙ ap (λ (b : List ℕ). b ++ bytes) (exact told) ∙ ap (λ (b : List ℕ). frames notes ++ b) is ∙ sym (frames_more notes note)
 
 -- a sync of what was appended
-pub synced_front : (d m n : Content) (laws : Lawful n) (notes : List Note) (note : Note) (bytes : List ℕ) (M : Bool → Type 0) → EndsWith d notes → bytes ≡ framed note → ((done : Bool) → M done → IsTrue done) → Changes file.Notes (appended bytes) Grown M d m → Keeps m n
-    → ((c : Files) → Image n c → Begins (m.files file.Notes) (c file.Notes)) → (c : Files) → Image n c → Fronts (frames (notes ++ note ∷ [])) (c file.Notes)
+pub synced_front : (d m n : Content) (laws : Lawful n) (notes : List Note) (note : Note) (bytes : List ℕ) (M : Bool → Type 0) → EndsWith d notes → bytes ≡ framed note → ((done : Bool) → M done → IsTrue done) → Changes file.Notes (appended bytes) HasGrown M d m → Keeps m n
+    → ((c : Files) → Image n c → BeginsWith (m.files file.Notes) (c file.Notes)) → (c : Files) → Image n c → HasFront (frames (notes ++ note ∷ [])) (c file.Notes)
 synced_front d m n laws notes note bytes M exact is went change keeps durable c image =
     let told : IsTrue m.is_observable = subst IsTrue keeps.is_observable (laws.told c image) in
     let there = appended_is d m bytes M went change (subst IsTrue change.is_observable told) in
@@ -100,7 +100,7 @@ pub ends_kept : (m n : Content) (notes : List Note) → Keeps m n → EndsWith m
 ends_kept m n notes keeps exact is_observable = ap bytes_in (keeps.files file.Notes) ∙ exact (subst IsTrue keeps.is_observable is_observable)
 
 -- an append that came to no end
-pub extends_not : (notes : List Note) (note : Note) (fate : Fate) (old new : Content) → LeavesOnly old new (Leaves old notes) → AllHold new notes → (fate ≡ Went → ⊥) → Extends notes note fate old new
+pub extends_not : (notes : List Note) (note : Note) (fate : Fate) (old new : Content) → LeavesOnly old new (LeavesNotes old notes) → AllHold new notes → (fate ≡ Went → ⊥) → WritesNote notes note fate old new
 extends_not notes note fate old new since all not = record { since = since; images = all; stays = λ went. absurd (not went); exact = λ went. absurd (not went) }
 
 -- the gate moves
@@ -113,7 +113,7 @@ commit_or notes more d n end M all is change c image =
           (λ same. ⊎_elim (λ (a : GatedBy x.0 notes). inl (same ∙ a)) (λ (b : GatedBy x.0 more). inr (same ∙ b)) h.gate)
           (λ now. inr (now ∙ ap (λ (p : ℕ). Some (gate_bytes p)) is))
           x.2.there;
-      front = subst (Fronts (frames more)) (sym (x.2.others file.Notes notes_not_gate)) h.front;
+      front = subst (HasFront (frames more)) (sym (x.2.others file.Notes notes_not_gate)) h.front;
     }
 
 pub commits : (notes more : List Note) (d n : Content) (laws : Lawful d) (laws_after : Lawful n) (end : ℕ) (fate : Fate) (M : Bool → Type 0) → AllHold d notes → ((c : Files) → Image d c → HoldsOr notes more c) → end ≡ length (frames more)

@@ -10,5 +10,5 @@ module _ {D : Type 0} where
 
 module _ {D : Type 0} (content : D → Content) where
   -- the disk has the events of the marks
-  abbrev pub IsSound : Inside D → Type 0
-  IsSound log = HasNotes (content log.disk) log.marks.ends.items log.marks.tail
+  abbrev pub IsNoteLogSound : Inside D → Type 0
+  IsNoteLogSound log = HasNotes (content log.disk) log.marks.ends.items log.marks.tail

@@ -36,14 +36,14 @@ unfoldable pub gate_bytes : ℕ → List ℕ
 gate_bytes end = to_be_bytes w64 end
 
 -- an event that a program may report
-pub record IsTold (note : Note) : Type 0 where
+pub record IsWritable (note : Note) : Type 0 where
   pub rules : IsNote note
   pub fits : NoteFits note
 
 -- each event
-abbrev pub AreTold : List Note → Type 0
-AreTold [] = Unit {0}
-AreTold (note ∷ notes) = IsTold note × AreTold notes
+abbrev pub AreWritable : List Note → Type 0
+AreWritable [] = Unit {0}
+AreWritable (note ∷ notes) = IsWritable note × AreWritable notes
 
 -- where the gate's file has the gate
 abbrev pub GateAt : Option (List ℕ) → ℕ → Type 0
@@ -51,12 +51,12 @@ GateAt None end = end ≡ 0
 GateAt (Some bytes) end = (end < 2 ^ 64) × (bytes ≡ gate_bytes end)
 
 -- the file has these bytes at its front
-pub record Fronts (bytes : List ℕ) (held : Option (List ℕ)) : Type 0 where
+pub record HasFront (bytes : List ℕ) (held : Option (List ℕ)) : Type 0 where
   pub behind : List ℕ
   pub is : bytes_in held ≡ bytes ++ behind
 
 -- an image opens with these events: they are up to its gate
-pub record Opens (c : Files) (notes : List Note) : Type 0 where
-  pub told : AreTold notes
+pub record OpensWithNotes (c : Files) (notes : List Note) : Type 0 where
+  pub told : AreWritable notes
   pub gate : GateAt (c file.Gate) (length (frames notes))
-  pub front : Fronts (frames notes) (c file.Notes)
+  pub front : HasFront (frames notes) (c file.Notes)

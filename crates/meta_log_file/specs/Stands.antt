@@ -6,7 +6,7 @@ use Rattle.disk_model.specs.Content.{Content, Files, Image}
 use Rattle.segment_meta.specs.declared.note.Note.{Note}
 use Rattle.meta_log_file.specs.declared.marks.Tail.{Tail}
 use Rattle.meta_log_file.specs.declared.marks.Tail.TheVariants.{Exact, Loose, Unsure}
-use Rattle.meta_log_file.specs.Notes.{frames, gate_bytes, IsTold, AreTold, Fronts}
+use Rattle.meta_log_file.specs.Notes.{frames, gate_bytes, IsWritable, AreWritable, HasFront}
 use Rattle.meta_log_file.specs.Ends.{ends_from}
 
 -- the gate follows these events
@@ -14,23 +14,23 @@ abbrev pub GatedBy : Files → List Note → Type 0
 GatedBy c notes = c file.Gate ≡ Some (gate_bytes (length (frames notes)))
 
 -- an image has these events, and the gate after them
-pub record Holds (notes : List Note) (c : Files) : Type 0 where
+pub record HoldsNotes (notes : List Note) (c : Files) : Type 0 where
   pub gate : GatedBy c notes
-  pub front : Fronts (frames notes) (c file.Notes)
+  pub front : HasFront (frames notes) (c file.Notes)
 
 -- an image has more events, and the gate after these or after all
 pub record HoldsOr (notes more : List Note) (c : Files) : Type 0 where
   pub gate : GatedBy c notes ⊎ GatedBy c more
-  pub front : Fronts (frames more) (c file.Notes)
+  pub front : HasFront (frames more) (c file.Notes)
 
 -- each image has them
 abbrev pub AllHold : Content → List Note → Type 0
-AllHold d notes = (c : Files) → Image d c → Holds notes c
+AllHold d notes = (c : Files) → Image d c → HoldsNotes notes c
 
 -- one event more may count, which ends there
 pub record MayCount (d : Content) (notes : List Note) (end : ℕ) : Type 0 where
   pub note : Note
-  pub told : IsTold note
+  pub told : IsWritable note
   pub end_is : end ≡ length (frames (notes ++ note ∷ []))
   pub low : end < 2 ^ 64
   pub images : (c : Files) → Image d c → HoldsOr notes (notes ++ note ∷ []) c
@@ -49,7 +49,7 @@ StandsBy d notes (Unsure (Some end)) = MayCount d notes end
 -- the disk has the events that end there
 pub record HasNotes (d : Content) (ends : List ℕ) (tail : Tail) : Type 0 where
   pub notes : List Note
-  pub told : AreTold notes
+  pub told : AreWritable notes
   pub ends_are : ends ≡ ends_from 0 notes
   pub low : length (frames notes) < 2 ^ 64
   pub stands : StandsBy d notes tail

@@ -9,7 +9,7 @@ use Rattle.segment_meta.specs.declared.note.Note.{Note}
 use Rattle.segment_meta.specs.declared.refusal.NoteRefusal.{NoteRefusal}
 use Rattle.segment_meta.specs.Reading.{note_in}
 use Rattle.meta_log.specs.Content.{Content}
-use Rattle.meta_log_file.specs.Notes.{Opens}
+use Rattle.meta_log_file.specs.Notes.{OpensWithNotes}
 
 -- an event that was read, and those after it
 abbrev pub recorded : Result Note NoteRefusal → List Note → List Note
@@ -44,9 +44,9 @@ abbrev pub notes_told : disk.Content → List Note
 notes_told d = if d.is_observable then notes_of d.files else []
 
 -- events with which an image of a disk opens
-abbrev pub IsLeft : disk.Content → List Note → Type 0
-IsLeft d notes = (c : disk.Files) × disk.Image d c × Opens c notes
+abbrev pub MayOpenWith : disk.Content → List Note → Type 0
+MayOpenWith d notes = (c : disk.Files) × disk.Image d c × OpensWithNotes c notes
 
 -- what the log reports whose disk has this content: a power cut leaves an image of the disk
 abbrev pub told_of : disk.Content → Content
-told_of d = record { is_observable = d.is_observable; notes = notes_told d; besides = IsLeft d }
+told_of d = record { is_observable = d.is_observable; notes = notes_told d; besides = MayOpenWith d }

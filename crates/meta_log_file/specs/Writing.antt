@@ -4,13 +4,13 @@ use Rattle.tier_base.specs.declared.plain.FileName.TheVariants as file
 use Rattle.tier_base.specs.Device.{Fate, Went, Dry}
 use Rattle.disk_model.specs.Content.{Content, Files, Image, LeavesOnly}
 use Rattle.segment_meta.specs.declared.note.Note.{Note}
-use Rattle.meta_log_file.specs.Notes.{frames, Fronts, Opens}
+use Rattle.meta_log_file.specs.Notes.{frames, HasFront, OpensWithNotes}
 use Rattle.meta_log_file.specs.Crash.{Reopens, OpensLike}
-use Rattle.meta_log_file.specs.Stands.{Holds, HoldsOr, AllHold, EndsWith}
+use Rattle.meta_log_file.specs.Stands.{HoldsNotes, HoldsOr, AllHold, EndsWith}
 
 -- where the disk is observable, an image has the events
-abbrev pub Leaves : Content → List Note → Files → Type 0
-Leaves d notes c = IsTrue d.is_observable × Holds notes c
+abbrev pub LeavesNotes : Content → List Note → Files → Type 0
+LeavesNotes d notes c = IsTrue d.is_observable × HoldsNotes notes c
 
 -- or more, and the gate after these or after all
 abbrev pub LeavesOr : Content → List Note → List Note → Files → Type 0
@@ -18,15 +18,15 @@ LeavesOr d notes more c = IsTrue d.is_observable × HoldsOr notes more c
 
 -- what follows the events is cut off
 pub record Shortens (notes : List Note) (fate : Fate) (old new : Content) : Type 0 where
-  pub since : LeavesOnly old new (Leaves old notes)
+  pub since : LeavesOnly old new (LeavesNotes old notes)
   pub images : AllHold new notes
   pub exact : fate ≡ Went → EndsWith new notes
 
 -- an event is written after the events, and stays
-pub record Extends (notes : List Note) (note : Note) (fate : Fate) (old new : Content) : Type 0 where
-  pub since : LeavesOnly old new (Leaves old notes)
+pub record WritesNote (notes : List Note) (note : Note) (fate : Fate) (old new : Content) : Type 0 where
+  pub since : LeavesOnly old new (LeavesNotes old notes)
   pub images : AllHold new notes
-  pub stays : fate ≡ Went → (c : Files) → Image new c → Fronts (frames (notes ++ note ∷ [])) (c file.Notes)
+  pub stays : fate ≡ Went → (c : Files) → Image new c → HasFront (frames (notes ++ note ∷ [])) (c file.Notes)
   pub exact : fate ≡ Went → EndsWith new (notes ++ note ∷ [])
 
 -- the gate goes from after the events to after more of them
@@ -40,5 +40,6 @@ pub record Commits (notes more : List Note) (fate : Fate) (old new : Content) : 
 pub record Confirms (notes : List Note) (fate : Fate) (old new : Content) : Type 0 where
   pub is_observable : new.is_observable ≡ old.is_observable
   pub since : Reopens old → LeavesOnly old new (OpensLike old)
-  pub same : IsTrue old.is_observable → (opened : List Note) → Opens old.files opened → Opens new.files opened
+  pub same : IsTrue old.is_observable → (opened : List Note) → OpensWithNotes old.files opened
+      → OpensWithNotes new.files opened
   pub done : fate ≡ Went → AllHold new notes

@@ -1,20 +1,20 @@
 //! A metadata log in two files of a disk.
 
 ghost use Rattle.std.specs.Prelude.{◌≡◌, ◌≢◌, ◌⊎◌, ◌++◌, ◌∷◌, [], ℕ, List, length, drop, IfOk, IfErr, OnOk, IsTrue};
-ghost use Rattle.tier_base.specs.Device.{Fault, RanQuietly, MayBeDone, IsFresh, Lasts, fate_of};
+ghost use Rattle.tier_base.specs.Device.{Fault, RanQuietly, MayBeDone, IsFreshDevice, Lasts, fate_of};
 ghost use Rattle.disk_model.specs.Content.{Files, Image, LeavesOnly};
 ghost use Rattle.segment_meta.specs.declared.note.Note.{Note};
 ghost use Rattle.segment_meta.specs.Rules.{IsNote};
 ghost use Rattle.meta_log.specs.declared.call.MetaCall.TheVariants.{Append, Read};
 ghost use Rattle.meta_log.specs.Call.{call_code};
-ghost use Rattle.meta_log.specs.Content.{AreNotes, Left, LeavesTold, Grows, Keeps};
+ghost use Rattle.meta_log.specs.Content.{AreNotes, Left, LeavesTold, AppendsNote, Keeps};
 ghost use Rattle.device_tally.specs.Tally.{control_of, fails_as_planned};
 ghost use Rattle.meta_log_file.specs.declared.refusal.NotesRefusal.TheVariants.{Failed, Damaged};
-ghost use Rattle.meta_log_file.specs.Notes.{Opens};
+ghost use Rattle.meta_log_file.specs.Notes.{OpensWithNotes};
 ghost use Rattle.meta_log_file.specs.Crash.{Reopens, OpensLike, Appending};
 ghost use Rattle.meta_log_file.specs.Reading.{IsStrangeGate, AreStrangeNotes};
 ghost use Rattle.meta_log_file.specs.Damage.{IsDamage, HandsDamage};
-ghost use Rattle.meta_log_file.specs.Told.{told_of, IsLeft};
+ghost use Rattle.meta_log_file.specs.Told.{told_of, MayOpenWith};
 ghost use Rattle.meta_log_file.specs.Runs.{OneFault, NoFault};
 
 use crate::marks::Marks;
@@ -45,27 +45,27 @@ impl<D: Disk> Model for DiskLog<D> {
 
     ghost Value = { NoteLog D };
 
-    ghost use Rattle.meta_log_file.specs.Inside.{log_in, IsSound};
+    ghost use Rattle.meta_log_file.specs.Inside.{log_in, IsNoteLogSound};
 
     ghost view = { log_in };
 
-    ghost invariant = { IsSound D.content };
+    ghost invariant = { IsNoteLogSound D.content };
 }
 
 impl<D: Disk> DiskLog<D> {
     /// Opens the log of a disk. One with no files has no events yet. `NotesRefusal` has the causes of a failure.
     pub fn open(alloc: Global, disk: D) -> Result<DiskLog<D>, (D, NotesRefusal)>
-        ensures fresh { IfOk result (λ log. IsFresh (⟦<DiskLog<D> as MetaLog>⟧.control log)) }
+        ensures fresh { IfOk result (λ log. IsFreshDevice (⟦<DiskLog<D> as MetaLog>⟧.control log)) }
         ensures plan { IfOk result (λ log. (⟦<DiskLog<D> as MetaLog>⟧.control log).plan ≡ []) }
         ensures is_observable { IfOk result (λ log. (⟦<DiskLog<D> as MetaLog>⟧.content log).is_observable
             ≡ (D.content disk).is_observable) }
         ensures opened { IfOk result (λ log. IsTrue (D.content disk).is_observable
-            → Opens (D.content disk).files (⟦<DiskLog<D> as MetaLog>⟧.content log).notes) }
+            → OpensWithNotes (D.content disk).files (⟦<DiskLog<D> as MetaLog>⟧.content log).notes) }
         ensures durable { IfOk result (λ log. (c : Files) → Image (D.content log.disk) c
-            → Opens c (⟦<DiskLog<D> as MetaLog>⟧.content log).notes) }
+            → OpensWithNotes c (⟦<DiskLog<D> as MetaLog>⟧.content log).notes) }
         // A power cut then leaves no events but those that one before may have left.
         ensures left { IfOk result (λ log. IsTrue (D.content disk).is_observable → Reopens (D.content disk) → (notes : List Note)
-            → Left (⟦<DiskLog<D> as MetaLog>⟧.content log) notes → IsLeft (D.content disk) notes) }
+            → Left (⟦<DiskLog<D> as MetaLog>⟧.content log) notes → MayOpenWith (D.content disk) notes) }
         ensures control { IfOk result (λ log. Lasts (D.control disk) (D.control log.disk)) }
         ensures control_err { IfErr result (λ e. Lasts (D.control disk) (D.control e.0)) }
 
@@ -147,7 +147,7 @@ impl<D: Disk> MetaLog for DiskLog<D> {
         requires { IsNote note.now }
         ensures control { RanQuietly Append (fate_of result)
             (⟦<DiskLog<D> as MetaLog>⟧.control self.old) (⟦<DiskLog<D> as MetaLog>⟧.control self.new) }
-        ensures content { Grows note.now
+        ensures content { AppendsNote note.now
             (MayBeDone Append (fate_of result) (⟦<DiskLog<D> as MetaLog>⟧.control self.old))
             (⟦<DiskLog<D> as MetaLog>⟧.content self.old) (⟦<DiskLog<D> as MetaLog>⟧.content self.new) }
         ensures place { IsTrue (⟦<DiskLog<D> as MetaLog>⟧.content self.old).is_observable
@@ -158,7 +158,7 @@ impl<D: Disk> MetaLog for DiskLog<D> {
             (Appending (D.content self.old.disk)
             (⟦<DiskLog<D> as MetaLog>⟧.content self.old).notes note.now) }
         ensures durable { OnOk result ((c : Files) → Image (D.content self.new.disk) c
-            → Opens c (⟦<DiskLog<D> as MetaLog>⟧.content self.new).notes) }
+            → OpensWithNotes c (⟦<DiskLog<D> as MetaLog>⟧.content self.new).notes) }
 
         ensures lasts { Lasts (D.control self.old.disk) (D.control self.new.disk) }
         ensures cause { fate_of result ≡ Fault
@@ -189,7 +189,7 @@ impl<D: Disk> MetaLog for DiskLog<D> {
         ensures any_moment { LeavesOnly (D.content self.old.disk) (D.content self.new.disk)
             (OpensLike (D.content self.old.disk)) }
         ensures durable { OnOk result ((c : Files) → Image (D.content self.new.disk) c
-            → Opens c (⟦<DiskLog<D> as MetaLog>⟧.content self.new).notes) }
+            → OpensWithNotes c (⟦<DiskLog<D> as MetaLog>⟧.content self.new).notes) }
 
         ensures lasts { Lasts (D.control self.old.disk) (D.control self.new.disk) }
         ensures cause { fate_of result ≡ Fault

@@ -5,8 +5,8 @@ ghost use Rattle.std.specs.List.{All};
 ghost use Rattle.std.specs.Option.{ForSome};
 ghost use Rattle.segment_meta.specs.declared.refusal.NoteRefusal.TheVariants.{NoMemory};
 ghost use Rattle.segment_meta.specs.Rules.{IsNote, NoteFits, EntryFits};
-ghost use Rattle.meta_log_file.specs.Notes.{framed, IsTold};
-ghost use Rattle.meta_log_file.specs.Reading.{ReadsFirst};
+ghost use Rattle.meta_log_file.specs.Notes.{framed, IsWritable};
+ghost use Rattle.meta_log_file.specs.Reading.{ReadsFirstNote};
 ghost use Rattle.meta_log_file.specs.Told.{size_in};
 
 use segment_meta::{Entry, Note, NoteRefusal, decode, encode};
@@ -68,7 +68,7 @@ fn fits(note: &Note)
 /// An event is one that may be appended.
 pub fn tell(note: &Note)
     requires { IsNote note.now }
-    ensures { IsTold note.now }
+    ensures { IsWritable note.now }
 {
     fits(note);
 }
@@ -76,7 +76,7 @@ pub fn tell(note: &Note)
 /// The bytes of an event in the file.
 #[tactic(auto, unfolding(crate::specs::Notes::framed))]
 pub fn frame(alloc: Global, note: &Note) -> Result<Vec<u8>, AllocError>
-    requires { IsTold note.now }
+    requires { IsWritable note.now }
     ensures { IfOk result (λ bytes. bytes.items ≡ framed note.now) }
 {
     let body = encode(alloc, note)?;
@@ -89,7 +89,7 @@ pub fn frame(alloc: Global, note: &Note) -> Result<Vec<u8>, AllocError>
 
 /// The event that begins these bytes, and what follows it.
 pub fn first(alloc: Global, bytes: &[u8]) -> Result<Option<(Note, &[u8])>, AllocError>
-    ensures { IfOk result (λ found. ReadsFirst bytes.now found) }
+    ensures { IfOk result (λ found. ReadsFirstNote bytes.now found) }
 {
     if bytes.len() < SIZE_BYTES {
         return Ok(None);

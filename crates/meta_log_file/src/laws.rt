@@ -4,7 +4,7 @@ ghost use Rattle.std.specs.Prelude.{◌≡◌, ℕ, List, []};
 ghost use Rattle.disk_model.specs.Content.{Files};
 ghost use Rattle.disk_model.specs.Memory.{IsEmptyDisk};
 ghost use Rattle.segment_meta.specs.declared.note.Note.{Note};
-ghost use Rattle.meta_log_file.specs.Notes.{Opens};
+ghost use Rattle.meta_log_file.specs.Notes.{OpensWithNotes};
 ghost use Rattle.meta_log.specs.Content.{LeavesTold};
 ghost use Rattle.meta_log_file.specs.Crash.{Reopens};
 ghost use Rattle.meta_log_file.specs.Damage.{IsDamage};
@@ -15,12 +15,12 @@ use disk_model::Disk;
 /// Files open with one list of events, and with no other.
 #[tactic(auto, using(crate::proofs::Telling::opens_once))]
 pub fn files_open_once()
-    ensures { (c : Files) (a b : List Note) → Opens c a → Opens c b → a ≡ b }
+    ensures { (c : Files) (a b : List Note) → OpensWithNotes c a → OpensWithNotes c b → a ≡ b }
 {}
 
 /// Files that open aren't damaged.
 pub fn damaged_files_open_with_nothing()
-    ensures { (c : Files) (at : ℕ) (notes : List Note) → IsDamage c at → Opens c notes → ⊥ }
+    ensures { (c : Files) (at : ℕ) (notes : List Note) → IsDamage c at → OpensWithNotes c notes → ⊥ }
 {}
 
 /// Files are damaged at one place.

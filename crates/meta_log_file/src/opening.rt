@@ -10,11 +10,11 @@ ghost use Rattle.disk_model.specs.Content.{Keeps, LeavesOnly};
 ghost use Rattle.segment_meta.specs.declared.note.Note.{Note};
 ghost use Rattle.meta_log_file.specs.declared.refusal.NotesRefusal.TheVariants.{Failed, Damaged};
 ghost use Rattle.meta_log_file.specs.declared.marks.Tail.TheVariants.{Loose};
-ghost use Rattle.meta_log_file.specs.Notes.{frames, gate_bytes, GateAt, Opens};
+ghost use Rattle.meta_log_file.specs.Notes.{frames, gate_bytes, GateAt, OpensWithNotes};
 ghost use Rattle.meta_log_file.specs.Crash.{Reopens, OpensLike};
 ghost use Rattle.meta_log_file.specs.Reading.{IsNoGate, EndAt, BreakAt};
 ghost use Rattle.meta_log_file.specs.Damage.{IsDamage, HandsDamage};
-ghost use Rattle.meta_log_file.specs.Opening.{HasEnds, IsRead};
+ghost use Rattle.meta_log_file.specs.Opening.{HasEnds, IsGateRead};
 ghost use Rattle.meta_log_file.specs.Stands.{HasNotes};
 ghost use Rattle.meta_log_file.specs.Writing.{Confirms};
 ghost use Rattle.meta_log_file.specs.Runs.{Runs, OneFault};
@@ -35,10 +35,11 @@ pub fn open_log<D: Disk>(alloc: Global, disk: &mut D) -> Result<Marks, NotesRefu
     ensures since { Reopens (D.content disk.old)
         → LeavesOnly (D.content disk.old) (D.content disk.new) (OpensLike (D.content disk.old)) }
     ensures same { IsTrue (D.content disk.old).is_observable → (notes : List Note)
-        → Opens (D.content disk.old).files notes
-        → Opens (D.content disk.new).files notes }
+        → OpensWithNotes (D.content disk.old).files notes
+        → OpensWithNotes (D.content disk.new).files notes }
     ensures opened { OnOk result (IsTrue (D.content disk.old).is_observable
-        → (notes : List Note) × Opens (D.content disk.old).files notes × Opens (D.content disk.new).files notes) }
+        → (notes : List Note) × OpensWithNotes (D.content disk.old).files notes
+        × OpensWithNotes (D.content disk.new).files notes) }
     ensures sure { IfOk result (λ marks. marks.tail ≡ Loose) }
     ensures damaged { IfErr result (λ why. (at : ℕ) → why ≡ Damaged at → IsTrue (D.content disk.old).is_observable
         → IsDamage (D.content disk.old).files at) }
@@ -58,7 +59,7 @@ pub fn open_log<D: Disk>(alloc: Global, disk: &mut D) -> Result<Marks, NotesRefu
 
 /// Reads the gate and where the events end, and makes room for a sync.
 fn study<D: Disk>(alloc: Global, disk: &mut D) -> Result<(u64, Vec<u64>), NotesRefusal>
-    ensures read { IfOk result (λ x. IsRead (D.content disk.old) x.0 x.1.items) }
+    ensures read { IfOk result (λ x. IsGateRead (D.content disk.old) x.0 x.1.items) }
     ensures room { OnOk result (1 ≤ D.spare disk.new) }
     ensures content { Keeps (D.content disk.old) (D.content disk.new) }
     ensures damaged { IfErr result (λ why. (at : ℕ) → why ≡ Damaged at → IsTrue (D.content disk.old).is_observable
@@ -147,7 +148,7 @@ fn ends_of(alloc: Global, bytes: &[u8], gate: u64) -> Result<Vec<u64>, NotesRefu
 /// Makes the events stay that were read, and the gate after them.
 fn confirm<D: Disk>(disk: &mut D, gate: u64) -> Result<(), Trouble>
     requires { 1 ≤ D.spare disk.old }
-    ensures content { (ends : List ℕ) (read : IsRead (D.content disk.old) gate ends)
+    ensures content { (ends : List ℕ) (read : IsGateRead (D.content disk.old) gate ends)
         → Confirms read.has.notes (fate_of result) (D.content disk.old) (D.content disk.new) }
     ensures control { Runs (fate_of result) (D.control disk.old) (D.control disk.new) }
 {

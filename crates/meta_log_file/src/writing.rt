@@ -4,15 +4,15 @@
 ghost use Rattle.std.specs.Prelude.{◌≡◌, ◌≢◌, ◌⊎◌, ◌+◌, ◌≤◌, ◌++◌, ◌∷◌, [], List, length, IsTrue, OnOk, IfOk};
 ghost use Rattle.tier_base.specs.Device.{Fault, Lasts, fate_of, failing};
 ghost use Rattle.tier_base.specs.declared.plain.FileName.TheVariants as file;
-ghost use Rattle.disk_model.specs.Content.{Content, Files, Image, LeavesOnly, Keeps, Begins};
+ghost use Rattle.disk_model.specs.Content.{Content, Files, Image, LeavesOnly, Keeps, BeginsWith};
 ghost use Rattle.segment_meta.specs.declared.note.Note.{Note};
 ghost use Rattle.segment_meta.specs.Rules.{IsNote};
-ghost use Rattle.meta_log.specs.Content.{Grows};
-ghost use Rattle.meta_log_file.specs.Notes.{frames, framed, gate_bytes, IsTold, AreTold, Opens};
+ghost use Rattle.meta_log.specs.Content.{AppendsNote};
+ghost use Rattle.meta_log_file.specs.Notes.{frames, framed, gate_bytes, IsWritable, AreWritable, OpensWithNotes};
 ghost use Rattle.meta_log_file.specs.Crash.{Appending};
 ghost use Rattle.meta_log_file.specs.Reading.{IsStrangeGate};
 ghost use Rattle.meta_log_file.specs.Stands.{HasNotes, IsSure, AllHold, StandsBy, EndsWith, HoldsOr};
-ghost use Rattle.meta_log_file.specs.Writing.{Shortens, Extends, Commits};
+ghost use Rattle.meta_log_file.specs.Writing.{Shortens, WritesNote, Commits};
 ghost use Rattle.meta_log_file.specs.Runs.{Runs, OneFault, NoFault};
 ghost use Rattle.meta_log_file.specs.Told.{notes_told, told_of};
 ghost use Rattle.meta_log_file.specs.Log.{IsDone};
@@ -36,14 +36,14 @@ pub fn append<D: Disk>(
     requires note { IsNote note.now }
     requires has { HasNotes (D.content disk.old) marks.old.ends.items marks.old.tail }
     ensures has { HasNotes (D.content disk.new) marks.new.ends.items marks.new.tail }
-    ensures content { Grows note.now (IsDone (fate_of result))
+    ensures content { AppendsNote note.now (IsDone (fate_of result))
         (told_of (D.content disk.old)) (told_of (D.content disk.new)) }
     ensures place { IsTrue (D.content disk.old).is_observable
         → IfOk result (λ at. at ≡ length (notes_told (D.content disk.old))) }
     ensures since { LeavesOnly (D.content disk.old) (D.content disk.new)
         (Appending (D.content disk.old) (notes_told (D.content disk.old)) note.now) }
     ensures durable { OnOk result ((c : Files) → Image (D.content disk.new) c
-        → Opens c (notes_told (D.content disk.old) ++ note.now ∷ [])) }
+        → OpensWithNotes c (notes_told (D.content disk.old) ++ note.now ∷ [])) }
     ensures control { Lasts (D.control disk.old) (D.control disk.new) }
     ensures cause { fate_of result ≡ Fault → OneFault (D.control disk.old) (D.control disk.new)
         ⊎ (NoFault (D.control disk.old) (D.control disk.new)
@@ -62,14 +62,14 @@ fn put<D: Disk>(alloc: Global, disk: &mut D, marks: &mut Marks, note: &Note) -> 
     requires has { HasNotes (D.content disk.old) marks.old.ends.items marks.old.tail }
     requires sure { IsSure marks.old.tail }
     ensures has { HasNotes (D.content disk.new) marks.new.ends.items marks.new.tail }
-    ensures content { Grows note.now (IsDone (fate_of result))
+    ensures content { AppendsNote note.now (IsDone (fate_of result))
         (told_of (D.content disk.old)) (told_of (D.content disk.new)) }
     ensures place { IsTrue (D.content disk.old).is_observable
         → IfOk result (λ at. at ≡ length (notes_told (D.content disk.old))) }
     ensures since { LeavesOnly (D.content disk.old) (D.content disk.new)
         (Appending (D.content disk.old) (notes_told (D.content disk.old)) note.now) }
     ensures durable { OnOk result ((c : Files) → Image (D.content disk.new) c
-        → Opens c (notes_told (D.content disk.old) ++ note.now ∷ [])) }
+        → OpensWithNotes c (notes_told (D.content disk.old) ++ note.now ∷ [])) }
     ensures control { Runs (fate_of result) (D.control disk.old) (D.control disk.new) }
 {
     tell(note);
@@ -117,7 +117,7 @@ fn extend<D: Disk>(disk: &mut D, tail: Tail, end: u64, bytes: &[u8]) -> Result<(
     ensures is_observable { (D.content disk.new).is_observable ≡ (D.content disk.old).is_observable }
     ensures content { (notes : List Note) (note : Note) → StandsBy (D.content disk.old) notes tail
         → IsSure tail → end ≡ length (frames notes) → bytes.now ≡ framed note
-        → Extends notes note (fate_of result) (D.content disk.old) (D.content disk.new) }
+        → WritesNote notes note (fate_of result) (D.content disk.old) (D.content disk.new) }
     ensures control { Runs (fate_of result) (D.control disk.old) (D.control disk.new) }
 {
     shorten(disk, tail, end)?;
@@ -132,7 +132,7 @@ fn sync_notes<D: Disk>(disk: &mut D) -> Result<(), Failed>
     ensures control { Runs (failing result) (D.control disk.old) (D.control disk.new) }
     ensures content { Keeps (D.content disk.old) (D.content disk.new) }
     ensures durable { OnOk result ((c : Files) → Image (D.content disk.new) c
-        → Begins ((D.content disk.old).files file.Notes) (c file.Notes)) }
+        → BeginsWith ((D.content disk.old).files file.Notes) (c file.Notes)) }
 {
     disk.sync(FileName::Notes)
 }

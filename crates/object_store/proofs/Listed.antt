@@ -10,7 +10,7 @@ use Rattle.std.specs.List.{AllByRecursion}
 use Rattle.tier_base.specs.declared.object_key.ObjectKey.{ObjectKey}
 use Rattle.object_store.specs.declared.slot.Slot.{Slot}
 use Rattle.object_store.specs.declared.shelf.Shelf.{Shelf}
-use Rattle.tier_base.specs.Told.{In, Once, Names}
+use Rattle.tier_base.specs.Told.{In, Once, NamesAllHeld}
 use Rattle.object_store.specs.Shelf.{slot_cmp, slot_of, key_at, objects_on, keys_on}
 use Rattle.object_store.proofs.Slots.{slot_itself, slot_back, found_at, at_itself}
 
@@ -49,13 +49,13 @@ unfolding IsStrictlySortedBy
 keys_once [] sorted = tt
 keys_once (k ∷ ks) sorted = (above k ks sorted.0, keys_once ks sorted.1)
 
-lists : (shelf : Shelf) → IsStrictlySortedBy slot_cmp (keys shelf.objects) → Names (objects_on shelf) (keys_on shelf)
+lists : (shelf : Shelf) → IsStrictlySortedBy slot_cmp (keys shelf.objects) → NamesAllHeld (objects_on shelf) (keys_on shelf)
 lists shelf sorted = record {
   are = λ k. (key_in shelf.objects.entries k, key_there shelf.objects.entries k);
   once = keys_once (keys shelf.objects) sorted;
 }
 
 -- the answer of a list
-pub listed : (result : Result (List ObjectKey) AllocError) (shelf : Shelf) → IfOk result (λ keys. keys ≡ keys_on shelf) → OnOk result (IsStrictlySortedBy slot_cmp (keys shelf.objects)) → IfOk result (λ keys. Names (objects_on shelf) keys)
-listed (Ok keys) shelf is sorted = subst (Names (objects_on shelf)) (sym is) (lists shelf sorted)
+pub listed : (result : Result (List ObjectKey) AllocError) (shelf : Shelf) → IfOk result (λ keys. keys ≡ keys_on shelf) → OnOk result (IsStrictlySortedBy slot_cmp (keys shelf.objects)) → IfOk result (λ keys. NamesAllHeld (objects_on shelf) keys)
+listed (Ok keys) shelf is sorted = subst (NamesAllHeld (objects_on shelf)) (sym is) (lists shelf sorted)
 listed (Err e) shelf is sorted = tt

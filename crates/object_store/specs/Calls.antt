@@ -11,7 +11,7 @@ use Rattle.object_store.specs.Content.{Content, Changes, Keeps}
 
 module _ {S : Type 0} (objects : S → Content) (calls : S → Control call_code) where
   -- an object was put
-  pub record Puts (key : ObjectKey) (bytes : List ℕ) (fate : Fate) (old new : S) : Type 0 where
+  pub record PutsObject (key : ObjectKey) (bytes : List ℕ) (fate : Fate) (old new : S) : Type 0 where
     pub control : RanQuietly Put fate (calls old) (calls new)
     pub content : Changes key (replaced bytes) (MayBeDone Put fate (calls old)) (objects old) (objects new)
 
@@ -25,6 +25,6 @@ module _ {S : Type 0} (objects : S → Content) (calls : S → Control call_code
         → IfOk answer (λ given. given ≡ option_map part ((objects old).objects key))
 
   -- an object was taken away
-  pub record Deletes (key : ObjectKey) (fate : Fate) (old new : S) : Type 0 where
+  pub record DeletesObject (key : ObjectKey) (fate : Fate) (old new : S) : Type 0 where
     pub control : RanQuietly Delete fate (calls old) (calls new)
     pub content : Changes key removed (MayBeDone Delete fate (calls old)) (objects old) (objects new)

@@ -3,7 +3,7 @@
 //! It begins with the objects that it is made of, whatever bytes they have. No call of it fails.
 
 ghost use Rattle.std.specs.Prelude.{◌≡◌, ◌<◌, [], length, IfSome, IsTrue};
-ghost use Rattle.tier_base.specs.Device.{IsFresh};
+ghost use Rattle.tier_base.specs.Device.{IsFreshDevice};
 ghost use Rattle.tier_base.specs.Faults.{control_of};
 ghost use Rattle.tier_base.specs.Laws.{fails_as_planned};
 ghost use Rattle.object_store.specs.Call.{call_code};
@@ -28,7 +28,7 @@ pub struct DeafStore {
 impl DeafStore {
     /// Makes a store of these objects, without memory. Where a key occurs twice, the first counts.
     pub fn new(alloc: Global, objects: Vec<(ObjectKey, Bytes)>) -> DeafStore
-        ensures fresh { IsFresh (⟦<DeafStore as Store>⟧.control result) }
+        ensures fresh { IsFreshDevice (⟦<DeafStore as Store>⟧.control result) }
         ensures plan { (⟦<DeafStore as Store>⟧.control result).plan ≡ [] }
         ensures infallible { IsTrue (⟦<DeafStore as Store>⟧.control result).infallible }
     {

@@ -4,7 +4,7 @@
 //! so one that finds no memory has changed nothing and isn't counted.
 
 ghost use Rattle.std.specs.Prelude.{◌≡◌, [], IsTrue};
-ghost use Rattle.tier_base.specs.Device.{IsFresh};
+ghost use Rattle.tier_base.specs.Device.{IsFreshDevice};
 ghost use Rattle.tier_base.specs.Faults.{control_of};
 ghost use Rattle.tier_base.specs.Laws.{fails_as_planned};
 ghost use Rattle.object_store.specs.Call.{call_code};
@@ -33,7 +33,7 @@ impl MemoryStore {
     /// Makes a store with no objects, whose planned calls fail once it is armed, without memory.
     pub fn new(alloc: Global, plan: Vec<Planned>) -> MemoryStore
         ensures content { IsEmptyStore (⟦<MemoryStore as Store>⟧.content result) }
-        ensures fresh { IsFresh (⟦<MemoryStore as Store>⟧.control result) }
+        ensures fresh { IsFreshDevice (⟦<MemoryStore as Store>⟧.control result) }
         ensures plan { (⟦<MemoryStore as Store>⟧.control result).plan ≡ plan.items }
         ensures infallible { IsTrue (⟦<MemoryStore as Store>⟧.control result).infallible }
         ensures scripted { IsTrue (⟦<MemoryStore as Store>⟧.control result).scripted }
@@ -50,7 +50,7 @@ impl MemoryStore {
     pub fn renew(&mut self, plan: Vec<Planned>)
         ensures content { Keeps (⟦<MemoryStore as Store>⟧.content self.old)
             (⟦<MemoryStore as Store>⟧.content self.new) }
-        ensures fresh { IsFresh (⟦<MemoryStore as Store>⟧.control self.new) }
+        ensures fresh { IsFreshDevice (⟦<MemoryStore as Store>⟧.control self.new) }
         ensures plan { (⟦<MemoryStore as Store>⟧.control self.new).plan ≡ plan.items }
         ensures infallible { IsTrue (⟦<MemoryStore as Store>⟧.control self.new).infallible }
         ensures scripted { IsTrue (⟦<MemoryStore as Store>⟧.control self.new).scripted }

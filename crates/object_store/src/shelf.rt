@@ -3,7 +3,7 @@
 ghost use Rattle.std.specs.Prelude.{◌≡◌, take, drop, None, IfOk, OnOk, OnErr, option_map};
 ghost use Rattle.std.specs.BTreeMap.{keys};
 ghost use Rattle.std.specs.List.Sorted.{IsStrictlySortedBy};
-ghost use Rattle.tier_base.specs.Told.{Names, replaced, removed};
+ghost use Rattle.tier_base.specs.Told.{NamesAllHeld, replaced, removed};
 ghost use Rattle.object_store.specs.Content.{MadeAt, made_if};
 ghost use Rattle.object_store.specs.Shelf.{objects_on, keys_on, slot_cmp};
 
@@ -82,7 +82,7 @@ impl Shelf {
 
     /// Names the objects.
     pub fn keys(&self, alloc: Global) -> Result<Row<ObjectKey>, AllocError>
-        ensures { IfOk result (λ keys. Names (objects_on self.now) keys) }
+        ensures { IfOk result (λ keys. NamesAllHeld (objects_on self.now) keys) }
     {
         self.in_order(alloc)
     }

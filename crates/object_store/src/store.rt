@@ -7,7 +7,7 @@ ghost use Rattle.std.specs.Prelude.{◌≡◌, take, drop, IfOk, IsTrue, option_
 ghost use Rattle.tier_base.specs.Device.{Control, Ran, RanQuietly, MayBeDone, Arms, FailsAsPlanned, fate_of, failing};
 ghost use Rattle.object_store.specs.declared.call.StoreCall.TheVariants.{Put, Get, Delete, Keys};
 ghost use Rattle.object_store.specs.Call.{call_code};
-ghost use Rattle.tier_base.specs.Told.{Names, replaced, removed, last_read_after};
+ghost use Rattle.tier_base.specs.Told.{NamesAllHeld, replaced, removed, last_read_after};
 ghost use Rattle.object_store.specs.Content.{Content, Changes, Keeps};
 
 use bytes::Bytes;
@@ -60,7 +60,7 @@ pub trait Store: Drop {
         ensures control { RanQuietly Keys (fate_of result) (control self.old) (control self.new) }
         ensures content { Keeps (content self.old) (content self.new) }
         ensures keys { IsTrue (content self.old).is_observable
-            → IfOk result (λ keys. Names (content self.old).objects keys) };
+            → IfOk result (λ keys. NamesAllHeld (content self.old).objects keys) };
 
     /// From the first `arm` on planned calls fail. Further calls of `arm` change nothing.
     fn arm(&mut self)

@@ -8,14 +8,14 @@ use Rattle.disk_model.specs.Call.{call_code}
 use Rattle.disk_model.specs.Content.{Content}
 use Rattle.log_steps.specs.Reopens.{Reopens}
 use Rattle.registry.specs.declared.registry.Registry.{Registry}
-use Rattle.broker_log.specs.Seen.{Kept, Up, Down, Away, Seen, Shows, ShowsClosed, Stays, OnDisk, is_up}
+use Rattle.broker_log.specs.Seen.{LogState, Up, Down, Away, LogSeen, ShowsSeen, ShowsClosed, LogStays, OnDisk, is_up}
 use Rattle.partition_commands.specs.declared.partition_state.Node.{Node}
 use Rattle.partition_commands.specs.declared.partition_state.PartitionState.{PartitionState}
 use Rattle.partition_commands.specs.Cold.{cold_node, node_back, held_back, ShowDisks, DisksReopen, IsColdOver, AreColdOver, IsColdPartition}
 use Rattle.partition_commands.specs.Disks.{AllReopen}
 use Rattle.partition_commands.specs.Fresh.{AreDisksOf}
 use Rattle.partition_commands.specs.Partition.{node_of, ShowNodes, ShowsPartition}
-use Rattle.partition_commands.specs.Sound.{NodeSound, SoundPartition}
+use Rattle.partition_commands.specs.Sound.{LeaderSound, SoundPartition}
 use Rattle.partition_commands.proofs.FreshDisks.{Armed, AreArmed}
 
 module _ {D : Type 0} where
@@ -35,7 +35,7 @@ module _ {D : Type 0} where
           ∙ ap (λ (l : List (Node D)). before ++ l) (sym (map-append (cold_node settings) disks (disk ∷ [])))
 
   -- such a broker has what its turns need
-  cold_node_sound : (r : Registry) (settings : Settings) (disk : D) → NodeSound r (cold_node settings disk)
+  cold_node_sound : (r : Registry) (settings : Settings) (disk : D) → LeaderSound r (cold_node settings disk)
   cold_node_sound r settings disk = record {
     up = λ e is. absurd cc;
     leads = λ e is. absurd cc;
@@ -47,7 +47,7 @@ module _ {D : Type 0} where
 
 module _ {D : Type 0} (content : D → Content) (control : D → Control call_code) where
   -- its disk's plan is put in force
-  armed_over : (settings : Settings) (disk : D) (kept : Kept D) → Stays content (Down settings disk) kept → OnDisk kept (λ d. Arms (control disk) (control d)) → IsColdOver content control settings disk (record (cold_node settings disk) { log = kept })
+  armed_over : (settings : Settings) (disk : D) (kept : LogState D) → LogStays content (Down settings disk) kept → OnDisk kept (λ d. Arms (control disk) (control d)) → IsColdOver content control settings disk (record (cold_node settings disk) { log = kept })
   armed_over settings disk (Up l) stays arms = absurd (let up = stays.up in cc)
   armed_over settings disk Away stays arms = absurd arms
   armed_over settings disk (Down was now) stays arms =
@@ -73,18 +73,18 @@ module _ {D : Type 0} (content : D → Content) (control : D → Control call_co
       )
 
   -- they are seen as the logs on the disks were
-  pub cold_nodes_shown : (settings : Settings) (disks : List D) (xs : List (Node D)) (ss : List Seen) → AreColdOver content control settings disks xs → ShowDisks content disks ss → ShowNodes content xs (map node_back ss)
+  pub cold_nodes_shown : (settings : Settings) (disks : List D) (xs : List (Node D)) (ss : List LogSeen) → AreColdOver content control settings disks xs → ShowDisks content disks ss → ShowNodes content xs (map node_back ss)
   cold_nodes_shown settings [] [] [] c s = tt
   cold_nodes_shown settings [] [] (k ∷ ss) c s = absurd s
   cold_nodes_shown settings [] (x ∷ xs) ss c s = absurd c
   cold_nodes_shown settings (d ∷ disks) [] ss c s = absurd c
   cold_nodes_shown settings (d ∷ disks) (x ∷ xs) [] c s = absurd s
   cold_nodes_shown settings (d ∷ disks) (x ∷ xs) (k ∷ ss) c s = (
-    subst (λ (y : Node D). (t : Seen) × Shows content y.log t × (node_back k ≡ node_of y t)) (sym c.0.node) (k, c.0.seen k s.0, refl),
+    subst (λ (y : Node D). (t : LogSeen) × ShowsSeen content y.log t × (node_back k ≡ node_of y t)) (sym c.0.node) (k, c.0.seen k s.0, refl),
     cold_nodes_shown settings disks xs ss c.1 s.1,
   )
 
-  pub cold_shown : (settings : Settings) (registry : Registry) (disks : List D) (h : PartitionState D) (ss : List Seen) → IsColdPartition content control settings registry disks h → ShowDisks content disks ss → ShowsPartition content h (held_back registry ss)
+  pub cold_shown : (settings : Settings) (registry : Registry) (disks : List D) (h : PartitionState D) (ss : List LogSeen) → IsColdPartition content control settings registry disks h → ShowDisks content disks ss → ShowsPartition content h (held_back registry ss)
   cold_shown settings registry disks h ss c s = record {
     registry = sym c.registry_is;
     nodes = cold_nodes_shown settings disks h.nodes ss c.nodes s;
@@ -98,13 +98,13 @@ module _ {D : Type 0} (content : D → Content) (control : D → Control call_co
   cold_count settings (d ∷ disks) [] c = absurd c
   cold_count settings (d ∷ disks) (x ∷ xs) c = ap suc (cold_count settings disks xs c.1)
 
-  nodes_sound : (r : Registry) (settings : Settings) (disks : List D) (xs : List (Node D)) (b : ℕ) (x : Node D) → AreColdOver content control settings disks xs → slice_get xs b ≡ Some x → NodeSound r x
+  nodes_sound : (r : Registry) (settings : Settings) (disks : List D) (xs : List (Node D)) (b : ℕ) (x : Node D) → AreColdOver content control settings disks xs → slice_get xs b ≡ Some x → LeaderSound r x
   nodes_sound r settings [] [] b x c at = absurd cc
   nodes_sound r settings [] (y ∷ xs) b x c at = absurd c
   nodes_sound r settings (d ∷ disks) [] b x c at = absurd c
   nodes_sound r settings (d ∷ disks) (y ∷ xs) zero x c at =
       let same : cold_node settings c.0.now ≡ x = let is : y ≡ x = cc (at) in sym c.0.node ∙ is in
-      subst (NodeSound r) same (cold_node_sound r settings c.0.now)
+      subst (LeaderSound r) same (cold_node_sound r settings c.0.now)
   nodes_sound r settings (d ∷ disks) (y ∷ xs) (suc b) x c at = nodes_sound r settings disks xs b x c.1 at
 
   pub cold_sound : (n : ℕ) (settings : Settings) (registry : Registry) (disks : List D) (h : PartitionState D) → length disks ≡ n → length registry.replicas ≡ n → registry.epoch < 2 ^ 31
@@ -117,7 +117,7 @@ module _ {D : Type 0} (content : D → Content) (control : D → Control call_co
   }
 
 module _ {D : Type 0} (content : D → Content) where
-  disk_reopens : (k : Kept D) (disk : D) → OnDisk k (λ d. disk ≡ d) → (IsTrue (is_up k) → OnDisk k (λ d. Reopens (content d))) → IsTrue (is_up k) ⊎ ((s : Seen) × Shows content k s) → Reopens (content disk)
+  disk_reopens : (k : LogState D) (disk : D) → OnDisk k (λ d. disk ≡ d) → (IsTrue (is_up k) → OnDisk k (λ d. Reopens (content d))) → IsTrue (is_up k) ⊎ ((s : LogSeen) × ShowsSeen content k s) → Reopens (content disk)
   disk_reopens (Up l) disk is all either = subst (λ (d : D). Reopens (content d)) (sym is) (all refl)
   disk_reopens (Down settings d) disk is all (inl up) = absurd cc
   disk_reopens (Down settings d) disk is all (inr shows) = subst (λ (e : D). Reopens (content e)) (sym is) shows.1.again

@@ -4,7 +4,7 @@ use Rattle.tier_base.specs.Device.{Control}
 use Rattle.disk_model.specs.Call.{call_code}
 use Rattle.registry.specs.declared.registry.Registry.{Registry}
 use Rattle.plain_log.specs.declared.command.Command.{Command}
-use Rattle.broker_log.specs.Seen.{Kept, Up, Down, Away, OnDisk, NoFault, OneFault}
+use Rattle.broker_log.specs.Seen.{LogState, Up, Down, Away, OnDisk, NoFault, OneFault}
 use Rattle.laws_partition.proofs.BoolTests.{some_of}
 use Rattle.partition_commands.specs.declared.partition_state.Node.{Node}
 use Rattle.partition_commands.specs.declared.partition_state.PartitionState.{PartitionState}
@@ -23,7 +23,7 @@ by_map A B Z true f k = f k
 by_map A B Z false f k = k
 
 module _ {D : Type 0} (control : D → Control call_code) where
-  quiet_same_log : (k : Kept D) → OnDisk k (λ d. Unit {0}) → NoFault control k k
+  quiet_same_log : (k : LogState D) → OnDisk k (λ d. Unit {0}) → NoFault control k k
   quiet_same_log (Up l) on = refl
   quiet_same_log (Down i d) on = refl
   quiet_same_log Away on = absurd on
@@ -64,7 +64,7 @@ module _ {D : Type 0} (control : D → Control call_code) where
   -- one whose disk wasn't
   pub quiet_log : (h : PartitionState D) (b : ℕ) (x y : Node D) (h' : PartitionState D) → slice_get h.nodes b ≡ Some x → y.log ≡ x.log → h' ≡ put_node h b y → Quietly h h'
   quiet_log h b x y h' at same is = λ have.
-      quiet_put h b x y h' at (subst (λ (l : Kept D). NoFault control x.log l) (sym same) (quiet_same_log x.log (disk_at h.nodes b x at have))) is have
+      quiet_put h b x y h' at (subst (λ (l : LogState D). NoFault control x.log l) (sym same) (quiet_same_log x.log (disk_at h.nodes b x at have))) is have
 
   pub quiet_leaves : (h : PartitionState D) (after : Option Registry) (h' : PartitionState D) → Leaves h after h' → Quietly h h'
   quiet_leaves h after h' w = let r = some_of _ after w in quiet_same (record h { registry = r.0 }) h' r.2

@@ -15,7 +15,7 @@ use Rattle.plain_log.specs.declared.command.Command.TheVariants.{Append, Raw, Fl
 use Rattle.plain_log.specs.declared.command.Which.{Which}
 use Rattle.plain_log.specs.declared.command.Which.TheVariants.{LatestTiered, At}
 use Rattle.plain_log.specs.State.{acking}
-use Rattle.broker_log.specs.Seen.{Kept}
+use Rattle.broker_log.specs.Seen.{LogState}
 use Rattle.broker_log.specs.Seen as log
 use Rattle.laws_partition.specs.declared.start_snapshot.StartSnapshot.{StartSnapshot}
 use Rattle.laws_partition.specs.declared.start_snapshot.Turned.{Turned}
@@ -25,9 +25,9 @@ use Rattle.partition_commands.specs.declared.partition_state.Node.{Node}
 use Rattle.partition_commands.specs.declared.partition_state.PartitionState.{PartitionState}
 use Rattle.partition_commands.specs.Disks.{HaveDisks, DisksCount}
 use Rattle.partition_commands.specs.Faults.{is_of_disk, is_answered}
-use Rattle.partition_commands.specs.Partition.{put_node, end_of, flushed_end_of, stopped, the_leader, Fails, Breaks, BreaksBy}
+use Rattle.partition_commands.specs.Partition.{put_node, end_of, flushed_end_of, stopped, the_leader, NodeReadFails, BreaksNode, BreaksBy}
 use Rattle.partition_commands.specs.Turns.{ClockRow, PackRow, CopyingRow, OffsetRow, StopRow, UpRow, AnswerRow, FirstRow, LaterRow, Row}
-use Rattle.partition_commands.specs.TurnsOfLog.{Gains, AppendRow, RawRow, FlushRow, RollRow, TrimRow, TrimOnRow}
+use Rattle.partition_commands.specs.TurnsOfLog.{NodeGains, AppendRow, RawRow, FlushRow, RollRow, TrimRow, TrimOnRow}
 use Rattle.partition_commands.specs.TurnsOfFetch.{FetchRow, FetchTurn}
 use Rattle.partition_commands.specs.TurnsOfElections.{ElectRow, UncleanRow, LearnRow, AckRow, ShrinkRow, ExpandRow, RaiseRow}
 use Rattle.partition_commands.specs.TurnsOfFollowers.{JoinRow, JoinOnRow, FollowRow, FollowOnRow}
@@ -47,17 +47,17 @@ module _ {D : Type 0} (content : D → Content) (control : D → Control call_co
   of_follow h b h' limit answer k =
       by_map (Once control h b h') (OnceFor control (Follow limit) h b h') (Quietly control h h') (is_of_disk answer) (λ once have. (b, once have)) k
 
-  fails_counts : (h : PartitionState D) (b : ℕ) (x : Node D) (h' : PartitionState D) → slice_get h.nodes b ≡ Some x → Fails content control h b x h' → Once control h b h'
+  fails_counts : (h : PartitionState D) (b : ℕ) (x : Node D) (h' : PartitionState D) → slice_get h.nodes b ≡ Some x → NodeReadFails content control h b x h' → Once control h b h'
   fails_counts h b x h' at k = once_put control h b x (record x { log = k.0 }) h' at k.3 k.4
 
-  breaks_counts : (h : PartitionState D) (b : ℕ) (x : Node D) (makes : log.Seen → log.Seen) (h' : PartitionState D) → slice_get h.nodes b ≡ Some x → Breaks content control h b x makes h' → Once control h b h'
+  breaks_counts : (h : PartitionState D) (b : ℕ) (x : Node D) (makes : log.LogSeen → log.LogSeen) (h' : PartitionState D) → slice_get h.nodes b ≡ Some x → BreaksNode content control h b x makes h' → Once control h b h'
   breaks_counts h b x makes h' at k = once_put control h b x (record (stopped x) { log = k.kept }) h' at k.cause k.after
 
   -- whatever the write that failed makes of the log
-  broken_counts : (h : PartitionState D) (b : ℕ) (x : Node D) (B : Kept D → Kept D → Type 0) (h' : PartitionState D) → slice_get h.nodes b ≡ Some x → BreaksBy content control h b x B h' → Once control h b h'
+  broken_counts : (h : PartitionState D) (b : ℕ) (x : Node D) (B : LogState D → LogState D → Type 0) (h' : PartitionState D) → slice_get h.nodes b ≡ Some x → BreaksBy content control h b x B h' → Once control h b h'
   broken_counts h b x B h' at k = once_put control h b x (record (stopped x) { log = k.kept }) h' at k.cause k.after
 
-  gains_counts : (h : PartitionState D) (b : ℕ) (x : Node D) (batch : List ℕ) (h' : PartitionState D) → slice_get h.nodes b ≡ Some x → Gains content control h b x batch h' → Quietly control h h'
+  gains_counts : (h : PartitionState D) (b : ℕ) (x : Node D) (batch : List ℕ) (h' : PartitionState D) → slice_get h.nodes b ≡ Some x → NodeGains content control h b x batch h' → Quietly control h h'
   gains_counts h b x batch h' at k = quiet_put control h b x (record x { log = k.0 }) h' at k.4.1 k.5
 
   append_counts : (h : PartitionState D) (b : ℕ) (x : Node D) (batch : List ℕ) (answer : Answer) (h' : PartitionState D) → slice_get h.nodes b ≡ Some x → AppendRow content control h b x batch answer h' → Leaving h b h' answer

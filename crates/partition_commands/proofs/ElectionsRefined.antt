@@ -16,7 +16,7 @@ use Rattle.plain_log.specs.declared.answer.Answer.{Answer}
 use Rattle.plain_log.specs.declared.answer.Answer.TheVariants.{Ok, OkAt, Down, NotLeader, DiskFault, LastEpoch, NotInSync, DownBroker, BehindStart, Known, Follows, NeedsElection, Leads, NotJoined, StaleEpoch, IsLeader, Behind, NotAbove, AboveMark}
 use Rattle.plain_log.specs.declared.state.Role.TheVariants.{Leads as LeadsIn, Follows as FollowsIn}
 use Rattle.plain_log.specs.State.{acking}
-use Rattle.broker_log.specs.Seen.{Kept, Shows, is_up as is_open}
+use Rattle.broker_log.specs.Seen.{LogState, ShowsSeen, is_up as is_open}
 use Rattle.broker_log.specs.Seen as log
 use Rattle.broker_log.specs.Turns.{settled, loosened}
 use Rattle.laws_partition.specs.Seen as seen
@@ -47,7 +47,7 @@ unclean_stable r b false one two answer same = down answer
     down other = refl
 
 module _ {D : Type 0} where
-  learned_node : (x : Node D) (kept : Kept D) (s s' : log.Seen) (n epoch known mark : ℕ) → is_open kept ≡ is_up x → s' ≡ settled s (assign s.line epoch (end_of_log s.batches)) → n ≡ epoch → known ≡ min mark (end_of_log s.batches)
+  learned_node : (x : Node D) (kept : LogState D) (s s' : log.LogSeen) (n epoch known mark : ℕ) → is_open kept ≡ is_up x → s' ≡ settled s (assign s.line epoch (end_of_log s.batches)) → n ≡ epoch → known ≡ min mark (end_of_log s.batches)
       → record (node_of x s) {
         role = LeadsIn n;
         log = record { batches = s.batches; line = assign s.line n (end_of_log s.batches) };
@@ -74,7 +74,7 @@ module _ {D : Type 0} (content : D → Content) (control : D → Control call_co
       (λ c row. some_at (λ (s : Replica). seen_rows.Leaves a (f a.registry s) c) (slice_get a.registry.replicas b) s.0 (ap (λ (r : Registry). slice_get r.replicas b) held.registry ∙ s.1) row)
       (left_refined h a h' (λ r. f r s.0) held s.2)
 
-  pub elect_refined : (h : PartitionState D) (a : seen.SeenPartition) (b : ℕ) (x : Node D) (s : log.Seen) (answer : Answer) (h' : PartitionState D) → Sees content h a b x s → ElectRow h b x answer h'
+  pub elect_refined : (h : PartitionState D) (a : seen.SeenPartition) (b : ℕ) (x : Node D) (s : log.LogSeen) (answer : Answer) (h' : PartitionState D) → Sees content h a b x s → ElectRow h b x answer h'
       → Refines content h' (λ c. seen_rows.ElectRow a b (node_of x s) answer c)
   elect_refined h a b x s LastEpoch h' v w = replica_refined h a h' b (λ r t. after_elect r b t (is_up x) (Err Reg.LastEpoch)) v.held w
   elect_refined h a b x s NotInSync h' v w = replica_refined h a h' b (λ r t. after_elect r b t (is_up x) (Err Reg.NotInSync)) v.held w
@@ -82,13 +82,13 @@ module _ {D : Type 0} (content : D → Content) (control : D → Control call_co
   elect_refined h a b x s (OkAt n) h' v w = replica_refined h a h' b (λ r t. after_elect r b t (is_up x) (Done n)) v.held w
   elect_refined h a b x s other h' v w = elim w [ ]
 
-  unclean_by : (h : PartitionState D) (a : seen.SeenPartition) (b : ℕ) (x : Node D) (s : log.Seen) (answer : Result ℕ RegRefusal) (h' : PartitionState D) → Sees content h a b x s
+  unclean_by : (h : PartitionState D) (a : seen.SeenPartition) (b : ℕ) (x : Node D) (s : log.LogSeen) (answer : Result ℕ RegRefusal) (h' : PartitionState D) → Sees content h a b x s
       → Leaves h (after_unclean h.registry b (is_up x) (flushed_end_of x) answer) h' → Refines content h' (λ c. seen_rows.Leaves a (after_unclean a.registry b (is_up x) s.flushed_end answer) c)
   unclean_by h a b x s answer h' v w =
       let same = unclean_stable h.registry b (is_up x) (flushed_end_of x) s.flushed_end answer (λ up. flushed_end_shown content x s up v.shows) in
       left_refined h a h' (λ r. after_unclean r b (is_up x) s.flushed_end answer) v.held (subst (λ (o : Option Registry). Leaves h o h') same w)
 
-  pub unclean_refined : (h : PartitionState D) (a : seen.SeenPartition) (b : ℕ) (x : Node D) (s : log.Seen) (answer : Answer) (h' : PartitionState D) → Sees content h a b x s → UncleanRow h b x answer h'
+  pub unclean_refined : (h : PartitionState D) (a : seen.SeenPartition) (b : ℕ) (x : Node D) (s : log.LogSeen) (answer : Answer) (h' : PartitionState D) → Sees content h a b x s → UncleanRow h b x answer h'
       → Refines content h' (λ c. seen_rows.UncleanRow a b (node_of x s) answer c)
   unclean_refined h a b x s LastEpoch h' v w = unclean_by h a b x s (Err Reg.LastEpoch) h' v w
   unclean_refined h a b x s DownBroker h' v w = unclean_by h a b x s (Err Reg.DownBroker) h' v w
@@ -96,28 +96,28 @@ module _ {D : Type 0} (content : D → Content) (control : D → Control call_co
   unclean_refined h a b x s (OkAt n) h' v w = unclean_by h a b x s (Done n) h' v w
   unclean_refined h a b x s other h' v w = elim w [ ]
 
-  pub shrink_refined : (h : PartitionState D) (a : seen.SeenPartition) (b : ℕ) (x : Node D) (s : log.Seen) (answer : Answer) (h' : PartitionState D) → Sees content h a b x s → ShrinkRow h b answer h'
+  pub shrink_refined : (h : PartitionState D) (a : seen.SeenPartition) (b : ℕ) (x : Node D) (s : log.LogSeen) (answer : Answer) (h' : PartitionState D) → Sees content h a b x s → ShrinkRow h b answer h'
       → Refines content h' (λ c. seen_rows.ShrinkRow a b answer c)
   shrink_refined h a b x s NotInSync h' v w = replica_refined h a h' b (λ r t. after_shrink r b t (Err Reg.NotInSync)) v.held w
   shrink_refined h a b x s IsLeader h' v w = replica_refined h a h' b (λ r t. after_shrink r b t (Err Reg.IsLeader)) v.held w
   shrink_refined h a b x s Ok h' v w = replica_refined h a h' b (λ r t. after_shrink r b t (Done tt)) v.held w
   shrink_refined h a b x s other h' v w = elim w [ ]
 
-  pub expand_refined : (h : PartitionState D) (a : seen.SeenPartition) (b : ℕ) (x : Node D) (s : log.Seen) (answer : Answer) (h' : PartitionState D) → Sees content h a b x s → ExpandRow h b x answer h'
+  pub expand_refined : (h : PartitionState D) (a : seen.SeenPartition) (b : ℕ) (x : Node D) (s : log.LogSeen) (answer : Answer) (h' : PartitionState D) → Sees content h a b x s → ExpandRow h b x answer h'
       → Refines content h' (λ c. seen_rows.ExpandRow a b (node_of x s) answer c)
   expand_refined h a b x s DownBroker h' v w = replica_refined h a h' b (λ r t. after_expand r b t (is_up x) (Err Reg.DownBroker)) v.held w
   expand_refined h a b x s (Behind ack mark) h' v w = replica_refined h a h' b (λ r t. after_expand r b t (is_up x) (Err (Reg.Behind ack mark))) v.held w
   expand_refined h a b x s Ok h' v w = replica_refined h a h' b (λ r t. after_expand r b t (is_up x) (Done tt)) v.held w
   expand_refined h a b x s other h' v w = elim w [ ]
 
-  raise_by : (h : PartitionState D) (a : seen.SeenPartition) (b : ℕ) (x : Node D) (s : log.Seen) (wanted : ℕ) (answer : Result ℕ RegRefusal) (h' : PartitionState D) → Sees content h a b x s
+  raise_by : (h : PartitionState D) (a : seen.SeenPartition) (b : ℕ) (x : Node D) (s : log.LogSeen) (wanted : ℕ) (answer : Result ℕ RegRefusal) (h' : PartitionState D) → Sees content h a b x s
       → (is_up x ≡ true) × ((e : ℕ) × (x.role ≡ LeadsIn e) × Leaves h (after_raise h.registry e wanted answer) h')
       → Refines content h' (λ c. (is_up x ≡ true) × ((e : ℕ) × (x.role ≡ LeadsIn e) × seen_rows.Leaves a (after_raise a.registry e wanted answer) c))
   raise_by h a b x s wanted answer h' v w =
       refines_more content control h' (λ c. seen_rows.Leaves a (after_raise a.registry w.1.0 wanted answer) c) _ (λ c row. (w.0, (w.1.0, w.1.1, row)))
       (left_refined h a h' (λ r. after_raise r w.1.0 wanted answer) v.held w.1.2)
 
-  pub raise_refined : (h : PartitionState D) (a : seen.SeenPartition) (b : ℕ) (x : Node D) (s : log.Seen) (wanted : ℕ) (answer : Answer) (h' : PartitionState D) → Sees content h a b x s → RaiseRow h b x wanted answer h'
+  pub raise_refined : (h : PartitionState D) (a : seen.SeenPartition) (b : ℕ) (x : Node D) (s : log.LogSeen) (wanted : ℕ) (answer : Answer) (h' : PartitionState D) → Sees content h a b x s → RaiseRow h b x wanted answer h'
       → Refines content h' (λ c. seen_rows.RaiseRow a b (node_of x s) wanted answer c)
   raise_refined h a b x s wanted Down h' v w = stays content control h a h' _ v.held w.1 (w.0, refl)
   raise_refined h a b x s wanted NotLeader h' v w = stays content control h a h' _ v.held w.2 (w.0, w.1, refl)
@@ -129,19 +129,19 @@ module _ {D : Type 0} (content : D → Content) (control : D → Control call_co
 
   -- learn
 
-  known_shown : (h : PartitionState D) (a : seen.SeenPartition) (x : Node D) (s : log.Seen) → ShowsPartition content h a → IsKnown h x → seen_rows.IsKnown a (node_of x s)
+  known_shown : (h : PartitionState D) (a : seen.SeenPartition) (x : Node D) (s : log.LogSeen) → ShowsPartition content h a → IsKnown h x → seen_rows.IsKnown a (node_of x s)
   known_shown h a x s held k = k ∙ ap (λ (r : Registry). Some r.epoch) (sym held.registry)
 
-  unknown_shown : (h : PartitionState D) (a : seen.SeenPartition) (x : Node D) (s : log.Seen) → ShowsPartition content h a → (IsKnown h x → ⊥) → seen_rows.IsKnown a (node_of x s) → ⊥
+  unknown_shown : (h : PartitionState D) (a : seen.SeenPartition) (x : Node D) (s : log.LogSeen) → ShowsPartition content h a → (IsKnown h x → ⊥) → seen_rows.IsKnown a (node_of x s) → ⊥
   unknown_shown h a x s held k n = k (n ∙ ap (λ (r : Registry). Some r.epoch) held.registry)
 
-  new_shown : (h : PartitionState D) (x : Node D) (s : log.Seen) (n : ℕ) → is_up x ≡ true → Shows content x.log s → IsNew x n → seen_rows.IsNew (node_of x s) n
+  new_shown : (h : PartitionState D) (x : Node D) (s : log.LogSeen) (n : ℕ) → is_up x ≡ true → ShowsSeen content x.log s → IsNew x n → seen_rows.IsNew (node_of x s) n
   new_shown h x s n up shows k = subst (λ (l : List (ℕ × ℕ)). ForSome (last_epoch l) (λ last. last < n)) (line_shown content x s up shows) k
 
-  old_shown : (h : PartitionState D) (x : Node D) (s : log.Seen) (n : ℕ) → is_up x ≡ true → Shows content x.log s → (IsNew x n → ⊥) → seen_rows.IsNew (node_of x s) n → ⊥
+  old_shown : (h : PartitionState D) (x : Node D) (s : log.LogSeen) (n : ℕ) → is_up x ≡ true → ShowsSeen content x.log s → (IsNew x n → ⊥) → seen_rows.IsNew (node_of x s) n → ⊥
   old_shown h x s n up shows k m = k (subst (λ (l : List (ℕ × ℕ)). ForSome (last_epoch l) (λ last. last < n)) (sym (line_shown content x s up shows)) m)
 
-  pub learn_refined : (h : PartitionState D) (a : seen.SeenPartition) (b : ℕ) (x : Node D) (s : log.Seen) (answer : Answer) (h' : PartitionState D) → Sees content h a b x s → LearnRow content control h b x answer h'
+  pub learn_refined : (h : PartitionState D) (a : seen.SeenPartition) (b : ℕ) (x : Node D) (s : log.LogSeen) (answer : Answer) (h' : PartitionState D) → Sees content h a b x s → LearnRow content control h b x answer h'
       → Refines content h' (λ c. seen_rows.LearnRow a b (node_of x s) answer c)
   learn_refined h a b x s Down h' v w = stays content control h a h' _ v.held w.1 (w.0, refl)
   learn_refined h a b x s Known h' v w = stays content control h a h' _ v.held w.2 (w.0, known_shown h a x s v.held w.1, refl)
@@ -186,7 +186,7 @@ module _ {D : Type 0} (content : D → Content) (control : D → Control call_co
 
   -- ack
 
-  acks_refined : (h : PartitionState D) (a : seen.SeenPartition) (b : ℕ) (x : Node D) (s : log.Seen) (r : Registry) (h' : PartitionState D) → Sees content h a b x s → is_up x ≡ true → Acks h b x r h'
+  acks_refined : (h : PartitionState D) (a : seen.SeenPartition) (b : ℕ) (x : Node D) (s : log.LogSeen) (r : Registry) (h' : PartitionState D) → Sees content h a b x s → is_up x ≡ true → Acks h b x r h'
       → Refines content h' (λ c. c ≡ seen_rows.acked a b (node_of x s) r)
   acks_refined h a b x s r h' v up k =
       let known = ap (λ (n : ℕ). min r.mark n) (end_shown content x s up v.shows) in
@@ -201,7 +201,7 @@ module _ {D : Type 0} (content : D → Content) (control : D → Control call_co
         row = refl;
       })
 
-  stale_ack : (h : PartitionState D) (a : seen.SeenPartition) (b : ℕ) (x : Node D) (s : log.Seen) (n : ℕ) (h' : PartitionState D) → Sees content h a b x s → is_up x ≡ true
+  stale_ack : (h : PartitionState D) (a : seen.SeenPartition) (b : ℕ) (x : Node D) (s : log.LogSeen) (n : ℕ) (h' : PartitionState D) → Sees content h a b x s → is_up x ≡ true
       → IsSomeAnd (acking x.role) (λ e. AtReplica h.registry b (λ t. Leaves h (after_ack h.registry b t e (flushed_end_of x) (Err (Reg.StaleEpoch n))) h'))
       → Refines content h' (λ c. IsSomeAnd (acking x.role) (λ e. AtReplica a.registry b (λ t. seen_rows.Leaves a (after_ack a.registry b t e s.flushed_end (Err (Reg.StaleEpoch n))) c)))
   stale_ack h a b x s n h' v up w =
@@ -212,7 +212,7 @@ module _ {D : Type 0} (content : D → Content) (control : D → Control call_co
       (replica_refined h a h' b (λ r t. after_ack r b t e.0 s.flushed_end (Err (Reg.StaleEpoch n))) v.held
       (subst (λ (k : ℕ). AtReplica h.registry b (λ t. Leaves h (after_ack h.registry b t e.0 k (Err (Reg.StaleEpoch n))) h')) same e.2))
 
-  pub ack_refined : (h : PartitionState D) (a : seen.SeenPartition) (b : ℕ) (x : Node D) (s : log.Seen) (answer : Answer) (h' : PartitionState D) → Sees content h a b x s
+  pub ack_refined : (h : PartitionState D) (a : seen.SeenPartition) (b : ℕ) (x : Node D) (s : log.LogSeen) (answer : Answer) (h' : PartitionState D) → Sees content h a b x s
       → AckRow h b x answer h'
       → Refines content h' (λ c. seen_rows.AckRow a b (node_of x s) answer c)
   ack_refined h a b x s Down h' v w = stays content control h a h' _ v.held w.1 (w.0, refl)

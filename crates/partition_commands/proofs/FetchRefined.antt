@@ -13,7 +13,7 @@ use Rattle.laws_partition.specs.declared.start_snapshot.Turned.{Turned}
 use Rattle.laws_partition.specs.declared.start_snapshot.Turned.TheVariants.{Answers, Begins}
 use Rattle.laws_partition.specs.Rows as seen_rows
 use Rattle.partition_commands.proofs.OwnRefined.{notes_shown}
-use Rattle.broker_log.specs.Seen.{Shows}
+use Rattle.broker_log.specs.Seen.{ShowsSeen}
 use Rattle.broker_log.specs.Seen as log
 use Rattle.laws_partition.specs.Seen as seen
 use Rattle.laws_partition.specs.Log.{IsRunOf}
@@ -29,14 +29,14 @@ use Rattle.partition_commands.specs.Shown.{Sees, Refines}
 use Rattle.partition_commands.proofs.Shown.{stays, rests, fails, end_shown, local_shown}
 
 module _ {D : Type 0} (content : D → Content) (control : D → Control call_code) where
-  in_log : (h : PartitionState D) (a : seen.SeenPartition) (b : ℕ) (x : Node D) (s : log.Seen) (offset : ℕ) → Sees content h a b x s → is_up x ≡ true → IsInLog h x offset → seen_log.IsInLog a (node_of x s) offset
+  in_log : (h : PartitionState D) (a : seen.SeenPartition) (b : ℕ) (x : Node D) (s : log.LogSeen) (offset : ℕ) → Sees content h a b x s → is_up x ≡ true → IsInLog h x offset → seen_log.IsInLog a (node_of x s) offset
   in_log h a b x s offset v up w =
       (subst (λ (r : Registry). r.start ≤ offset) (sym v.held.registry) w.0, subst (λ (n : ℕ). offset ≤ n) (end_shown content x s up v.shows) w.1)
 
-  is_local : (h : PartitionState D) (a : seen.SeenPartition) (b : ℕ) (x : Node D) (s : log.Seen) (offset : ℕ) → Sees content h a b x s → is_up x ≡ true → IsLocal h x offset → seen_log.IsLocal a (node_of x s) offset
+  is_local : (h : PartitionState D) (a : seen.SeenPartition) (b : ℕ) (x : Node D) (s : log.LogSeen) (offset : ℕ) → Sees content h a b x s → is_up x ≡ true → IsLocal h x offset → seen_log.IsLocal a (node_of x s) offset
   is_local h a b x s offset v up w = (in_log h a b x s offset v up w.0, subst (λ (n : ℕ). n ≤ offset) (local_shown content x s up v.shows) w.1)
 
-  fetch_refined : (h : PartitionState D) (a : seen.SeenPartition) (b : ℕ) (x : Node D) (s : log.Seen) (offset limit : ℕ) (answer : Answer) (h' : PartitionState D) → Sees content h a b x s
+  fetch_refined : (h : PartitionState D) (a : seen.SeenPartition) (b : ℕ) (x : Node D) (s : log.LogSeen) (offset limit : ℕ) (answer : Answer) (h' : PartitionState D) → Sees content h a b x s
       → seen_sound.NodeSound (node_of x s) → FetchRow content control h b x offset limit answer h' → Refines content h' (λ c. seen_log.FetchRow a (node_of x s) offset limit answer c)
   fetch_refined h a b x s offset limit Down h' v k w = stays content control h a h' _ v.held w.1 (w.0, refl)
   fetch_refined h a b x s offset limit NotLeader h' v k w = stays content control h a h' _ v.held w.2 (w.0, w.1, refl)
@@ -67,7 +67,7 @@ module _ {D : Type 0} (content : D → Content) (control : D → Control call_co
   fetch_refined h a b x s offset limit other h' v k w = elim w [ ]
 
   -- the first turn
-  pub fetch_turn_refined : (h : PartitionState D) (a : seen.SeenPartition) (b : ℕ) (x : Node D) (s : log.Seen) (offset limit : ℕ) (turned : Turned) (h' : PartitionState D) → Sees content h a b x s
+  pub fetch_turn_refined : (h : PartitionState D) (a : seen.SeenPartition) (b : ℕ) (x : Node D) (s : log.LogSeen) (offset limit : ℕ) (turned : Turned) (h' : PartitionState D) → Sees content h a b x s
       → seen_sound.NodeSound (node_of x s) → FetchTurn content control h b x offset limit turned h' → Refines content h' (λ c. seen_rows.FirstRow a b (node_of x s) (Fetch offset limit) turned c)
   fetch_turn_refined h a b x s offset limit (Answers answer) h' v k w = fetch_refined h a b x s offset limit answer h' v k w
   fetch_turn_refined h a b x s offset limit (Begins g) h' v k w =

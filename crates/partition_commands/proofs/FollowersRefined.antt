@@ -30,15 +30,15 @@ use Rattle.plain_log.specs.declared.answer.Place.TheVariants.{File}
 use Rattle.plain_log.specs.declared.state.Role.TheVariants.{Joined}
 use Rattle.plain_log.specs.State.{followed, joined as joined_role, leads_in}
 use Rattle.plain_log.proofs.Options.{when_some, both}
-use Rattle.broker_log.specs.Seen.{Kept, Shows, is_up as is_open}
+use Rattle.broker_log.specs.Seen.{LogState, ShowsSeen, is_up as is_open}
 use Rattle.broker_log.specs.Seen as log
-use Rattle.broker_log.specs.Turns.{LeadsTo, with_batches, cut_to, cut_back, MayCut, restarted, unbuilt}
+use Rattle.broker_log.specs.Turns.{LeadsTo, with_batches, cut_to, cut_back, MayCutLog, restarted, unbuilt}
 use Rattle.laws_partition.specs.declared.start_snapshot.StartSnapshot.{StartSnapshot}
 use Rattle.laws_partition.specs.declared.start_snapshot.Turned.{Turned}
 use Rattle.laws_partition.specs.declared.start_snapshot.Turned.TheVariants.{Answers, Begins}
 use Rattle.laws_partition.specs.Seen as seen
 use Rattle.laws_partition.specs.Partition as seen_held
-use Rattle.laws_partition.specs.Log.{IsRunOf, MayTake, entered, epoch_in}
+use Rattle.laws_partition.specs.Log.{IsRunOf, MayTakeEpoch, entered, epoch_in}
 use Rattle.laws_partition.specs.RowsOfFollowers as seen_rows
 use Rattle.laws_partition.specs.Sound as seen_sound
 use Rattle.laws_partition.specs.Taken.{parts}
@@ -51,7 +51,7 @@ use Rattle.partition_commands.specs.TurnsOfFollowers.{IsStale, IsCurrent, IsMeet
 use Rattle.partition_commands.proofs.Fronts.{each_all, all_each, come_apart, lined_entered}
 use Rattle.partition_commands.proofs.RunsShown.{run_shown}
 use Rattle.partition_commands.proofs.OwnRefined.{unsaved}
-use Rattle.partition_commands.specs.Shown.{Sees, Refines, AreSound, IsKept, IsRebuilding}
+use Rattle.partition_commands.specs.Shown.{Sees, Refines, AreSound, IsFollowSnapshot, IsRebuilding}
 use Rattle.partition_commands.proofs.Shown.{some_at, sees_at, shown_none, shown_leader, stays, puts, rests, fails, breaks_to, torn_node, end_shown, end_told, line_shown, local_shown, up_of_end}
 
 -- where the logs meet is an end of the follower's log
@@ -70,13 +70,13 @@ meet_same own mine other theirs n m k l limit a b c d h = rw (sym a, sym b, sym 
 record First (line : List (ℕ × ℕ)) (batches : List (List ℕ)) : Type 0 where
   epoch : ℕ
   first : epoch_in batches ≡ Some epoch
-  may : MayTake line epoch
+  may : MayTakeEpoch line epoch
   fits : epoch < 2 ^ 31
 
-last_or : (line : List (ℕ × ℕ)) (e : ℕ) → unwrap_or (last_epoch line) 0 ≤ e → MayTake line e
+last_or : (line : List (ℕ × ℕ)) (e : ℕ) → unwrap_or (last_epoch line) 0 ≤ e → MayTakeEpoch line e
 last_or line e le = λ last is. (let same : unwrap_or (last_epoch line) 0 ≡ last = ap (λ (o : Option ℕ). unwrap_or o 0) is in omega (arith, le, same))
 
-or_last : (line : List (ℕ × ℕ)) (e : ℕ) → MayTake line e → unwrap_or (last_epoch line) 0 ≤ e
+or_last : (line : List (ℕ × ℕ)) (e : ℕ) → MayTakeEpoch line e → unwrap_or (last_epoch line) 0 ≤ e
 or_last line e may = go (last_epoch line) refl
   where
     go : (o : Option ℕ) → last_epoch line ≡ o → unwrap_or o 0 ≤ e
@@ -104,7 +104,7 @@ first_low n (batch ∷ batches) some are c small =
     omega (arith, same, above, small)
 
 module _ {D : Type 0} where
-  joined_node : (x : Node D) (kept : Kept D) (s s' : log.Seen) (e n met : ℕ) → is_open kept ≡ is_up x → s' ≡ cut_to s met → n ≡ end_of_log (up_to met s.batches)
+  joined_node : (x : Node D) (kept : LogState D) (s s' : log.LogSeen) (e n met : ℕ) → is_open kept ≡ is_up x → s' ≡ cut_to s met → n ≡ end_of_log (up_to met s.batches)
       → seen_rows.cut_node (node_of x s) e met ≡ node_of (record x { role = Joined e; log = kept; known_high_watermark = min x.known_high_watermark n }) s'
   joined_node x kept s s' e n met up is end = rw (up, is) (ap (λ (k : ℕ). record (node_of x s) {
     role = Joined e;
@@ -115,22 +115,22 @@ module _ {D : Type 0} where
     local = min s.local (end_of_log (up_to met s.batches));
   }) (sym end))
 
-  rebuilt_node : (x : Node D) (kept : Kept D) (s : log.Seen) (whole : List (List ℕ)) (line : List (ℕ × ℕ)) (m : ℕ) → is_open kept ≡ is_up x → line ≡ epochs_of whole
+  rebuilt_node : (x : Node D) (kept : LogState D) (s : log.LogSeen) (whole : List (List ℕ)) (line : List (ℕ × ℕ)) (m : ℕ) → is_open kept ≡ is_up x → line ≡ epochs_of whole
       → seen_rows.rebuilt (node_of x s) whole m ≡ node_of (record x { log = kept }) (restarted s whole line m)
   rebuilt_node x kept s whole line m up is = rw (up, is) refl
 
-  unbuilt_node : (x : Node D) (kept : Kept D) (s : log.Seen) (whole : List (List ℕ)) (line : List (ℕ × ℕ)) (m : ℕ) → is_open kept ≡ false → line ≡ epochs_of whole
+  unbuilt_node : (x : Node D) (kept : LogState D) (s : log.LogSeen) (whole : List (List ℕ)) (line : List (ℕ × ℕ)) (m : ℕ) → is_open kept ≡ false → line ≡ epochs_of whole
       → seen_rows.unbuilt (node_of x s) whole m ≡ node_of (record (stopped x) { log = kept }) (unbuilt s whole line m)
   unbuilt_node x kept s whole line m down is = rw (down, is) refl
 
-  extended_node : (x : Node D) (kept : Kept D) (s s' : log.Seen) (front : List (List ℕ)) (e : ℕ) → is_open kept ≡ is_up x → s' ≡ with_batches s front → lined s.line front ≡ entered s.line e (end_of_log s.batches)
+  extended_node : (x : Node D) (kept : LogState D) (s s' : log.LogSeen) (front : List (List ℕ)) (e : ℕ) → is_open kept ≡ is_up x → s' ≡ with_batches s front → lined s.line front ≡ entered s.line e (end_of_log s.batches)
       → seen_rows.extended (node_of x s) front e ≡ node_of (record x { log = kept }) s'
   extended_node x kept s s' front e up is line = rw (up, is, line) refl
 
 module _ {D : Type 0} (content : D → Content) (control : D → Control call_code) where
   -- the leader, and how it is seen
   record SeesLeader (h : PartitionState D) (a : seen.SeenPartition) (y : Node D) : Type 0 where
-    log_seen : log.Seen
+    log_seen : log.LogSeen
     sees : Sees content h a h.registry.leader.0 y log_seen
     up : is_up y ≡ true
     is : seen_held.the_leader a ≡ Some (node_of y log_seen)
@@ -168,24 +168,24 @@ module _ {D : Type 0} (content : D → Content) (control : D → Control call_co
 
   -- join
 
-  rebuild_shown : (h : PartitionState D) (a : seen.SeenPartition) (b : ℕ) (x : Node D) (s : log.Seen) (g : StartSnapshot) → Sees content h a b x s → MayRebuild h x g → seen_rows.MayRebuild a (node_of x s) g
+  rebuild_shown : (h : PartitionState D) (a : seen.SeenPartition) (b : ℕ) (x : Node D) (s : log.LogSeen) (g : StartSnapshot) → Sees content h a b x s → MayRebuild h x g → seen_rows.MayRebuild a (node_of x s) g
   rebuild_shown h a b x s g v w =
       ((w.0.0, unstale_shown h a (followed g.role) v.held w.0.2), (w.1.0 ∙ end_shown content x s w.0.1 v.shows, w.1.1), λ k. w.2 (k.0, subst (λ (r : Registry). g.wanted ≤ r.start) v.held.registry k.1))
 
   -- batches that the log begins have what is flushed of it
-  flushed_end_same : (x : Node D) (s : log.Seen) (m : ℕ) (whole : List (List ℕ)) → seen_sound.NodeSound (node_of x s) → LeadsTo whole m → IsPrefix s.batches whole → up_to s.flushed_end whole ≡ up_to s.flushed_end s.batches
+  flushed_end_same : (x : Node D) (s : log.LogSeen) (m : ℕ) (whole : List (List ℕ)) → seen_sound.NodeSound (node_of x s) → LeadsTo whole m → IsPrefix s.batches whole → up_to s.flushed_end whole ≡ up_to s.flushed_end s.batches
   flushed_end_same x s m whole n is begins =
       let ends = n.flushed_end in
       up_to_is 0 s.flushed_end ends.0 whole is.consecutive (prefix_trans ends.0 s.batches whole ends.1 begins) ends.2
       ∙ sym (up_to_is 0 s.flushed_end ends.0 s.batches n.log.consecutive ends.1 ends.2)
 
   -- where the logs meet, as it is seen
-  meets : (h : PartitionState D) (a : seen.SeenPartition) (b : ℕ) (x y : Node D) (s : log.Seen) (met : ℕ) → Sees content h a b x s → is_up x ≡ true → (l : SeesLeader h a y) → IsMeet x y met → seen_rows.IsMeet (node_of x s) (node_of y l.log_seen) met
+  meets : (h : PartitionState D) (a : seen.SeenPartition) (b : ℕ) (x y : Node D) (s : log.LogSeen) (met : ℕ) → Sees content h a b x s → is_up x ≡ true → (l : SeesLeader h a y) → IsMeet x y met → seen_rows.IsMeet (node_of x s) (node_of y l.log_seen) met
   meets h a b x y s met v up l is =
       meet_same (line_of x) s.line (line_of y) l.log_seen.line (end_of x) (end_of_log s.batches) (end_of y) (end_of_log l.log_seen.batches) met (line_shown content x s up v.shows)
       (line_shown content y l.log_seen l.up l.sees.shows) (end_shown content x s up v.shows) (end_shown content y l.log_seen l.up l.sees.shows) is
 
-  pub join_refined : (h : PartitionState D) (a : seen.SeenPartition) (b : ℕ) (x : Node D) (s : log.Seen) (turned : Turned) (h' : PartitionState D) → Sees content h a b x s → MeetsEnd a (node_of x s)
+  pub join_refined : (h : PartitionState D) (a : seen.SeenPartition) (b : ℕ) (x : Node D) (s : log.LogSeen) (turned : Turned) (h' : PartitionState D) → Sees content h a b x s → MeetsEnd a (node_of x s)
       → JoinRow content control h b x turned h' → Refines content h' (λ c. seen_rows.JoinRow a b (node_of x s) turned c)
   join_refined h a b x s (Answers Down) h' v k w = stays content control h a h' _ v.held w.1 (w.0, refl)
   join_refined h a b x s (Answers NotFollower) h' v k w = stays content control h a h' _ v.held w.2 (w.0, w.1, refl)
@@ -217,7 +217,7 @@ module _ {D : Type 0} (content : D → Content) (control : D → Control call_co
       let e = y.2.0 in
       let met = y.2.1 in
       let meet = meets h a b x y.0 s met v w.0 l y.2.3 in
-      let may : MayCut met s = inr (k (node_of y.0 l.log_seen) met l.is meet) in
+      let may : MayCutLog met s = inr (k (node_of y.0 l.log_seen) met l.is meet) in
       let end : n ≡ end_of_log (up_to met s.batches) = y.2.4.0.is s v.shows may in
       let q = y.2.4.1 in
       let t = q.breaks.seen s v.shows may in
@@ -267,7 +267,7 @@ module _ {D : Type 0} (content : D → Content) (control : D → Control call_co
 
   -- join continues
 
-  pub join_on_refined : (h : PartitionState D) (a : seen.SeenPartition) (b : ℕ) (x : Node D) (s : log.Seen) (g : StartSnapshot) (answer : Answer) (h' : PartitionState D) → Sees content h a b x s → seen_sound.NodeSound (node_of x s)
+  pub join_on_refined : (h : PartitionState D) (a : seen.SeenPartition) (b : ℕ) (x : Node D) (s : log.LogSeen) (g : StartSnapshot) (answer : Answer) (h' : PartitionState D) → Sees content h a b x s → seen_sound.NodeSound (node_of x s)
       → IsRebuilding a (node_of x s) g → JoinOnRow content control h b x g answer h' → Refines content h' (λ c. seen_rows.JoinOnRow a b (node_of x s) g answer c)
   join_on_refined h a b x s g Stopped h' v n k w = stays content control h a h' _ v.held w.1 (halted w.0, refl)
     where
@@ -327,7 +327,7 @@ module _ {D : Type 0} (content : D → Content) (control : D → Control call_co
   run_same batches offset limit n m stop run taken bound same is =
       subst (λ (k : List (List ℕ)). IsRunOf batches offset limit m stop k) same (subst (λ (k : ℕ). IsRunOf batches offset limit k stop run) bound is)
 
-  pub follow_refined : (h : PartitionState D) (a : seen.SeenPartition) (b : ℕ) (x : Node D) (s : log.Seen) (limit : ℕ) (turned : Turned) (h' : PartitionState D) → Sees content h a b x s → AreSound a
+  pub follow_refined : (h : PartitionState D) (a : seen.SeenPartition) (b : ℕ) (x : Node D) (s : log.LogSeen) (limit : ℕ) (turned : Turned) (h' : PartitionState D) → Sees content h a b x s → AreSound a
       → FollowRow content control h b x limit turned h' → Refines content h' (λ c. seen_rows.FollowRow a b (node_of x s) limit turned c)
   follow_refined h a b x s limit (Answers Down) h' v k w = stays content control h a h' _ v.held w.1 (w.0, refl)
   follow_refined h a b x s limit (Answers NotJoined) h' v k w = stays content control h a h' _ v.held w.2 (w.0, w.1, refl)
@@ -410,7 +410,7 @@ module _ {D : Type 0} (content : D → Content) (control : D → Control call_co
 
   -- follow continues
 
-  extend_shown : (x : Node D) (s : log.Seen) (g : StartSnapshot) → is_up x ≡ true → Shows content x.log s → IsKept (node_of x s) g → CanExtend x g → seen_rows.CanExtend (node_of x s) g
+  extend_shown : (x : Node D) (s : log.LogSeen) (g : StartSnapshot) → is_up x ≡ true → ShowsSeen content x.log s → IsFollowSnapshot (node_of x s) g → CanExtend x g → seen_rows.CanExtend (node_of x s) g
   extend_shown x s g up shows kept k =
       let end = end_shown content x s up shows in
       let same : k.run.batches ≡ g.batches = come_apart k.run.batches g.batches k.run.are kept.are (sym k.run.bytes) in
@@ -431,7 +431,7 @@ module _ {D : Type 0} (content : D → Content) (control : D → Control call_co
         small = kept.small;
       }
 
-  extend_told : (x : Node D) (s : log.Seen) (g : StartSnapshot) → is_up x ≡ true → Shows content x.log s → seen_rows.CanExtend (node_of x s) g → CanExtend x g
+  extend_told : (x : Node D) (s : log.LogSeen) (g : StartSnapshot) → is_up x ≡ true → ShowsSeen content x.log s → seen_rows.CanExtend (node_of x s) g → CanExtend x g
   extend_told x s g up shows k =
       let end : g.end ≡ end_of x = k.end ∙ sym (end_shown content x s up shows) in
       let some : g.batches ≢ [] = λ none. some_epoch g.batches k.first none in
@@ -470,7 +470,7 @@ module _ {D : Type 0} (content : D → Content) (control : D → Control call_co
   some_length [] some = absurd (some refl)
   some_length (batch ∷ front) some = omega arith
 
-  extends_refined : (h : PartitionState D) (a : seen.SeenPartition) (b : ℕ) (x : Node D) (s : log.Seen) (g : StartSnapshot) (n : ℕ) (h' : PartitionState D) → Sees content h a b x s → is_up x ≡ true → IsKept (node_of x s) g
+  extends_refined : (h : PartitionState D) (a : seen.SeenPartition) (b : ℕ) (x : Node D) (s : log.LogSeen) (g : StartSnapshot) (n : ℕ) (h' : PartitionState D) → Sees content h a b x s → is_up x ≡ true → IsFollowSnapshot (node_of x s) g
       → (can : seen_rows.CanExtend (node_of x s) g) → Extends content control h b x (joined g.batches) n h' → Refines content h' (λ c. seen_rows.Extends a b (node_of x s) g n can.epoch c)
   extends_refined h a b x s g n h' v up kept can k =
       let q = k.appends in
@@ -492,7 +492,7 @@ module _ {D : Type 0} (content : D → Content) (control : D → Control call_co
         after = refl;
       })
 
-  pub follow_on_refined : (h : PartitionState D) (a : seen.SeenPartition) (b : ℕ) (x : Node D) (s : log.Seen) (g : StartSnapshot) (answer : Answer) (h' : PartitionState D) → Sees content h a b x s → IsKept (node_of x s) g
+  pub follow_on_refined : (h : PartitionState D) (a : seen.SeenPartition) (b : ℕ) (x : Node D) (s : log.LogSeen) (g : StartSnapshot) (answer : Answer) (h' : PartitionState D) → Sees content h a b x s → IsFollowSnapshot (node_of x s) g
       → FollowOnRow content control h b x g answer h' → Refines content h' (λ c. seen_rows.FollowOnRow a b (node_of x s) g answer c)
   follow_on_refined h a b x s g Stopped h' v k w = stays content control h a h' _ v.held w.1 (halted w.0, refl)
     where

@@ -7,12 +7,12 @@ use Rattle.tier_base.specs.Device.{Control, Lasts, Arms}
 use Rattle.tier_base.proofs.Lasting.{lasts_same}
 use Rattle.disk_model.specs.Call.{call_code}
 use Rattle.disk_model.specs.Content.{Content}
-use Rattle.broker_log.specs.Seen.{Kept, Up, Down, Away, Shows, Stays, OnDisk}
+use Rattle.broker_log.specs.Seen.{LogState, Up, Down, Away, ShowsSeen, LogStays, OnDisk}
 use Rattle.partition_commands.specs.declared.partition_state.Node.{Node}
 use Rattle.partition_commands.specs.declared.refusal.WorldRefusal.{WorldRefusal}
 use Rattle.partition_commands.specs.declared.refusal.WorldRefusal.TheVariants.{DiskFault, NoMemory}
 use Rattle.partition_commands.specs.Partition.{line_of}
-use Rattle.partition_commands.specs.Fresh.{IsFreshDisk, AreFreshDisks, DisksTell, IsFreshOver, AreFreshFrom, IsMadeOver, AreMadeFrom, AllSeen, AddsNode, AreDisksOf, ComeBack, OneFailed, Refuses, RefusesOver, AreInfallibleDisks, empty_seen, IsLaid, AreLaid}
+use Rattle.partition_commands.specs.Fresh.{IsFreshDisk, AreFreshDisks, DisksTell, IsFreshOver, AreFreshFrom, IsMadeOver, AreMadeFrom, AllSeen, AddsNode, AreDisksOf, ComeBack, OneFailed, RefusesDisks, RefusesOver, AreInfallibleDisks, empty_seen, IsNodeLaid, AreNodesLaid}
 use Rattle.partition_commands.proofs.FreshNodes.{armed_on, made_more, seen_more, stays_fresh, stays_seen}
 
 module _ {D : Type 0} where
@@ -77,7 +77,7 @@ module _ {D : Type 0} (content : D → Content) (control : D → Control call_co
   failed_last (d ∷ disks) (n ∷ nows) disk now c rose = inr (failed_last disks nows disk now c.2 rose)
 
   -- the disks of brokers that were made
-  on_kept : (disk now : D) (k : Kept D) → OnDisk k (λ d. Lasts (control disk) (control d)) → OnDisk k (λ d. now ≡ d) → Lasts (control disk) (control now)
+  on_kept : (disk now : D) (k : LogState D) → OnDisk k (λ d. Lasts (control disk) (control d)) → OnDisk k (λ d. now ≡ d) → Lasts (control disk) (control now)
   on_kept disk now (Up l) lasts is = subst (λ (d : D). Lasts (control disk) (control d)) (sym is) lasts
   on_kept disk now (Down i d) lasts is = subst (λ (e : D). Lasts (control disk) (control e)) (sym is) lasts
   on_kept disk now Away lasts is = absurd is
@@ -93,14 +93,14 @@ module _ {D : Type 0} (content : D → Content) (control : D → Control call_co
       (lasts, lasts.armed ∙ f.0.unarmed, made_come false disks xs nows m.1 o.1 f.1)
 
   -- refusals
-  pub refuses_same : (disks : List D) (why : WorldRefusal) → why ≡ NoMemory → AreFreshDisks content control disks → Refuses control disks disks why
+  pub refuses_same : (disks : List D) (why : WorldRefusal) → why ≡ NoMemory → AreFreshDisks content control disks → RefusesDisks control disks disks why
   refuses_same disks why is f = record { back = come_same disks f; cause = λ fault. absurd (let no : ◌≡◌ {A = WorldRefusal} NoMemory DiskFault = sym is ∙ fault in cc) }
 
-  pub refuses_more : (disks nows : List D) (disk : D) (why : WorldRefusal) → Refuses control disks nows why → IsFreshDisk content control disk → Refuses control (disks ++ disk ∷ []) (nows ++ disk ∷ []) why
+  pub refuses_more : (disks nows : List D) (disk : D) (why : WorldRefusal) → RefusesDisks control disks nows why → IsFreshDisk content control disk → RefusesDisks control (disks ++ disk ∷ []) (nows ++ disk ∷ []) why
   refuses_more disks nows disk why r f = record { back = come_more disks nows disk disk r.back f (lasts_same (control disk)); cause = λ fault. failed_more disks nows disk disk (r.cause fault) }
 
   pub refuses_last : (disks : List D) (xs : List (Node D)) (nows : List D) (disk now : D) (why : WorldRefusal) → AreMadeFrom control true disks xs → AreDisksOf xs nows → AreFreshDisks content control disks → IsFreshDisk content control disk
-      → RefusesOver control disk now why → Refuses control (disks ++ disk ∷ []) (nows ++ now ∷ []) why
+      → RefusesOver control disk now why → RefusesDisks control (disks ++ disk ∷ []) (nows ++ now ∷ []) why
   refuses_last disks xs nows disk now why m o f g r =
       let back = made_come true disks xs nows m o f in
       record { back = come_more disks nows disk now back g r.lasts; cause = λ fault. failed_last disks nows disk now back (r.cause fault) }
@@ -115,7 +115,7 @@ module _ {D : Type 0} (content : D → Content) (control : D → Control call_co
   unfailed (d ∷ disks) (n ∷ nows) c b (inl up) = rose (control d).faults (control n).faults (b.0.no_fault c.0.infallible) c.0.few up
   unfailed (d ∷ disks) (n ∷ nows) c b (inr o) = unfailed disks nows c.1 b.2 o
 
-  pub refuses_infallible : (disks nows : List D) (why : WorldRefusal) → AreInfallibleDisks control disks → Refuses control disks nows why → why ≡ NoMemory
+  pub refuses_infallible : (disks nows : List D) (why : WorldRefusal) → AreInfallibleDisks control disks → RefusesDisks control disks nows why → why ≡ NoMemory
   refuses_infallible disks nows NoMemory c r = refl
   refuses_infallible disks nows DiskFault c r = absurd (unfailed disks nows c r.back (r.cause refl))
 
@@ -132,8 +132,8 @@ module _ {D : Type 0} (content : D → Content) (control : D → Control call_co
 
   -- the node's disk is armed, and nothing else changes
   pub record Armed (x y : Node D) : Type 0 where
-    pub kept : Kept D
-    pub stays : Stays content x.log kept
+    pub kept : LogState D
+    pub stays : LogStays content x.log kept
     pub arms : OnDisk x.log (λ d. OnDisk kept (λ d'. Arms (control d) (control d')))
     pub is : y ≡ record x { log = kept }
 
@@ -178,18 +178,18 @@ module _ {D : Type 0} (content : D → Content) (control : D → Control call_co
   armed_made leads (d ∷ disks) (x ∷ xs) (y ∷ ys) a f m = (armed_over leads d x y f.0 m.0 a.0, armed_made false disks xs ys a.1 f.1 m.1)
 
   -- their logs are in segments as before
-  pub armed_laid : (settings : Settings) (xs ys : List (Node D)) → AreArmed (length xs) xs ys → AreLaid settings xs → AreLaid settings ys
+  pub armed_laid : (settings : Settings) (xs ys : List (Node D)) → AreArmed (length xs) xs ys → AreNodesLaid settings xs → AreNodesLaid settings ys
   armed_laid settings [] ys a l = rw a tt
   armed_laid settings (x ∷ xs) [] a l = absurd a
-  armed_laid settings (x ∷ xs) (y ∷ ys) a l = (subst (IsLaid settings) (sym a.0.is) (a.0.stays.layout ∙ l.0), armed_laid settings xs ys a.1 l.1)
+  armed_laid settings (x ∷ xs) (y ∷ ys) a l = (subst (IsNodeLaid settings) (sym a.0.is) (a.0.stays.layout ∙ l.0), armed_laid settings xs ys a.1 l.1)
 
   pub armed_seen : (xs ys : List (Node D)) → AreArmed (length xs) xs ys → AllSeen content xs → AllSeen content ys
   armed_seen [] ys a s = rw a tt
   armed_seen (x ∷ xs) [] a s = absurd a
   armed_seen (x ∷ xs) (y ∷ ys) a s =
-      (subst (λ (z : Node D). Shows content z.log (empty_seen (line_of z))) (sym a.0.is) (stays_seen content x a.0.kept a.0.stays s.0), armed_seen xs ys a.1 s.1)
+      (subst (λ (z : Node D). ShowsSeen content z.log (empty_seen (line_of z))) (sym a.0.is) (stays_seen content x a.0.kept a.0.stays s.0), armed_seen xs ys a.1 s.1)
 
 -- one log more
-pub laid_more : {D : Type 0} (settings : Settings) (xs : List (Node D)) (x : Node D) → AreLaid settings xs → IsLaid settings x → AreLaid settings (xs ++ x ∷ [])
+pub laid_more : {D : Type 0} (settings : Settings) (xs : List (Node D)) (x : Node D) → AreNodesLaid settings xs → IsNodeLaid settings x → AreNodesLaid settings (xs ++ x ∷ [])
 laid_more settings [] x all l = (l, tt)
 laid_more settings (y ∷ xs) x all l = (all.0, laid_more settings xs x all.1 l)

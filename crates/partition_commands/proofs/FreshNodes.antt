@@ -6,7 +6,7 @@ use Rattle.tier_base.proofs.Lasting.{lasts_then}
 use Rattle.disk_model.specs.Call.{call_code}
 use Rattle.disk_model.specs.declared.call.DiskCall.{DiskCall}
 use Rattle.disk_model.specs.Content.{Content}
-use Rattle.broker_log.specs.Seen.{Kept, Up, Down, Away, Shows, Stays, OnDisk}
+use Rattle.broker_log.specs.Seen.{LogState, Up, Down, Away, ShowsSeen, LogStays, OnDisk}
 use Rattle.broker_log.specs.Seen as log
 use Rattle.partition_commands.specs.declared.partition_state.Node.{Node}
 use Rattle.partition_commands.specs.Partition.{line_of}
@@ -48,23 +48,23 @@ module _ {D : Type 0} (control : D → Control call_code) where
     still_infallible = λ infallible scripted empty. a.still_infallible (l.scripted ∙ scripted) (l.stays_infallible infallible) (l.plan ∙ empty);
   }
 
-  pub armed_on : (disk : D) (middle now : Kept D) → (control disk).armed ≡ false → ((kind : DiskCall) → (control disk).made kind ≡ 0) → OnDisk middle (λ d. Lasts (control disk) (control d)) → OnDisk middle (λ d. OnDisk now (λ d'. Arms (control d) (control d')))
+  pub armed_on : (disk : D) (middle now : LogState D) → (control disk).armed ≡ false → ((kind : DiskCall) → (control disk).made kind ≡ 0) → OnDisk middle (λ d. Lasts (control disk) (control d)) → OnDisk middle (λ d. OnDisk now (λ d'. Arms (control d) (control d')))
       → OnDisk now (λ d. IsArmed (control disk) (control d))
   armed_on disk (Up m) now off none l a = go now a
     where
-      go : (now : Kept D) → OnDisk now (λ d'. Arms (control m.disk) (control d')) → OnDisk now (λ d. IsArmed (control disk) (control d))
+      go : (now : LogState D) → OnDisk now (λ d'. Arms (control m.disk) (control d')) → OnDisk now (λ d. IsArmed (control disk) (control d))
       go (Up n) a = armed_after (control disk) (control m.disk) (control n.disk) off none l a
       go (Down i d) a = armed_after (control disk) (control m.disk) (control d) off none l a
       go Away a = absurd a
   armed_on disk (Down j m) now off none l a = go now a
     where
-      go : (now : Kept D) → OnDisk now (λ d'. Arms (control m) (control d')) → OnDisk now (λ d. IsArmed (control disk) (control d))
+      go : (now : LogState D) → OnDisk now (λ d'. Arms (control m) (control d')) → OnDisk now (λ d. IsArmed (control disk) (control d))
       go (Up n) a = armed_after (control disk) (control m) (control n.disk) off none l a
       go (Down i d) a = armed_after (control disk) (control m) (control d) off none l a
       go Away a = absurd a
   armed_on disk Away now off none l a = absurd l
 
-  pub lasts_on : (disk : D) (old new : Kept D) → OnDisk old (λ d. Lasts (control disk) (control d)) → log.Lasting control old new → OnDisk new (λ d. Lasts (control disk) (control d))
+  pub lasts_on : (disk : D) (old new : LogState D) → OnDisk old (λ d. Lasts (control disk) (control d)) → log.Lasting control old new → OnDisk new (λ d. Lasts (control disk) (control d))
   lasts_on disk (Up m) (Up n) l k = lasts_then (control disk) (control m.disk) (control n.disk) l k
   lasts_on disk (Up m) (Down i d) l k = lasts_then (control disk) (control m.disk) (control d) l k
   lasts_on disk (Up m) Away l k = absurd k
@@ -74,7 +74,7 @@ module _ {D : Type 0} (control : D → Control call_code) where
   lasts_on disk Away new l k = absurd l
 
 -- a log that stays as it was
-pub stays_fresh : {D : Type 0} (content : D → Content) (leads : Bool) (x : Node D) (kept : Kept D) → IsFreshNode leads x → Stays content x.log kept → IsFreshNode leads (record x { log = kept })
+pub stays_fresh : {D : Type 0} (content : D → Content) (leads : Bool) (x : Node D) (kept : LogState D) → IsFreshNode leads x → LogStays content x.log kept → IsFreshNode leads (record x { log = kept })
 stays_fresh content leads x kept f s = record {
   stops = f.stops;
   role_is = f.role_is;
@@ -87,12 +87,12 @@ stays_fresh content leads x kept f s = record {
 
 module _ {D : Type 0} (content : D → Content) where
   -- the logs are seen with one broker more
-  pub seen_more : (xs : List (Node D)) (x : Node D) → AllSeen content xs → Shows content x.log (empty_seen (line_of x)) → AllSeen content (xs ++ x ∷ [])
+  pub seen_more : (xs : List (Node D)) (x : Node D) → AllSeen content xs → ShowsSeen content x.log (empty_seen (line_of x)) → AllSeen content (xs ++ x ∷ [])
   seen_more [] x s n = (n, tt)
   seen_more (y ∷ xs) x s n = (s.0, seen_more xs x s.1 n)
 
   -- and so is one that stays as it was
-  pub stays_seen : (x : Node D) (kept : Kept D) → Stays content x.log kept → Shows content x.log (empty_seen (line_of x)) → Shows content kept (empty_seen (line_of (record x { log = kept })))
+  pub stays_seen : (x : Node D) (kept : LogState D) → LogStays content x.log kept → ShowsSeen content x.log (empty_seen (line_of x)) → ShowsSeen content kept (empty_seen (line_of (record x { log = kept })))
   stays_seen x kept s shows =
       let t = s.seen (empty_seen (line_of x)) shows in
-      subst (λ (l : List (ℕ × ℕ)). Shows content kept (empty_seen l)) (ap (λ (o : Option (List (ℕ × ℕ))). unwrap_or o []) (sym s.line)) (subst (Shows content kept) t.2 t.1)
+      subst (λ (l : List (ℕ × ℕ)). ShowsSeen content kept (empty_seen l)) (ap (λ (o : Option (List (ℕ × ℕ))). unwrap_or o []) (sym s.line)) (subst (ShowsSeen content kept) t.2 t.1)

@@ -11,7 +11,7 @@ use Rattle.laws_partition.proofs.FreshSound.{length_replicate}
 use Rattle.partition_commands.specs.declared.partition_state.Node.{Node}
 use Rattle.partition_commands.specs.declared.partition_state.PartitionState.{PartitionState}
 use Rattle.partition_commands.specs.Partition.{line_of}
-use Rattle.partition_commands.specs.Sound.{NodeSound, SoundPartition}
+use Rattle.partition_commands.specs.Sound.{LeaderSound, SoundPartition}
 use Rattle.partition_commands.specs.Fresh.{IsFreshNode, AreFreshFrom, IsFreshPartition}
 use Rattle.partition_commands.proofs.FreshNodes.{as_many}
 
@@ -23,7 +23,7 @@ joined_leads e f is = absurd cc
 
 module _ {D : Type 0} where
   -- a fresh node, whatever the registry: it knows no mark
-  node_sound : (r : Registry) (leads : Bool) (x : Node D) → IsFreshNode leads x → NodeSound r x
+  node_sound : (r : Registry) (leads : Bool) (x : Node D) → IsFreshNode leads x → LeaderSound r x
   node_sound r true x f =
       let line : line_of x ≡ (0, 0) ∷ [] = ap (λ (o : Option (List (ℕ × ℕ))). unwrap_or o []) f.line_is in
       record {
@@ -44,11 +44,11 @@ module _ {D : Type 0} where
   }
 
 module _ {D : Type 0} (control : D → Control call_code) where
-  nodes_sound : (r : Registry) (leads : Bool) (disks : List D) (xs : List (Node D)) (b : ℕ) (x : Node D) → AreFreshFrom control leads disks xs → slice_get xs b ≡ Some x → NodeSound r x
+  nodes_sound : (r : Registry) (leads : Bool) (disks : List D) (xs : List (Node D)) (b : ℕ) (x : Node D) → AreFreshFrom control leads disks xs → slice_get xs b ≡ Some x → LeaderSound r x
   nodes_sound r leads [] [] b x f at = absurd cc
   nodes_sound r leads [] (y ∷ xs) b x f at = absurd f
   nodes_sound r leads (d ∷ disks) [] b x f at = absurd f
-  nodes_sound r leads (d ∷ disks) (y ∷ xs) zero x f at = let same : y ≡ x = cc in subst (NodeSound r) same (node_sound r leads y f.0.node)
+  nodes_sound r leads (d ∷ disks) (y ∷ xs) zero x f at = let same : y ≡ x = cc in subst (LeaderSound r) same (node_sound r leads y f.0.node)
   nodes_sound r leads (d ∷ disks) (y ∷ xs) (suc b) x f at = nodes_sound r false disks xs b x f.1 at
 
   pub fresh_sound : (n : ℕ) (disks : List D) (h : PartitionState D) → length disks ≡ n → IsFreshPartition control disks h → SoundPartition n h

@@ -8,7 +8,7 @@ use Rattle.disk_model.specs.Call.{call_code}
 use Rattle.disk_model.specs.Content.{Content}
 use Rattle.plain_log.specs.declared.command.Command.{Command}
 use Rattle.plain_log.specs.declared.command.Command.TheVariants.{Follow, Join}
-use Rattle.broker_log.specs.Seen.{Kept, Up, Down, Away, OnDisk, Lasting, Faulted}
+use Rattle.broker_log.specs.Seen.{LogState, Up, Down, Away, OnDisk, Lasting, Faulted}
 use Rattle.laws_partition.specs.declared.start_snapshot.StartSnapshot.{StartSnapshot}
 use Rattle.laws_partition.specs.declared.start_snapshot.Turned.{Turned}
 use Rattle.laws_partition.specs.declared.start_snapshot.Turned.TheVariants.{Answers, Begins}
@@ -35,15 +35,15 @@ infallible_fails old new l rose c = go old.faults new.faults (l.no_fault c.infal
     go before now same few up = omega (arith, same, few, up)
 
 module _ {D : Type 0} (control : D → Control call_code) where
-  abbrev InfallibleOn : Kept D → Type 0
+  abbrev InfallibleOn : LogState D → Type 0
   InfallibleOn k = OnDisk k (λ d. IsInfallible (control d))
 
-  log_infallible : (old new : Kept D) → Lasting control old new → InfallibleOn old → InfallibleOn new
+  log_infallible : (old new : LogState D) → Lasting control old new → InfallibleOn old → InfallibleOn new
   log_infallible (Up l) new lasts c = disk_map (λ e. Lasts (control l.disk) (control e)) (λ e. IsInfallible (control e)) new (λ e p. infallible_lasts (control l.disk) (control e) p c) lasts
   log_infallible (Down i d) new lasts c = disk_map (λ e. Lasts (control d) (control e)) (λ e. IsInfallible (control e)) new (λ e p. infallible_lasts (control d) (control e) p c) lasts
   log_infallible Away new lasts c = absurd c
 
-  log_fails : (old new : Kept D) → Lasting control old new → Faulted control old new → InfallibleOn old → ⊥
+  log_fails : (old new : LogState D) → Lasting control old new → Faulted control old new → InfallibleOn old → ⊥
   log_fails (Up l) (Up m) lasts rose c = infallible_fails (control l.disk) (control m.disk) lasts rose c
   log_fails (Up l) (Down j e) lasts rose c = infallible_fails (control l.disk) (control e) lasts rose c
   log_fails (Up l) Away lasts rose c = absurd lasts

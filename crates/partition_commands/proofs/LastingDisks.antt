@@ -8,7 +8,7 @@ use Rattle.disk_model.specs.Call.{call_code}
 use Rattle.registry.specs.declared.registry.Registry.{Registry}
 use Rattle.plain_log.specs.declared.command.Command.{Command}
 use Rattle.plain_log.specs.declared.command.Command.TheVariants.{Follow}
-use Rattle.broker_log.specs.Seen.{Kept, Up, Down, Away, OnDisk, Lasting, Faulted, OneFault}
+use Rattle.broker_log.specs.Seen.{LogState, Up, Down, Away, OnDisk, Lasting, Faulted, OneFault}
 use Rattle.laws_partition.proofs.BoolTests.{some_of}
 use Rattle.partition_commands.specs.declared.partition_state.Node.{Node}
 use Rattle.partition_commands.specs.declared.partition_state.PartitionState.{PartitionState}
@@ -38,18 +38,18 @@ rose_once before now is = go is
     go is = omega (arith, is)
 
 module _ {D : Type 0} where
-  pub disk_map : (P Q : D → Type 0) (k : Kept D) → ((d : D) → P d → Q d) → OnDisk k P → OnDisk k Q
+  pub disk_map : (P Q : D → Type 0) (k : LogState D) → ((d : D) → P d → Q d) → OnDisk k P → OnDisk k Q
   disk_map P Q (Up l) to on = to l.disk on
   disk_map P Q (Down i d) to on = to d on
   disk_map P Q Away to on = absurd on
 
-  disk_both : (P Q : D → Type 0) (X : Type 0) (k : Kept D) → ((d : D) → P d → Q d → X) → OnDisk k P → OnDisk k Q → X
+  disk_both : (P Q : D → Type 0) (X : Type 0) (k : LogState D) → ((d : D) → P d → Q d → X) → OnDisk k P → OnDisk k Q → X
   disk_both P Q X (Up l) to p q = to l.disk p q
   disk_both P Q X (Down i d) to p q = to d p q
   disk_both P Q X Away to p q = absurd p
 
   -- two facts of one disk and the next
-  pub disk_pair : (R S T : D → D → Type 0) (a b : Kept D) → ((d e : D) → R d e → S d e → T d e) → OnDisk a (λ d. OnDisk b (R d)) → OnDisk a (λ d. OnDisk b (S d)) → OnDisk a (λ d. OnDisk b (T d))
+  pub disk_pair : (R S T : D → D → Type 0) (a b : LogState D) → ((d e : D) → R d e → S d e → T d e) → OnDisk a (λ d. OnDisk b (R d)) → OnDisk a (λ d. OnDisk b (S d)) → OnDisk a (λ d. OnDisk b (T d))
   disk_pair R S T (Up l) (Up m) to r s = to l.disk m.disk r s
   disk_pair R S T (Up l) (Down j e) to r s = to l.disk e r s
   disk_pair R S T (Up l) Away to r s = absurd r
@@ -59,7 +59,7 @@ module _ {D : Type 0} where
   disk_pair R S T Away b to r s = absurd r
 
   -- from one disk to the next, and to the one after it
-  pub disk_then : (R S T : D → D → Type 0) (a b c : Kept D) → ((d e f : D) → R d e → S e f → T d f) → OnDisk a (λ d. OnDisk b (R d)) → OnDisk b (λ e. OnDisk c (S e)) → OnDisk a (λ d. OnDisk c (T d))
+  pub disk_then : (R S T : D → D → Type 0) (a b c : LogState D) → ((d e f : D) → R d e → S e f → T d f) → OnDisk a (λ d. OnDisk b (R d)) → OnDisk b (λ e. OnDisk c (S e)) → OnDisk a (λ d. OnDisk c (T d))
   disk_then R S T a b c to one two =
       disk_map (λ d. OnDisk b (R d)) (λ d. OnDisk c (T d)) a
       (λ d r. disk_both (R d) (λ e. OnDisk c (S e)) (OnDisk c (T d)) b (λ e p on. disk_map (S e) (T d) c (λ f q. to d e f p q) on) r two) one
@@ -72,34 +72,34 @@ module _ {D : Type 0} where
 
 module _ {D : Type 0} (control : D → Control call_code) where
   -- one that wasn't asked
-  lasting_same : (k : Kept D) → OnDisk k (λ d. Unit {0}) → Lasting control k k
+  lasting_same : (k : LogState D) → OnDisk k (λ d. Unit {0}) → Lasting control k k
   lasting_same (Up l) on = lasts_same (control l.disk)
   lasting_same (Down i d) on = lasts_same (control d)
   lasting_same Away on = absurd on
 
-  lasting_then : (a b c : Kept D) → Lasting control a b → Lasting control b c → Lasting control a c
+  lasting_then : (a b c : LogState D) → Lasting control a b → Lasting control b c → Lasting control a c
   lasting_then a b c one two =
       disk_then (λ d e. Lasts (control d) (control e)) (λ d e. Lasts (control d) (control e)) (λ d e. Lasts (control d) (control e)) a b c
       (λ d e f p q. lasts_then (control d) (control e) (control f) p q) one two
 
-  lasting_has : (a b : Kept D) → Lasting control a b → OnDisk b (λ d. Unit {0})
+  lasting_has : (a b : LogState D) → Lasting control a b → OnDisk b (λ d. Unit {0})
   lasting_has (Up l) b on = disk_map (λ e. Lasts (control l.disk) (control e)) (λ e. Unit {0}) b (λ e p. tt) on
   lasting_has (Down i d) b on = disk_map (λ e. Lasts (control d) (control e)) (λ e. Unit {0}) b (λ e p. tt) on
   lasting_has Away b on = absurd on
 
   -- a fault after other calls, and before others
-  faulted_after : (a b c : Kept D) → Lasting control a b → Faulted control b c → Faulted control a c
+  faulted_after : (a b c : LogState D) → Lasting control a b → Faulted control b c → Faulted control a c
   faulted_after a b c one two =
       disk_then (λ d e. Lasts (control d) (control e)) (λ d e. Rose (control d).faults (control e).faults) (λ d e. Rose (control d).faults (control e).faults) a b c
       (λ d e f p q. rose_from (control d).faults (control e).faults (control f).faults p.never_falls q) one two
 
   -- one call that failed has raised the count
-  pub one_faulted : (a b : Kept D) → Lasting control a b → OneFault control a b → Faulted control a b
+  pub one_faulted : (a b : LogState D) → Lasting control a b → OneFault control a b → Faulted control a b
   one_faulted a b lasts one =
       disk_pair (λ d e. Lasts (control d) (control e)) (λ d e. (control e).faults ≡ counted (control d).faults 1) (λ d e. Rose (control d).faults (control e).faults) a b
       (λ d e l is. rose_once (control d).faults (control e).faults is) lasts one
 
-  faulted_before : (a b c : Kept D) → Faulted control a b → Lasting control b c → Faulted control a c
+  faulted_before : (a b c : LogState D) → Faulted control a b → Lasting control b c → Faulted control a c
   faulted_before a b c one two =
       disk_then (λ d e. Rose (control d).faults (control e).faults) (λ d e. Lasts (control d) (control e)) (λ d e. Rose (control d).faults (control e).faults) a b c
       (λ d e f p q. rose_on (control d).faults (control e).faults (control f).faults p q.never_falls) one two
@@ -180,7 +180,7 @@ module _ {D : Type 0} (control : D → Control call_code) where
   -- one whose disk wasn't
   pub keeps_log : (h : PartitionState D) (b : ℕ) (x y : Node D) (h' : PartitionState D) → slice_get h.nodes b ≡ Some x → y.log ≡ x.log → h' ≡ put_node h b y → Keeps h h'
   keeps_log h b x y h' at same is = λ have.
-      keeps_put h b x y h' at (subst (λ (l : Kept D). Lasting control x.log l) (sym same) (lasting_same x.log (disk_at h.nodes b x at have))) is have
+      keeps_put h b x y h' at (subst (λ (l : LogState D). Lasting control x.log l) (sym same) (lasting_same x.log (disk_at h.nodes b x at have))) is have
 
   pub keeps_leaves : (h : PartitionState D) (after : Option Registry) (h' : PartitionState D) → Leaves h after h' → Keeps h h'
   keeps_leaves h after h' w = let r = some_of _ after w in keeps_same (record h { registry = r.0 }) h' r.2

@@ -14,7 +14,7 @@ use Rattle.plain_log.specs.declared.command.Command.TheVariants.{Append, Raw, Fl
 use Rattle.plain_log.specs.declared.command.Which.{Which}
 use Rattle.plain_log.specs.declared.command.Which.TheVariants.{LatestTiered, At}
 use Rattle.plain_log.specs.State.{acking}
-use Rattle.broker_log.specs.Seen.{Kept}
+use Rattle.broker_log.specs.Seen.{LogState}
 use Rattle.broker_log.specs.Seen as log
 use Rattle.laws_partition.specs.declared.start_snapshot.StartSnapshot.{StartSnapshot}
 use Rattle.laws_partition.specs.declared.start_snapshot.Turned.{Turned}
@@ -23,9 +23,9 @@ use Rattle.laws_partition.proofs.BoolTests.{some_of}
 use Rattle.partition_commands.specs.declared.partition_state.Node.{Node}
 use Rattle.partition_commands.specs.declared.partition_state.PartitionState.{PartitionState}
 use Rattle.partition_commands.specs.Disks.{HaveDisks, DisksLast, DiskFails}
-use Rattle.partition_commands.specs.Partition.{put_node, end_of, flushed_end_of, stopped, the_leader, Fails, Breaks, BreaksBy}
+use Rattle.partition_commands.specs.Partition.{put_node, end_of, flushed_end_of, stopped, the_leader, NodeReadFails, BreaksNode, BreaksBy}
 use Rattle.partition_commands.specs.Turns.{ClockRow, PackRow, CopyingRow, OffsetRow, StopRow, UpRow, AnswerRow, FirstRow, LaterRow, Row}
-use Rattle.partition_commands.specs.TurnsOfLog.{Gains, AppendRow, RawRow, FlushRow, RollRow, TrimRow, TrimOnRow}
+use Rattle.partition_commands.specs.TurnsOfLog.{NodeGains, AppendRow, RawRow, FlushRow, RollRow, TrimRow, TrimOnRow}
 use Rattle.partition_commands.specs.TurnsOfFetch.{FetchRow, FetchTurn}
 use Rattle.partition_commands.specs.TurnsOfElections.{ElectRow, UncleanRow, LearnRow, AckRow, ShrinkRow, ExpandRow, RaiseRow}
 use Rattle.partition_commands.specs.TurnsOfFollowers.{JoinRow, JoinOnRow, FollowRow, FollowOnRow}
@@ -49,17 +49,17 @@ module _ {D : Type 0} (content : D → Content) (control : D → Control call_co
         (λ fails. (b, fails)) (λ fails. fails) (λ no. no) (λ no. no) k.1,
   )
 
-  fails_lasts : (h : PartitionState D) (b : ℕ) (x : Node D) (h' : PartitionState D) → slice_get h.nodes b ≡ Some x → Fails content control h b x h' → FailsAlone control h b h'
+  fails_lasts : (h : PartitionState D) (b : ℕ) (x : Node D) (h' : PartitionState D) → slice_get h.nodes b ≡ Some x → NodeReadFails content control h b x h' → FailsAlone control h b h'
   fails_lasts h b x h' at k = fails_put control h b x (record x { log = k.0 }) h' at k.2 (one_faulted control x.log k.0 k.2 k.3) k.4
 
-  breaks_lasts : (h : PartitionState D) (b : ℕ) (x : Node D) (makes : log.Seen → log.Seen) (h' : PartitionState D) → slice_get h.nodes b ≡ Some x → Breaks content control h b x makes h' → FailsAlone control h b h'
+  breaks_lasts : (h : PartitionState D) (b : ℕ) (x : Node D) (makes : log.LogSeen → log.LogSeen) (h' : PartitionState D) → slice_get h.nodes b ≡ Some x → BreaksNode content control h b x makes h' → FailsAlone control h b h'
   breaks_lasts h b x makes h' at k = fails_put control h b x (record (stopped x) { log = k.kept }) h' at k.lasts (one_faulted control x.log k.kept k.lasts k.cause) k.after
 
   -- whatever the write that failed makes of the log
-  broken_lasts : (h : PartitionState D) (b : ℕ) (x : Node D) (B : Kept D → Kept D → Type 0) (h' : PartitionState D) → slice_get h.nodes b ≡ Some x → BreaksBy content control h b x B h' → FailsAlone control h b h'
+  broken_lasts : (h : PartitionState D) (b : ℕ) (x : Node D) (B : LogState D → LogState D → Type 0) (h' : PartitionState D) → slice_get h.nodes b ≡ Some x → BreaksBy content control h b x B h' → FailsAlone control h b h'
   broken_lasts h b x B h' at k = fails_put control h b x (record (stopped x) { log = k.kept }) h' at k.lasts (one_faulted control x.log k.kept k.lasts k.cause) k.after
 
-  gains_lasts : (h : PartitionState D) (b : ℕ) (x : Node D) (batch : List ℕ) (h' : PartitionState D) → slice_get h.nodes b ≡ Some x → Gains content control h b x batch h' → Keeps control h h'
+  gains_lasts : (h : PartitionState D) (b : ℕ) (x : Node D) (batch : List ℕ) (h' : PartitionState D) → slice_get h.nodes b ≡ Some x → NodeGains content control h b x batch h' → Keeps control h h'
   gains_lasts h b x batch h' at k = keeps_put control h b x (record x { log = k.0 }) h' at k.4.0 k.5
 
   append_lasts : (h : PartitionState D) (b : ℕ) (x : Node D) (batch : List ℕ) (answer : Answer) (h' : PartitionState D) → slice_get h.nodes b ≡ Some x → AppendRow content control h b x batch answer h' → Leaving h b h' answer

@@ -11,9 +11,9 @@ use Rattle.plain_log.specs.declared.answer.Answer.TheVariants.{Ok, OkAt, OkSpan,
 use Rattle.plain_log.specs.declared.answer.Place.TheVariants.{File}
 use Rattle.plain_log.specs.RowsOfLog.{offset_limit}
 use Rattle.local_log.specs.Run.{lined}
-use Rattle.broker_log.specs.Seen.{Kept, Up, Down as Closed, Away, Shows, end_in, is_up as is_open}
+use Rattle.broker_log.specs.Seen.{LogState, Up, Down as Closed, Away, ShowsSeen, end_in, is_up as is_open}
 use Rattle.broker_log.specs.Seen as log
-use Rattle.broker_log.specs.Turns.{with_batches, settled, opened as opened_log, dropped, kept_line, Opens, OpensAt, loosened}
+use Rattle.broker_log.specs.Turns.{with_batches, settled, opened as opened_log, dropped, kept_line, ComesBackAs, OpensWith, loosened}
 use Rattle.laws_partition.specs.Seen as seen
 use Rattle.laws_partition.proofs.BoolTests.{some_of}
 use Rattle.laws_partition.specs.Partition as seen_held
@@ -23,7 +23,7 @@ use Rattle.laws_partition.specs.RowsOfLog as seen_log
 use Rattle.partition_commands.specs.declared.partition_state.Node.{Node}
 use Rattle.partition_commands.specs.declared.partition_state.PartitionState.{PartitionState}
 use Rattle.partition_commands.specs.Partition.{is_up, stopped, node_of}
-use Rattle.partition_commands.specs.TurnsOfLog.{end_with, BreaksUnsaved, Gains, AppendRow, RawRow, FlushRow, RollRow, Notes, TrimRow, TrimOnRow}
+use Rattle.partition_commands.specs.TurnsOfLog.{end_with, BreaksUnsaved, NodeGains, AppendRow, RawRow, FlushRow, RollRow, Notes, TrimRow, TrimOnRow}
 use Rattle.laws_partition.specs.declared.start_snapshot.StartSnapshot.{StartSnapshot}
 use Rattle.laws_partition.specs.declared.start_snapshot.Turned.{Turned}
 use Rattle.laws_partition.specs.declared.start_snapshot.Turned.TheVariants.{Answers, Begins}
@@ -35,30 +35,30 @@ use Rattle.partition_commands.proofs.Shown.{refines_more, stays, puts, looks, re
 
 module _ {D : Type 0} where
   -- a node as it is seen, whose log has changed
-  appended_node : (x : Node D) (kept : Kept D) (s s' : log.Seen) (front : List (List ℕ)) (line : List (ℕ × ℕ)) → is_open kept ≡ is_up x → s' ≡ with_batches s front → lined s.line front ≡ line
+  appended_node : (x : Node D) (kept : LogState D) (s s' : log.LogSeen) (front : List (List ℕ)) (line : List (ℕ × ℕ)) → is_open kept ≡ is_up x → s' ≡ with_batches s front → lined s.line front ≡ line
       → record (node_of x s) { log = record { batches = s.batches ++ front; line = line } } ≡ node_of (record x { log = kept }) s'
   appended_node x kept s s' front line up is line_is = rw (up, is, line_is) refl
 
-  flushed_node : (x : Node D) (kept : Kept D) (s s' : log.Seen) (n : ℕ) → is_open kept ≡ is_up x → s' ≡ settled s s.line → n ≡ end_of_log s.batches
+  flushed_node : (x : Node D) (kept : LogState D) (s s' : log.LogSeen) (n : ℕ) → is_open kept ≡ is_up x → s' ≡ settled s s.line → n ≡ end_of_log s.batches
       → record (node_of x s) { flushed_end = n; saved = s.line } ≡ node_of (record x { log = kept }) s'
   flushed_node x kept s s' n up is end = rw (up, is, end) refl
 
-  stopped_node : (x : Node D) (kept : Kept D) (s s' : log.Seen) → is_open kept ≡ false → s' ≡ s → seen_held.stopped (node_of x s) ≡ node_of (record (stopped x) { log = kept }) s'
+  stopped_node : (x : Node D) (kept : LogState D) (s s' : log.LogSeen) → is_open kept ≡ false → s' ≡ s → seen_held.stopped (node_of x s) ≡ node_of (record (stopped x) { log = kept }) s'
   stopped_node x kept s s' down is = rw (down, is) refl
 
-  opened_node : (x : Node D) (kept : Kept D) (s s' : log.Seen) (back : log.Back) (i : ℕ) → is_open kept ≡ true → s' ≡ opened_log s back i → seen_rows.opened (node_of x s) back i ≡ node_of (record x { log = kept }) s'
+  opened_node : (x : Node D) (kept : LogState D) (s s' : log.LogSeen) (back : log.Back) (i : ℕ) → is_open kept ≡ true → s' ≡ opened_log s back i → seen_rows.opened (node_of x s) back i ≡ node_of (record x { log = kept }) s'
   opened_node x kept s s' back i up is = rw (up, is) refl
 
 module _ {D : Type 0} where
-  pub dropped_node : (x : Node D) (kept : Kept D) (s s' : log.Seen) (start : ℕ) → is_open kept ≡ is_up x → s' ≡ dropped s start
+  pub dropped_node : (x : Node D) (kept : LogState D) (s s' : log.LogSeen) (start : ℕ) → is_open kept ≡ is_up x → s' ≡ dropped s start
       → record (node_of x s) { local = start; saved = seen_held.kept_line (node_of x s) } ≡ node_of (record x { log = kept }) s'
   dropped_node x kept s s' start up is = rw (up, is) refl
 
   -- a log whose end is as it was is up as it was
-  pub open_of : (x : Node D) (kept : Kept D) → end_in kept ≡ end_in x.log → is_up x ≡ true → is_open kept ≡ is_up x
+  pub open_of : (x : Node D) (kept : LogState D) → end_in kept ≡ end_in x.log → is_up x ≡ true → is_open kept ≡ is_up x
   open_of x kept is up = go x.log kept is up
     where
-      go : (old new : Kept D) → end_in new ≡ end_in old → is_open old ≡ true → is_open new ≡ is_open old
+      go : (old new : LogState D) → end_in new ≡ end_in old → is_open old ≡ true → is_open new ≡ is_open old
       go (Up l) (Up m) is up = refl
       go (Up l) (Closed i d) is up = absurd cc
       go (Up l) Away is up = absurd cc
@@ -66,24 +66,24 @@ module _ {D : Type 0} where
       go Away new is up = absurd cc
 
 -- what comes back of a log is what is seen to
-comes_back : {D : Type 0} (x : Node D) (s s' : log.Seen) (n : ℕ) → Opens n s s' → (back : log.Back) × seen_rows.MayComeBack (node_of x s) back × OpensAt n s s' back
+comes_back : {D : Type 0} (x : Node D) (s s' : log.LogSeen) (n : ℕ) → ComesBackAs n s s' → (back : log.Back) × seen_rows.MayComeBack (node_of x s) back × OpensWith n s s' back
 comes_back x s s' n (inl at) = (log.back_of s, inl refl, at)
 comes_back x s s' n (inr other) = let back = some_of _ s.loose other in (back.0, inr back.1, back.2)
 
 module _ {D : Type 0} (content : D → Content) (control : D → Control call_code) where
   -- where the log would end
-  with_shown : (x : Node D) (s : log.Seen) (batch : List ℕ) → is_up x ≡ true → Shows content x.log s → end_with x batch ≡ seen_log.end_with (node_of x s) batch
+  with_shown : (x : Node D) (s : log.LogSeen) (batch : List ℕ) → is_up x ≡ true → ShowsSeen content x.log s → end_with x batch ≡ seen_log.end_with (node_of x s) batch
   with_shown x s batch up h = ap (λ (n : ℕ). n + last_offset_delta_of batch + 1) (end_shown content x s up h)
 
   -- a write of what isn't flushed yet failed
-  pub unsaved : (h : PartitionState D) (a : seen.SeenPartition) (b : ℕ) (x : Node D) (s : log.Seen) (h' : PartitionState D) (R : seen.SeenPartition → Type 0) → Sees content h a b x s → BreaksUnsaved content control h b x h'
+  pub unsaved : (h : PartitionState D) (a : seen.SeenPartition) (b : ℕ) (x : Node D) (s : log.LogSeen) (h' : PartitionState D) (R : seen.SeenPartition → Type 0) → Sees content h a b x s → BreaksUnsaved content control h b x h'
       → R (seen_held.put_node a b (seen_held.broken (node_of x s) (log.back_of s))) → Refines content h' R
   unsaved h a b x s h' R v k row =
       breaks content control h a b x s (λ s. loosened s (log.back_of s)) h' R (seen_held.broken (node_of x s) (log.back_of s)) v k (λ kept down. broken_node x kept s (log.back_of s) down) row
 
   -- a batch at the log's end
-  gains_refined : (h : PartitionState D) (a : seen.SeenPartition) (b : ℕ) (x : Node D) (s : log.Seen) (placed : List ℕ) (h' : PartitionState D) (R : seen.SeenPartition → Type 0) → Sees content h a b x s → is_up x ≡ true
-      → Gains content control h b x placed h' → R (seen_held.put_node a b (record (node_of x s) { log = with_batch (node_of x s).log placed })) → Refines content h' R
+  gains_refined : (h : PartitionState D) (a : seen.SeenPartition) (b : ℕ) (x : Node D) (s : log.LogSeen) (placed : List ℕ) (h' : PartitionState D) (R : seen.SeenPartition → Type 0) → Sees content h a b x s → is_up x ≡ true
+      → NodeGains content control h b x placed h' → R (seen_held.put_node a b (record (node_of x s) { log = with_batch (node_of x s).log placed })) → Refines content h' R
   gains_refined h a b x s placed h' R v up k row =
       let kept = k.0 in
       let g = k.3 in
@@ -97,7 +97,7 @@ module _ {D : Type 0} (content : D → Content) (control : D → Control call_co
       (appended_node x kept s t.0 (placed ∷ []) (entered s.line (epoch_of placed) (end_of_log s.batches)) (up_of_end content kept (k.1.1 + 1) g.end_is ∙ sym up) (t.2 ∙ ap (with_batches s) front) line)
       k.5 row
 
-  pub append_refined : (h : PartitionState D) (a : seen.SeenPartition) (b : ℕ) (x : Node D) (s : log.Seen) (batch : List ℕ) (answer : Answer) (h' : PartitionState D) → Sees content h a b x s
+  pub append_refined : (h : PartitionState D) (a : seen.SeenPartition) (b : ℕ) (x : Node D) (s : log.LogSeen) (batch : List ℕ) (answer : Answer) (h' : PartitionState D) → Sees content h a b x s
       → AppendRow content control h b x batch answer h' → Refines content h' (λ c. seen_log.AppendRow a b (node_of x s) batch answer c)
   append_refined h a b x s batch Down h' v w = stays content control h a h' _ v.held w.1 (w.0, refl)
   append_refined h a b x s batch NotLeader h' v w = stays content control h a h' _ v.held w.2 (w.0, w.1, refl)
@@ -112,7 +112,7 @@ module _ {D : Type 0} (content : D → Content) (control : D → Control call_co
       (w.0, w.1, subst (λ (n : ℕ). n ≤ offset_limit) (with_shown x s batch w.0 v.shows) w.2, w.3 ∙ end_shown content x s w.0 v.shows, w.4, refl)
   append_refined h a b x s batch other h' v w = elim w [ ]
 
-  pub raw_refined : (h : PartitionState D) (a : seen.SeenPartition) (b : ℕ) (x : Node D) (s : log.Seen) (bytes : List ℕ) (answer : Answer) (h' : PartitionState D) → Sees content h a b x s
+  pub raw_refined : (h : PartitionState D) (a : seen.SeenPartition) (b : ℕ) (x : Node D) (s : log.LogSeen) (bytes : List ℕ) (answer : Answer) (h' : PartitionState D) → Sees content h a b x s
       → RawRow content control h b x bytes answer h' → Refines content h' (λ c. seen_log.RawRow a b (node_of x s) bytes answer c)
   raw_refined h a b x s bytes Down h' v w = append_refined h a b x s bytes Down h' v w
   raw_refined h a b x s bytes NotLeader h' v w = append_refined h a b x s bytes NotLeader h' v w
@@ -127,7 +127,7 @@ module _ {D : Type 0} (content : D → Content) (control : D → Control call_co
       refines_more content control h' (λ c. seen_log.AppendRow a b (node_of x s) bytes (OkSpan base last e) c) _ (λ c r. (w.0, r)) (append_refined h a b x s bytes (OkSpan base last e) h' v w.1)
   raw_refined h a b x s bytes other h' v w = elim w [ ]
 
-  pub flush_refined : (h : PartitionState D) (a : seen.SeenPartition) (b : ℕ) (x : Node D) (s : log.Seen) (answer : Answer) (h' : PartitionState D) → Sees content h a b x s
+  pub flush_refined : (h : PartitionState D) (a : seen.SeenPartition) (b : ℕ) (x : Node D) (s : log.LogSeen) (answer : Answer) (h' : PartitionState D) → Sees content h a b x s
       → FlushRow content control h b x answer h' → Refines content h' (λ c. seen_log.FlushRow a b (node_of x s) answer c)
   flush_refined h a b x s Down h' v w = stays content control h a h' _ v.held w.1 (w.0, refl)
   flush_refined h a b x s DiskFault h' v w =
@@ -142,7 +142,7 @@ module _ {D : Type 0} (content : D → Content) (control : D → Control call_co
       (flushed_node x kept s t.0 n (up_of_end content kept n g.end_is ∙ sym w.0) t.2 end) w.1.3 (w.0, end, refl)
   flush_refined h a b x s other h' v w = elim w [ ]
 
-  pub roll_refined : (h : PartitionState D) (a : seen.SeenPartition) (b : ℕ) (x : Node D) (s : log.Seen) (answer : Answer) (h' : PartitionState D) → Sees content h a b x s
+  pub roll_refined : (h : PartitionState D) (a : seen.SeenPartition) (b : ℕ) (x : Node D) (s : log.LogSeen) (answer : Answer) (h' : PartitionState D) → Sees content h a b x s
       → RollRow content control h b x answer h' → Refines content h' (λ c. seen_log.RollRow a b (node_of x s) answer c)
   roll_refined h a b x s Down h' v w = stays content control h a h' _ v.held w.1 (w.0, refl)
   roll_refined h a b x s EmptySegment h' v w = stays content control h a h' _ v.held w.2 (w.0, refl)
@@ -153,7 +153,7 @@ module _ {D : Type 0} (content : D → Content) (control : D → Control call_co
       looks content control h a b x s h' _ v w.3.0 r.up (r.seen s v.shows) w.3.3 (w.0, w.2 ∙ end_shown content x s w.0 v.shows, refl)
   roll_refined h a b x s other h' v w = elim w [ ]
 
-  pub stop_refined : (h : PartitionState D) (a : seen.SeenPartition) (b : ℕ) (x : Node D) (s : log.Seen) (answer : Answer) (h' : PartitionState D) → Sees content h a b x s
+  pub stop_refined : (h : PartitionState D) (a : seen.SeenPartition) (b : ℕ) (x : Node D) (s : log.LogSeen) (answer : Answer) (h' : PartitionState D) → Sees content h a b x s
       → StopRow content control h b x answer h' → Refines content h' (λ c. seen_rows.StopRow a b (node_of x s) answer c)
   stop_refined h a b x s Down h' v w = stays content control h a h' _ v.held w.1 (w.0, refl)
   stop_refined h a b x s Ok h' v w =
@@ -162,7 +162,7 @@ module _ {D : Type 0} (content : D → Content) (control : D → Control call_co
       puts content control h a b x s h' _ (record (stopped x) { log = kept }) t.0 (seen_held.stopped (node_of x s)) v t.1 (stopped_node x kept s t.0 w.1.1.down t.2) w.1.3 (w.0, refl)
   stop_refined h a b x s other h' v w = elim w [ ]
 
-  pub up_refined : (h : PartitionState D) (a : seen.SeenPartition) (b : ℕ) (x : Node D) (s : log.Seen) (answer : Answer) (h' : PartitionState D) → Sees content h a b x s
+  pub up_refined : (h : PartitionState D) (a : seen.SeenPartition) (b : ℕ) (x : Node D) (s : log.LogSeen) (answer : Answer) (h' : PartitionState D) → Sees content h a b x s
       → UpRow content control h b x answer h' → Refines content h' (λ c. seen_rows.UpRow a b (node_of x s) answer c)
   up_refined h a b x s IsUp h' v w = stays content control h a h' _ v.held w.1 (w.0, refl)
   up_refined h a b x s (IsOpen n) h' v w =
@@ -178,7 +178,7 @@ module _ {D : Type 0} (content : D → Content) (control : D → Control call_co
   up_refined h a b x s other h' v w = elim w [ ]
 
   -- what was recorded of a broker
-  pub notes_shown : (h : PartitionState D) (a : seen.SeenPartition) (b : ℕ) (x : Node D) (s : log.Seen) (g : StartSnapshot) → Sees content h a b x s → is_up x ≡ true → Notes h x g → seen_log.Notes a (node_of x s) g
+  pub notes_shown : (h : PartitionState D) (a : seen.SeenPartition) (b : ℕ) (x : Node D) (s : log.LogSeen) (g : StartSnapshot) → Sees content h a b x s → is_up x ≡ true → Notes h x g → seen_log.Notes a (node_of x s) g
   notes_shown h a b x s g v up n = record {
     stops = n.stops;
     role = n.role;
@@ -188,14 +188,14 @@ module _ {D : Type 0} (content : D → Content) (control : D → Control call_co
 
   -- trim
 
-  pub trim_refined : (h : PartitionState D) (a : seen.SeenPartition) (b : ℕ) (x : Node D) (s : log.Seen) (turned : Turned) (h' : PartitionState D) → Sees content h a b x s
+  pub trim_refined : (h : PartitionState D) (a : seen.SeenPartition) (b : ℕ) (x : Node D) (s : log.LogSeen) (turned : Turned) (h' : PartitionState D) → Sees content h a b x s
       → TrimRow content control h x turned h' → Refines content h' (λ c. seen_log.TrimRow a (node_of x s) turned c)
   trim_refined h a b x s (Answers Down) h' v w = stays content control h a h' _ v.held w.1 (w.0, refl)
   trim_refined h a b x s (Begins g) h' v w =
       stays content control h a h' _ v.held w.2 (w.0, notes_shown h a b x s g v w.0 w.1, refl)
   trim_refined h a b x s other h' v w = elim w [ ]
 
-  pub trim_on_refined : (h : PartitionState D) (a : seen.SeenPartition) (b : ℕ) (x : Node D) (s : log.Seen) (g : StartSnapshot) (answer : Answer) (h' : PartitionState D) → Sees content h a b x s → (g.stops ≡ x.stops → is_up x ≡ true)
+  pub trim_on_refined : (h : PartitionState D) (a : seen.SeenPartition) (b : ℕ) (x : Node D) (s : log.LogSeen) (g : StartSnapshot) (answer : Answer) (h' : PartitionState D) → Sees content h a b x s → (g.stops ≡ x.stops → is_up x ≡ true)
       → TrimOnRow content control h b x g answer h' → Refines content h' (λ c. seen_log.TrimOnRow a b (node_of x s) g answer c)
   trim_on_refined h a b x s g Stopped h' v k w = stays content control h a h' _ v.held w.1 (halted w.0, refl)
     where

@@ -11,7 +11,7 @@ use Rattle.record_batch.specs.Head.{head_of}
 use Rattle.record_batch.specs.declared.refusal.BatchRefusal.{BatchRefusal}
 use Rattle.record_batch.specs.Check.{Batch, checked}
 use Rattle.record_batch.specs.Stamp.{stamped}
-use Rattle.local_log.specs.Run.{IsRun}
+use Rattle.local_log.specs.Run.{IsRunFor}
 use Rattle.plain_log.specs.RowsOfLog.{offset_limit}
 use Rattle.plain_log.specs.declared.answer.Answer.{Answer}
 use Rattle.plain_log.specs.declared.answer.Answer.TheVariants.{OkSpan, TooManySegments, DiskFault}
@@ -23,8 +23,8 @@ use Rattle.registry.specs.declared.registry.Registry.{Registry}
 use Rattle.partition_commands.specs.declared.partition_state.Node.{Node}
 use Rattle.partition_commands.specs.declared.partition_state.PartitionState.{PartitionState}
 use Rattle.partition_commands.specs.Partition.{AtNode, is_up, end_of, line_of, IsFull}
-use Rattle.partition_commands.specs.Sound.{NodeSound}
-use Rattle.partition_commands.specs.TurnsOfLog.{end_with, MayPut, Gains, PutRow, AppendRow}
+use Rattle.partition_commands.specs.Sound.{LeaderSound}
+use Rattle.partition_commands.specs.TurnsOfLog.{end_with, MayPut, NodeGains, PutBatchRow, AppendRow}
 use Rattle.partition_commands.proofs.Open.{while_of}
 
 -- the epoch that a role leads
@@ -55,7 +55,7 @@ module _ {D : Type 0} where
   pub of_node : (h : PartitionState D) (b : ℕ) (x : Node D) (P : Node D → Type 0) → slice_get h.nodes b ≡ Some x → AtNode h b P → P x
   of_node h b x P there at = subst (λ (o : Option (Node D)). IsSomeAnd o P) there at
 
-  pub may_put : {r : Registry} (x : Node D) (batch : List ℕ) (base end e n : ℕ) → NodeSound r x → x.role ≡ Leads e → end_of x ≡ base → IsOk (checked batch) → base_of batch ≡ base → epoch_of batch ≡ e
+  pub may_put : {r : Registry} (x : Node D) (batch : List ℕ) (base end e n : ℕ) → LeaderSound r x → x.role ≡ Leads e → end_of x ≡ base → IsOk (checked batch) → base_of batch ≡ base → epoch_of batch ≡ e
       → last_offset_delta_of batch + 1 ≡ n → end ≡ base + n → end ≤ 2 ^ 62 → MayPut x batch base (end - 1) e
   may_put x batch base end e n s role at is base_is epoch_is delta ends low = record {
     up = s.up e role;
@@ -69,8 +69,8 @@ module _ {D : Type 0} where
     leads = s.leads e role;
   }
 
-  pub one_run : (x : Node D) (batch : List ℕ) (base last e : ℕ) → MayPut x batch base last e → WhileUp x.log (λ log. IsRun log.end log.line batch)
-  one_run x batch base last e m = while_of (λ end line. IsRun end line batch) x.log m.up (record {
+  pub one_run : (x : Node D) (batch : List ℕ) (base last e : ℕ) → MayPut x batch base last e → WhileUp x.log (λ log. IsRunFor log.end log.line batch)
+  one_run x batch base last e m = while_of (λ end line. IsRunFor end line batch) x.log m.up (record {
     batches = batch ∷ [];
     bytes = sym (append-nil batch);
     some = λ none. absurd (cc none);
@@ -87,7 +87,7 @@ module _ {D : Type 0} where
 module _ {D : Type 0} (content : D → Content) (control : D → Control call_code) where
   -- what comes of a batch that was placed comes of its append
   pub put_append : (h : PartitionState D) (b : ℕ) (x : Node D) (batch placed : List ℕ) (base last epoch : ℕ) (answer : Answer) (h' : PartitionState D) → is_up x ≡ true → x.role ≡ Leads epoch → end_with x batch ≤ offset_limit → base ≡ end_of x
-      → last ≡ base + last_offset_delta_of batch → placed ≡ stamped batch base epoch → PutRow content control h b x placed base last epoch answer h' → AppendRow content control h b x batch answer h'
+      → last ≡ base + last_offset_delta_of batch → placed ≡ stamped batch base epoch → PutBatchRow content control h b x placed base last epoch answer h' → AppendRow content control h b x batch answer h'
   put_append h b x batch placed base last epoch TooManySegments h' up role fits at ends is w =
       (up, rw role refl, fits, (epoch, role, subst (IsFull x) (is ∙ ap (λ (n : ℕ). stamped batch n epoch) at) w.0), w.1)
   put_append h b x batch placed base last epoch DiskFault h' up role fits at ends is w = (
@@ -109,6 +109,6 @@ module _ {D : Type 0} (content : D → Content) (control : D → Control call_co
     w.0 ∙ at,
     w.1 ∙ (ends ∙ ap (λ (n : ℕ). n + last_offset_delta_of batch) (sym w.0)),
     subst (λ (l : List ℕ). IsFull x l → ⊥) (is ∙ (ap (λ (n : ℕ). stamped batch n epoch) (sym w.0) ∙ ap (λ (n : ℕ). stamped batch from n) (sym w.2))) w.3,
-    subst (λ (l : List ℕ). Gains content control h b x l h') (is ∙ (ap (λ (n : ℕ). stamped batch n epoch) (sym w.0) ∙ ap (λ (n : ℕ). stamped batch from n) (sym w.2))) w.4,
+    subst (λ (l : List ℕ). NodeGains content control h b x l h') (is ∙ (ap (λ (n : ℕ). stamped batch n epoch) (sym w.0) ∙ ap (λ (n : ℕ). stamped batch from n) (sym w.2))) w.4,
   )
   put_append h b x batch placed base last epoch other h' up role fits at ends is w = elim w [ ]

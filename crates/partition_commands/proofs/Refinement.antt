@@ -27,7 +27,7 @@ use Rattle.partition_commands.proofs.OwnRefined.{append_refined, raw_refined, fl
 use Rattle.partition_commands.specs.Shown.{Sees, Refines, Knows, KnowsSnapshot}
 
 module _ {D : Type 0} (content : D → Content) (control : D → Control call_code) where
-  clock_refined : (h : PartitionState D) (a : seen.SeenPartition) (b : ℕ) (x : Node D) (s : log.Seen) (ms : ℤ) (answer : Answer) (h' : PartitionState D) → Sees content h a b x s → ClockRow h ms answer h'
+  clock_refined : (h : PartitionState D) (a : seen.SeenPartition) (b : ℕ) (x : Node D) (s : log.LogSeen) (ms : ℤ) (answer : Answer) (h' : PartitionState D) → Sees content h a b x s → ClockRow h ms answer h'
       → Refines content h' (λ c. seen_rows.ClockRow a ms answer c)
   clock_refined h a b x s ms Ok h' v w =
       subst (λ (k : PartitionState D). Refines content k (λ c. seen_rows.ClockRow a ms Ok c)) (sym w) (record {
@@ -37,7 +37,7 @@ module _ {D : Type 0} (content : D → Content) (control : D → Control call_co
       })
   clock_refined h a b x s ms other h' v w = elim w [ ]
 
-  pack_refined : (h : PartitionState D) (a : seen.SeenPartition) (b : ℕ) (x : Node D) (s : log.Seen) (on : Bool) (answer : Answer) (h' : PartitionState D) → Sees content h a b x s → PackRow h on answer h'
+  pack_refined : (h : PartitionState D) (a : seen.SeenPartition) (b : ℕ) (x : Node D) (s : log.LogSeen) (on : Bool) (answer : Answer) (h' : PartitionState D) → Sees content h a b x s → PackRow h on answer h'
       → Refines content h' (λ c. seen_rows.SwitchRow a answer c)
   pack_refined h a b x s on Ok h' v w =
       subst (λ (k : PartitionState D). Refines content k (λ c. seen_rows.SwitchRow a Ok c)) (sym w) (record {
@@ -47,7 +47,7 @@ module _ {D : Type 0} (content : D → Content) (control : D → Control call_co
       })
   pack_refined h a b x s on other h' v w = elim w [ ]
 
-  copying_refined : (h : PartitionState D) (a : seen.SeenPartition) (b : ℕ) (x : Node D) (s : log.Seen) (on : Bool) (answer : Answer) (h' : PartitionState D) → Sees content h a b x s → CopyingRow h on answer h'
+  copying_refined : (h : PartitionState D) (a : seen.SeenPartition) (b : ℕ) (x : Node D) (s : log.LogSeen) (on : Bool) (answer : Answer) (h' : PartitionState D) → Sees content h a b x s → CopyingRow h on answer h'
       → Refines content h' (λ c. seen_rows.SwitchRow a answer c)
   copying_refined h a b x s on Ok h' v w =
       subst (λ (k : PartitionState D). Refines content k (λ c. seen_rows.SwitchRow a Ok c)) (sym w) (record {
@@ -57,7 +57,7 @@ module _ {D : Type 0} (content : D → Content) (control : D → Control call_co
       })
   copying_refined h a b x s on other h' v w = elim w [ ]
 
-  answer_refined : (h : PartitionState D) (a : seen.SeenPartition) (b : ℕ) (x : Node D) (s : log.Seen) (command : Command) (answer : Answer) (h' : PartitionState D) → Sees content h a b x s → Knows a (node_of x s)
+  answer_refined : (h : PartitionState D) (a : seen.SeenPartition) (b : ℕ) (x : Node D) (s : log.LogSeen) (command : Command) (answer : Answer) (h' : PartitionState D) → Sees content h a b x s → Knows a (node_of x s)
       → AnswerRow content control h b x command answer h' → Refines content h' (λ c. seen_rows.AnswerRow a b (node_of x s) command answer c)
   answer_refined h a b x s (Append recs) answer h' v k w = append_refined content control h a b x s (built recs) answer h' v w
   answer_refined h a b x s (Raw bytes) answer h' v k w = raw_refined content control h a b x s bytes answer h' v w
@@ -78,7 +78,7 @@ module _ {D : Type 0} (content : D → Content) (control : D → Control call_co
   answer_refined h a b x s UpCommand answer h' v k w = up_refined content control h a b x s answer h' v w
   answer_refined h a b x s other answer h' v k w = elim w [ ]
 
-  first_refined : (h : PartitionState D) (a : seen.SeenPartition) (b : ℕ) (x : Node D) (s : log.Seen) (command : Command) (turned : Turned) (h' : PartitionState D) → Sees content h a b x s → Knows a (node_of x s)
+  first_refined : (h : PartitionState D) (a : seen.SeenPartition) (b : ℕ) (x : Node D) (s : log.LogSeen) (command : Command) (turned : Turned) (h' : PartitionState D) → Sees content h a b x s → Knows a (node_of x s)
       → FirstRow content control h b x command turned h' → Refines content h' (λ c. seen_rows.FirstRow a b (node_of x s) command turned c)
   first_refined h a b x s (Follow limit) turned h' v k w = follow_refined content control h a b x s limit turned h' v k.sound w
   first_refined h a b x s Join turned h' v k w = join_refined content control h a b x s turned h' v k.meets w
@@ -91,7 +91,7 @@ module _ {D : Type 0} (content : D → Content) (control : D → Control call_co
   first_refined h a b x s command (Answers answer) h' v k w = answer_refined h a b x s command answer h' v k w
   first_refined h a b x s command (Begins g) h' v k w = elim w [ ]
 
-  later_refined : (h : PartitionState D) (a : seen.SeenPartition) (b : ℕ) (x : Node D) (s : log.Seen) (command : Command) (g : StartSnapshot) (turned : Turned) (h' : PartitionState D) → Sees content h a b x s → Knows a (node_of x s)
+  later_refined : (h : PartitionState D) (a : seen.SeenPartition) (b : ℕ) (x : Node D) (s : log.LogSeen) (command : Command) (g : StartSnapshot) (turned : Turned) (h' : PartitionState D) → Sees content h a b x s → Knows a (node_of x s)
       → KnowsSnapshot a (node_of x s) command g → LaterRow content control h b x command g turned h' → Refines content h' (λ c. seen_rows.LaterRow a b (node_of x s) command g turned c)
   later_refined h a b x s (Follow limit) g (Answers answer) h' v k q w = follow_on_refined content control h a b x s g answer h' v q w
   later_refined h a b x s Join g (Answers answer) h' v k q w = join_on_refined content control h a b x s g answer h' v (k.sound b (node_of x s) v.there) q w
@@ -99,7 +99,7 @@ module _ {D : Type 0} (content : D → Content) (control : D → Control call_co
   later_refined h a b x s command g turned h' v k q w = elim w [ ]
 
   -- a turn, whether its command has begun or not
-  pub row_refined : (h : PartitionState D) (a : seen.SeenPartition) (b : ℕ) (x : Node D) (s : log.Seen) (snapshot : Option StartSnapshot) (command : Command) (turned : Turned) (h' : PartitionState D) → Sees content h a b x s
+  pub row_refined : (h : PartitionState D) (a : seen.SeenPartition) (b : ℕ) (x : Node D) (s : log.LogSeen) (snapshot : Option StartSnapshot) (command : Command) (turned : Turned) (h' : PartitionState D) → Sees content h a b x s
       → Knows a (node_of x s) → ((g : StartSnapshot) → snapshot ≡ Some g → KnowsSnapshot a (node_of x s) command g) → Row content control h b x snapshot command turned h'
       → Refines content h' (λ c. seen_rows.Row a b (node_of x s) snapshot command turned c)
   row_refined h a b x s None command turned h' v k kept w = first_refined h a b x s command turned h' v k w

@@ -14,8 +14,8 @@ use Rattle.log_steps.specs.Fronts.{Each}
 use Rattle.segment_file.specs.Run.{Fits}
 use Rattle.plain_log.specs.Fetch.{is_within}
 use Rattle.local_log.specs.declared.reading.RunOut.{RunOut}
-use Rattle.broker_log.specs.Seen.{Kept, Seen}
-use Rattle.broker_log.specs.Turns.{IsRunIn}
+use Rattle.broker_log.specs.Seen.{LogState, LogSeen}
+use Rattle.broker_log.specs.Turns.{IsRunInLog}
 use Rattle.broker_log.specs.Turns as turns
 use Rattle.laws_partition.specs.Log.{IsLineFor, HasBytes, epoch_in, IsRunOf}
 use Rattle.laws_partition.specs.Log as seen
@@ -123,7 +123,7 @@ same_epochs e [] all = tt
 same_epochs e (batch ∷ run) all = (ap (λ (k : ℕ). Some k) all.0, same_epochs e run all.1)
 
 -- a run that was read is one of what is seen
-pub run_shown : {D : Type 0} (kept : Kept D) (s : Seen) (offset limit mark : ℕ) (out : RunOut) → IsConsecutive 0 s.batches → IsLineFor s.line s.batches → (r : IsRunIn kept s offset limit mark out) → IsRunOf s.batches offset limit mark out.stop r.run
+pub run_shown : {D : Type 0} (kept : LogState D) (s : LogSeen) (offset limit mark : ℕ) (out : RunOut) → IsConsecutive 0 s.batches → IsLineFor s.line s.batches → (r : IsRunInLog kept s offset limit mark out) → IsRunOf s.batches offset limit mark out.stop r.run
 run_shown kept s offset limit mark out c line r = go r.run r.rest r.some r.parts r.next_is r.fits r.stop_is
   where
     go : (run rest : List (List ℕ)) → run ≢ [] → from_offset offset s.batches ≡ run ++ rest → out.next ≡ end_from offset run → Fits limit run → turns.StopIs out.stop run rest out.next limit mark

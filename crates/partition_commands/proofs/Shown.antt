@@ -10,7 +10,7 @@ use Rattle.log_terms.proofs.Lists.{set-same}
 use Rattle.registry.specs.Calls.{when}
 use Rattle.registry.specs.declared.registry.Registry.{Registry}
 use Rattle.plain_log.specs.State.{leads_in}
-use Rattle.broker_log.specs.Seen.{Kept, Up, Down, Away, Shows, Stays, is_up as is_open, end_in, flushed_end_in, line_in, local_in}
+use Rattle.broker_log.specs.Seen.{LogState, Up, Down, Away, ShowsSeen, LogStays, is_up as is_open, end_in, flushed_end_in, line_in, local_in}
 use Rattle.broker_log.specs.Seen as log
 use Rattle.broker_log.specs.Turns.{loosened, torn}
 use Rattle.laws_partition.specs.Seen as seen
@@ -19,23 +19,23 @@ use Rattle.laws_partition.proofs.BoolTests.{some_of}
 use Rattle.partition_commands.specs.declared.partition_state.Node.{Node}
 use Rattle.partition_commands.specs.declared.partition_state.PartitionState.{PartitionState}
 use Rattle.partition_commands.specs.Shown.{Sees, Refines}
-use Rattle.partition_commands.specs.Partition.{is_up, end_of, flushed_end_of, line_of, local_of, put_node, the_leader, stopped, node_of, ShowsNode, ShowNodes, ShowsPartition, Rests, KeepsPartition, Breaks, BreaksBy, Fails}
+use Rattle.partition_commands.specs.Partition.{is_up, end_of, flushed_end_of, line_of, local_of, put_node, the_leader, stopped, node_of, ShowsNode, ShowNodes, ShowsPartition, LogRests, KeepsPartition, BreaksNode, BreaksBy, NodeReadFails}
 
 -- what is there is had
 pub some_at : {A : Type 0} (P : A → Type 0) (o : Option A) (x : A) → o ≡ Some x → P x → IsSomeAnd o P
 some_at P o x is p = subst (λ (k : Option _). IsSomeAnd k P) (sym is) p
 
 -- what is put of a record's field leaves a node
-pub node_as : {D : Type 0} (x : Node D) (kept : Kept D) (s : log.Seen) → is_open kept ≡ is_up x → node_of (record x { log = kept }) s ≡ record (node_of x s) { up = is_up x }
+pub node_as : {D : Type 0} (x : Node D) (kept : LogState D) (s : log.LogSeen) → is_open kept ≡ is_up x → node_of (record x { log = kept }) s ≡ record (node_of x s) { up = is_up x }
 node_as x kept s up = ap (λ (t : Bool). record (node_of x s) { up = t }) up
 
 -- a node whose disk failed in a write
-pub broken_node : {D : Type 0} (x : Node D) (kept : Kept D) (s : log.Seen) (back : log.Back) → is_open kept ≡ false
+pub broken_node : {D : Type 0} (x : Node D) (kept : LogState D) (s : log.LogSeen) (back : log.Back) → is_open kept ≡ false
     → seen_held.broken (node_of x s) back ≡ node_of (record (stopped x) { log = kept }) (loosened s back)
 broken_node x kept s back down = rw down refl
 
 -- and in a cut
-pub torn_node : {D : Type 0} (x : Node D) (kept : Kept D) (s : log.Seen) (back : log.Back) → is_open kept ≡ false
+pub torn_node : {D : Type 0} (x : Node D) (kept : LogState D) (s : log.LogSeen) (back : log.Back) → is_open kept ≡ false
     → seen_held.torn (node_of x s) back ≡ node_of (record (stopped x) { log = kept }) (torn s back)
 torn_node x kept s back down = go (nat_lt back.0 s.flushed_end) refl
   where
@@ -105,40 +105,40 @@ module _ {D : Type 0} (content : D → Content) where
       (leading h.registry.epoch (slice_get h.nodes h.registry.leader.0) (slice_get a.nodes h.registry.leader.0) (shown_get h.nodes a.nodes h.registry.leader.0 s.nodes))
 
   -- a log that is up has its end, its flushed end and its leader epochs
-  pub end_shown : (x : Node D) (s : log.Seen) → is_up x ≡ true → Shows content x.log s → end_of x ≡ end_of_log s.batches
+  pub end_shown : (x : Node D) (s : log.LogSeen) → is_up x ≡ true → ShowsSeen content x.log s → end_of x ≡ end_of_log s.batches
   end_shown x s up h = go x.log up h
     where
-      go : (k : Kept D) → is_open k ≡ true → Shows content k s → unwrap_or (end_in k) 0 ≡ end_of_log s.batches
+      go : (k : LogState D) → is_open k ≡ true → ShowsSeen content k s → unwrap_or (end_in k) 0 ≡ end_of_log s.batches
       go (Up l) up h = sym h.ends
       go (Down i d) up h = absurd cc
       go Away up h = absurd h
 
-  pub flushed_end_shown : (x : Node D) (s : log.Seen) → is_up x ≡ true → Shows content x.log s → flushed_end_of x ≡ s.flushed_end
+  pub flushed_end_shown : (x : Node D) (s : log.LogSeen) → is_up x ≡ true → ShowsSeen content x.log s → flushed_end_of x ≡ s.flushed_end
   flushed_end_shown x s up h = go x.log up h
     where
-      go : (k : Kept D) → is_open k ≡ true → Shows content k s → unwrap_or (flushed_end_in k) 0 ≡ s.flushed_end
+      go : (k : LogState D) → is_open k ≡ true → ShowsSeen content k s → unwrap_or (flushed_end_in k) 0 ≡ s.flushed_end
       go (Up l) up h = sym h.flushed_end_is
       go (Down i d) up h = absurd cc
       go Away up h = absurd h
 
-  pub line_shown : (x : Node D) (s : log.Seen) → is_up x ≡ true → Shows content x.log s → line_of x ≡ s.line
+  pub line_shown : (x : Node D) (s : log.LogSeen) → is_up x ≡ true → ShowsSeen content x.log s → line_of x ≡ s.line
   line_shown x s up h = go x.log up h
     where
-      go : (k : Kept D) → is_open k ≡ true → Shows content k s → unwrap_or (line_in k) [] ≡ s.line
+      go : (k : LogState D) → is_open k ≡ true → ShowsSeen content k s → unwrap_or (line_in k) [] ≡ s.line
       go (Up l) up h = sym h.line_is
       go (Down i d) up h = absurd cc
       go Away up h = absurd h
 
-  pub local_shown : (x : Node D) (s : log.Seen) → is_up x ≡ true → Shows content x.log s → local_of x ≡ s.local
+  pub local_shown : (x : Node D) (s : log.LogSeen) → is_up x ≡ true → ShowsSeen content x.log s → local_of x ≡ s.local
   local_shown x s up h = go x.log up h
     where
-      go : (k : Kept D) → is_open k ≡ true → Shows content k s → unwrap_or (local_in k) 0 ≡ s.local
+      go : (k : LogState D) → is_open k ≡ true → ShowsSeen content k s → unwrap_or (local_in k) 0 ≡ s.local
       go (Up l) up h = sym h.local_is
       go (Down i d) up h = absurd cc
       go Away up h = absurd h
 
   -- a log with an end is up
-  pub up_of_end : (k : Kept D) (n : ℕ) → end_in k ≡ Some n → is_open k ≡ true
+  pub up_of_end : (k : LogState D) (n : ℕ) → end_in k ≡ Some n → is_open k ≡ true
   up_of_end (Up l) n is = refl
   up_of_end (Down i d) n is = absurd cc
   up_of_end Away n is = absurd cc
@@ -149,7 +149,7 @@ module _ {D : Type 0} (content : D → Content) where
 
 module _ {D : Type 0} (content : D → Content) (control : D → Control call_code) where
   -- how a node is seen
-  pub sees_at : (h : PartitionState D) (a : seen.SeenPartition) (b : ℕ) (x : Node D) → ShowsPartition content h a → slice_get h.nodes b ≡ Some x → (s : log.Seen) × Sees content h a b x s
+  pub sees_at : (h : PartitionState D) (a : seen.SeenPartition) (b : ℕ) (x : Node D) → ShowsPartition content h a → slice_get h.nodes b ≡ Some x → (s : log.LogSeen) × Sees content h a b x s
   sees_at h a b x held at =
       let k = shown_some content (slice_get h.nodes b) (slice_get a.nodes b) x (shown_get content h.nodes a.nodes b held.nodes) at in
       (k.2.0, record { held = held; at = at; there = k.1 ∙ ap (λ (y : seen.Node). Some y) k.2.2; shows = k.2.1 })
@@ -163,8 +163,8 @@ module _ {D : Type 0} (content : D → Content) (control : D → Control call_co
   stays h a h' R held is row = subst (λ (k : PartitionState D). Refines content k R) (sym is) (record { after = a; held = held; row = row })
 
   -- a node has
-  pub puts : (h : PartitionState D) (a : seen.SeenPartition) (b : ℕ) (x : Node D) (s : log.Seen) (h' : PartitionState D) (R : seen.SeenPartition → Type 0) (x' : Node D) (s' : log.Seen) (y : seen.Node) → Sees content h a b x s
-      → Shows content x'.log s' → y ≡ node_of x' s' → h' ≡ put_node h b x' → R (seen_held.put_node a b y) → Refines content h' R
+  pub puts : (h : PartitionState D) (a : seen.SeenPartition) (b : ℕ) (x : Node D) (s : log.LogSeen) (h' : PartitionState D) (R : seen.SeenPartition → Type 0) (x' : Node D) (s' : log.LogSeen) (y : seen.Node) → Sees content h a b x s
+      → ShowsSeen content x'.log s' → y ≡ node_of x' s' → h' ≡ put_node h b x' → R (seen_held.put_node a b y) → Refines content h' R
   puts h a b x s h' R x' s' y v shows same is row =
       subst (λ (k : PartitionState D). Refines content k R) (sym is) (record {
         after = seen_held.put_node a b y;
@@ -173,15 +173,15 @@ module _ {D : Type 0} (content : D → Content) (control : D → Control call_co
       })
 
   -- a log's segments have changed perhaps, and nothing that is seen
-  pub looks : (h : PartitionState D) (a : seen.SeenPartition) (b : ℕ) (x : Node D) (s : log.Seen) (h' : PartitionState D) (R : seen.SeenPartition → Type 0) → Sees content h a b x s → (kept : Kept D) → is_open kept ≡ is_open x.log
-      → (t : log.Seen) × Shows content kept t × (t ≡ s) → h' ≡ put_node h b (record x { log = kept }) → R a → Refines content h' R
+  pub looks : (h : PartitionState D) (a : seen.SeenPartition) (b : ℕ) (x : Node D) (s : log.LogSeen) (h' : PartitionState D) (R : seen.SeenPartition → Type 0) → Sees content h a b x s → (kept : LogState D) → is_open kept ≡ is_open x.log
+      → (t : log.LogSeen) × ShowsSeen content kept t × (t ≡ s) → h' ≡ put_node h b (record x { log = kept }) → R a → Refines content h' R
   looks h a b x s h' R v kept up t after row =
       let same : node_of x s ≡ node_of (record x { log = kept }) t.0 = rw (up, t.2) refl in
       let put : a ≡ seen_held.put_node a b (node_of x s) = ap (λ (ys : List seen.Node). record a { nodes = ys }) (sym (set-same a.nodes b (node_of x s) v.there)) in
       puts h a b x s h' R (record x { log = kept }) t.0 (node_of x s) v t.1 same after (subst R put row)
 
   -- a log was asked, and nothing that is seen has changed
-  pub rests : (h : PartitionState D) (a : seen.SeenPartition) (b : ℕ) (x : Node D) (s : log.Seen) (h' : PartitionState D) (R : seen.SeenPartition → Type 0) → Sees content h a b x s → Rests content control h b x h' → R a → Refines content h' R
+  pub rests : (h : PartitionState D) (a : seen.SeenPartition) (b : ℕ) (x : Node D) (s : log.LogSeen) (h' : PartitionState D) (R : seen.SeenPartition → Type 0) → Sees content h a b x s → LogRests content control h b x h' → R a → Refines content h' R
   rests h a b x s h' R v r row = looks h a b x s h' R v r.0 r.1.up (r.1.seen s v.shows) r.3 row
 
   -- the registry has
@@ -195,23 +195,23 @@ module _ {D : Type 0} (content : D → Content) (control : D → Control call_co
       })
 
   -- a read failed, and nothing that is seen has changed
-  pub fails : (h : PartitionState D) (a : seen.SeenPartition) (b : ℕ) (x : Node D) (s : log.Seen) (h' : PartitionState D) (R : seen.SeenPartition → Type 0) → Sees content h a b x s → Fails content control h b x h' → R a → Refines content h' R
+  pub fails : (h : PartitionState D) (a : seen.SeenPartition) (b : ℕ) (x : Node D) (s : log.LogSeen) (h' : PartitionState D) (R : seen.SeenPartition → Type 0) → Sees content h a b x s → NodeReadFails content control h b x h' → R a → Refines content h' R
   fails h a b x s h' R v r row = looks h a b x s h' R v r.0 r.1.up (r.1.seen s v.shows) r.4 row
 
   -- a write failed, and the broker has stopped
-  pub breaks : (h : PartitionState D) (a : seen.SeenPartition) (b : ℕ) (x : Node D) (s : log.Seen) (makes : log.Seen → log.Seen) (h' : PartitionState D) (R : seen.SeenPartition → Type 0) (y : seen.Node) → Sees content h a b x s → Breaks content control h b x makes h'
-      → ((kept : Kept D) → is_open kept ≡ false → y ≡ node_of (record (stopped x) { log = kept }) (makes s)) → R (seen_held.put_node a b y) → Refines content h' R
+  pub breaks : (h : PartitionState D) (a : seen.SeenPartition) (b : ℕ) (x : Node D) (s : log.LogSeen) (makes : log.LogSeen → log.LogSeen) (h' : PartitionState D) (R : seen.SeenPartition → Type 0) (y : seen.Node) → Sees content h a b x s → BreaksNode content control h b x makes h'
+      → ((kept : LogState D) → is_open kept ≡ false → y ≡ node_of (record (stopped x) { log = kept }) (makes s)) → R (seen_held.put_node a b y) → Refines content h' R
   breaks h a b x s makes h' R y v k same row =
       let t = k.breaks.seen s v.shows in
       puts h a b x s h' R (record (stopped x) { log = k.kept }) t.0 y v t.1 (same k.kept k.breaks.down ∙ ap (node_of (record (stopped x) { log = k.kept })) (sym t.2)) k.after row
 
   -- a write failed, and the broker has stopped, whatever that makes of its log
-  pub breaks_to : (h : PartitionState D) (a : seen.SeenPartition) (b : ℕ) (x : Node D) (s s' : log.Seen) (B : Kept D → Kept D → Type 0) (h' : PartitionState D) (R : seen.SeenPartition → Type 0) (y : seen.Node) → Sees content h a b x s
-      → (k : BreaksBy content control h b x B h') → Shows content k.kept s' → y ≡ node_of (record (stopped x) { log = k.kept }) s' → R (seen_held.put_node a b y) → Refines content h' R
+  pub breaks_to : (h : PartitionState D) (a : seen.SeenPartition) (b : ℕ) (x : Node D) (s s' : log.LogSeen) (B : LogState D → LogState D → Type 0) (h' : PartitionState D) (R : seen.SeenPartition → Type 0) (y : seen.Node) → Sees content h a b x s
+      → (k : BreaksBy content control h b x B h') → ShowsSeen content k.kept s' → y ≡ node_of (record (stopped x) { log = k.kept }) s' → R (seen_held.put_node a b y) → Refines content h' R
   breaks_to h a b x s s' B h' R y v k shows same row = puts h a b x s h' R (record (stopped x) { log = k.kept }) s' y v shows same k.after row
 
   -- a log was read, and is as it was
-  pub held_looks : (h : PartitionState D) (a : seen.SeenPartition) (b : ℕ) (x : Node D) (kept : Kept D) (h' : PartitionState D) → ShowsPartition content h a → slice_get h.nodes b ≡ Some x → Stays content x.log kept
+  pub held_looks : (h : PartitionState D) (a : seen.SeenPartition) (b : ℕ) (x : Node D) (kept : LogState D) (h' : PartitionState D) → ShowsPartition content h a → slice_get h.nodes b ≡ Some x → LogStays content x.log kept
       → h' ≡ put_node h b (record x { log = kept }) → ShowsPartition content h' a
   held_looks h a b x kept h' held at stays is =
       let v = sees_at h a b x held at in
@@ -222,5 +222,5 @@ module _ {D : Type 0} (content : D → Content) (control : D → Control call_co
   pub held_stays : (h : PartitionState D) (a : seen.SeenPartition) (h' : PartitionState D) → ShowsPartition content h a → KeepsPartition content control h h' → ShowsPartition content h' a
   held_stays h a h' held (inl is) = subst (λ (k : PartitionState D). ShowsPartition content k a) (sym is) held
   held_stays h a h' held (inr k) =
-      let x = some_of (λ x. Rests content control h k.0 x h') (slice_get h.nodes k.0) k.1 in
+      let x = some_of (λ x. LogRests content control h k.0 x h') (slice_get h.nodes k.0) k.1 in
       held_looks h a k.0 x.0 x.2.0 h' held x.1 x.2.1 x.2.3

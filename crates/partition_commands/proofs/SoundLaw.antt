@@ -29,7 +29,7 @@ use Rattle.plain_log.specs.State.{acking, joined, leads_in}
 use Rattle.plain_log.specs.RowsOfLog.{offset_limit}
 use Rattle.plain_log.proofs.Options.{when_some}
 use Rattle.local_log.specs.Run.{lined}
-use Rattle.broker_log.specs.Seen.{Seen, Kept, Up, Down as Closed, Away, WhileUp, Stays, is_up as is_open, end_in, line_in}
+use Rattle.broker_log.specs.Seen.{LogSeen, LogState, Up, Down as Closed, Away, WhileUp, LogStays, is_up as is_open, end_in, line_in}
 use Rattle.laws_partition.specs.declared.start_snapshot.StartSnapshot.{StartSnapshot}
 use Rattle.laws_partition.specs.declared.start_snapshot.Turned.{Turned}
 use Rattle.laws_partition.specs.declared.start_snapshot.Turned.TheVariants.{Answers, Begins}
@@ -38,10 +38,10 @@ use Rattle.laws_partition.proofs.Lines.{last_of_push}
 use Rattle.laws_partition.proofs.RegistryLaw.{Moves, elect_moves, unclean_moves, ack_moves, shrink_moves, expand_moves, raise_moves}
 use Rattle.partition_commands.specs.declared.partition_state.Node.{Node}
 use Rattle.partition_commands.specs.declared.partition_state.PartitionState.{PartitionState}
-use Rattle.partition_commands.specs.Partition.{is_up, end_of, line_of, flushed_end_of, stopped, put_node, AtNode, the_leader, Rests, Fails, Breaks, KeepsPartition, BreaksBy}
-use Rattle.partition_commands.specs.Sound.{NodeSound, SoundPartition}
+use Rattle.partition_commands.specs.Partition.{is_up, end_of, line_of, flushed_end_of, stopped, put_node, AtNode, the_leader, LogRests, NodeReadFails, BreaksNode, KeepsPartition, BreaksBy}
+use Rattle.partition_commands.specs.Sound.{LeaderSound, SoundPartition}
 use Rattle.partition_commands.specs.Turns.{OffsetRow, StopRow, UpRow, AnswerRow, FirstRow, LaterRow, Row}
-use Rattle.partition_commands.specs.TurnsOfLog.{end_with, Gains, AppendRow, RawRow, FlushRow, RollRow, TrimRow, TrimOnRow}
+use Rattle.partition_commands.specs.TurnsOfLog.{end_with, NodeGains, AppendRow, RawRow, FlushRow, RollRow, TrimRow, TrimOnRow}
 use Rattle.partition_commands.specs.TurnsOfFetch.{FetchRow, FetchTurn}
 use Rattle.partition_commands.specs.TurnsOfElections.{Leaves, ElectRow, UncleanRow, LearnRow, AckRow, ShrinkRow, ExpandRow, RaiseRow}
 use Rattle.partition_commands.specs.TurnsOfFollowers.{CutsNode, JoinRow, JoinOnRow, FollowRow, FollowOnRow}
@@ -68,7 +68,7 @@ epoch_up old r m = elim m.epoch [ inl k ↦ (let is = k.epoch in omega (arith, i
 
 module _ {D : Type 0} where
   -- the leader epochs of a log that was up
-  line_while : (k kept : Kept D) (f : List (ℕ × ℕ) → ℕ → List (ℕ × ℕ)) → is_open k ≡ true → WhileUp k (λ log. line_in kept ≡ Some (f log.line log.end))
+  line_while : (k kept : LogState D) (f : List (ℕ × ℕ) → ℕ → List (ℕ × ℕ)) → is_open k ≡ true → WhileUp k (λ log. line_in kept ≡ Some (f log.line log.end))
       → unwrap_or (line_in kept) [] ≡ f (unwrap_or (line_in k) []) (unwrap_or (end_in k) 0)
   line_while (Up l) kept f up is = ap (λ (o : Option (List (ℕ × ℕ))). unwrap_or o []) is
   line_while (Closed i d) kept f up is = absurd cc
@@ -78,20 +78,20 @@ module _ {D : Type 0} where
   pub same : (n : ℕ) (h h' : PartitionState D) → h' ≡ h → SoundPartition n h → SoundPartition n h'
   same n h h' e s = subst (SoundPartition n) (sym e) s
 
-  put_sound : (n : ℕ) (h : PartitionState D) (b : ℕ) (y : Node D) → SoundPartition n h → NodeSound h.registry y → SoundPartition n (put_node h b y)
+  put_sound : (n : ℕ) (h : PartitionState D) (b : ℕ) (y : Node D) → SoundPartition n h → LeaderSound h.registry y → SoundPartition n (put_node h b y)
   put_sound n h b y s k = record {
     count = length-slice_set h.nodes b y ∙ s.count;
     same = s.same;
     epoch = s.epoch;
-    nodes = each-set (NodeSound h.registry) h.nodes b y s.nodes k;
+    nodes = each-set (LeaderSound h.registry) h.nodes b y s.nodes k;
   }
 
   -- a node has
-  pub put_is : (n : ℕ) (h : PartitionState D) (b : ℕ) (y : Node D) (h' : PartitionState D) → h' ≡ put_node h b y → SoundPartition n h → NodeSound h.registry y → SoundPartition n h'
+  pub put_is : (n : ℕ) (h : PartitionState D) (b : ℕ) (y : Node D) (h' : PartitionState D) → h' ≡ put_node h b y → SoundPartition n h → LeaderSound h.registry y → SoundPartition n h'
   put_is n h b y h' e s k = subst (SoundPartition n) (sym e) (put_sound n h b y s k)
 
   -- a node as the registry has moved: its epoch is the next, or the high watermark hasn't fallen
-  moved_node : (old r : Registry) (x : Node D) → old.epoch ≤ r.epoch → MarkStays old r → NodeSound old x → NodeSound r x
+  moved_node : (old r : Registry) (x : Node D) → old.epoch ≤ r.epoch → MarkStays old r → LeaderSound old x → LeaderSound r x
   moved_node old r x later stays s = record {
     up = s.up;
     leads = s.leads;
@@ -125,16 +125,16 @@ module _ {D : Type 0} where
   leaves_sound n h after h' s w moves marks = let r = some_of _ after w in subst (SoundPartition n) (sym r.2) (moved_sound n h r.0 s (moves r.0 r.1) (marks r.0 r.1))
 
   -- a node whose log is up still, with a line that ends with the same epoch
-  line_sound : {r : Registry} (x : Node D) (kept : Kept D) → NodeSound r x → is_open kept ≡ true → ((e : ℕ) → x.role ≡ LeadsIn e → last_epoch (unwrap_or (line_in kept) []) ≡ Some e)
-      → NodeSound r (record x { log = kept })
+  line_sound : {r : Registry} (x : Node D) (kept : LogState D) → LeaderSound r x → is_open kept ≡ true → ((e : ℕ) → x.role ≡ LeadsIn e → last_epoch (unwrap_or (line_in kept) []) ≡ Some e)
+      → LeaderSound r (record x { log = kept })
   line_sound x kept s up line = record { up = λ e is. up; leads = line; fits = s.fits; past = s.past; known_high_watermark = s.known_high_watermark; down = λ down. up_down (is_open kept) up down }
 
   -- a node with another log that leads no more
-  follows_sound : {r : Registry} (x : Node D) → is_up x ≡ true → ((e : ℕ) → x.role ≡ LeadsIn e → ⊥) → NodeSound r x
+  follows_sound : {r : Registry} (x : Node D) → is_up x ≡ true → ((e : ℕ) → x.role ≡ LeadsIn e → ⊥) → LeaderSound r x
   follows_sound x up never = record { up = λ e is. up; leads = λ e is. absurd (never e is); fits = λ e is. absurd (never e is); past = λ e is. absurd (never e is); known_high_watermark = λ e is le. absurd (never e is); down = λ down. up_down (is_up x) up down }
 
   -- a node that has stopped
-  stopped_sound : {r : Registry} (x : Node D) (kept : Kept D) → NodeSound r (record (stopped x) { log = kept })
+  stopped_sound : {r : Registry} (x : Node D) (kept : LogState D) → LeaderSound r (record (stopped x) { log = kept })
   stopped_sound x kept = record {
     up = λ e is. absurd (idle_leads Idle e refl is);
     leads = λ e is. absurd (idle_leads Idle e refl is);
@@ -151,7 +151,7 @@ module _ {D : Type 0} where
 
 module _ {D : Type 0} (content : D → Content) (control : D → Control call_code) where
   -- a log with the leader epochs that it had
-  looks_sound : (n : ℕ) (h : PartitionState D) (b : ℕ) (x : Node D) (kept : Kept D) (h' : PartitionState D) → slice_get h.nodes b ≡ Some x → SoundPartition n h → is_open kept ≡ is_open x.log → line_in kept ≡ line_in x.log
+  looks_sound : (n : ℕ) (h : PartitionState D) (b : ℕ) (x : Node D) (kept : LogState D) (h' : PartitionState D) → slice_get h.nodes b ≡ Some x → SoundPartition n h → is_open kept ≡ is_open x.log → line_in kept ≡ line_in x.log
       → h' ≡ put_node h b (record x { log = kept }) → SoundPartition n h'
   looks_sound n h b x kept h' at s up line is =
       let y = s.nodes b x at in
@@ -165,17 +165,17 @@ module _ {D : Type 0} (content : D → Content) (control : D → Control call_co
       })
 
   -- a log that was asked
-  stays_sound : (n : ℕ) (h : PartitionState D) (b : ℕ) (x : Node D) (kept : Kept D) (h' : PartitionState D) → slice_get h.nodes b ≡ Some x → SoundPartition n h → Stays content x.log kept → h' ≡ put_node h b (record x { log = kept })
+  stays_sound : (n : ℕ) (h : PartitionState D) (b : ℕ) (x : Node D) (kept : LogState D) (h' : PartitionState D) → slice_get h.nodes b ≡ Some x → SoundPartition n h → LogStays content x.log kept → h' ≡ put_node h b (record x { log = kept })
       → SoundPartition n h'
   stays_sound n h b x kept h' at s k is = looks_sound n h b x kept h' at s k.up k.line is
 
-  rests_sound : (n : ℕ) (h : PartitionState D) (b : ℕ) (x : Node D) (h' : PartitionState D) → slice_get h.nodes b ≡ Some x → SoundPartition n h → Rests content control h b x h' → SoundPartition n h'
+  rests_sound : (n : ℕ) (h : PartitionState D) (b : ℕ) (x : Node D) (h' : PartitionState D) → slice_get h.nodes b ≡ Some x → SoundPartition n h → LogRests content control h b x h' → SoundPartition n h'
   rests_sound n h b x h' at s k = stays_sound n h b x k.0 h' at s k.1 k.3
 
-  fails_sound : (n : ℕ) (h : PartitionState D) (b : ℕ) (x : Node D) (h' : PartitionState D) → slice_get h.nodes b ≡ Some x → SoundPartition n h → Fails content control h b x h' → SoundPartition n h'
+  fails_sound : (n : ℕ) (h : PartitionState D) (b : ℕ) (x : Node D) (h' : PartitionState D) → slice_get h.nodes b ≡ Some x → SoundPartition n h → NodeReadFails content control h b x h' → SoundPartition n h'
   fails_sound n h b x h' at s k = stays_sound n h b x k.0 h' at s k.1 k.4
 
-  breaks_sound : (n : ℕ) (h : PartitionState D) (b : ℕ) (x : Node D) (makes : Seen → Seen) (h' : PartitionState D) → SoundPartition n h → Breaks content control h b x makes h' → SoundPartition n h'
+  breaks_sound : (n : ℕ) (h : PartitionState D) (b : ℕ) (x : Node D) (makes : LogSeen → LogSeen) (h' : PartitionState D) → SoundPartition n h → BreaksNode content control h b x makes h' → SoundPartition n h'
   breaks_sound n h b x makes h' s k = put_is n h b _ h' k.after s (stopped_sound x k.kept)
 
   -- append, raw, flush, roll, fetch
@@ -189,7 +189,7 @@ module _ {D : Type 0} (content : D → Content) (control : D → Control call_co
 
   -- a log whose leader puts a batch of its epoch at the end
   gains_sound : (n : ℕ) (h : PartitionState D) (b : ℕ) (x : Node D) (placed : List ℕ) (e : ℕ) (h' : PartitionState D) → slice_get h.nodes b ≡ Some x → SoundPartition n h → is_up x ≡ true → x.role ≡ LeadsIn e → epoch_of placed ≡ e
-      → Gains content control h b x placed h' → SoundPartition n h'
+      → NodeGains content control h b x placed h' → SoundPartition n h'
   gains_sound n h b x placed e h' at s up lead epoch k =
       let kept = k.0 in
       let g = k.3 in
@@ -362,7 +362,7 @@ module _ {D : Type 0} (content : D → Content) (control : D → Control call_co
       (follows_sound (record x { role = JoinedIn e; log = g.kept; known_high_watermark = min x.known_high_watermark m }) (up_of_end content g.kept m g.cuts.end_is) (joined_not e))
 
   -- a write failed, whatever that makes of the log
-  broken_sound : (n : ℕ) (h : PartitionState D) (b : ℕ) (x : Node D) (B : Kept D → Kept D → Type 0) (h' : PartitionState D) → SoundPartition n h → BreaksBy content control h b x B h' → SoundPartition n h'
+  broken_sound : (n : ℕ) (h : PartitionState D) (b : ℕ) (x : Node D) (B : LogState D → LogState D → Type 0) (h' : PartitionState D) → SoundPartition n h → BreaksBy content control h b x B h' → SoundPartition n h'
   broken_sound n h b x B h' s k = put_is n h b (record (stopped x) { log = k.kept }) h' k.after s (stopped_sound x k.kept)
 
   join_sound : (n : ℕ) (h : PartitionState D) (b : ℕ) (x : Node D) (turned : Turned) (h' : PartitionState D) → SoundPartition n h → JoinRow content control h b x turned h' → SoundPartition n h'
@@ -512,4 +512,4 @@ module _ {D : Type 0} (content : D → Content) (control : D → Control call_co
   -- running out of memory
   pub stays_held_sound : (n : ℕ) (h h' : PartitionState D) → SoundPartition n h → KeepsPartition content control h h' → SoundPartition n h'
   stays_held_sound n h h' s (inl is) = same n h h' is s
-  stays_held_sound n h h' s (inr k) = let x = some_of (λ x. Rests content control h k.0 x h') (slice_get h.nodes k.0) k.1 in rests_sound n h k.0 x.0 h' x.1 s x.2
+  stays_held_sound n h h' s (inr k) = let x = some_of (λ x. LogRests content control h k.0 x h') (slice_get h.nodes k.0) k.1 in rests_sound n h k.0 x.0 h' x.1 s x.2

@@ -16,7 +16,7 @@ use Rattle.plain_log.specs.declared.command.Command.TheVariants.{Append, Raw, Fl
 use Rattle.plain_log.specs.declared.command.Which.{Which}
 use Rattle.plain_log.specs.declared.command.Which.TheVariants.{LatestTiered, At}
 use Rattle.plain_log.specs.State.{acking}
-use Rattle.broker_log.specs.Seen.{Kept}
+use Rattle.broker_log.specs.Seen.{LogState}
 use Rattle.broker_log.specs.Seen as log
 use Rattle.laws_partition.specs.declared.start_snapshot.StartSnapshot.{StartSnapshot}
 use Rattle.laws_partition.specs.declared.start_snapshot.Turned.{Turned}
@@ -25,7 +25,7 @@ use Rattle.laws_partition.proofs.BoolTests.{some_of}
 use Rattle.partition_commands.specs.declared.partition_state.Node.{Node}
 use Rattle.partition_commands.specs.declared.partition_state.PartitionState.{PartitionState}
 use Rattle.partition_commands.specs.Stopping.{HaveStopped}
-use Rattle.partition_commands.specs.Partition.{put_node, end_of, flushed_end_of, stopped, the_leader, Fails, Rests, KeepsPartition, Breaks, BreaksBy}
+use Rattle.partition_commands.specs.Partition.{put_node, end_of, flushed_end_of, stopped, the_leader, NodeReadFails, LogRests, KeepsPartition, BreaksNode, BreaksBy}
 use Rattle.partition_commands.specs.Turns.{ClockRow, PackRow, CopyingRow, OffsetRow, StopRow, UpRow, AnswerRow, FirstRow, LaterRow, Row}
 use Rattle.partition_commands.specs.TurnsOfLog.{AppendRow, RawRow, FlushRow, RollRow, TrimRow, TrimOnRow}
 use Rattle.partition_commands.specs.TurnsOfFetch.{FetchRow, FetchTurn}
@@ -76,13 +76,13 @@ module _ {D : Type 0} where
   stays_leaves h after h' w = let r = some_of _ after w in stays_same (record h { registry = r.0 }) h' r.2
 
 module _ {D : Type 0} (content : D → Content) (control : D → Control call_code) where
-  fails_stays : (h : PartitionState D) (b : ℕ) (x : Node D) (h' : PartitionState D) → slice_get h.nodes b ≡ Some x → Fails content control h b x h' → StopsRise h h'
+  fails_stays : (h : PartitionState D) (b : ℕ) (x : Node D) (h' : PartitionState D) → slice_get h.nodes b ≡ Some x → NodeReadFails content control h b x h' → StopsRise h h'
   fails_stays h b x h' at k = rises h h' (stays_put h b x (record x { log = k.0 }) h' at refl k.4)
 
-  breaks_once : (h : PartitionState D) (b : ℕ) (x : Node D) (makes : log.Seen → log.Seen) (h' : PartitionState D) → slice_get h.nodes b ≡ Some x → Breaks content control h b x makes h' → StopsRise h h'
+  breaks_once : (h : PartitionState D) (b : ℕ) (x : Node D) (makes : log.LogSeen → log.LogSeen) (h' : PartitionState D) → slice_get h.nodes b ≡ Some x → BreaksNode content control h b x makes h' → StopsRise h h'
   breaks_once h b x makes h' at k = once_put h b x (record (stopped x) { log = k.kept }) h' at (omega arith) k.after
 
-  broken_once : (h : PartitionState D) (b : ℕ) (x : Node D) (B : Kept D → Kept D → Type 0) (h' : PartitionState D) → slice_get h.nodes b ≡ Some x → BreaksBy content control h b x B h' → StopsRise h h'
+  broken_once : (h : PartitionState D) (b : ℕ) (x : Node D) (B : LogState D → LogState D → Type 0) (h' : PartitionState D) → slice_get h.nodes b ≡ Some x → BreaksBy content control h b x B h' → StopsRise h h'
   broken_once h b x B h' at k = once_put h b x (record (stopped x) { log = k.kept }) h' at (omega arith) k.after
 
   append_stops : (h : PartitionState D) (b : ℕ) (x : Node D) (batch : List ℕ) (answer : Answer) (h' : PartitionState D) → slice_get h.nodes b ≡ Some x → AppendRow content control h b x batch answer h' → StopsRise h h'
@@ -332,5 +332,5 @@ module _ {D : Type 0} (content : D → Content) (control : D → Control call_co
   pub held_stops : (h h' : PartitionState D) → KeepsPartition content control h h' → StopsStay h h'
   held_stops h h' (inl is) = stays_same h h' is
   held_stops h h' (inr k) =
-      let x = some_of (λ x. Rests content control h k.0 x h') (slice_get h.nodes k.0) k.1 in
+      let x = some_of (λ x. LogRests content control h k.0 x h') (slice_get h.nodes k.0) k.1 in
       stays_put h k.0 x.0 (record x.0 { log = x.2.0 }) h' x.1 refl x.2.3

@@ -14,7 +14,7 @@ use Rattle.disk_model.specs.Content.{Content}
 use Rattle.log_steps.specs.Reopens.{Reopens}
 use Rattle.registry.specs.declared.registry.Registry.{Registry}
 use Rattle.plain_log.specs.declared.state.Role.TheVariants.{Idle}
-use Rattle.broker_log.specs.Seen.{Seen, Down, Shows, ShowsClosed, is_up}
+use Rattle.broker_log.specs.Seen.{LogSeen, Down, ShowsSeen, ShowsClosed, is_up}
 use Rattle.laws_partition.specs.Seen as seen
 use Rattle.partition_commands.specs.declared.partition_state.Node.{Node}
 use Rattle.partition_commands.specs.declared.partition_state.PartitionState.{PartitionState}
@@ -35,7 +35,7 @@ module _ {D : Type 0} where
   }
 
 -- a log as it is seen, of a broker that is down and has never stopped
-abbrev pub node_back : Seen → seen.Node
+abbrev pub node_back : LogSeen → seen.Node
 node_back s = record {
   up = false;
   stops = 0;
@@ -50,12 +50,12 @@ node_back s = record {
 }
 
 -- a partition of such brokers
-abbrev pub held_back : Registry → List Seen → seen.SeenPartition
+abbrev pub held_back : Registry → List LogSeen → seen.SeenPartition
 held_back registry ss = record { registry = registry; nodes = map node_back ss; clock = pos 0 }
 
 module _ {D : Type 0} (content : D → Content) where
   -- the logs on these disks, which are closed, are seen so
-  abbrev pub ShowDisks : List D → List Seen → Type 0
+  abbrev pub ShowDisks : List D → List LogSeen → Type 0
   ShowDisks [] [] = Unit {0}
   ShowDisks (disk ∷ disks) (s ∷ ss) = ShowsClosed content disk s × ShowDisks disks ss
   ShowDisks [] (s ∷ ss) = ⊥
@@ -64,7 +64,7 @@ module _ {D : Type 0} (content : D → Content) where
   -- from the disks of brokers that are up, or whose logs are seen, a log can be opened again, also after a power cut
   abbrev pub DisksReopen : List (Node D) → List D → Type 0
   DisksReopen nodes disks = (b : ℕ) (x : Node D) (disk : D) → slice_get nodes b ≡ Some x → slice_get disks b ≡ Some disk
-      → IsTrue (is_up x.log) ⊎ ((s : Seen) × Shows content x.log s) → Reopens (content disk)
+      → IsTrue (is_up x.log) ⊎ ((s : LogSeen) × ShowsSeen content x.log s) → Reopens (content disk)
 
 module _ {D : Type 0} (content : D → Content) (control : D → Control call_code) where
   -- a broker that is down and has never stopped, over a disk whose plan is in force, and whose log is seen as it was
@@ -72,7 +72,7 @@ module _ {D : Type 0} (content : D → Content) (control : D → Control call_co
     pub now : D
     pub node : x ≡ cold_node settings now
     pub arms : Arms (control disk) (control now)
-    pub seen : (s : Seen) → ShowsClosed content disk s → ShowsClosed content now s
+    pub seen : (s : LogSeen) → ShowsClosed content disk s → ShowsClosed content now s
 
   abbrev pub AreColdOver : Settings → List D → List (Node D) → Type 0
   AreColdOver settings [] [] = Unit {0}

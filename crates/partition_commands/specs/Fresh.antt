@@ -10,7 +10,7 @@ use Rattle.disk_model.specs.Content.{Content}
 use Rattle.registry.specs.Registry.{fresh_registry}
 use Rattle.plain_log.specs.declared.state.Role.{Role}
 use Rattle.plain_log.specs.declared.state.Role.TheVariants.{Leads, Joined}
-use Rattle.broker_log.specs.Seen.{Seen, Shows, OnDisk, end_in, flushed_end_in, line_in, layout_in}
+use Rattle.broker_log.specs.Seen.{LogSeen, ShowsSeen, OnDisk, end_in, flushed_end_in, line_in, layout_in}
 use Rattle.broker_log.specs.Turns.{first_layout}
 use Rattle.partition_commands.specs.declared.partition_state.Node.{Node}
 use Rattle.partition_commands.specs.declared.partition_state.PartitionState.{PartitionState}
@@ -24,13 +24,13 @@ DisksTell content [] = Unit {0}
 DisksTell content (disk ∷ disks) = IsTrue (content disk).is_observable × DisksTell content disks
 
 -- an empty log with these leader epochs, as it is seen
-abbrev pub empty_seen : List (ℕ × ℕ) → Seen
+abbrev pub empty_seen : List (ℕ × ℕ) → LogSeen
 empty_seen line = record { batches = []; line = line; flushed_end = 0; saved = line; local = 0; loose = None; incarnation = 1 }
 
 -- the brokers' logs are seen, and empty
 abbrev pub AllSeen : {D : Type 0} → (D → Content) → List (Node D) → Type 0
 AllSeen content [] = Unit {0}
-AllSeen content (x ∷ xs) = Shows content x.log (empty_seen (line_of x)) × AllSeen content xs
+AllSeen content (x ∷ xs) = ShowsSeen content x.log (empty_seen (line_of x)) × AllSeen content xs
 
 module _ {D : Type 0} (content : D → Content) (control : D → Control call_code) where
   -- a disk without files, whose plan isn't in force yet, and whose calls aren't counted
@@ -75,12 +75,12 @@ module _ {D : Type 0} where
     pub line_is : line_in x.log ≡ Some (fresh_line leads)
 
   -- a node's log has these settings, and one segment, which is open and empty
-  abbrev pub IsLaid : Settings → Node D → Type 0
-  IsLaid settings x = layout_in x.log ≡ Some (first_layout settings)
+  abbrev pub IsNodeLaid : Settings → Node D → Type 0
+  IsNodeLaid settings x = layout_in x.log ≡ Some (first_layout settings)
 
-  abbrev pub AreLaid : Settings → List (Node D) → Type 0
-  AreLaid settings [] = Unit {0}
-  AreLaid settings (x ∷ xs) = IsLaid settings x × AreLaid settings xs
+  abbrev pub AreNodesLaid : Settings → List (Node D) → Type 0
+  AreNodesLaid settings [] = Unit {0}
+  AreNodesLaid settings (x ∷ xs) = IsNodeLaid settings x × AreNodesLaid settings xs
 
   -- no node comes before
   abbrev pub is_first : List (Node D) → Bool
@@ -123,7 +123,7 @@ module _ {D : Type 0} (control : D → Control call_code) where
     pub node : Node D
     pub after : new ≡ xs ++ node ∷ []
     pub made : IsMadeOver (is_first xs) disk node
-    pub seen : IsTrue (content disk).is_observable → Shows content node.log (empty_seen (line_of node))
+    pub seen : IsTrue (content disk).is_observable → ShowsSeen content node.log (empty_seen (line_of node))
 
   -- a refusal over this disk, which is back: a fault is reported only where its count of faults has risen
   pub record RefusesOver (disk now : D) (why : WorldRefusal) : Type 0 where
@@ -143,7 +143,7 @@ module _ {D : Type 0} (control : D → Control call_code) where
   OneFailed disks nows = ⊥
 
   -- a refusal: the disks are back, and a fault is reported only where the count of faults of one of them has risen
-  pub record Refuses (disks nows : List D) (why : WorldRefusal) : Type 0 where
+  pub record RefusesDisks (disks nows : List D) (why : WorldRefusal) : Type 0 where
     pub back : ComeBack disks nows
     pub cause : why ≡ DiskFault → OneFailed disks nows
 

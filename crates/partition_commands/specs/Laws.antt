@@ -23,7 +23,7 @@ use Rattle.partition_commands.specs.Turns.{Row}
 module _ {D : Type 0} (content : D → Content) (control : D → Control call_code) where
   -- over observable disks each row is one of the partition as it is seen
   abbrev pub RowsAreSeen : Type 0
-  RowsAreSeen = (h : PartitionState D) (a : seen.SeenPartition) (b : ℕ) (x : Node D) (s : log.Seen) (snapshot : Option StartSnapshot) (command : Command)
+  RowsAreSeen = (h : PartitionState D) (a : seen.SeenPartition) (b : ℕ) (x : Node D) (s : log.LogSeen) (snapshot : Option StartSnapshot) (command : Command)
       (turned : Turned) (h' : PartitionState D) → Sees content h a b x s → Knows a (node_of x s)
       → ((g : StartSnapshot) → snapshot ≡ Some g → KnowsSnapshot a (node_of x s) command g)
       → Row content control h b x snapshot command turned h'

@@ -14,7 +14,7 @@ use Rattle.local_log.specs.Reading.{segment_at, is_edge}
 use Rattle.registry.specs.Calls.{when}
 use Rattle.plain_log.specs.declared.state.Role.TheVariants.{Idle}
 use Rattle.plain_log.specs.State.{leads_in}
-use Rattle.broker_log.specs.Seen.{Kept, Shows, Stays, WhileUp, OnDisk, Lasting, OneFault, Quiet, is_up as is_open, end_in, flushed_end_in, line_in, local_in}
+use Rattle.broker_log.specs.Seen.{LogState, ShowsSeen, LogStays, WhileUp, OnDisk, Lasting, OneFault, Quiet, is_up as is_open, end_in, flushed_end_in, line_in, local_in}
 use Rattle.broker_log.specs.Turns.{Misreads}
 use Rattle.broker_log.specs.Seen as log
 use Rattle.broker_log.specs.Turns as turns
@@ -65,7 +65,7 @@ module _ {D : Type 0} where
   stopped x = record x { stops = x.stops + 1; role = Idle; known_high_watermark = 0 }
 
   -- the node as it is seen, with its log
-  abbrev pub node_of : Node D → log.Seen → seen.Node
+  abbrev pub node_of : Node D → log.LogSeen → seen.Node
   node_of x s = record {
     up = is_up x;
     stops = x.stops;
@@ -82,7 +82,7 @@ module _ {D : Type 0} where
 module _ {D : Type 0} (content : D → Content) where
   -- a node is seen so
   abbrev pub ShowsNode : Node D → seen.Node → Type 0
-  ShowsNode x y = (s : log.Seen) × Shows content x.log s × (y ≡ node_of x s)
+  ShowsNode x y = (s : log.LogSeen) × ShowsSeen content x.log s × (y ≡ node_of x s)
 
   abbrev pub ShowNodes : List (Node D) → List seen.Node → Type 0
   ShowNodes [] [] = Unit {0}
@@ -98,45 +98,46 @@ module _ {D : Type 0} (content : D → Content) where
 
 module _ {D : Type 0} (control : D → Control call_code) where
   -- where a batch of the log ends at the high watermark, its disk was read once in this call, and returned something
-  abbrev pub HasRead : Kept D → Kept D → ℕ → Type 0
-  HasRead old kept mark = WhileUp old (λ log. is_edge (segment_at log mark) mark ≡ true
+  abbrev pub HasReadAtMark : LogState D → LogState D → ℕ → Type 0
+  HasReadAtMark old kept mark = WhileUp old (λ log. is_edge (segment_at log mark) mark ≡ true
       → OnDisk old (λ d. OnDisk kept (λ e. Ran Read Went (control d) (control e))))
 
 module _ {D : Type 0} (content : D → Content) (control : D → Control call_code) where
   -- a broker's log is as it was, whatever its disk was asked, and no call of the disk failed
-  abbrev pub Rests : PartitionState D → ℕ → Node D → PartitionState D → Type 0
-  Rests h b x h' = (kept : Kept D) × Stays content x.log kept × Quiet control x.log kept × (h' ≡ put_node h b (record x { log = kept }))
+  abbrev pub LogRests : PartitionState D → ℕ → Node D → PartitionState D → Type 0
+  LogRests h b x h' = (kept : LogState D) × LogStays content x.log kept × Quiet control x.log kept × (h' ≡ put_node h b (record x { log = kept }))
 
   -- a broker's disk failed in a read, and the log is as it was
-  abbrev pub Fails : PartitionState D → ℕ → Node D → PartitionState D → Type 0
-  Fails h b x h' = (kept : Kept D) × Stays content x.log kept × Lasting control x.log kept × OneFault control x.log kept
+  abbrev pub NodeReadFails : PartitionState D → ℕ → Node D → PartitionState D → Type 0
+  NodeReadFails h b x h' =
+      (kept : LogState D) × LogStays content x.log kept × Lasting control x.log kept × OneFault control x.log kept
       × (h' ≡ put_node h b (record x { log = kept }))
 
   -- a read of a broker's log found damage there, and the log is as it was
-  pub record FindsDamage (h : PartitionState D) (b : ℕ) (x : Node D) (offset limit mark : ℕ) (name : FileName) (at : ℕ) (h' : PartitionState D) : Type 0 where
-    pub kept : Kept D
+  pub record NodeHasDamage (h : PartitionState D) (b : ℕ) (x : Node D) (offset limit mark : ℕ) (name : FileName) (at : ℕ) (h' : PartitionState D) : Type 0 where
+    pub kept : LogState D
     pub misreads : Misreads content control x.log kept offset limit mark name at
-    pub ran : HasRead control x.log kept mark
+    pub ran : HasReadAtMark control x.log kept mark
     pub quiet : Quiet control x.log kept
     pub after : h' ≡ put_node h b (record x { log = kept })
 
   -- nothing that is seen has changed, and no call of a disk failed
   abbrev pub KeepsPartition : PartitionState D → PartitionState D → Type 0
-  KeepsPartition h h' = (h' ≡ h) ⊎ ((b : ℕ) × AtNode h b (λ x. Rests h b x h'))
+  KeepsPartition h h' = (h' ≡ h) ⊎ ((b : ℕ) × AtNode h b (λ x. LogRests h b x h'))
 
   -- a broker's disk failed in a write, and the broker has stopped: this holds of its log of before and after
-  pub record BreaksBy (h : PartitionState D) (b : ℕ) (x : Node D) (B : Kept D → Kept D → Type 0)
+  pub record BreaksBy (h : PartitionState D) (b : ℕ) (x : Node D) (B : LogState D → LogState D → Type 0)
       (h' : PartitionState D) : Type 0 where
-    pub kept : Kept D
+    pub kept : LogState D
     pub breaks : B x.log kept
     pub cause : OneFault control x.log kept
     pub lasts : Lasting control x.log kept
     pub after : h' ≡ put_node h b (record (stopped x) { log = kept })
 
   -- a broker's disk failed in a write, which makes this of its log, and the broker has stopped
-  pub record Breaks (h : PartitionState D) (b : ℕ) (x : Node D) (makes : log.Seen → log.Seen)
+  pub record BreaksNode (h : PartitionState D) (b : ℕ) (x : Node D) (makes : log.LogSeen → log.LogSeen)
       (h' : PartitionState D) : Type 0 where
-    pub kept : Kept D
+    pub kept : LogState D
     pub breaks : turns.Breaks content x.log kept makes
     pub cause : OneFault control x.log kept
     pub lasts : Lasting control x.log kept

@@ -11,7 +11,7 @@ use Rattle.log_terms.specs.Log.{EndsAt, end_of, end_from, up_to}
 use Rattle.record_batch.specs.Check.{checked}
 use Rattle.plain_log.specs.declared.command.Command.{Command}
 use Rattle.plain_log.specs.declared.command.Command.TheVariants.{Follow, Join, Trim}
-use Rattle.broker_log.specs.Seen.{Shows}
+use Rattle.broker_log.specs.Seen.{ShowsSeen}
 use Rattle.broker_log.specs.Seen as log
 use Rattle.broker_log.specs.Turns.{LeadsTo}
 use Rattle.laws_partition.specs.declared.start_snapshot.StartSnapshot.{StartSnapshot}
@@ -26,11 +26,11 @@ use Rattle.partition_commands.specs.Partition.{node_of, ShowsPartition}
 
 module _ {D : Type 0} (content : D → Content) where
   -- a node of a partition whose disks are observable, and how both are seen
-  pub record Sees (h : PartitionState D) (a : seen.SeenPartition) (b : ℕ) (x : Node D) (s : log.Seen) : Type 0 where
+  pub record Sees (h : PartitionState D) (a : seen.SeenPartition) (b : ℕ) (x : Node D) (s : log.LogSeen) : Type 0 where
     pub held : ShowsPartition content h a
     pub at : slice_get h.nodes b ≡ Some x
     pub there : slice_get a.nodes b ≡ Some (node_of x s)
-    pub shows : Shows content x.log s
+    pub shows : ShowsSeen content x.log s
 
   -- the partition after a turn is seen so that this holds
   pub record Refines (h' : PartitionState D) (R : seen.SeenPartition → Type 0) : Type 0 where
@@ -52,7 +52,7 @@ abbrev pub StaysUp : seen.Node → StartSnapshot → Type 0
 StaysUp y g = g.stops ≡ y.stops → y.up ≡ true
 
 -- what is known of a follow that continues: what it keeps are batches of one epoch
-pub record IsKept (y : seen.Node) (g : StartSnapshot) : Type 0 where
+pub record IsFollowSnapshot (y : seen.Node) (g : StartSnapshot) : Type 0 where
   pub recorded : StaysUp y g
   pub are : All (λ (batch : List ℕ). IsOk (checked batch)) g.batches
   pub epochs : All (λ batch. Some (epoch_of batch) ≡ epoch_in g.batches) g.batches
@@ -73,7 +73,7 @@ pub record IsRebuilding (a : seen.SeenPartition) (y : seen.Node) (g : StartSnaps
 
 -- what is known of what an actor's state has
 abbrev pub KnowsSnapshot : seen.SeenPartition → seen.Node → Command → StartSnapshot → Type 0
-KnowsSnapshot a y (Follow limit) g = IsKept y g
+KnowsSnapshot a y (Follow limit) g = IsFollowSnapshot y g
 KnowsSnapshot a y Join g = IsRebuilding a y g
 KnowsSnapshot a y Trim g = StaysUp y g
 KnowsSnapshot a y other g = Unit {0}

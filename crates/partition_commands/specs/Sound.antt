@@ -10,7 +10,7 @@ use Rattle.partition_commands.specs.Partition.{is_up, line_of}
 module _ {D : Type 0} where
   -- a leader is up, and its leader epochs end with its epoch, which isn't above the registry's; that of the registry's
   -- epoch knows no high watermark above the registry's; a node that is down is idle and knows none
-  pub record NodeSound (r : Registry) (x : Node D) : Type 0 where
+  pub record LeaderSound (r : Registry) (x : Node D) : Type 0 where
     pub up : (e : ℕ) → x.role ≡ Leads e → is_up x ≡ true
     pub leads : (e : ℕ) → x.role ≡ Leads e → last_epoch (line_of x) ≡ Some e
     pub fits : (e : ℕ) → x.role ≡ Leads e → e < 2 ^ 31
@@ -23,4 +23,4 @@ module _ {D : Type 0} where
     pub count : length h.nodes ≡ brokers
     pub same : length h.registry.replicas ≡ brokers
     pub epoch : h.registry.epoch < 2 ^ 31
-    pub nodes : (b : ℕ) (x : Node D) → slice_get h.nodes b ≡ Some x → NodeSound h.registry x
+    pub nodes : (b : ℕ) (x : Node D) → slice_get h.nodes b ≡ Some x → LeaderSound h.registry x

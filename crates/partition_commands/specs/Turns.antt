@@ -18,14 +18,14 @@ use Rattle.plain_log.specs.declared.command.Which.{Which}
 use Rattle.plain_log.specs.declared.command.Which.TheVariants.{Earliest, Latest, EarliestLocal, LatestTiered, At}
 use Rattle.plain_log.specs.State.{leads}
 use Rattle.plain_log.specs.RowsOfReads.{is_long}
-use Rattle.broker_log.specs.Seen.{Kept, Quiet}
-use Rattle.broker_log.specs.Turns.{Stops, ComesUp, Unopened, IsSpent}
+use Rattle.broker_log.specs.Seen.{LogState, Quiet}
+use Rattle.broker_log.specs.Turns.{StopsBroker, ComesUp, Unopened, IsSpent}
 use Rattle.laws_partition.specs.declared.start_snapshot.StartSnapshot.{StartSnapshot}
 use Rattle.laws_partition.specs.declared.start_snapshot.Turned.{Turned}
 use Rattle.laws_partition.specs.declared.start_snapshot.Turned.TheVariants.{Answers, Begins}
 use Rattle.partition_commands.specs.declared.partition_state.Node.{Node}
 use Rattle.partition_commands.specs.declared.partition_state.PartitionState.{PartitionState}
-use Rattle.partition_commands.specs.Partition.{is_up, local_of, stopped, put_node, Fails}
+use Rattle.partition_commands.specs.Partition.{is_up, local_of, stopped, put_node, NodeReadFails}
 use Rattle.partition_commands.specs.TurnsOfLog.{AppendRow, RawRow, FlushRow, RollRow, TrimRow, TrimOnRow}
 use Rattle.partition_commands.specs.TurnsOfFetch.{FetchTurn}
 use Rattle.partition_commands.specs.TurnsOfElections.{ElectRow, UncleanRow, LearnRow, AckRow, ShrinkRow, ExpandRow, RaiseRow}
@@ -99,19 +99,21 @@ module _ {D : Type 0} (content : D → Content) (control : D → Control call_co
   -- stop
   abbrev pub StopRow : PartitionState D → ℕ → Node D → Answer → PartitionState D → Type 0
   StopRow h b x Down h' = (is_up x ≡ false) × (h' ≡ h)
-  StopRow h b x Ok h' = (is_up x ≡ true) × ((kept : Kept D) × Stops content x.log kept × Quiet control x.log kept
+  StopRow h b x Ok h' =
+      (is_up x ≡ true) × ((kept : LogState D) × StopsBroker content x.log kept × Quiet control x.log kept
       × (h' ≡ put_node h b (record (stopped x) { log = kept })))
   StopRow h b x other h' = ⊥
 
   -- up: what wasn't flushed is gone; after a write that failed, what it was to make durable may be there
   abbrev pub UpRow : PartitionState D → ℕ → Node D → Answer → PartitionState D → Type 0
   UpRow h b x IsUp h' = (is_up x ≡ true) × (h' ≡ h)
-  UpRow h b x (Up n) h' = (is_up x ≡ false) × ((kept : Kept D) × ComesUp content x.log kept n × Quiet control x.log kept
+  UpRow h b x (Up n) h' =
+      (is_up x ≡ false) × ((kept : LogState D) × ComesUp content x.log kept n × Quiet control x.log kept
       × (h' ≡ put_node h b (record x { log = kept })))
-  UpRow h b x DiskFault h' = (is_up x ≡ false) × Fails content control h b x h'
-  UpRow h b x (Damaged (File name) at) h' = (is_up x ≡ false) × ((kept : Kept D) × Unopened content control x.log kept name at
+  UpRow h b x DiskFault h' = (is_up x ≡ false) × NodeReadFails content control h b x h'
+  UpRow h b x (Damaged (File name) at) h' = (is_up x ≡ false) × ((kept : LogState D) × Unopened content control x.log kept name at
       × Quiet control x.log kept × (h' ≡ put_node h b (record x { log = kept })))
-  UpRow h b x LastIncarnation h' = (is_up x ≡ false) × ((kept : Kept D) × IsSpent content control x.log kept
+  UpRow h b x LastIncarnation h' = (is_up x ≡ false) × ((kept : LogState D) × IsSpent content control x.log kept
       × Quiet control x.log kept × (h' ≡ put_node h b (record x { log = kept })))
   UpRow h b x other h' = ⊥
 

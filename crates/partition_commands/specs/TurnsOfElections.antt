@@ -17,11 +17,11 @@ use Rattle.plain_log.specs.declared.answer.Answer.{Answer}
 use Rattle.plain_log.specs.declared.answer.Answer.TheVariants.{Ok, OkAt, Down, NotLeader, DiskFault, LastEpoch, NotInSync, DownBroker, BehindStart, Known, Follows, NeedsElection, Leads, NotJoined, StaleEpoch, IsLeader, Behind, NotAbove, AboveMark}
 use Rattle.plain_log.specs.declared.state.Role.TheVariants.{Leads as LeadsIn, Follows as FollowsIn}
 use Rattle.plain_log.specs.State.{leads, acking, epoch_in}
-use Rattle.broker_log.specs.Seen.{Kept, WhileUp, Quiet}
+use Rattle.broker_log.specs.Seen.{LogState, WhileUp, Quiet}
 use Rattle.broker_log.specs.Turns.{Settles, loosened}
 use Rattle.partition_commands.specs.declared.partition_state.Node.{Node}
 use Rattle.partition_commands.specs.declared.partition_state.PartitionState.{PartitionState}
-use Rattle.partition_commands.specs.Partition.{is_up, end_of, flushed_end_of, line_of, put_node, Breaks}
+use Rattle.partition_commands.specs.Partition.{is_up, end_of, flushed_end_of, line_of, put_node, BreaksNode}
 
 module _ {D : Type 0} where
   -- the registry is left so, and nothing else changes
@@ -108,7 +108,7 @@ module _ {D : Type 0} (content : D → Content) (control : D → Control call_co
   -- the node leads this epoch: its leader epochs have it from the log's end on, and all of its log is flushed; it knows
   -- the high watermark, as far as its log goes
   pub record Leading (h : PartitionState D) (b : ℕ) (x : Node D) (epoch : ℕ) (h' : PartitionState D) : Type 0 where
-    pub kept : Kept D
+    pub kept : LogState D
     pub end : ℕ
     pub settles : Settles content x.log kept (λ line end. assign line epoch end) end
     pub quiet : Quiet control x.log kept
@@ -122,7 +122,7 @@ module _ {D : Type 0} (content : D → Content) (control : D → Control call_co
   -- an epoch that the node's line doesn't have
   abbrev pub LeadRow : PartitionState D → ℕ → Node D → ℕ → Answer → PartitionState D → Type 0
   LeadRow h b x epoch (Leads n) h' = (n ≡ epoch) × Leading h b x epoch h'
-  LeadRow h b x epoch DiskFault h' = Breaks content control h b x
+  LeadRow h b x epoch DiskFault h' = BreaksNode content control h b x
       (λ s. loosened s (end_of_log s.batches, assign s.line epoch (end_of_log s.batches), s.local)) h'
   LeadRow h b x epoch other h' = ⊥
 

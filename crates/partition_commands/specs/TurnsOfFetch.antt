@@ -12,11 +12,11 @@ use Rattle.plain_log.specs.declared.answer.Tier.{Tier}
 use Rattle.plain_log.specs.declared.answer.Tier.TheVariants.{Local}
 use Rattle.tier_base.specs.declared.plain.Stop.{Stop}
 use Rattle.plain_log.specs.State.{leads}
-use Rattle.broker_log.specs.Seen.{Kept, Quiet}
-use Rattle.broker_log.specs.Turns.{Reads}
+use Rattle.broker_log.specs.Seen.{LogState, Quiet}
+use Rattle.broker_log.specs.Turns.{ReadsRun}
 use Rattle.partition_commands.specs.declared.partition_state.Node.{Node}
 use Rattle.partition_commands.specs.declared.partition_state.PartitionState.{PartitionState}
-use Rattle.partition_commands.specs.Partition.{is_up, end_of, local_of, put_node, Fails, FindsDamage}
+use Rattle.partition_commands.specs.Partition.{is_up, end_of, local_of, put_node, NodeReadFails, NodeHasDamage}
 use Rattle.partition_commands.specs.TurnsOfLog.{IsInLog, Notes}
 use Rattle.laws_partition.specs.declared.start_snapshot.Turned.{Turned}
 use Rattle.laws_partition.specs.declared.start_snapshot.Turned.TheVariants.{Answers, Begins}
@@ -34,9 +34,9 @@ module _ {D : Type 0} where
 module _ {D : Type 0} (content : D → Content) (control : D → Control call_code) where
   -- the bytes are those of a run that was read at the offset
   pub record GivesRun (h : PartitionState D) (b : ℕ) (x : Node D) (offset limit : ℕ) (tier : Tier) (size : ℕ) (stop : Stop) (bytes : List ℕ) (h' : PartitionState D) : Type 0 where
-    pub kept : Kept D
+    pub kept : LogState D
     pub out : RunOut
-    pub reads : Reads content control x.log kept offset limit x.known_high_watermark out
+    pub reads : ReadsRun content control x.log kept offset limit x.known_high_watermark out
     pub quiet : Quiet control x.log kept
     pub after : h' ≡ put_node h b (record x { log = kept })
     pub tier_is : tier ≡ Local out.base
@@ -47,8 +47,8 @@ module _ {D : Type 0} (content : D → Content) (control : D → Control call_co
   -- what is read for it
   abbrev pub GiveRow : PartitionState D → ℕ → Node D → ℕ → ℕ → Answer → PartitionState D → Type 0
   GiveRow h b x offset limit (Run tier size stop bytes) h' = GivesRun h b x offset limit tier size stop bytes h'
-  GiveRow h b x offset limit DiskFault h' = Fails content control h b x h'
-  GiveRow h b x offset limit (Damaged (File name) at) h' = FindsDamage content control h b x offset limit x.known_high_watermark name at h'
+  GiveRow h b x offset limit DiskFault h' = NodeReadFails content control h b x h'
+  GiveRow h b x offset limit (Damaged (File name) at) h' = NodeHasDamage content control h b x offset limit x.known_high_watermark name at h'
   GiveRow h b x offset limit other h' = ⊥
 
   -- fetch: nothing that is seen changes
@@ -65,10 +65,10 @@ module _ {D : Type 0} (content : D → Content) (control : D → Control call_co
       × GivesRun h b x offset limit tier size stop bytes h'
   FetchRow h b x offset limit DiskFault h' =
       (is_up x ≡ true) × (leads x.role ≡ true) × IsLocal h x offset × (offset < x.known_high_watermark)
-      × Fails content control h b x h'
+      × NodeReadFails content control h b x h'
   FetchRow h b x offset limit (Damaged (File name) at) h' =
       (is_up x ≡ true) × (leads x.role ≡ true) × IsLocal h x offset × (offset < x.known_high_watermark)
-      × FindsDamage content control h b x offset limit x.known_high_watermark name at h'
+      × NodeHasDamage content control h b x offset limit x.known_high_watermark name at h'
   FetchRow h b x offset limit other h' = ⊥
 
   -- fetch, first turn: below the local log it continues with a later one

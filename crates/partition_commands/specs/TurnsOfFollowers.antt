@@ -11,15 +11,15 @@ use Rattle.log_terms.specs.Batch.{last_of}
 use Rattle.log_terms.specs.Log.{joined as joined_bytes}
 use Rattle.epoch_line.specs.Line.{cut_end}
 use Rattle.epoch_line.specs.Meet.{IsMeetBelow}
-use Rattle.local_log.specs.Run.{IsRun}
+use Rattle.local_log.specs.Run.{IsRunFor}
 use Rattle.local_log.specs.declared.reading.RunOut.{RunOut}
 use Rattle.plain_log.specs.declared.answer.Answer.{Answer}
 use Rattle.plain_log.specs.declared.answer.Answer.TheVariants.{Down, NotFollower, StaleEpoch, NoLeader, Cut, NotJoined, Level, Moved, Stopped, Passed, BelowStart, Rebuilt, Copied, TooManySegments, DiskFault, DiskFaultAt, Damaged}
 use Rattle.plain_log.specs.declared.answer.Place.TheVariants.{File}
 use Rattle.plain_log.specs.declared.state.Role.TheVariants.{Joined}
 use Rattle.plain_log.specs.State.{followed, joined}
-use Rattle.broker_log.specs.Seen.{Kept, WhileUp, Quiet}
-use Rattle.broker_log.specs.Turns.{Appends, Cuts, Reads, IsEndUpTo, BreaksIf, Restarts, RestartBreaks, cut_back, torn}
+use Rattle.broker_log.specs.Seen.{LogState, WhileUp, Quiet}
+use Rattle.broker_log.specs.Turns.{Appends, CutsLog, ReadsRun, IsEndUpTo, BreaksIf, Restarts, RestartBreaks, cut_back, torn}
 use Rattle.broker_log.specs.Turns as turns
 use Rattle.laws_partition.specs.declared.start_snapshot.StartSnapshot.{StartSnapshot}
 use Rattle.laws_partition.specs.declared.start_snapshot.Turned.{Turned}
@@ -27,7 +27,7 @@ use Rattle.laws_partition.specs.declared.start_snapshot.Turned.TheVariants.{Answ
 use Rattle.partition_commands.specs.declared.partition_state.Node.{Node}
 use Rattle.partition_commands.specs.declared.partition_state.PartitionState.{PartitionState}
 use Rattle.laws_partition.specs.Taken.{parts}
-use Rattle.partition_commands.specs.Partition.{is_up, end_of, line_of, local_of, put_node, the_leader, IsFull, Fails, FindsDamage, BreaksBy}
+use Rattle.partition_commands.specs.Partition.{is_up, end_of, line_of, local_of, put_node, the_leader, IsFull, NodeReadFails, NodeHasDamage, BreaksBy}
 use Rattle.partition_commands.specs.TurnsOfLog.{BreaksUnsaved}
 
 module _ {D : Type 0} where
@@ -47,7 +47,7 @@ module _ {D : Type 0} where
   pub record CanExtend (x : Node D) (g : StartSnapshot) : Type 0 where
     pub end : g.end ≡ end_of x
     pub joined : IsSome (joined x.role)
-    pub run : IsRun (end_of x) (line_of x) (joined_bytes g.batches)
+    pub run : IsRunFor (end_of x) (line_of x) (joined_bytes g.batches)
     pub low : last_of (joined_bytes g.batches) < 2 ^ 62
 
   -- the broker is up, its log ends at the bound, and past the end of a follower's, which lies in its local log
@@ -55,12 +55,12 @@ module _ {D : Type 0} where
   MayTake y end bound = (is_up y ≡ true) × (bound ≡ end_of y) × (end < bound) × (local_of y ≤ end)
 
   -- the broker is up, and its log may be cut there
-  abbrev pub MayCut : Node D → ℕ → Type 0
-  MayCut x met = WhileUp x.log (λ log. met ≤ log.end)
+  abbrev pub MayCutNode : Node D → ℕ → Type 0
+  MayCutNode x met = WhileUp x.log (λ log. met ≤ log.end)
 
   -- the broker is up, and the run may be at the end of its log
   abbrev pub MayExtend : Node D → List ℕ → Type 0
-  MayExtend x run = WhileUp x.log (λ log. IsRun log.end log.line run)
+  MayExtend x run = WhileUp x.log (λ log. IsRunFor log.end log.line run)
 
   -- a later turn continues: no stop, and no newer epoch
   abbrev pub GoesOn : PartitionState D → Node D → StartSnapshot → Type 0
@@ -79,8 +79,8 @@ module _ {D : Type 0} (content : D → Content) (control : D → Control call_co
   -- the node's log is cut to where it meets another's, or to the last batch's end before it
   pub record CutsNode (h : PartitionState D) (b : ℕ) (x : Node D) (epoch met n : ℕ)
       (h' : PartitionState D) : Type 0 where
-    pub kept : Kept D
-    pub cuts : Cuts content x.log kept met n
+    pub kept : LogState D
+    pub cuts : CutsLog content x.log kept met n
     pub quiet : Quiet control x.log kept
     pub after : h' ≡ put_node h b (record x {
       role =
@@ -93,7 +93,7 @@ module _ {D : Type 0} (content : D → Content) (control : D → Control call_co
   abbrev pub CutRow : PartitionState D → ℕ → Node D → ℕ → ℕ → Answer → PartitionState D → Type 0
   CutRow h b x epoch met (Cut n) h' = CutsNode h b x epoch met n h'
   CutRow h b x epoch met (DiskFaultAt n) h' = IsEndUpTo content x.log met n
-      × BreaksBy content control h b x (λ old new. BreaksIf content old new (turns.MayCut met) (λ s. torn s (cut_back s met))) h'
+      × BreaksBy content control h b x (λ old new. BreaksIf content old new (turns.MayCutLog met) (λ s. torn s (cut_back s met))) h'
   CutRow h b x epoch met other h' = ⊥
 
   -- what a join's actor's state has after its first turn, where the logs meet below the leader's local log
@@ -124,7 +124,7 @@ module _ {D : Type 0} (content : D → Content) (control : D → Control call_co
   -- the local log is restarted at the wanted point
   pub record RestartsNode (h : PartitionState D) (b : ℕ) (x : Node D) (n : ℕ) (line : List (ℕ × ℕ))
       (h' : PartitionState D) : Type 0 where
-    pub kept : Kept D
+    pub kept : LogState D
     pub restarts : Restarts content x.log kept n line
     pub quiet : Quiet control x.log kept
     pub after : h' ≡ put_node h b (record x { log = kept })
@@ -148,18 +148,18 @@ module _ {D : Type 0} (content : D → Content) (control : D → Control call_co
     pub role : g.role ≡ x.role
     pub end : g.end ≡ end_of x
     pub start : g.start ≡ h.registry.start
-    pub kept : Kept D
+    pub kept : LogState D
     pub out : RunOut
-    pub reads : Reads content control y.log kept g.end limit (end_of y) out
+    pub reads : ReadsRun content control y.log kept g.end limit (end_of y) out
     pub quiet : Quiet control y.log kept
     pub batches : g.batches ≡ parts out.bytes
     pub after : h' ≡ put_node h h.registry.leader.0 (record y { log = kept })
 
   -- a run of the leader's log beside what was recorded
   pub record TakesRun (h : PartitionState D) (l : ℕ) (y : Node D) (recorded : StartSnapshot) (limit : ℕ) (g : StartSnapshot) (h' : PartitionState D) : Type 0 where
-    pub kept : Kept D
+    pub kept : LogState D
     pub out : RunOut
-    pub reads : Reads content control y.log kept recorded.end limit (end_of y) out
+    pub reads : ReadsRun content control y.log kept recorded.end limit (end_of y) out
     pub quiet : Quiet control y.log kept
     pub is : g ≡ record recorded { batches = parts out.bytes }
     pub after : h' ≡ put_node h l (record y { log = kept })
@@ -167,9 +167,9 @@ module _ {D : Type 0} (content : D → Content) (control : D → Control call_co
   -- a read of a run of the leader's log
   abbrev pub TakeRow : PartitionState D → ℕ → Node D → StartSnapshot → ℕ → Turned → PartitionState D → Type 0
   TakeRow h l y recorded limit (Begins g) h' = TakesRun h l y recorded limit g h'
-  TakeRow h l y recorded limit (Answers DiskFault) h' = Fails content control h l y h'
+  TakeRow h l y recorded limit (Answers DiskFault) h' = NodeReadFails content control h l y h'
   TakeRow h l y recorded limit (Answers (Damaged (File name) at)) h' =
-      FindsDamage content control h l y recorded.end limit (end_of y) name at h'
+      NodeHasDamage content control h l y recorded.end limit (end_of y) name at h'
   TakeRow h l y recorded limit other h' = ⊥
 
   -- follow, first turn
@@ -183,12 +183,12 @@ module _ {D : Type 0} (content : D → Content) (control : D → Control call_co
   FollowRow h b x limit (Answers Level) h' = (is_up x ≡ true) × IsCurrent h (joined x.role)
       × IsSomeAnd (the_leader h) (λ y. end_of y ≤ end_of x) × (h' ≡ h)
   FollowRow h b x limit (Answers DiskFault) h' = (is_up x ≡ true) × IsCurrent h (joined x.role)
-      × IsSomeAnd (the_leader h) (λ y. (end_of x < end_of y) × (local_of y ≤ end_of x) × Fails content control h h.registry.leader.0 y h')
+      × IsSomeAnd (the_leader h) (λ y. (end_of x < end_of y) × (local_of y ≤ end_of x) × NodeReadFails content control h h.registry.leader.0 y h')
   FollowRow h b x limit (Answers (Moved n)) h' = (is_up x ≡ true) × IsCurrent h (joined x.role)
       × IsSomeAnd (the_leader h) (λ y. (end_of x < end_of y) × (end_of x < local_of y) × (n ≡ local_of y)) × (h' ≡ h)
   FollowRow h b x limit (Answers (Damaged (File name) at)) h' = (is_up x ≡ true) × IsCurrent h (joined x.role)
       × IsSomeAnd (the_leader h) (λ y. (end_of x < end_of y) × (local_of y ≤ end_of x)
-      × FindsDamage content control h h.registry.leader.0 y (end_of x) limit (end_of y) name at h')
+      × NodeHasDamage content control h h.registry.leader.0 y (end_of x) limit (end_of y) name at h')
   FollowRow h b x limit (Begins g) h' = (is_up x ≡ true) × IsCurrent h (joined x.role)
       × IsSomeAnd (the_leader h) (λ y. (end_of x < end_of y) × (local_of y ≤ end_of x) × Takes h x y limit g h')
   FollowRow h b x limit other h' = ⊥
@@ -196,7 +196,7 @@ module _ {D : Type 0} (content : D → Content) (control : D → Control call_co
   -- as much of a run as fits one segment is at the end of the follower's log
   pub record Extends (h : PartitionState D) (b : ℕ) (x : Node D) (run : List ℕ) (n : ℕ)
       (h' : PartitionState D) : Type 0 where
-    pub kept : Kept D
+    pub kept : LogState D
     pub span : ℕ × ℕ
     pub appends : Appends content x.log kept run span
     pub quiet : Quiet control x.log kept

@@ -17,14 +17,14 @@ use Rattle.plain_log.specs.State.{leads}
 use Rattle.plain_log.specs.RowsOfLog.{offset_limit}
 use Rattle.local_log.specs.Dropping.{IsFirstFlushed}
 use Rattle.local_log.specs.Stored.{size_of}
-use Rattle.broker_log.specs.Seen.{Kept, back_of, WhileUp, Quiet}
-use Rattle.broker_log.specs.Turns.{Appends, Settles, Rolls, Drops, DropBreaks, loosened}
+use Rattle.broker_log.specs.Seen.{LogState, back_of, WhileUp, Quiet}
+use Rattle.broker_log.specs.Turns.{Appends, Settles, Rolls, DropsFirst, DropBreaks, loosened}
 use Rattle.laws_partition.specs.declared.start_snapshot.StartSnapshot.{StartSnapshot}
 use Rattle.laws_partition.specs.declared.start_snapshot.Turned.{Turned}
 use Rattle.laws_partition.specs.declared.start_snapshot.Turned.TheVariants.{Answers, Begins}
 use Rattle.partition_commands.specs.declared.partition_state.Node.{Node}
 use Rattle.partition_commands.specs.declared.partition_state.PartitionState.{PartitionState}
-use Rattle.partition_commands.specs.Partition.{is_up, end_of, line_of, put_node, IsFull, Breaks, BreaksBy}
+use Rattle.partition_commands.specs.Partition.{is_up, end_of, line_of, put_node, IsFull, BreaksNode, BreaksBy}
 
 module _ {D : Type 0} where
   -- where the log would end with the batch
@@ -60,8 +60,8 @@ module _ {D : Type 0} where
   IsInLog h x offset = (h.registry.start ≤ offset) × (offset ≤ end_of x)
 
   -- the node is up, has a closed segment, and the first one is flushed
-  abbrev pub MayDrop : Node D → Type 0
-  MayDrop x = WhileUp x.log (λ log. IsFirstFlushed log.flushed_end log.closed)
+  abbrev pub MayDropFirst : Node D → Type 0
+  MayDropFirst x = WhileUp x.log (λ log. IsFirstFlushed log.flushed_end log.closed)
 
   -- what an actor's state has of a command that begins: what was recorded of its broker, and the log start offset
   pub record Notes (h : PartitionState D) (x : Node D) (g : StartSnapshot) : Type 0 where
@@ -73,20 +73,21 @@ module _ {D : Type 0} where
 module _ {D : Type 0} (content : D → Content) (control : D → Control call_code) where
   -- a write of what isn't flushed yet fails
   abbrev pub BreaksUnsaved : PartitionState D → ℕ → Node D → PartitionState D → Type 0
-  BreaksUnsaved h b x h' = Breaks content control h b x (λ s. loosened s (back_of s)) h'
+  BreaksUnsaved h b x h' = BreaksNode content control h b x (λ s. loosened s (back_of s)) h'
 
   -- the batch is at the end of the broker's log
-  abbrev pub Gains : PartitionState D → ℕ → Node D → List ℕ → PartitionState D → Type 0
-  Gains h b x batch h' = (kept : Kept D) × (span : ℕ × ℕ) × IsOk (checked batch) × Appends content x.log kept batch span
+  abbrev pub NodeGains : PartitionState D → ℕ → Node D → List ℕ → PartitionState D → Type 0
+  NodeGains h b x batch h' =
+      (kept : LogState D) × (span : ℕ × ℕ) × IsOk (checked batch) × Appends content x.log kept batch span
       × Quiet control x.log kept × (h' ≡ put_node h b (record x { log = kept }))
 
   -- a batch that may be put
-  abbrev pub PutRow : PartitionState D → ℕ → Node D → List ℕ → ℕ → ℕ → ℕ → Answer → PartitionState D → Type 0
-  PutRow h b x batch base last epoch TooManySegments h' = IsFull x batch × (h' ≡ h)
-  PutRow h b x batch base last epoch DiskFault h' = (IsFull x batch → ⊥) × BreaksUnsaved h b x h'
-  PutRow h b x batch base last epoch (OkSpan from to e) h' =
-      (from ≡ base) × (to ≡ last) × (e ≡ epoch) × (IsFull x batch → ⊥) × Gains h b x batch h'
-  PutRow h b x batch base last epoch other h' = ⊥
+  abbrev pub PutBatchRow : PartitionState D → ℕ → Node D → List ℕ → ℕ → ℕ → ℕ → Answer → PartitionState D → Type 0
+  PutBatchRow h b x batch base last epoch TooManySegments h' = IsFull x batch × (h' ≡ h)
+  PutBatchRow h b x batch base last epoch DiskFault h' = (IsFull x batch → ⊥) × BreaksUnsaved h b x h'
+  PutBatchRow h b x batch base last epoch (OkSpan from to e) h' =
+      (from ≡ base) × (to ≡ last) × (e ≡ epoch) × (IsFull x batch → ⊥) × NodeGains h b x batch h'
+  PutBatchRow h b x batch base last epoch other h' = ⊥
 
   -- append: the leader's log gains the batch, stamped with its end and its epoch
   abbrev pub AppendRow : PartitionState D → ℕ → Node D → List ℕ → Answer → PartitionState D → Type 0
@@ -100,7 +101,7 @@ module _ {D : Type 0} (content : D → Content) (control : D → Control call_co
       × BreaksUnsaved h b x h'
   AppendRow h b x batch (OkSpan base last e) h' =
       (is_up x ≡ true) × (x.role ≡ Leads e) × (end_with x batch ≤ offset_limit) × (base ≡ end_of x)
-      × (last ≡ base + last_offset_delta_of batch) × (IsFull x (stamped batch base e) → ⊥) × Gains h b x (stamped batch base e) h'
+      × (last ≡ base + last_offset_delta_of batch) × (IsFull x (stamped batch base e) → ⊥) × NodeGains h b x (stamped batch base e) h'
   AppendRow h b x batch other h' = ⊥
 
   -- raw: bytes from outside are appended where they are a batch, and else refused with the first test that they fail
@@ -117,14 +118,14 @@ module _ {D : Type 0} (content : D → Content) (control : D → Control call_co
   -- flush: all of the log is flushed
   abbrev pub FlushRow : PartitionState D → ℕ → Node D → Answer → PartitionState D → Type 0
   FlushRow h b x Down h' = (is_up x ≡ false) × (h' ≡ h)
-  FlushRow h b x DiskFault h' = (is_up x ≡ true) × Breaks content control h b x (λ s. loosened s (end_of_log s.batches, s.line, s.local)) h'
-  FlushRow h b x (OkAt n) h' = (is_up x ≡ true) × ((kept : Kept D) × Settles content x.log kept (λ line end. line) n
+  FlushRow h b x DiskFault h' = (is_up x ≡ true) × BreaksNode content control h b x (λ s. loosened s (end_of_log s.batches, s.line, s.local)) h'
+  FlushRow h b x (OkAt n) h' = (is_up x ≡ true) × ((kept : LogState D) × Settles content x.log kept (λ line end. line) n
       × Quiet control x.log kept × (h' ≡ put_node h b (record x { log = kept })))
   FlushRow h b x other h' = ⊥
 
   -- the broker's open segment is closed
   abbrev pub RollsNode : PartitionState D → ℕ → Node D → PartitionState D → Type 0
-  RollsNode h b x h' = (kept : Kept D) × Rolls content x.log kept × Quiet control x.log kept
+  RollsNode h b x h' = (kept : LogState D) × Rolls content x.log kept × Quiet control x.log kept
       × (h' ≡ put_node h b (record x { log = kept }))
 
   -- roll: the open segment is closed, and the next begins at the log's end
@@ -145,7 +146,7 @@ module _ {D : Type 0} (content : D → Content) (control : D → Control call_co
   -- the local log's first closed segment goes
   abbrev pub DropRow : PartitionState D → ℕ → Node D → Answer → PartitionState D → Type 0
   DropRow h b x DiskFault h' = BreaksBy content control h b x (DropBreaks content) h'
-  DropRow h b x (Dropped base last) h' = (kept : Kept D) × Drops content x.log kept (base, last)
+  DropRow h b x (Dropped base last) h' = (kept : LogState D) × DropsFirst content x.log kept (base, last)
       × Quiet control x.log kept × (h' ≡ put_node h b (record x { log = kept }))
   DropRow h b x other h' = ⊥
 

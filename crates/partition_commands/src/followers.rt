@@ -6,7 +6,7 @@
 
 ghost use Rattle.std.specs.Prelude.{◌≡◌, ◌<◌, ◌≤◌, true, false, length, IfOk, OnErr, IsSomeAnd, IsTrue, ◌↔◌, option_copied};
 ghost use Rattle.partition_commands.specs.Partition.{AtNode, CanStop, KeepsPartition, the_leader, is_up};
-ghost use Rattle.partition_commands.specs.TurnsOfFollowers.{IsMeet, MayCut, CutRow, JoinRow, JoinOnRow, MayTake, TakeRow, FollowRow, MayExtend, ExtendRow, FollowOnRow};
+ghost use Rattle.partition_commands.specs.TurnsOfFollowers.{IsMeet, MayCutNode, CutRow, JoinRow, JoinOnRow, MayTake, TakeRow, FollowRow, MayExtend, ExtendRow, FollowOnRow};
 
 use crate::partition_state::{Node, PartitionState};
 use crate::roles::{followed, joined};
@@ -132,7 +132,7 @@ impl<D: Disk> PartitionState<D> {
     /// Cuts a follower's log, which has joined an epoch then.
     fn cut(&mut self, b: usize, epoch: u32, met: u64) -> Result<Answer, AllocError>
         requires node { CanStop self.old b }
-        requires up { AtNode self.old b (λ x. MayCut x met) }
+        requires up { AtNode self.old b (λ x. MayCutNode x met) }
         ensures row { IfOk result (λ answer. AtNode self.old b (λ x. CutRow D.content D.control self.old b x epoch met answer self.new)) }
         ensures err { OnErr result (KeepsPartition D.content D.control self.old self.new) }
     {

@@ -6,13 +6,13 @@
 ghost use Rattle.std.specs.Prelude.{◌≡◌, ◌≤◌, ◌+◌, ◌++◌, map, true, false, [], List, length, vec_capacity, IfOk, OnOk, IfErr, OnErr, IsErrOf, IsTrue};
 ghost use Rattle.local_log.specs.Log.{AreSettings};
 ghost use Rattle.tier_base.specs.declared.plain.Settings.{Settings as Options};
-ghost use Rattle.broker_log.specs.Seen.{Seen, Shows, OnDisk, Lasting, Faulted, layout_in};
+ghost use Rattle.broker_log.specs.Seen.{LogSeen, ShowsSeen, OnDisk, Lasting, Faulted, layout_in};
 ghost use Rattle.partition_commands.specs.declared.refusal.WorldRefusal.TheVariants as refusal;
 ghost use Rattle.partition_commands.specs.Partition.{line_of};
 ghost use Rattle.partition_commands.specs.Disks.{AllReopen};
 ghost use Rattle.partition_commands.specs.Cold.{ShowDisks, DisksReopen, AreColdOver, IsColdPartition, cold_node, held_back};
 ghost use Rattle.partition_commands.specs.Partition.{ShowsPartition};
-ghost use Rattle.partition_commands.specs.Fresh.{IsFreshDisk, AreFreshDisks, DisksTell, IsFreshNode, IsMadeOver, AreMadeFrom, AreFreshFrom, IsFreshPartition, AllSeen, IsLaid, AreLaid, AddsNode, AreDisksOf, RefusesOver, Refuses, empty_seen};
+ghost use Rattle.partition_commands.specs.Fresh.{IsFreshDisk, AreFreshDisks, DisksTell, IsFreshNode, IsMadeOver, AreMadeFrom, AreFreshFrom, IsFreshPartition, AllSeen, IsNodeLaid, AreNodesLaid, AddsNode, AreDisksOf, RefusesOver, RefusesDisks, empty_seen};
 
 use crate::partition_state::{Node, PartitionState};
 use crate::refusal::WorldRefusal;
@@ -32,8 +32,8 @@ fn follower<D: Disk>(
     requires settings { AreSettings settings }
     requires disk { IsFreshDisk D.content D.control disk }
     ensures node { IfOk result (IsMadeOver D.control false disk) }
-    ensures laid { IfOk result (IsLaid settings) }
-    ensures seen { IfOk result (λ node. IsTrue (D.content disk).is_observable → Shows D.content node.log (empty_seen (line_of node))) }
+    ensures laid { IfOk result (IsNodeLaid settings) }
+    ensures seen { IfOk result (λ node. IsTrue (D.content disk).is_observable → ShowsSeen D.content node.log (empty_seen (line_of node))) }
     ensures err { IfErr result (λ e. RefusesOver D.control disk e.0 e.1) }
 {
     match BrokerLog::create(alloc, disk, settings) {
@@ -58,8 +58,8 @@ fn broker<D: Disk>(
     requires settings { AreSettings settings }
     requires disk { IsFreshDisk D.content D.control disk }
     ensures node { IfOk result (IsMadeOver D.control leads disk) }
-    ensures laid { IfOk result (IsLaid settings) }
-    ensures seen { IfOk result (λ node. IsTrue (D.content disk).is_observable → Shows D.content node.log (empty_seen (line_of node))) }
+    ensures laid { IfOk result (IsNodeLaid settings) }
+    ensures seen { IfOk result (λ node. IsTrue (D.content disk).is_observable → ShowsSeen D.content node.log (empty_seen (line_of node))) }
     ensures err { IfErr result (λ e. RefusesOver D.control disk e.0 e.1) }
 {
     let mut node = follower(alloc, disk, settings)?;
@@ -82,7 +82,7 @@ fn add<D: Disk>(
     requires settings { AreSettings settings }
     requires disk { IsFreshDisk D.content D.control disk }
     ensures ok { OnOk result (AddsNode D.control D.content nodes.old.items disk nodes.new.items) }
-    ensures laid { OnOk result (AreLaid settings nodes.old.items → AreLaid settings nodes.new.items) }
+    ensures laid { OnOk result (AreNodesLaid settings nodes.old.items → AreNodesLaid settings nodes.new.items) }
     ensures same { OnErr result (nodes.new.items ≡ nodes.old.items) }
     ensures err { IfErr result (λ e. RefusesOver D.control disk e.0 e.1) }
 {
@@ -116,9 +116,9 @@ fn brokers<D: Disk>(
     requires disks { AreFreshDisks D.content D.control disks.old.items }
     ensures nodes { IfOk result (λ nodes. AreMadeFrom D.control true disks.old.items nodes.items) }
     ensures seen { IfOk result (λ nodes. DisksTell D.content disks.old.items → AllSeen D.content nodes.items) }
-    ensures laid { IfOk result (λ nodes. AreLaid settings nodes.items) }
+    ensures laid { IfOk result (λ nodes. AreNodesLaid settings nodes.items) }
     ensures none { OnOk result (disks.new.items ≡ []) }
-    ensures err { IfErr result (λ why. Refuses D.control disks.old.items disks.new.items why) }
+    ensures err { IfErr result (λ why. RefusesDisks D.control disks.old.items disks.new.items why) }
     ensures room { vec_capacity disks.new ≡ vec_capacity disks.old }
 {
     let Some(disk) = disks.pop() else {
@@ -175,7 +175,7 @@ fn arm<D: Disk>(nodes: &mut Row<Node<D>>)
     ensures cold { (settings : Options) (disks : List D) → nodes.old ≡ map (cold_node settings) disks
         → AreColdOver D.content D.control settings disks nodes.new }
     ensures seen { AllSeen D.content nodes.old → AllSeen D.content nodes.new }
-    ensures laid { (settings : Options) → AreLaid settings nodes.old → AreLaid settings nodes.new }
+    ensures laid { (settings : Options) → AreNodesLaid settings nodes.old → AreNodesLaid settings nodes.new }
 {
     for i in 0..nodes.len() {
         nodes.at_mut(i).log.arm();
@@ -189,8 +189,8 @@ impl<D: Disk> Node<D> {
         ensures node { OnOk result (IsFreshNode true self.new) }
         ensures laid { OnOk result (layout_in self.new.log ≡ layout_in self.old.log) }
         ensures control { Lasting D.control self.old.log self.new.log }
-        ensures seen { OnOk result (Shows D.content self.old.log (empty_seen (line_of self.old))
-            → Shows D.content self.new.log (empty_seen (line_of self.new))) }
+        ensures seen { OnOk result (ShowsSeen D.content self.old.log (empty_seen (line_of self.old))
+            → ShowsSeen D.content self.new.log (empty_seen (line_of self.new))) }
         ensures cause { IsErrOf result refusal.DiskFault → Faulted D.control self.old.log self.new.log }
     {
         match self.log.lead(0) {
@@ -217,10 +217,10 @@ impl<D: Disk> PartitionState<D> {
         requires settings { AreSettings settings }
         requires disks { AreFreshDisks D.content D.control disks.old.items }
         ensures held { IfOk result (IsFreshPartition D.control disks.old.items) }
-        ensures laid { IfOk result (λ held. AreLaid settings held.nodes) }
+        ensures laid { IfOk result (λ held. AreNodesLaid settings held.nodes) }
         ensures seen { IfOk result (λ held. DisksTell D.content disks.old.items → AllSeen D.content held.nodes) }
         ensures none { OnOk result (disks.new.items ≡ []) }
-        ensures err { IfErr result (λ why. Refuses D.control disks.old.items disks.new.items why) }
+        ensures err { IfErr result (λ why. RefusesDisks D.control disks.old.items disks.new.items why) }
         ensures room { vec_capacity disks.new ≡ vec_capacity disks.old }
     {
         let count = disks.len() as u16;
@@ -250,7 +250,7 @@ impl<D: Disk> PartitionState<D> {
     ) -> Result<PartitionState<D>, AllocError>
         requires settings { AreSettings settings }
         ensures held { IfOk result (IsColdPartition D.content D.control settings registry disks.old.items) }
-        ensures seen { IfOk result (λ held. (ss : List Seen) → ShowDisks D.content disks.old.items ss
+        ensures seen { IfOk result (λ held. (ss : List LogSeen) → ShowDisks D.content disks.old.items ss
             → ShowsPartition D.content held (held_back registry ss)) }
         ensures none { OnOk result (disks.new.items ≡ []) }
         ensures same { OnErr result (disks.new.items ≡ disks.old.items) }

@@ -7,7 +7,7 @@ ghost use Rattle.record_batch.specs.Build.{built, IsBuildable};
 ghost use Rattle.record_batch.specs.Check.{checked};
 ghost use Rattle.record_batch.specs.Stamp.{stamped, SetsBaseAndEpoch};
 ghost use Rattle.partition_commands.specs.Partition.{AtNode, CanStop, KeepsPartition};
-ghost use Rattle.partition_commands.specs.TurnsOfLog.{AppendRow, RawRow, MayPut, PutRow, FlushRow, RollRow, MayDrop, DropRow};
+ghost use Rattle.partition_commands.specs.TurnsOfLog.{AppendRow, RawRow, MayPut, PutBatchRow, FlushRow, RollRow, MayDropFirst, DropRow};
 ghost use Rattle.partition_commands.specs.TurnsOfFetch.{MayGive, GiveRow, FetchTurn};
 ghost use Rattle.partition_commands.specs.Sound.{SoundPartition};
 
@@ -131,7 +131,7 @@ impl<D: Disk> PartitionState<D> {
         requires node { CanStop self.old b }
         requires fits { AtNode self.old b (λ x. MayPut x batch.now base last epoch) }
         ensures row { IfOk result (λ answer. AtNode self.old b (λ x.
-            PutRow D.content D.control self.old b x batch.now base last epoch answer self.new)) }
+            PutBatchRow D.content D.control self.old b x batch.now base last epoch answer self.new)) }
         ensures err { OnErr result (KeepsPartition D.content D.control self.old self.new) }
     {
         let node = self.nodes.at_mut(b);
@@ -193,7 +193,7 @@ impl<D: Disk> PartitionState<D> {
     /// Drops the first closed segment of a broker's local log. Fails only if memory runs out.
     pub fn drop_first(&mut self, b: usize) -> Result<Answer, AllocError>
         requires node { CanStop self.old b }
-        requires may { AtNode self.old b MayDrop }
+        requires may { AtNode self.old b MayDropFirst }
         ensures row { IfOk result (λ answer. AtNode self.old b (λ x. DropRow D.content D.control self.old b x answer self.new)) }
         ensures err { OnErr result (KeepsPartition D.content D.control self.old self.new) }
     {

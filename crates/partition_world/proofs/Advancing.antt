@@ -10,9 +10,9 @@ use Rattle.tier_base.specs.declared.plain.State.{State}
 use Rattle.tier_base.specs.declared.plain.State.TheVariants.{CopyStarted, CopyFinished, DeleteStarted, DeleteFinished}
 use Rattle.tier_base.specs.declared.object_key.ObjectKey.{ObjectKey}
 use Rattle.meta_log.specs.declared.event_origin.EventOrigin.{EventOrigin}
-use Rattle.remote_view.specs.Fold.{Seen, state_of}
+use Rattle.remote_view.specs.Fold.{EntriesSeen, state_of}
 use Rattle.copy_task.specs.Copying.{Copied, keys}
-use Rattle.copy_task.specs.Turns.{Tiers, PutRow, DeleteRow, CopyRow, put_at, delete_at, checked}
+use Rattle.copy_task.specs.Turns.{Tiers, PutObjectRow, DeleteRow, CopyTurnRow, put_at, delete_at, checked}
 use Rattle.copy_task.specs.declared.turn.CopyTurn.{CopyTurn}
 use Rattle.copy_task.specs.declared.turn.CopyTurn.TheVariants.{Goes as GoesOn, Ends}
 use Rattle.copy_task.specs.declared.turn.CopyStep.{CopyStep}
@@ -50,7 +50,7 @@ use Rattle.partition_world.specs.declared.actor_state.InProgress.TheVariants.{Id
 use Rattle.partition_world.specs.ActorStates.{chosen, moved, sought, dated, expired_segment, deleting, rebuilding, copy_outcome, expiry_outcome, rebuild_outcome, actor_state_after}
 use Rattle.partition_world.specs.TurnsOfFetch.{FetchOnRow, fetch_tiers, wanted_of}
 use Rattle.partition_world.specs.TurnsOfDate.{SearchRow, DateOnRow, asked_of, is_own, resumed_at, resumed_with}
-use Rattle.partition_world.specs.Turns.{ContinuedRow, CopyingRow, SeekingRow, DatingRow, DeletingRow, RebuildingRow, Row, TurnRow}
+use Rattle.partition_world.specs.Turns.{ContinuedRow, CopyLaterRow, SeekingRow, DatingRow, DeletingRow, RebuildingRow, Row, TurnRow}
 use Rattle.partition_world.proofs.Begins.{MayComeTo, row_of, row_may}
 use Rattle.partition_world.proofs.ExpiryAdvances.{deleting_before, few_deleting, expiry_advances}
 use Rattle.partition_world.proofs.RebuildEnds.{MayTurn, rebuild_may_turn}
@@ -136,7 +136,7 @@ put_advances : (copy : Copied) (n : ℕ) (key : Option ObjectKey) (next : CopySt
 put_advances copy n None next at is = to (Put n) next Finish is (omega arith)
 put_advances copy n (Some key) next at is = let low = key_low copy.partition copy.id copy.packed (n + 1) key at in to (Put n) next (Put (n + 1)) is (omega (arith, low))
 
-delete_advances : (copy : Copied) (view : Seen) (n : ℕ) (key : Option ObjectKey) (next : CopyStep) → slice_get (keys copy) (n + 1) ≡ key → GoesOn next ≡ delete_at copy view (n + 1) key
+delete_advances : (copy : Copied) (view : EntriesSeen) (n : ℕ) (key : Option ObjectKey) (next : CopyStep) → slice_get (keys copy) (n + 1) ≡ key → GoesOn next ≡ delete_at copy view (n + 1) key
     → taken_before (Delete n) < taken_before next
 delete_advances copy view n None next at is = absurd cc
 delete_advances copy view n (Some key) next at is = let low = key_low copy.partition copy.id copy.packed (n + 1) key at in to (Delete n) next (Delete (n + 1)) is (omega (arith, low))
@@ -149,17 +149,17 @@ checked_advances copy notes (Some CopyStarted) next is = absurd cc
 checked_advances copy notes None next is = absurd cc
 
 module _ {S M : Type 0} (store : StoreGhosts S) (meta : MetaGhosts M) where
-  put_row : (copy : Copied) (n : ℕ) (key : Option ObjectKey) (next : CopyStep) (old new : S) → PutRow store.content store.control copy n key (Ok (GoesOn next)) old new → taken_before (Put n) < taken_before next
+  put_row : (copy : Copied) (n : ℕ) (key : Option ObjectKey) (next : CopyStep) (old new : S) → PutObjectRow store.content store.control copy n key (Ok (GoesOn next)) old new → taken_before (Put n) < taken_before next
   put_row copy n None next old new w = let e : next ≡ Finish = cc (w.0) in rw e (omega arith)
   put_row copy n (Some key) next old new w = put_advances copy n (slice_get (keys copy) (n + 1)) next refl w.0
 
-  delete_row : (copy : Copied) (view : Seen) (n : ℕ) (key : Option ObjectKey) (next : CopyStep) (old new : S) → DeleteRow store.content store.control copy view n key (GoesOn next) old new
+  delete_row : (copy : Copied) (view : EntriesSeen) (n : ℕ) (key : Option ObjectKey) (next : CopyStep) (old new : S) → DeleteRow store.content store.control copy view n key (GoesOn next) old new
       → taken_before (Delete n) < taken_before next
   delete_row copy view n None next old new w = let e = w.0 in absurd (cc (e))
   delete_row copy view n (Some key) next old new w = delete_advances copy view n (slice_get (keys copy) (n + 1)) next refl w.0
 
   copy_advances : (copy : Copied) (origin : EventOrigin) (before next : CopyStep) (old new : Tiers S M)
-      → CopyRow store.content store.control meta.content meta.control copy origin before (Ok (GoesOn next)) old new → taken_before before < taken_before next
+      → CopyTurnRow store.content store.control meta.content meta.control copy origin before (Ok (GoesOn next)) old new → taken_before before < taken_before next
   copy_advances copy origin Start next old new w = to Start next (Put 0) w.1.0 (omega arith)
   copy_advances copy origin (Put n) next old new w = put_row copy n (slice_get (keys copy) n) next old.store new.store w.1
   copy_advances copy origin Finish next old new w = to Finish next Check w.1.0 (omega arith)
@@ -236,7 +236,7 @@ module _ {D S M : Type 0} (disk : DiskGhosts D) (store : StoreGhosts S) (meta : 
   dating_dated p h t b x broker_tier g cursor before other at next h' t' w = elim w [ ]
 
   copying_goes : (h : PartitionState D) (t : RemoteTier S M) (b : ℕ) (x : Node D) (broker_tier : BrokerTierState) (g : StartSnapshot) (copy : Copied) (before : CopyStep) (command : Command) (next : CopyStep) (h' : PartitionState D) (t' : RemoteTier S M)
-      → CopyingRow store meta h t b x broker_tier g copy before command (Goes next) h' t' → taken_before before < taken_before next
+      → CopyLaterRow store meta h t b x broker_tier g copy before command (Goes next) h' t' → taken_before before < taken_before next
   copying_goes h t b x broker_tier g copy before Copy next h' t' (inl lost, same) = let e = lost.1 in absurd (cc (e))
   copying_goes h t b x broker_tier g copy before Copy next h' t' (inr (keeps, (turn, is, goes)), same) =
       let one = copy_goes turn next is in

@@ -36,7 +36,7 @@ use Rattle.partition_world.specs.declared.actor_state.InProgress.{InProgress}
 use Rattle.partition_world.specs.declared.actor_state.InProgress.TheVariants.{Idle, Noted, Copies, Seeks, Dates, Expires, Rebuilds}
 use Rattle.partition_world.specs.Tier.{AtBrokerTier}
 use Rattle.partition_world.specs.ActorStates.{outcome_of, copy_outcome, expiry_outcome, rebuild_outcome}
-use Rattle.partition_world.specs.Turns.{BeginRow, ContinuedRow, CopyingRow, SeekingRow, DatingRow, DeletingRow, RebuildingRow, Row, TurnRow}
+use Rattle.partition_world.specs.Turns.{BeginRow, ContinuedRow, CopyLaterRow, SeekingRow, DatingRow, DeletingRow, RebuildingRow, Row, TurnRow}
 
 -- what a turn may come to where its actor's state has this
 abbrev pub MayComeTo : InProgress → Outcome → Type 0
@@ -120,7 +120,7 @@ module _ {D S M : Type 0} (disk : DiskGhosts D) (store : StoreGhosts S) (meta : 
   recorded_may p config h t b x broker_tier g other outcome h' t' w = let e = w.0.1 in absurd (cc (e))
 
   copying_may : (h : PartitionState D) (t : RemoteTier S M) (b : ℕ) (x : Node D) (broker_tier : BrokerTierState) (g : StartSnapshot) (copy : Copied) (next : CopyStep) (command : Command) (outcome : Outcome) (h' : PartitionState D) (t' : RemoteTier S M)
-      → CopyingRow store meta h t b x broker_tier g copy next command outcome h' t' → MayComeTo (Copies g copy next) outcome
+      → CopyLaterRow store meta h t b x broker_tier g copy next command outcome h' t' → MayComeTo (Copies g copy next) outcome
   copying_may h t b x broker_tier g copy next Copy outcome h' t' (inl lost, same) = rw lost.1 tt
   copying_may h t b x broker_tier g copy next Copy outcome h' t' (inr (keeps, (turn, is, goes)), same) = copy_may g copy next turn outcome is
   copying_may h t b x broker_tier g copy next other outcome h' t' w = elim w [ ]

@@ -75,7 +75,7 @@ use Rattle.partition_world.proofs.NotesLeft.{notes_stay}
 use Rattle.partition_world.proofs.SceneParts.{actor_state_set, idle_free, keeps_recorded}
 use Rattle.partition_world.proofs.Scenes.{Place, place_of, tier_view, seated, scene_after, shows_at, shows_kept, work_after, few_now, few_after}
 use Rattle.index_cache.specs.Cache.{Cache}
-use Rattle.remote_view.specs.Fold.{Seen as View}
+use Rattle.remote_view.specs.Fold.{EntriesSeen as View}
 use Rattle.view_refresh.specs.Refreshing.{Halted}
 use Rattle.tier_fetch.specs.declared.turn.FetchStep.TheVariants.{Refresh}
 use Rattle.time_find.specs.declared.turn.SearchStep.TheVariants.{Seek}
@@ -95,7 +95,7 @@ use Rattle.rebuild_task.specs.declared.turn.RebuildStep.TheVariants.{Epochs, Res
 use Rattle.partition_commands.specs.TurnsOfFollowers.{JoinOnRow}
 use Rattle.partition_world.specs.TurnsOfRebuild.{with_line, wanted_of as rebuilt_to}
 use Rattle.partition_world.specs.Turns.{JoinSecondRow, RebuildingRow}
-use Rattle.partition_world.specs.Central.{IsRecorded, AreRecorded, IsDated, AreDated, HasGone, dates_of, rebuilds_of}
+use Rattle.partition_world.specs.Central.{IsRecorded, AreRecorded, IsSearchState, AreDated, HasGone, dates_of, rebuilds_of}
 use Rattle.partition_world.proofs.Recording.{own_recorded, turn_recorded}
 use Rattle.partition_world.proofs.RebuildEnds.{rebuild_kept}
 use Rattle.partition_world.proofs.RebuildCentral.{once_row, recorded_row, join_refreshes, join_reads}
@@ -393,8 +393,8 @@ module _ {D S M : Type 0} (disk : DiskGhosts D) (store : StoreGhosts S) (meta : 
     by_command (Offset (At ts)) is (Copies g copy next) keeps row = absurd row
     by_command (Offset (At ts)) is (Seeks g next) keeps row = absurd row
     by_command (Offset (At ts)) is (Dates g cursor next) keeps row =
-        let gone : IsDated c.central.plain (Some t.order) (Dates g cursor next) = subst (λ (k : InProgress). IsDated c.central.plain (Some t.order) k) keeps
-        (subst (λ (o : Option Order). IsDated c.central.plain o t.actor_state.work) t.next (c.dated t.place t.list t.actor_state t.at.list t.at.actor_state_is)) in
+        let gone : IsSearchState c.central.plain (Some t.order) (Dates g cursor next) = subst (λ (k : InProgress). IsSearchState c.central.plain (Some t.order) k) keeps
+        (subst (λ (o : Option Order). IsSearchState c.central.plain o t.actor_state.work) t.next (c.dated t.place t.list t.actor_state t.at.list t.at.actor_state_is)) in
         date_on disk store meta opening w a outcome w' t c z ts is (Dates g cursor next) keeps g refl cursor next refl (λ to later. refl)
         (subst (λ (k : Command). HasGone c.central.plain t.order.broker.0 g k cursor next) is gone.1) gone.0 outcome refl row
     by_command (Offset (At ts)) is (Expires g segment next) keeps row = absurd row

@@ -10,11 +10,11 @@ use Rattle.object_store.specs.declared.store.Store.{Ghosts as StoreGhosts}
 use Rattle.meta_log.specs.declared.log.MetaLog.{Ghosts as MetaGhosts}
 use Rattle.partition_world.specs.Whole.{Whole}
 use Rattle.partition_world.specs.Turn.{IsAtEnd, Steps}
-use Rattle.partition_world.specs.Reaches.{HasAnswered, Goes, GoesTimes, GoesUntil, Paces, Reaches}
+use Rattle.partition_world.specs.Reaches.{HasAnswered, TakesTurn, GoesTimes, GoesUntil, Paces, Reaches}
 
 module _ {D S M : Type 0} (disk : DiskGhosts D) (store : StoreGhosts S) (meta : MetaGhosts M) where
   -- a step is a turn, or none at the end
-  pub step_goes : (w : Whole D S M) (a : ℕ) (stepped : Stepped) (w' : Whole D S M) → Steps disk store meta w a stepped w' → stepped ≢ NoMemory → Goes disk store meta w a w'
+  pub step_goes : (w : Whole D S M) (a : ℕ) (stepped : Stepped) (w' : Whole D S M) → Steps disk store meta w a stepped w' → stepped ≢ NoMemory → TakesTurn disk store meta w a w'
   step_goes w a Ran w' s n = inl (s.0, s.2)
   step_goes w a Done w' s n = inl (Answers s.0, s.1)
   step_goes w a Nothing w' s n = inr s
@@ -43,7 +43,7 @@ module _ {D S M : Type 0} (disk : DiskGhosts D) (store : StoreGhosts S) (meta : 
   pub times_none : (w : Whole D S M) (a : ℕ) → AddsTimes w a 0 w
   times_none w a = λ turns u g. subst (λ (k : ℕ). GoesTimes disk store meta w a k u) (omega arith) g
 
-  pub times_more : (w : Whole D S M) (a taken : ℕ) (v u : Whole D S M) → AddsTimes w a taken v → Goes disk store meta v a u → AddsTimes w a (taken + 1) u
+  pub times_more : (w : Whole D S M) (a taken : ℕ) (v u : Whole D S M) → AddsTimes w a taken v → TakesTurn disk store meta v a u → AddsTimes w a (taken + 1) u
   times_more w a taken v u adds goes = λ turns k g. subst (λ (n : ℕ). GoesTimes disk store meta w a n k) (omega arith) (adds (suc turns) k (u, goes, g))
 
   pub times_all : (w : Whole D S M) (a taken turns : ℕ) (v : Whole D S M) → AddsTimes w a taken v → taken ≡ turns → GoesTimes disk store meta w a turns v
@@ -60,7 +60,7 @@ module _ {D S M : Type 0} (disk : DiskGhosts D) (store : StoreGhosts S) (meta : 
   pub until_none : (w : Whole D S M) (a number : ℕ) → LeadsOn w a number w
   until_none w a number = λ turns u g. (turns, g)
 
-  pub until_more : (w : Whole D S M) (a number : ℕ) (v u : Whole D S M) → LeadsOn w a number v → (HasAnswered v a number → ⊥) → Goes disk store meta v a u → LeadsOn w a number u
+  pub until_more : (w : Whole D S M) (a number : ℕ) (v u : Whole D S M) → LeadsOn w a number v → (HasAnswered v a number → ⊥) → TakesTurn disk store meta v a u → LeadsOn w a number u
   until_more w a number v u leads not goes = λ turns k g. leads (suc turns) k (not, (u, goes, g))
 
   pub until_all : (w : Whole D S M) (a number : ℕ) (v : Whole D S M) → LeadsOn w a number v → HasAnswered v a number → (turns : ℕ) × GoesUntil disk store meta w a number turns v

@@ -24,7 +24,7 @@ use Rattle.plain_log.specs.declared.command.Command.TheVariants.{Copy}
 use Rattle.plain_log.specs.declared.command.Order.{Order}
 use Rattle.plain_log.specs.declared.state.State.{State}
 use Rattle.plain_log.specs.Safe.{is_leaders}
-use Rattle.broker_log.specs.Seen.{Kept, Up, Down, Away, Shows, incarnation_in}
+use Rattle.broker_log.specs.Seen.{LogState, Up, Down, Away, ShowsSeen, incarnation_in}
 use Rattle.broker_log.specs.Seen as log
 use Rattle.broker_log.specs.Turns.{IsSegmentOf}
 use Rattle.laws_partition.specs.declared.start_snapshot.StartSnapshot.{StartSnapshot}
@@ -91,7 +91,7 @@ id_fits id p b i n k = record {
 }
 
 -- what holds of how often a log was opened holds of how often it is seen to have been
-opened_so : {D : Type 0} (content : D → Content) (k : Kept D) (s : log.Seen) (P : ℕ → Type 0) → Shows content k s → IsSomeAnd (incarnation_in k) P → P s.incarnation
+opened_so : {D : Type 0} (content : D → Content) (k : LogState D) (s : log.LogSeen) (P : ℕ → Type 0) → ShowsSeen content k s → IsSomeAnd (incarnation_in k) P → P s.incarnation
 opened_so content (Up l) s P h p = subst P (sym h.incarnation_is) p
 opened_so content (Down settings d) s P h p = elim p [ ]
 opened_so content Away s P h p = elim p [ ]

@@ -19,7 +19,7 @@ use Rattle.plain_log.specs.declared.state.State.{State}
 use Rattle.plain_log.specs.Orders.{AreListsFor, AreRising}
 use Rattle.plain_log.specs.Runs.{replay}
 use Rattle.plain_log.specs.State.{actor_at}
-use Rattle.broker_log.specs.Seen.{Seen}
+use Rattle.broker_log.specs.Seen.{LogSeen}
 use Rattle.laws_partition.specs.declared.actor_progress.ActorProgress.{ActorProgress as ActorIsSeen}
 use Rattle.laws_partition.specs.Central.{ProgressMatches, recorded_at}
 use Rattle.laws_partition.specs.Fresh.{fresh_actor_state as seen_fresh}
@@ -29,14 +29,14 @@ use Rattle.partition_commands.specs.Cold.{ShowDisks, node_back, held_back}
 use Rattle.partition_commands.proofs.ColdDisks.{cold_shown}
 use Rattle.tier_safe.specs.Scene.{Scene, TierTask as InProgressIsSeen, Free, Copies, Expires, Rebuilds, Seeks}
 use Rattle.tier_safe.specs.Safe.{TierSafe}
-use Rattle.tier_safe.specs.Views.{IsUsed}
+use Rattle.tier_safe.specs.Views.{IsIdUsed}
 use Rattle.partition_world.specs.declared.actor_state.ActorState.{ActorState}
 use Rattle.partition_world.specs.declared.tier.BrokerTierState.{BrokerTierState}
 use Rattle.partition_world.specs.Central.{IsCentral, broker_tiers_seen, desk_of, notes_left}
 use Rattle.partition_world.specs.Cold.{scene_back, IsReopened, StandCold, AreCold}
 use Rattle.partition_world.specs.Fresh.{fresh_actor_state}
 use Rattle.plain_log.specs.declared.command.Pace.{Pace}
-use Rattle.partition_world.specs.Laws.{IsRunFrom}
+use Rattle.partition_world.specs.Laws.{IsSafeRunFrom}
 use Rattle.partition_world.specs.Reaches.{Reaches}
 use Rattle.partition_world.proofs.LeftLaw.{left_is_central}
 use Rattle.partition_world.proofs.ReachesLaw.{reaches_later}
@@ -85,7 +85,7 @@ free_tier c p desk free t = record {
   caches = t.caches;
 }
   where
-    still : (id : _) → IsUsed (fold c.notes) desk id → IsUsed (fold c.notes) c.desk id
+    still : (id : _) → IsIdUsed (fold c.notes) desk id → IsIdUsed (fold c.notes) c.desk id
     still id (inl named) = inl named
     still id (inr used) = absurd (let none = free used.0 (Copies used.1 used.2) used.3 in cc)
 
@@ -99,7 +99,7 @@ actor_state_stands p l actor_state none is =
     subst (ProgressMatches p l) is (record { actor = ap (λ (actors : List Actor). actor_at actors l.actor.0) none ∙ rw (none_recorded l.orders) refl; snapshot = λ g snapshot. absurd cc })
 
 -- as many logs are seen as there are disks
-logs_count : {D : Type 0} (content : D → Content) (disks : List D) (logs : List Seen) → ShowDisks content disks logs → length disks ≡ length logs
+logs_count : {D : Type 0} (content : D → Content) (disks : List D) (logs : List LogSeen) → ShowDisks content disks logs → length disks ≡ length logs
 logs_count content [] [] s = refl
 logs_count content [] (k ∷ logs) s = absurd s
 logs_count content (d ∷ disks) [] s = absurd s
@@ -168,7 +168,7 @@ module _ {D S M : Type 0} (disk : DiskGhosts D) (store : StoreGhosts S) (meta : 
   -- and what a schedule reaches from it is a run from there
   pub reopened_runs : (partition : PartitionId) (config : Config) (lists : List ActorList) (registry : Registry) (disks : List D) (s : S) (m : M) (w : Whole D S M) (schedule : List Pace) (w' : Whole D S M) (p : State)
       → AreListsFor config lists → IsReopened disk store meta partition config lists registry disks s m w → AreCold disk store meta partition registry disks s m p
-      → Reaches disk store meta w schedule w' → IsRunFrom p lists w'.journal.items
+      → Reaches disk store meta w schedule w' → IsSafeRunFrom p lists w'.journal.items
   reopened_runs partition config lists registry disks s m w schedule w' p fit f cold r =
       let later = reaches_later disk store meta w schedule w' r in
       let k = left_is_central disk store meta p w' (later.left p (reopens_central partition config lists registry disks s m w p fit f cold)) in

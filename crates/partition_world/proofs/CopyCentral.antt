@@ -5,7 +5,7 @@ use Rattle.object_store.specs.declared.store.Store.{Ghosts as StoreGhosts}
 use Rattle.object_store.specs.Content.{Objects}
 use Rattle.meta_log.specs.declared.log.MetaLog.{Ghosts as MetaGhosts}
 use Rattle.segment_meta.specs.declared.note.Note.{Note}
-use Rattle.remote_view.specs.Fold.{Seen as View}
+use Rattle.remote_view.specs.Fold.{EntriesSeen as View}
 use Rattle.copy_task.specs.Copying.{Copied}
 use Rattle.copy_task.specs.declared.turn.CopyTurn.{CopyTurn}
 use Rattle.copy_task.specs.declared.turn.CopyTurn.TheVariants.{Goes as GoesOn, Ends}
@@ -27,7 +27,7 @@ use Rattle.partition_commands.specs.Partition.{node_of, put_node, ShowsPartition
 use Rattle.partition_commands.proofs.Shown.{some_at, held_looks}
 use Rattle.tier_safe.specs.Scene.{Scene, BrokerTierView, TierTask as InProgressIsSeen, Free, Copies as CopiesSeen}
 use Rattle.tier_safe.specs.May.{IsChanged}
-use Rattle.tier_safe.specs.Turns.{Shows, copy_work}
+use Rattle.tier_safe.specs.Turns.{ShowsScene, copy_work}
 use Rattle.tier_safe.proofs.Turning.{copy_turns}
 use Rattle.partition_world.specs.declared.actor_state.Outcome.{Outcome}
 use Rattle.partition_world.specs.declared.actor_state.Outcome.TheVariants.{Answers, Begins, Chose}
@@ -39,7 +39,7 @@ use Rattle.partition_world.specs.ActorStates.{moved, copy_outcome, actor_state_a
 use Rattle.partition_world.specs.Tier.{counted, put_broker_tier}
 use Rattle.partition_world.specs.Central.{IsCentral, work_of}
 use Rattle.partition_world.specs.Turn.{IsTurn}
-use Rattle.partition_world.specs.TurnsOfCopy.{KeepsLead, LeadersFirstRow, CopyFirstRow, ReadsLog, ReadRow, ReadsNext, ChooseRow, CopyOnRow, GoesOnCopy, copied_to, tiers_of, origin_of}
+use Rattle.partition_world.specs.TurnsOfCopy.{KeepsLead, LeadersFirstRow, CopyFirstRow, ReadsLocalLog, ReadSegmentRow, ReadsNext, ChooseRow, CopyOnRow, GoesOnCopy, copied_to, tiers_of, origin_of}
 use Rattle.partition_world.specs.Turns.{Row}
 use Rattle.partition_world.specs.Whole.{Whole}
 use Rattle.partition_world.proofs.Choosing.{chosen_scene, chosen_changed, chosen_shown}
@@ -74,7 +74,7 @@ module _ {D S M : Type 0} (disk : DiskGhosts D) (store : StoreGhosts S) (meta : 
     same_held = held_same disk store meta opening w a outcome w' t c z Copy copies
 
     -- a log that was read
-    held_read : (x' : Node D) → ReadsLog disk z.x x' → w'.held ≡ put_node w.held t.order.broker.0 x' → ShowsPartition disk.content w'.held c.partition
+    held_read : (x' : Node D) → ReadsLocalLog disk z.x x' → w'.held ≡ put_node w.held t.order.broker.0 x' → ShowsPartition disk.content w'.held c.partition
     held_read x' r same =
         held_looks disk.content disk.control w.held c.partition t.order.broker.0 z.x r.kept w'.held c.shows z.at r.stays
         (same ∙ ap (put_node w.held t.order.broker.0) r.after)
@@ -95,7 +95,7 @@ module _ {D S M : Type 0} (disk : DiskGhosts D) (store : StoreGhosts S) (meta : 
         n.tier ∙ (ap (λ (k : BrokerTierState). put_broker_tier w.tier t.order.broker.0 k) same ∙ ap (λ (k : List BrokerTierState). record w.tier { broker_tiers = k }) (set_same w.tier.broker_tiers t.order.broker.0 z.broker_tier z.broker_tier_at))
 
     reads : (g : StartSnapshot) → t.actor_state.work ≡ Noted g → KeepsLead z.x g → (n : ReadsNext disk w.partition w.held w.tier t.order.broker.0 z.x z.broker_tier outcome w'.held w'.tier) → (o : Outcome) → outcome ≡ o
-        → ReadRow disk w.partition t.order.broker.0 z.x z.broker_tier (copied_to z.x z.broker_tier w.held.registry.start) o n.node n.broker_tier_after → IsCentral disk store meta opening w'
+        → ReadSegmentRow disk w.partition t.order.broker.0 z.x z.broker_tier (copied_to z.x z.broker_tier w.held.registry.start) o n.node n.broker_tier_after → IsCentral disk store meta opening w'
     reads g recorded keeps n (Answers DiskFault) is row =
         stands disk store meta opening w a outcome w' t c z Copy copies (Noted g) recorded DiskFault is refl (broker_tier_kept n row.1) (held_read n.node row.0.reads n.held) (keeps_seen z.x z.s g keeps, refl)
     reads g recorded keeps n (Answers (Damaged (File name) at)) is row =
@@ -121,8 +121,8 @@ module _ {D S M : Type 0} (disk : DiskGhosts D) (store : StoreGhosts S) (meta : 
         → GoesOnCopy store meta w.held w.tier t.order.broker.0 z.broker_tier copy next turn w'.tier → w'.held ≡ w.held → IsCentral disk store meta opening w'
     copies_on g copy next works keeps turn is goes same = by turn is goes changed
       where
-        at : Shows c.scene t.place t.order.broker.0 its (CopiesSeen copy next) (store.content w.tier.store) (meta.content w.tier.meta) z.broker_tier.view
-        at = subst (λ (k : InProgressIsSeen). Shows c.scene t.place t.order.broker.0 its k (store.content w.tier.store) (meta.content w.tier.meta) z.broker_tier.view) (ap (work_of (Some t.order)) works)
+        at : ShowsScene c.scene t.place t.order.broker.0 its (CopiesSeen copy next) (store.content w.tier.store) (meta.content w.tier.meta) z.broker_tier.view
+        at = subst (λ (k : InProgressIsSeen). ShowsScene c.scene t.place t.order.broker.0 its k (store.content w.tier.store) (meta.content w.tier.meta) z.broker_tier.view) (ap (work_of (Some t.order)) works)
             (shows_at disk store meta opening w c t.place t.list t.actor_state t.order z)
 
         changed : IsChanged c.scene c.central.plain (then (copy_work copy turn) (store.content w'.tier.store).objects (meta.content w'.tier.meta).notes goes.view)

@@ -7,9 +7,9 @@ use Rattle.tier_base.specs.declared.object_key.ObjectKey.{ObjectKey}
 use Rattle.object_store.specs.declared.store.Store.{Ghosts as StoreGhosts}
 use Rattle.meta_log.specs.declared.log.MetaLog.{Ghosts as MetaGhosts}
 use Rattle.meta_log.specs.declared.event_origin.EventOrigin.{EventOrigin}
-use Rattle.remote_view.specs.Fold.{Seen as View, state_of}
+use Rattle.remote_view.specs.Fold.{EntriesSeen as View, state_of}
 use Rattle.copy_task.specs.Copying.{Copied, keys}
-use Rattle.copy_task.specs.Turns.{Tiers, StartRow, FinishRow, CheckRow, PutRow, DeleteRow, CopyRow, checked, delete_at, overtaken}
+use Rattle.copy_task.specs.Turns.{Tiers, StartRow, FinishRow, CheckRow, PutObjectRow, DeleteRow, CopyTurnRow, checked, delete_at, overtaken}
 use Rattle.copy_task.specs.declared.turn.CopyTurn.{CopyTurn}
 use Rattle.copy_task.specs.declared.turn.CopyTurn.TheVariants.{Ends}
 use Rattle.copy_task.specs.declared.turn.CopyStep.{CopyStep}
@@ -63,7 +63,7 @@ module _ {S M : Type 0} (store : StoreGhosts S) (meta : MetaGhosts M) where
   check_ends copy MetaFault before after old new w = tt
   check_ends copy answer before after old new w = checked_ends copy after.notes (state_of copy.id after.entries) _ w.0
 
-  put_ends : (copy : Copied) (n : ℕ) (key : Option ObjectKey) (answer : Answer) (old new : S) → PutRow store.content store.control copy n key (Ok (Ends answer)) old new → MayEnd answer
+  put_ends : (copy : Copied) (n : ℕ) (key : Option ObjectKey) (answer : Answer) (old new : S) → PutObjectRow store.content store.control copy n key (Ok (Ends answer)) old new → MayEnd answer
   put_ends copy n None answer old new w = let e = w.0 in absurd (cc (e))
   put_ends copy n (Some key) StoreFault old new w = tt
   put_ends copy n (Some key) answer old new w = let e = w.0 in absurd (cc (e))
@@ -74,7 +74,7 @@ module _ {S M : Type 0} (store : StoreGhosts S) (meta : MetaGhosts M) where
   delete_ends copy view n (Some key) answer old new w = deleted_ends copy view (n + 1) (slice_get (keys copy) (n + 1)) _ w.0
 
   -- what a turn of a copy returns
-  pub copy_ends : (copy : Copied) (origin : EventOrigin) (next : CopyStep) (answer : Answer) (old new : Tiers S M) → CopyRow store.content store.control meta.content meta.control copy origin next (Ok (Ends answer)) old new
+  pub copy_ends : (copy : Copied) (origin : EventOrigin) (next : CopyStep) (answer : Answer) (old new : Tiers S M) → CopyTurnRow store.content store.control meta.content meta.control copy origin next (Ok (Ends answer)) old new
       → MayEnd answer
   copy_ends copy origin Start answer old new w = start_ends copy origin answer old.meta new.meta w.1
   copy_ends copy origin (Put n) answer old new w = put_ends copy n (slice_get (keys copy) n) answer old.store new.store w.1
@@ -98,7 +98,7 @@ module _ {S M : Type 0} (store : StoreGhosts S) (meta : MetaGhosts M) where
   check_tells copy (Ends MetaFault) before after old new w = w.content.is_observable
   check_tells copy turn before after old new w = w.1.content.is_observable
 
-  put_tells : (copy : Copied) (n : ℕ) (key : Option ObjectKey) (result : CopyTurn) (old new : S) → PutRow store.content store.control copy n key (Ok result) old new → (store.content new).is_observable ≡ (store.content old).is_observable
+  put_tells : (copy : Copied) (n : ℕ) (key : Option ObjectKey) (result : CopyTurn) (old new : S) → PutObjectRow store.content store.control copy n key (Ok result) old new → (store.content new).is_observable ≡ (store.content old).is_observable
   put_tells copy n None turn old new w = ap (λ (s : S). (store.content s).is_observable) w.1
   put_tells copy n (Some key) (Ends StoreFault) old new w = w.puts.content.is_observable
   put_tells copy n (Some key) turn old new w = w.1.puts.content.is_observable
@@ -109,7 +109,7 @@ module _ {S M : Type 0} (store : StoreGhosts S) (meta : MetaGhosts M) where
   delete_tells copy view n (Some key) (Ends StoreFault) old new w = w.content.is_observable
   delete_tells copy view n (Some key) turn old new w = w.1.content.is_observable
 
-  pub copy_tells : (copy : Copied) (origin : EventOrigin) (next : CopyStep) (turn : CopyTurn) (old new : Tiers S M) → CopyRow store.content store.control meta.content meta.control copy origin next (Ok turn) old new
+  pub copy_tells : (copy : Copied) (origin : EventOrigin) (next : CopyStep) (turn : CopyTurn) (old new : Tiers S M) → CopyTurnRow store.content store.control meta.content meta.control copy origin next (Ok turn) old new
       → TellsOn old.store old.meta new.store new.meta
   copy_tells copy origin Start turn old new w = (ap (λ (t : Tiers S M). (store.content t.store).is_observable) w.0, start_tells copy origin turn old.meta new.meta w.1)
   copy_tells copy origin (Put n) turn old new w = (put_tells copy n (slice_get (keys copy) n) turn old.store new.store w.1, ap (λ (t : Tiers S M). (meta.content t.meta).is_observable) w.0)
@@ -121,7 +121,7 @@ module _ {S M : Type 0} (store : StoreGhosts S) (meta : MetaGhosts M) where
   start_dry copy origin e old new (inl same) = ap (λ (m : M). (meta.content m).is_observable) same
   start_dry copy origin e old new (inr k) = k.content.is_observable
 
-  put_dry : (copy : Copied) (n : ℕ) (key : Option ObjectKey) (e : _) (old new : S) → PutRow store.content store.control copy n key (Err e) old new → (store.content new).is_observable ≡ (store.content old).is_observable
+  put_dry : (copy : Copied) (n : ℕ) (key : Option ObjectKey) (e : _) (old new : S) → PutObjectRow store.content store.control copy n key (Err e) old new → (store.content new).is_observable ≡ (store.content old).is_observable
   put_dry copy n None e old new w = ap (λ (s : S). (store.content s).is_observable) w.1
   put_dry copy n (Some key) e old new (inl same) = ap (λ (s : S). (store.content s).is_observable) same
   put_dry copy n (Some key) e old new (inr w) = w.puts.content.is_observable
@@ -130,7 +130,7 @@ module _ {S M : Type 0} (store : StoreGhosts S) (meta : MetaGhosts M) where
   finish_dry copy origin e old new (inl same) = ap (λ (m : M). (meta.content m).is_observable) same
   finish_dry copy origin e old new (inr k) = k.content.is_observable
 
-  pub dry_tells : (copy : Copied) (origin : EventOrigin) (next : CopyStep) (e : _) (old new : Tiers S M) → CopyRow store.content store.control meta.content meta.control copy origin next (Err e) old new
+  pub dry_tells : (copy : Copied) (origin : EventOrigin) (next : CopyStep) (e : _) (old new : Tiers S M) → CopyTurnRow store.content store.control meta.content meta.control copy origin next (Err e) old new
       → TellsOn old.store old.meta new.store new.meta
   dry_tells copy origin Start e old new w = (ap (λ (t : Tiers S M). (store.content t.store).is_observable) w.0, start_dry copy origin e old.meta new.meta w.1)
   dry_tells copy origin (Put n) e old new w = (put_dry copy n (slice_get (keys copy) n) e old.store new.store w.1, ap (λ (t : Tiers S M). (meta.content t.meta).is_observable) w.0)
@@ -140,10 +140,10 @@ module _ {S M : Type 0} (store : StoreGhosts S) (meta : MetaGhosts M) where
 
 module _ {D : Type 0} where
   -- the lead is kept as it is seen
-  pub keeps_seen : (x : Node D) (s : log.Seen) (g : StartSnapshot) → KeepsLead x g → seen_rows.KeepsLead (node_of x s) g
+  pub keeps_seen : (x : Node D) (s : log.LogSeen) (g : StartSnapshot) → KeepsLead x g → seen_rows.KeepsLead (node_of x s) g
   keeps_seen x s g k = record { stops = k.stops; up = k.up; role = k.role }
 
-  pub keeps_back : (x : Node D) (s : log.Seen) (g : StartSnapshot) → seen_rows.KeepsLead (node_of x s) g → KeepsLead x g
+  pub keeps_back : (x : Node D) (s : log.LogSeen) (g : StartSnapshot) → seen_rows.KeepsLead (node_of x s) g → KeepsLead x g
   keeps_back x s g k = record { stops = k.stops; up = k.up; role = k.role }
 
 -- such an answer has its row

@@ -6,9 +6,9 @@ use Rattle.tier_base.specs.declared.plain.State.TheVariants.{CopyStarted, CopyFi
 use Rattle.object_store.specs.declared.store.Store.{Ghosts as StoreGhosts}
 use Rattle.meta_log.specs.declared.log.MetaLog.{Ghosts as MetaGhosts}
 use Rattle.meta_log.specs.declared.event_origin.EventOrigin.{EventOrigin}
-use Rattle.remote_view.specs.Fold.{Seen as View, state_of}
+use Rattle.remote_view.specs.Fold.{EntriesSeen as View, state_of}
 use Rattle.copy_task.specs.Copying.{Copied, keys}
-use Rattle.copy_task.specs.Turns.{Tiers, StartRow, FinishRow, CheckRow, PutRow, DeleteRow, CopyRow, checked, delete_at, overtaken, put_at}
+use Rattle.copy_task.specs.Turns.{Tiers, StartRow, FinishRow, CheckRow, PutObjectRow, DeleteRow, CopyTurnRow, checked, delete_at, overtaken, put_at}
 use Rattle.copy_task.specs.declared.turn.CopyTurn.{CopyTurn}
 use Rattle.copy_task.specs.declared.turn.CopyTurn.TheVariants.{Goes as GoesOn, Ends}
 use Rattle.copy_task.specs.declared.turn.CopyStep.{CopyStep}
@@ -57,7 +57,7 @@ module _ {S M : Type 0} (store : StoreGhosts S) (meta : MetaGhosts M) where
       counts_as turn (checked copy after.notes (state_of copy.id after.entries)) s s' m m' w.0
       (meta_went store meta (copy_outcome (checked copy after.notes (state_of copy.id after.entries))) s s' m m' _ (checked_clear copy after.notes (state_of copy.id after.entries)) w.1.control.ran one)
 
-  put_counts : (copy : Copied) (n : ℕ) (key : Option ObjectKey) (turn : CopyTurn) (s s' : S) (m m' : M) → m' ≡ m → PutRow store.content store.control copy n key (Ok turn) s s'
+  put_counts : (copy : Copied) (n : ℕ) (key : Option ObjectKey) (turn : CopyTurn) (s s' : S) (m m' : M) → m' ≡ m → PutObjectRow store.content store.control copy n key (Ok turn) s s'
       → Counted store meta (copy_outcome turn) s s' m m'
   put_counts copy n None turn s s' m m' two w =
       let is : turn ≡ GoesOn Finish = cc (w.0) in
@@ -79,7 +79,7 @@ module _ {S M : Type 0} (store : StoreGhosts S) (meta : MetaGhosts M) where
       (store_went store meta (copy_outcome (delete_at copy view (n + 1) next)) s s' m m' _ (deleted_clear copy view (n + 1) next) w.1.control.ran two)
 
   pub copy_counts : (copy : Copied) (origin : EventOrigin) (next : CopyStep) (turn : CopyTurn) (old new : Tiers S M)
-      → CopyRow store.content store.control meta.content meta.control copy origin next (Ok turn) old new
+      → CopyTurnRow store.content store.control meta.content meta.control copy origin next (Ok turn) old new
       → Counted store meta (copy_outcome turn) old.store new.store old.meta new.meta
   copy_counts copy origin Start turn old new w =
       start_counts copy origin turn old.store new.store old.meta new.meta (ap (λ (t : Tiers S M). t.store) w.0) w.1

@@ -11,20 +11,20 @@ use Rattle.object_store.specs.declared.call.StoreCall.TheVariants.{Get}
 use Rattle.object_store.specs.declared.placing.Spot.{Spot}
 use Rattle.object_store.specs.Place.{short_of}
 use Rattle.meta_log.specs.declared.log.MetaLog.{Ghosts as MetaGhosts}
-use Rattle.remote_view.specs.Fold.{Seen as View, entry_of}
+use Rattle.remote_view.specs.Fold.{EntriesSeen as View, entry_of}
 use Rattle.remote_find.specs.declared.piece.Piece.{Piece}
 use Rattle.tier_fetch.specs.declared.turn.FetchTurn.{FetchTurn}
 use Rattle.tier_fetch.specs.declared.turn.FetchTurn.TheVariants as fetch
 use Rattle.tier_fetch.specs.declared.turn.FetchStep.TheVariants as fetching
 use Rattle.tier_fetch.specs.declared.turn.Span.{Span}
-use Rattle.tier_fetch.specs.Turns.{Tiers, FetchRow, spot_in}
+use Rattle.tier_fetch.specs.Turns.{Tiers, RemoteFetchRow, spot_in}
 use Rattle.time_find.specs.declared.turn.Asked.{Asked}
 use Rattle.time_find.specs.declared.turn.SearchStep.{SearchStep}
 use Rattle.time_find.specs.declared.turn.SearchStep.TheVariants.{Seek, Times as ReadsTimes, Index, Log}
 use Rattle.time_find.specs.declared.turn.TimeTurn.{TimeTurn}
 use Rattle.time_find.specs.declared.turn.TimeTurn.TheVariants.{Goes, Ends}
 use Rattle.time_find.specs.Passing.{Seeks}
-use Rattle.time_find.specs.Turns.{IsSearched, TimesBytes, Times, Indexes, Searches, SeekRow, TimesRow, TimeRow, wanted_at}
+use Rattle.time_find.specs.Turns.{IsSearched, TimesBytes, Times, Indexes, SearchTakes, SeekRow, TimesRow, TimeRow, wanted_at}
 use Rattle.plain_log.specs.declared.answer.Answer.{Answer}
 use Rattle.plain_log.specs.declared.answer.Answer.TheVariants.{MetaFault, StoreFault, Damaged, Run, Offset}
 use Rattle.plain_log.specs.declared.answer.Place.TheVariants.{Meta}
@@ -59,7 +59,7 @@ module _ {S M : Type 0} (store : StoreGhosts S) (meta : MetaGhosts M) where
   indexes_counts cursor from piece (fetch.Goes next) turn s s' m m' w k = elim w [ ]
   indexes_counts cursor from piece (fetch.Ends answer) turn s s' m m' w k = date_as turn (Ends answer) s s' m m' w k
 
-  searches_counts : (asked : Asked) (from : ℕ) (found : FetchTurn) (turn : TimeTurn) (s s' : S) (m m' : M) → Searches asked from (Ok found) (Ok turn)
+  searches_counts : (asked : Asked) (from : ℕ) (found : FetchTurn) (turn : TimeTurn) (s s' : S) (m m' : M) → SearchTakes asked from (Ok found) (Ok turn)
       → Counted store meta (fetch_outcome found) s s' m m' → Counted store meta (date_outcome turn) s s' m m'
   searches_counts asked from (fetch.Ends (Run tier size stop bytes)) turn s s' m m' w k =
       clear store meta (date_outcome turn) s s' m m' (searched_clear asked from bytes turn w) k.1 k.2
@@ -105,15 +105,15 @@ module _ {S M : Type 0} (store : StoreGhosts S) (meta : MetaGhosts M) where
       (ap (λ (t : Tiers S M). t.store) same) (ap (λ (t : Tiers S M). t.meta) same)
 
   index_counts : (asked : Asked) (line : List (ℕ × ℕ)) (cursor from : ℕ) (piece : Piece) (found : Result FetchTurn AllocError) (turn : TimeTurn) (old new : Tiers S M)
-      → FetchRow store.content store.control meta.content meta.control (wanted_at asked from) line (fetching.Index piece) found old new
+      → RemoteFetchRow store.content store.control meta.content meta.control (wanted_at asked from) line (fetching.Index piece) found old new
       → Indexes cursor piece from found (Ok turn) → Counts old new turn
   index_counts asked line cursor from piece (Ok found) turn old new row w =
       indexes_counts cursor from piece found turn old.store new.store old.meta new.meta w (fetch_counts store meta (wanted_at asked from) line (fetching.Index piece) found old new row)
   index_counts asked line cursor from piece (Err e) turn old new row w = absurd (let no : false ≡ true = w in cc)
 
   log_counts : (asked : Asked) (line : List (ℕ × ℕ)) (from : ℕ) (piece : Piece) (span : Span) (found : Result FetchTurn AllocError) (turn : TimeTurn) (old new : Tiers S M)
-      → FetchRow store.content store.control meta.content meta.control (wanted_at asked from) line (fetching.Log piece span) found old new
-      → Searches asked from found (Ok turn) → Counts old new turn
+      → RemoteFetchRow store.content store.control meta.content meta.control (wanted_at asked from) line (fetching.Log piece span) found old new
+      → SearchTakes asked from found (Ok turn) → Counts old new turn
   log_counts asked line from piece span (Ok found) turn old new row w =
       searches_counts asked from found turn old.store new.store old.meta new.meta w (fetch_counts store meta (wanted_at asked from) line (fetching.Log piece span) found old new row)
   log_counts asked line from piece span (Err e) turn old new row w = absurd (let no : false ≡ true = w in cc)

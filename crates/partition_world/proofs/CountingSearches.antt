@@ -13,10 +13,10 @@ use Rattle.object_store.specs.Place.{short_of, short_in}
 use Rattle.meta_log.specs.declared.log.MetaLog.{Ghosts as MetaGhosts}
 use Rattle.index_cache.specs.Cache.{Cache, found}
 use Rattle.sparse_index.specs.Offsets.{OffsetTable}
-use Rattle.remote_view.specs.Fold.{Seen as View, entry_of}
+use Rattle.remote_view.specs.Fold.{EntriesSeen as View, entry_of}
 use Rattle.remote_find.specs.declared.piece.Piece.{Piece}
 use Rattle.remote_find.specs.Pieces.{piece_at}
-use Rattle.tier_fetch.specs.Turns.{Tiers, FetchRow, RefreshRow, IndexRow, LoadRow, LogRow, LoadsBytes, Loads, CutsBytes, Cuts, spot_in, chosen as found_piece}
+use Rattle.tier_fetch.specs.Turns.{Tiers, RemoteFetchRow, RefreshRow, IndexRow, LoadRow, LogRow, LoadsBytes, Loads, CutsBytes, CutsRunOut, spot_in, chosen as found_piece}
 use Rattle.tier_fetch.specs.declared.turn.FetchTurn.{FetchTurn}
 use Rattle.tier_fetch.specs.declared.turn.FetchTurn.TheVariants as fetch
 use Rattle.tier_fetch.specs.declared.turn.FetchStep.{FetchStep as Search}
@@ -26,7 +26,7 @@ use Rattle.tier_fetch.specs.declared.turn.FetchRequest.{FetchRequest}
 use Rattle.rebuild_task.specs.declared.turn.RebuildTurn.{RebuildTurn}
 use Rattle.rebuild_task.specs.declared.turn.RebuildTurn.TheVariants.{Goes, Ends}
 use Rattle.rebuild_task.specs.declared.turn.RebuildRequest.{RebuildRequest as Rebuilt}
-use Rattle.rebuild_task.specs.Turns.{TakesBytes, Takes, EpochsRow, RebuildRow}
+use Rattle.rebuild_task.specs.Turns.{TakesBytes, TakesEpochs, EpochsRow, RebuildRow}
 use Rattle.plain_log.specs.declared.answer.Answer.{Answer}
 use Rattle.plain_log.specs.declared.answer.Answer.TheVariants.{MetaFault, StoreFault, Damaged, Run}
 use Rattle.partition_world.specs.ActorStates.{fetch_outcome, rebuild_outcome}
@@ -96,7 +96,7 @@ module _ {S M : Type 0} (store : StoreGhosts S) (meta : MetaGhosts M) where
       load_counts wanted piece view (spot_in wanted.partition piece.id part.Index (entry_of piece.id view.entries)) turn cache cache' s s' m m' two w
 
   cuts_counts : (wanted : FetchRequest) (piece : Piece) (spot : Spot) (span : Span) (answer : Result (Option (List ℕ)) Trouble) (turn : FetchTurn) (s s' : S) (m m' : M) → m' ≡ m
-      → Ran Get (fate_of answer) (store.control s) (store.control s') → Cuts wanted piece spot span answer (Ok turn) → Counted store meta (fetch_outcome turn) s s' m m'
+      → Ran Get (fate_of answer) (store.control s) (store.control s') → CutsRunOut wanted piece spot span answer (Ok turn) → Counted store meta (fetch_outcome turn) s s' m m'
   cuts_counts wanted piece spot span (Err Failed) turn s s' m m' two r w =
       fetch_as turn (fetch.Ends StoreFault) s s' m m' w (store_failed store meta s s' m m' Get r two)
   cuts_counts wanted piece spot span (Err NoMemory) turn s s' m m' two r w = absurd (let no : false ≡ true = w in cc)
@@ -119,7 +119,7 @@ module _ {S M : Type 0} (store : StoreGhosts S) (meta : MetaGhosts M) where
       cuts_counts wanted piece place.1 span w.answer turn s s' m m' two w.gets.control w.cuts
 
   takes_counts : (wanted : ℕ) (spot : Spot) (answer : Result (Option (List ℕ)) Trouble) (turn : RebuildTurn) (s s' : S) (m m' : M) → m' ≡ m
-      → Ran Get (fate_of answer) (store.control s) (store.control s') → Takes wanted spot answer (Ok turn) → Counted store meta (rebuild_outcome turn) s s' m m'
+      → Ran Get (fate_of answer) (store.control s) (store.control s') → TakesEpochs wanted spot answer (Ok turn) → Counted store meta (rebuild_outcome turn) s s' m m'
   takes_counts wanted spot (Err Failed) turn s s' m m' two r w =
       rebuild_as turn (Ends StoreFault) s s' m m' w (store_failed store meta s s' m m' Get r two)
   takes_counts wanted spot (Err NoMemory) turn s s' m m' two r w = absurd (let no : false ≡ true = w in cc)
@@ -144,7 +144,7 @@ module _ {S M : Type 0} (store : StoreGhosts S) (meta : MetaGhosts M) where
   rebuild_counts wanted line view turn s s' m m' two w = epochs_counts wanted.offset view _ turn s s' m m' two w
 
   pub fetch_counts : (wanted : FetchRequest) (line : List (ℕ × ℕ)) (next : Search) (turn : FetchTurn) (old new : Tiers S M)
-      → FetchRow store.content store.control meta.content meta.control wanted line next (Ok turn) old new
+      → RemoteFetchRow store.content store.control meta.content meta.control wanted line next (Ok turn) old new
       → Counted store meta (fetch_outcome turn) old.store new.store old.meta new.meta
   fetch_counts wanted line Refresh turn old new w =
       refresh_counts wanted line turn old.view new.view old.store new.store old.meta new.meta (ap (λ (t : Tiers S M). t.store) w.0) w.1

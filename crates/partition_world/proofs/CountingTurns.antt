@@ -18,7 +18,7 @@ use Rattle.time_find.specs.declared.turn.SearchStep.TheVariants.{Seek}
 use Rattle.time_find.specs.declared.turn.TimeTurn.{TimeTurn}
 use Rattle.time_find.specs.declared.turn.TimeTurn.TheVariants as dating
 use Rattle.time_find.specs.Passing.{passed_over}
-use Rattle.time_find.specs.Turns.{OwnRow, ReadRow as RunRow}
+use Rattle.time_find.specs.Turns.{LocalSearchRow, ReadLocalRow as RunRow}
 use Rattle.expiry_task.specs.declared.turn.ExpiredSegment.{ExpiredSegment}
 use Rattle.expiry_task.specs.declared.turn.DeletionStep.{DeletionStep as Deletion}
 use Rattle.rebuild_task.specs.declared.turn.RebuildStep.{RebuildStep as Rebuild}
@@ -45,15 +45,15 @@ use Rattle.partition_world.specs.declared.actor_state.Outcome.TheVariants.{Answe
 use Rattle.partition_world.specs.declared.actor_state.InProgress.{InProgress}
 use Rattle.partition_world.specs.declared.actor_state.InProgress.TheVariants.{Idle, Noted, Copies, Seeks, Dates, Expires, Rebuilds}
 use Rattle.partition_world.specs.ActorStates.{outcome_of, copy_outcome, fetch_outcome, date_outcome, expiry_outcome, rebuild_outcome}
-use Rattle.partition_world.specs.Tier.{Refreshes, FailsToRead, put_broker_tier}
-use Rattle.partition_world.specs.TurnsOfCopy.{ReadRow, LeadersFirstRow, CopyFirstRow, ChooseRow, tiers_of, origin_of}
+use Rattle.partition_world.specs.Tier.{RefreshesBroker, FailsToRead, put_broker_tier}
+use Rattle.partition_world.specs.TurnsOfCopy.{ReadSegmentRow, LeadersFirstRow, CopyFirstRow, ChooseRow, tiers_of, origin_of}
 use Rattle.partition_world.specs.TurnsOfFetch.{FetchOnRow, GoesOnFetch, fetch_tiers, wanted_of}
-use Rattle.partition_world.specs.TurnsOfDate.{SearchesOwn, SearchRow, Searches, DateOnRow, asked_of, is_own, resumed_at, resumed_with}
-use Rattle.partition_world.specs.TurnsOfExpiry.{RaiseRow, ExpireOnRow, ExpiresBy, expiry_tiers}
+use Rattle.partition_world.specs.TurnsOfDate.{SearchesOwn, SearchRow, SearchesOn, DateOnRow, asked_of, is_own, resumed_at, resumed_with}
+use Rattle.partition_world.specs.TurnsOfExpiry.{ExpiryRaiseRow, ExpireOnRow, ExpiresBy, expiry_tiers}
 use Rattle.partition_world.specs.TurnsOfRebuild.{AnswersAtOnce, RefreshedRow, with_line, wanted_of as rebuilt_to}
 use Rattle.partition_world.specs.TurnsOfOffset.{OffsetOnRow}
 use Rattle.partition_world.specs.TurnsOfTrim.{TrimFirstRow, TrimOnRow}
-use Rattle.partition_world.specs.Turns.{OwnOnRow, BeginRow, ContinuedRow, CopyingRow, SeekingRow, DatingRow, DeletingRow, JoinSecondRow, RebuildingRow, Row}
+use Rattle.partition_world.specs.Turns.{OwnOnRow, BeginRow, ContinuedRow, CopyLaterRow, SeekingRow, DatingRow, DeletingRow, JoinSecondRow, RebuildingRow, Row}
 use Rattle.partition_commands.specs.Disks.{HaveDisks, DiskFails}
 use Rattle.partition_commands.specs.Faults.{is_of_disk, is_of_store, is_of_meta, after_fault}
 use Rattle.partition_commands.proofs.Told.{Told, OwnTold}
@@ -139,7 +139,7 @@ module _ {D S M : Type 0} (disk : DiskGhosts D) (store : StoreGhosts S) (meta : 
   unread_counts A h t broker_tier h' t' same w =
       (quiet_same disk.control h h' same, store_still store meta t.store t'.store (ap (λ (k : RemoteTier S M). k.store) w.after), w.reads.control.ran.once refl)
 
-  refresh_still : (h : PartitionState D) (t : RemoteTier S M) (b : ℕ) (broker_tier : BrokerTierState) (h' : PartitionState D) (t' : RemoteTier S M) → h' ≡ h → Refreshes meta t b broker_tier t' → AllStill h t h' t'
+  refresh_still : (h : PartitionState D) (t : RemoteTier S M) (b : ℕ) (broker_tier : BrokerTierState) (h' : PartitionState D) (t' : RemoteTier S M) → h' ≡ h → RefreshesBroker meta t b broker_tier t' → AllStill h t h' t'
   refresh_still h t b broker_tier h' t' same w =
       (quiet_same disk.control h h' same, store_still store meta t.store t'.store (ap (λ (k : RemoteTier S M). k.store) w.after), w.reads.control.ran.went refl)
 
@@ -178,7 +178,7 @@ module _ {D S M : Type 0} (disk : DiskGhosts D) (store : StoreGhosts S) (meta : 
   -- a log is read for a copy
 
   next_counts : (p : PartitionId) (h : PartitionState D) (t : RemoteTier S M) (b : ℕ) (x y : Node D) (broker_tier z : BrokerTierState) (offset : ℕ) (o : Outcome) (h' : PartitionState D) (t' : RemoteTier S M) → slice_get h.nodes b ≡ Some x
-      → ReadRow disk p b x broker_tier offset o y z → h' ≡ put_node h b y → t' ≡ put_broker_tier t b z → Leaving (Once disk.control h b h') h t o h' t'
+      → ReadSegmentRow disk p b x broker_tier offset o y z → h' ≡ put_node h b y → t' ≡ put_broker_tier t b z → Leaving (Once disk.control h b h') h t o h' t'
   next_counts p h t b x y broker_tier z offset o h' t' at w held tier = go o w
     where
       stores : StoreStill store meta t.store t'.store
@@ -187,7 +187,7 @@ module _ {D S M : Type 0} (disk : DiskGhosts D) (store : StoreGhosts S) (meta : 
       metas : MetaStill store meta t.meta t'.meta
       metas = meta_still store meta t.meta t'.meta (ap (λ (k : RemoteTier S M). k.meta) tier)
 
-      go : (o : Outcome) → ReadRow disk p b x broker_tier offset o y z → Leaving (Once disk.control h b h') h t o h' t'
+      go : (o : Outcome) → ReadSegmentRow disk p b x broker_tier offset o y z → Leaving (Once disk.control h b h') h t o h' t'
       go (Answers DiskFault) w =
           let one : OneFault disk.control x.log y.log = rw w.0.reads.after w.0.cause in
           (once_put disk.control h b x y h' at one held, stores, metas)
@@ -231,7 +231,7 @@ module _ {D S M : Type 0} (disk : DiskGhosts D) (store : StoreGhosts S) (meta : 
   -- and of an expiry, which raises the log start offset as the command does
 
   raise_counts : (A : Type 0) (h : PartitionState D) (t : RemoteTier S M) (b : ℕ) (x : Node D) (start : ℕ) (answer : Answer) (h' : PartitionState D) (t' : RemoteTier S M) → slice_get h.nodes b ≡ Some x → is_up x ≡ true → t' ≡ t
-      → RaiseRow h x.role start answer h' → Leaving A h t (Answers answer) h' t'
+      → ExpiryRaiseRow h x.role start answer h' → Leaving A h t (Answers answer) h' t'
   raise_counts A h t b x start (StaleEpoch e) h' t' at up same w =
       tier_still h t h' t' (row_counts disk.content disk.control h b x None (Raise start) (turned.Answers (StaleEpoch e)) h' at (up, w)) same
   raise_counts A h t b x start (Raised to) h' t' at up same w =
@@ -318,7 +318,7 @@ module _ {D S M : Type 0} (disk : DiskGhosts D) (store : StoreGhosts S) (meta : 
           quiet (date_outcome to) (searched_clear asked (passed_over asked.ts cursor (closed_in x.log)) row.out.bytes to row.searched)
           (quiet_put disk.control h b x y h' at row.quiet.1 w.after)
 
-      by : OwnRow disk.content disk.control x.log asked cursor turn w.kept → Leaving (Once disk.control h b h') h t (date_outcome turn) h' t'
+      by : LocalSearchRow disk.content disk.control x.log asked cursor turn w.kept → Leaving (Once disk.control h b h') h t (date_outcome turn) h' t'
       by (inl (past, is, same)) =
           subst (λ (u : TimeTurn). Leaving (Once disk.control h b h') h t (date_outcome u) h' t') (sym is)
           (tier_still h t h' t' (quiet_log disk.control h b x y h' at same w.after) tier)
@@ -335,7 +335,7 @@ module _ {D S M : Type 0} (disk : DiskGhosts D) (store : StoreGhosts S) (meta : 
 
   searches_counts : (p : PartitionId) (h : PartitionState D) (t : RemoteTier S M) (b : ℕ) (x : Node D) (broker_tier : BrokerTierState) (g : StartSnapshot) (ts : ℤ) (cursor : ℕ)
       (next : Dating) (turn : TimeTurn) (h' : PartitionState D) (t' : RemoteTier S M)
-      → slice_get h.nodes b ≡ Some x → Searches disk store meta p h t b x broker_tier g ts cursor next turn h' t'
+      → slice_get h.nodes b ≡ Some x → SearchesOn disk store meta p h t b x broker_tier g ts cursor next turn h' t'
       → Leaving (Once disk.control h b h') h t (date_outcome turn) h' t'
   searches_counts p h t b x broker_tier g ts cursor next turn h' t' at w =
       let on = resumed_at h.registry.start cursor in
@@ -364,7 +364,7 @@ module _ {D S M : Type 0} (disk : DiskGhosts D) (store : StoreGhosts S) (meta : 
   recorded_counts p config h t b x broker_tier g other o h' t' at w = joined_counts h t b x g other o h' t' at w
 
   copying_counts : (A : Type 0) (h : PartitionState D) (t : RemoteTier S M) (b : ℕ) (x : Node D) (broker_tier : BrokerTierState) (g : StartSnapshot) (copy : Copied) (next : CopyStep) (command : Command) (o : Outcome) (h' : PartitionState D) (t' : RemoteTier S M)
-      → CopyingRow store meta h t b x broker_tier g copy next command o h' t' → Leaving A h t o h' t'
+      → CopyLaterRow store meta h t b x broker_tier g copy next command o h' t' → Leaving A h t o h' t'
   copying_counts A h t b x broker_tier g copy next Copy o h' t' (inl lost, same) = counts_as A h t h' t' o (Answers LostLead) lost.1 (all_still h t h' t' same lost.2)
   copying_counts A h t b x broker_tier g copy next Copy o h' t' (inr (keeps, (turn, is, goes)), same) =
       counts_as A h t h' t' o (copy_outcome turn) is

@@ -15,18 +15,18 @@ use Rattle.object_store.specs.declared.placing.Spot.{Spot}
 use Rattle.meta_log.specs.declared.log.MetaLog.{Ghosts as MetaGhosts}
 use Rattle.meta_log.specs.declared.call.MetaCall.TheVariants.{Read}
 use Rattle.meta_log.specs.declared.event_origin.EventOrigin.{EventOrigin}
-use Rattle.meta_log.specs.Calls.{Appends}
+use Rattle.meta_log.specs.Calls.{AppendsToMetaLog}
 use Rattle.segment_meta.specs.declared.note.Note.{Note}
 use Rattle.sparse_index.specs.Offsets.{OffsetTable}
 use Rattle.index_cache.specs.Cache.{Cache, found}
-use Rattle.remote_view.specs.Fold.{Seen as View, entry_of}
+use Rattle.remote_view.specs.Fold.{EntriesSeen as View, entry_of}
 use Rattle.remote_find.specs.declared.piece.Piece.{Piece}
 use Rattle.view_refresh.specs.Refreshing.{Halted}
 use Rattle.copy_task.specs.Copying.{Copied, keys}
-use Rattle.copy_task.specs.Turns.{Tiers, PutRow, CopyRow}
+use Rattle.copy_task.specs.Turns.{Tiers, PutObjectRow, CopyTurnRow}
 use Rattle.copy_task.specs.declared.turn.CopyStep.{CopyStep}
 use Rattle.copy_task.specs.declared.turn.CopyStep.TheVariants.{Start, Put, Finish, Check, Delete}
-use Rattle.tier_fetch.specs.Turns.{Tiers as Fetched, FetchRow, IndexRow, LoadRow, LogRow, Loads, Cuts, spot_in}
+use Rattle.tier_fetch.specs.Turns.{Tiers as Fetched, RemoteFetchRow, IndexRow, LoadRow, LogRow, Loads, CutsRunOut, spot_in}
 use Rattle.tier_fetch.specs.declared.turn.FetchTurn.{FetchTurn}
 use Rattle.tier_fetch.specs.declared.turn.FetchTurn.TheVariants as fetch
 use Rattle.tier_fetch.specs.declared.turn.FetchStep.{FetchStep as Search}
@@ -36,19 +36,19 @@ use Rattle.tier_fetch.specs.declared.turn.FetchRequest.{FetchRequest}
 use Rattle.time_find.specs.declared.turn.Asked.{Asked}
 use Rattle.time_find.specs.declared.turn.SearchStep.{SearchStep as Dating}
 use Rattle.time_find.specs.declared.turn.SearchStep.TheVariants as dating
-use Rattle.time_find.specs.Turns.{Times, TimesRow, Indexes, Searches, TimeRow, wanted_at}
+use Rattle.time_find.specs.Turns.{Times, TimesRow, Indexes, SearchTakes, TimeRow, wanted_at}
 use Rattle.time_find.specs.Turns as dates
 use Rattle.expiry_task.specs.declared.turn.ExpiredSegment.{ExpiredSegment}
 use Rattle.expiry_task.specs.declared.turn.DeletionStep.{DeletionStep as Deletion}
 use Rattle.expiry_task.specs.declared.turn.DeletionStep.TheVariants as deletion
 use Rattle.expiry_task.specs.Turns as expiring
 use Rattle.rebuild_task.specs.declared.turn.RebuildRequest.{RebuildRequest as Rebuilt}
-use Rattle.rebuild_task.specs.Turns.{Takes, EpochsRow, RebuildRow}
+use Rattle.rebuild_task.specs.Turns.{TakesEpochs, EpochsRow, RebuildRow}
 use Rattle.plain_log.specs.declared.answer.Answer.TheVariants.{Run}
 use Rattle.partition_commands.specs.declared.partition_state.Node.{Node}
 use Rattle.partition_commands.specs.declared.partition_state.PartitionState.{PartitionState}
 use Rattle.partition_commands.specs.Disks.{HaveDisks, NoneFails}
-use Rattle.partition_commands.specs.Partition.{line_of, put_node, Rests, KeepsPartition}
+use Rattle.partition_commands.specs.Partition.{line_of, put_node, LogRests, KeepsPartition}
 use Rattle.partition_commands.proofs.CountingDisks.{Quietly, quiet_same, quiet_put}
 use Rattle.laws_partition.proofs.BoolTests.{some_of}
 use Rattle.partition_world.specs.declared.tier.BrokerTierState.{BrokerTierState}
@@ -71,7 +71,7 @@ no_index cursor from piece (fetch.Goes next) e w = elim w [ ]
 no_index cursor from piece (fetch.Ends answer) e w = cc (w)
 
 -- nor a log
-no_search : (asked : Asked) (from : ℕ) (turn : FetchTurn) (e : AllocError) → Searches asked from (Ok turn) (Err e) → ⊥
+no_search : (asked : Asked) (from : ℕ) (turn : FetchTurn) (e : AllocError) → SearchTakes asked from (Ok turn) (Err e) → ⊥
 no_search asked from (fetch.Ends (Run tier size stop bytes)) e w = w
 no_search asked from (fetch.Ends answer) e w = cc (w)
 no_search asked from (fetch.Goes next) e w = w
@@ -103,7 +103,7 @@ module _ {S M : Type 0} (store : StoreGhosts S) (meta : MetaGhosts M) where
       load_dry wanted piece view (spot_in wanted.partition piece.id part.Index (entry_of piece.id view.entries)) e cache cache' s s' w
 
   cuts_well : (wanted : FetchRequest) (piece : Piece) (spot : Spot) (span : Span) (answer : Result (Option (List ℕ)) Trouble) (e : AllocError)
-      → Cuts wanted piece spot span answer (Err e) → answer ≡ Err Failed → ⊥
+      → CutsRunOut wanted piece spot span answer (Err e) → answer ≡ Err Failed → ⊥
   cuts_well wanted piece spot span (Err Failed) e w bad = cc (w)
   cuts_well wanted piece spot span (Err NoMemory) e w bad = cc (bad)
   cuts_well wanted piece spot span (Ok given) e w bad = cc (bad)
@@ -126,7 +126,7 @@ module _ {S M : Type 0} (store : StoreGhosts S) (meta : MetaGhosts M) where
   times_dry asked cursor piece view (Some place) e s s' w =
       reads_dry w.answer s s' (times_well asked cursor piece place.0 place.1 w.answer e w.times) w.gets.control
 
-  takes_well : (wanted : ℕ) (spot : Spot) (answer : Result (Option (List ℕ)) Trouble) (e : AllocError) → Takes wanted spot answer (Err e) → answer ≡ Err Failed → ⊥
+  takes_well : (wanted : ℕ) (spot : Spot) (answer : Result (Option (List ℕ)) Trouble) (e : AllocError) → TakesEpochs wanted spot answer (Err e) → answer ≡ Err Failed → ⊥
   takes_well wanted spot (Err Failed) e w bad = cc (w)
   takes_well wanted spot (Err NoMemory) e w bad = cc (bad)
   takes_well wanted spot (Ok given) e w bad = cc (bad)
@@ -135,14 +135,14 @@ module _ {S M : Type 0} (store : StoreGhosts S) (meta : MetaGhosts M) where
   epochs_dry wanted view None e s s' w = let is = w.0 in absurd (cc (is))
   epochs_dry wanted view (Some spot) e s s' w = reads_dry w.answer s s' (takes_well wanted spot w.answer e w.takes) w.gets.control
 
-  puts_dry : (copy : Copied) (n : ℕ) (key : Option ObjectKey) (e : AllocError) (s s' : S) → PutRow store.content store.control copy n key (Err e) s s' → StoreStill store meta s s'
+  puts_dry : (copy : Copied) (n : ℕ) (key : Option ObjectKey) (e : AllocError) (s s' : S) → PutObjectRow store.content store.control copy n key (Err e) s s' → StoreStill store meta s s'
   puts_dry copy n None e s s' w = let is = w.0 in absurd (cc (is))
   puts_dry copy n (Some key) e s s' (inl same) = store_still store meta s s' same
   puts_dry copy n (Some key) e s s' (inr w) = (w.puts.control.ran.dry refl).faults
 
   -- one call of the metadata log
 
-  appends_dry : (note : Note) (m m' : M) → Appends meta.content meta.control note Dry m m' → MetaStill store meta m m'
+  appends_dry : (note : Note) (m m' : M) → AppendsToMetaLog meta.content meta.control note Dry m m' → MetaStill store meta m m'
   appends_dry note m m' a = (a.control.ran.dry refl).faults
 
   halted_dry : (before after : View) (m m' : M) → Halted meta.content meta.control before after m m' → MetaStill store meta m m'
@@ -155,7 +155,7 @@ module _ {S M : Type 0} (store : StoreGhosts S) (meta : MetaGhosts M) where
   -- what a turn of a task counts that ran out of memory
 
   copy_store : (copy : Copied) (origin : EventOrigin) (next : CopyStep) (e : AllocError) (old new : Tiers S M)
-      → CopyRow store.content store.control meta.content meta.control copy origin next (Err e) old new → StoreStill store meta old.store new.store
+      → CopyTurnRow store.content store.control meta.content meta.control copy origin next (Err e) old new → StoreStill store meta old.store new.store
   copy_store copy origin Start e old new w = store_still store meta old.store new.store (ap (λ (t : Tiers S M). t.store) w.0)
   copy_store copy origin (Put n) e old new w = puts_dry copy n (slice_get (keys copy) n) e old.store new.store w.1
   copy_store copy origin Finish e old new w = store_still store meta old.store new.store (ap (λ (t : Tiers S M). t.store) w.0)
@@ -163,7 +163,7 @@ module _ {S M : Type 0} (store : StoreGhosts S) (meta : MetaGhosts M) where
   copy_store copy origin (Delete n) e old new w = absurd w
 
   copy_meta : (copy : Copied) (origin : EventOrigin) (next : CopyStep) (e : AllocError) (old new : Tiers S M)
-      → CopyRow store.content store.control meta.content meta.control copy origin next (Err e) old new → MetaStill store meta old.meta new.meta
+      → CopyTurnRow store.content store.control meta.content meta.control copy origin next (Err e) old new → MetaStill store meta old.meta new.meta
   copy_meta copy origin Start e old new (same, inl is) = meta_still store meta old.meta new.meta is
   copy_meta copy origin Start e old new (same, inr a) = appends_dry _ old.meta new.meta a
   copy_meta copy origin (Put n) e old new w = meta_still store meta old.meta new.meta (ap (λ (t : Tiers S M). t.meta) w.0)
@@ -173,7 +173,7 @@ module _ {S M : Type 0} (store : StoreGhosts S) (meta : MetaGhosts M) where
   copy_meta copy origin (Delete n) e old new w = absurd w
 
   fetch_store : (wanted : FetchRequest) (line : List (ℕ × ℕ)) (next : Search) (e : AllocError) (old new : Fetched S M)
-      → FetchRow store.content store.control meta.content meta.control wanted line next (Err e) old new → StoreStill store meta old.store new.store
+      → RemoteFetchRow store.content store.control meta.content meta.control wanted line next (Err e) old new → StoreStill store meta old.store new.store
   fetch_store wanted line fetching.Refresh e old new w = store_still store meta old.store new.store (ap (λ (t : Fetched S M). t.store) w.0)
   fetch_store wanted line (fetching.Index piece) e old new w =
       index_dry wanted piece old.view e (found piece.id.0 old.cache.pairs) old.cache new.cache old.store new.store w.1
@@ -181,20 +181,20 @@ module _ {S M : Type 0} (store : StoreGhosts S) (meta : MetaGhosts M) where
       log_dry wanted piece span old.view (spot_in wanted.partition piece.id part.Log (entry_of piece.id old.view.entries)) e old.store new.store w.1
 
   fetch_meta : (wanted : FetchRequest) (line : List (ℕ × ℕ)) (next : Search) (e : AllocError) (old new : Fetched S M)
-      → FetchRow store.content store.control meta.content meta.control wanted line next (Err e) old new → MetaStill store meta old.meta new.meta
+      → RemoteFetchRow store.content store.control meta.content meta.control wanted line next (Err e) old new → MetaStill store meta old.meta new.meta
   fetch_meta wanted line fetching.Refresh e old new w = halted_dry old.view new.view old.meta new.meta w.1
   fetch_meta wanted line (fetching.Index piece) e old new w = meta_still store meta old.meta new.meta (ap (λ (t : Fetched S M). t.meta) w.0)
   fetch_meta wanted line (fetching.Log piece span) e old new w = meta_still store meta old.meta new.meta (ap (λ (t : Fetched S M). t.meta) w.0)
 
   index_store : (asked : Asked) (line : List (ℕ × ℕ)) (cursor : ℕ) (piece : Piece) (from : ℕ) (turn : Result FetchTurn AllocError) (e : AllocError) (old new : Fetched S M)
-      → FetchRow store.content store.control meta.content meta.control (wanted_at asked from) line (fetching.Index piece) turn old new
+      → RemoteFetchRow store.content store.control meta.content meta.control (wanted_at asked from) line (fetching.Index piece) turn old new
       → Indexes cursor piece from turn (Err e) → StoreStill store meta old.store new.store
   index_store asked line cursor piece from (Ok turn) e old new row w = absurd (no_index cursor from piece turn e w)
   index_store asked line cursor piece from (Err k) e old new row w = fetch_store (wanted_at asked from) line (fetching.Index piece) k old new row
 
   log_store : (asked : Asked) (line : List (ℕ × ℕ)) (piece : Piece) (from : ℕ) (span : Span) (turn : Result FetchTurn AllocError) (e : AllocError) (old new : Fetched S M)
-      → FetchRow store.content store.control meta.content meta.control (wanted_at asked from) line (fetching.Log piece span) turn old new
-      → Searches asked from turn (Err e) → StoreStill store meta old.store new.store
+      → RemoteFetchRow store.content store.control meta.content meta.control (wanted_at asked from) line (fetching.Log piece span) turn old new
+      → SearchTakes asked from turn (Err e) → StoreStill store meta old.store new.store
   log_store asked line piece from span (Ok turn) e old new row w = absurd (no_search asked from turn e w)
   log_store asked line piece from span (Err k) e old new row w = fetch_store (wanted_at asked from) line (fetching.Log piece span) k old new row
 
@@ -209,14 +209,14 @@ module _ {S M : Type 0} (store : StoreGhosts S) (meta : MetaGhosts M) where
   time_store asked line cursor (dating.Log piece from span) e old new (inr w) = log_store asked line piece from span w.1.0 e old new w.1.1 w.1.2
 
   index_meta : (asked : Asked) (line : List (ℕ × ℕ)) (cursor : ℕ) (piece : Piece) (from : ℕ) (turn : Result FetchTurn AllocError) (e : AllocError) (old new : Fetched S M)
-      → FetchRow store.content store.control meta.content meta.control (wanted_at asked from) line (fetching.Index piece) turn old new
+      → RemoteFetchRow store.content store.control meta.content meta.control (wanted_at asked from) line (fetching.Index piece) turn old new
       → Indexes cursor piece from turn (Err e) → MetaStill store meta old.meta new.meta
   index_meta asked line cursor piece from (Ok turn) e old new row w = absurd (no_index cursor from piece turn e w)
   index_meta asked line cursor piece from (Err k) e old new row w = fetch_meta (wanted_at asked from) line (fetching.Index piece) k old new row
 
   log_meta : (asked : Asked) (line : List (ℕ × ℕ)) (piece : Piece) (from : ℕ) (span : Span) (turn : Result FetchTurn AllocError) (e : AllocError) (old new : Fetched S M)
-      → FetchRow store.content store.control meta.content meta.control (wanted_at asked from) line (fetching.Log piece span) turn old new
-      → Searches asked from turn (Err e) → MetaStill store meta old.meta new.meta
+      → RemoteFetchRow store.content store.control meta.content meta.control (wanted_at asked from) line (fetching.Log piece span) turn old new
+      → SearchTakes asked from turn (Err e) → MetaStill store meta old.meta new.meta
   log_meta asked line piece from span (Ok turn) e old new row w = absurd (no_search asked from turn e w)
   log_meta asked line piece from span (Err k) e old new row w = fetch_meta (wanted_at asked from) line (fetching.Log piece span) k old new row
 
@@ -274,7 +274,7 @@ module _ {D S M : Type 0} (disk : DiskGhosts D) (store : StoreGhosts S) (meta : 
   held_quiet : (h h' : PartitionState D) → KeepsPartition disk.content disk.control h h' → Quietly disk.control h h'
   held_quiet h h' (inl same) = quiet_same disk.control h h' same
   held_quiet h h' (inr (b, at)) =
-      let x = some_of (λ x. Rests disk.content disk.control h b x h') (slice_get h.nodes b) at in
+      let x = some_of (λ x. LogRests disk.content disk.control h b x h') (slice_get h.nodes b) at in
       quiet_put disk.control h b x.0 (record x.0 { log = x.2.0 }) h' x.1 x.2.2.1 x.2.3
 
   -- what a turn leaves that found no memory

@@ -17,7 +17,7 @@ use Rattle.rebuild_task.specs.declared.turn.RebuildStep.TheVariants.{Epochs, Res
 use Rattle.tier_fetch.specs.declared.turn.FetchStep.{FetchStep as Search}
 use Rattle.tier_fetch.specs.declared.turn.FetchStep.TheVariants.{Refresh}
 use Rattle.tier_fetch.specs.declared.turn.FetchTurn.{FetchTurn}
-use Rattle.time_find.specs.Turns.{OwnRow as OwnSearchRow, ReadRow as SearchReadRow}
+use Rattle.time_find.specs.Turns.{LocalSearchRow as OwnSearchRow, ReadLocalRow as SearchReadRow}
 use Rattle.time_find.specs.declared.turn.Asked.{Asked}
 use Rattle.time_find.specs.declared.turn.SearchStep.{SearchStep as Dating}
 use Rattle.time_find.specs.declared.turn.SearchStep.TheVariants.{Seek}
@@ -30,7 +30,7 @@ use Rattle.plain_log.specs.declared.command.Command.{Command}
 use Rattle.plain_log.specs.declared.command.Command.TheVariants.{Copy, Trim, Expire, Fetch, Join, Raise, Offset}
 use Rattle.plain_log.specs.declared.command.Which.TheVariants.{LatestTiered, At}
 use Rattle.plain_log.specs.declared.command.Config.{Config}
-use Rattle.broker_log.specs.Seen.{Kept as KeptLog, Stays}
+use Rattle.broker_log.specs.Seen.{LogState as KeptLog, LogStays}
 use Rattle.laws_partition.specs.declared.start_snapshot.StartSnapshot.{StartSnapshot}
 use Rattle.laws_partition.specs.declared.start_snapshot.Turned.TheVariants as turned
 use Rattle.laws_partition.proofs.BoolTests.{some_of}
@@ -47,13 +47,13 @@ use Rattle.partition_world.specs.declared.actor_state.Outcome.TheVariants.{Answe
 use Rattle.partition_world.specs.declared.actor_state.InProgress.{InProgress}
 use Rattle.partition_world.specs.declared.actor_state.InProgress.TheVariants.{Idle, Noted, Copies, Seeks, Dates, Expires, Rebuilds}
 use Rattle.partition_world.specs.Tier.{next_of, counted, AtBrokerTier}
-use Rattle.partition_world.specs.TurnsOfCopy.{ReadsLog, ReadRow, ChooseRow, LeadersFirstRow, CopyFirstRow}
+use Rattle.partition_world.specs.TurnsOfCopy.{ReadsLocalLog, ReadSegmentRow, ChooseRow, LeadersFirstRow, CopyFirstRow}
 use Rattle.partition_world.specs.TurnsOfFetch.{FetchOnRow, GoesOnFetch}
-use Rattle.partition_world.specs.TurnsOfDate.{SearchRow, Searches, DateOnRow, asked_of, is_own, resumed_at, resumed_with}
-use Rattle.partition_world.specs.TurnsOfExpiry.{RaiseRow, ExpireOnRow, ExpiresBy}
+use Rattle.partition_world.specs.TurnsOfDate.{SearchRow, SearchesOn, DateOnRow, asked_of, is_own, resumed_at, resumed_with}
+use Rattle.partition_world.specs.TurnsOfExpiry.{ExpiryRaiseRow, ExpireOnRow, ExpiresBy}
 use Rattle.partition_world.specs.TurnsOfRebuild.{with_line, RefreshedRow}
 use Rattle.partition_world.specs.TurnsOfTrim.{TrimFirstRow, TrimOnRow}
-use Rattle.partition_world.specs.Turns.{ContinuedRow, CopyingRow, SeekingRow, DatingRow, DeletingRow, JoinSecondRow, RebuildingRow, BeginRow, Row, TurnRow}
+use Rattle.partition_world.specs.Turns.{ContinuedRow, CopyLaterRow, SeekingRow, DatingRow, DeletingRow, JoinSecondRow, RebuildingRow, BeginRow, Row, TurnRow}
 use Rattle.partition_world.proofs.Begins.{row_of}
 use Rattle.partition_world.proofs.Halting.{HaltsSome, StaysSome}
 use Rattle.std.specs.Prelude.{◌==◌, if◌then◌else◌, IsSomeAnd}
@@ -115,13 +115,13 @@ module _ {D : Type 0} where
   own_to (turned.Begins g) h h' k = to_stay (Begins g) h h' k
 
 module _ {D : Type 0} (disk : DiskGhosts D) where
-  next_stops : (p : PartitionId) (b : ℕ) (x : Node D) (broker_tier : BrokerTierState) (offset : ℕ) (outcome : Outcome) (x' : Node D) (broker_tier' : BrokerTierState) → ReadRow disk p b x broker_tier offset outcome x' broker_tier' → x'.stops ≡ x.stops
+  next_stops : (p : PartitionId) (b : ℕ) (x : Node D) (broker_tier : BrokerTierState) (offset : ℕ) (outcome : Outcome) (x' : Node D) (broker_tier' : BrokerTierState) → ReadSegmentRow disk p b x broker_tier offset outcome x' broker_tier' → x'.stops ≡ x.stops
   next_stops p b x broker_tier offset (Answers DiskFault) x' broker_tier' w = ap (λ (k : Node D). k.stops) w.0.reads.after
   next_stops p b x broker_tier offset (Answers (Damaged (File name) at)) x' broker_tier' w = ap (λ (k : Node D). k.stops) w.0.reads.after
   next_stops p b x broker_tier offset (Chose copy) x' broker_tier' w = ap (λ (k : Node D). k.stops) w.0.reads.after
   next_stops p b x broker_tier offset other x' broker_tier' w = elim w [ ]
 
-  next_tries : (p : PartitionId) (b : ℕ) (x : Node D) (broker_tier : BrokerTierState) (offset : ℕ) (outcome : Outcome) (x' : Node D) (broker_tier' : BrokerTierState) → ReadRow disk p b x broker_tier offset outcome x' broker_tier' → broker_tier'.attempt ≤ broker_tier.attempt + chose outcome
+  next_tries : (p : PartitionId) (b : ℕ) (x : Node D) (broker_tier : BrokerTierState) (offset : ℕ) (outcome : Outcome) (x' : Node D) (broker_tier' : BrokerTierState) → ReadSegmentRow disk p b x broker_tier offset outcome x' broker_tier' → broker_tier'.attempt ≤ broker_tier.attempt + chose outcome
   next_tries p b x broker_tier offset (Answers DiskFault) x' broker_tier' w = let same = ap (λ (k : BrokerTierState). k.attempt) w.1 in omega (arith, same)
   next_tries p b x broker_tier offset (Answers (Damaged (File name) at)) x' broker_tier' w = let same = ap (λ (k : BrokerTierState). k.attempt) w.1 in omega (arith, same)
   next_tries p b x broker_tier offset (Chose copy) x' broker_tier' w =
@@ -223,7 +223,7 @@ module _ {D S M : Type 0} (disk : DiskGhosts D) (store : StoreGhosts S) (meta : 
   trim_to h b x broker_tier g keep other h' at w = elim w [ ]
 
   -- an expiry raises the log start offset as the command does
-  raise_to : (h : PartitionState D) (b : ℕ) (x : Node D) (start : ℕ) (answer : Answer) (h' : PartitionState D) → slice_get h.nodes b ≡ Some x → is_up x ≡ true → RaiseRow h x.role start answer h'
+  raise_to : (h : PartitionState D) (b : ℕ) (x : Node D) (start : ℕ) (answer : Answer) (h' : PartitionState D) → slice_get h.nodes b ≡ Some x → is_up x ≡ true → ExpiryRaiseRow h x.role start answer h'
       → StopsTo (Answers answer) h h'
   raise_to h b x start (StaleEpoch e) h' at up w = row_stops disk.content disk.control h b x None (Raise start) (turned.Answers (StaleEpoch e)) h' at (up, w)
   raise_to h b x start (Raised to) h' at up w = row_stops disk.content disk.control h b x None (Raise start) (turned.Answers (OkAt to)) h' at (up, w)
@@ -251,7 +251,7 @@ module _ {D S M : Type 0} (disk : DiskGhosts D) (store : StoreGhosts S) (meta : 
 
   searches_to : (o : Outcome) (p : PartitionId) (h : PartitionState D) (t : RemoteTier S M) (b : ℕ) (x : Node D) (broker_tier : BrokerTierState) (g : StartSnapshot) (ts : ℤ)
       (cursor : ℕ) (next : Dating) (turn : TimeTurn) (h' : PartitionState D) (t' : RemoteTier S M) → slice_get h.nodes b ≡ Some x
-      → Searches disk store meta p h t b x broker_tier g ts cursor next turn h' t' → StopsTo o h h'
+      → SearchesOn disk store meta p h t b x broker_tier g ts cursor next turn h' t' → StopsTo o h h'
   searches_to o p h t b x broker_tier g ts cursor next turn h' t' at w =
       let on = resumed_at h.registry.start cursor in
       let with = resumed_with h.registry.start cursor next in
@@ -292,7 +292,7 @@ module _ {D S M : Type 0} (disk : DiskGhosts D) (store : StoreGhosts S) (meta : 
   begins_to h t b x broker_tier other outcome h' t' at w = to_as h h' outcome (outcome_of w.0.0) w.0.1 (own_to w.0.0 h h' (row_stops disk.content disk.control h b x None other w.0.0 h' at w.0.2))
 
   copying_to : (h : PartitionState D) (t : RemoteTier S M) (b : ℕ) (x : Node D) (broker_tier : BrokerTierState) (g : StartSnapshot) (copy : Copied) (next : CopyStep) (command : Command) (outcome : Outcome) (h' : PartitionState D) (t' : RemoteTier S M)
-      → CopyingRow store meta h t b x broker_tier g copy next command outcome h' t' → StopsTo outcome h h'
+      → CopyLaterRow store meta h t b x broker_tier g copy next command outcome h' t' → StopsTo outcome h h'
   copying_to h t b x broker_tier g copy next Copy outcome h' t' w = to_same outcome h h' w.1
   copying_to h t b x broker_tier g copy next other outcome h' t' w = elim w [ ]
 
@@ -360,7 +360,7 @@ module _ {D S M : Type 0} (disk : DiskGhosts D) (store : StoreGhosts S) (meta : 
 
   searches_tries : (p : PartitionId) (h : PartitionState D) (t : RemoteTier S M) (b : ℕ) (x : Node D) (broker_tier : BrokerTierState) (g : StartSnapshot) (ts : ℤ) (cursor : ℕ)
       (next : Dating) (turn : TimeTurn) (h' : PartitionState D) (t' : RemoteTier S M)
-      → Searches disk store meta p h t b x broker_tier g ts cursor next turn h' t' → Tries broker_tier t t'
+      → SearchesOn disk store meta p h t b x broker_tier g ts cursor next turn h' t' → Tries broker_tier t t'
   searches_tries p h t b x broker_tier g ts cursor next turn h' t' w =
       let on = resumed_at h.registry.start cursor in
       let with = resumed_with h.registry.start cursor next in
@@ -430,7 +430,7 @@ module _ {D S M : Type 0} (disk : DiskGhosts D) (store : StoreGhosts S) (meta : 
   begins_tries h t b x broker_tier other outcome h' t' w = tries_same broker_tier t t' (ap (λ (k : RemoteTier S M). k.broker_tiers) w.1)
 
   copying_tries : (h : PartitionState D) (t : RemoteTier S M) (b : ℕ) (x : Node D) (broker_tier : BrokerTierState) (g : StartSnapshot) (copy : Copied) (next : CopyStep) (command : Command) (outcome : Outcome) (h' : PartitionState D) (t' : RemoteTier S M)
-      → CopyingRow store meta h t b x broker_tier g copy next command outcome h' t' → Tries broker_tier t t'
+      → CopyLaterRow store meta h t b x broker_tier g copy next command outcome h' t' → Tries broker_tier t t'
   copying_tries h t b x broker_tier g copy next Copy outcome h' t' (inl lost, same) = tries_same broker_tier t t' (ap (λ (k : RemoteTier S M). k.broker_tiers) lost.2)
   copying_tries h t b x broker_tier g copy next Copy outcome h' t' (inr (keeps, (turn, is, goes)), same) = tries_put b broker_tier (record broker_tier { view = goes.view }) t t' (omega arith) (ap (λ (k : RemoteTier S M). k.broker_tiers) goes.after)
   copying_tries h t b x broker_tier g copy next other outcome h' t' w = elim w [ ]

@@ -12,8 +12,8 @@ use Rattle.object_store.specs.declared.placing.Spot.{Spot}
 use Rattle.object_store.specs.Place.{short_of}
 use Rattle.object_store.specs.declared.store.Store.{Ghosts as StoreGhosts}
 use Rattle.meta_log.specs.declared.log.MetaLog.{Ghosts as MetaGhosts}
-use Rattle.broker_log.specs.Seen.{Kept}
-use Rattle.remote_view.specs.Fold.{Seen as View, entry_of}
+use Rattle.broker_log.specs.Seen.{LogState}
+use Rattle.remote_view.specs.Fold.{EntriesSeen as View, entry_of}
 use Rattle.remote_find.specs.declared.piece.Piece.{Piece}
 use Rattle.tier_fetch.specs.Turns.{Tiers as Fetched, spot_in}
 use Rattle.tier_fetch.specs.declared.turn.FetchTurn.{FetchTurn}
@@ -21,7 +21,7 @@ use Rattle.tier_fetch.specs.declared.turn.FetchTurn.TheVariants as fetch
 use Rattle.tier_fetch.specs.declared.turn.FetchStep.TheVariants as fetching
 use Rattle.plain_log.specs.declared.answer.Answer.TheVariants.{Run}
 use Rattle.time_find.specs.Passing.{Seeks, top_of}
-use Rattle.time_find.specs.Turns.{GoesOn, IsSearched, TimesBytes, Times, Indexes, Searches, TimesRow, TimeRow, OwnRow}
+use Rattle.time_find.specs.Turns.{SearchContinues, IsSearched, TimesBytes, Times, Indexes, SearchTakes, TimesRow, TimeRow, LocalSearchRow}
 use Rattle.time_find.specs.declared.turn.Asked.{Asked}
 use Rattle.time_find.specs.declared.turn.SearchStep.{SearchStep}
 use Rattle.time_find.specs.declared.turn.SearchStep.TheVariants as search
@@ -91,7 +91,7 @@ indexes_rises cursor piece from (Ok (fetch.Ends answer)) at next w = absurd (cc 
 indexes_rises cursor piece from (Err e) at next w = absurd (let no : false ≡ true = w in cc)
 
 searches_rises : (before next : SearchStep) (asked : Asked) (from : ℕ) (found : Result FetchTurn AllocError) (at : ℕ)
-    → Searches asked from found (Ok (Goes at next)) → Rises before next
+    → SearchTakes asked from found (Ok (Goes at next)) → Rises before next
 searches_rises before next asked from (Ok (fetch.Ends (Run tier size stop bytes))) at w = searched_rises before next asked from bytes at w
 searches_rises before next asked from (Ok (fetch.Ends answer)) at w = absurd (cc (w))
 searches_rises before next asked from (Ok (fetch.Goes other)) at w = elim w [ ]
@@ -99,8 +99,8 @@ searches_rises before next asked from (Err e) at w = absurd (let no : false ≡ 
 
 module _ {D : Type 0} (disk : DiskGhosts D) where
   -- a turn in the local log
-  pub own_rises : (old : Kept D) (asked : Asked) (cursor : ℕ) (before next : SearchStep) (at : ℕ) (new : Kept D)
-      → OwnRow disk.content disk.control old asked cursor (Goes at next) new → Rises before next
+  pub own_rises : (old : LogState D) (asked : Asked) (cursor : ℕ) (before next : SearchStep) (at : ℕ) (new : LogState D)
+      → LocalSearchRow disk.content disk.control old asked cursor (Goes at next) new → Rises before next
   own_rises old asked cursor before next at new (inl (past, is, same)) =
       let one : search.Seek ≡ next = cc (is) in subst (Rises before) one tt
   own_rises old asked cursor before next at new (inr (below, row)) = searched_rises before next asked _ row.out.bytes at row.searched
@@ -149,7 +149,7 @@ further start cursor at before turn fits from up = go (nat_lt cursor start) refl
         omega (arith, fits, from, low, few)
     go false t more = omega (arith, fits, from, more)
 
-pub goes_further : (start cursor at : ℕ) (before next : SearchStep) → max start cursor < 2 ^ 64 → GoesOn (max start cursor) (Goes at next)
+pub goes_further : (start cursor at : ℕ) (before next : SearchStep) → max start cursor < 2 ^ 64 → SearchContinues (max start cursor) (Goes at next)
     → Rises (if nat_lt cursor start then search.Seek else before) next → taken_to cursor before < taken_to at next
 goes_further start cursor at before search.Seek fits goes up = let few = few_dated before in omega (arith, fits, goes, few)
 goes_further start cursor at before (search.Times piece) fits goes up = further start cursor at before 1 fits goes.0 up

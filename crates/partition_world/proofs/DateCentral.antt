@@ -13,7 +13,7 @@ use Rattle.time_find.specs.declared.turn.SearchStep.{SearchStep}
 use Rattle.time_find.specs.declared.turn.SearchStep.TheVariants.{Seek}
 use Rattle.time_find.specs.declared.turn.TimeTurn.{TimeTurn}
 use Rattle.time_find.specs.declared.turn.TimeTurn.TheVariants.{Goes, Ends}
-use Rattle.time_find.specs.Turns.{IsSet, IsBelow, GoesOn, TimeRow}
+use Rattle.time_find.specs.Turns.{IsSet, IsBelowLocal, SearchContinues, TimeRow}
 use Rattle.plain_log.specs.declared.answer.Answer.{Answer}
 use Rattle.plain_log.specs.declared.answer.Answer.TheVariants.{MetaFault, StoreFault, Damaged, Stopped, NotLeader, Offset as OffsetAnswer, NoOffset}
 use Rattle.plain_log.specs.declared.command.Command.{Command}
@@ -54,7 +54,7 @@ use Rattle.tier_safe.specs.May.{May, IsChanged}
 use Rattle.tier_safe.specs.Reads.{TellsEpochs}
 use Rattle.tier_safe.specs.Safe.{BothSafe}
 use Rattle.tier_safe.specs.Scene.{Scene, BrokerTierView, TierTask as InProgressIsSeen, Free}
-use Rattle.tier_safe.specs.Turns.{Shows}
+use Rattle.tier_safe.specs.Turns.{ShowsScene}
 use Rattle.tier_safe.proofs.Kept.{all_kept}
 use Rattle.tier_safe.proofs.Turning.{set_set, set_get, scene_same, as_scene}
 use Rattle.laws_tier_fetch.specs.Seeking.{after_fetch}
@@ -65,10 +65,10 @@ use Rattle.partition_world.specs.declared.actor_state.InProgress.TheVariants as 
 use Rattle.partition_world.specs.declared.actor_state.InProgress.TheVariants.{Idle}
 use Rattle.partition_world.specs.declared.tier.RemoteTier.{RemoteTier}
 use Rattle.partition_world.specs.ActorStates.{recorded_in, dated, actor_state_after, actor_state_seen, desk_seen, told_of}
-use Rattle.partition_world.specs.Central.{HasGone, IsDated, IsCentral, ShowsTier, dates_of, work_of}
+use Rattle.partition_world.specs.Central.{HasGone, IsSearchState, IsCentral, ShowsTier, dates_of, work_of}
 use Rattle.partition_world.specs.Turn.{IsTurn}
 use Rattle.partition_world.specs.TurnsOfCopy.{KeepsLead}
-use Rattle.partition_world.specs.TurnsOfDate.{resumed_at, resumed_with, is_own, asked_of, SearchesOwn, SearchesRemote, SearchRow, Searches, DateOnRow}
+use Rattle.partition_world.specs.TurnsOfDate.{resumed_at, resumed_with, is_own, asked_of, SearchesOwn, SearchesRemote, SearchRow, SearchesOn, DateOnRow}
 use Rattle.partition_world.specs.TurnsOfFetch.{fetch_tiers}
 use Rattle.partition_world.specs.TurnsOfOffset.{OffsetFirstRow}
 use Rattle.partition_world.specs.Whole.{Whole}
@@ -116,12 +116,12 @@ resumed_set start cursor next k = by (nat_lt cursor start) refl
     by false is = rw is (subst (λ (n : ℕ). IsSet n next) (sym (at_cursor start cursor is)) k)
 
 -- what isn't a turn in the local log is one below it
-pub below_local : (asked : Asked) (cursor : ℕ) (next : SearchStep) → is_own asked.local cursor next ≡ false → IsBelow asked cursor next
+pub below_local : (asked : Asked) (cursor : ℕ) (next : SearchStep) → is_own asked.local cursor next ≡ false → IsBelowLocal asked cursor next
 below_local asked cursor Seek is = grind (arith, nat_tests, is)
 below_local asked cursor other is = tt
 
 -- a search that continues is set where it goes
-goes_set : (cursor at : ℕ) (later : SearchStep) → GoesOn cursor (Goes at later) → IsSet at later
+goes_set : (cursor at : ℕ) (later : SearchStep) → SearchContinues cursor (Goes at later) → IsSet at later
 goes_set cursor at Seek k = tt
 goes_set cursor at other k = k.1
 
@@ -232,8 +232,8 @@ module _ {D S M : Type 0} (disk : DiskGhosts D) (store : StoreGhosts S) (meta : 
           → GoesAsDated plain (slice_get t.list.orders t.actor_state.number) t.actor_state.work outcome
       goes_dated to later is fits far = subst (GoesAsDated plain (slice_get t.list.orders t.actor_state.number) t.actor_state.work) (sym is) (λ f k.
           (let one : g ≡ f = cc (sym (ap recorded_in keeps ∙ recorded) ∙ k) in
-          subst (λ (h : StartSnapshot). IsDated plain (slice_get t.list.orders t.actor_state.number) (works.Dates h to later)) one
-          (subst (λ (o : Option Order). IsDated plain o (works.Dates g to later)) (sym z.next) (
+          subst (λ (h : StartSnapshot). IsSearchState plain (slice_get t.list.orders t.actor_state.number) (works.Dates h to later)) one
+          (subst (λ (o : Option Order). IsSearchState plain o (works.Dates g to later)) (sym z.next) (
             fits,
             subst (λ (command : Command). HasGone plain t.order.broker.0 g command to later) (sym asks) (λ x there stops role.
                 (let same : broker_of y ≡ x = cc (broker, there) in subst (λ (v : Broker). IsDatedTo ts plain.registry.start v.log to later) same far)),
@@ -262,10 +262,10 @@ module _ {D S M : Type 0} (disk : DiskGhosts D) (store : StoreGhosts S) (meta : 
       own_held : (turn : TimeTurn) → SearchesOwn disk w.held t.order.broker.0 z.x asked at turn w'.held → ShowsPartition disk.content w'.held c.partition
       own_held turn r = by (own_rests disk.content disk.control z.x.log r.kept asked at turn r.row)
         where
-          by : (r.kept ≡ z.x.log) ⊎ log.Stays disk.content z.x.log r.kept → ShowsPartition disk.content w'.held c.partition
+          by : (r.kept ≡ z.x.log) ⊎ log.LogStays disk.content z.x.log r.kept → ShowsPartition disk.content w'.held c.partition
           by (inl same) =
               held_stays disk.content disk.control w.held c.partition w'.held c.shows
-              (inl (r.after ∙ (ap (λ (k : log.Kept D). put_node w.held t.order.broker.0 (record z.x { log = k })) same
+              (inl (r.after ∙ (ap (λ (k : log.LogState D). put_node w.held t.order.broker.0 (record z.x { log = k })) same
               ∙ ap (λ (u : List (Node D)). record w.held { nodes = u }) (set_same w.held.nodes t.order.broker.0 z.x z.at))))
           by (inr stays) =
               held_looks disk.content disk.control w.held c.partition t.order.broker.0 z.x r.kept w'.held c.shows z.at stays r.after
@@ -302,7 +302,7 @@ module _ {D S M : Type 0} (disk : DiskGhosts D) (store : StoreGhosts S) (meta : 
 
       -- a scene of the tier at it
       at_search : (d : Scene) → BothSafe d plain → length d.notes < 2 ^ 64 → d.partition ≡ w.partition
-          → Shows d t.place t.order.broker.0 here (search_of t.order.broker.0 g.stops epoch at on) (store.content w.tier.store) (meta.content w.tier.meta) z.broker_tier.view
+          → ShowsScene d t.place t.order.broker.0 here (search_of t.order.broker.0 g.stops epoch at on) (store.content w.tier.store) (meta.content w.tier.meta) z.broker_tier.view
           → KeepsLead z.x g → at < z.x.known_high_watermark
           → IsAtSearch d plain t.place t.order.broker.0 here (broker_of y) g.stops epoch asked (line_of z.x) at on (store.content w.tier.store) (meta.content w.tier.meta) z.broker_tier.view z.broker_tier.cache
       at_search d safe few part shows k below = record {
@@ -372,7 +372,7 @@ module _ {D S M : Type 0} (disk : DiskGhosts D) (store : StoreGhosts S) (meta : 
           by false is =
               let same_at = at_cursor start cursor is in
               let same_on : on ≡ next = rw is refl in
-              let shows = subst (λ (u : InProgressIsSeen). Shows c.scene t.place t.order.broker.0 here u (store.content w.tier.store) (meta.content w.tier.meta) z.broker_tier.view)
+              let shows = subst (λ (u : InProgressIsSeen). ShowsScene c.scene t.place t.order.broker.0 here u (store.content w.tier.store) (meta.content w.tier.meta) z.broker_tier.view)
               (actor_state_now keeps ∙ (ap (λ (n : ℕ). search_of t.order.broker.0 g.stops epoch n next) (sym same_at) ∙ ap (search_of t.order.broker.0 g.stops epoch at) (sym same_on)))
               (shows_at disk store meta opening w c t.place t.list t.actor_state t.order z) in
               comes_in c.scene turn r own (at_search c.scene both (few_now disk store meta opening w c) c.shows_tier.partition shows k below) (λ e. e)
@@ -380,7 +380,7 @@ module _ {D S M : Type 0} (disk : DiskGhosts D) (store : StoreGhosts S) (meta : 
               let same_on : on ≡ Seek = rw is refl in
               let at_actor_state = shows_at disk store meta opening w c t.place t.list t.actor_state t.order z in
               let safe : BothSafe left plain = all_kept (Moves t.place Leaves ∷ []) c.scene plain plain (plain, (refl, tt), refl) both in
-              let shows : Shows left t.place t.order.broker.0 here (search_of t.order.broker.0 g.stops epoch at on) (store.content w.tier.store) (meta.content w.tier.meta) z.broker_tier.view = record {
+              let shows : ShowsScene left t.place t.order.broker.0 here (search_of t.order.broker.0 g.stops epoch at on) (store.content w.tier.store) (meta.content w.tier.meta) z.broker_tier.view = record {
                 objects_are = at_actor_state.objects_are;
                 notes_are = at_actor_state.notes_are;
                 store_tells = at_actor_state.store_tells;
@@ -420,7 +420,7 @@ module _ {D S M : Type 0} (disk : DiskGhosts D) (store : StoreGhosts S) (meta : 
           (shows_then (Ends answer) r Free (answered_free disk store meta opening w c t.place t.list t.actor_state t.order z outcome answer is))
 
       remote_goes : (to : ℕ) (later : SearchStep) → outcome ≡ Dates to later → KeepsLead z.x g → at < z.x.known_high_watermark → is_own (local_of z.x) at on ≡ false
-          → (r : SearchesRemote store meta w.tier t.order.broker.0 z.broker_tier (line_of z.x) asked at on (Goes to later) w'.tier) → w'.held ≡ w.held → GoesOn at (Goes to later)
+          → (r : SearchesRemote store meta w.tier t.order.broker.0 z.broker_tier (line_of z.x) asked at on (Goes to later) w'.tier) → w'.held ≡ w.held → SearchContinues at (Goes to later)
           → IsCentral disk store meta opening w'
       remote_goes to later is k below own r held goes =
           let come = remote (Goes to later) r own k below in
@@ -430,7 +430,7 @@ module _ {D S M : Type 0} (disk : DiskGhosts D) (store : StoreGhosts S) (meta : 
 
       -- a turn in either
 
-      ends : (answer : Answer) → outcome ≡ Answers answer → Searches disk store meta w.partition w.held w.tier t.order.broker.0 z.x z.broker_tier g ts cursor next (Ends answer) w'.held w'.tier
+      ends : (answer : Answer) → outcome ≡ Answers answer → SearchesOn disk store meta w.partition w.held w.tier t.order.broker.0 z.x z.broker_tier g ts cursor next (Ends answer) w'.held w'.tier
           → IsCentral disk store meta opening w'
       ends answer is s = by (is_own (local_of z.x) at on) refl s.row
         where
@@ -440,7 +440,7 @@ module _ {D S M : Type 0} (disk : DiskGhosts D) (store : StoreGhosts S) (meta : 
           by false own row = remote_ends answer is s.keeps s.below own row.0 row.1
 
       goes : (to : ℕ) (later : SearchStep) → outcome ≡ Dates to later
-          → Searches disk store meta w.partition w.held w.tier t.order.broker.0 z.x z.broker_tier g ts cursor next (Goes to later) w'.held w'.tier → GoesOn at (Goes to later)
+          → SearchesOn disk store meta w.partition w.held w.tier t.order.broker.0 z.x z.broker_tier g ts cursor next (Goes to later) w'.held w'.tier → SearchContinues at (Goes to later)
           → IsCentral disk store meta opening w'
       goes to later is s on_far = by (is_own (local_of z.x) at on) refl s.row
         where

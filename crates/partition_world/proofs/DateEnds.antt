@@ -13,8 +13,8 @@ use Rattle.meta_log.specs.declared.log.MetaLog.{Ghosts as MetaGhosts}
 use Rattle.disk_model.specs.declared.disk.Disk.{Ghosts as DiskGhosts}
 use Rattle.sparse_index.specs.Offsets.{OffsetTable}
 use Rattle.index_cache.specs.Cache.{Cache, found}
-use Rattle.broker_log.specs.Seen.{Kept, closed_in}
-use Rattle.remote_view.specs.Fold.{Seen as View, entry_of}
+use Rattle.broker_log.specs.Seen.{LogState, closed_in}
+use Rattle.remote_view.specs.Fold.{EntriesSeen as View, entry_of}
 use Rattle.remote_find.specs.declared.piece.Piece.{Piece}
 use Rattle.plain_log.specs.declared.answer.Answer.{Answer}
 use Rattle.plain_log.specs.declared.answer.Place.TheVariants.{Key, Meta, File}
@@ -24,7 +24,7 @@ use Rattle.tier_fetch.specs.declared.turn.FetchTurn.TheVariants as fetch
 use Rattle.tier_fetch.specs.declared.turn.FetchStep.TheVariants as fetching
 use Rattle.tier_fetch.specs.declared.turn.Span.{Span}
 use Rattle.tier_fetch.specs.declared.turn.FetchRequest.{FetchRequest}
-use Rattle.tier_fetch.specs.Turns.{spot_in, LoadsBytes, Loads, LoadRow, FetchRow, Tiers}
+use Rattle.tier_fetch.specs.Turns.{spot_in, LoadsBytes, Loads, LoadRow, RemoteFetchRow, Tiers}
 use Rattle.tier_fetch.specs.Turns as rows
 use Rattle.time_find.specs.declared.turn.Asked.{Asked}
 use Rattle.time_find.specs.declared.turn.SearchStep.{SearchStep}
@@ -37,15 +37,15 @@ use Rattle.time_find.specs.Turns.{
   TimesBytes,
   Times,
   Indexes,
-  Searches,
+  SearchTakes,
   SeekRow,
   TimesRow,
-  IndexRow,
-  LogRow,
+  SearchIndexRow,
+  SearchLogRow,
   TimeRow,
   wanted_at,
-  ReadRow,
-  OwnRow,
+  ReadLocalRow,
+  LocalSearchRow,
 }
 use Rattle.partition_world.proofs.CopyEnds.{TellsOn}
 use Rattle.partition_world.proofs.FetchEnds.{StoreStays, Dries, fetch_ends, fetch_tells, fetch_dry}
@@ -100,7 +100,7 @@ loads_ends wanted piece base spot (Ok (Some bytes)) answer old new w = by (short
 
 -- by what a fetch's turn came to, of the segment's log
 searches_ends : (asked : Asked) (from : ℕ) (told answer : Answer) → fetches.MayEnd told
-    → Searches asked from (Ok (fetch.Ends told)) (Ok (Ends answer)) → MayEnd answer
+    → SearchTakes asked from (Ok (fetch.Ends told)) (Ok (Ends answer)) → MayEnd answer
 searches_ends asked from MetaFault answer may w = let e : answer ≡ MetaFault = cc (w) in subst MayEnd (sym e) tt
 searches_ends asked from StoreFault answer may w = let e : answer ≡ StoreFault = cc (w) in subst MayEnd (sym e) tt
 searches_ends asked from (Damaged place at) answer may w = let e : answer ≡ Damaged place at = cc (w) in subst MayEnd (sym e) tt
@@ -135,7 +135,7 @@ module _ {S M : Type 0} (store : StoreGhosts S) (meta : MetaGhosts M) (asked : A
       new w
 
   indexes_ends : (cursor from : ℕ) (piece : Piece) (answer : Answer) (turn : Result FetchTurn AllocError) (old new : Tiers S M)
-      → FetchRow store.content store.control meta.content meta.control (wanted_at asked from) line (fetching.Index piece) turn old new
+      → RemoteFetchRow store.content store.control meta.content meta.control (wanted_at asked from) line (fetching.Index piece) turn old new
       → Indexes cursor piece from turn (Ok (Ends answer)) → MayEnd answer
   indexes_ends cursor from piece answer (Ok (fetch.Goes (fetching.Log p span))) old new row k = let e = k.1 in absurd (cc (e))
   indexes_ends cursor from piece answer (Ok (fetch.Goes next)) old new row k = absurd k
@@ -146,21 +146,21 @@ module _ {S M : Type 0} (store : StoreGhosts S) (meta : MetaGhosts M) (asked : A
   indexes_ends cursor from piece answer (Err e) old new row k = absurd (let no : false ≡ true = k in cc)
 
   logs_ends : (from : ℕ) (piece : Piece) (span : Span) (answer : Answer) (turn : Result FetchTurn AllocError) (old new : Tiers S M)
-      → FetchRow store.content store.control meta.content meta.control (wanted_at asked from) line (fetching.Log piece span) turn old new
-      → Searches asked from turn (Ok (Ends answer)) → MayEnd answer
+      → RemoteFetchRow store.content store.control meta.content meta.control (wanted_at asked from) line (fetching.Log piece span) turn old new
+      → SearchTakes asked from turn (Ok (Ends answer)) → MayEnd answer
   logs_ends from piece span answer (Ok (fetch.Goes next)) old new row k = absurd k
   logs_ends from piece span answer (Ok (fetch.Ends told)) old new row k =
       searches_ends asked from told answer (fetch_ends store meta (wanted_at asked from) line (fetching.Log piece span) told old new row) k
   logs_ends from piece span answer (Err e) old new row k = absurd (let no : false ≡ true = k in cc)
 
   index_ends : (cursor from : ℕ) (piece : Piece) (answer : Answer) (old new : Tiers S M)
-      → IndexRow store.content store.control meta.content meta.control asked line cursor piece from (Ok (Ends answer)) old new
+      → SearchIndexRow store.content store.control meta.content meta.control asked line cursor piece from (Ok (Ends answer)) old new
       → MayEnd answer
   index_ends cursor from piece answer old new (inl (low, is, same)) = absurd (cc (is))
   index_ends cursor from piece answer old new (inr (high, (came, row, k))) = indexes_ends cursor from piece answer came old new row k
 
   log_ends : (from : ℕ) (piece : Piece) (span : Span) (answer : Answer) (old new : Tiers S M)
-      → LogRow store.content store.control meta.content meta.control asked line piece from span (Ok (Ends answer)) old new → MayEnd answer
+      → SearchLogRow store.content store.control meta.content meta.control asked line piece from span (Ok (Ends answer)) old new → MayEnd answer
   log_ends from piece span answer old new (inl (low, is, same)) = absurd (cc (is))
   log_ends from piece span answer old new (inr (high, (came, row, k))) = logs_ends from piece span answer came old new row k
 
@@ -198,27 +198,27 @@ module _ {S M : Type 0} (store : StoreGhosts S) (meta : MetaGhosts M) (asked : A
   same_tells old new is = (ap (λ (t : Tiers S M). (store.content t.store).is_observable) is, ap (λ (t : Tiers S M). (meta.content t.meta).is_observable) is)
 
   indexes_tell : (cursor from : ℕ) (piece : Piece) (turn : TimeTurn) (came : Result FetchTurn AllocError) (old new : Tiers S M)
-      → FetchRow store.content store.control meta.content meta.control (wanted_at asked from) line (fetching.Index piece) came old new
+      → RemoteFetchRow store.content store.control meta.content meta.control (wanted_at asked from) line (fetching.Index piece) came old new
       → Indexes cursor piece from came (Ok turn) → TellsOn store meta old.store old.meta new.store new.meta
   indexes_tell cursor from piece turn (Ok came) old new row k =
       fetch_tells store meta (wanted_at asked from) line (fetching.Index piece) came old new row
   indexes_tell cursor from piece turn (Err e) old new row k = absurd (let no : false ≡ true = k in cc)
 
   logs_tell : (from : ℕ) (piece : Piece) (span : Span) (turn : TimeTurn) (came : Result FetchTurn AllocError) (old new : Tiers S M)
-      → FetchRow store.content store.control meta.content meta.control (wanted_at asked from) line (fetching.Log piece span) came old new
-      → Searches asked from came (Ok turn) → TellsOn store meta old.store old.meta new.store new.meta
+      → RemoteFetchRow store.content store.control meta.content meta.control (wanted_at asked from) line (fetching.Log piece span) came old new
+      → SearchTakes asked from came (Ok turn) → TellsOn store meta old.store old.meta new.store new.meta
   logs_tell from piece span turn (Ok came) old new row k =
       fetch_tells store meta (wanted_at asked from) line (fetching.Log piece span) came old new row
   logs_tell from piece span turn (Err e) old new row k = absurd (let no : false ≡ true = k in cc)
 
   index_tells : (cursor from : ℕ) (piece : Piece) (turn : TimeTurn) (old new : Tiers S M)
-      → IndexRow store.content store.control meta.content meta.control asked line cursor piece from (Ok turn) old new
+      → SearchIndexRow store.content store.control meta.content meta.control asked line cursor piece from (Ok turn) old new
       → TellsOn store meta old.store old.meta new.store new.meta
   index_tells cursor from piece turn old new (inl (low, is, same)) = same_tells old new same
   index_tells cursor from piece turn old new (inr (high, (came, row, k))) = indexes_tell cursor from piece turn came old new row k
 
   log_tells : (from : ℕ) (piece : Piece) (span : Span) (turn : TimeTurn) (old new : Tiers S M)
-      → LogRow store.content store.control meta.content meta.control asked line piece from span (Ok turn) old new
+      → SearchLogRow store.content store.control meta.content meta.control asked line piece from span (Ok turn) old new
       → TellsOn store meta old.store old.meta new.store new.meta
   log_tells from piece span turn old new (inl (low, is, same)) = same_tells old new same
   log_tells from piece span turn old new (inr (high, (came, row, k))) = logs_tell from piece span turn came old new row k
@@ -237,7 +237,7 @@ module _ {S M : Type 0} (store : StoreGhosts S) (meta : MetaGhosts M) (asked : A
   date_tells cursor (Log piece from span) turn old new w = log_tells from piece span turn old new w
 
   indexes_dry : (cursor from : ℕ) (piece : Piece) (e : AllocError) (came : Result FetchTurn AllocError) (old new : Tiers S M)
-      → FetchRow store.content store.control meta.content meta.control (wanted_at asked from) line (fetching.Index piece) came old new
+      → RemoteFetchRow store.content store.control meta.content meta.control (wanted_at asked from) line (fetching.Index piece) came old new
       → Indexes cursor piece from came (Err e) → Dries store meta old new
   indexes_dry cursor from piece e (Ok (fetch.Goes (fetching.Log p span))) old new row k = let is = k.1 in absurd (cc (is))
   indexes_dry cursor from piece e (Ok (fetch.Goes next)) old new row k = absurd k
@@ -246,8 +246,8 @@ module _ {S M : Type 0} (store : StoreGhosts S) (meta : MetaGhosts M) (asked : A
       fetch_dry store meta (wanted_at asked from) line (fetching.Index piece) why old new row
 
   logs_dry : (from : ℕ) (piece : Piece) (span : Span) (e : AllocError) (came : Result FetchTurn AllocError) (old new : Tiers S M)
-      → FetchRow store.content store.control meta.content meta.control (wanted_at asked from) line (fetching.Log piece span) came old new
-      → Searches asked from came (Err e) → Dries store meta old new
+      → RemoteFetchRow store.content store.control meta.content meta.control (wanted_at asked from) line (fetching.Log piece span) came old new
+      → SearchTakes asked from came (Err e) → Dries store meta old new
   logs_dry from piece span e (Ok (fetch.Goes next)) old new row k = absurd k
   logs_dry from piece span e (Ok (fetch.Ends (Run tier size stop bytes))) old new row k = absurd k
   logs_dry from piece span e (Ok (fetch.Ends told)) old new row k = absurd (cc (k))
@@ -255,13 +255,13 @@ module _ {S M : Type 0} (store : StoreGhosts S) (meta : MetaGhosts M) (asked : A
       fetch_dry store meta (wanted_at asked from) line (fetching.Log piece span) why old new row
 
   index_dry : (cursor from : ℕ) (piece : Piece) (e : AllocError) (old new : Tiers S M)
-      → IndexRow store.content store.control meta.content meta.control asked line cursor piece from (Err e) old new
+      → SearchIndexRow store.content store.control meta.content meta.control asked line cursor piece from (Err e) old new
       → Dries store meta old new
   index_dry cursor from piece e old new (inl (low, is, same)) = absurd (cc (is))
   index_dry cursor from piece e old new (inr (high, (came, row, k))) = indexes_dry cursor from piece e came old new row k
 
   log_dry : (from : ℕ) (piece : Piece) (span : Span) (e : AllocError) (old new : Tiers S M)
-      → LogRow store.content store.control meta.content meta.control asked line piece from span (Err e) old new → Dries store meta old new
+      → SearchLogRow store.content store.control meta.content meta.control asked line piece from span (Err e) old new → Dries store meta old new
   log_dry from piece span e old new (inl (low, is, same)) = absurd (cc (is))
   log_dry from piece span e old new (inr (high, (came, row, k))) = logs_dry from piece span e came old new row k
 
@@ -283,8 +283,8 @@ module _ {S M : Type 0} (store : StoreGhosts S) (meta : MetaGhosts M) (asked : A
   date_dry cursor (Log piece from span) e old new w = log_dry from piece span e old new w
 
 module _ {D : Type 0} (disk : DiskGhosts D) where
-  read_ends : (old : Kept D) (asked : Asked) (at : ℕ) (answer : Answer) (new : Kept D)
-      → ReadRow disk.content disk.control old asked at (Ends answer) new → MayEndOwn answer
+  read_ends : (old : LogState D) (asked : Asked) (at : ℕ) (answer : Answer) (new : LogState D)
+      → ReadLocalRow disk.content disk.control old asked at (Ends answer) new → MayEndOwn answer
   read_ends old asked at DiskFault new w = tt
   read_ends old asked at (Damaged (File name) place) new w = tt
   read_ends old asked at answer new w = own_searched asked at w.out.bytes answer w.searched
@@ -295,7 +295,7 @@ module _ {D : Type 0} (disk : DiskGhosts D) where
       own_searched asked from run answer w = elim w [ ]
 
   -- what a turn in the local log returns
-  pub own_ends : (old : Kept D) (asked : Asked) (cursor : ℕ) (answer : Answer) (new : Kept D)
-      → OwnRow disk.content disk.control old asked cursor (Ends answer) new → MayEndOwn answer
+  pub own_ends : (old : LogState D) (asked : Asked) (cursor : ℕ) (answer : Answer) (new : LogState D)
+      → LocalSearchRow disk.content disk.control old asked cursor (Ends answer) new → MayEndOwn answer
   own_ends old asked cursor answer new (inl (low, is, same)) = absurd (cc (is))
   own_ends old asked cursor answer new (inr (high, row)) = read_ends old asked (passed_over asked.ts cursor (closed_in old)) answer new row

@@ -6,7 +6,7 @@ use Rattle.std.proofs.Math.Nat.{max-eq_right}
 use Rattle.disk_model.specs.declared.disk.Disk.{Ghosts as DiskGhosts}
 use Rattle.object_store.specs.declared.store.Store.{Ghosts as StoreGhosts}
 use Rattle.meta_log.specs.declared.log.MetaLog.{Ghosts as MetaGhosts}
-use Rattle.broker_log.specs.Seen.{Kept, line_in, Stays, Quiet}
+use Rattle.broker_log.specs.Seen.{LogState, line_in, LogStays, Quiet}
 use Rattle.time_find.specs.declared.turn.Asked.{Asked}
 use Rattle.time_find.specs.declared.turn.SearchStep.{SearchStep}
 use Rattle.time_find.specs.declared.turn.SearchStep.TheVariants.{Seek}
@@ -14,7 +14,7 @@ use Rattle.time_find.specs.declared.turn.TimeTurn.{TimeTurn}
 use Rattle.time_find.specs.Turns.{IsSet}
 use Rattle.partition_commands.specs.declared.partition_state.Node.{Node}
 use Rattle.partition_commands.specs.declared.partition_state.PartitionState.{PartitionState}
-use Rattle.partition_commands.specs.Partition.{AtNode, Rests, KeepsPartition, line_of, put_node}
+use Rattle.partition_commands.specs.Partition.{AtNode, LogRests, KeepsPartition, line_of, put_node}
 use Rattle.partition_world.specs.declared.tier.RemoteTier.{RemoteTier}
 use Rattle.partition_world.specs.Tier.{AtBrokerTier}
 use Rattle.partition_world.specs.TurnsOfDate.{resumed_at, resumed_with, SearchesOwn, SearchesRemote, WantsForDate, SearchRow}
@@ -33,14 +33,14 @@ set_at start cursor next set = by (nat_lt cursor start) refl
         subst (λ (n : ℕ). IsSet n next) (sym same) set
 
 -- a broker's log that was read is as it was, where no call failed
-pub log_stays : {D : Type 0} (disk : DiskGhosts D) (h : PartitionState D) (b : ℕ) (x : Node D) (kept : Kept D) → slice_get h.nodes b ≡ Some x
-    → Stays disk.content x.log kept → Quiet disk.control x.log kept
+pub log_stays : {D : Type 0} (disk : DiskGhosts D) (h : PartitionState D) (b : ℕ) (x : Node D) (kept : LogState D) → slice_get h.nodes b ≡ Some x
+    → LogStays disk.content x.log kept → Quiet disk.control x.log kept
     → KeepsPartition disk.content disk.control h (put_node h b (record x { log = kept }))
 log_stays {D} disk h b x kept at stays quiet =
     let after = put_node h b (record x { log = kept }) in
     inr (
       b,
-      subst (λ (o : Option (Node D)). IsSomeAnd o (λ y. Rests disk.content disk.control h b y after)) (sym at)
+      subst (λ (o : Option (Node D)). IsSomeAnd o (λ y. LogRests disk.content disk.control h b y after)) (sym at)
           (kept, stays, quiet, refl),
     )
 

@@ -9,7 +9,7 @@ use Rattle.time_find.specs.declared.turn.Asked.{Asked}
 use Rattle.time_find.specs.declared.turn.SearchStep.{SearchStep}
 use Rattle.time_find.specs.declared.turn.TimeTurn.{TimeTurn}
 use Rattle.time_find.specs.declared.turn.TimeTurn.TheVariants.{Goes, Ends}
-use Rattle.time_find.specs.Turns.{GoesOn}
+use Rattle.time_find.specs.Turns.{SearchContinues}
 use Rattle.plain_log.specs.declared.answer.Answer.{Answer}
 use Rattle.plain_log.specs.declared.answer.Place.TheVariants.{File}
 use Rattle.plain_log.specs.declared.answer.Answer.TheVariants.{MetaFault, StoreFault, DiskFault, Damaged, Offset}
@@ -23,7 +23,7 @@ use Rattle.partition_world.specs.declared.actor_state.Outcome.TheVariants.{Answe
 use Rattle.partition_world.specs.Tier.{AtBrokerTier}
 use Rattle.partition_world.specs.ActorStates.{date_outcome}
 use Rattle.partition_world.specs.TurnsOfCopy.{KeepsLead}
-use Rattle.partition_world.specs.TurnsOfDate.{resumed_at, resumed_with, is_own, asked_of, WantsForDate, SearchRow, Searches, DateOnRow}
+use Rattle.partition_world.specs.TurnsOfDate.{resumed_at, resumed_with, is_own, asked_of, WantsForDate, SearchRow, SearchesOn, DateOnRow}
 use Rattle.partition_world.specs.Turns.{DateHalts, StaysOr}
 use Rattle.partition_world.proofs.DateEnds.{MayEnd, MayEndOwn, date_ends, own_ends}
 use Rattle.partition_world.proofs.Dispatch.{some_more}
@@ -39,7 +39,7 @@ module _ {D S M : Type 0} (disk : DiskGhosts D) (store : StoreGhosts S) (meta : 
 
 module _ {D S M : Type 0} (disk : DiskGhosts D) (store : StoreGhosts S) (meta : MetaGhosts M) (p : PartitionId) (h : PartitionState D)
     (t : RemoteTier S M) (b : ℕ) (x : Node D) (broker_tier : BrokerTierState) (g : StartSnapshot) (ts : ℤ) (cursor : ℕ) (next : SearchStep) (h' : PartitionState D) (t' : RemoteTier S M) where
-  ends_row : (answer : Answer) → MayEnd answer → Searches disk store meta p h t b x broker_tier g ts cursor next (Ends answer) h' t'
+  ends_row : (answer : Answer) → MayEnd answer → SearchesOn disk store meta p h t b x broker_tier g ts cursor next (Ends answer) h' t'
       → DateOnRow disk store meta p h t b x broker_tier g ts cursor next (Answers answer) h' t'
   ends_row MetaFault may w = w
   ends_row StoreFault may w = w
@@ -47,7 +47,7 @@ module _ {D S M : Type 0} (disk : DiskGhosts D) (store : StoreGhosts S) (meta : 
   ends_row (Offset n) may w = w
   ends_row other may w = absurd may
 
-  own_row : (answer : Answer) → MayEndOwn answer → Searches disk store meta p h t b x broker_tier g ts cursor next (Ends answer) h' t'
+  own_row : (answer : Answer) → MayEndOwn answer → SearchesOn disk store meta p h t b x broker_tier g ts cursor next (Ends answer) h' t'
       → DateOnRow disk store meta p h t b x broker_tier g ts cursor next (Answers answer) h' t'
   own_row DiskFault may w = w
   own_row (Damaged (File name) at) may w = w
@@ -55,13 +55,13 @@ module _ {D S M : Type 0} (disk : DiskGhosts D) (store : StoreGhosts S) (meta : 
   own_row other may w = absurd may
 
   either_row : (answer : Answer) → MayEnd answer ⊎ MayEndOwn answer
-      → Searches disk store meta p h t b x broker_tier g ts cursor next (Ends answer) h' t'
+      → SearchesOn disk store meta p h t b x broker_tier g ts cursor next (Ends answer) h' t'
       → DateOnRow disk store meta p h t b x broker_tier g ts cursor next (Answers answer) h' t'
   either_row answer (inl may) w = ends_row answer may w
   either_row answer (inr may) w = own_row answer may w
 
-  goes_row : (turn : TimeTurn) → Searches disk store meta p h t b x broker_tier g ts cursor next turn h' t'
-      → GoesOn (resumed_at h.registry.start cursor) turn
+  goes_row : (turn : TimeTurn) → SearchesOn disk store meta p h t b x broker_tier g ts cursor next turn h' t'
+      → SearchContinues (resumed_at h.registry.start cursor) turn
       → DateOnRow disk store meta p h t b x broker_tier g ts cursor next (date_outcome turn) h' t'
   goes_row (Goes at later) w goes = (w, goes)
   goes_row (Ends answer) w goes =
@@ -78,7 +78,7 @@ module _ {D S M : Type 0} (disk : DiskGhosts D) (store : StoreGhosts S) (meta : 
       SearchRow disk store meta h t b y broker_tier asked at with_next (is_own asked.local at with_next) turn h' t'))
 
   searched : (turn : TimeTurn) → KeepsLead x g → resumed_at h.registry.start cursor < x.known_high_watermark → resumed_at h.registry.start cursor < 2 ^ 64
-      → GoesOn (resumed_at h.registry.start cursor) turn
+      → SearchContinues (resumed_at h.registry.start cursor) turn
       → AtBrokerTier t b (λ broker_tier. SearchRow disk store meta h t b x broker_tier (asked_of p h x ts) (resumed_at h.registry.start cursor)
       (resumed_with h.registry.start cursor next)
       (is_own (local_of x) (resumed_at h.registry.start cursor) (resumed_with h.registry.start cursor next)) turn h' t')
@@ -91,12 +91,12 @@ module _ {D S M : Type 0} (disk : DiskGhosts D) (store : StoreGhosts S) (meta : 
   -- of one that searches
   pub date_row : (asked : Asked) (at : ℕ) (with_next : SearchStep) (turn : TimeTurn) → slice_get h.nodes b ≡ Some x → KeepsLead x g
       → at ≡ resumed_at h.registry.start cursor → with_next ≡ resumed_with h.registry.start cursor next → asked ≡ asked_of p h x ts
-      → at < x.known_high_watermark → at < 2 ^ 64 → GoesOn at turn → RowAt asked at with_next turn
+      → at < x.known_high_watermark → at < 2 ^ 64 → SearchContinues at turn → RowAt asked at with_next turn
       → AtNode h b (λ y. AtBrokerTier t b (λ broker_tier. DateOnRow disk store meta p h t b y broker_tier g ts cursor next (date_outcome turn) h' t'))
   date_row asked at with_next turn is keeps at_is with_is asked_is below fits goes row =
       subst (λ (o : Option (Node D)). IsSomeAnd o (λ y. AtBrokerTier t b (λ broker_tier.
       DateOnRow disk store meta p h t b y broker_tier g ts cursor next (date_outcome turn) h' t'))) (sym is)
-      (searched turn keeps (subst (λ (n : ℕ). n < x.known_high_watermark) at_is below) (subst (λ (n : ℕ). n < 2 ^ 64) at_is fits) (subst (λ (n : ℕ). GoesOn n turn) at_is goes)
+      (searched turn keeps (subst (λ (n : ℕ). n < x.known_high_watermark) at_is below) (subst (λ (n : ℕ). n < 2 ^ 64) at_is fits) (subst (λ (n : ℕ). SearchContinues n turn) at_is goes)
       (subst (λ (o : Option (Node D)). IsSomeAnd o (λ y. AtBrokerTier t b (λ broker_tier. SearchRow disk store meta h t b y broker_tier (asked_of p h x ts)
       (resumed_at h.registry.start cursor) (resumed_with h.registry.start cursor next)
       (is_own (local_of x) (resumed_at h.registry.start cursor) (resumed_with h.registry.start cursor next)) turn h' t'))) is

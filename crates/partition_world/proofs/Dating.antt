@@ -35,7 +35,7 @@ use Rattle.partition_world.specs.declared.actor_state.Outcome.TheVariants.{Answe
 use Rattle.partition_world.specs.declared.actor_state.ActorState.{ActorState}
 use Rattle.partition_world.specs.declared.actor_state.InProgress.{InProgress}
 use Rattle.partition_world.specs.declared.actor_state.InProgress.TheVariants.{Idle, Noted, Copies, Seeks, Dates, Expires, Rebuilds}
-use Rattle.partition_world.specs.Central.{HasGone, IsDated, AreDated, IsCentral}
+use Rattle.partition_world.specs.Central.{HasGone, IsSearchState, AreDated, IsCentral}
 use Rattle.partition_world.specs.ActorStates.{actor_state_seen, recorded_in, chosen, moved, sought, dated, expired_segment, deleting, rebuilding, actor_state_after, told_of}
 use Rattle.partition_world.specs.Turn.{IsTurn}
 use Rattle.partition_world.specs.Whole.{Whole}
@@ -46,7 +46,7 @@ abbrev IsNoSearch : InProgress → Type 0
 IsNoSearch (Dates g cursor next) = ⊥
 IsNoSearch work = Unit {0}
 
-no_search : (q : State) (o : Option Order) (work : InProgress) → IsNoSearch work → IsDated q o work
+no_search : (q : State) (o : Option Order) (work : InProgress) → IsNoSearch work → IsSearchState q o work
 no_search q None work k = tt
 no_search q (Some order) (Dates g cursor next) k = absurd k
 no_search q (Some order) other k = tt
@@ -55,7 +55,7 @@ no_search q (Some order) other k = tt
 
 -- a search that continues has gone through its log as far as it continues from
 abbrev pub GoesAsDated : State → Option Order → InProgress → Outcome → Type 0
-GoesAsDated q o work (Dated cursor next) = (g : StartSnapshot) → recorded_in work ≡ Some g → IsDated q o (Dates g cursor next)
+GoesAsDated q o work (Dated cursor next) = (g : StartSnapshot) → recorded_in work ≡ Some g → IsSearchState q o (Dates g cursor next)
 GoesAsDated q o work outcome = Unit {0}
 
 -- the turn isn't one of those
@@ -72,7 +72,7 @@ pub told_undated : (actor : ActorId) (number : ℕ) (command : Command) (outcome
 told_undated actor number command (Dated cursor next) entry is = absurd (cc (is))
 told_undated actor number command other entry is = tt
 
-chosen_dated : (q : State) (o : Option Order) (work : InProgress) (copy : Copied) → IsDated q o work → IsDated q o (chosen work copy)
+chosen_dated : (q : State) (o : Option Order) (work : InProgress) (copy : Copied) → IsSearchState q o work → IsSearchState q o (chosen work copy)
 chosen_dated q o Idle copy k = k
 chosen_dated q o (Noted g) copy k = no_search q o (chosen (Noted g) copy) tt
 chosen_dated q o (Copies g c next) copy k = k
@@ -81,7 +81,7 @@ chosen_dated q o (Dates g cursor next) copy k = k
 chosen_dated q o (Expires g segment next) copy k = k
 chosen_dated q o (Rebuilds g next) copy k = k
 
-moved_dated : (q : State) (o : Option Order) (work : InProgress) (next : CopyStep) → IsDated q o work → IsDated q o (moved work next)
+moved_dated : (q : State) (o : Option Order) (work : InProgress) (next : CopyStep) → IsSearchState q o work → IsSearchState q o (moved work next)
 moved_dated q o Idle next k = k
 moved_dated q o (Noted g) next k = k
 moved_dated q o (Copies g c before) next k = no_search q o (Copies g c next) tt
@@ -90,7 +90,7 @@ moved_dated q o (Dates g cursor before) next k = k
 moved_dated q o (Expires g segment before) next k = k
 moved_dated q o (Rebuilds g before) next k = k
 
-sought_dated : (q : State) (o : Option Order) (work : InProgress) (next : Search) → IsDated q o work → IsDated q o (sought work next)
+sought_dated : (q : State) (o : Option Order) (work : InProgress) (next : Search) → IsSearchState q o work → IsSearchState q o (sought work next)
 sought_dated q o Idle next k = k
 sought_dated q o (Noted g) next k = no_search q o (Seeks g next) tt
 sought_dated q o (Copies g c before) next k = k
@@ -99,7 +99,7 @@ sought_dated q o (Dates g cursor before) next k = k
 sought_dated q o (Expires g segment before) next k = k
 sought_dated q o (Rebuilds g before) next k = k
 
-dated_dated : (q : State) (o : Option Order) (work : InProgress) (cursor : ℕ) (next : Dating) → GoesAsDated q o work (Dated cursor next) → IsDated q o work → IsDated q o (dated work cursor next)
+dated_dated : (q : State) (o : Option Order) (work : InProgress) (cursor : ℕ) (next : Dating) → GoesAsDated q o work (Dated cursor next) → IsSearchState q o work → IsSearchState q o (dated work cursor next)
 dated_dated q o Idle cursor next goes k = k
 dated_dated q o (Noted g) cursor next goes k = goes g refl
 dated_dated q o (Copies g c before) cursor next goes k = k
@@ -108,7 +108,7 @@ dated_dated q o (Dates g at before) cursor next goes k = goes g refl
 dated_dated q o (Expires g segment before) cursor next goes k = k
 dated_dated q o (Rebuilds g before) cursor next goes k = k
 
-expired_segment_dated : (q : State) (o : Option Order) (work : InProgress) (segment : ExpiredSegment) → IsDated q o work → IsDated q o (expired_segment work segment)
+expired_segment_dated : (q : State) (o : Option Order) (work : InProgress) (segment : ExpiredSegment) → IsSearchState q o work → IsSearchState q o (expired_segment work segment)
 expired_segment_dated q o Idle segment k = k
 expired_segment_dated q o (Noted g) segment k = no_search q o (expired_segment (Noted g) segment) tt
 expired_segment_dated q o (Copies g c before) segment k = k
@@ -117,7 +117,7 @@ expired_segment_dated q o (Dates g cursor before) segment k = k
 expired_segment_dated q o (Expires g before next) segment k = k
 expired_segment_dated q o (Rebuilds g before) segment k = k
 
-deleting_dated : (q : State) (o : Option Order) (work : InProgress) (next : Deletion) → IsDated q o work → IsDated q o (deleting work next)
+deleting_dated : (q : State) (o : Option Order) (work : InProgress) (next : Deletion) → IsSearchState q o work → IsSearchState q o (deleting work next)
 deleting_dated q o Idle next k = k
 deleting_dated q o (Noted g) next k = k
 deleting_dated q o (Copies g c before) next k = k
@@ -126,7 +126,7 @@ deleting_dated q o (Dates g cursor before) next k = k
 deleting_dated q o (Expires g segment before) next k = no_search q o (Expires g segment next) tt
 deleting_dated q o (Rebuilds g before) next k = k
 
-rebuilding_dated : (q : State) (o : Option Order) (work : InProgress) (next : Rebuild) → IsDated q o work → IsDated q o (rebuilding work next)
+rebuilding_dated : (q : State) (o : Option Order) (work : InProgress) (next : Rebuild) → IsSearchState q o work → IsSearchState q o (rebuilding work next)
 rebuilding_dated q o Idle next k = k
 rebuilding_dated q o (Noted g) next k = no_search q o (Rebuilds g next) tt
 rebuilding_dated q o (Copies g c before) next k = k
@@ -135,8 +135,8 @@ rebuilding_dated q o (Dates g cursor before) next k = k
 rebuilding_dated q o (Expires g segment before) next k = k
 rebuilding_dated q o (Rebuilds g before) next k = no_search q o (Rebuilds g next) tt
 
-actor_state_dated : (q : State) (orders : List Order) (actor_state : ActorState) (outcome : Outcome) → GoesAsDated q (slice_get orders actor_state.number) actor_state.work outcome → IsDated q (slice_get orders actor_state.number) actor_state.work
-    → IsDated q (slice_get orders (actor_state_after actor_state outcome).number) (actor_state_after actor_state outcome).work
+actor_state_dated : (q : State) (orders : List Order) (actor_state : ActorState) (outcome : Outcome) → GoesAsDated q (slice_get orders actor_state.number) actor_state.work outcome → IsSearchState q (slice_get orders actor_state.number) actor_state.work
+    → IsSearchState q (slice_get orders (actor_state_after actor_state outcome).number) (actor_state_after actor_state outcome).work
 actor_state_dated q orders actor_state (Answers answer) goes k = no_search q (slice_get orders (actor_state.number + 1)) Idle tt
 actor_state_dated q orders actor_state (Begins g) goes k = no_search q (slice_get orders actor_state.number) (Noted g) tt
 actor_state_dated q orders actor_state (Chose copy) goes k = chosen_dated q (slice_get orders actor_state.number) actor_state.work copy k
@@ -181,7 +181,7 @@ module _ {D S M : Type 0} (disk : DiskGhosts D) (store : StoreGhosts S) (meta : 
       by place l actor_state list at (slice_get l.orders actor_state.number) refl actor_state.work refl (c.dated place l actor_state list at)
     where
       by : (place : ℕ) (l : ActorList) (actor_state : ActorState) → slice_get w.lists place ≡ Some l → slice_get w.desk place ≡ Some actor_state → (o : Option Order) → slice_get l.orders actor_state.number ≡ o
-          → (work : InProgress) → actor_state.work ≡ work → IsDated c.central.plain o work → IsDated q o work
+          → (work : InProgress) → actor_state.work ≡ work → IsSearchState c.central.plain o work → IsSearchState q o work
       by place l actor_state list at None is work keeps k = tt
       by place l actor_state list at (Some order) is (Dates g cursor next) keeps k =
           let stands = c.central.stands.desk place l (actor_state_seen actor_state) list (map_get actor_state_seen w.desk place actor_state at) in
@@ -203,8 +203,8 @@ module _ {D S M : Type 0} (disk : DiskGhosts D) (store : StoreGhosts S) (meta : 
         | inl one ↦
             let there = t.at.list in
             let same : l ≡ t.list = cc (old, there, ap (λ (n : ℕ). slice_get w.lists n) one.0) in
-            subst (λ (u : ActorList). IsDated q (slice_get u.orders actor_state.number) actor_state.work) (sym same)
-            (subst (λ (u : ActorState). IsDated q (slice_get t.list.orders u.number) u.work) (sym one.1)
+            subst (λ (u : ActorList). IsSearchState q (slice_get u.orders actor_state.number) actor_state.work) (sym same)
+            (subst (λ (u : ActorState). IsSearchState q (slice_get t.list.orders u.number) u.work) (sym one.1)
             (actor_state_dated q t.list.orders t.actor_state outcome goes (k t.place t.list t.actor_state t.at.list t.at.actor_state_is)))
         | inr other ↦ k place l actor_state old other.1
       ]

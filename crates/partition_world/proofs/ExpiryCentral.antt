@@ -12,7 +12,7 @@ use Rattle.segment_meta.specs.declared.note.Entry.{Entry}
 use Rattle.registry.specs.declared.registry.Registry.{Registry}
 use Rattle.registry.specs.declared.refusal.RegRefusal.TheVariants as Reg
 use Rattle.registry.specs.Calls.{when, is_stale, after_raise}
-use Rattle.remote_view.specs.Fold.{Seen as View, entry_of, fold}
+use Rattle.remote_view.specs.Fold.{EntriesSeen as View, entry_of, fold}
 use Rattle.remote_view.specs.Lookup.{is_due, due}
 use Rattle.remote_view.proofs.Best.{Among, entry_found}
 use Rattle.expiry_task.specs.declared.turn.ExpiredSegment.{ExpiredSegment}
@@ -39,7 +39,7 @@ use Rattle.tier_safe.specs.Changes.{Moves, Dooms}
 use Rattle.tier_safe.specs.May.{IsChanged}
 use Rattle.tier_safe.specs.Moves.{MayDoom}
 use Rattle.tier_safe.specs.Scene.{Scene, BrokerTierView, TierTask as InProgressIsSeen, Free, Expires as ExpiresSeen}
-use Rattle.tier_safe.specs.Turns.{Shows, expiry_work}
+use Rattle.tier_safe.specs.Turns.{ShowsScene, expiry_work}
 use Rattle.tier_safe.proofs.Entries.{prefix_goes}
 use Rattle.tier_safe.proofs.Turning.{expiry_turns}
 use Rattle.partition_world.specs.declared.actor_state.Outcome.{Outcome}
@@ -52,7 +52,7 @@ use Rattle.partition_world.specs.ActorStates.{expired_segment, deleting, expiry_
 use Rattle.partition_world.specs.Central.{IsCentral, begun_of, work_of}
 use Rattle.partition_world.specs.Turn.{IsTurn}
 use Rattle.partition_world.specs.TurnsOfCopy.{KeepsLead, origin_of}
-use Rattle.partition_world.specs.TurnsOfExpiry.{ExpireFirstRow, RaiseRow, TakesUp, GoesOnDeletion, DeleteOnRow, expiry_tiers}
+use Rattle.partition_world.specs.TurnsOfExpiry.{ExpireFirstRow, ExpiryRaiseRow, TakesUp, GoesOnDeletion, DeleteOnRow, expiry_tiers}
 use Rattle.partition_world.specs.Whole.{Whole}
 use Rattle.partition_world.proofs.CopyEnds.{keeps_seen, keeps_back}
 use Rattle.partition_world.proofs.ExpiryEnds.{expiry_ends, expiry_tells, end_row}
@@ -129,7 +129,7 @@ module _ {D S M : Type 0} (disk : DiskGhosts D) (store : StoreGhosts S) (meta : 
 
     -- another leads by now
     pub expire_stale : (g : StartSnapshot) → t.actor_state.work ≡ Noted g → (n : ℕ) → outcome ≡ Answers (StaleEpoch n) → KeepsLead z.x g → w'.tier ≡ w.tier → (start : ℕ)
-        → RaiseRow w.held z.x.role start (StaleEpoch n) w'.held → IsCentral disk store meta opening w'
+        → ExpiryRaiseRow w.held z.x.role start (StaleEpoch n) w'.held → IsCentral disk store meta opening w'
     expire_stale g recorded n is keeps tier start row =
         let k = stale_raise w.held.registry row.0 start n (λ (r : Registry). w'.held ≡ record w.held { registry = r }) row.2 in
         let epoch = ap (λ (r : Registry). r.epoch) epoch_seen in
@@ -142,7 +142,7 @@ module _ {D S M : Type 0} (disk : DiskGhosts D) (store : StoreGhosts S) (meta : 
         )
 
     -- the log start offset rises
-    pub raise_seen : (g : StartSnapshot) (start wanted : ℕ) → KeepsLead z.x g → RaiseRow w.held z.x.role wanted (Raised start) w'.held
+    pub raise_seen : (g : StartSnapshot) (start wanted : ℕ) → KeepsLead z.x g → ExpiryRaiseRow w.held z.x.role wanted (Raised start) w'.held
         → Refines disk.content w'.held (λ h'. seen_tiers.ExpireOnRow c.partition y g (Raised start) h')
     raise_seen g start wanted keeps row =
         let P = λ (r : Registry). w'.held ≡ record w.held { registry = r } in
@@ -209,8 +209,8 @@ module _ {D S M : Type 0} (disk : DiskGhosts D) (store : StoreGhosts S) (meta : 
         → GoesOnDeletion store meta w.held w.tier t.order.broker.0 segment next turn w'.tier → w'.held ≡ w.held → IsCentral disk store meta opening w'
     deletes_on g segment next works keeps turn is goes same = by turn is goes changed
       where
-        at : Shows c.scene t.place t.order.broker.0 its (ExpiresSeen segment next) (store.content w.tier.store) (meta.content w.tier.meta) z.broker_tier.view
-        at = subst (λ (k : InProgressIsSeen). Shows c.scene t.place t.order.broker.0 its k (store.content w.tier.store) (meta.content w.tier.meta) z.broker_tier.view) (ap (work_of (Some t.order)) works)
+        at : ShowsScene c.scene t.place t.order.broker.0 its (ExpiresSeen segment next) (store.content w.tier.store) (meta.content w.tier.meta) z.broker_tier.view
+        at = subst (λ (k : InProgressIsSeen). ShowsScene c.scene t.place t.order.broker.0 its k (store.content w.tier.store) (meta.content w.tier.meta) z.broker_tier.view) (ap (work_of (Some t.order)) works)
             (shows_at disk store meta opening w c t.place t.list t.actor_state t.order z)
 
         broker_tiers : w'.tier.broker_tiers ≡ slice_set w.tier.broker_tiers t.order.broker.0 (record z.broker_tier { view = z.broker_tier.view })

@@ -8,7 +8,7 @@ use Rattle.object_store.specs.declared.store.Store.{Ghosts as StoreGhosts}
 use Rattle.segment_meta.specs.declared.note.Note.{Note}
 use Rattle.meta_log.specs.declared.log.MetaLog.{Ghosts as MetaGhosts}
 use Rattle.meta_log.specs.declared.event_origin.EventOrigin.{EventOrigin}
-use Rattle.meta_log.specs.Calls.{Appends}
+use Rattle.meta_log.specs.Calls.{AppendsToMetaLog}
 use Rattle.meta_log.specs.Content.{appended_if}
 use Rattle.expiry_task.specs.Turns.{Tiers, StartRow, FinishRow, DeleteRow, ExpiryRow, keys}
 use Rattle.expiry_task.specs.declared.turn.ExpiredSegment.{ExpiredSegment}
@@ -79,7 +79,7 @@ module _ {S M : Type 0} (store : StoreGhosts S) (meta : MetaGhosts M) where
     pub is_observable : (meta.content m').is_observable ≡ (meta.content m).is_observable
     pub notes : IsTrue (meta.content m).is_observable → (meta.content m').notes ≡ (meta.content m).notes
 
-  dry_notes : (note : Note) (old new : M) → Appends meta.content meta.control note Dry old new → IsTrue (meta.content old).is_observable → (meta.content new).notes ≡ (meta.content old).notes
+  dry_notes : (note : Note) (old new : M) → AppendsToMetaLog meta.content meta.control note Dry old new → IsTrue (meta.content old).is_observable → (meta.content new).notes ≡ (meta.content old).notes
   dry_notes note old new a is_observable =
       let g = a.content.notes is_observable in
       let none = g.1.dry refl in

@@ -3,7 +3,7 @@ use Rattle.std.proofs.Common.{◌≡◌, ℕ, ◌<◌, ◌≤◌, List, Some, No
 use Rattle.std.specs.declared.result.Result.{Result}
 use Rattle.object_store.specs.declared.store.Store.{Ghosts as StoreGhosts}
 use Rattle.meta_log.specs.declared.log.MetaLog.{Ghosts as MetaGhosts}
-use Rattle.remote_view.specs.Fold.{Seen}
+use Rattle.remote_view.specs.Fold.{EntriesSeen}
 use Rattle.tier_base.specs.declared.fault.Trouble.{Trouble}
 use Rattle.tier_base.specs.declared.fault.Trouble.TheVariants.{Failed, NoMemory}
 use Rattle.object_store.specs.declared.placing.Spot.{Spot}
@@ -14,7 +14,7 @@ use Rattle.remote_view.specs.Fold.{entry_of}
 use Rattle.remote_find.specs.declared.piece.Piece.{Piece}
 use Rattle.remote_find.specs.Pieces.{piece_at}
 use Rattle.tier_base.specs.declared.plain.Part.TheVariants as part
-use Rattle.tier_fetch.specs.Turns.{Tiers as Fetched, FetchRow, IndexRow, LoadRow, LogRow, LoadsBytes, Loads, CutsBytes, Cuts, spot_in, reads_by, chosen as found_piece}
+use Rattle.tier_fetch.specs.Turns.{Tiers as Fetched, RemoteFetchRow, IndexRow, LoadRow, LogRow, LoadsBytes, Loads, CutsBytes, CutsRunOut, spot_in, reads_by, chosen as found_piece}
 use Rattle.tier_fetch.specs.declared.turn.FetchTurn.TheVariants as fetch
 use Rattle.tier_fetch.specs.declared.turn.FetchStep.{FetchStep as Search}
 use Rattle.tier_fetch.specs.declared.turn.FetchStep.TheVariants.{Refresh, Index, Log}
@@ -53,19 +53,19 @@ module _ {S M : Type 0} (store : StoreGhosts S) (meta : MetaGhosts M) where
       by (Some end) w = let e = w.0 in absurd (cc (e))
       by None w = same_next (Index piece) next _ w.turn_is (omega arith)
 
-  load_advances : (wanted : FetchRequest) (piece : Piece) (view : Seen) (place : Option (ℕ × Spot)) (next : Search) (cache cache' : Cache) (old new : S)
+  load_advances : (wanted : FetchRequest) (piece : Piece) (view : EntriesSeen) (place : Option (ℕ × Spot)) (next : Search) (cache cache' : Cache) (old new : S)
       → LoadRow store.content store.control wanted piece view place (Ok (fetch.Goes next)) cache cache' old new → sought_before (Index piece) < sought_before next
   load_advances wanted piece view None next cache cache' old new w = let e = w.0 in absurd (cc (e))
   load_advances wanted piece view (Some place) next cache cache' old new w = loads_advances wanted piece place.0 place.1 w.answer next cache cache' w.loads
 
-  index_advances : (wanted : FetchRequest) (piece : Piece) (view : Seen) (next : Search) (index : Option OffsetTable) (cache cache' : Cache) (old new : S)
+  index_advances : (wanted : FetchRequest) (piece : Piece) (view : EntriesSeen) (next : Search) (index : Option OffsetTable) (cache cache' : Cache) (old new : S)
       → IndexRow store.content store.control wanted piece view (Ok (fetch.Goes next)) index cache cache' old new → sought_before (Index piece) < sought_before next
   index_advances wanted piece view next (Some index) cache cache' old new w = let is : fetch.Goes next ≡ reads_by wanted piece index = cc (w.0) in same_next (Index piece) next _ is (omega arith)
   index_advances wanted piece view next None cache cache' old new w =
       load_advances wanted piece view (spot_in wanted.partition piece.id part.Index (entry_of piece.id view.entries)) next cache cache' old new w
 
   cuts_ends : {A : Type 0} (wanted : FetchRequest) (piece : Piece) (spot : Spot) (span : Span) (answer : Result (Option (List ℕ)) Trouble) (next : Search)
-      → Cuts wanted piece spot span answer (Ok (fetch.Goes next)) → A
+      → CutsRunOut wanted piece spot span answer (Ok (fetch.Goes next)) → A
   cuts_ends wanted piece spot span (Err Failed) next w = absurd (cc (w))
   cuts_ends wanted piece spot span (Err NoMemory) next w = absurd (let no : false ≡ true = w in cc)
   cuts_ends wanted piece spot span (Ok None) next w = absurd (cc (w))
@@ -75,13 +75,13 @@ module _ {S M : Type 0} (store : StoreGhosts S) (meta : MetaGhosts M) where
       by (Some end) w = absurd (cc (w))
       by None w = absurd w
 
-  log_ends : {A : Type 0} (wanted : FetchRequest) (piece : Piece) (span : Span) (view : Seen) (place : Option (ℕ × Spot)) (next : Search) (old new : S)
+  log_ends : {A : Type 0} (wanted : FetchRequest) (piece : Piece) (span : Span) (view : EntriesSeen) (place : Option (ℕ × Spot)) (next : Search) (old new : S)
       → LogRow store.content store.control wanted piece span view place (Ok (fetch.Goes next)) old new → A
   log_ends wanted piece span view None next old new w = let e = w.0 in absurd (cc (e))
   log_ends wanted piece span view (Some place) next old new w = cuts_ends wanted piece place.1 span w.answer next w.cuts
 
   pub fetch_advances : (wanted : FetchRequest) (line : List (ℕ × ℕ)) (before next : Search) (old new : Fetched S M)
-      → FetchRow store.content store.control meta.content meta.control wanted line before (Ok (fetch.Goes next)) old new → sought_before before < sought_before next
+      → RemoteFetchRow store.content store.control meta.content meta.control wanted line before (Ok (fetch.Goes next)) old new → sought_before before < sought_before next
   fetch_advances wanted line Refresh next old new w = chosen_advances new.view.notes (piece_at new.view.entries line wanted.log_end wanted.offset) next w.1.0
   fetch_advances wanted line (Index piece) next old new w = index_advances wanted piece old.view next (found piece.id.0 old.cache.pairs) old.cache new.cache old.store new.store w.1
   fetch_advances wanted line (Log piece span) next old new w =

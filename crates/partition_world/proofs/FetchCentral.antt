@@ -44,7 +44,7 @@ use Rattle.tier_safe.specs.Fetches.{StillLeads}
 use Rattle.tier_safe.specs.May.{IsChanged}
 use Rattle.tier_safe.specs.Reads.{TellsEpochs}
 use Rattle.tier_safe.specs.Scene.{Scene, BrokerTierView, TierTask as InProgressIsSeen, Free, Seeks as SeeksSeen}
-use Rattle.tier_safe.specs.Turns.{Shows}
+use Rattle.tier_safe.specs.Turns.{ShowsScene}
 use Rattle.laws_tier_fetch.specs.Seeking.{sought_of, fetch_work, IsAtTurn, after_fetch}
 use Rattle.laws_tier_fetch.proofs.Asking.{ask_changes}
 use Rattle.laws_tier_fetch.proofs.Turning.{fetch_turns}
@@ -58,7 +58,7 @@ use Rattle.partition_world.specs.declared.tier.RemoteTier.{RemoteTier}
 use Rattle.partition_world.specs.ActorStates.{recorded_in, sought, actor_state_after, actor_state_seen, told_of}
 use Rattle.partition_world.specs.Central.{IsCentral, ShowsTier, seeks_of, work_of}
 use Rattle.partition_world.specs.Turn.{IsTurn}
-use Rattle.partition_world.specs.TurnsOfFetch.{HasStopped, Serves, wanted_of, fetch_tiers, GoesOnFetch, FetchOnRow}
+use Rattle.partition_world.specs.TurnsOfFetch.{HasStopped, MayServe, wanted_of, fetch_tiers, GoesOnFetch, FetchOnRow}
 use Rattle.partition_world.specs.Whole.{Whole}
 use Rattle.partition_world.proofs.CopyEnds.{keeps_seen}
 use Rattle.partition_world.proofs.Entered.{both_of}
@@ -82,7 +82,7 @@ above_local start (Some back) = omega arith
 
 module _ {D : Type 0} where
   -- what a turn finds of a broker holds as it is seen
-  pub stopped_seen : (x : Node D) (s : log.Seen) (g : StartSnapshot) → HasStopped x g → (g.stops ≡ x.stops) × (is_up x ≡ true) → ⊥
+  pub stopped_seen : (x : Node D) (s : log.LogSeen) (g : StartSnapshot) → HasStopped x g → (g.stops ≡ x.stops) × (is_up x ≡ true) → ⊥
   stopped_seen x s g (inl differs) k = differs k.0
   stopped_seen x s g (inr down) k = let up = k.1 in absurd (cc (down, up))
 
@@ -184,7 +184,7 @@ module _ {D S M : Type 0} (disk : DiskGhosts D) (store : StoreGhosts S) (meta : 
       answers answer is row tier held =
           stands disk store meta opening w a outcome w' t c z (Fetch offset limit) fetches work keeps answer is (low (turned.Answers answer)) tier (same_held held) (lift answer row)
 
-      serves_seen : Serves w.held z.x g offset → seen_tiers.Serves c.partition y g offset
+      serves_seen : MayServe w.held z.x g offset → seen_tiers.ServesCommitted c.partition y g offset
       serves_seen k = record { keeps = keeps_seen z.x z.s g k.keeps; within = in_log k.keeps.up k.within; below = k.below }
 
       -- the fetch as the tier shows it
@@ -198,7 +198,7 @@ module _ {D S M : Type 0} (disk : DiskGhosts D) (store : StoreGhosts S) (meta : 
           let leads = on.leads (ap is_leaders fetches) in
           leads.1 ∙ ap Leads (sym (ap (λ (r : Role). unwrap_or (leading r) 0) leads.1))
 
-      turn_at : Serves w.held z.x g offset → IsAtTurn c.scene plain t.place t.order.broker.0 here (broker_of y) g.stops epoch (wanted_of w.partition z.x offset limit) (line_of z.x) next
+      turn_at : MayServe w.held z.x g offset → IsAtTurn c.scene plain t.place t.order.broker.0 here (broker_of y) g.stops epoch (wanted_of w.partition z.x offset limit) (line_of z.x) next
           (store.content w.tier.store) (meta.content w.tier.meta) z.broker_tier.view z.broker_tier.cache
       turn_at k =
           let up = k.keeps.up in
@@ -207,7 +207,7 @@ module _ {D S M : Type 0} (disk : DiskGhosts D) (store : StoreGhosts S) (meta : 
           record {
             safe = both_of disk store meta opening w c;
             few = few_now disk store meta opening w c;
-            shows = subst (λ (u : InProgressIsSeen). Shows c.scene t.place t.order.broker.0 here u (store.content w.tier.store) (meta.content w.tier.meta) z.broker_tier.view) shows_seek
+            shows = subst (λ (u : InProgressIsSeen). ShowsScene c.scene t.place t.order.broker.0 here u (store.content w.tier.store) (meta.content w.tier.meta) z.broker_tier.view) shows_seek
                 (shows_at disk store meta opening w c t.place t.list t.actor_state t.order z);
             cache_is = refl;
             partition = sym c.shows_tier.partition;
@@ -219,7 +219,7 @@ module _ {D S M : Type 0} (disk : DiskGhosts D) (store : StoreGhosts S) (meta : 
           }
 
       -- what such a turn answers, as it is seen
-      ends_row : (answer : Answer) (goes : GoesOnFetch store meta w.partition w.tier t.order.broker.0 z.x z.broker_tier offset limit next (Ends answer) w'.tier) → MayEnd answer → Serves w.held z.x g offset → SeenOn answer
+      ends_row : (answer : Answer) (goes : GoesOnFetch store meta w.partition w.tier t.order.broker.0 z.x z.broker_tier offset limit next (Ends answer) w'.tier) → MayEnd answer → MayServe w.held z.x g offset → SeenOn answer
       ends_row MetaFault goes may k = (serves_seen k, refl)
       ends_row StoreFault goes may k = (serves_seen k, refl)
       ends_row (Damaged place at) goes may k = (serves_seen k, refl)
@@ -229,7 +229,7 @@ module _ {D S M : Type 0} (disk : DiskGhosts D) (store : StoreGhosts S) (meta : 
           (serves_seen k, record { run = r.run.run; is = r.run.is; spelled = r.run.spelled; size_is = r.run.size_is }, refl)
       ends_row other goes may k = elim may [ ]
 
-      changed : (turn : FetchTurn) (goes : GoesOnFetch store meta w.partition w.tier t.order.broker.0 z.x z.broker_tier offset limit next turn w'.tier) → Serves w.held z.x g offset
+      changed : (turn : FetchTurn) (goes : GoesOnFetch store meta w.partition w.tier t.order.broker.0 z.x z.broker_tier offset limit next turn w'.tier) → MayServe w.held z.x g offset
           → IsChanged c.scene plain (after_fetch c.scene t.place t.order.broker.0 here (fetch_work t.order.broker.0 g.stops epoch offset turn) (store.content w'.tier.store).objects (meta.content w'.tier.meta).notes
           goes.view goes.cache)
       changed turn goes k =
@@ -245,7 +245,7 @@ module _ {D S M : Type 0} (disk : DiskGhosts D) (store : StoreGhosts S) (meta : 
           (record z.broker_tier { view = goes.view; cache = goes.cache }) t.partition t.lists t.desk (ap (λ (u : RemoteTier S M). u.broker_tiers) goes.after)
           (fetch_tells store meta (wanted_of w.partition z.x offset limit) (line_of z.x) next turn (fetch_tiers z.broker_tier.view z.broker_tier.cache w.tier) (fetch_tiers goes.view goes.cache w'.tier) goes.row) refl refl is
 
-      ends : (answer : Answer) → outcome ≡ Answers answer → Serves w.held z.x g offset → GoesOnFetch store meta w.partition w.tier t.order.broker.0 z.x z.broker_tier offset limit next (Ends answer) w'.tier
+      ends : (answer : Answer) → outcome ≡ Answers answer → MayServe w.held z.x g offset → GoesOnFetch store meta w.partition w.tier t.order.broker.0 z.x z.broker_tier offset limit next (Ends answer) w'.tier
           → w'.held ≡ w.held → IsCentral disk store meta opening w'
       ends answer is k goes held =
           let may = fetch_ends store meta (wanted_of w.partition z.x offset limit) (line_of z.x) next answer (fetch_tiers z.broker_tier.view z.broker_tier.cache w.tier) (fetch_tiers goes.view goes.cache w'.tier) goes.row in
@@ -253,7 +253,7 @@ module _ {D S M : Type 0} (disk : DiskGhosts D) (store : StoreGhosts S) (meta : 
           (lift answer (ends_row answer goes may k)) (changed (Ends answer) goes k)
           (shows_then (Ends answer) goes Free (answered_free disk store meta opening w c t.place t.list t.actor_state t.order z outcome answer is))
 
-      goes_on : (later : FetchStep) → outcome ≡ Seeks later → Serves w.held z.x g offset → GoesOnFetch store meta w.partition w.tier t.order.broker.0 z.x z.broker_tier offset limit next (GoesOn later) w'.tier
+      goes_on : (later : FetchStep) → outcome ≡ Seeks later → MayServe w.held z.x g offset → GoesOnFetch store meta w.partition w.tier t.order.broker.0 z.x z.broker_tier offset limit next (GoesOn later) w'.tier
           → w'.held ≡ w.held → IsCentral disk store meta opening w'
       goes_on later is k goes held =
           silent disk store meta opening w a outcome w' t c z (Fetch offset limit) fetches (subst (GoesAsRecorded t.actor_state.work) (sym is) tt) (subst IsNoDate (sym is) tt)

@@ -10,7 +10,7 @@ use Rattle.object_store.specs.Place.{short_of, short_in}
 use Rattle.meta_log.specs.declared.log.MetaLog.{Ghosts as MetaGhosts}
 use Rattle.sparse_index.specs.Offsets.{OffsetTable}
 use Rattle.index_cache.specs.Cache.{Cache, found}
-use Rattle.remote_view.specs.Fold.{Seen as View, entry_of}
+use Rattle.remote_view.specs.Fold.{EntriesSeen as View, entry_of}
 use Rattle.remote_find.specs.declared.piece.Piece.{Piece}
 use Rattle.remote_find.specs.Pieces.{piece_at}
 use Rattle.view_refresh.specs.Refreshing.{Halted}
@@ -23,7 +23,7 @@ use Rattle.tier_fetch.specs.declared.turn.FetchStep.{FetchStep}
 use Rattle.tier_fetch.specs.declared.turn.FetchStep.TheVariants.{Refresh, Index, Log}
 use Rattle.tier_fetch.specs.declared.turn.Span.{Span}
 use Rattle.tier_fetch.specs.declared.turn.FetchRequest.{FetchRequest}
-use Rattle.tier_fetch.specs.Turns.{chosen, spot_in, LoadsBytes, Loads, CutsBytes, Cuts, RefreshRow, IndexRow, LoadRow, LogRow, FetchRow, Tiers}
+use Rattle.tier_fetch.specs.Turns.{chosen, spot_in, LoadsBytes, Loads, CutsBytes, CutsRunOut, RefreshRow, IndexRow, LoadRow, LogRow, RemoteFetchRow, Tiers}
 use Rattle.partition_world.proofs.CopyEnds.{TellsOn}
 
 -- what it may be answered
@@ -64,7 +64,7 @@ module _ {S M : Type 0} (store : StoreGhosts S) (meta : MetaGhosts M) where
   index_ends wanted piece view answer None cache cache' old new w =
       load_ends wanted piece view (spot_in wanted.partition piece.id part.Index (entry_of piece.id view.entries)) answer cache cache' old new w
 
-  cuts_ends : (wanted : FetchRequest) (piece : Piece) (spot : Spot) (span : Span) (given : _) (answer : Answer) → Cuts wanted piece spot span given (Ok (Ends answer)) → MayEnd answer
+  cuts_ends : (wanted : FetchRequest) (piece : Piece) (spot : Spot) (span : Span) (given : _) (answer : Answer) → CutsRunOut wanted piece spot span given (Ok (Ends answer)) → MayEnd answer
   cuts_ends wanted piece spot span (Err Failed) answer w = let e : answer ≡ StoreFault = cc (w) in subst MayEnd (sym e) tt
   cuts_ends wanted piece spot span (Err NoMemory) answer w = absurd (cc (w))
   cuts_ends wanted piece spot span (Ok None) answer w = let e : answer ≡ Damaged (Key spot.key) 0 = cc (w) in subst MayEnd (sym e) tt
@@ -83,7 +83,7 @@ module _ {S M : Type 0} (store : StoreGhosts S) (meta : MetaGhosts M) where
 
   -- what a turn of a fetch returns
   pub fetch_ends : (wanted : FetchRequest) (line : List (ℕ × ℕ)) (next : FetchStep) (answer : Answer) (old new : Tiers S M)
-      → FetchRow store.content store.control meta.content meta.control wanted line next (Ok (Ends answer)) old new → MayEnd answer
+      → RemoteFetchRow store.content store.control meta.content meta.control wanted line next (Ok (Ends answer)) old new → MayEnd answer
   fetch_ends wanted line Refresh answer old new w = refresh_ends wanted line answer old.view new.view old.meta new.meta w.1
   fetch_ends wanted line (Index piece) answer old new w =
       index_ends wanted piece old.view answer (found piece.id.0 old.cache.pairs) old.cache new.cache old.store new.store w.1
@@ -121,7 +121,7 @@ module _ {S M : Type 0} (store : StoreGhosts S) (meta : MetaGhosts M) where
 
   -- the devices report as they did
   pub fetch_tells : (wanted : FetchRequest) (line : List (ℕ × ℕ)) (next : FetchStep) (turn : FetchTurn) (old new : Tiers S M)
-      → FetchRow store.content store.control meta.content meta.control wanted line next (Ok turn) old new → TellsOn store meta old.store old.meta new.store new.meta
+      → RemoteFetchRow store.content store.control meta.content meta.control wanted line next (Ok turn) old new → TellsOn store meta old.store old.meta new.store new.meta
   fetch_tells wanted line Refresh turn old new w =
       (ap (λ (t : Tiers S M). (store.content t.store).is_observable) w.0, refresh_tells wanted line turn old.view new.view old.meta new.meta w.1)
   fetch_tells wanted line (Index piece) turn old new w =
@@ -157,7 +157,7 @@ module _ {S M : Type 0} (store : StoreGhosts S) (meta : MetaGhosts M) where
     pub why : Halted meta.content meta.control old.view new.view old.meta new.meta ⊎ ((new.view ≡ old.view) × (new.meta ≡ old.meta))
 
   pub fetch_dry : (wanted : FetchRequest) (line : List (ℕ × ℕ)) (next : FetchStep) (e : AllocError) (old new : Tiers S M)
-      → FetchRow store.content store.control meta.content meta.control wanted line next (Err e) old new → Dries old new
+      → RemoteFetchRow store.content store.control meta.content meta.control wanted line next (Err e) old new → Dries old new
   fetch_dry wanted line Refresh e old new w = record {
     store_stays = same_store old.store new.store (ap (λ (t : Tiers S M). t.store) w.0);
     cache = ap (λ (t : Tiers S M). t.cache) w.0;

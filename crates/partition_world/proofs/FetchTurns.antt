@@ -7,9 +7,9 @@ use Rattle.meta_log.specs.declared.log.MetaLog.{Ghosts as MetaGhosts}
 use Rattle.tier_fetch.specs.declared.turn.FetchTurn.{FetchTurn}
 use Rattle.tier_fetch.specs.declared.turn.FetchTurn.TheVariants as fetch
 use Rattle.tier_fetch.specs.declared.turn.FetchStep.{FetchStep}
-use Rattle.tier_fetch.specs.Turns.{Tiers, FetchRow, GoesFor}
+use Rattle.tier_fetch.specs.Turns.{Tiers, RemoteFetchRow, GoesFor}
 use Rattle.index_cache.specs.Cache.{Cache}
-use Rattle.remote_view.specs.Fold.{Seen as View}
+use Rattle.remote_view.specs.Fold.{EntriesSeen as View}
 use Rattle.broker_log.specs.Seen.{line_in}
 use Rattle.plain_log.specs.declared.answer.Answer.{Answer}
 use Rattle.plain_log.specs.declared.answer.Answer.TheVariants.{MetaFault, StoreFault, Damaged, Run}
@@ -22,12 +22,12 @@ use Rattle.partition_world.specs.declared.tier.RemoteTier.{RemoteTier}
 use Rattle.partition_world.specs.declared.actor_state.Outcome.TheVariants.{Answers}
 use Rattle.partition_world.specs.Tier.{put_broker_tier}
 use Rattle.partition_world.specs.ActorStates.{fetch_outcome}
-use Rattle.partition_world.specs.TurnsOfFetch.{Serves, GoesOnFetch, FetchOnRow, wanted_of, fetch_tiers}
+use Rattle.partition_world.specs.TurnsOfFetch.{MayServe, GoesOnFetch, FetchOnRow, wanted_of, fetch_tiers}
 use Rattle.partition_world.proofs.FetchEnds.{MayEnd, fetch_ends}
 
 module _ {D S M : Type 0} (store : StoreGhosts S) (meta : MetaGhosts M) where
   ends_row : (p : PartitionId) (h : PartitionState D) (t : RemoteTier S M) (b : ℕ) (x : Node D) (broker_tier : BrokerTierState) (g : StartSnapshot) (offset limit : ℕ) (next : FetchStep) (answer : Answer) (t' : RemoteTier S M)
-      → MayEnd answer → Serves h x g offset → GoesOnFetch store meta p t b x broker_tier offset limit next (fetch.Ends answer) t'
+      → MayEnd answer → MayServe h x g offset → GoesOnFetch store meta p t b x broker_tier offset limit next (fetch.Ends answer) t'
       → FetchOnRow store meta p h t b x broker_tier g offset limit next (Answers answer) t'
   ends_row p h t b x broker_tier g offset limit next MetaFault t' may s w = (s, w)
   ends_row p h t b x broker_tier g offset limit next StoreFault t' may s w = (s, w)
@@ -37,14 +37,14 @@ module _ {D S M : Type 0} (store : StoreGhosts S) (meta : MetaGhosts M) where
 
   -- what is read of the log in the tier's row, by its end and its leader epochs
   row_at : (p : PartitionId) (x : Node D) (offset limit end : ℕ) (line : List (ℕ × ℕ)) (next : FetchStep) (turn : FetchTurn) (old new : Tiers S M) → end ≡ end_of x → Some line ≡ line_in x.log
-      → FetchRow store.content store.control meta.content meta.control (record { partition = p; offset = offset; limit = limit; log_end = end; mark = x.known_high_watermark }) line next (Ok turn) old new
-      → FetchRow store.content store.control meta.content meta.control (wanted_of p x offset limit) (line_of x) next (Ok turn) old new
+      → RemoteFetchRow store.content store.control meta.content meta.control (record { partition = p; offset = offset; limit = limit; log_end = end; mark = x.known_high_watermark }) line next (Ok turn) old new
+      → RemoteFetchRow store.content store.control meta.content meta.control (wanted_of p x offset limit) (line_of x) next (Ok turn) old new
   row_at p x offset limit end line next turn old new at is row =
-      subst (λ (o : Option (List (ℕ × ℕ))). FetchRow store.content store.control meta.content meta.control (wanted_of p x offset limit) (unwrap_or o []) next (Ok turn) old new) is
-      (subst (λ (n : ℕ). FetchRow store.content store.control meta.content meta.control (record { partition = p; offset = offset; limit = limit; log_end = n; mark = x.known_high_watermark }) line next (Ok turn) old new) at row)
+      subst (λ (o : Option (List (ℕ × ℕ))). RemoteFetchRow store.content store.control meta.content meta.control (wanted_of p x offset limit) (unwrap_or o []) next (Ok turn) old new) is
+      (subst (λ (n : ℕ). RemoteFetchRow store.content store.control meta.content meta.control (record { partition = p; offset = offset; limit = limit; log_end = n; mark = x.known_high_watermark }) line next (Ok turn) old new) at row)
 
   goes_row : (p : PartitionId) (h : PartitionState D) (t : RemoteTier S M) (b : ℕ) (x : Node D) (broker_tier : BrokerTierState) (g : StartSnapshot) (offset limit : ℕ) (next : FetchStep) (turn : FetchTurn) (t' : RemoteTier S M)
-      → Serves h x g offset → GoesOnFetch store meta p t b x broker_tier offset limit next turn t' → GoesFor offset turn
+      → MayServe h x g offset → GoesOnFetch store meta p t b x broker_tier offset limit next turn t' → GoesFor offset turn
       → FetchOnRow store meta p h t b x broker_tier g offset limit next (fetch_outcome turn) t'
   goes_row p h t b x broker_tier g offset limit next (fetch.Goes later) t' s w goes = (s, w, goes)
   goes_row p h t b x broker_tier g offset limit next (fetch.Ends answer) t' s w goes =
@@ -53,8 +53,8 @@ module _ {D S M : Type 0} (store : StoreGhosts S) (meta : MetaGhosts M) where
 
   -- of one that reads
   pub turn_row : (p : PartitionId) (h : PartitionState D) (t : RemoteTier S M) (b : ℕ) (x : Node D) (broker_tier : BrokerTierState) (g : StartSnapshot) (offset limit end : ℕ) (line : List (ℕ × ℕ)) (next : FetchStep) (turn : FetchTurn)
-      (view : View) (cache : Cache) (t' : RemoteTier S M) → end ≡ end_of x → Some line ≡ line_in x.log → Serves h x g offset
-      → FetchRow store.content store.control meta.content meta.control (record { partition = p; offset = offset; limit = limit; log_end = end; mark = x.known_high_watermark }) line next (Ok turn)
+      (view : View) (cache : Cache) (t' : RemoteTier S M) → end ≡ end_of x → Some line ≡ line_in x.log → MayServe h x g offset
+      → RemoteFetchRow store.content store.control meta.content meta.control (record { partition = p; offset = offset; limit = limit; log_end = end; mark = x.known_high_watermark }) line next (Ok turn)
       (fetch_tiers broker_tier.view broker_tier.cache t) (fetch_tiers view cache t')
       → t' ≡ put_broker_tier (record t { store = t'.store; meta = t'.meta }) b (record broker_tier { view = view; cache = cache }) → GoesFor offset turn
       → FetchOnRow store meta p h t b x broker_tier g offset limit next (fetch_outcome turn) t'

@@ -18,7 +18,7 @@ use Rattle.plain_log.specs.declared.state.State.{State}
 use Rattle.plain_log.specs.Fresh.{fresh}
 use Rattle.plain_log.specs.Runs.{replay}
 use Rattle.plain_log.specs.Orders.{AreListsFor, AreRising, IsListFor, IsConfig}
-use Rattle.broker_log.specs.Seen.{Shows}
+use Rattle.broker_log.specs.Seen.{ShowsSeen}
 use Rattle.laws_partition.specs.Whole as seen_whole
 use Rattle.laws_partition.specs.Central as seen_central
 use Rattle.laws_partition.specs.Fresh.{fresh_node, fresh_held}
@@ -37,12 +37,12 @@ use Rattle.partition_world.specs.declared.actor_state.InProgress.TheVariants.{Id
 use Rattle.partition_world.specs.declared.tier.BrokerTierState.{BrokerTierState}
 use Rattle.partition_world.specs.ActorStates.{desk_seen}
 use Rattle.partition_world.specs.Whole.{Whole, seen_as}
-use Rattle.partition_world.specs.Central.{IsRecorded, AreRecorded, IsDated, AreDated, IsCentral, ShowsTier, broker_tiers_seen, work_of, desk_of, notes_left}
+use Rattle.partition_world.specs.Central.{IsRecorded, AreRecorded, IsSearchState, AreDated, IsCentral, ShowsTier, broker_tiers_seen, work_of, desk_of, notes_left}
 use Rattle.partition_world.specs.Fresh.{IsFresh, IsSeenEmpty, fresh_actor_state, fresh_broker_tier}
 use Rattle.partition_world.proofs.WorldFresh.{all_fresh}
 
 module _ {D : Type 0} (content : D → Content) (control : D → Control call_code) where
-  node_shown : (leads : Bool) (x : Node D) → IsFreshNode leads x → Shows content x.log (empty_seen (line_of x)) → ShowsNode content x (fresh_node (fresh_role leads) (fresh_line leads))
+  node_shown : (leads : Bool) (x : Node D) → IsFreshNode leads x → ShowsSeen content x.log (empty_seen (line_of x)) → ShowsNode content x (fresh_node (fresh_role leads) (fresh_line leads))
   node_shown leads x f seen = (
     empty_seen (line_of x),
     seen,
@@ -158,7 +158,7 @@ module _ {D S M : Type 0} (disk : DiskGhosts D) (store : StoreGhosts S) (meta : 
   pub fresh_recorded : (n : ℕ) (desk : List ActorState) → desk ≡ replicate n fresh_actor_state → AreRecorded desk
   fresh_recorded n desk is = λ place actor_state at. idle_recorded n place actor_state (ap (λ (k : List ActorState). slice_get k place) (sym is) ∙ at)
 
-  idle_dated : (p : State) (order : Option Order) → IsDated p order Idle
+  idle_dated : (p : State) (order : Option Order) → IsSearchState p order Idle
   idle_dated p None = tt
   idle_dated p (Some order) = tt
 
@@ -170,7 +170,7 @@ module _ {D S M : Type 0} (disk : DiskGhosts D) (store : StoreGhosts S) (meta : 
   pub fresh_dated : (p : State) (lists : List ActorList) (n : ℕ) (desk : List ActorState) → desk ≡ replicate n fresh_actor_state → AreDated p lists desk
   fresh_dated p lists n desk is = λ place l actor_state there at.
       let same = actor_states_idle n place actor_state (ap (λ (k : List ActorState). slice_get k place) (sym is) ∙ at) in
-      subst (λ (k : ActorState). IsDated p (slice_get l.orders k.number) k.work) same (idle_dated p (slice_get l.orders 0))
+      subst (λ (k : ActorState). IsSearchState p (slice_get l.orders k.number) k.work) same (idle_dated p (slice_get l.orders 0))
 
   pub fresh_is_central : (partition : PartitionId) (config : Config) (lists : List ActorList) (disks : List D) (s : S) (m : M) (w : Whole D S M) → IsConfig config → AreListsFor config lists
       → IsFresh disk store meta partition config lists disks s m w → IsSeenEmpty disk store meta w → IsCentral disk store meta (fresh config) w

@@ -23,7 +23,7 @@ use Rattle.partition_world.specs.declared.tier.BrokerTierState.{BrokerTierState}
 use Rattle.partition_world.specs.declared.tier.RemoteTier.{RemoteTier}
 use Rattle.partition_world.specs.declared.actor_state.InProgress.{InProgress}
 use Rattle.partition_world.specs.declared.actor_state.InProgress.TheVariants.{Idle, Noted, Copies, Seeks, Dates, Expires, Rebuilds}
-use Rattle.partition_world.specs.Tier.{AtBrokerTier, Halts}
+use Rattle.partition_world.specs.Tier.{AtBrokerTier, HaltsRefresh}
 use Rattle.partition_world.specs.TurnsOfCopy.{WantsForCopy}
 use Rattle.partition_world.specs.TurnsOfExpiry.{WantsForDeletion}
 use Rattle.partition_world.specs.TurnsOfFetch.{WantsForFetch}
@@ -36,7 +36,7 @@ module _ {D S M : Type 0} (disk : DiskGhosts D) (store : StoreGhosts S) (meta : 
   -- a call of the tier found no memory
   abbrev pub HaltsSome : PartitionState D → RemoteTier S M → ℕ → Node D → BrokerTierState → RemoteTier S M → Type 0
   HaltsSome h t b x broker_tier t' =
-      Halts meta t b broker_tier t' ⊎ (((copy : Copied) × (next : CopyStep) × WantsForCopy store meta h t b broker_tier copy next t')
+      HaltsRefresh meta t b broker_tier t' ⊎ (((copy : Copied) × (next : CopyStep) × WantsForCopy store meta h t b broker_tier copy next t')
       ⊎ (((p : PartitionId) × (offset : ℕ) × (limit : ℕ) × (next : Search) × WantsForFetch store meta p t b x broker_tier offset limit next t')
       ⊎ (((expired_segment : ExpiredSegment) × (next : Deletion) × WantsForDeletion store meta h t b expired_segment next t')
       ⊎ (((line : List (ℕ × ℕ)) × (asked : Asked) × (cursor : ℕ) × (next : Dating) × WantsForDate store meta t b broker_tier line asked cursor next t')

@@ -23,9 +23,9 @@ use Rattle.laws_partition.specs.Turn.{event_of}
 use Rattle.laws_partition.proofs.BoolTests.{some_of, eq_same, eq_differs}
 use Rattle.laws_partition.proofs.FreshSound.{length_replicate}
 use Rattle.laws_partition.proofs.Lists.{one_list, orders_at, list_or_none}
-use Rattle.partition_world.specs.Fresh.{IsNew, fresh_actor_state}
+use Rattle.partition_world.specs.Fresh.{IsNewWorld, fresh_actor_state}
 use Rattle.partition_world.specs.InTurn.{entries_of, next_after, AreInTurn, IsInTurn}
-use Rattle.partition_world.specs.Reaches.{Goes as GoesOnce, GoesTimes, GoesUntil, Paces, Reaches}
+use Rattle.partition_world.specs.Reaches.{TakesTurn as GoesOnce, GoesTimes, GoesUntil, Paces, Reaches}
 use Rattle.partition_world.specs.Turn.{IsTurn, IsAtEnd}
 use Rattle.partition_world.specs.Whole.{Whole}
 use Rattle.partition_world.specs.declared.actor_state.Outcome.{Outcome}
@@ -255,7 +255,7 @@ module _ {D S M : Type 0} (disk : DiskGhosts D) (store : StoreGhosts S) (meta : 
   replicated (suc n) x zero y e = cc
   replicated (suc n) x (suc i) y e = replicated n x i y e
 
-  new_orderly : (config : Config) (lists : List ActorList) (w : Whole D S M) → AreListsFor config lists → IsNew lists w → IsOrderly w
+  new_orderly : (config : Config) (lists : List ActorList) (w : Whole D S M) → AreListsFor config lists → IsNewWorld lists w → IsOrderly w
   new_orderly config lists w fit f = record {
     rising = subst AreRising (sym f.lists_are) fit.rising;
     actor_states = ap (λ (k : List ActorState). length k) f.desk ∙ (length_replicate (length lists) fresh_actor_state ∙ ap (λ (k : List ActorList). length k) (sym f.lists_are));
@@ -277,7 +277,7 @@ module _ {D S M : Type 0} (disk : DiskGhosts D) (store : StoreGhosts S) (meta : 
     | inr empty ↦ subst (λ (k : List JournalEntry). AreInTurn (length (orders_of w.lists a)) 0 false k) (sym (o.none a empty)) tt
   ]
 
-  pub reaches_in_turn : (config : Config) (lists : List ActorList) (w : Whole D S M) (schedule : List Pace) (w' : Whole D S M) → AreListsFor config lists → IsNew lists w
+  pub reaches_in_turn : (config : Config) (lists : List ActorList) (w : Whole D S M) (schedule : List Pace) (w' : Whole D S M) → AreListsFor config lists → IsNewWorld lists w
       → Reaches disk store meta w schedule w' → IsInTurn w'.lists w'.journal.items
   reaches_in_turn config lists w schedule w' fit n r = orderly_in_turn w' (reaches_orderly w schedule w' r (new_orderly config lists w fit n))
 
@@ -298,6 +298,6 @@ module _ {D S M : Type 0} (disk : DiskGhosts D) (store : StoreGhosts S) (meta : 
         r.are ∙ (ap (λ (k : ℕ). numbers_from 0 k) zeros ∙ ap (λ (k : List Order). numbers_from 0 (length k)) (sym empty))
   ]
 
-  pub ends_are_answered : (config : Config) (lists : List ActorList) (w : Whole D S M) (schedule : List Pace) (w' : Whole D S M) → AreListsFor config lists → IsNew lists w
+  pub ends_are_answered : (config : Config) (lists : List ActorList) (w : Whole D S M) (schedule : List Pace) (w' : Whole D S M) → AreListsFor config lists → IsNewWorld lists w
       → Reaches disk store meta w schedule w' → ((a : ℕ) → IsAtEnd w' a) → IsComplete w'.lists w'.journal.items
   ends_are_answered config lists w schedule w' fit n r ends = ended_complete w' (reaches_orderly w schedule w' r (new_orderly config lists w fit n)) ends

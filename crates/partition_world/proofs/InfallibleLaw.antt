@@ -39,7 +39,7 @@ use Rattle.partition_world.specs.Cold.{IsReopened}
 use Rattle.partition_world.specs.Fresh.{IsFresh}
 use Rattle.partition_world.specs.ActorStates.{told_of}
 use Rattle.partition_world.specs.Turn.{IsTurn}
-use Rattle.partition_world.specs.Reaches.{Goes as GoesOnce, GoesTimes, GoesUntil, Paces, Reaches}
+use Rattle.partition_world.specs.Reaches.{TakesTurn as GoesOnce, GoesTimes, GoesUntil, Paces, Reaches}
 use Rattle.partition_world.specs.Whole.{Whole}
 use Rattle.partition_world.proofs.Begins.{row_of}
 use Rattle.partition_world.proofs.LastingTurns.{turn_lasts}

@@ -6,9 +6,9 @@ use Rattle.tier_base.specs.declared.plain.State.TheVariants.{CopyStarted, CopyFi
 use Rattle.object_store.specs.declared.store.Store.{Ghosts as StoreGhosts}
 use Rattle.meta_log.specs.declared.log.MetaLog.{Ghosts as MetaGhosts}
 use Rattle.meta_log.specs.declared.event_origin.EventOrigin.{EventOrigin}
-use Rattle.remote_view.specs.Fold.{Seen as View, state_of}
+use Rattle.remote_view.specs.Fold.{EntriesSeen as View, state_of}
 use Rattle.copy_task.specs.Copying.{Copied, keys}
-use Rattle.copy_task.specs.Turns.{Tiers, StartRow, FinishRow, CheckRow, PutRow, DeleteRow, CopyRow, checked, delete_at, overtaken}
+use Rattle.copy_task.specs.Turns.{Tiers, StartRow, FinishRow, CheckRow, PutObjectRow, DeleteRow, CopyTurnRow, checked, delete_at, overtaken}
 use Rattle.copy_task.specs.declared.turn.CopyTurn.{CopyTurn}
 use Rattle.copy_task.specs.declared.turn.CopyTurn.TheVariants.{Goes as GoesOn, Ends}
 use Rattle.copy_task.specs.declared.turn.CopyStep.{CopyStep}
@@ -56,7 +56,7 @@ module _ (A B : Type 0) where
           (checked_told C (MetaRose meta old new) copy after.notes (state_of copy.id after.entries)),
     )
 
-    put_lasts : (E : Type 0) (copy : Copied) (n : ℕ) (key : Option ObjectKey) (turn : CopyTurn) (old new : S) → PutRow store.content store.control copy n key (Ok turn) old new
+    put_lasts : (E : Type 0) (copy : Copied) (n : ℕ) (key : Option ObjectKey) (turn : CopyTurn) (old new : S) → PutObjectRow store.content store.control copy n key (Ok turn) old new
         → StoreLasts store old new × TurnTold A B (StoreRose store old new) E (copy_outcome turn)
     put_lasts E copy n None turn old new w =
         let is : turn ≡ GoesOn Finish = cc (w.0) in
@@ -79,7 +79,7 @@ module _ (A B : Type 0) where
     )
 
     pub copy_lasts : (copy : Copied) (origin : EventOrigin) (next : CopyStep) (turn : CopyTurn) (old new : Tiers S M)
-        → CopyRow store.content store.control meta.content meta.control copy origin next (Ok turn) old new
+        → CopyTurnRow store.content store.control meta.content meta.control copy origin next (Ok turn) old new
         → StoreLasts store old.store new.store × MetaLasts meta old.meta new.meta
         × TurnTold A B (StoreRose store old.store new.store) (MetaRose meta old.meta new.meta) (copy_outcome turn)
     copy_lasts copy origin Start turn old new w =

@@ -11,20 +11,20 @@ use Rattle.object_store.specs.declared.call.StoreCall.TheVariants.{Get}
 use Rattle.object_store.specs.declared.placing.Spot.{Spot}
 use Rattle.object_store.specs.Place.{short_of}
 use Rattle.meta_log.specs.declared.log.MetaLog.{Ghosts as MetaGhosts}
-use Rattle.remote_view.specs.Fold.{Seen as View, entry_of}
+use Rattle.remote_view.specs.Fold.{EntriesSeen as View, entry_of}
 use Rattle.remote_find.specs.declared.piece.Piece.{Piece}
 use Rattle.tier_fetch.specs.declared.turn.FetchTurn.{FetchTurn}
 use Rattle.tier_fetch.specs.declared.turn.FetchTurn.TheVariants as fetch
 use Rattle.tier_fetch.specs.declared.turn.FetchStep.TheVariants as fetching
 use Rattle.tier_fetch.specs.declared.turn.Span.{Span}
-use Rattle.tier_fetch.specs.Turns.{Tiers, FetchRow, spot_in}
+use Rattle.tier_fetch.specs.Turns.{Tiers, RemoteFetchRow, spot_in}
 use Rattle.time_find.specs.declared.turn.Asked.{Asked}
 use Rattle.time_find.specs.declared.turn.SearchStep.{SearchStep}
 use Rattle.time_find.specs.declared.turn.SearchStep.TheVariants.{Seek, Times as ReadsTimes, Index, Log}
 use Rattle.time_find.specs.declared.turn.TimeTurn.{TimeTurn}
 use Rattle.time_find.specs.declared.turn.TimeTurn.TheVariants.{Goes, Ends}
 use Rattle.time_find.specs.Passing.{Seeks}
-use Rattle.time_find.specs.Turns.{IsSearched, TimesBytes, Times, Indexes, Searches, SeekRow, TimesRow, TimeRow, wanted_at}
+use Rattle.time_find.specs.Turns.{IsSearched, TimesBytes, Times, Indexes, SearchTakes, SeekRow, TimesRow, TimeRow, wanted_at}
 use Rattle.plain_log.specs.declared.answer.Answer.{Answer}
 use Rattle.plain_log.specs.declared.answer.Answer.TheVariants.{MetaFault, Damaged, Run, Offset}
 use Rattle.plain_log.specs.declared.answer.Place.TheVariants.{Meta}
@@ -60,7 +60,7 @@ module _ (A B : Type 0) where
   indexes_told C E cursor from piece (fetch.Goes next) turn w told = elim w [ ]
   indexes_told C E cursor from piece (fetch.Ends answer) turn w told = as_told C E turn (Ends answer) w told
 
-  searches_told : (C E : Type 0) (asked : Asked) (from : ℕ) (found : FetchTurn) (turn : TimeTurn) → Searches asked from (Ok found) (Ok turn)
+  searches_told : (C E : Type 0) (asked : Asked) (from : ℕ) (found : FetchTurn) (turn : TimeTurn) → SearchTakes asked from (Ok found) (Ok turn)
       → TurnTold A B C E (fetch_outcome found) → TurnTold A B C E (date_outcome turn)
   searches_told C E asked from (fetch.Ends (Run tier size stop bytes)) turn w told = searched_told C E asked from bytes turn w
   searches_told C E asked from (fetch.Ends answer) turn w told = as_told C E turn (Ends answer) w told
@@ -118,7 +118,7 @@ module _ (A B : Type 0) where
 
     index_lasts : (asked : Asked) (line : List (ℕ × ℕ)) (cursor from : ℕ) (piece : Piece) (found : Result FetchTurn AllocError)
         (turn : TimeTurn) (old new : Tiers S M)
-        → FetchRow store.content store.control meta.content meta.control (wanted_at asked from) line (fetching.Index piece) found old new
+        → RemoteFetchRow store.content store.control meta.content meta.control (wanted_at asked from) line (fetching.Index piece) found old new
         → Indexes cursor piece from found (Ok turn) → Lasted old new turn
     index_lasts asked line cursor from piece (Ok found) turn old new row w =
         let k = fetch_lasts A B store meta (wanted_at asked from) line (fetching.Index piece) found old new row in
@@ -127,8 +127,8 @@ module _ (A B : Type 0) where
 
     log_lasts : (asked : Asked) (line : List (ℕ × ℕ)) (from : ℕ) (piece : Piece) (span : Span) (found : Result FetchTurn AllocError)
         (turn : TimeTurn) (old new : Tiers S M)
-        → FetchRow store.content store.control meta.content meta.control (wanted_at asked from) line (fetching.Log piece span) found old new
-        → Searches asked from found (Ok turn) → Lasted old new turn
+        → RemoteFetchRow store.content store.control meta.content meta.control (wanted_at asked from) line (fetching.Log piece span) found old new
+        → SearchTakes asked from found (Ok turn) → Lasted old new turn
     log_lasts asked line from piece span (Ok found) turn old new row w =
         let k = fetch_lasts A B store meta (wanted_at asked from) line (fetching.Log piece span) found old new row in
         (k.0, k.1, searches_told (StoreRose store old.store new.store) (MetaRose meta old.meta new.meta) asked from found turn w k.2)

@@ -22,9 +22,9 @@ use Rattle.partition_commands.specs.Fresh.{IsArmed, AreFreshFrom}
 use Rattle.partition_commands.proofs.LastingDisks.{disk_map, last_same, last_then, last_have}
 use Rattle.partition_world.specs.declared.actor_state.Outcome.{Outcome}
 use Rattle.partition_world.specs.Cold.{IsReopened}
-use Rattle.partition_world.specs.Fresh.{IsFresh, IsNew}
+use Rattle.partition_world.specs.Fresh.{IsFresh, IsNewWorld}
 use Rattle.partition_world.specs.Lasting.{HaveLasted}
-use Rattle.partition_world.specs.Reaches.{Goes, GoesTimes, GoesUntil, Paces, Reaches}
+use Rattle.partition_world.specs.Reaches.{TakesTurn, GoesTimes, GoesUntil, Paces, Reaches}
 use Rattle.partition_world.specs.Turn.{IsTurn}
 use Rattle.partition_world.specs.Whole.{Whole}
 use Rattle.partition_world.proofs.Begins.{row_of}
@@ -70,7 +70,7 @@ module _ {D S M : Type 0} (disk : DiskGhosts D) (store : StoreGhosts S) (meta : 
       let k = turn_lasts disk store meta w.partition w.config w.held w.tier t.order.broker.0 r.x r.broker_tier t.actor_state.work t.order.command outcome w'.held w'.tier r.at r.row in
       record { disks = k.0.held have; store_lasts = k.0.stores; meta_lasts = k.0.metas }
 
-  goes_lasted : (w : Whole D S M) (a : ℕ) (w' : Whole D S M) → Goes disk store meta w a w' → HaveDisks w.held.nodes → HaveLasted disk store meta w w'
+  goes_lasted : (w : Whole D S M) (a : ℕ) (w' : Whole D S M) → TakesTurn disk store meta w a w' → HaveDisks w.held.nodes → HaveLasted disk store meta w w'
   goes_lasted w a w' (inl t) have = turn_lasted w a t.0 w' t.1 have
   goes_lasted w a w' (inr e) have = lasted_none w w' e.1 have
 
@@ -96,13 +96,13 @@ module _ {D S M : Type 0} (disk : DiskGhosts D) (store : StoreGhosts S) (meta : 
       let one = paces_lasted w pace r.0 r.1 have in
       lasted_then w r.0 w' one (schedule_lasted r.0 schedule w' r.2 (lasted_have w r.0 one))
 
-  pub reaches_lasting : (lists : List ActorList) (w : Whole D S M) (schedule : List Pace) (w' : Whole D S M) → IsNew lists w → Reaches disk store meta w schedule w' → HaveLasted disk store meta w w'
+  pub reaches_lasting : (lists : List ActorList) (w : Whole D S M) (schedule : List Pace) (w' : Whole D S M) → IsNewWorld lists w → Reaches disk store meta w schedule w' → HaveLasted disk store meta w w'
   reaches_lasting lists w schedule w' n r = schedule_lasted w schedule w' r n.disks
 
   -- a fresh world is new, and one that is reopened is
-  pub fresh_new : (partition : PartitionId) (config : Config) (lists : List ActorList) (disks : List D) (s : S) (m : M) (w : Whole D S M) → IsFresh disk store meta partition config lists disks s m w → IsNew lists w
+  pub fresh_new : (partition : PartitionId) (config : Config) (lists : List ActorList) (disks : List D) (s : S) (m : M) (w : Whole D S M) → IsFresh disk store meta partition config lists disks s m w → IsNewWorld lists w
   fresh_new partition config lists disks s m w f = record { lists_are = f.lists_are; desk = f.desk; journal = f.journal; disks = fresh_have disk.control true disks w.held.nodes f.held.nodes }
 
   pub reopened_new : (partition : PartitionId) (config : Config) (lists : List ActorList) (registry : Registry) (disks : List D) (s : S) (m : M) (w : Whole D S M)
-      → IsReopened disk store meta partition config lists registry disks s m w → IsNew lists w
+      → IsReopened disk store meta partition config lists registry disks s m w → IsNewWorld lists w
   reopened_new partition config lists registry disks s m w f = record { lists_are = f.lists_are; desk = f.desk; journal = f.journal; disks = cold_have disk.content disk.control config.settings disks w.held.nodes f.held.nodes }

@@ -14,10 +14,10 @@ use Rattle.object_store.specs.Place.{short_of, short_in}
 use Rattle.meta_log.specs.declared.log.MetaLog.{Ghosts as MetaGhosts}
 use Rattle.index_cache.specs.Cache.{Cache, found}
 use Rattle.sparse_index.specs.Offsets.{OffsetTable}
-use Rattle.remote_view.specs.Fold.{Seen as View, entry_of}
+use Rattle.remote_view.specs.Fold.{EntriesSeen as View, entry_of}
 use Rattle.remote_find.specs.declared.piece.Piece.{Piece}
 use Rattle.remote_find.specs.Pieces.{piece_at}
-use Rattle.tier_fetch.specs.Turns.{Tiers, FetchRow, RefreshRow, IndexRow, LoadRow, LogRow, LoadsBytes, Loads, CutsBytes, Cuts, spot_in, chosen as found_piece}
+use Rattle.tier_fetch.specs.Turns.{Tiers, RemoteFetchRow, RefreshRow, IndexRow, LoadRow, LogRow, LoadsBytes, Loads, CutsBytes, CutsRunOut, spot_in, chosen as found_piece}
 use Rattle.tier_fetch.specs.declared.turn.FetchTurn.{FetchTurn}
 use Rattle.tier_fetch.specs.declared.turn.FetchTurn.TheVariants as fetch
 use Rattle.tier_fetch.specs.declared.turn.FetchStep.{FetchStep as Search}
@@ -27,7 +27,7 @@ use Rattle.tier_fetch.specs.declared.turn.FetchRequest.{FetchRequest}
 use Rattle.rebuild_task.specs.declared.turn.RebuildTurn.{RebuildTurn}
 use Rattle.rebuild_task.specs.declared.turn.RebuildTurn.TheVariants.{Goes, Ends}
 use Rattle.rebuild_task.specs.declared.turn.RebuildRequest.{RebuildRequest as Rebuilt}
-use Rattle.rebuild_task.specs.Turns.{TakesBytes, Takes, EpochsRow, RebuildRow}
+use Rattle.rebuild_task.specs.Turns.{TakesBytes, TakesEpochs, EpochsRow, RebuildRow}
 use Rattle.plain_log.specs.declared.answer.Answer.{Answer}
 use Rattle.plain_log.specs.declared.answer.Answer.TheVariants.{MetaFault, Damaged, Run}
 use Rattle.partition_world.specs.ActorStates.{fetch_outcome, rebuild_outcome}
@@ -81,7 +81,7 @@ module _ (A B : Type 0) where
         load_lasts wanted piece view (spot_in wanted.partition piece.id part.Index (entry_of piece.id view.entries)) turn cache cache' old new w
 
     cuts_told : (wanted : FetchRequest) (piece : Piece) (spot : Spot) (span : Span) (answer : Result (Option (List ℕ)) Trouble) (turn : FetchTurn) (old new : S)
-        → Ran Get (fate_of answer) (store.control old) (store.control new) → Cuts wanted piece spot span answer (Ok turn) → TurnTold A B (StoreRose store old new) E (fetch_outcome turn)
+        → Ran Get (fate_of answer) (store.control old) (store.control new) → CutsRunOut wanted piece spot span answer (Ok turn) → TurnTold A B (StoreRose store old new) E (fetch_outcome turn)
     cuts_told wanted piece spot span (Err Failed) turn old new r w = ends_told (StoreRose store old new) E turn _ w (r.cause refl)
     cuts_told wanted piece spot span (Err NoMemory) turn old new r w = absurd (let no : false ≡ true = w in cc)
     cuts_told wanted piece spot span (Ok None) turn old new r w = ends_told (StoreRose store old new) E turn _ w tt
@@ -100,7 +100,7 @@ module _ (A B : Type 0) where
         (store_ran store _ _ old new w.gets.control, cuts_told wanted piece place.1 span w.answer turn old new w.gets.control w.cuts)
 
     takes_told : (wanted : ℕ) (spot : Spot) (answer : Result (Option (List ℕ)) Trouble) (turn : RebuildTurn) (old new : S)
-        → Ran Get (fate_of answer) (store.control old) (store.control new) → Takes wanted spot answer (Ok turn) → TurnTold A B (StoreRose store old new) E (rebuild_outcome turn)
+        → Ran Get (fate_of answer) (store.control old) (store.control new) → TakesEpochs wanted spot answer (Ok turn) → TurnTold A B (StoreRose store old new) E (rebuild_outcome turn)
     takes_told wanted spot (Err Failed) turn old new r w = rebuilt_told (StoreRose store old new) E turn _ w (r.cause refl)
     takes_told wanted spot (Err NoMemory) turn old new r w = absurd (let no : false ≡ true = w in cc)
     takes_told wanted spot (Ok None) turn old new r w = rebuilt_told (StoreRose store old new) E turn _ w tt
@@ -122,7 +122,7 @@ module _ (A B : Type 0) where
 
   module _ {S M : Type 0} (store : StoreGhosts S) (meta : MetaGhosts M) where
     pub fetch_lasts : (wanted : FetchRequest) (line : List (ℕ × ℕ)) (next : Search) (turn : FetchTurn) (old new : Tiers S M)
-        → FetchRow store.content store.control meta.content meta.control wanted line next (Ok turn) old new
+        → RemoteFetchRow store.content store.control meta.content meta.control wanted line next (Ok turn) old new
         → StoreLasts store old.store new.store × MetaLasts meta old.meta new.meta
         × TurnTold A B (StoreRose store old.store new.store) (MetaRose meta old.meta new.meta) (fetch_outcome turn)
     fetch_lasts wanted line Refresh turn old new w =

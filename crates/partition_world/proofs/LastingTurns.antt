@@ -18,7 +18,7 @@ use Rattle.time_find.specs.declared.turn.SearchStep.TheVariants.{Seek}
 use Rattle.time_find.specs.declared.turn.TimeTurn.{TimeTurn}
 use Rattle.time_find.specs.declared.turn.TimeTurn.TheVariants as dating
 use Rattle.time_find.specs.Passing.{passed_over}
-use Rattle.time_find.specs.Turns.{OwnRow, ReadRow as RunRow}
+use Rattle.time_find.specs.Turns.{LocalSearchRow, ReadLocalRow as RunRow}
 use Rattle.expiry_task.specs.declared.turn.ExpiredSegment.{ExpiredSegment}
 use Rattle.expiry_task.specs.declared.turn.DeletionStep.{DeletionStep as Deletion}
 use Rattle.rebuild_task.specs.declared.turn.RebuildStep.{RebuildStep as Rebuild}
@@ -44,15 +44,15 @@ use Rattle.partition_world.specs.declared.actor_state.Outcome.TheVariants.{Answe
 use Rattle.partition_world.specs.declared.actor_state.InProgress.{InProgress}
 use Rattle.partition_world.specs.declared.actor_state.InProgress.TheVariants.{Idle, Noted, Copies, Seeks, Dates, Expires, Rebuilds}
 use Rattle.partition_world.specs.ActorStates.{outcome_of, fetch_outcome, date_outcome}
-use Rattle.partition_world.specs.Tier.{Refreshes, FailsToRead, put_broker_tier}
-use Rattle.partition_world.specs.TurnsOfCopy.{ReadsLog, ReadRow, LeadersFirstRow, CopyFirstRow, ChooseRow, tiers_of, origin_of}
+use Rattle.partition_world.specs.Tier.{RefreshesBroker, FailsToRead, put_broker_tier}
+use Rattle.partition_world.specs.TurnsOfCopy.{ReadsLocalLog, ReadSegmentRow, LeadersFirstRow, CopyFirstRow, ChooseRow, tiers_of, origin_of}
 use Rattle.partition_world.specs.TurnsOfFetch.{FetchOnRow, GoesOnFetch, fetch_tiers, wanted_of}
-use Rattle.partition_world.specs.TurnsOfDate.{SearchesOwn, SearchRow, Searches, DateOnRow, asked_of, is_own, resumed_at, resumed_with}
-use Rattle.partition_world.specs.TurnsOfExpiry.{RaiseRow, ExpireOnRow, ExpiresBy, expiry_tiers}
+use Rattle.partition_world.specs.TurnsOfDate.{SearchesOwn, SearchRow, SearchesOn, DateOnRow, asked_of, is_own, resumed_at, resumed_with}
+use Rattle.partition_world.specs.TurnsOfExpiry.{ExpiryRaiseRow, ExpireOnRow, ExpiresBy, expiry_tiers}
 use Rattle.partition_world.specs.TurnsOfRebuild.{AnswersAtOnce, RefreshedRow, with_line, wanted_of as rebuilt_to}
 use Rattle.partition_world.specs.TurnsOfOffset.{OffsetOnRow}
 use Rattle.partition_world.specs.TurnsOfTrim.{TrimFirstRow, TrimOnRow}
-use Rattle.partition_world.specs.Turns.{OwnOnRow, BeginRow, ContinuedRow, CopyingRow, SeekingRow, DatingRow, DeletingRow, JoinSecondRow, RebuildingRow, Row}
+use Rattle.partition_world.specs.Turns.{OwnOnRow, BeginRow, ContinuedRow, CopyLaterRow, SeekingRow, DatingRow, DeletingRow, JoinSecondRow, RebuildingRow, Row}
 use Rattle.partition_commands.specs.Disks.{DiskFails}
 use Rattle.partition_commands.proofs.Told.{told_map}
 use Rattle.partition_commands.proofs.LastingDisks.{Keeps, FailsFor, keeps_same, keeps_put, keeps_log, fails_put, one_faulted}
@@ -110,7 +110,7 @@ module _ {D S M : Type 0} (disk : DiskGhosts D) (store : StoreGhosts S) (meta : 
     w.reads.control.ran.cause refl,
   )
 
-  refresh_keeps : (h : PartitionState D) (t : RemoteTier S M) (b : ℕ) (broker_tier : BrokerTierState) (h' : PartitionState D) (t' : RemoteTier S M) → h' ≡ h → Refreshes meta t b broker_tier t' → AllLast h t h' t'
+  refresh_keeps : (h : PartitionState D) (t : RemoteTier S M) (b : ℕ) (broker_tier : BrokerTierState) (h' : PartitionState D) (t' : RemoteTier S M) → h' ≡ h → RefreshesBroker meta t b broker_tier t' → AllLast h t h' t'
   refresh_keeps h t b broker_tier h' t' same w = record {
     held = keeps_same disk.control h h' same;
     stores = store_same store t.store t'.store (ap (λ (k : RemoteTier S M). k.store) w.after);
@@ -154,15 +154,15 @@ module _ {D S M : Type 0} (disk : DiskGhosts D) (store : StoreGhosts S) (meta : 
   -- a log is read for a copy
 
   next_lasts : (p : PartitionId) (h : PartitionState D) (t : RemoteTier S M) (b : ℕ) (x y : Node D) (broker_tier z : BrokerTierState) (offset : ℕ) (outcome : Outcome) (h' : PartitionState D) (t' : RemoteTier S M) → slice_get h.nodes b ≡ Some x
-      → ReadRow disk p b x broker_tier offset outcome y z → h' ≡ put_node h b y → t' ≡ put_broker_tier t b z → Leaving (DiskFails disk.control b h h') h b t outcome h' t'
+      → ReadSegmentRow disk p b x broker_tier offset outcome y z → h' ≡ put_node h b y → t' ≡ put_broker_tier t b z → Leaving (DiskFails disk.control b h h') h b t outcome h' t'
   next_lasts p h t b x y broker_tier z offset outcome h' t' at w held tier = go outcome w
     where
-      all : ReadsLog disk x y → AllLast h t h' t'
+      all : ReadsLocalLog disk x y → AllLast h t h' t'
       all r =
           let lasts : Lasting disk.control x.log y.log = rw r.after r.lasts in
           kept_by h t h' t' (keeps_put disk.control h b x y h' at lasts held) (ap (λ (k : RemoteTier S M). k.store) tier) (ap (λ (k : RemoteTier S M). k.meta) tier)
 
-      go : (o : Outcome) → ReadRow disk p b x broker_tier offset o y z → Leaving (DiskFails disk.control b h h') h b t o h' t'
+      go : (o : Outcome) → ReadSegmentRow disk p b x broker_tier offset o y z → Leaving (DiskFails disk.control b h h') h b t o h' t'
       go (Answers DiskFault) w =
           let lasts : Lasting disk.control x.log y.log = rw w.0.reads.after w.0.reads.lasts in
           let one : OneFault disk.control x.log y.log = rw w.0.reads.after w.0.cause in
@@ -204,7 +204,7 @@ module _ {D S M : Type 0} (disk : DiskGhosts D) (store : StoreGhosts S) (meta : 
   -- and of an expiry, which raises the log start offset as the command does
 
   raise_lasts : (A : Type 0) (h : PartitionState D) (t : RemoteTier S M) (b : ℕ) (x : Node D) (start : ℕ) (answer : Answer) (h' : PartitionState D) (t' : RemoteTier S M) → slice_get h.nodes b ≡ Some x → is_up x ≡ true → t' ≡ t
-      → RaiseRow h x.role start answer h' → Leaving A h b t (Answers answer) h' t'
+      → ExpiryRaiseRow h x.role start answer h' → Leaving A h b t (Answers answer) h' t'
   raise_lasts A h t b x start (StaleEpoch e) h' t' at up same w =
       (same_tier h t h' t' (row_lasts disk.content disk.control h b x None (Raise start) (turned.Answers (StaleEpoch e)) h' at (up, w)).0 same, tt)
   raise_lasts A h t b x start (Raised to) h' t' at up same w =
@@ -286,7 +286,7 @@ module _ {D S M : Type 0} (disk : DiskGhosts D) (store : StoreGhosts S) (meta : 
             (passed_over asked.ts cursor (closed_in x.log)) row.out.bytes to row.searched,
       )
 
-      by : OwnRow disk.content disk.control x.log asked cursor turn w.kept
+      by : LocalSearchRow disk.content disk.control x.log asked cursor turn w.kept
           → Leaving (DiskFails disk.control b h h') h b t (date_outcome turn) h' t'
       by (inl (past, is, same)) = (
         same_tier h t h' t' (keeps_log disk.control h b x y h' at same w.after) tier,
@@ -307,7 +307,7 @@ module _ {D S M : Type 0} (disk : DiskGhosts D) (store : StoreGhosts S) (meta : 
 
   searches_lasts : (p : PartitionId) (h : PartitionState D) (t : RemoteTier S M) (b : ℕ) (x : Node D) (broker_tier : BrokerTierState) (g : StartSnapshot) (ts : ℤ) (cursor : ℕ)
       (next : Dating) (turn : TimeTurn) (h' : PartitionState D) (t' : RemoteTier S M)
-      → slice_get h.nodes b ≡ Some x → Searches disk store meta p h t b x broker_tier g ts cursor next turn h' t'
+      → slice_get h.nodes b ≡ Some x → SearchesOn disk store meta p h t b x broker_tier g ts cursor next turn h' t'
       → Leaving (DiskFails disk.control b h h') h b t (date_outcome turn) h' t'
   searches_lasts p h t b x broker_tier g ts cursor next turn h' t' at w =
       let on = resumed_at h.registry.start cursor in
@@ -339,7 +339,7 @@ module _ {D S M : Type 0} (disk : DiskGhosts D) (store : StoreGhosts S) (meta : 
   recorded_lasts p config h t b x broker_tier g other outcome h' t' at w = joined_lasts h t b x g other outcome h' t' at w
 
   copying_lasts : (A : Type 0) (h : PartitionState D) (t : RemoteTier S M) (b : ℕ) (x : Node D) (broker_tier : BrokerTierState) (g : StartSnapshot) (copy : Copied) (next : CopyStep) (command : Command) (outcome : Outcome) (h' : PartitionState D) (t' : RemoteTier S M)
-      → CopyingRow store meta h t b x broker_tier g copy next command outcome h' t' → Leaving A h b t outcome h' t'
+      → CopyLaterRow store meta h t b x broker_tier g copy next command outcome h' t' → Leaving A h b t outcome h' t'
   copying_lasts A h t b x broker_tier g copy next Copy outcome h' t' (inl lost, same) = told_as A h b t h' t' outcome _ lost.1 (all_same h t h' t' same lost.2, tt)
   copying_lasts A h t b x broker_tier g copy next Copy outcome h' t' (inr (keeps, (turn, is, goes)), same) =
       let k = copy_lasts A (DiskFails disk.control b h h') store meta copy (origin_of h b) next turn (tiers_of broker_tier.view t) (tiers_of goes.view t') goes.row in

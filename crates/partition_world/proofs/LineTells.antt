@@ -4,7 +4,7 @@ use Rattle.std.specs.List.{AllByRecursion}
 use Rattle.log_terms.specs.Line.{line_of}
 use Rattle.log_terms.specs.Log.{IsConsecutive, end_of}
 use Rattle.copy_task.proofs.Mapping.{starts_within}
-use Rattle.remote_view.specs.Fold.{Seen}
+use Rattle.remote_view.specs.Fold.{EntriesSeen}
 use Rattle.segment_meta.specs.declared.note.Note.{Note}
 use Rattle.tier_safe.specs.Reads.{TellsEpochs, IsRightView}
 use Rattle.tier_safe.specs.Scene.{TierTask}
@@ -37,7 +37,7 @@ line_tells x s = record {
 }
 
 -- a view of some first metadata events keeps the rules of views
-pub right_view : (notes : List Note) (desk : List TierTask) (view : Seen) → NotesStand notes desk → IsViewOf notes view → IsRightView view
+pub right_view : (notes : List Note) (desk : List TierTask) (view : EntriesSeen) → NotesStand notes desk → IsViewOf notes view → IsRightView view
 right_view notes desk view n v =
     let kept = seen_kept notes v.before desk n v.begins in
     subst IsRightView (sym v.is) (record { kept = kept.0; distinct = kept.1 })

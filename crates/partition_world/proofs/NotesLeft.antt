@@ -43,11 +43,11 @@ use Rattle.partition_world.specs.Turn.{IsTurn, StaysWhole}
 use Rattle.partition_world.specs.Tier.{AtBrokerTier}
 use Rattle.partition_world.specs.TurnsOfCopy.{LeadersFirstRow, CopyFirstRow, ChooseRow, tiers_of, origin_of}
 use Rattle.partition_world.specs.TurnsOfFetch.{FetchOnRow, GoesOnFetch, fetch_tiers, wanted_of}
-use Rattle.partition_world.specs.TurnsOfDate.{SearchRow, Searches, DateOnRow, asked_of, is_own, resumed_at, resumed_with}
+use Rattle.partition_world.specs.TurnsOfDate.{SearchRow, SearchesOn, DateOnRow, asked_of, is_own, resumed_at, resumed_with}
 use Rattle.partition_world.specs.TurnsOfTrim.{TrimFirstRow}
 use Rattle.partition_world.specs.TurnsOfExpiry.{expiry_tiers}
 use Rattle.partition_world.specs.TurnsOfRebuild.{RefreshedRow}
-use Rattle.partition_world.specs.Turns.{BeginRow, ContinuedRow, CopyingRow, SeekingRow, DatingRow, DeletingRow, JoinSecondRow, RebuildingRow, Row}
+use Rattle.partition_world.specs.Turns.{BeginRow, ContinuedRow, CopyLaterRow, SeekingRow, DatingRow, DeletingRow, JoinSecondRow, RebuildingRow, Row}
 use Rattle.partition_world.specs.Whole.{Whole}
 use Rattle.partition_world.proofs.Begins.{row_of}
 use Rattle.partition_world.proofs.NotesTold.{told_after, few_told, count, keeps_count, same_count, copy_told, copy_wants, fetch_count, fetch_wants, time_count, time_wants, expiry_told, expiry_wants, turn_told, deletes_told}
@@ -114,7 +114,7 @@ module _ {D S M : Type 0} (disk : DiskGhosts D) (store : StoreGhosts S) (meta : 
 
   searches_count : (p : PartitionId) (h : PartitionState D) (t : RemoteTier S M) (b : ℕ) (x : Node D) (broker_tier : BrokerTierState) (g : StartSnapshot) (ts : ℤ) (cursor : ℕ)
       (next : Dating) (turn : TimeTurn) (h' : PartitionState D) (t' : RemoteTier S M)
-      → Searches disk store meta p h t b x broker_tier g ts cursor next turn h' t' → count meta t'.meta ≤ count meta t.meta
+      → SearchesOn disk store meta p h t b x broker_tier g ts cursor next turn h' t' → count meta t'.meta ≤ count meta t.meta
   searches_count p h t b x broker_tier g ts cursor next turn h' t' w =
       let on = resumed_at h.registry.start cursor in
       let with = resumed_with h.registry.start cursor next in
@@ -159,7 +159,7 @@ module _ {D S M : Type 0} (disk : DiskGhosts D) (store : StoreGhosts S) (meta : 
   recorded_count p config h t b x broker_tier g other outcome h' t' w = same_count meta t.meta t'.meta (ap (λ (k : RemoteTier S M). k.meta) w.1)
 
   copying_told : (h : PartitionState D) (t : RemoteTier S M) (b : ℕ) (x : Node D) (broker_tier : BrokerTierState) (g : StartSnapshot) (copy : Copied) (next : CopyStep) (command : Command) (outcome : Outcome) (h' : PartitionState D) (t' : RemoteTier S M)
-      → CopyingRow store meta h t b x broker_tier g copy next command outcome h' t' → IsTrue (meta.content t.meta).is_observable
+      → CopyLaterRow store meta h t b x broker_tier g copy next command outcome h' t' → IsTrue (meta.content t.meta).is_observable
       → count meta t'.meta + told_by (Copies g copy next) ≤ count meta t.meta + told_after (Copies g copy next) outcome
   copying_told h t b x broker_tier g copy next Copy outcome h' t' (inl lost, same) is_observable =
       let is = same_count meta t.meta t'.meta (ap (λ (k : RemoteTier S M). k.meta) lost.2) in

@@ -10,11 +10,11 @@ use Rattle.tier_base.specs.declared.plain.State.{State}
 use Rattle.tier_base.specs.declared.plain.State.TheVariants.{CopyStarted, CopyFinished, DeleteStarted, DeleteFinished}
 use Rattle.segment_meta.specs.declared.note.Note.{Note}
 use Rattle.meta_log.specs.Content.{Keeps, appended_if}
-use Rattle.meta_log.specs.Calls.{Appends}
+use Rattle.meta_log.specs.Calls.{AppendsToMetaLog}
 use Rattle.meta_log.specs.declared.event_origin.EventOrigin.{EventOrigin}
-use Rattle.remote_view.specs.Fold.{Seen, state_of}
+use Rattle.remote_view.specs.Fold.{EntriesSeen, state_of}
 use Rattle.copy_task.specs.Copying.{Copied, keys}
-use Rattle.copy_task.specs.Turns.{Tiers, StartRow, FinishRow, CheckRow, PutRow, DeleteRow, CopyRow, checked, put_at, delete_at}
+use Rattle.copy_task.specs.Turns.{Tiers, StartRow, FinishRow, CheckRow, PutObjectRow, DeleteRow, CopyTurnRow, checked, put_at, delete_at}
 use Rattle.copy_task.specs.declared.turn.CopyTurn.{CopyTurn}
 use Rattle.copy_task.specs.declared.turn.CopyTurn.TheVariants.{Goes as GoesOn, Ends}
 use Rattle.copy_task.specs.declared.turn.CopyStep.{CopyStep}
@@ -27,13 +27,13 @@ use Rattle.expiry_task.specs.declared.turn.DeletionStep.{DeletionStep as Deletio
 use Rattle.expiry_task.specs.declared.turn.DeletionStep.TheVariants as deletion
 use Rattle.remote_find.specs.declared.piece.Piece.{Piece}
 use Rattle.tier_fetch.specs.declared.turn.Span.{Span}
-use Rattle.tier_fetch.specs.Turns.{Tiers as Fetched, FetchRow, RefreshRow}
+use Rattle.tier_fetch.specs.Turns.{Tiers as Fetched, RemoteFetchRow, RefreshRow}
 use Rattle.tier_fetch.specs.declared.turn.FetchTurn.{FetchTurn}
 use Rattle.tier_fetch.specs.declared.turn.FetchTurn.TheVariants as fetch
 use Rattle.tier_fetch.specs.declared.turn.FetchStep.{FetchStep as Search}
 use Rattle.tier_fetch.specs.declared.turn.FetchStep.TheVariants.{Refresh, Index, Log}
 use Rattle.tier_fetch.specs.declared.turn.FetchRequest.{FetchRequest}
-use Rattle.time_find.specs.Turns.{SeekRow, IndexRow, LogRow, TimeRow, wanted_at}
+use Rattle.time_find.specs.Turns.{SeekRow, SearchIndexRow, SearchLogRow, TimeRow, wanted_at}
 use Rattle.time_find.specs.declared.turn.Asked.{Asked}
 use Rattle.time_find.specs.declared.turn.SearchStep.{SearchStep as Dating}
 use Rattle.time_find.specs.declared.turn.SearchStep.TheVariants as search
@@ -101,7 +101,7 @@ checked_told g copy notes (Some DeleteFinished) = refl
 checked_told g copy notes (Some CopyStarted) = refl
 checked_told g copy notes None = refl
 
-deleted_told : (g : StartSnapshot) (copy : Copied) (view : Seen) (n : ℕ) (key : Option ObjectKey) → told_turn g copy (delete_at copy view n key) ≡ 2
+deleted_told : (g : StartSnapshot) (copy : Copied) (view : EntriesSeen) (n : ℕ) (key : Option ObjectKey) → told_turn g copy (delete_at copy view n key) ≡ 2
 deleted_told g copy view n None = refl
 deleted_told g copy view n (Some key) = refl
 
@@ -114,13 +114,13 @@ module _ {M : Type 0} (meta : MetaGhosts M) where
   abbrev pub count : M → ℕ
   count m = length (meta.content m).notes
 
-  appends_most : (note : Note) (fate : Fate) (old new : M) → Appends meta.content meta.control note fate old new → IsTrue (meta.content old).is_observable → count new ≤ count old + 1
+  appends_most : (note : Note) (fate : Fate) (old new : M) → AppendsToMetaLog meta.content meta.control note fate old new → IsTrue (meta.content old).is_observable → count new ≤ count old + 1
   appends_most note fate old new a is_observable =
       let g = a.content.notes is_observable in
       let most = appended_most g.0 note (meta.content old).notes in
       omega (arith, most, ap (λ (l : List Note). length l) g.2)
 
-  appends_none : (note : Note) (old new : M) → Appends meta.content meta.control note Dry old new → IsTrue (meta.content old).is_observable → count new ≤ count old
+  appends_none : (note : Note) (old new : M) → AppendsToMetaLog meta.content meta.control note Dry old new → IsTrue (meta.content old).is_observable → count new ≤ count old
   appends_none note old new a is_observable =
       let g = a.content.notes is_observable in
       let none = g.1.dry refl in
@@ -149,7 +149,7 @@ module _ {M : Type 0} (meta : MetaGhosts M) where
       let told : told_turn g copy turn ≡ 2 = ap (told_turn g copy) w.0 in
       omega (arith, most, told)
 
-  check_told : (g : StartSnapshot) (copy : Copied) (turn : CopyTurn) (before after : Seen) (old new : M) → CheckRow meta.content meta.control copy (Ok turn) before after old new
+  check_told : (g : StartSnapshot) (copy : Copied) (turn : CopyTurn) (before after : EntriesSeen) (old new : M) → CheckRow meta.content meta.control copy (Ok turn) before after old new
       → count new + told_by (Copies g copy Check) ≤ count old + told_turn g copy turn
   check_told g copy (Ends MetaFault) before after old new w = let most = keeps_count old new w.content in omega (arith, most)
   check_told g copy turn before after old new w =
@@ -158,12 +158,12 @@ module _ {M : Type 0} (meta : MetaGhosts M) where
       omega (arith, most, told)
 
 module _ {S M : Type 0} (store : StoreGhosts S) (meta : MetaGhosts M) where
-  put_most : (g : StartSnapshot) (copy : Copied) (n : ℕ) (key : Option ObjectKey) (turn : CopyTurn) (old new : S) → PutRow store.content store.control copy n key (Ok turn) old new → 1 ≤ told_turn g copy turn
+  put_most : (g : StartSnapshot) (copy : Copied) (n : ℕ) (key : Option ObjectKey) (turn : CopyTurn) (old new : S) → PutObjectRow store.content store.control copy n key (Ok turn) old new → 1 ≤ told_turn g copy turn
   put_most g copy n None turn old new w = let is : turn ≡ GoesOn Finish = cc (w.0) in omega (arith, ap (told_turn g copy) is)
   put_most g copy n (Some key) (Ends StoreFault) old new w = omega arith
   put_most g copy n (Some key) turn old new w = let told = ap (told_turn g copy) w.0 ∙ put_told g copy (n + 1) (slice_get (keys copy) (n + 1)) in omega (arith, told)
 
-  delete_most : (g : StartSnapshot) (copy : Copied) (view : Seen) (n : ℕ) (key : Option ObjectKey) (turn : CopyTurn) (old new : S) → DeleteRow store.content store.control copy view n key turn old new
+  delete_most : (g : StartSnapshot) (copy : Copied) (view : EntriesSeen) (n : ℕ) (key : Option ObjectKey) (turn : CopyTurn) (old new : S) → DeleteRow store.content store.control copy view n key turn old new
       → 2 ≤ told_turn g copy turn
   delete_most g copy view n None turn old new w = let told = ap (told_turn g copy) w.0 ∙ deleted_told g copy view n None in omega (arith, told)
   delete_most g copy view n (Some key) (Ends StoreFault) old new w = omega arith
@@ -172,7 +172,7 @@ module _ {S M : Type 0} (store : StoreGhosts S) (meta : MetaGhosts M) where
 
   -- a turn of a copy
   pub copy_told : (g : StartSnapshot) (copy : Copied) (origin : EventOrigin) (next : CopyStep) (turn : CopyTurn) (old new : Tiers S M)
-      → CopyRow store.content store.control meta.content meta.control copy origin next (Ok turn) old new → IsTrue (meta.content old.meta).is_observable
+      → CopyTurnRow store.content store.control meta.content meta.control copy origin next (Ok turn) old new → IsTrue (meta.content old.meta).is_observable
       → count meta new.meta + told_by (Copies g copy next) ≤ count meta old.meta + told_turn g copy turn
   copy_told g copy origin Start turn old new w is_observable = start_told meta g copy origin turn old.meta new.meta w.1 is_observable
   copy_told g copy origin (Put n) turn old new w is_observable =
@@ -188,38 +188,38 @@ module _ {S M : Type 0} (store : StoreGhosts S) (meta : MetaGhosts M) where
 
   -- a turn of a fetch appends none
 
-  refresh_count : (wanted : FetchRequest) (line : List (ℕ × ℕ)) (turn : FetchTurn) (before after : Seen) (old new : M) → RefreshRow meta.content meta.control wanted line (Ok turn) before after old new
+  refresh_count : (wanted : FetchRequest) (line : List (ℕ × ℕ)) (turn : FetchTurn) (before after : EntriesSeen) (old new : M) → RefreshRow meta.content meta.control wanted line (Ok turn) before after old new
       → count meta new ≤ count meta old
   refresh_count wanted line (fetch.Ends MetaFault) before after old new w = keeps_count meta old new w.content
   refresh_count wanted line turn before after old new w = keeps_count meta old new w.1.content
 
   pub fetch_count : (wanted : FetchRequest) (line : List (ℕ × ℕ)) (next : Search) (turn : FetchTurn) (old new : Fetched S M)
-      → FetchRow store.content store.control meta.content meta.control wanted line next (Ok turn) old new → count meta new.meta ≤ count meta old.meta
+      → RemoteFetchRow store.content store.control meta.content meta.control wanted line next (Ok turn) old new → count meta new.meta ≤ count meta old.meta
   fetch_count wanted line Refresh turn old new w = refresh_count wanted line turn old.view new.view old.meta new.meta w.1
   fetch_count wanted line (Index piece) turn old new w = same_count meta old.meta new.meta (ap (λ (t : Fetched S M). t.meta) w.0)
   fetch_count wanted line (Log piece span) turn old new w = same_count meta old.meta new.meta (ap (λ (t : Fetched S M). t.meta) w.0)
 
   pub fetch_wants : (wanted : FetchRequest) (line : List (ℕ × ℕ)) (next : Search) (e : AllocError) (old new : Fetched S M)
-      → FetchRow store.content store.control meta.content meta.control wanted line next (Err e) old new → count meta new.meta ≤ count meta old.meta
+      → RemoteFetchRow store.content store.control meta.content meta.control wanted line next (Err e) old new → count meta new.meta ≤ count meta old.meta
   fetch_wants wanted line Refresh e old new w = keeps_count meta old.meta new.meta w.1.content
   fetch_wants wanted line (Index piece) e old new w = same_count meta old.meta new.meta (ap (λ (t : Fetched S M). t.meta) w.0)
   fetch_wants wanted line (Log piece span) e old new w = same_count meta old.meta new.meta (ap (λ (t : Fetched S M). t.meta) w.0)
 
   -- nor does one of a timestamp lookup
 
-  seeking_count : (asked : Asked) (line : List (ℕ × ℕ)) (cursor : ℕ) (turn : TimeTurn) (before after : Seen) (old new : M)
+  seeking_count : (asked : Asked) (line : List (ℕ × ℕ)) (cursor : ℕ) (turn : TimeTurn) (before after : EntriesSeen) (old new : M)
       → SeekRow meta.content meta.control asked line cursor (Ok turn) before after old new → count meta new ≤ count meta old
   seeking_count asked line cursor (dating.Ends MetaFault) before after old new w = keeps_count meta old new w.content
   seeking_count asked line cursor turn before after old new w = keeps_count meta old new w.1.content
 
   fetched_count : (wanted : FetchRequest) (line : List (ℕ × ℕ)) (next : Search) (result : Result FetchTurn AllocError) (old new : Fetched S M)
-      → FetchRow store.content store.control meta.content meta.control wanted line next result old new
+      → RemoteFetchRow store.content store.control meta.content meta.control wanted line next result old new
       → count meta new.meta ≤ count meta old.meta
   fetched_count wanted line next (Ok turn) old new w = fetch_count wanted line next turn old new w
   fetched_count wanted line next (Err e) old new w = fetch_wants wanted line next e old new w
 
   index_count : (asked : Asked) (line : List (ℕ × ℕ)) (cursor : ℕ) (piece : Piece) (from : ℕ) (result : Result TimeTurn AllocError)
-      (old new : Fetched S M) → IndexRow store.content store.control meta.content meta.control asked line cursor piece from result old new
+      (old new : Fetched S M) → SearchIndexRow store.content store.control meta.content meta.control asked line cursor piece from result old new
       → count meta new.meta ≤ count meta old.meta
   index_count asked line cursor piece from result old new (inl w) =
       same_count meta old.meta new.meta (ap (λ (t : Fetched S M). t.meta) w.2)
@@ -227,7 +227,7 @@ module _ {S M : Type 0} (store : StoreGhosts S) (meta : MetaGhosts M) where
       fetched_count (wanted_at asked from) line (Index piece) w.1.0 old new w.1.1
 
   log_count : (asked : Asked) (line : List (ℕ × ℕ)) (piece : Piece) (from : ℕ) (span : Span) (result : Result TimeTurn AllocError)
-      (old new : Fetched S M) → LogRow store.content store.control meta.content meta.control asked line piece from span result old new
+      (old new : Fetched S M) → SearchLogRow store.content store.control meta.content meta.control asked line piece from span result old new
       → count meta new.meta ≤ count meta old.meta
   log_count asked line piece from span result old new (inl w) = same_count meta old.meta new.meta (ap (λ (t : Fetched S M). t.meta) w.2)
   log_count asked line piece from span result old new (inr w) =
@@ -299,7 +299,7 @@ module _ {S M : Type 0} (store : StoreGhosts S) (meta : MetaGhosts M) where
 
   -- one that ran out of memory
   pub copy_wants : (copy : Copied) (origin : EventOrigin) (next : CopyStep) (e : AllocError) (old new : Tiers S M)
-      → CopyRow store.content store.control meta.content meta.control copy origin next (Err e) old new → IsTrue (meta.content old.meta).is_observable → count meta new.meta ≤ count meta old.meta
+      → CopyTurnRow store.content store.control meta.content meta.control copy origin next (Err e) old new → IsTrue (meta.content old.meta).is_observable → count meta new.meta ≤ count meta old.meta
   copy_wants copy origin Start e old new (same, inl is) is_observable = same_count meta old.meta new.meta is
   copy_wants copy origin Start e old new (same, inr a) is_observable = appends_none meta _ old.meta new.meta a is_observable
   copy_wants copy origin (Put n) e old new w is_observable = same_count meta old.meta new.meta (ap (λ (t : Tiers S M). t.meta) w.0)

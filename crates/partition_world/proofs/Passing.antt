@@ -16,10 +16,10 @@ use Rattle.record_batch.specs.Check.{checked}
 use Rattle.segment_file.specs.declared.placed.Placed.{Placed}
 use Rattle.segment_file.specs.Index.{placed_from}
 use Rattle.segment_file.specs.Growing.{Grown, end_after, latest_from, latest_ts}
-use Rattle.local_log.specs.Coheres.{Hold}
+use Rattle.local_log.specs.Coheres.{SegmentsHold}
 use Rattle.local_log.specs.Stored.{end_of as segment_end}
-use Rattle.broker_log.specs.Seen.{Kept, Up, Down, Away, Seen, Shows, Stays, closed_in, is_up}
-use Rattle.broker_log.specs.Turns.{IsRunIn}
+use Rattle.broker_log.specs.Seen.{LogState, Up, Down, Away, LogSeen, ShowsSeen, LogStays, closed_in, is_up}
+use Rattle.broker_log.specs.Turns.{IsRunInLog}
 use Rattle.plain_log.specs.declared.answer.Answer.{Answer}
 use Rattle.plain_log.specs.declared.answer.Answer.TheVariants.{DiskFault, Damaged, Offset}
 use Rattle.plain_log.specs.declared.answer.Place.TheVariants.{File}
@@ -31,9 +31,9 @@ use Rattle.time_find.specs.declared.turn.SearchStep.{SearchStep}
 use Rattle.time_find.specs.declared.turn.SearchStep.TheVariants.{Seek}
 use Rattle.time_find.specs.declared.turn.TimeTurn.{TimeTurn}
 use Rattle.time_find.specs.declared.turn.TimeTurn.TheVariants.{Goes, Ends}
-use Rattle.time_find.specs.Dates.{AreChecked}
+use Rattle.time_find.specs.Dates.{AreAllChecked}
 use Rattle.time_find.specs.Passing.{is_passed, passed_over}
-use Rattle.time_find.specs.Turns.{IsSearched, SearchesRun, ReadRow, OwnRow}
+use Rattle.time_find.specs.Turns.{IsSearched, SearchesRun, ReadLocalRow, LocalSearchRow}
 use Rattle.laws_time_find.specs.Passed.{HasPassed}
 use Rattle.laws_time_find.proofs.Dates.{in_rest, in_beginning, consecutive_back}
 use Rattle.laws_time_find.proofs.Early.{passed_more}
@@ -104,7 +104,7 @@ over_up ts cursor (segment ∷ closed) = by (is_passed ts cursor segment) refl (
 
 -- all before it is too early
 pub over_closed : (ts : ℤ) (start : ℕ) (log front batches : List (List ℕ)) (first : ℕ) (closed more : List Grown) (cursor : ℕ) → IsConsecutive 0 log → log ≡ front ++ batches → end_of front ≡ first
-    → Hold first (closed ++ more) batches → HasPassed ts start log cursor → HasPassed ts start log (passed_over ts cursor closed)
+    → SegmentsHold first (closed ++ more) batches → HasPassed ts start log cursor → HasPassed ts start log (passed_over ts cursor closed)
 over_closed ts start log front batches first [] more cursor c is ends hold h = h
 over_closed ts start log front batches first (segment ∷ closed) more cursor c is ends hold h =
     by (is_passed ts cursor segment) refl (λ at k. over_closed ts start log (front ++ hold.0) hold.1 (segment_end segment) closed more at c parts there_end hold.5 k)
@@ -159,14 +159,14 @@ over_closed ts start log front batches first (segment ∷ closed) more cursor c 
 
 -- a search in an open log
 
-closed_passed : {D : Type 0} (content : D → Content) (kept : Kept D) (s : Seen) (ts : ℤ) (start cursor : ℕ) → is_up kept ≡ true → Shows content kept s → HasPassed ts start s.batches cursor
+closed_passed : {D : Type 0} (content : D → Content) (kept : LogState D) (s : LogSeen) (ts : ℤ) (start cursor : ℕ) → is_up kept ≡ true → ShowsSeen content kept s → HasPassed ts start s.batches cursor
     → HasPassed ts start s.batches (passed_over ts cursor (closed_in kept))
 closed_passed content (Up log) s ts start cursor up shows h =
     over_closed ts start s.batches shows.below log.batches log.local_start log.closed (log.active ∷ []) cursor shows.consecutive shows.batches_are shows.begins shows.segments h
 closed_passed content (Down settings disk) s ts start cursor up shows h = absurd (cc (up))
 closed_passed content Away s ts start cursor up shows h = absurd shows
 
-are_checked : (run : List (List ℕ)) → Each (λ (batch : List ℕ). IsOk (checked batch)) run → AreChecked run
+are_checked : (run : List (List ℕ)) → Each (λ (batch : List ℕ). IsOk (checked batch)) run → AreAllChecked run
 are_checked [] each = tt
 are_checked (batch ∷ run) each = (each.0, are_checked run each.1)
 
@@ -187,13 +187,13 @@ goes_to asked log n h = record {
 }
 
 module _ {D : Type 0} (content : D → Content) (control : D → Control call_code) where
-  module _ (asked : Asked) (old new : Kept D) (s : Seen) (up : is_up old ≡ true) (shows : Shows content old s) (c : IsConsecutive 0 s.batches) (line : IsLineFor s.line s.batches)
+  module _ (asked : Asked) (old new : LogState D) (s : LogSeen) (up : is_up old ≡ true) (shows : ShowsSeen content old s) (c : IsConsecutive 0 s.batches) (line : IsLineFor s.line s.batches)
       (known : EndsAt asked.mark s.batches) where
     -- a run that is searched at an offset
     searched : (at : ℕ) (turn : TimeTurn) → asked.start ≤ at → HasPassed asked.ts asked.start s.batches at → SearchesRun content control old asked at turn new → OwnComes asked s.batches turn
     searched at turn low h r = comes turn (subst (λ (bytes : List ℕ). IsSearched asked at bytes turn) run.bytes r.searched)
       where
-        run : IsRunIn old s at (2 ^ 64 - 1) asked.mark r.out
+        run : IsRunInLog old s at (2 ^ 64 - 1) asked.mark r.out
         run = r.reads.run s shows known
 
         read : IsRunOf s.batches at (2 ^ 64 - 1) asked.mark r.out.stop run.run
@@ -212,7 +212,7 @@ module _ {D : Type 0} (content : D → Content) (control : D → Control call_co
         }
         comes (Ends other) k = absurd k
 
-    read_comes : (at : ℕ) (turn : TimeTurn) → asked.start ≤ at → HasPassed asked.ts asked.start s.batches at → ReadRow content control old asked at turn new → OwnComes asked s.batches turn
+    read_comes : (at : ℕ) (turn : TimeTurn) → asked.start ≤ at → HasPassed asked.ts asked.start s.batches at → ReadLocalRow content control old asked at turn new → OwnComes asked s.batches turn
     read_comes at (Ends DiskFault) low h row = record {
       goes = λ to later e. absurd (cc (e));
       ends = λ answer e. (let is : DiskFault ≡ answer = cc (e) in inl (sym is));
@@ -220,7 +220,7 @@ module _ {D : Type 0} (content : D → Content) (control : D → Control call_co
     read_comes at (Ends (Damaged (File name) place)) low h row = absurd (row.misreads.unmarked s shows known)
     read_comes at turn low h row = searched at turn low h row
 
-    pub own_comes : (cursor : ℕ) (turn : TimeTurn) → asked.start ≤ cursor → HasPassed asked.ts asked.start s.batches cursor → OwnRow content control old asked cursor turn new
+    pub own_comes : (cursor : ℕ) (turn : TimeTurn) → asked.start ≤ cursor → HasPassed asked.ts asked.start s.batches cursor → LocalSearchRow content control old asked cursor turn new
         → OwnComes asked s.batches turn
     own_comes cursor turn low h (inl (far, is, same)) =
         subst (OwnComes asked s.batches) (sym is)
@@ -231,15 +231,15 @@ module _ {D : Type 0} (content : D → Content) (control : D → Control call_co
         (closed_passed content old s asked.ts asked.start cursor up shows h) row
 
   -- a turn leaves the log as it was
-  run_rests : (old new : Kept D) (asked : Asked) (at : ℕ) (turn : TimeTurn) → SearchesRun content control old asked at turn new → Stays content old new
+  run_rests : (old new : LogState D) (asked : Asked) (at : ℕ) (turn : TimeTurn) → SearchesRun content control old asked at turn new → LogStays content old new
   run_rests old new asked at turn r = r.reads.stays
 
-  read_rests : (old new : Kept D) (asked : Asked) (at : ℕ) (turn : TimeTurn) → ReadRow content control old asked at turn new → Stays content old new
+  read_rests : (old new : LogState D) (asked : Asked) (at : ℕ) (turn : TimeTurn) → ReadLocalRow content control old asked at turn new → LogStays content old new
   read_rests old new asked at (Ends DiskFault) row = row.0
   read_rests old new asked at (Ends (Damaged (File name) place)) row = row.misreads.stays
   read_rests old new asked at turn row = run_rests old new asked at turn row
 
-  pub own_rests : (old new : Kept D) (asked : Asked) (cursor : ℕ) (turn : TimeTurn) → OwnRow content control old asked cursor turn new
-      → (new ≡ old) ⊎ Stays content old new
+  pub own_rests : (old new : LogState D) (asked : Asked) (cursor : ℕ) (turn : TimeTurn) → LocalSearchRow content control old asked cursor turn new
+      → (new ≡ old) ⊎ LogStays content old new
   own_rests old new asked cursor turn (inl (far, is, same)) = inl same
   own_rests old new asked cursor turn (inr (near, row)) = inr (read_rests old new asked (passed_over asked.ts cursor (closed_in old)) turn row)

@@ -7,12 +7,12 @@ use Rattle.object_store.specs.declared.store.Store.{Ghosts as StoreGhosts}
 use Rattle.meta_log.specs.declared.log.MetaLog.{Ghosts as MetaGhosts}
 use Rattle.partition_world.specs.Whole.{Whole}
 use Rattle.partition_world.specs.Later.{IsLater}
-use Rattle.partition_world.specs.Reaches.{Goes, GoesTimes, GoesUntil, Paces, Reaches}
+use Rattle.partition_world.specs.Reaches.{TakesTurn, GoesTimes, GoesUntil, Paces, Reaches}
 use Rattle.partition_world.proofs.CentralLaw.{turn_central}
 use Rattle.partition_world.proofs.LaterLaw.{later_more, turn_later, same_later}
 
 module _ {D S M : Type 0} (disk : DiskGhosts D) (store : StoreGhosts S) (meta : MetaGhosts M) where
-  goes_later : (w : Whole D S M) (a : ℕ) (w' : Whole D S M) → Goes disk store meta w a w' → IsLater disk store meta w w'
+  goes_later : (w : Whole D S M) (a : ℕ) (w' : Whole D S M) → TakesTurn disk store meta w a w' → IsLater disk store meta w w'
   goes_later w a w' (inl t) = turn_later disk store meta w a t.0 w' t.1 (λ opening c. turn_central disk store meta opening w a t.0 w' t.1 c)
   goes_later w a w' (inr e) = same_later disk store meta w w' e.1
 

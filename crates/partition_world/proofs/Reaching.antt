@@ -3,7 +3,7 @@ use Rattle.std.proofs.Common.{◌≡◌, sym, refl, ap, ℕ, zero, suc, ◌-◌,
 use Rattle.std.proofs.lemmas.Bool.{le-leb}
 use Rattle.epoch_line.specs.Line.{IsLine}
 use Rattle.segment_meta.specs.declared.note.Entry.{Entry}
-use Rattle.remote_view.specs.Fold.{AreKept, AreDistinct}
+use Rattle.remote_view.specs.Fold.{AreEntriesValid, AreDistinct}
 use Rattle.remote_find.specs.declared.piece.Piece.{Piece}
 use Rattle.remote_find.specs.Pieces.{Pieces, piece_at, beyond, reached}
 use Rattle.remote_find.proofs.Clipping.{piece_lies}
@@ -19,7 +19,7 @@ reached_past pieces on (suc most) at = by (pieces at) refl (λ p. reached_past p
     by (Some p) is more = let up = on at p is in let far = more p in omega (arith, up, far)
 
 -- the top is reached already
-pub reaches_already : (entries : List Entry) (line : List (ℕ × ℕ)) (log_end most at all top : ℕ) → AreKept entries → AreDistinct entries → IsLine line
+pub reaches_already : (entries : List Entry) (line : List (ℕ × ℕ)) (log_end most at all top : ℕ) → AreEntriesValid entries → AreDistinct entries → IsLine line
     → top ≤ at → reached (piece_at entries line log_end) most at ≡ all → true ≡ nat_le top all
 reaches_already entries line log_end most at all top kept distinct rises low e =
     let past = reached_past (piece_at entries line log_end) (λ o p is. (piece_lies entries line log_end o p kept distinct rises is).2.holds.1) most at in

@@ -8,7 +8,7 @@ use Rattle.object_store.specs.declared.store.Store.{Ghosts as StoreGhosts}
 use Rattle.meta_log.specs.declared.log.MetaLog.{Ghosts as MetaGhosts}
 use Rattle.object_store.specs.Content.{Objects}
 use Rattle.segment_meta.specs.declared.note.Note.{Note}
-use Rattle.remote_view.specs.Fold.{Seen as View}
+use Rattle.remote_view.specs.Fold.{EntriesSeen as View}
 use Rattle.registry.specs.declared.registry.Registry.{Registry}
 use Rattle.rebuild_task.specs.declared.turn.RebuildStep.TheVariants.{Epochs, Restart}
 use Rattle.rebuild_task.specs.declared.turn.RebuildTurn.{RebuildTurn}
@@ -22,7 +22,7 @@ use Rattle.plain_log.specs.declared.state.Role.{Role}
 use Rattle.plain_log.specs.declared.state.State.{State}
 use Rattle.plain_log.specs.State.{path_of, joined, followed}
 use Rattle.laws_partition.specs.declared.start_snapshot.StartSnapshot.{StartSnapshot}
-use Rattle.laws_partition.specs.Central.{SnapshotMatches, RebuildStands}
+use Rattle.laws_partition.specs.Central.{SnapshotMatches, RebuildMatches}
 use Rattle.laws_partition.specs.Partition.{broker_of}
 use Rattle.laws_partition.specs.RowsOfFollowers as seen_rows
 use Rattle.laws_partition.specs.Seen as seen
@@ -35,7 +35,7 @@ use Rattle.partition_commands.specs.Partition.{node_of, ShowsPartition}
 use Rattle.partition_commands.specs.TurnsOfFollowers.{MayRebuild, JoinOnRow}
 use Rattle.partition_commands.proofs.Shown.{end_shown}
 use Rattle.tier_safe.specs.Scene.{Scene, BrokerTierView, Rebuild, TierTask as InProgressIsSeen, Rebuilds as RebuildsSeen}
-use Rattle.tier_safe.specs.Turns.{Shows}
+use Rattle.tier_safe.specs.Turns.{ShowsScene}
 use Rattle.laws_rebuild.specs.Laws.{seen_all}
 use Rattle.laws_rebuild.specs.Reading.{IsToRead}
 use Rattle.laws_rebuild.proofs.Reading.{lines_are_paths}
@@ -47,7 +47,7 @@ use Rattle.partition_world.specs.declared.actor_state.InProgress.{InProgress}
 use Rattle.partition_world.specs.declared.actor_state.InProgress.TheVariants.{Noted, Rebuilds}
 use Rattle.partition_world.specs.declared.tier.RemoteTier.{RemoteTier}
 use Rattle.partition_world.specs.ActorStates.{recorded_in, rebuilding, rebuild_outcome, actor_state_after, actor_state_seen, told_of}
-use Rattle.partition_world.specs.Tier.{Refreshes, FailsToRead}
+use Rattle.partition_world.specs.Tier.{RefreshesBroker, FailsToRead}
 use Rattle.partition_world.specs.Central.{IsCentral, IsRecorded, begun_of, rebuilds_of, work_of}
 use Rattle.partition_world.specs.Turn.{IsTurn}
 use Rattle.partition_world.specs.TurnsOfRebuild.{with_line, wanted_of, AnswersAtOnce, RefreshedRow, GoesOnRebuild}
@@ -113,11 +113,11 @@ module _ {D S M : Type 0} (disk : DiskGhosts D) (store : StoreGhosts S) (meta : 
         (ap (λ (u : RemoteTier S M). (store.content u.store).objects) row.after) row.reads.content.notes (same_held same) (on.0, on.1, refl)
 
     -- the follower's view is refreshed
-    join_refreshed : (g : StartSnapshot) → t.actor_state.work ≡ Noted g → outcome ≡ outcomes.Rebuilds Epochs → g.start < g.wanted → Refreshes meta w.tier t.order.broker.0 z.broker_tier w'.tier → w'.held ≡ w.held
+    join_refreshed : (g : StartSnapshot) → t.actor_state.work ≡ Noted g → outcome ≡ outcomes.Rebuilds Epochs → g.start < g.wanted → RefreshesBroker meta w.tier t.order.broker.0 z.broker_tier w'.tier → w'.held ≡ w.held
         → IsCentral disk store meta opening w'
     join_refreshed g recorded is low r same =
         let rebuild : Rebuild = rebuild_of t.order.broker.0 g in
-        let at = subst (λ (k : InProgressIsSeen). Shows c.scene t.place t.order.broker.0 its k (store.content w.tier.store) (meta.content w.tier.meta) z.broker_tier.view)
+        let at = subst (λ (k : InProgressIsSeen). ShowsScene c.scene t.place t.order.broker.0 its k (store.content w.tier.store) (meta.content w.tier.meta) z.broker_tier.view)
         (ap (work_of (Some t.order)) recorded ∙ ap (begun_of t.order.broker.0 g) joins) (shows_at disk store meta opening w c t.place t.list t.actor_state t.order z) in
         let changed = rebuild_refreshes store.content store.control meta.content meta.control w.tier.meta r.view c.scene c.central.plain t.place rebuild its (store.content w.tier.store) at (few_now disk store meta opening w c)
         c.tier r.reads.view in
@@ -143,7 +143,7 @@ module _ {D S M : Type 0} (disk : DiskGhosts D) (store : StoreGhosts S) (meta : 
     -- the turn that reads the line
 
     module _ (g : StartSnapshot) (works : t.actor_state.work ≡ Rebuilds g Epochs) (m : MayRebuild w.held z.x g) where
-      stands_rebuild : RebuildStands c.central.plain g
+      stands_rebuild : RebuildMatches c.central.plain g
       stands_rebuild =
           let broker : slice_get c.central.plain.brokers t.order.broker.0 ≡ Some (broker_of y) = broker_at c.partition c.central.plain t.order.broker.0 y c.central.stands.held z.sees.there in
           let actor_states = c.central.stands.desk t.place t.list (actor_state_seen t.actor_state) z.list (map_get actor_state_seen w.desk t.place t.actor_state z.actor_state_is) in

@@ -8,12 +8,12 @@ use Rattle.tier_base.specs.declared.fault.Trouble.TheVariants.{Failed, NoMemory}
 use Rattle.object_store.specs.declared.placing.Spot.{Spot}
 use Rattle.object_store.specs.Place.{short_of}
 use Rattle.object_store.specs.declared.store.Store.{Ghosts as StoreGhosts}
-use Rattle.remote_view.specs.Fold.{Seen as View}
+use Rattle.remote_view.specs.Fold.{EntriesSeen as View}
 use Rattle.rebuild_task.specs.declared.turn.RebuildStep.TheVariants.{Restart}
 use Rattle.rebuild_task.specs.declared.turn.RebuildTurn.{RebuildTurn}
 use Rattle.rebuild_task.specs.declared.turn.RebuildTurn.TheVariants.{Goes, Ends}
 use Rattle.rebuild_task.specs.declared.turn.RebuildRequest.{RebuildRequest}
-use Rattle.rebuild_task.specs.Turns.{TakesBytes, Takes, EpochsRow, RebuildRow}
+use Rattle.rebuild_task.specs.Turns.{TakesBytes, TakesEpochs, EpochsRow, RebuildRow}
 use Rattle.plain_log.specs.declared.answer.Answer.{Answer}
 use Rattle.plain_log.specs.declared.answer.Answer.TheVariants.{StoreFault, Damaged}
 
@@ -27,7 +27,7 @@ MayTurn other = ⊥
 may_same : (turn after : RebuildTurn) → ◌≡◌ {A = Result RebuildTurn AllocError} (Ok turn) (Ok after) → MayTurn after → MayTurn turn
 may_same turn after is may = let same : turn ≡ after = cc (is) in subst MayTurn (sym same) may
 
-takes_may : (wanted : ℕ) (spot : Spot) (answer : Result (Option (List ℕ)) Trouble) (turn : RebuildTurn) → Takes wanted spot answer (Ok turn) → MayTurn turn
+takes_may : (wanted : ℕ) (spot : Spot) (answer : Result (Option (List ℕ)) Trouble) (turn : RebuildTurn) → TakesEpochs wanted spot answer (Ok turn) → MayTurn turn
 takes_may wanted spot (Err Failed) turn w = may_same turn _ w tt
 takes_may wanted spot (Err NoMemory) turn w = absurd (let no : false ≡ true = w in cc)
 takes_may wanted spot (Ok None) turn w = may_same turn _ w tt

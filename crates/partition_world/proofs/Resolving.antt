@@ -8,9 +8,9 @@ use Rattle.segment_meta.specs.declared.note.Note.{Note}
 use Rattle.segment_meta.specs.Rules.{IsNote}
 use Rattle.meta_log.specs.declared.log.MetaLog.{Ghosts as MetaGhosts}
 use Rattle.meta_log.specs.declared.call.MetaCall.TheVariants.{Append}
-use Rattle.meta_log.specs.Calls.{Appends}
+use Rattle.meta_log.specs.Calls.{AppendsToMetaLog}
 use Rattle.meta_log.specs.Content.{Left, appended_if}
-use Rattle.remote_view.specs.Fold.{Seen}
+use Rattle.remote_view.specs.Fold.{EntriesSeen}
 use Rattle.view_refresh.specs.Refreshing.{Refreshed, Unread, Halted, Advances}
 use Rattle.partition_world.specs.Left.{resolved}
 
@@ -30,8 +30,8 @@ module _ {M : Type 0} (meta : MetaGhosts M) where
   Tells m = IsTrue (meta.content m).is_observable
 
   -- a metadata event was appended
-  pub appends_with : (note : Note) (fate : Fate) (old new : M) (k : Appends meta.content meta.control note fate old new) → Tells old → (l' : List Note)
-      → Left (meta.content new) l' → Before old (λ l. Appends (resolved meta).content (resolved meta).control note fate (old, l) (new, l'))
+  pub appends_with : (note : Note) (fate : Fate) (old new : M) (k : AppendsToMetaLog meta.content meta.control note fate old new) → Tells old → (l' : List Note)
+      → Left (meta.content new) l' → Before old (λ l. AppendsToMetaLog (resolved meta).content (resolved meta).control note fate (old, l) (new, l'))
   appends_with note fate old new k is_observable l' left = from (k.content.left is_observable l' left)
     where
       may : Bool → Type 0
@@ -43,11 +43,11 @@ module _ {M : Type 0} (meta : MetaGhosts M) where
       grown l false m is x (inl same) = inl (m, inl (same ∙ is))
       grown l done m is x (inr none) = absurd none
 
-      made : (l : List Note) (done : Bool) → may done → l' ≡ appended_if done note l → Appends (resolved meta).content (resolved meta).control note fate (old, l) (new, l')
+      made : (l : List Note) (done : Bool) → may done → l' ≡ appended_if done note l → AppendsToMetaLog (resolved meta).content (resolved meta).control note fate (old, l) (new, l')
       made l done m is = record { control = k.control; content = record { is_observable = k.content.is_observable; notes = λ t. (done, m, is); left = λ t x at. grown l done m is x at } }
 
       from : (may false × Left (meta.content old) l') ⊎ (may true × (l' ≡ (meta.content old).notes ++ note ∷ []))
-          → Before old (λ l. Appends (resolved meta).content (resolved meta).control note fate (old, l) (new, l'))
+          → Before old (λ l. AppendsToMetaLog (resolved meta).content (resolved meta).control note fate (old, l) (new, l'))
       from (inl (m, before)) = (l', before, made l' false m refl)
       from (inr (m, is)) = ((meta.content old).notes, inl refl, made (meta.content old).notes true m is)
 
@@ -57,7 +57,7 @@ module _ {M : Type 0} (meta : MetaGhosts M) where
   told_with m l x (inr none) = absurd none
 
   -- a view was refreshed
-  pub refreshed_with : (before after : Seen) (old new : M) (k : Refreshed meta.content meta.control before after old new) → Tells old → (l' : List Note)
+  pub refreshed_with : (before after : EntriesSeen) (old new : M) (k : Refreshed meta.content meta.control before after old new) → Tells old → (l' : List Note)
       → Left (meta.content new) l' → Before old (λ l. Refreshed (resolved meta).content (resolved meta).control before after (old, l) (new, l'))
   refreshed_with before after old new k is_observable l' left =
       let same : l' ≡ (meta.content old).notes = k.told is_observable l' left ∙ k.content.notes in (
@@ -72,7 +72,7 @@ module _ {M : Type 0} (meta : MetaGhosts M) where
       )
 
   -- a read failed
-  pub unread_with : (before after : Seen) (old new : M) (k : Unread meta.content meta.control before after old new) → (l' : List Note)
+  pub unread_with : (before after : EntriesSeen) (old new : M) (k : Unread meta.content meta.control before after old new) → (l' : List Note)
       → Left (meta.content new) l' → Before old (λ l. Unread (resolved meta).content (resolved meta).control before after (old, l) (new, l'))
   unread_with before after old new k l' left = (
     l',
@@ -81,7 +81,7 @@ module _ {M : Type 0} (meta : MetaGhosts M) where
   )
 
   -- memory ran out
-  pub halted_with : (before after : Seen) (old new : M) (k : Halted meta.content meta.control before after old new) → Tells old → (l' : List Note)
+  pub halted_with : (before after : EntriesSeen) (old new : M) (k : Halted meta.content meta.control before after old new) → Tells old → (l' : List Note)
       → Left (meta.content new) l' → Before old (λ l. Halted (resolved meta).content (resolved meta).control before after (old, l) (new, l'))
   halted_with before after old new k is_observable l' left = (l', k.content.left l' left, record { view = view k.moved; control = k.control; once = k.once; content = record { is_observable = k.content.is_observable; notes = refl; left = λ x at. at }; moved = inr (λ t x at. told_with new l' x at) })
     where

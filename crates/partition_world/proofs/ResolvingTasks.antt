@@ -9,7 +9,7 @@ use Rattle.segment_meta.specs.declared.note.Note.{Note}
 use Rattle.meta_log.specs.declared.log.MetaLog.{Ghosts as MetaGhosts}
 use Rattle.meta_log.specs.declared.event_origin.EventOrigin.{EventOrigin}
 use Rattle.meta_log.specs.Content.{Left}
-use Rattle.remote_view.specs.Fold.{Seen}
+use Rattle.remote_view.specs.Fold.{EntriesSeen}
 use Rattle.plain_log.specs.declared.answer.Answer.TheVariants.{MetaFault}
 use Rattle.copy_task.specs.Copying.{Copied, start_note, finish_note}
 use Rattle.copy_task.specs.Turns as copy
@@ -67,15 +67,15 @@ module _ {S M : Type 0} (store : StoreGhosts S) (meta : MetaGhosts M) where
   copy_finish c origin (Err e) old new (inl same) t l' left = let a = same_with meta old new same l' left in (a.0, a.1, inl a.2)
   copy_finish c origin (Err e) old new (inr k) t l' left = let a = appends_with meta (finish_note c origin) Dry old new k t l' left in (a.0, a.1, inr a.2)
 
-  copy_check : (c : Copied) (r : Result CopyTurn AllocError) (before after : Seen) (old new : M) → copy.CheckRow meta.content meta.control c r before after old new → Tells meta old
+  copy_check : (c : Copied) (r : Result CopyTurn AllocError) (before after : EntriesSeen) (old new : M) → copy.CheckRow meta.content meta.control c r before after old new → Tells meta old
       → (l' : List Note) → Left (meta.content new) l' → Before meta old (λ l. copy.CheckRow (resolved meta).content (resolved meta).control c r before after (old, l) (new, l'))
   copy_check c (Ok (copy_turn.Ends MetaFault)) before after old new w t l' left = unread_with meta before after old new w l' left
   copy_check c (Ok turn) before after old new w t l' left = let a = refreshed_with meta before after old new w.1 t l' left in (a.0, a.1, (w.0, a.2))
   copy_check c (Err e) before after old new w t l' left = halted_with meta before after old new w t l' left
 
   pub copy_row : (c : Copied) (origin : EventOrigin) (next : copy_next.CopyStep) (r : Result CopyTurn AllocError) (old new : copy.Tiers S M)
-      → copy.CopyRow store.content store.control meta.content meta.control c origin next r old new → Tells meta old.meta → (l' : List Note) → Left (meta.content new.meta) l'
-      → Before meta old.meta (λ l. copy.CopyRow store.content store.control (resolved meta).content (resolved meta).control c origin next r (copy_with old l) (copy_with new l'))
+      → copy.CopyTurnRow store.content store.control meta.content meta.control c origin next r old new → Tells meta old.meta → (l' : List Note) → Left (meta.content new.meta) l'
+      → Before meta old.meta (λ l. copy.CopyTurnRow store.content store.control (resolved meta).content (resolved meta).control c origin next r (copy_with old l) (copy_with new l'))
   copy_row c origin copying.Start r old new w t l' left =
       let a = copy_start c origin r old.meta new.meta w.1 t l' left in (a.0, a.1, (ap (λ (o : copy.Tiers S M). copy_with o l') w.0, a.2))
   copy_row c origin (copying.Put n) r old new w t l' left =
@@ -113,15 +113,15 @@ module _ {S M : Type 0} (store : StoreGhosts S) (meta : MetaGhosts M) where
       let a = expiry_finish d origin r old.meta new.meta w.1 t l' left in (a.0, a.1, (ap (λ (o : expiry.Tiers S M). expiry_with o l') w.0, a.2))
 
   -- fetches
-  fetch_refresh : (wanted : FetchRequest) (line : List (ℕ × ℕ)) (r : Result FetchTurn AllocError) (before after : Seen) (old new : M) → fetch.RefreshRow meta.content meta.control wanted line r before after old new
+  fetch_refresh : (wanted : FetchRequest) (line : List (ℕ × ℕ)) (r : Result FetchTurn AllocError) (before after : EntriesSeen) (old new : M) → fetch.RefreshRow meta.content meta.control wanted line r before after old new
       → Tells meta old → (l' : List Note) → Left (meta.content new) l' → Before meta old (λ l. fetch.RefreshRow (resolved meta).content (resolved meta).control wanted line r before after (old, l) (new, l'))
   fetch_refresh wanted line (Ok (fetch_turn.Ends MetaFault)) before after old new w t l' left = unread_with meta before after old new w l' left
   fetch_refresh wanted line (Ok turn) before after old new w t l' left = let a = refreshed_with meta before after old new w.1 t l' left in (a.0, a.1, (w.0, a.2))
   fetch_refresh wanted line (Err e) before after old new w t l' left = halted_with meta before after old new w t l' left
 
   pub fetch_row : (wanted : FetchRequest) (line : List (ℕ × ℕ)) (next : fetch_next.FetchStep) (r : Result FetchTurn AllocError) (old new : fetch.Tiers S M)
-      → fetch.FetchRow store.content store.control meta.content meta.control wanted line next r old new → Tells meta old.meta → (l' : List Note) → Left (meta.content new.meta) l'
-      → Before meta old.meta (λ l. fetch.FetchRow store.content store.control (resolved meta).content (resolved meta).control wanted line next r (fetch_with old l) (fetch_with new l'))
+      → fetch.RemoteFetchRow store.content store.control meta.content meta.control wanted line next r old new → Tells meta old.meta → (l' : List Note) → Left (meta.content new.meta) l'
+      → Before meta old.meta (λ l. fetch.RemoteFetchRow store.content store.control (resolved meta).content (resolved meta).control wanted line next r (fetch_with old l) (fetch_with new l'))
   fetch_row wanted line fetching.Refresh r old new w t l' left =
       let a = fetch_refresh wanted line r old.view new.view old.meta new.meta w.1 t l' left in (a.0, a.1, (ap (λ (o : fetch.Tiers S M). fetch_with o l') w.0, a.2))
   fetch_row wanted line (fetching.Index piece) r old new w t l' left =
@@ -130,7 +130,7 @@ module _ {S M : Type 0} (store : StoreGhosts S) (meta : MetaGhosts M) where
       (l', kept old.meta new.meta l' (ap (λ (o : fetch.Tiers S M). o.meta) w.0) left, (ap (λ (o : fetch.Tiers S M). fetch_with o l') w.0, w.1))
 
   -- timestamp lookups
-  time_seek : (asked : Asked) (line : List (ℕ × ℕ)) (cursor : ℕ) (r : Result TimeTurn AllocError) (before after : Seen) (old new : M) → time.SeekRow meta.content meta.control asked line cursor r before after old new
+  time_seek : (asked : Asked) (line : List (ℕ × ℕ)) (cursor : ℕ) (r : Result TimeTurn AllocError) (before after : EntriesSeen) (old new : M) → time.SeekRow meta.content meta.control asked line cursor r before after old new
       → Tells meta old → (l' : List Note) → Left (meta.content new) l' → Before meta old (λ l. time.SeekRow (resolved meta).content (resolved meta).control asked line cursor r before after (old, l) (new, l'))
   time_seek asked line cursor (Ok (time_turn.Ends MetaFault)) before after old new w t l' left = unread_with meta before after old new w l' left
   time_seek asked line cursor (Ok turn) before after old new w t l' left = let a = refreshed_with meta before after old new w.1 t l' left in (a.0, a.1, (w.0, a.2))

@@ -40,17 +40,17 @@ use Rattle.partition_world.specs.declared.actor_state.InProgress.TheVariants.{Id
 use Rattle.partition_world.specs.Tier.{AtBrokerTier}
 use Rattle.partition_world.specs.TurnsOfCopy.{LeadersFirstRow, CopyFirstRow, ChooseRow, WantsForCopy, tiers_of, origin_of}
 use Rattle.partition_world.specs.TurnsOfFetch.{FetchOnRow, GoesOnFetch, WantsForFetch, fetch_tiers, wanted_of}
-use Rattle.partition_world.specs.TurnsOfDate.{SearchRow, Searches, DateOnRow, asked_of, is_own, resumed_at, resumed_with}
+use Rattle.partition_world.specs.TurnsOfDate.{SearchRow, SearchesOn, DateOnRow, asked_of, is_own, resumed_at, resumed_with}
 use Rattle.partition_world.specs.TurnsOfTrim.{TrimFirstRow}
 use Rattle.partition_world.specs.TurnsOfExpiry.{WantsForDeletion, expiry_tiers}
 use Rattle.partition_world.specs.TurnsOfRebuild.{RefreshedRow}
-use Rattle.partition_world.specs.Turns.{BeginRow, ContinuedRow, CopyingRow, SeekingRow, DatingRow, DeletingRow, JoinSecondRow, RebuildingRow, Row, BeginHalts, ContinuedHalts, DateHalts, HaltsTier, StaysTier}
+use Rattle.partition_world.specs.Turns.{BeginRow, ContinuedRow, CopyLaterRow, SeekingRow, DatingRow, DeletingRow, JoinSecondRow, RebuildingRow, Row, BeginHalts, ContinuedHalts, DateHalts, HaltsTier, StaysTier}
 use Rattle.partition_world.specs.Whole.{Whole}
 use Rattle.segment_meta.specs.declared.note.Note.{Note}
 use Rattle.meta_log.specs.Content.{Left}
 use Rattle.laws_partition.specs.declared.actor_progress.Stepped.{Stepped}
 use Rattle.laws_partition.specs.declared.actor_progress.Stepped.TheVariants as stepped
-use Rattle.partition_world.specs.Tier.{Refreshes, FailsToRead, Halts}
+use Rattle.partition_world.specs.Tier.{RefreshesBroker, FailsToRead, HaltsRefresh}
 use Rattle.partition_world.specs.TurnsOfCopy.{GoesOnCopy}
 use Rattle.partition_world.specs.TurnsOfExpiry.{GoesOnDeletion}
 use Rattle.partition_world.specs.TurnsOfDate.{SearchesRemote}
@@ -72,8 +72,8 @@ module _ {D S M : Type 0} (disk : DiskGhosts D) (store : StoreGhosts S) (meta : 
   with_also : (m : M) (P Q : List Note → Type 0) → ((l : List Note) → P l → Q l) → Before meta m P → Before meta m Q
   with_also m P Q f a = (a.0, a.1, f a.0 a.2)
 
-  refreshes : (t : RemoteTier S M) (b : ℕ) (broker_tier : BrokerTierState) (t' : RemoteTier S M) → Refreshes meta t b broker_tier t' → Tells meta t.meta → (l' : List Note) → Left (meta.content t'.meta) l'
-      → Before meta t.meta (λ l. Refreshes (resolved meta) (tier_with t l) b broker_tier (tier_with t' l'))
+  refreshes : (t : RemoteTier S M) (b : ℕ) (broker_tier : BrokerTierState) (t' : RemoteTier S M) → RefreshesBroker meta t b broker_tier t' → Tells meta t.meta → (l' : List Note) → Left (meta.content t'.meta) l'
+      → Before meta t.meta (λ l. RefreshesBroker (resolved meta) (tier_with t l) b broker_tier (tier_with t' l'))
   refreshes t b broker_tier t' k is_observable l' left =
       let a = refreshed_with meta broker_tier.view k.view t.meta t'.meta k.reads is_observable l' left in
       (a.0, a.1, record { view = k.view; reads = a.2; after = ap (λ (u : RemoteTier S M). tier_with u l') k.after })
@@ -84,8 +84,8 @@ module _ {D S M : Type 0} (disk : DiskGhosts D) (store : StoreGhosts S) (meta : 
       let a = unread_with meta broker_tier.view broker_tier.view t.meta t'.meta k.reads l' left in
       (a.0, a.1, record { reads = a.2; after = ap (λ (u : RemoteTier S M). tier_with u l') k.after })
 
-  halts : (t : RemoteTier S M) (b : ℕ) (broker_tier : BrokerTierState) (t' : RemoteTier S M) → Halts meta t b broker_tier t' → Tells meta t.meta → (l' : List Note) → Left (meta.content t'.meta) l'
-      → Before meta t.meta (λ l. Halts (resolved meta) (tier_with t l) b broker_tier (tier_with t' l'))
+  halts : (t : RemoteTier S M) (b : ℕ) (broker_tier : BrokerTierState) (t' : RemoteTier S M) → HaltsRefresh meta t b broker_tier t' → Tells meta t.meta → (l' : List Note) → Left (meta.content t'.meta) l'
+      → Before meta t.meta (λ l. HaltsRefresh (resolved meta) (tier_with t l) b broker_tier (tier_with t' l'))
   halts t b broker_tier t' k is_observable l' left =
       let a = halted_with meta broker_tier.view k.view t.meta t'.meta k.reads is_observable l' left in
       (a.0, a.1, record { view = k.view; reads = a.2; after = ap (λ (u : RemoteTier S M). tier_with u l') k.after })
@@ -145,8 +145,8 @@ module _ {D S M : Type 0} (disk : DiskGhosts D) (store : StoreGhosts S) (meta : 
       (a.0, a.1, record { view = k.view; row = a.2; after = ap (λ (u : RemoteTier S M). tier_with u l') k.after })
 
   copying : (h : PartitionState D) (t : RemoteTier S M) (b : ℕ) (x : Node D) (broker_tier : BrokerTierState) (g : StartSnapshot) (copy : Copied) (next : CopyStep) (command : Command) (outcome : Outcome) (h' : PartitionState D) (t' : RemoteTier S M)
-      → CopyingRow store meta h t b x broker_tier g copy next command outcome h' t' → Tells meta t.meta → (l' : List Note) → Left (meta.content t'.meta) l'
-      → Before meta t.meta (λ l. CopyingRow store (resolved meta) h (tier_with t l) b x broker_tier g copy next command outcome h' (tier_with t' l'))
+      → CopyLaterRow store meta h t b x broker_tier g copy next command outcome h' t' → Tells meta t.meta → (l' : List Note) → Left (meta.content t'.meta) l'
+      → Before meta t.meta (λ l. CopyLaterRow store (resolved meta) h (tier_with t l) b x broker_tier g copy next command outcome h' (tier_with t' l'))
   copying h t b x broker_tier g copy next Copy outcome h' t' (inl (lost, is, tier), same) is_observable l' left = let a = tier_same t t' tier l' left in (a.0, a.1, (inl (lost, is, a.2), same))
   copying h t b x broker_tier g copy next Copy outcome h' t' (inr (keeps, (turn, is, goes)), same) is_observable l' left =
       let a = copies_on h t b broker_tier copy next turn t' goes is_observable l' left in (a.0, a.1, (inr (keeps, (turn, is, a.2)), same))
@@ -188,8 +188,8 @@ module _ {D S M : Type 0} (disk : DiskGhosts D) (store : StoreGhosts S) (meta : 
       let a = searches_remote t b broker_tier (line_of x) asked cursor next turn t' w.0 is_observable l' left in (a.0, a.1, (a.2, w.1))
 
   searching : (p : PartitionId) (h : PartitionState D) (t : RemoteTier S M) (b : ℕ) (x : Node D) (broker_tier : BrokerTierState) (g : StartSnapshot) (ts : ℤ) (cursor : ℕ) (next : Dating) (turn : TimeTurn) (h' : PartitionState D) (t' : RemoteTier S M)
-      → Searches disk store meta p h t b x broker_tier g ts cursor next turn h' t' → Tells meta t.meta → (l' : List Note) → Left (meta.content t'.meta) l'
-      → Before meta t.meta (λ l. Searches disk store (resolved meta) p h (tier_with t l) b x broker_tier g ts cursor next turn h' (tier_with t' l'))
+      → SearchesOn disk store meta p h t b x broker_tier g ts cursor next turn h' t' → Tells meta t.meta → (l' : List Note) → Left (meta.content t'.meta) l'
+      → Before meta t.meta (λ l. SearchesOn disk store (resolved meta) p h (tier_with t l) b x broker_tier g ts cursor next turn h' (tier_with t' l'))
   searching p h t b x broker_tier g ts cursor next turn h' t' k is_observable l' left =
       let at = resumed_at h.registry.start cursor in
       let with_ = resumed_with h.registry.start cursor next in

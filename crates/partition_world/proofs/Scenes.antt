@@ -5,7 +5,7 @@ use Rattle.object_store.specs.declared.store.Store.{Ghosts as StoreGhosts}
 use Rattle.object_store.specs.Content.{Objects}
 use Rattle.meta_log.specs.declared.log.MetaLog.{Ghosts as MetaGhosts}
 use Rattle.segment_meta.specs.declared.note.Note.{Note}
-use Rattle.remote_view.specs.Fold.{Seen as View}
+use Rattle.remote_view.specs.Fold.{EntriesSeen as View}
 use Rattle.plain_log.specs.declared.answer.Answer.{Answer}
 use Rattle.plain_log.specs.declared.command.ActorList.{ActorList}
 use Rattle.plain_log.specs.declared.command.Order.{Order}
@@ -20,7 +20,7 @@ use Rattle.partition_commands.proofs.Shown.{sees_at}
 use Rattle.tier_safe.specs.Scene.{Scene, BrokerTierView, TierTask as InProgressIsSeen, Free}
 use Rattle.tier_safe.specs.Changes.{Moves, Leaves}
 use Rattle.tier_safe.specs.May.{IsChanged}
-use Rattle.tier_safe.specs.Turns.{Shows, after_turn}
+use Rattle.tier_safe.specs.Turns.{ShowsScene, after_turn}
 use Rattle.partition_world.specs.declared.actor_state.Outcome.{Outcome}
 use Rattle.partition_world.specs.declared.actor_state.Outcome.TheVariants.{Answers}
 use Rattle.partition_world.specs.declared.actor_state.ActorState.{ActorState}
@@ -44,7 +44,7 @@ module _ {D S M : Type 0} (disk : DiskGhosts D) (store : StoreGhosts S) (meta : 
     pub at : slice_get w.held.nodes order.broker.0 ≡ Some x
     pub broker_tier : BrokerTierState
     pub broker_tier_at : slice_get w.tier.broker_tiers order.broker.0 ≡ Some broker_tier
-    pub s : log.Seen
+    pub s : log.LogSeen
     pub sees : Sees disk.content w.held c.partition order.broker.0 x s
 
   abbrev pub place_of : (opening : State) (w : Whole D S M) (c : IsCentral disk store meta opening w) (place : ℕ) (l : ActorList) (actor_state : ActorState) (order : Order) → slice_get w.lists place ≡ Some l
@@ -68,7 +68,7 @@ module _ {D S M : Type 0} (disk : DiskGhosts D) (store : StoreGhosts S) (meta : 
     seated = ap (λ (k : List InProgressIsSeen). slice_get k place) c.shows_tier.desk ∙ actor_state_at w.lists w.desk place l actor_state z.list z.actor_state_is
         ∙ ap (λ (o : Option Order). Some (work_of o actor_state.work)) z.next
 
-    pub shows_at : Shows c.scene place order.broker.0 tier_view (work_of (Some order) actor_state.work) (store.content w.tier.store) (meta.content w.tier.meta) z.broker_tier.view
+    pub shows_at : ShowsScene c.scene place order.broker.0 tier_view (work_of (Some order) actor_state.work) (store.content w.tier.store) (meta.content w.tier.meta) z.broker_tier.view
     shows_at = record {
       objects_are = c.shows_tier.objects;
       notes_are = c.shows_tier.notes;

@@ -18,7 +18,7 @@ use Rattle.plain_log.specs.declared.command.Command.TheVariants.{Trim}
 use Rattle.plain_log.specs.declared.state.State.{State}
 use Rattle.registry.specs.declared.registry.Registry.{Registry}
 use Rattle.broker_log.specs.Seen as log
-use Rattle.broker_log.specs.Seen.{Shows, closed_in}
+use Rattle.broker_log.specs.Seen.{ShowsSeen, closed_in}
 use Rattle.broker_log.specs.Turns.{loosened, kept_line}
 use Rattle.laws_partition.specs.declared.start_snapshot.StartSnapshot.{StartSnapshot}
 use Rattle.laws_partition.specs.Partition as seen_held
@@ -78,7 +78,7 @@ greatest_none start (Some back) is = absurd (cc (is))
 
 module _ {D : Type 0} (disk : DiskGhosts D) where
   -- how a trim's second turn is seen, and where its broker's local log starts then
-  pub trim_shown : (h : PartitionState D) (a : seen.SeenPartition) (b : ℕ) (x : Node D) (s : log.Seen) (g : StartSnapshot) (answer : Answer) (h' : PartitionState D) → Sees disk.content h a b x s → (g.stops ≡ x.stops → is_up x ≡ true)
+  pub trim_shown : (h : PartitionState D) (a : seen.SeenPartition) (b : ℕ) (x : Node D) (s : log.LogSeen) (g : StartSnapshot) (answer : Answer) (h' : PartitionState D) → Sees disk.content h a b x s → (g.stops ≡ x.stops → is_up x ≡ true)
       → NodeSound (node_of x s) → DiskRow disk.content disk.control h b x g answer h'
       → Refines disk.content h' (λ c. seen_log.TrimOnRow a b (node_of x s) g answer c × StartGoes (closed_in x.log) b (node_of x s) c)
   trim_shown h a b x s g Stopped h' v k n w = stays disk.content disk.control h a h' _ v.held w.1 ((halted w.0, refl), record { each = λ z there. inl (cc (v.there, there)) })
@@ -123,7 +123,7 @@ module _ {D : Type 0} (disk : DiskGhosts D) where
   trim_shown h a b x s g other h' v k n w = elim w [ ]
 
 -- each offset that a local log lacks then is covered in its broker's view
-pub trim_owed : {D : Type 0} (disk : DiskGhosts D) (h : PartitionState D) (a : seen.SeenPartition) (b : ℕ) (x : Node D) (s : log.Seen) (broker_tier : BrokerTierState) (keep : Keep) (broker_tiers : List BrokerTierState) (c : seen.SeenPartition) → Sees disk.content h a b x s
+pub trim_owed : {D : Type 0} (disk : DiskGhosts D) (h : PartitionState D) (a : seen.SeenPartition) (b : ℕ) (x : Node D) (s : log.LogSeen) (broker_tier : BrokerTierState) (keep : Keep) (broker_tiers : List BrokerTierState) (c : seen.SeenPartition) → Sees disk.content h a b x s
     → slice_get broker_tiers b ≡ Some broker_tier → NodeSound (node_of x s) → TellsEpochs s.line s.batches → IsRightView broker_tier.view → is_up x ≡ true → MayTrim h x broker_tier keep → StartGoes (closed_in x.log) b (node_of x s) c
     → OwesTier a b (node_of x s) Trim (broker_tiers_seen broker_tiers) c
 trim_owed disk h a b x s broker_tier keep broker_tiers c v at n is_observable right up may goes = λ y one there beside.
@@ -159,7 +159,7 @@ same_owes h b x broker_tiers h' at is = λ y broker_tier there beside.
 
 module _ {D : Type 0} (disk : DiskGhosts D) where
   -- what a trim owes at its second turn
-  pub trim_owes_on : (h : PartitionState D) (a : seen.SeenPartition) (b : ℕ) (x : Node D) (s : log.Seen) (g : StartSnapshot) (broker_tier : BrokerTierState) (keep : Keep) (broker_tiers : List BrokerTierState) (answer : Answer) (h' : PartitionState D) (c : seen.SeenPartition) → Sees disk.content h a b x s
+  pub trim_owes_on : (h : PartitionState D) (a : seen.SeenPartition) (b : ℕ) (x : Node D) (s : log.LogSeen) (g : StartSnapshot) (broker_tier : BrokerTierState) (keep : Keep) (broker_tiers : List BrokerTierState) (answer : Answer) (h' : PartitionState D) (c : seen.SeenPartition) → Sees disk.content h a b x s
       → slice_get broker_tiers b ≡ Some broker_tier → NodeSound (node_of x s) → TellsEpochs s.line s.batches → IsRightView broker_tier.view → DiskRow disk.content disk.control h b x g answer h' → TrimsBy disk h x broker_tier keep answer
       → seen_log.TrimOnRow a b (node_of x s) g answer c → StartGoes (closed_in x.log) b (node_of x s) c → OwesTier a b (node_of x s) Trim (broker_tiers_seen broker_tiers) c
   trim_owes_on h a b x s g broker_tier keep broker_tiers Stopped h' c v at n is_observable right w by row goes = same_owes a b (node_of x s) (broker_tiers_seen broker_tiers) c v.there row.1

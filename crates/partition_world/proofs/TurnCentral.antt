@@ -8,7 +8,7 @@ use Rattle.object_store.specs.declared.store.Store.{Ghosts as StoreGhosts}
 use Rattle.object_store.specs.Content.{Objects}
 use Rattle.meta_log.specs.declared.log.MetaLog.{Ghosts as MetaGhosts}
 use Rattle.segment_meta.specs.declared.note.Note.{Note}
-use Rattle.remote_view.specs.Fold.{Seen as View}
+use Rattle.remote_view.specs.Fold.{EntriesSeen as View}
 use Rattle.plain_log.specs.declared.answer.Answer.{Answer}
 use Rattle.plain_log.specs.declared.answer.Answer.TheVariants.{Down, NotLeader, MetaFault}
 use Rattle.plain_log.specs.declared.command.Command.{Command}
@@ -27,7 +27,7 @@ use Rattle.partition_commands.specs.Partition.{node_of, ShowsPartition}
 use Rattle.partition_commands.proofs.OwnRefined.{notes_shown}
 use Rattle.tier_safe.specs.Scene.{Scene, BrokerTierView, TierTask as InProgressIsSeen, Free}
 use Rattle.tier_safe.specs.May.{IsChanged}
-use Rattle.tier_safe.specs.Turns.{Shows}
+use Rattle.tier_safe.specs.Turns.{ShowsScene}
 use Rattle.tier_safe.proofs.Turning.{refreshes}
 use Rattle.partition_world.specs.declared.actor_state.Outcome.{Outcome}
 use Rattle.partition_world.specs.declared.actor_state.Outcome.TheVariants.{Answers, Begins}
@@ -35,7 +35,7 @@ use Rattle.partition_world.specs.declared.actor_state.InProgress.{InProgress}
 use Rattle.partition_world.specs.declared.actor_state.InProgress.TheVariants.{Idle, Noted}
 use Rattle.partition_world.specs.declared.tier.RemoteTier.{RemoteTier}
 use Rattle.partition_world.specs.ActorStates.{recorded_in, outcome_of, actor_state_after, actor_state_seen, desk_seen, told_of}
-use Rattle.partition_world.specs.Tier.{Refreshes}
+use Rattle.partition_world.specs.Tier.{RefreshesBroker}
 use Rattle.partition_world.specs.Central.{IsCentral, ShowsTier, work_of, begun_of}
 use Rattle.partition_world.specs.Turn.{IsTurn}
 use Rattle.partition_world.specs.TurnsOfCopy.{LeadersFirstRow}
@@ -115,10 +115,10 @@ module _ {D S M : Type 0} (disk : DiskGhosts D) (store : StoreGhosts S) (meta : 
         ap actor_state_shows is ∙ (ap (λ (o : Option Order). work_of o (Noted g)) z.next ∙ ap (begun_of t.order.broker.0 g) is_command)
 
     -- a first turn that refreshes the broker's view, of a command that the tier sees nothing of yet
-    pub begins : t.actor_state.work ≡ Idle → (g : StartSnapshot) → outcome ≡ Begins g → may_raise None command (turned.Begins g) ≡ false → begun_of t.order.broker.0 g command ≡ Free → SeenRow Idle (turned.Begins g) → Refreshes meta w.tier t.order.broker.0 z.broker_tier w'.tier → w'.held ≡ w.held
+    pub begins : t.actor_state.work ≡ Idle → (g : StartSnapshot) → outcome ≡ Begins g → may_raise None command (turned.Begins g) ≡ false → begun_of t.order.broker.0 g command ≡ Free → SeenRow Idle (turned.Begins g) → RefreshesBroker meta w.tier t.order.broker.0 z.broker_tier w'.tier → w'.held ≡ w.held
         → IsCentral disk store meta opening w'
     begins idle g is low free row r same =
-        let at = subst (λ (k : InProgressIsSeen). Shows c.scene t.place t.order.broker.0 here k (store.content w.tier.store) (meta.content w.tier.meta) z.broker_tier.view) (ap (work_of (Some t.order)) idle)
+        let at = subst (λ (k : InProgressIsSeen). ShowsScene c.scene t.place t.order.broker.0 here k (store.content w.tier.store) (meta.content w.tier.meta) z.broker_tier.view) (ap (work_of (Some t.order)) idle)
         (shows_at disk store meta opening w c t.place t.list t.actor_state t.order z) in
         let k = refreshes store.content store.control meta.content meta.control w.tier.meta r.view c.scene c.central.plain t.place t.order.broker.0 here Free (store.content w.tier.store) at
         (few_now disk store meta opening w c) c.tier r.reads.view in

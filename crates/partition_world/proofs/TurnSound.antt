@@ -17,7 +17,7 @@ use Rattle.rebuild_task.specs.declared.turn.RebuildStep.TheVariants.{Epochs, Res
 use Rattle.tier_fetch.specs.declared.turn.FetchStep.{FetchStep as Search}
 use Rattle.tier_fetch.specs.declared.turn.FetchStep.TheVariants.{Refresh}
 use Rattle.tier_fetch.specs.declared.turn.FetchTurn.{FetchTurn}
-use Rattle.time_find.specs.Turns.{OwnRow as OwnSearchRow, ReadRow as SearchReadRow}
+use Rattle.time_find.specs.Turns.{LocalSearchRow as OwnSearchRow, ReadLocalRow as SearchReadRow}
 use Rattle.time_find.specs.declared.turn.Asked.{Asked}
 use Rattle.time_find.specs.declared.turn.SearchStep.{SearchStep as Dating}
 use Rattle.time_find.specs.declared.turn.SearchStep.TheVariants.{Seek}
@@ -30,7 +30,7 @@ use Rattle.plain_log.specs.declared.command.Command.{Command}
 use Rattle.plain_log.specs.declared.command.Command.TheVariants.{Copy, Trim, Expire, Fetch, Join, Raise, Offset}
 use Rattle.plain_log.specs.declared.command.Which.TheVariants.{LatestTiered, At}
 use Rattle.plain_log.specs.declared.command.Config.{Config}
-use Rattle.broker_log.specs.Seen.{Kept as KeptLog, Stays}
+use Rattle.broker_log.specs.Seen.{LogState as KeptLog, LogStays}
 use Rattle.laws_partition.specs.declared.start_snapshot.StartSnapshot.{StartSnapshot}
 use Rattle.laws_partition.specs.declared.start_snapshot.Turned.TheVariants as turned
 use Rattle.laws_partition.proofs.BoolTests.{some_of}
@@ -38,7 +38,7 @@ use Rattle.registry.specs.declared.registry.Registry.{Registry}
 use Rattle.partition_commands.specs.declared.partition_state.Node.{Node}
 use Rattle.partition_commands.specs.declared.partition_state.PartitionState.{PartitionState}
 use Rattle.partition_commands.specs.Partition.{is_up, line_of, local_of}
-use Rattle.partition_commands.specs.Sound.{NodeSound, SoundPartition}
+use Rattle.partition_commands.specs.Sound.{LeaderSound, SoundPartition}
 use Rattle.partition_commands.proofs.SoundLaw.{same, put_is, first_sound, later_sound, stays_held_sound}
 use Rattle.partition_world.specs.declared.tier.BrokerTierState.{BrokerTierState}
 use Rattle.partition_world.specs.declared.tier.RemoteTier.{RemoteTier}
@@ -47,13 +47,13 @@ use Rattle.partition_world.specs.declared.actor_state.Outcome.TheVariants.{Answe
 use Rattle.partition_world.specs.declared.actor_state.InProgress.{InProgress}
 use Rattle.partition_world.specs.declared.actor_state.InProgress.TheVariants.{Idle, Noted, Copies, Seeks, Dates, Expires, Rebuilds}
 use Rattle.partition_world.specs.Tier.{AtBrokerTier}
-use Rattle.partition_world.specs.TurnsOfCopy.{ReadsLog, ReadRow, ChooseRow, LeadersFirstRow, CopyFirstRow}
+use Rattle.partition_world.specs.TurnsOfCopy.{ReadsLocalLog, ReadSegmentRow, ChooseRow, LeadersFirstRow, CopyFirstRow}
 use Rattle.partition_world.specs.TurnsOfFetch.{FetchOnRow, GoesOnFetch}
-use Rattle.partition_world.specs.TurnsOfDate.{SearchRow, Searches, DateOnRow, asked_of, is_own, resumed_at, resumed_with}
-use Rattle.partition_world.specs.TurnsOfExpiry.{RaiseRow, ExpireOnRow, ExpiresBy}
+use Rattle.partition_world.specs.TurnsOfDate.{SearchRow, SearchesOn, DateOnRow, asked_of, is_own, resumed_at, resumed_with}
+use Rattle.partition_world.specs.TurnsOfExpiry.{ExpiryRaiseRow, ExpireOnRow, ExpiresBy}
 use Rattle.partition_world.specs.TurnsOfRebuild.{with_line, RefreshedRow}
 use Rattle.partition_world.specs.TurnsOfTrim.{TrimFirstRow, TrimOnRow}
-use Rattle.partition_world.specs.Turns.{ContinuedRow, CopyingRow, SeekingRow, DatingRow, DeletingRow, JoinSecondRow, RebuildingRow, BeginRow, Row, TurnRow}
+use Rattle.partition_world.specs.Turns.{ContinuedRow, CopyLaterRow, SeekingRow, DatingRow, DeletingRow, JoinSecondRow, RebuildingRow, BeginRow, Row, TurnRow}
 use Rattle.partition_world.proofs.Begins.{row_of}
 use Rattle.partition_world.proofs.Halting.{HaltsSome, StaysSome}
 
@@ -65,7 +65,7 @@ module _ {D : Type 0} where
     pub up : is_up x' ≡ is_up x
     pub line : line_of x' ≡ line_of x
 
-  alike_sound : {r : Registry} (x x' : Node D) → NodeSound r x → Alike x x' → NodeSound r x'
+  alike_sound : {r : Registry} (x x' : Node D) → LeaderSound r x → Alike x x' → LeaderSound r x'
   alike_sound x x' s k = record {
     up = λ e is. k.up ∙ s.up e (sym k.role ∙ is);
     leads = λ e is. ap last_epoch k.line ∙ s.leads e (sym k.role ∙ is);
@@ -77,7 +77,7 @@ module _ {D : Type 0} where
 
 module _ {D : Type 0} (disk : DiskGhosts D) where
   -- a node whose log was read
-  read_alike : (x x' : Node D) → ReadsLog disk x x' → Alike x x'
+  read_alike : (x x' : Node D) → ReadsLocalLog disk x x' → Alike x x'
   read_alike x x' r = rw r.after (record {
     role = refl;
     known_high_watermark = refl;
@@ -85,7 +85,7 @@ module _ {D : Type 0} (disk : DiskGhosts D) where
     line = ap (λ (o : Option (List (ℕ × ℕ))). unwrap_or o []) r.stays.line;
   })
 
-  next_alike : (p : PartitionId) (b : ℕ) (x : Node D) (broker_tier : BrokerTierState) (offset : ℕ) (outcome : Outcome) (x' : Node D) (broker_tier' : BrokerTierState) → ReadRow disk p b x broker_tier offset outcome x' broker_tier' → Alike x x'
+  next_alike : (p : PartitionId) (b : ℕ) (x : Node D) (broker_tier : BrokerTierState) (offset : ℕ) (outcome : Outcome) (x' : Node D) (broker_tier' : BrokerTierState) → ReadSegmentRow disk p b x broker_tier offset outcome x' broker_tier' → Alike x x'
   next_alike p b x broker_tier offset (Answers DiskFault) x' broker_tier' w = read_alike x x' w.0.reads
   next_alike p b x broker_tier offset (Answers (Damaged (File name) at)) x' broker_tier' w = read_alike x x' w.0.reads
   next_alike p b x broker_tier offset (Chose copy) x' broker_tier' w = read_alike x x' w.0.reads
@@ -93,7 +93,7 @@ module _ {D : Type 0} (disk : DiskGhosts D) where
 
   -- a node whose log a search read
   search_stays : (old : KeptLog D) (asked : Asked) (at : ℕ) (turn : TimeTurn) (new : KeptLog D)
-      → SearchReadRow disk.content disk.control old asked at turn new → Stays disk.content old new
+      → SearchReadRow disk.content disk.control old asked at turn new → LogStays disk.content old new
   search_stays old asked at (dating.Ends DiskFault) new w = w.0
   search_stays old asked at (dating.Ends (Damaged (File name) place)) new w = w.misreads.stays
   search_stays old asked at turn new w = w.reads.stays
@@ -120,7 +120,7 @@ module _ {D S M : Type 0} (disk : DiskGhosts D) (store : StoreGhosts S) (meta : 
   trim_sound n h b x broker_tier g keep other h' at s w = elim w [ ]
 
   -- an expiry raises the log start offset as the command does
-  raise_sound : (n : ℕ) (h : PartitionState D) (b : ℕ) (x : Node D) (start : ℕ) (answer : Answer) (h' : PartitionState D) → slice_get h.nodes b ≡ Some x → is_up x ≡ true → SoundPartition n h → RaiseRow h x.role start answer h'
+  raise_sound : (n : ℕ) (h : PartitionState D) (b : ℕ) (x : Node D) (start : ℕ) (answer : Answer) (h' : PartitionState D) → slice_get h.nodes b ≡ Some x → is_up x ≡ true → SoundPartition n h → ExpiryRaiseRow h x.role start answer h'
       → SoundPartition n h'
   raise_sound n h b x start (StaleEpoch e) h' at up s w = first_sound disk.content disk.control n h b x (Raise start) (turned.Answers (StaleEpoch e)) h' at s (up, w)
   raise_sound n h b x start (Raised to) h' at up s w = first_sound disk.content disk.control n h b x (Raise start) (turned.Answers (OkAt to)) h' at s (up, w)
@@ -149,7 +149,7 @@ module _ {D S M : Type 0} (disk : DiskGhosts D) (store : StoreGhosts S) (meta : 
 
   searches_sound : (n : ℕ) (p : PartitionId) (h : PartitionState D) (t : RemoteTier S M) (b : ℕ) (x : Node D) (broker_tier : BrokerTierState) (g : StartSnapshot) (ts : ℤ)
       (cursor : ℕ) (next : Dating) (turn : TimeTurn) (h' : PartitionState D) (t' : RemoteTier S M) → slice_get h.nodes b ≡ Some x → SoundPartition n h
-      → Searches disk store meta p h t b x broker_tier g ts cursor next turn h' t' → SoundPartition n h'
+      → SearchesOn disk store meta p h t b x broker_tier g ts cursor next turn h' t' → SoundPartition n h'
   searches_sound n p h t b x broker_tier g ts cursor next turn h' t' at s w =
       let on = resumed_at h.registry.start cursor in
       let with = resumed_with h.registry.start cursor next in
@@ -190,7 +190,7 @@ module _ {D S M : Type 0} (disk : DiskGhosts D) (store : StoreGhosts S) (meta : 
   begins_sound n h t b x broker_tier other outcome h' t' at s w = first_sound disk.content disk.control n h b x other w.0.0 h' at s w.0.2
 
   copying_sound : (n : ℕ) (h : PartitionState D) (t : RemoteTier S M) (b : ℕ) (x : Node D) (broker_tier : BrokerTierState) (g : StartSnapshot) (copy : Copied) (next : CopyStep) (command : Command) (outcome : Outcome) (h' : PartitionState D) (t' : RemoteTier S M)
-      → SoundPartition n h → CopyingRow store meta h t b x broker_tier g copy next command outcome h' t' → SoundPartition n h'
+      → SoundPartition n h → CopyLaterRow store meta h t b x broker_tier g copy next command outcome h' t' → SoundPartition n h'
   copying_sound n h t b x broker_tier g copy next Copy outcome h' t' s w = same n h h' w.1 s
   copying_sound n h t b x broker_tier g copy next other outcome h' t' s w = elim w [ ]
 
@@ -272,7 +272,7 @@ module _ {D S M : Type 0} (disk : DiskGhosts D) (store : StoreGhosts S) (meta : 
 
   searches_broker_tiers : (p : PartitionId) (h : PartitionState D) (t : RemoteTier S M) (b : ℕ) (x : Node D) (broker_tier : BrokerTierState) (g : StartSnapshot) (ts : ℤ) (cursor : ℕ)
       (next : Dating) (turn : TimeTurn) (h' : PartitionState D) (t' : RemoteTier S M)
-      → Searches disk store meta p h t b x broker_tier g ts cursor next turn h' t' → length t'.broker_tiers ≡ length t.broker_tiers
+      → SearchesOn disk store meta p h t b x broker_tier g ts cursor next turn h' t' → length t'.broker_tiers ≡ length t.broker_tiers
   searches_broker_tiers p h t b x broker_tier g ts cursor next turn h' t' w =
       let on = resumed_at h.registry.start cursor in
       let with = resumed_with h.registry.start cursor next in
@@ -342,7 +342,7 @@ module _ {D S M : Type 0} (disk : DiskGhosts D) (store : StoreGhosts S) (meta : 
   begins_broker_tiers h t b x broker_tier other outcome h' t' w = ap (λ (k : RemoteTier S M). length k.broker_tiers) w.1
 
   copying_broker_tiers : (h : PartitionState D) (t : RemoteTier S M) (b : ℕ) (x : Node D) (broker_tier : BrokerTierState) (g : StartSnapshot) (copy : Copied) (next : CopyStep) (command : Command) (outcome : Outcome) (h' : PartitionState D) (t' : RemoteTier S M)
-      → CopyingRow store meta h t b x broker_tier g copy next command outcome h' t' → length t'.broker_tiers ≡ length t.broker_tiers
+      → CopyLaterRow store meta h t b x broker_tier g copy next command outcome h' t' → length t'.broker_tiers ≡ length t.broker_tiers
   copying_broker_tiers h t b x broker_tier g copy next Copy outcome h' t' (inl lost, same) = ap (λ (k : RemoteTier S M). length k.broker_tiers) lost.2
   copying_broker_tiers h t b x broker_tier g copy next Copy outcome h' t' (inr (keeps, (turn, is, goes)), same) = broker_tiers_put t b (record broker_tier { view = goes.view }) t' (ap (λ (k : RemoteTier S M). k.broker_tiers) goes.after)
   copying_broker_tiers h t b x broker_tier g copy next other outcome h' t' w = elim w [ ]

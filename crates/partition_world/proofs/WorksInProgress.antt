@@ -14,7 +14,7 @@ use Rattle.tier_fetch.specs.declared.turn.FetchStep.{FetchStep as Search}
 use Rattle.time_find.specs.declared.turn.SearchStep.{SearchStep as Dating}
 use Rattle.time_find.specs.declared.turn.SearchStep.TheVariants.{Seek}
 use Rattle.time_find.specs.declared.turn.TimeTurn.TheVariants as dating
-use Rattle.time_find.specs.Turns.{IsSet, GoesOn}
+use Rattle.time_find.specs.Turns.{IsSet, SearchContinues}
 use Rattle.plain_log.specs.declared.command.ActorList.{ActorList}
 use Rattle.plain_log.specs.declared.command.Command.{Command}
 use Rattle.plain_log.specs.declared.command.Command.TheVariants.{Join, Follow, Copy, Trim, Expire, Fetch, Offset}
@@ -36,7 +36,7 @@ use Rattle.partition_world.specs.declared.actor_state.InProgress.{InProgress}
 use Rattle.partition_world.specs.declared.actor_state.InProgress.TheVariants.{Idle, Noted, Copies, Seeks, Dates, Expires, Rebuilds}
 use Rattle.partition_commands.specs.Turns.{takes_memory, FirstRow}
 use Rattle.partition_world.specs.ActorStates.{outcome_of, chosen, moved, sought, dated, expired_segment, deleting, rebuilding, actor_state_after}
-use Rattle.partition_world.specs.Sound.{MayGoOn, SeeksBy, DatesBy, IsProgressOf}
+use Rattle.partition_world.specs.Sound.{HasSecondTurn, SeeksBy, DatesBy, IsProgressOf}
 use Rattle.partition_world.specs.Turns.{BeginRow, ContinuedRow, SeekingRow, DatingRow, Row, TurnRow}
 use Rattle.partition_world.proofs.Begins.{row_of, begins_idle}
 
@@ -95,12 +95,12 @@ deleting_for command (Expires g segment before) next k = k
 deleting_for command (Rebuilds g before) next k = k
 
 -- a search that continues has such a turn next as its cursor needs
-set_of : (cursor at : ℕ) (next : Dating) → GoesOn cursor (dating.Goes at next) → IsSet at next
+set_of : (cursor at : ℕ) (next : Dating) → SearchContinues cursor (dating.Goes at next) → IsSet at next
 set_of cursor at Seek goes = tt
 set_of cursor at next goes = goes.1
 
 module _ {D S M : Type 0} (disk : DiskGhosts D) (store : StoreGhosts S) (meta : MetaGhosts M) where
-  own_for : (h : PartitionState D) (b : ℕ) (x : Node D) (command : Command) (turn : Turned) (g : StartSnapshot) (h' : PartitionState D) → Begins g ≡ outcome_of turn → FirstRow disk.content disk.control h b x command turn h' → MayGoOn command g
+  own_for : (h : PartitionState D) (b : ℕ) (x : Node D) (command : Command) (turn : Turned) (g : StartSnapshot) (h' : PartitionState D) → Begins g ≡ outcome_of turn → FirstRow disk.content disk.control h b x command turn h' → HasSecondTurn command g
   own_for h b x command (turned.Answers answer) g h' is row = absurd (cc (is))
   own_for h b x Join (turned.Begins f) g h' is row = tt
   own_for h b x (Follow limit) (turned.Begins f) g h' is row = tt
@@ -112,7 +112,7 @@ module _ {D S M : Type 0} (disk : DiskGhosts D) (store : StoreGhosts S) (meta : 
 
   -- a command that begins has a second turn
   begun_for : (h : PartitionState D) (t : RemoteTier S M) (b : ℕ) (x : Node D) (broker_tier : BrokerTierState) (command : Command) (g : StartSnapshot) (h' : PartitionState D) (t' : RemoteTier S M)
-      → BeginRow disk store meta h t b x broker_tier command (Begins g) h' t' → MayGoOn command g
+      → BeginRow disk store meta h t b x broker_tier command (Begins g) h' t' → HasSecondTurn command g
   begun_for h t b x broker_tier Join g h' t' w = tt
   begun_for h t b x broker_tier (Follow limit) g h' t' w = tt
   begun_for h t b x broker_tier Copy g h' t' w = tt
@@ -277,7 +277,7 @@ module _ {D S M : Type 0} (disk : DiskGhosts D) (store : StoreGhosts S) (meta : 
       let same : order ≡ later = cc (at, to) in
       let idle = begins_idle disk store meta p config h t order.broker.0 actor_state.work order.command g h' t' row in
       let r = row_of disk store meta p config h t order.broker.0 actor_state.work order.command (Begins g) h' t' row in
-      subst (λ (o : Order). MayGoOn o.command g) same (begun_for h t order.broker.0 r.x r.broker_tier order.command g h' t'
+      subst (λ (o : Order). HasSecondTurn o.command g) same (begun_for h t order.broker.0 r.x r.broker_tier order.command g h' t'
       (subst (λ (w : InProgress). Row disk store meta p config h t order.broker.0 r.x r.broker_tier w order.command (Begins g) h' t') idle r.row))
   work_after p config h t h' t' l actor_state order (Chose copy) later at k row to =
       let same : order ≡ later = cc (at, to) in

@@ -11,7 +11,7 @@ use Rattle.plain_log.specs.declared.command.Order.{Order}
 use Rattle.plain_log.specs.Orders.{AreRising, IsListFor, IsOrderFor}
 use Rattle.laws_partition.proofs.Lists.{turns_some, turns_less, one_list}
 use Rattle.partition_commands.specs.declared.partition_state.PartitionState.{PartitionState}
-use Rattle.partition_world.specs.Sound.{AreInProgress, IsProgressOf, IsSound}
+use Rattle.partition_world.specs.Sound.{AreInProgress, IsProgressOf, CanBeRun}
 use Rattle.partition_world.specs.Whole.{Whole}
 use Rattle.tier_base.specs.declared.names.PartitionId.{PartitionId}
 use Rattle.disk_model.specs.declared.disk.Disk.{Ghosts as DiskGhosts}
@@ -114,15 +114,15 @@ module _ {D S M : Type 0} (disk : DiskGhosts D) (store : StoreGhosts S) (meta : 
   all_at : {A : Type 0} (P : A → Type 0) (xs : List A) (i : ℕ) (x : A) → All P xs → slice_get xs i ≡ Some x → P x
   all_at P xs i x h at = subst P (get_or_from_slice_get xs i x x at) (h i x (slice_get_within xs i x at))
 
-  pub list_at : (config : Config) (lists : List ActorList) (h : PartitionState D) (broker_tiers : List BrokerTierState) (desk : List ActorState) (free place : ℕ) (l : ActorList) → IsSound config lists h broker_tiers desk free → slice_get lists place ≡ Some l → IsListFor config l
+  pub list_at : (config : Config) (lists : List ActorList) (h : PartitionState D) (broker_tiers : List BrokerTierState) (desk : List ActorState) (free place : ℕ) (l : ActorList) → CanBeRun config lists h broker_tiers desk free → slice_get lists place ≡ Some l → IsListFor config l
   list_at config lists h broker_tiers desk free place l s at = all_at (IsListFor config) lists place l s.fit.each at
 
-  pub order_at : (config : Config) (lists : List ActorList) (h : PartitionState D) (broker_tiers : List BrokerTierState) (desk : List ActorState) (free place n : ℕ) (l : ActorList) (order : Order) → IsSound config lists h broker_tiers desk free
+  pub order_at : (config : Config) (lists : List ActorList) (h : PartitionState D) (broker_tiers : List BrokerTierState) (desk : List ActorState) (free place n : ℕ) (l : ActorList) (order : Order) → CanBeRun config lists h broker_tiers desk free
       → slice_get lists place ≡ Some l → slice_get l.orders n ≡ Some order → IsOrderFor config order
   order_at config lists h broker_tiers desk free place n l order s at to = all_at (IsOrderFor config) l.orders n order (list_at config lists h broker_tiers desk free place l s at).orders to
 
   -- there is room for the turn's entry
-  pub room_at : (config : Config) (lists : List ActorList) (h : PartitionState D) (broker_tiers : List BrokerTierState) (desk : List ActorState) (free place : ℕ) (l : ActorList) (actor_state : ActorState) → IsSound config lists h broker_tiers desk free
+  pub room_at : (config : Config) (lists : List ActorList) (h : PartitionState D) (broker_tiers : List BrokerTierState) (desk : List ActorState) (free place : ℕ) (l : ActorList) (actor_state : ActorState) → CanBeRun config lists h broker_tiers desk free
       → slice_get lists place ≡ Some l → slice_get desk place ≡ Some actor_state → actor_state.number < length l.orders → 0 < free
   room_at config lists h broker_tiers desk free place l actor_state s at to lt = let some = turns_some lists (desk_seen desk) place l (actor_state_seen actor_state) at (map_get actor_state_seen desk place actor_state to) lt in omega (arith, some, s.room)
 
@@ -185,9 +185,9 @@ module _ {D S M : Type 0} (disk : DiskGhosts D) (store : StoreGhosts S) (meta : 
 
   -- the world after the turn
   pub sound_after : (config : Config) (lists : List ActorList) (p : PartitionId) (h : PartitionState D) (t : RemoteTier S M) (h' : PartitionState D) (t' : RemoteTier S M) (desk desk' : List ActorState) (free free' place : ℕ) (l : ActorList) (actor_state : ActorState) (order : Order) (outcome : Outcome)
-      → IsSound config lists h t.broker_tiers desk free → slice_get lists place ≡ Some l → slice_get desk place ≡ Some actor_state → slice_get l.orders actor_state.number ≡ Some order → actor_state.number < length l.orders
+      → CanBeRun config lists h t.broker_tiers desk free → slice_get lists place ≡ Some l → slice_get desk place ≡ Some actor_state → slice_get l.orders actor_state.number ≡ Some order → actor_state.number < length l.orders
       → TurnRow disk store meta p config h t order.broker.0 actor_state.work order.command outcome h' t' → desk' ≡ slice_set desk place (actor_state_after actor_state outcome)
-      → free' ≡ free - told_count outcome → IsSound config lists h' t'.broker_tiers desk' free'
+      → free' ≡ free - told_count outcome → CanBeRun config lists h' t'.broker_tiers desk' free'
   sound_after config lists p h t h' t' desk desk' free free' place l actor_state order outcome s at to next lt row desk_is free_is =
       let less = entries_after lists p config h t h' t' desk place l actor_state order outcome at to lt row in
       record {
@@ -201,8 +201,8 @@ module _ {D S M : Type 0} (disk : DiskGhosts D) (store : StoreGhosts S) (meta : 
       }
 
   -- the world where there was no memory for one
-  pub sound_after_none : (config : Config) (lists : List ActorList) (h : PartitionState D) (t : RemoteTier S M) (b : ℕ) (h' : PartitionState D) (t' : RemoteTier S M) (desk : List ActorState) (free : ℕ) → IsSound config lists h t.broker_tiers desk free
-      → StaysSome disk store meta h t b h' t' → IsSound config lists h' t'.broker_tiers desk free
+  pub sound_after_none : (config : Config) (lists : List ActorList) (h : PartitionState D) (t : RemoteTier S M) (b : ℕ) (h' : PartitionState D) (t' : RemoteTier S M) (desk : List ActorState) (free : ℕ) → CanBeRun config lists h t.broker_tiers desk free
+      → StaysSome disk store meta h t b h' t' → CanBeRun config lists h' t'.broker_tiers desk free
   sound_after_none config lists h t b h' t' desk free s k = record {
     config_fits = s.config_fits;
     fit = s.fit;
@@ -234,7 +234,7 @@ module _ {D S M : Type 0} (disk : DiskGhosts D) (store : StoreGhosts S) (meta : 
       omega (arith, le, ap (λ (k : ActorList). length k.orders) one, ap (λ (k : ActorState). k.number) two)
 
   -- an actor whose list has come so far has answered
-  pub answered_at : (w : Whole D S M) (a number place : ℕ) (l : ActorList) (actor_state : ActorState) → IsSound w.config w.lists w.held w.tier.broker_tiers w.desk w.journal.room → IsActorAt w a place l actor_state
+  pub answered_at : (w : Whole D S M) (a number place : ℕ) (l : ActorList) (actor_state : ActorState) → CanBeRun w.config w.lists w.held w.tier.broker_tiers w.desk w.journal.room → IsActorAt w a place l actor_state
       → ◌⊎◌ (number ≤ actor_state.number) (length l.orders ≤ actor_state.number) → HasAnswered w a number
   answered_at w a number place l actor_state sound s done = λ place2 l2 seat2 s2.
       let same : place2 ≡ place = one_list w.lists place2 place l2 l sound.fit.rising s2.list s.list (s2.actor ∙ sym s.actor) in
@@ -248,11 +248,11 @@ module _ {D S M : Type 0} (disk : DiskGhosts D) (store : StoreGhosts S) (meta : 
   is_le : (a b : ℕ) → a ≤ b → IsTrue (nat_le a b)
   is_le a b le = le-leb a b le
 
-  pub answers_now : (w : Whole D S M) (a number place : ℕ) (l : ActorList) (actor_state : ActorState) → IsSound w.config w.lists w.held w.tier.broker_tiers w.desk w.journal.room → IsActorAt w a place l actor_state → number ≤ actor_state.number
+  pub answers_now : (w : Whole D S M) (a number place : ℕ) (l : ActorList) (actor_state : ActorState) → CanBeRun w.config w.lists w.held w.tier.broker_tiers w.desk w.journal.room → IsActorAt w a place l actor_state → number ≤ actor_state.number
       → (IsTrue (nat_le number actor_state.number) → HasAnswered w a number) × (HasAnswered w a number → IsTrue (nat_le number actor_state.number))
   answers_now w a number place l actor_state sound s le = (λ t. answered_at w a number place l actor_state sound s (inl le), λ h. is_le number actor_state.number le)
 
-  pub answers_so_far : (w : Whole D S M) (a number place : ℕ) (l : ActorList) (actor_state : ActorState) → IsSound w.config w.lists w.held w.tier.broker_tiers w.desk w.journal.room → IsActorAt w a place l actor_state
+  pub answers_so_far : (w : Whole D S M) (a number place : ℕ) (l : ActorList) (actor_state : ActorState) → CanBeRun w.config w.lists w.held w.tier.broker_tiers w.desk w.journal.room → IsActorAt w a place l actor_state
       → (number ≤ actor_state.number → ⊥)
       → (IsTrue (nat_le (length l.orders) actor_state.number) → HasAnswered w a number) × (HasAnswered w a number → IsTrue (nat_le (length l.orders) actor_state.number))
   answers_so_far w a number place l actor_state sound s more = (

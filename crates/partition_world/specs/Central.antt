@@ -127,14 +127,15 @@ HasGone p b g (Offset (At ts)) cursor next =
 HasGone p b g command cursor next = Unit {0}
 
 -- where an actor's state has that of a command that the order asks for; and what was found is for its cursor
-abbrev pub IsDated : State → Option Order → InProgress → Type 0
-IsDated p (Some order) (Dates g cursor next) = IsSet cursor next × HasGone p order.broker.0 g order.command cursor next
-IsDated p order work = Unit {0}
+abbrev pub IsSearchState : State → Option Order → InProgress → Type 0
+IsSearchState p (Some order) (Dates g cursor next) =
+    IsSet cursor next × HasGone p order.broker.0 g order.command cursor next
+IsSearchState p order work = Unit {0}
 
 -- at each actor's state
 abbrev pub AreDated : State → List ActorList → List ActorState → Type 0
 AreDated p lists desk = (place : ℕ) (l : ActorList) (actor_state : ActorState) → slice_get lists place ≡ Some l → slice_get desk place ≡ Some actor_state
-    → IsDated p (slice_get l.orders actor_state.number) actor_state.work
+    → IsSearchState p (slice_get l.orders actor_state.number) actor_state.work
 
 module _ {D S M : Type 0} (store : StoreGhosts S) (meta : MetaGhosts M) where
   -- the remote tier is seen so, beside the partition

@@ -18,7 +18,7 @@ use Rattle.plain_log.specs.declared.command.Config.{Config}
 use Rattle.plain_log.specs.declared.state.State.{State}
 use Rattle.plain_log.specs.Orders.{AreListsFor}
 use Rattle.plain_log.specs.Safe.{PlainSafe}
-use Rattle.broker_log.specs.Seen.{Seen}
+use Rattle.broker_log.specs.Seen.{LogSeen}
 use Rattle.laws_partition.specs.Central.{LinesStand}
 use Rattle.laws_partition.specs.Partition.{broker_of}
 use Rattle.laws_tier_turns.specs.BrokerTiers.{tier_views_of, fresh_broker_tier as fresh_seen}
@@ -31,7 +31,7 @@ use Rattle.partition_world.specs.Tier.{IsArmedTier}
 use Rattle.partition_world.specs.Whole.{Whole}
 
 -- the tier of a partition that starts again: no broker knows anything of it, and nothing is on the desk
-abbrev pub scene_back : PartitionId → Objects → List Note → List Seen → Scene
+abbrev pub scene_back : PartitionId → Objects → List Note → List LogSeen → Scene
 scene_back partition objects notes logs = record {
   partition = partition;
   objects = objects;
@@ -59,7 +59,7 @@ module _ {D S M : Type 0} (disk : DiskGhosts D) (store : StoreGhosts S) (meta : 
   pub record StandCold (partition : PartitionId) (registry : Registry) (disks : List D) (s : S) (m : M) (p : State) (l : List Note)
       : Type 0 where
     -- how the brokers' logs are seen
-    pub logs : List Seen
+    pub logs : List LogSeen
     pub shows : ShowDisks disk.content disks logs
     pub safe : PlainSafe p
     pub registry_is : p.registry ≡ registry

@@ -13,7 +13,7 @@ use Rattle.plain_log.specs.declared.command.Config.{Config}
 use Rattle.plain_log.specs.declared.journal.JournalEntry.{JournalEntry}
 use Rattle.laws_partition.specs.Sound.{turns_left as entries_left}
 use Rattle.partition_commands.specs.Disks.{HaveDisks}
-use Rattle.partition_commands.specs.Fresh.{IsFreshPartition, AreLaid, AllSeen}
+use Rattle.partition_commands.specs.Fresh.{IsFreshPartition, AreNodesLaid, AllSeen}
 use Rattle.partition_world.specs.declared.actor_state.ActorState.{ActorState}
 use Rattle.partition_world.specs.declared.actor_state.InProgress.TheVariants.{Idle}
 use Rattle.partition_world.specs.declared.tier.BrokerTierState.{BrokerTierState}
@@ -49,7 +49,7 @@ abbrev pub IsEmptyLog : meta.Content → Type 0
 IsEmptyLog content = IsTrue content.is_observable → content.notes ≡ []
 
 -- nothing has happened yet, whatever the devices: each list is at its front, the journal is empty, and each broker has its disk
-pub record IsNew {D S M : Type 0} (lists : List ActorList) (w : Whole D S M) : Type 0 where
+pub record IsNewWorld {D S M : Type 0} (lists : List ActorList) (w : Whole D S M) : Type 0 where
   pub lists_are : w.lists ≡ lists
   pub desk : w.desk ≡ replicate (length lists) fresh_actor_state
   pub journal : w.journal.items ≡ []
@@ -64,7 +64,7 @@ module _ {D S M : Type 0} (disk : DiskGhosts D) (store : StoreGhosts S) (meta : 
     pub lists_are : w.lists ≡ lists
     pub count : length disks ≡ config.brokers
     pub held : IsFreshPartition disk.control disks w.held
-    pub laid : AreLaid config.settings w.held.nodes
+    pub laid : AreNodesLaid config.settings w.held.nodes
     pub tier : IsArmedTier store meta s m w.tier
     pub broker_tiers : w.tier.broker_tiers ≡ replicate config.brokers fresh_broker_tier
     pub desk : w.desk ≡ replicate (length lists) fresh_actor_state

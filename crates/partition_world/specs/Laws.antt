@@ -19,7 +19,7 @@ use Rattle.partition_commands.specs.Infallible.{AreUnplanned}
 use Rattle.partition_world.specs.Infallible.{IsUnplanned, IsUnfailing}
 use Rattle.partition_world.specs.Central.{IsCentral, KeepsCentral}
 use Rattle.partition_world.specs.Cold.{IsReopened, AreCold}
-use Rattle.partition_world.specs.Fresh.{IsFresh, IsNew, IsSeenEmpty}
+use Rattle.partition_world.specs.Fresh.{IsFresh, IsNewWorld, IsSeenEmpty}
 use Rattle.partition_world.specs.InTurn.{IsInTurn}
 use Rattle.partition_world.specs.Lasting.{HaveLasted}
 use Rattle.partition_world.specs.Later.{IsLater}
@@ -28,7 +28,7 @@ use Rattle.partition_world.specs.Turn.{Steps, IsAtEnd}
 use Rattle.partition_world.specs.Whole.{Whole}
 
 -- the journal is a run of the plain log from this state, and the safety rules hold in the state to which it leads
-pub record IsRunFrom (opening : State) (lists : List ActorList) (journal : List JournalEntry) : Type 0 where
+pub record IsSafeRunFrom (opening : State) (lists : List ActorList) (journal : List JournalEntry) : Type 0 where
   pub last : State
   pub replays : replay lists opening journal ≡ Some last
   pub safe : PlainSafe last
@@ -62,7 +62,8 @@ module _ {D S M : Type 0} (disk : DiskGhosts D) (store : StoreGhosts S) (meta : 
 
   -- in whatever a schedule reaches from a new world, over any devices: each of them has lasted
   abbrev pub ReachesLasting : Type 0
-  ReachesLasting = (lists : List ActorList) (w : Whole D S M) (schedule : List Pace) (w' : Whole D S M) → IsNew lists w
+  ReachesLasting =
+      (lists : List ActorList) (w : Whole D S M) (schedule : List Pace) (w' : Whole D S M) → IsNewWorld lists w
       → Reaches disk store meta w schedule w' → HaveLasted disk store meta w w'
 
   -- over devices of which no call can fail no turn of a schedule returns a fault
@@ -73,12 +74,12 @@ module _ {D S M : Type 0} (disk : DiskGhosts D) (store : StoreGhosts S) (meta : 
   -- whatever a schedule reaches from a new world, over any devices: its journal reports each actor's commands in turn
   abbrev pub ReachesInTurn : Type 0
   ReachesInTurn = (config : Config) (lists : List ActorList) (w : Whole D S M) (schedule : List Pace) (w' : Whole D S M)
-      → AreListsFor config lists → IsNew lists w → Reaches disk store meta w schedule w' → IsInTurn w'.lists w'.journal.items
+      → AreListsFor config lists → IsNewWorld lists w → Reaches disk store meta w schedule w' → IsInTurn w'.lists w'.journal.items
 
   -- and where each actor is at its end, it answers every command of every list, once and in their order
   abbrev pub EndsAreAnswered : Type 0
   EndsAreAnswered = (config : Config) (lists : List ActorList) (w : Whole D S M) (schedule : List Pace) (w' : Whole D S M)
-      → AreListsFor config lists → IsNew lists w → Reaches disk store meta w schedule w' → ((a : ℕ) → IsAtEnd w' a)
+      → AreListsFor config lists → IsNewWorld lists w → Reaches disk store meta w schedule w' → ((a : ℕ) → IsAtEnd w' a)
       → IsComplete w'.lists w'.journal.items
 
   -- in a world that a schedule reaches from one that is reopened, the journal is a run of the plain log from each plain
@@ -88,7 +89,7 @@ module _ {D S M : Type 0} (disk : DiskGhosts D) (store : StoreGhosts S) (meta : 
       (m : M) (w : Whole D S M) (schedule : List Pace) (w' : Whole D S M) (p : State) → AreListsFor config lists
       → IsReopened disk store meta partition config lists registry disks s m w
       → AreCold disk store meta partition registry disks s m p → Reaches disk store meta w schedule w'
-      → IsRunFrom p lists w'.journal.items
+      → IsSafeRunFrom p lists w'.journal.items
 
   -- a world that is reopened is on devices of which no call can fail, where none is planned to
   abbrev pub ReopenedIsUnfailing : Type 0

@@ -19,18 +19,18 @@ module _ {D S M : Type 0} where
 
 module _ {D S M : Type 0} (disk : DiskGhosts D) (store : StoreGhosts S) (meta : MetaGhosts M) where
   -- a turn of the actor; where it is at the end of its list nothing changes
-  abbrev pub Goes : Whole D S M → ℕ → Whole D S M → Type 0
-  Goes w a w' = ((outcome : Outcome) × IsTurn disk store meta w a outcome w') ⊎ (IsAtEnd w a × (w' ≡ w))
+  abbrev pub TakesTurn : Whole D S M → ℕ → Whole D S M → Type 0
+  TakesTurn w a w' = ((outcome : Outcome) × IsTurn disk store meta w a outcome w') ⊎ (IsAtEnd w a × (w' ≡ w))
 
   -- so many turns of the actor
   abbrev pub GoesTimes : Whole D S M → ℕ → ℕ → Whole D S M → Type 0
   GoesTimes w a zero w' = w' ≡ w
-  GoesTimes w a (suc turns) w' = (v : Whole D S M) × Goes w a v × GoesTimes v a turns w'
+  GoesTimes w a (suc turns) w' = (v : Whole D S M) × TakesTurn w a v × GoesTimes v a turns w'
 
   -- the actor takes so many turns, and no more than it must, to have answered so many of its commands
   abbrev pub GoesUntil : Whole D S M → ℕ → ℕ → ℕ → Whole D S M → Type 0
   GoesUntil w a number zero w' = HasAnswered w a number × (w' ≡ w)
-  GoesUntil w a number (suc turns) w' = (HasAnswered w a number → ⊥) × ((v : Whole D S M) × Goes w a v × GoesUntil v a number turns w')
+  GoesUntil w a number (suc turns) w' = (HasAnswered w a number → ⊥) × ((v : Whole D S M) × TakesTurn w a v × GoesUntil v a number turns w')
 
   -- one item of a schedule
   abbrev pub Paces : Whole D S M → Pace → Whole D S M → Type 0

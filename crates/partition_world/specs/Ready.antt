@@ -12,7 +12,7 @@ use Rattle.partition_world.specs.declared.ready.Ready.TheVariants as ready
 use Rattle.partition_world.specs.declared.actor_state.ActorState.{ActorState}
 use Rattle.partition_world.specs.declared.actor_state.InProgress.{InProgress}
 use Rattle.partition_world.specs.declared.actor_state.InProgress.TheVariants.{Idle, Copies}
-use Rattle.partition_world.specs.Turn.{IsAtEnd, IsNext}
+use Rattle.partition_world.specs.Turn.{IsAtEnd, IsNextOrder}
 use Rattle.partition_world.specs.Whole.{Whole}
 
 -- a copy that has chosen its segment wants the bundle of that, or has it
@@ -31,7 +31,7 @@ IsWantOf command work wanted = wanted ≡ want.Nothing
 -- what an actor's next turn wants
 pub record IsWanted {D S M : Type 0} (w : Whole D S M) (a : ℕ) (wanted : Want) : Type 0 where
   pub next : (place : ℕ) (l : ActorList) (actor_state : ActorState) (order : Order)
-      → IsNext w a place l actor_state order
+      → IsNextOrder w a place l actor_state order
       → IsWantOf order.command actor_state.work wanted
   pub none : IsAtEnd w a → wanted ≡ want.Nothing
 

@@ -13,7 +13,7 @@ use Rattle.laws_partition.specs.Sound.{turns_left as entries_left}
 use Rattle.partition_commands.specs.declared.partition_state.PartitionState.{PartitionState}
 use Rattle.partition_commands.specs.Sound.{SoundPartition}
 use Rattle.partition_commands.specs.Stopping.{HaveStopped}
-use Rattle.tier_fetch.specs.Turns.{IsFor}
+use Rattle.tier_fetch.specs.Turns.{IsPieceFor}
 use Rattle.tier_fetch.specs.declared.turn.FetchStep.{FetchStep}
 use Rattle.time_find.specs.declared.turn.SearchStep.{SearchStep as Dating}
 use Rattle.time_find.specs.Turns.{IsSet}
@@ -24,20 +24,20 @@ use Rattle.partition_world.specs.declared.tier.BrokerTierState.{BrokerTierState}
 use Rattle.partition_world.specs.ActorStates.{desk_seen}
 
 -- a command has a second turn, with what was recorded at its first; that of an expiry was a leader's
-abbrev pub MayGoOn : Command → StartSnapshot → Type 0
-MayGoOn Join g = Unit {0}
-MayGoOn (Follow limit) g = Unit {0}
-MayGoOn Copy g = Unit {0}
-MayGoOn Trim g = Unit {0}
-MayGoOn Expire g = leads g.role ≡ true
-MayGoOn (Fetch offset limit) g = Unit {0}
-MayGoOn (Offset LatestTiered) g = Unit {0}
-MayGoOn (Offset (At ts)) g = Unit {0}
-MayGoOn command g = ⊥
+abbrev pub HasSecondTurn : Command → StartSnapshot → Type 0
+HasSecondTurn Join g = Unit {0}
+HasSecondTurn (Follow limit) g = Unit {0}
+HasSecondTurn Copy g = Unit {0}
+HasSecondTurn Trim g = Unit {0}
+HasSecondTurn Expire g = leads g.role ≡ true
+HasSecondTurn (Fetch offset limit) g = Unit {0}
+HasSecondTurn (Offset LatestTiered) g = Unit {0}
+HasSecondTurn (Offset (At ts)) g = Unit {0}
+HasSecondTurn command g = ⊥
 
 -- a fetch does this next, for its offset
 abbrev pub SeeksBy : Command → FetchStep → Type 0
-SeeksBy (Fetch offset limit) next = IsFor offset next
+SeeksBy (Fetch offset limit) next = IsPieceFor offset next
 SeeksBy command next = ⊥
 
 -- a timestamp lookup does this next, at a cursor
@@ -48,7 +48,7 @@ DatesBy command cursor next = ⊥
 -- what an actor's state has is of a turn that its command has
 abbrev pub IsProgressOf : Command → InProgress → Type 0
 IsProgressOf command Idle = Unit {0}
-IsProgressOf command (Noted g) = MayGoOn command g
+IsProgressOf command (Noted g) = HasSecondTurn command g
 IsProgressOf command (Copies g copy next) = command ≡ Copy
 IsProgressOf command (Seeks g next) = SeeksBy command next
 IsProgressOf command (Dates g cursor next) = DatesBy command cursor next
@@ -64,7 +64,7 @@ AreInProgress lists desk =
 
 -- its lists can be run, each broker has a tier state of the tier, and the journal has room for each entry that is left:
 -- a beginning and an answer of each order
-pub record IsSound {D : Type 0} (config : Config) (lists : List ActorList) (h : PartitionState D) (broker_tiers : List BrokerTierState) (desk : List ActorState)
+pub record CanBeRun {D : Type 0} (config : Config) (lists : List ActorList) (h : PartitionState D) (broker_tiers : List BrokerTierState) (desk : List ActorState)
     (free : ℕ) : Type 0 where
   pub config_fits : IsConfig config
   pub fit : AreListsFor config lists

@@ -5,7 +5,7 @@ use Rattle.object_store.specs.Content.{Keeps as KeepsObjects}
 use Rattle.tier_base.specs.Device.{Arms}
 use Rattle.meta_log.specs.declared.log.MetaLog.{Ghosts as MetaGhosts}
 use Rattle.meta_log.specs.Content.{Keeps as KeepsNotes}
-use Rattle.remote_view.specs.Fold.{Seen}
+use Rattle.remote_view.specs.Fold.{EntriesSeen}
 use Rattle.view_refresh.specs.Refreshing.{Refreshed, Unread, Halted}
 use Rattle.partition_world.specs.declared.tier.BrokerTierState.{BrokerTierState}
 use Rattle.partition_world.specs.declared.tier.RemoteTier.{RemoteTier}
@@ -30,8 +30,9 @@ module _ {S M : Type 0} where
 
 module _ {S M : Type 0} (meta : MetaGhosts M) where
   -- the broker's view has taken in all that the metadata log has more
-  pub record Refreshes (t : RemoteTier S M) (b : ℕ) (broker_tier : BrokerTierState) (t' : RemoteTier S M) : Type 0 where
-    pub view : Seen
+  pub record RefreshesBroker (t : RemoteTier S M) (b : ℕ) (broker_tier : BrokerTierState)
+      (t' : RemoteTier S M) : Type 0 where
+    pub view : EntriesSeen
     pub reads : Refreshed meta.content meta.control broker_tier.view view t.meta t'.meta
     pub after : t' ≡ put_broker_tier (record t { meta = t'.meta }) b (record broker_tier { view = view })
 
@@ -41,8 +42,9 @@ module _ {S M : Type 0} (meta : MetaGhosts M) where
     pub after : t' ≡ record t { meta = t'.meta }
 
   -- memory ran out, and the view has taken in some of what the metadata log has more
-  pub record Halts (t : RemoteTier S M) (b : ℕ) (broker_tier : BrokerTierState) (t' : RemoteTier S M) : Type 0 where
-    pub view : Seen
+  pub record HaltsRefresh (t : RemoteTier S M) (b : ℕ) (broker_tier : BrokerTierState)
+      (t' : RemoteTier S M) : Type 0 where
+    pub view : EntriesSeen
     pub reads : Halted meta.content meta.control broker_tier.view view t.meta t'.meta
     pub after : t' ≡ put_broker_tier (record t { meta = t'.meta }) b (record broker_tier { view = view })
 

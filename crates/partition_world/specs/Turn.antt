@@ -30,7 +30,7 @@ module _ {D S M : Type 0} where
       → length l.orders ≤ actor_state.number
 
   -- the actor's next order
-  pub record IsNext (w : Whole D S M) (a place : ℕ) (l : ActorList) (actor_state : ActorState)
+  pub record IsNextOrder (w : Whole D S M) (a place : ℕ) (l : ActorList) (actor_state : ActorState)
       (order : Order) : Type 0 where
     pub at : IsActorAt w a place l actor_state
     pub next : slice_get l.orders actor_state.number ≡ Some order
@@ -59,7 +59,7 @@ module _ {D S M : Type 0} (disk : DiskGhosts D) (store : StoreGhosts S) (meta : 
     pub list : ActorList
     pub actor_state : ActorState
     pub order : Order
-    pub next : IsNext w a place list actor_state order
+    pub next : IsNextOrder w a place list actor_state order
     pub node : order.broker.0 < length w.held.nodes
     pub tier : StaysTier disk store meta w.partition w.held w.tier order.broker.0 actor_state.work order.command w'.held w'.tier
     pub wants : IsTrue (takes_memory order.command)

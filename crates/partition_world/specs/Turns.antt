@@ -34,7 +34,7 @@ use Rattle.partition_world.specs.declared.actor_state.Outcome.{Outcome}
 use Rattle.partition_world.specs.declared.actor_state.Outcome.TheVariants.{Answers}
 use Rattle.partition_world.specs.declared.actor_state.InProgress.{InProgress}
 use Rattle.partition_world.specs.declared.actor_state.InProgress.TheVariants.{Idle, Noted, Copies, Seeks, Dates, Expires, Rebuilds}
-use Rattle.partition_world.specs.Tier.{AtBrokerTier, Halts}
+use Rattle.partition_world.specs.Tier.{AtBrokerTier, HaltsRefresh}
 use Rattle.partition_world.specs.ActorStates.{outcome_of}
 use Rattle.partition_world.specs.TurnsOfCopy.{CopyFirstRow, ChooseRow, CopyOnRow, WantsForCopy}
 use Rattle.partition_world.specs.TurnsOfExpiry.{ExpireFirstRow, ExpireOnRow, DeleteOnRow, WantsForDeletion}
@@ -46,9 +46,9 @@ use Rattle.partition_world.specs.TurnsOfTrim.{TrimFirstRow, TrimOnRow}
 
 module _ {D S M : Type 0} (disk : DiskGhosts D) where
   -- the first turn of a command that the remote tier has no part in
-  abbrev pub OwnRow : PartitionState D → RemoteTier S M → ℕ → Node D → Command → Outcome → PartitionState D
+  abbrev pub LocalCommandRow : PartitionState D → RemoteTier S M → ℕ → Node D → Command → Outcome → PartitionState D
       → RemoteTier S M → Type 0
-  OwnRow h t b x command outcome h' t' =
+  LocalCommandRow h t b x command outcome h' t' =
       ((turn : Turned) × (outcome ≡ outcome_of turn) × FirstRow disk.content disk.control h b x command turn h') × (t' ≡ t)
 
   -- its last one
@@ -60,9 +60,9 @@ module _ {D S M : Type 0} (disk : DiskGhosts D) where
 
 module _ {D S M : Type 0} (store : StoreGhosts S) (meta : MetaGhosts M) where
   -- a later turn of a copy; no other command has one
-  abbrev pub CopyingRow : PartitionState D → RemoteTier S M → ℕ → Node D → BrokerTierState → StartSnapshot → Copied → CopyStep → Command → Outcome → PartitionState D → RemoteTier S M → Type 0
-  CopyingRow h t b x broker_tier g copy next Copy outcome h' t' = CopyOnRow store meta h t b x broker_tier g copy next outcome t' × (h' ≡ h)
-  CopyingRow h t b x broker_tier g copy next command outcome h' t' = ⊥
+  abbrev pub CopyLaterRow : PartitionState D → RemoteTier S M → ℕ → Node D → BrokerTierState → StartSnapshot → Copied → CopyStep → Command → Outcome → PartitionState D → RemoteTier S M → Type 0
+  CopyLaterRow h t b x broker_tier g copy next Copy outcome h' t' = CopyOnRow store meta h t b x broker_tier g copy next outcome t' × (h' ≡ h)
+  CopyLaterRow h t b x broker_tier g copy next command outcome h' t' = ⊥
 
   -- a later turn of a fetch that continues in the remote tier; no other command has one
   abbrev pub SeekingRow : PartitionId → PartitionState D → RemoteTier S M → ℕ → Node D → BrokerTierState → StartSnapshot → Search → Command → Outcome → PartitionState D → RemoteTier S M → Type 0
@@ -130,7 +130,7 @@ module _ {D S M : Type 0} (disk : DiskGhosts D) (store : StoreGhosts S) (meta : 
       OffsetFirstRow meta h t b x broker_tier outcome t' × (h' ≡ h)
   BeginRow h t b x broker_tier (Offset (At ts)) outcome h' t' =
       OffsetFirstRow meta h t b x broker_tier outcome t' × (h' ≡ h)
-  BeginRow h t b x broker_tier command outcome h' t' = OwnRow disk h t b x command outcome h' t'
+  BeginRow h t b x broker_tier command outcome h' t' = LocalCommandRow disk h t b x command outcome h' t'
 
   -- a turn of a command of broker b, of which so much is kept
   abbrev pub Row : PartitionId → Config → PartitionState D → RemoteTier S M → ℕ → Node D → BrokerTierState → InProgress → Command → Outcome → PartitionState D → RemoteTier S M → Type 0
@@ -138,7 +138,7 @@ module _ {D S M : Type 0} (disk : DiskGhosts D) (store : StoreGhosts S) (meta : 
   Row p config h t b x broker_tier (Noted g) command outcome h' t' =
       ContinuedRow p config h t b x broker_tier g command outcome h' t'
   Row p config h t b x broker_tier (Copies g copy next) command outcome h' t' =
-      CopyingRow store meta h t b x broker_tier g copy next command outcome h' t'
+      CopyLaterRow store meta h t b x broker_tier g copy next command outcome h' t'
   Row p config h t b x broker_tier (Seeks g next) command outcome h' t' =
       SeekingRow store meta p h t b x broker_tier g next command outcome h' t'
   Row p config h t b x broker_tier (Dates g cursor next) command outcome h' t' =
@@ -158,11 +158,11 @@ module _ {D S M : Type 0} (disk : DiskGhosts D) (store : StoreGhosts S) (meta : 
 module _ {S M : Type 0} (meta : MetaGhosts M) where
   -- a command's first turn has refreshed its broker's view in part
   abbrev pub BeginHalts : RemoteTier S M → ℕ → BrokerTierState → Command → RemoteTier S M → Type 0
-  BeginHalts t b broker_tier Copy t' = Halts meta t b broker_tier t'
-  BeginHalts t b broker_tier Trim t' = Halts meta t b broker_tier t'
-  BeginHalts t b broker_tier Expire t' = Halts meta t b broker_tier t'
-  BeginHalts t b broker_tier (Offset LatestTiered) t' = Halts meta t b broker_tier t'
-  BeginHalts t b broker_tier (Offset (At ts)) t' = Halts meta t b broker_tier t'
+  BeginHalts t b broker_tier Copy t' = HaltsRefresh meta t b broker_tier t'
+  BeginHalts t b broker_tier Trim t' = HaltsRefresh meta t b broker_tier t'
+  BeginHalts t b broker_tier Expire t' = HaltsRefresh meta t b broker_tier t'
+  BeginHalts t b broker_tier (Offset LatestTiered) t' = HaltsRefresh meta t b broker_tier t'
+  BeginHalts t b broker_tier (Offset (At ts)) t' = HaltsRefresh meta t b broker_tier t'
   BeginHalts t b broker_tier command t' = ⊥
 
 module _ {D S M : Type 0} (store : StoreGhosts S) (meta : MetaGhosts M) where
@@ -178,7 +178,7 @@ module _ {D S M : Type 0} (store : StoreGhosts S) (meta : MetaGhosts M) where
       → StartSnapshot → Command → RemoteTier S M → Type 0
   ContinuedHalts p h t b x broker_tier g (Fetch offset limit) t' =
       WantsForFetch store meta p t b x broker_tier offset limit Refresh t'
-  ContinuedHalts p h t b x broker_tier g Join t' = (g.start < g.wanted) × Halts meta t b broker_tier t'
+  ContinuedHalts p h t b x broker_tier g Join t' = (g.start < g.wanted) × HaltsRefresh meta t b broker_tier t'
   ContinuedHalts p h t b x broker_tier g (Offset (At ts)) t' = DateHalts p h t b x broker_tier ts 0 Seek t'
   ContinuedHalts p h t b x broker_tier g command t' = ⊥
 

@@ -19,22 +19,22 @@ use Rattle.object_store.specs.declared.store.Store.{Ghosts as StoreGhosts}
 use Rattle.meta_log.specs.declared.log.MetaLog.{Ghosts as MetaGhosts}
 use Rattle.meta_log.specs.declared.event_origin.EventOrigin.{EventOrigin}
 use Rattle.segment_file.specs.Growing.{Grown}
-use Rattle.segment_file.specs.Closed.{Whole}
+use Rattle.segment_file.specs.Closed.{ClosedSegment}
 use Rattle.local_log.specs.Reading.{IsClosedFrom, ClosedFails}
 use Rattle.local_log.specs.declared.refusal.ReadRefusal.TheVariants as refusal
 use Rattle.remote_find.specs.Pieces.{covered_to}
-use Rattle.remote_view.specs.Fold.{Seen as View}
+use Rattle.remote_view.specs.Fold.{EntriesSeen as View}
 use Rattle.segment_bundle.specs.Parts.{can_pack}
 use Rattle.copy_task.specs.Candidate.{candidate}
 use Rattle.copy_task.specs.Copying.{Copied, IsCopied}
-use Rattle.copy_task.specs.Turns.{Tiers, CopyRow}
+use Rattle.copy_task.specs.Turns.{Tiers, CopyTurnRow}
 use Rattle.copy_task.specs.declared.turn.CopyTurn.{CopyTurn}
 use Rattle.copy_task.specs.declared.turn.CopyStep.{CopyStep}
 use Rattle.plain_log.specs.declared.answer.Answer.TheVariants.{Down, NotLeader, CopyOff, MetaFault, LostLead, Level, DiskFault, Damaged}
 use Rattle.plain_log.specs.declared.answer.Place.TheVariants.{File}
 use Rattle.plain_log.specs.State.{leads}
 use Rattle.tier_safe.specs.Views.{IsIdOf}
-use Rattle.broker_log.specs.Seen.{Kept, Seen, Shows, Stays, WhileUp, OnDisk, Lasting, NoFault, OneFault, closed_in, incarnation_in}
+use Rattle.broker_log.specs.Seen.{LogState, LogSeen, ShowsSeen, LogStays, WhileUp, OnDisk, Lasting, NoFault, OneFault, closed_in, incarnation_in}
 use Rattle.broker_log.specs.Turns.{IsSegmentOf}
 use Rattle.laws_partition.specs.declared.start_snapshot.StartSnapshot.{StartSnapshot}
 use Rattle.partition_commands.specs.declared.partition_state.Node.{Node}
@@ -45,7 +45,7 @@ use Rattle.partition_world.specs.declared.tier.BrokerTierState.{BrokerTierState}
 use Rattle.partition_world.specs.declared.tier.RemoteTier.{RemoteTier}
 use Rattle.partition_world.specs.declared.actor_state.Outcome.{Outcome}
 use Rattle.partition_world.specs.declared.actor_state.Outcome.TheVariants.{Answers, Begins, Chose}
-use Rattle.partition_world.specs.Tier.{next_of, counted, put_broker_tier, Refreshes, FailsToRead}
+use Rattle.partition_world.specs.Tier.{next_of, counted, put_broker_tier, RefreshesBroker, FailsToRead}
 use Rattle.partition_world.specs.ActorStates.{copy_outcome}
 
 module _ {D : Type 0} where
@@ -69,7 +69,7 @@ module _ {D : Type 0} where
   origin_of h b = record { broker = record { 0 = b }; now = h.clock }
 
   -- what the node's next copy is of: this segment, under the next id
-  pub record IsNextCopy (p : PartitionId) (b : ℕ) (x : Node D) (broker_tier : BrokerTierState) (segment : Whole) (copy : Copied) : Type 0 where
+  pub record IsNextCopy (p : PartitionId) (b : ℕ) (x : Node D) (broker_tier : BrokerTierState) (segment : ClosedSegment) (copy : Copied) : Type 0 where
     pub is : IsCopied copy
     pub segment_is : copy.segment ≡ segment
     pub partition_is : copy.partition ≡ p
@@ -91,7 +91,7 @@ module _ {D S M : Type 0} (meta : MetaGhosts M) where
   LeadersFirstRow h t b x broker_tier (Answers NotLeader) t' = (is_up x ≡ true) × (leads x.role ≡ false) × (t' ≡ t)
   LeadersFirstRow h t b x broker_tier (Answers MetaFault) t' = (is_up x ≡ true) × (leads x.role ≡ true) × FailsToRead meta t broker_tier t'
   LeadersFirstRow h t b x broker_tier (Begins g) t' =
-      (is_up x ≡ true) × (leads x.role ≡ true) × Notes h x g × Refreshes meta t b broker_tier t'
+      (is_up x ≡ true) × (leads x.role ≡ true) × Notes h x g × RefreshesBroker meta t b broker_tier t'
   LeadersFirstRow h t b x broker_tier other t' = ⊥
 
   -- copy, first turn: none is begun where segments aren't copied
@@ -106,51 +106,52 @@ module _ {D S M : Type 0} (meta : MetaGhosts M) where
 
 module _ {D : Type 0} (disk : DiskGhosts D) where
   -- a log was read, and is as it was
-  pub record ReadsLog (x x' : Node D) : Type 0 where
-    pub kept : Kept D
-    pub stays : Stays disk.content x.log kept
+  pub record ReadsLocalLog (x x' : Node D) : Type 0 where
+    pub kept : LogState D
+    pub stays : LogStays disk.content x.log kept
     pub lasts : Lasting disk.control x.log kept
     pub after : x' ≡ record x { log = kept }
 
   -- and no call of its disk failed
   pub record ReadsQuietly (x x' : Node D) : Type 0 where
-    pub reads : ReadsLog x x'
+    pub reads : ReadsLocalLog x x'
     pub quiet : NoFault disk.control x.log reads.kept
 
   -- its disk was read once in this turn, and returned something
-  abbrev pub HasRead : Node D → Kept D → Type 0
-  HasRead x kept = OnDisk x.log (λ d. OnDisk kept (λ e. Ran Read Went (disk.control d) (disk.control e)))
+  abbrev pub NodeHasRead : Node D → LogState D → Type 0
+  NodeHasRead x kept = OnDisk x.log (λ d. OnDisk kept (λ e. Ran Read Went (disk.control d) (disk.control e)))
 
   -- the segment was read, and is a segment of the log
-  pub record ReadsSegment (x : Node D) (offset : ℕ) (segment : Whole) (x' : Node D) : Type 0 where
-    pub reads : ReadsLog x x'
-    pub ran : HasRead x reads.kept
+  pub record ReadsSegment (x : Node D) (offset : ℕ) (segment : ClosedSegment) (x' : Node D) : Type 0 where
+    pub reads : ReadsLocalLog x x'
+    pub ran : NodeHasRead x reads.kept
     pub last_read : WhileUp x.log (λ log. OnDisk reads.kept (λ d. IsClosedFrom log offset (disk.control d).last_read (Some segment)))
-    pub part : (s : Seen) → Shows disk.content x.log s → IsSegmentOf s segment
+    pub part : (s : LogSeen) → ShowsSeen disk.content x.log s → IsSegmentOf s segment
     pub quiet : NoFault disk.control x.log reads.kept
 
   -- the disk failed
   pub record FailsToReadLog (x x' : Node D) : Type 0 where
-    pub reads : ReadsLog x x'
+    pub reads : ReadsLocalLog x x'
     pub cause : OneFault disk.control x.log reads.kept
 
   -- what the disk returned is no segment from this place of this file on
   pub record ReadsNoSegment (x : Node D) (offset : ℕ) (name : FileName) (at : ℕ) (x' : Node D) : Type 0 where
-    pub reads : ReadsLog x x'
-    pub ran : HasRead x reads.kept
+    pub reads : ReadsLocalLog x x'
+    pub ran : NodeHasRead x reads.kept
     pub bad : WhileUp x.log (λ log. OnDisk reads.kept (λ d. ClosedFails log offset (disk.control d).last_read (refusal.Damaged name at)))
-    pub unseen : (s : Seen) → Shows disk.content x.log s → ⊥
+    pub unseen : (s : LogSeen) → ShowsSeen disk.content x.log s → ⊥
     pub quiet : NoFault disk.control x.log reads.kept
 
   -- the first closed segment that ends past an offset is read, and is to be copied under the next id
-  abbrev pub ReadRow : PartitionId → ℕ → Node D → BrokerTierState → ℕ → Outcome → Node D → BrokerTierState → Type 0
-  ReadRow p b x broker_tier offset (Answers DiskFault) x' broker_tier' =
+  abbrev pub ReadSegmentRow : PartitionId → ℕ → Node D → BrokerTierState → ℕ → Outcome → Node D → BrokerTierState
+      → Type 0
+  ReadSegmentRow p b x broker_tier offset (Answers DiskFault) x' broker_tier' =
       FailsToReadLog x x' × (broker_tier' ≡ broker_tier)
-  ReadRow p b x broker_tier offset (Answers (Damaged (File name) at)) x' broker_tier' = ReadsNoSegment x offset name at x' × (broker_tier' ≡ broker_tier)
-  ReadRow p b x broker_tier offset (Chose copy) x' broker_tier' =
+  ReadSegmentRow p b x broker_tier offset (Answers (Damaged (File name) at)) x' broker_tier' = ReadsNoSegment x offset name at x' × (broker_tier' ≡ broker_tier)
+  ReadSegmentRow p b x broker_tier offset (Chose copy) x' broker_tier' =
       ReadsSegment x offset copy.segment x' × IsNextCopy p b x broker_tier copy.segment copy
       × IsSomeAnd (incarnation_in x.log) (λ i. broker_tier' ≡ counted broker_tier i)
-  ReadRow p b x broker_tier offset other x' broker_tier' = ⊥
+  ReadSegmentRow p b x broker_tier offset other x' broker_tier' = ⊥
 
 module _ {D S M : Type 0} (disk : DiskGhosts D) where
   -- there is a segment to copy, and it is read
@@ -159,7 +160,8 @@ module _ {D S M : Type 0} (disk : DiskGhosts D) where
     pub there : IsSomeAnd (next_segment h x broker_tier) (λ segment. Unit {0})
     pub node : Node D
     pub broker_tier_after : BrokerTierState
-    pub row : ReadRow disk p b x broker_tier (copied_to x broker_tier h.registry.start) outcome node broker_tier_after
+    pub row : ReadSegmentRow disk p b x broker_tier
+        (copied_to x broker_tier h.registry.start) outcome node broker_tier_after
     pub form : IsPackedBy h.packed outcome
     pub held : h' ≡ put_node h b node
     pub tier : t' ≡ put_broker_tier t b broker_tier_after
@@ -180,7 +182,7 @@ module _ {D S M : Type 0} (store : StoreGhosts S) (meta : MetaGhosts M) where
   pub record GoesOnCopy (h : PartitionState D) (t : RemoteTier S M) (b : ℕ) (broker_tier : BrokerTierState) (copy : Copied) (next : CopyStep) (turn : CopyTurn)
       (t' : RemoteTier S M) : Type 0 where
     pub view : View
-    pub row : CopyRow store.content store.control meta.content meta.control copy (origin_of h b) next (Ok turn)
+    pub row : CopyTurnRow store.content store.control meta.content meta.control copy (origin_of h b) next (Ok turn)
         (tiers_of broker_tier.view t) (tiers_of view t')
     pub after : t' ≡ put_broker_tier (record t {
       store =
@@ -193,7 +195,7 @@ module _ {D S M : Type 0} (store : StoreGhosts S) (meta : MetaGhosts M) where
       : Type 0 where
     pub view : View
     pub error : AllocError
-    pub row : CopyRow store.content store.control meta.content meta.control copy (origin_of h b) next (Err error)
+    pub row : CopyTurnRow store.content store.control meta.content meta.control copy (origin_of h b) next (Err error)
         (tiers_of broker_tier.view t) (tiers_of view t')
     pub after : t' ≡ put_broker_tier (record t {
       store =

@@ -13,14 +13,14 @@ use Rattle.disk_model.specs.declared.disk.Disk.{Ghosts as DiskGhosts}
 use Rattle.object_store.specs.declared.store.Store.{Ghosts as StoreGhosts}
 use Rattle.meta_log.specs.declared.log.MetaLog.{Ghosts as MetaGhosts}
 use Rattle.index_cache.specs.Cache.{Cache}
-use Rattle.remote_view.specs.Fold.{Seen as View}
-use Rattle.broker_log.specs.Seen.{Kept}
+use Rattle.remote_view.specs.Fold.{EntriesSeen as View}
+use Rattle.broker_log.specs.Seen.{LogState}
 use Rattle.time_find.specs.declared.turn.Asked.{Asked}
 use Rattle.time_find.specs.declared.turn.SearchStep.{SearchStep}
 use Rattle.time_find.specs.declared.turn.SearchStep.TheVariants.{Seek}
 use Rattle.time_find.specs.declared.turn.TimeTurn.{TimeTurn}
 use Rattle.time_find.specs.declared.turn.TimeTurn.TheVariants.{Goes, Ends}
-use Rattle.time_find.specs.Turns.{OwnRow, TimeRow, GoesOn}
+use Rattle.time_find.specs.Turns.{LocalSearchRow, TimeRow, SearchContinues}
 use Rattle.plain_log.specs.declared.answer.Answer.{Answer}
 use Rattle.plain_log.specs.declared.answer.Answer.TheVariants.{Stopped, NotLeader, NoOffset}
 use Rattle.laws_partition.specs.declared.start_snapshot.StartSnapshot.{StartSnapshot}
@@ -70,8 +70,8 @@ module _ {D : Type 0} where
 module _ {D : Type 0} (disk : DiskGhosts D) where
   -- a turn in the local log: the broker's log is read at most
   pub record SearchesOwn (h : PartitionState D) (b : ℕ) (x : Node D) (asked : Asked) (cursor : ℕ) (turn : TimeTurn) (h' : PartitionState D) : Type 0 where
-    pub kept : Kept D
-    pub row : OwnRow disk.content disk.control x.log asked cursor turn kept
+    pub kept : LogState D
+    pub row : LocalSearchRow disk.content disk.control x.log asked cursor turn kept
     pub after : h' ≡ put_node h b (record x { log = kept })
 
 module _ {S M : Type 0} (store : StoreGhosts S) (meta : MetaGhosts M) where
@@ -103,7 +103,7 @@ module _ {D S M : Type 0} (disk : DiskGhosts D) (store : StoreGhosts S) (meta : 
       SearchesRemote store meta t b broker_tier (line_of x) asked cursor next turn t' × (h' ≡ h)
 
   -- the broker leads as it did, and the search continues where it is resumed, below the known high watermark
-  pub record Searches (p : PartitionId) (h : PartitionState D) (t : RemoteTier S M) (b : ℕ) (x : Node D) (broker_tier : BrokerTierState) (g : StartSnapshot) (ts : ℤ)
+  pub record SearchesOn (p : PartitionId) (h : PartitionState D) (t : RemoteTier S M) (b : ℕ) (x : Node D) (broker_tier : BrokerTierState) (g : StartSnapshot) (ts : ℤ)
       (cursor : ℕ) (next : SearchStep) (turn : TimeTurn) (h' : PartitionState D) (t' : RemoteTier S M) : Type 0 where
     pub keeps : KeepsLead x g
     pub below : resumed_at h.registry.start cursor < x.known_high_watermark
@@ -120,7 +120,7 @@ module _ {D S M : Type 0} (disk : DiskGhosts D) (store : StoreGhosts S) (meta : 
   DateOnRow p h t b x broker_tier g ts cursor next (Answers NoOffset) h' t' =
       KeepsLead x g × (x.known_high_watermark ≤ resumed_at h.registry.start cursor) × (h' ≡ h) × (t' ≡ t)
   DateOnRow p h t b x broker_tier g ts cursor next (Answers answer) h' t' =
-      Searches p h t b x broker_tier g ts cursor next (Ends answer) h' t'
+      SearchesOn p h t b x broker_tier g ts cursor next (Ends answer) h' t'
   DateOnRow p h t b x broker_tier g ts cursor next (Dates at later) h' t' =
-      Searches p h t b x broker_tier g ts cursor next (Goes at later) h' t' × GoesOn (resumed_at h.registry.start cursor) (Goes at later)
+      SearchesOn p h t b x broker_tier g ts cursor next (Goes at later) h' t' × SearchContinues (resumed_at h.registry.start cursor) (Goes at later)
   DateOnRow p h t b x broker_tier g ts cursor next other h' t' = ⊥

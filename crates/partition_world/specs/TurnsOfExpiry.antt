@@ -91,12 +91,12 @@ module _ {D : Type 0} where
       rises_by h x broker_tier keep (pieces_of h x broker_tier) (own_of h x (pieces_of h x broker_tier))
 
   -- the registry raises the log start offset to this for a broker of a role, or refuses since another leads by now
-  abbrev pub RaiseRow : PartitionState D → Role → ℕ → Answer → PartitionState D → Type 0
-  RaiseRow h role wanted (StaleEpoch n) h' =
+  abbrev pub ExpiryRaiseRow : PartitionState D → Role → ℕ → Answer → PartitionState D → Type 0
+  ExpiryRaiseRow h role wanted (StaleEpoch n) h' =
       (e : ℕ) × (role ≡ Leads e) × Leaves h (after_raise h.registry e wanted (Err (Reg.StaleEpoch n))) h'
-  RaiseRow h role wanted (Raised start) h' =
+  ExpiryRaiseRow h role wanted (Raised start) h' =
       (e : ℕ) × (role ≡ Leads e) × Leaves h (after_raise h.registry e wanted (Ok start)) h'
-  RaiseRow h role wanted other h' = ⊥
+  ExpiryRaiseRow h role wanted other h' = ⊥
 
   -- it takes up the first due segment of the view
   pub record TakesUp (p : PartitionId) (h : PartitionState D) (broker_tier : BrokerTierState)
@@ -121,7 +121,7 @@ module _ {D : Type 0} where
   ExpiresBy p h x broker_tier keep (Answers Kept) h' =
       (due_of h broker_tier ≡ None) × (rises_to h x broker_tier keep ≡ None) × (h' ≡ h)
   ExpiresBy p h x broker_tier keep (Answers answer) h' =
-      (start : ℕ) × MayRise h x broker_tier keep start × RaiseRow h x.role start answer h'
+      (start : ℕ) × MayRise h x broker_tier keep start × ExpiryRaiseRow h x.role start answer h'
   ExpiresBy p h x broker_tier keep other h' = ⊥
 
   -- expire, second turn

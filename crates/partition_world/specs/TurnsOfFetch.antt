@@ -9,12 +9,12 @@ use Rattle.tier_base.specs.declared.names.PartitionId.{PartitionId}
 use Rattle.object_store.specs.declared.store.Store.{Ghosts as StoreGhosts}
 use Rattle.meta_log.specs.declared.log.MetaLog.{Ghosts as MetaGhosts}
 use Rattle.index_cache.specs.Cache.{Cache}
-use Rattle.remote_view.specs.Fold.{Seen as View}
+use Rattle.remote_view.specs.Fold.{EntriesSeen as View}
 use Rattle.tier_fetch.specs.declared.turn.FetchTurn.{FetchTurn}
 use Rattle.tier_fetch.specs.declared.turn.FetchTurn.TheVariants as fetch
 use Rattle.tier_fetch.specs.declared.turn.FetchStep.{FetchStep}
 use Rattle.tier_fetch.specs.declared.turn.FetchRequest.{FetchRequest}
-use Rattle.tier_fetch.specs.Turns.{Tiers, FetchRow, IsFor}
+use Rattle.tier_fetch.specs.Turns.{Tiers, RemoteFetchRow, IsPieceFor}
 use Rattle.plain_log.specs.declared.answer.Answer.{Answer}
 use Rattle.plain_log.specs.declared.answer.Answer.TheVariants.{Stopped, NotLeader, OutOfRange, Empty}
 use Rattle.laws_partition.specs.declared.start_snapshot.StartSnapshot.{StartSnapshot}
@@ -35,7 +35,7 @@ module _ {D : Type 0} where
   HasStopped x g = (g.stops ≢ x.stops) ⊎ (is_up x ≡ false)
 
   -- the broker leads as it did, and the offset is in the log's range and below the known high watermark
-  pub record Serves (h : PartitionState D) (x : Node D) (g : StartSnapshot) (offset : ℕ) : Type 0 where
+  pub record MayServe (h : PartitionState D) (x : Node D) (g : StartSnapshot) (offset : ℕ) : Type 0 where
     pub keeps : KeepsLead x g
     pub within : IsInLog h x offset
     pub below : offset < x.known_high_watermark
@@ -63,7 +63,7 @@ module _ {D S M : Type 0} (store : StoreGhosts S) (meta : MetaGhosts M) where
       (turn : FetchTurn) (t' : RemoteTier S M) : Type 0 where
     pub view : View
     pub cache : Cache
-    pub row : FetchRow store.content store.control meta.content meta.control (wanted_of p x offset limit) (line_of x) next (Ok turn)
+    pub row : RemoteFetchRow store.content store.control meta.content meta.control (wanted_of p x offset limit) (line_of x) next (Ok turn)
         (fetch_tiers broker_tier.view broker_tier.cache t) (fetch_tiers view cache t')
     pub after : t' ≡ put_broker_tier (record t { store = t'.store; meta = t'.meta }) b (record broker_tier { view = view; cache = cache })
 
@@ -73,7 +73,7 @@ module _ {D S M : Type 0} (store : StoreGhosts S) (meta : MetaGhosts M) where
     pub view : View
     pub cache : Cache
     pub error : AllocError
-    pub row : FetchRow store.content store.control meta.content meta.control (wanted_of p x offset limit) (line_of x) next (Err error)
+    pub row : RemoteFetchRow store.content store.control meta.content meta.control (wanted_of p x offset limit) (line_of x) next (Err error)
         (fetch_tiers broker_tier.view broker_tier.cache t) (fetch_tiers view cache t')
     pub after : t' ≡ put_broker_tier (record t { store = t'.store; meta = t'.meta }) b (record broker_tier { view = view; cache = cache })
 
@@ -87,7 +87,8 @@ module _ {D S M : Type 0} (store : StoreGhosts S) (meta : MetaGhosts M) where
   FetchOnRow p h t b x broker_tier g offset limit next (Answers Empty) t' =
       KeepsLead x g × IsInLog h x offset × (x.known_high_watermark ≤ offset) × (t' ≡ t)
   FetchOnRow p h t b x broker_tier g offset limit next (Answers answer) t' =
-      Serves h x g offset × GoesOnFetch p t b x broker_tier offset limit next (fetch.Ends answer) t'
+      MayServe h x g offset × GoesOnFetch p t b x broker_tier offset limit next (fetch.Ends answer) t'
   FetchOnRow p h t b x broker_tier g offset limit next (Seeks later) t' =
-      Serves h x g offset × GoesOnFetch p t b x broker_tier offset limit next (fetch.Goes later) t' × IsFor offset later
+      MayServe h x g offset × GoesOnFetch p t b x broker_tier offset limit next (fetch.Goes later) t'
+      × IsPieceFor offset later
   FetchOnRow p h t b x broker_tier g offset limit next other t' = ⊥

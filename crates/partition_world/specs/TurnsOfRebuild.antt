@@ -33,7 +33,7 @@ use Rattle.partition_world.specs.declared.tier.BrokerTierState.{BrokerTierState}
 use Rattle.partition_world.specs.declared.tier.RemoteTier.{RemoteTier}
 use Rattle.partition_world.specs.declared.actor_state.Outcome.{Outcome}
 use Rattle.partition_world.specs.declared.actor_state.Outcome.TheVariants.{Answers, Rebuilds}
-use Rattle.partition_world.specs.Tier.{Refreshes, FailsToRead}
+use Rattle.partition_world.specs.Tier.{RefreshesBroker, FailsToRead}
 use Rattle.partition_world.specs.ActorStates.{rebuild_outcome}
 use Rattle.partition_world.specs.TurnsOfFetch.{HasStopped}
 
@@ -57,14 +57,16 @@ module _ {D : Type 0} where
 
 module _ {D S M : Type 0} where
   -- a join gets this answer, and nothing changes
-  abbrev pub IsAnswered : PartitionState D → RemoteTier S M → Node D → StartSnapshot → Outcome → RemoteTier S M → Type 0
-  IsAnswered h t x g outcome t' = (answer : Answer) × (outcome ≡ Answers answer) × AnswersAtOnce h x g answer × (t' ≡ t)
+  abbrev pub IsJoinAnswered : PartitionState D → RemoteTier S M → Node D → StartSnapshot → Outcome → RemoteTier S M
+      → Type 0
+  IsJoinAnswered h t x g outcome t' =
+      (answer : Answer) × (outcome ≡ Answers answer) × AnswersAtOnce h x g answer × (t' ≡ t)
 
 -- what a refresh of the follower's view comes to
 module _ {S M : Type 0} (meta : MetaGhosts M) where
   abbrev pub RefreshedRow : RemoteTier S M → ℕ → BrokerTierState → Outcome → RemoteTier S M → Type 0
   RefreshedRow t b broker_tier (Answers MetaFault) t' = FailsToRead meta t broker_tier t'
-  RefreshedRow t b broker_tier (Rebuilds Epochs) t' = Refreshes meta t b broker_tier t'
+  RefreshedRow t b broker_tier (Rebuilds Epochs) t' = RefreshesBroker meta t b broker_tier t'
   RefreshedRow t b broker_tier other t' = ⊥
 
 module _ {D S M : Type 0} (meta : MetaGhosts M) where
@@ -72,7 +74,7 @@ module _ {D S M : Type 0} (meta : MetaGhosts M) where
   abbrev pub RefreshOnRow : PartitionState D → RemoteTier S M → ℕ → Node D → BrokerTierState → StartSnapshot → Outcome
       → RemoteTier S M → Type 0
   RefreshOnRow h t b x broker_tier g outcome t' =
-      IsAnswered h t x g outcome t' ⊎ (MayRebuild h x g × RefreshedRow meta t b broker_tier outcome t')
+      IsJoinAnswered h t x g outcome t' ⊎ (MayRebuild h x g × RefreshedRow meta t b broker_tier outcome t')
 
 -- the turn that reads the line
 module _ {S M : Type 0} (store : StoreGhosts S) where
@@ -95,5 +97,5 @@ module _ {D S M : Type 0} (store : StoreGhosts S) where
   abbrev pub EpochsOnRow : PartitionId → PartitionState D → RemoteTier S M → Node D → BrokerTierState → StartSnapshot
       → Outcome → RemoteTier S M → Type 0
   EpochsOnRow p h t x broker_tier g outcome t' =
-      IsAnswered h t x g outcome t'
+      IsJoinAnswered h t x g outcome t'
       ⊎ (MayRebuild h x g × ((turn : RebuildTurn) × (outcome ≡ rebuild_outcome turn) × GoesOnRebuild store p t broker_tier g turn t'))

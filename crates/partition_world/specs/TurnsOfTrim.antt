@@ -24,13 +24,13 @@ use Rattle.laws_partition.specs.declared.start_snapshot.StartSnapshot.{StartSnap
 use Rattle.partition_commands.specs.declared.partition_state.Node.{Node}
 use Rattle.partition_commands.specs.declared.partition_state.PartitionState.{PartitionState}
 use Rattle.partition_commands.specs.Partition.{is_up}
-use Rattle.partition_commands.specs.TurnsOfLog.{Notes, MayDrop}
+use Rattle.partition_commands.specs.TurnsOfLog.{Notes, MayDropFirst}
 use Rattle.partition_commands.specs.TurnsOfLog as log
 use Rattle.partition_world.specs.declared.tier.BrokerTierState.{BrokerTierState}
 use Rattle.partition_world.specs.declared.tier.RemoteTier.{RemoteTier}
 use Rattle.partition_world.specs.declared.actor_state.Outcome.{Outcome}
 use Rattle.partition_world.specs.declared.actor_state.Outcome.TheVariants.{Answers, Begins}
-use Rattle.partition_world.specs.Tier.{Refreshes, FailsToRead}
+use Rattle.partition_world.specs.Tier.{RefreshesBroker, FailsToRead}
 use Rattle.partition_world.specs.TurnsOfCopy.{copied_to}
 
 -- what retention asks about a closed segment
@@ -44,7 +44,7 @@ module _ {D : Type 0} where
 
   -- the first closed segment of the local log may go
   pub record MayTrim (h : PartitionState D) (x : Node D) (broker_tier : BrokerTierState) (keep : Keep) : Type 0 where
-    pub flushed_end : MayDrop x
+    pub flushed_end : MayDropFirst x
     pub known_high_watermark : IsSomeAnd (slice_get (closed_in x.log) 0)
         (λ segment. segment_end segment ≤ x.known_high_watermark)
     pub copied : IsSomeAnd (slice_get (closed_in x.log) 0) (λ segment. segment_end segment ≤ copied_to x broker_tier h.registry.start)
@@ -56,7 +56,8 @@ module _ {D S M : Type 0} (meta : MetaGhosts M) where
       → Type 0
   TrimFirstRow h t b x broker_tier (Answers Down) t' = (is_up x ≡ false) × (t' ≡ t)
   TrimFirstRow h t b x broker_tier (Answers MetaFault) t' = (is_up x ≡ true) × FailsToRead meta t broker_tier t'
-  TrimFirstRow h t b x broker_tier (Begins g) t' = (is_up x ≡ true) × Notes h x g × Refreshes meta t b broker_tier t'
+  TrimFirstRow h t b x broker_tier (Begins g) t' =
+      (is_up x ≡ true) × Notes h x g × RefreshesBroker meta t b broker_tier t'
   TrimFirstRow h t b x broker_tier other t' = ⊥
 
 module _ {D : Type 0} (disk : DiskGhosts D) where

@@ -10,12 +10,12 @@ ghost use Rattle.local_log.specs.Reading.{first_past};
 ghost use Rattle.segment_bundle.specs.Parts.{can_pack};
 ghost use Rattle.copy_task.specs.Candidate.{candidate};
 ghost use Rattle.copy_task.specs.Copying.{IsCopied};
-ghost use Rattle.copy_task.specs.Turns.{CopyRow};
+ghost use Rattle.copy_task.specs.Turns.{CopyTurnRow};
 ghost use Rattle.partition_commands.specs.declared.partition_state.Node.{Node as Broker};
 ghost use Rattle.partition_commands.specs.Partition.{AtNode, KeepsPartition, is_up, line_of, put_node};
 ghost use Rattle.partition_world.specs.declared.tier.BrokerTierState.{BrokerTierState as Knowledge};
-ghost use Rattle.partition_world.specs.Tier.{AtBrokerTier, next_of, put_broker_tier, Halts};
-ghost use Rattle.partition_world.specs.TurnsOfCopy.{KeepsLead, copied_to, IsPackedBy, LeadersFirstRow, CopyFirstRow, ChooseRow, ReadRow, ReadsQuietly, CopyOnRow, tiers_of, origin_of, WantsForCopy};
+ghost use Rattle.partition_world.specs.Tier.{AtBrokerTier, next_of, put_broker_tier, HaltsRefresh};
+ghost use Rattle.partition_world.specs.TurnsOfCopy.{KeepsLead, copied_to, IsPackedBy, LeadersFirstRow, CopyFirstRow, ChooseRow, ReadSegmentRow, ReadsQuietly, CopyOnRow, tiers_of, origin_of, WantsForCopy};
 
 use crate::actor_state::{Outcome, copy_outcome};
 use crate::tier::{BrokerTierState, RemoteTier};
@@ -106,7 +106,7 @@ fn read_next<D: Disk>(
     requires up { is_up node.old ≡ true }
     requires next { IsSomeAnd (first_past offset (closed_in node.old.log)) (λ segment. Unit {0}) }
     requires tries { broker_tier.old.attempt < 18446744073709551615 }
-    ensures row { IfOk result (λ outcome. ReadRow D.Disk partition broker.0 node.old broker_tier.old offset outcome node.new broker_tier.new) }
+    ensures row { IfOk result (λ outcome. ReadSegmentRow D.Disk partition broker.0 node.old broker_tier.old offset outcome node.new broker_tier.new) }
     ensures form { IfOk result (IsPackedBy packed) }
     ensures err { OnErr result (ReadsQuietly D.Disk node.old node.new) }
     ensures broker_tier { OnErr result (broker_tier.new ≡ broker_tier.old) }
@@ -158,7 +158,7 @@ impl<S: Store, M: MetaLog> RemoteTier<S, M> {
         ensures row { IfOk result (λ outcome. AtNode held.now b (λ x. AtBrokerTier self.old b (λ broker_tier.
             CopyFirstRow M.MetaLog held.now self.old b x broker_tier outcome self.new))) }
         ensures err { OnErr result
-            (AtBrokerTier self.old b (λ broker_tier. Halts M.MetaLog self.old b broker_tier self.new)) }
+            (AtBrokerTier self.old b (λ broker_tier. HaltsRefresh M.MetaLog self.old b broker_tier self.new)) }
     {
         let node = held.nodes.get(b);
         if !held.copying && node.is_up() && leading(node.role).is_some() {
@@ -179,7 +179,7 @@ impl<S: Store, M: MetaLog> RemoteTier<S, M> {
         ensures row { IfOk result (λ outcome. AtNode held.now b (λ x. AtBrokerTier self.old b (λ broker_tier.
             LeadersFirstRow M.MetaLog held.now self.old b x broker_tier outcome self.new))) }
         ensures err { OnErr result
-            (AtBrokerTier self.old b (λ broker_tier. Halts M.MetaLog self.old b broker_tier self.new)) }
+            (AtBrokerTier self.old b (λ broker_tier. HaltsRefresh M.MetaLog self.old b broker_tier self.new)) }
     {
         let node = held.nodes.get(b);
         if !node.is_up() {
@@ -240,7 +240,7 @@ impl<S: Store, M: MetaLog> RemoteTier<S, M> {
         ensures row { IfOk result
             (λ outcome. AtNode held.old broker.0 (λ x. AtBrokerTier self.old broker.0 (λ broker_tier.
             (x' : Broker D) × (broker_tier' : Knowledge)
-            × ReadRow D.Disk partition broker.0 x broker_tier copied outcome x' broker_tier'
+            × ReadSegmentRow D.Disk partition broker.0 x broker_tier copied outcome x' broker_tier'
             × (held.new ≡ put_node held.old broker.0 x')
             × (self.new ≡ put_broker_tier self.old broker.0 broker_tier')))) }
         ensures form { IfOk result (IsPackedBy held.old.packed) }

@@ -6,7 +6,7 @@
 
 ghost use Rattle.std.specs.Prelude.{◌≡◌, ◌<◌, ◌≤◌, ◌^◌, length, true, false, None, IfOk, IfSome, OnErr};
 ghost use Rattle.broker_log.specs.Seen.{line_in};
-ghost use Rattle.time_find.specs.Turns.{IsSet, IsBelow, GoesOn};
+ghost use Rattle.time_find.specs.Turns.{IsSet, IsBelowLocal, SearchContinues};
 ghost use Rattle.partition_commands.specs.Partition.{AtNode, KeepsPartition, is_up, line_of, local_of};
 ghost use Rattle.partition_world.specs.Tier.{AtBrokerTier};
 ghost use Rattle.partition_world.specs.Turns.{DateHalts, StaysOr};
@@ -94,7 +94,7 @@ fn asked_of<D: Disk>(
 fn is_own(asked: &Asked, cursor: u64, next: &SearchStep) -> bool
     ensures is { result ≡ is_own asked.now.local cursor next.now }
     ensures own { result ≡ true → asked.now.local ≤ cursor }
-    ensures remote { result ≡ false → IsBelow asked.now cursor next.now }
+    ensures remote { result ≡ false → IsBelowLocal asked.now cursor next.now }
 {
     match next {
         SearchStep::Seek => asked.local <= cursor,
@@ -113,7 +113,7 @@ fn search_own<D: Disk>(
     requires local { AtNode held.old b (λ x. local_of x ≤ cursor) }
     requires mark { cursor < asked.now.mark }
     ensures row { IfOk result (λ turn. AtNode held.old b (λ x. SearchesOwn D.Disk held.old b x asked.now cursor turn held.new)) }
-    ensures goes { IfOk result (GoesOn cursor) }
+    ensures goes { IfOk result (SearchContinues cursor) }
     ensures err { OnErr result (KeepsPartition D.content D.control held.old held.new) }
 {
     own_turn(&mut held.nodes.at_mut(b).log, asked, cursor)
@@ -132,11 +132,11 @@ impl<S: Store, M: MetaLog> RemoteTier<S, M> {
     ) -> Result<TimeTurn, AllocError>
         requires broker_tier { b < length self.old.broker_tiers }
         requires mark { cursor < asked.now.mark }
-        requires remote { IsBelow asked.now cursor next }
+        requires remote { IsBelowLocal asked.now cursor next }
         requires holds { IsSet cursor next }
         ensures row { IfOk result (λ turn. AtBrokerTier self.old b (λ broker_tier.
             SearchesRemote S.Store M.MetaLog self.old b broker_tier line.now asked.now cursor next turn self.new)) }
-        ensures goes { IfOk result (GoesOn cursor) }
+        ensures goes { IfOk result (SearchContinues cursor) }
         ensures err { OnErr result (AtBrokerTier self.old b (λ broker_tier.
             WantsForDate S.Store M.MetaLog self.old b broker_tier line.now asked.now cursor next self.new)) }
     {
@@ -173,7 +173,7 @@ impl<S: Store, M: MetaLog> RemoteTier<S, M> {
         ensures row { IfOk result (λ turn. AtNode held.old b (λ x. AtBrokerTier self.old b (λ broker_tier.
             SearchRow D.Disk S.Store M.MetaLog held.old self.old b x broker_tier asked.now cursor next.now
             (is_own asked.now.local cursor next.now) turn held.new self.new))) }
-        ensures goes { IfOk result (GoesOn cursor) }
+        ensures goes { IfOk result (SearchContinues cursor) }
         ensures err { OnErr result (StaysOr D.Disk held.old self.old b (λ x broker_tier.
             WantsForDate S.Store M.MetaLog self.old b broker_tier (line_of x) asked.now cursor next.now self.new) held.new self.new) }
     {

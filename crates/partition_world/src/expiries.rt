@@ -10,8 +10,8 @@ ghost use Rattle.plain_log.specs.declared.state.Role.TheVariants.{Leads};
 ghost use Rattle.plain_log.specs.State.{leads};
 ghost use Rattle.partition_commands.specs.Partition.{AtNode, is_up};
 ghost use Rattle.partition_commands.specs.Sound.{SoundPartition};
-ghost use Rattle.partition_world.specs.Tier.{AtBrokerTier, Halts};
-ghost use Rattle.partition_world.specs.TurnsOfExpiry.{rises_to, RaiseRow, ExpireFirstRow, ExpireOnRow, DeleteOnRow, WantsForDeletion};
+ghost use Rattle.partition_world.specs.Tier.{AtBrokerTier, HaltsRefresh};
+ghost use Rattle.partition_world.specs.TurnsOfExpiry.{rises_to, ExpiryRaiseRow, ExpireFirstRow, ExpireOnRow, DeleteOnRow, WantsForDeletion};
 
 use crate::actor_state::{Outcome, expiry_outcome};
 use crate::copies::{keeps_lead, origin};
@@ -107,7 +107,7 @@ fn raise<D: Disk>(held: &mut PartitionState<D>, role: Role, start: u64) -> Answe
     requires leads { leads role ≡ true }
     requires above { held.old.registry.start < start }
     requires within { (e : ℕ) → role ≡ Leads e → held.old.registry.epoch ≤ e → start ≤ held.old.registry.mark }
-    ensures { RaiseRow held.old role start result held.new }
+    ensures { ExpiryRaiseRow held.old role start result held.new }
 {
     let Some(epoch) = leading(role) else {
         unreachable!()
@@ -132,7 +132,7 @@ impl<S: Store, M: MetaLog> RemoteTier<S, M> {
         ensures row { IfOk result (λ outcome. AtNode held.now b (λ x. AtBrokerTier self.old b (λ broker_tier.
             ExpireFirstRow M.MetaLog held.now self.old b x broker_tier outcome self.new))) }
         ensures err { OnErr result
-            (AtBrokerTier self.old b (λ broker_tier. Halts M.MetaLog self.old b broker_tier self.new)) }
+            (AtBrokerTier self.old b (λ broker_tier. HaltsRefresh M.MetaLog self.old b broker_tier self.new)) }
     {
         self.begin_leading(alloc, b, held)
     }

@@ -5,10 +5,10 @@
 //! high watermark.
 
 ghost use Rattle.std.specs.Prelude.{◌≡◌, ◌<◌, length, None, IfOk, IfSome, OnErr};
-ghost use Rattle.tier_fetch.specs.Turns.{IsFor};
+ghost use Rattle.tier_fetch.specs.Turns.{IsPieceFor};
 ghost use Rattle.partition_commands.specs.Partition.{AtNode};
 ghost use Rattle.partition_world.specs.Tier.{AtBrokerTier};
-ghost use Rattle.partition_world.specs.TurnsOfFetch.{AnswersAtOnce, Serves, FetchOnRow, WantsForFetch};
+ghost use Rattle.partition_world.specs.TurnsOfFetch.{AnswersAtOnce, MayServe, FetchOnRow, WantsForFetch};
 
 use crate::actor_state::{Outcome, fetch_outcome};
 use crate::tier::RemoteTier;
@@ -31,7 +31,7 @@ fn answer_of<D: Disk>(
     offset: u64,
 ) -> Option<Answer>
     ensures some { IfSome result (AnswersAtOnce held.now node.now recorded.now offset) }
-    ensures none { result ≡ None → Serves held.now node.now recorded.now offset }
+    ensures none { result ≡ None → MayServe held.now node.now recorded.now offset }
 {
     if recorded.stops != node.stops || !node.is_up() {
         return Some(Answer::Stopped);
@@ -64,7 +64,7 @@ impl<S: Store, M: MetaLog> RemoteTier<S, M> {
     ) -> Result<Outcome, AllocError>
         requires node { broker.0 < length held.now.nodes }
         requires broker_tier { broker.0 < length self.old.broker_tiers }
-        requires holds { IsFor offset next }
+        requires holds { IsPieceFor offset next }
         ensures row { IfOk result
             (λ outcome. AtNode held.now broker.0 (λ x. AtBrokerTier self.old broker.0 (λ broker_tier.
             FetchOnRow S.Store M.MetaLog partition held.now self.old broker.0 x broker_tier recorded.now offset limit next outcome self.new))) }

@@ -10,7 +10,7 @@ ghost use Rattle.std.specs.Prelude.{◌≡◌, ◌<◌, length, None, IfOk, IfSo
 ghost use Rattle.plain_log.specs.declared.command.Command.TheVariants.{Join};
 ghost use Rattle.partition_commands.specs.Partition.{AtNode, CanStop, KeepsPartition};
 ghost use Rattle.partition_commands.specs.TurnsOfFollowers.{MayRebuild};
-ghost use Rattle.partition_world.specs.Tier.{AtBrokerTier, Halts};
+ghost use Rattle.partition_world.specs.Tier.{AtBrokerTier, HaltsRefresh};
 ghost use Rattle.partition_world.specs.TurnsOfRebuild.{with_line, AnswersAtOnce, RefreshOnRow, EpochsOnRow, WantsForRebuild};
 ghost use Rattle.partition_world.specs.Turns.{OwnOnRow, JoinSecondRow, StaysOr};
 
@@ -95,7 +95,7 @@ impl<S: Store, M: MetaLog> RemoteTier<S, M> {
             JoinSecondRow D.Disk M.MetaLog held.old self.old broker.0 x broker_tier recorded.now outcome held.new self.new))) }
         ensures err { OnErr result (StaysOr D.Disk held.old self.old broker.0 (λ x broker_tier.
             (recorded.now.start < recorded.now.wanted)
-            × Halts M.MetaLog self.old broker.0 broker_tier self.new) held.new self.new) }
+            × HaltsRefresh M.MetaLog self.old broker.0 broker_tier self.new) held.new self.new) }
     {
         if recorded.wanted.offset() <= recorded.start {
             return self.begin_anew(alloc, broker, recorded, held);
@@ -115,7 +115,7 @@ impl<S: Store, M: MetaLog> RemoteTier<S, M> {
         ensures row { IfOk result
             (λ outcome. AtNode held.now broker.0 (λ x. AtBrokerTier self.old broker.0 (λ broker_tier.
             RefreshOnRow M.MetaLog held.now self.old broker.0 x broker_tier recorded.now outcome self.new))) }
-        ensures err { OnErr result (AtBrokerTier self.old broker.0 (λ broker_tier. Halts M.MetaLog self.old broker.0 broker_tier self.new)) }
+        ensures err { OnErr result (AtBrokerTier self.old broker.0 (λ broker_tier. HaltsRefresh M.MetaLog self.old broker.0 broker_tier self.new)) }
     {
         let b = broker.0 as usize;
         if let Some(answer) = answer_of(held, held.nodes.get(b), recorded) {

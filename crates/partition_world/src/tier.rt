@@ -2,7 +2,7 @@
 
 ghost use Rattle.std.specs.Prelude.{◌≡◌, ◌<◌, length, OnOk, OnErr, IsErrOf};
 ghost use Rattle.tier_base.specs.declared.fault.Trouble.TheVariants.{Failed, NoMemory};
-ghost use Rattle.partition_world.specs.Tier.{next_of, counted, AtBrokerTier, Refreshes, FailsToRead, Halts, IsArmedTier};
+ghost use Rattle.partition_world.specs.Tier.{next_of, counted, AtBrokerTier, RefreshesBroker, FailsToRead, HaltsRefresh, IsArmedTier};
 
 use disk_model::Disk;
 use index_cache::IndexCache;
@@ -78,10 +78,10 @@ impl<S: Store, M: MetaLog> RemoteTier<S, M> {
     pub(crate) fn refresh(&mut self, b: usize) -> Result<(), Trouble>
         requires { b < length self.old.broker_tiers }
         ensures ok { OnOk result (AtBrokerTier self.old b
-            (λ broker_tier. Refreshes M.MetaLog self.old b broker_tier self.new)) }
+            (λ broker_tier. RefreshesBroker M.MetaLog self.old b broker_tier self.new)) }
         ensures failed { IsErrOf result Failed → AtBrokerTier self.old b (λ broker_tier. FailsToRead M.MetaLog self.old broker_tier self.new) }
         ensures dry { IsErrOf result NoMemory
-            → AtBrokerTier self.old b (λ broker_tier. Halts M.MetaLog self.old b broker_tier self.new) }
+            → AtBrokerTier self.old b (λ broker_tier. HaltsRefresh M.MetaLog self.old b broker_tier self.new) }
     {
         refresh(&mut self.broker_tiers.at_mut(b).view, &mut self.meta)
     }

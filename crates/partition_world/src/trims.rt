@@ -6,7 +6,7 @@
 
 ghost use Rattle.std.specs.Prelude.{◌≡◌, ◌<◌, length, IfOk, OnErr};
 ghost use Rattle.partition_commands.specs.Partition.{AtNode, CanStop, KeepsPartition};
-ghost use Rattle.partition_world.specs.Tier.{AtBrokerTier, Halts};
+ghost use Rattle.partition_world.specs.Tier.{AtBrokerTier, HaltsRefresh};
 ghost use Rattle.partition_world.specs.TurnsOfTrim.{TrimFirstRow, TrimOnRow};
 
 use crate::actor_state::Outcome;
@@ -34,7 +34,7 @@ impl<S: Store, M: MetaLog> RemoteTier<S, M> {
         ensures row { IfOk result (λ outcome. AtNode held.now b (λ x. AtBrokerTier self.old b (λ broker_tier.
             TrimFirstRow M.MetaLog held.now self.old b x broker_tier outcome self.new))) }
         ensures err { OnErr result
-            (AtBrokerTier self.old b (λ broker_tier. Halts M.MetaLog self.old b broker_tier self.new)) }
+            (AtBrokerTier self.old b (λ broker_tier. HaltsRefresh M.MetaLog self.old b broker_tier self.new)) }
     {
         if !held.nodes.get(b).is_up() {
             return Ok(Outcome::Answers(Answer::Down));

@@ -8,7 +8,7 @@ ghost use Rattle.partition_world.specs.Tier.{AtBrokerTier};
 ghost use Rattle.partition_commands.specs.Turns.{IsOfTier, takes_memory};
 ghost use Rattle.partition_world.specs.declared.actor_state.InProgress.TheVariants.{Noted, Copies, Seeks, Dates, Expires, Rebuilds};
 ghost use Rattle.partition_world.specs.Sound.{IsProgressOf};
-ghost use Rattle.partition_world.specs.Turns.{OwnRow, BeginRow, ContinuedRow, CopyingRow, SeekingRow, DatingRow, DeletingRow, RebuildingRow, TurnRow, BeginHalts, ContinuedHalts, CopyingHalts, SeekingHalts, DatingHalts, DeletingHalts, RebuildingHalts, StaysOr, StaysTier};
+ghost use Rattle.partition_world.specs.Turns.{LocalCommandRow, BeginRow, ContinuedRow, CopyLaterRow, SeekingRow, DatingRow, DeletingRow, RebuildingRow, TurnRow, BeginHalts, ContinuedHalts, CopyingHalts, SeekingHalts, DatingHalts, DeletingHalts, RebuildingHalts, StaysOr, StaysTier};
 
 use crate::actor_state::{InProgress, Outcome, outcome_of};
 use crate::tier::RemoteTier;
@@ -120,7 +120,7 @@ impl<S: Store, M: MetaLog> RemoteTier<S, M> {
         requires fit { IsInRange order.now.command }
         requires own { IsOfTier order.now.command → ⊥ }
         ensures row { IfOk result (λ outcome. AtNode held.old order.now.broker.0 (λ x.
-            OwnRow D.Disk held.old self.old order.now.broker.0 x order.now.command outcome held.new self.new)) }
+            LocalCommandRow D.Disk held.old self.old order.now.broker.0 x order.now.command outcome held.new self.new)) }
         ensures err { OnErr result (KeepsPartition D.content D.control held.old held.new × (self.new ≡ self.old)) }
         ensures wants { OnErr result (IsTrue (takes_memory order.now.command)) }
     {
@@ -200,7 +200,7 @@ impl<S: Store, M: MetaLog> RemoteTier<S, M> {
         requires broker_tier { order.now.broker.0 < length self.old.broker_tiers }
         requires work { IsProgressOf order.now.command (Copies recorded.now copying.old next) }
         ensures row { IfOk result (λ outcome. AtNode held.old order.now.broker.0 (λ x. AtBrokerTier self.old order.now.broker.0 (λ broker_tier.
-            CopyingRow S.Store M.MetaLog held.old self.old order.now.broker.0 x broker_tier recorded.now copying.old next order.now.command outcome held.new self.new))) }
+            CopyLaterRow S.Store M.MetaLog held.old self.old order.now.broker.0 x broker_tier recorded.now copying.old next order.now.command outcome held.new self.new))) }
         ensures same { copying.new ≡ copying.old }
         ensures err { OnErr result (StaysOr D.Disk held.old self.old order.now.broker.0 (λ x broker_tier.
             CopyingHalts S.Store M.MetaLog held.old self.old order.now.broker.0 broker_tier copying.old next order.now.command self.new) held.new self.new) }

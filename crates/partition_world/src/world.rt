@@ -7,9 +7,9 @@ ghost use Rattle.tier_base.specs.Device.{Lasts};
 ghost use Rattle.plain_log.specs.Fresh.{fresh as fresh_plain};
 ghost use Rattle.plain_log.specs.Orders.{AreListsFor, IsConfig};
 ghost use Rattle.laws_partition.specs.Sound.{turns_left as entries_left};
-ghost use Rattle.partition_commands.specs.Fresh.{AreFreshDisks, AreInfallibleDisks, AreDisksOf, DisksTell, AllSeen, Refuses};
+ghost use Rattle.partition_commands.specs.Fresh.{AreFreshDisks, AreInfallibleDisks, AreDisksOf, DisksTell, AllSeen, RefusesDisks};
 ghost use Rattle.partition_commands.specs.declared.refusal.WorldRefusal.TheVariants as refusal;
-ghost use Rattle.partition_world.specs.Fresh.{IsFresh, IsNew, IsSeenEmpty, AreFreshBooks, fresh_broker_tier};
+ghost use Rattle.partition_world.specs.Fresh.{IsFresh, IsNewWorld, IsSeenEmpty, AreFreshBooks, fresh_broker_tier};
 ghost use Rattle.plain_log.specs.declared.state.State.{State};
 ghost use Rattle.partition_commands.specs.Cold.{DisksReopen};
 ghost use Rattle.partition_commands.specs.Disks.{AllReopen};
@@ -60,7 +60,7 @@ pub struct World<D: Disk, S: Store, M: MetaLog> {
 impl<D: Disk, S: Store, M: MetaLog> Model for World<D, S, M> {
     ghost use Rattle.std.specs.Prelude.{◌≡◌, ◌≤◌, [], length, vec_capacity};
     ghost use Rattle.partition_world.specs.Whole.{Whole};
-    ghost use Rattle.partition_world.specs.Sound.{IsSound, AreCounted};
+    ghost use Rattle.partition_world.specs.Sound.{CanBeRun, AreCounted};
 
     ghost Value = { Whole D S M };
 
@@ -74,7 +74,7 @@ impl<D: Disk, S: Store, M: MetaLog> Model for World<D, S, M> {
       journal = w.journal;
     } };
 
-    ghost invariant = { λ w. IsSound w.config w.lists w.held w.tier.broker_tiers w.desk w.journal.room
+    ghost invariant = { λ w. CanBeRun w.config w.lists w.held w.tier.broker_tiers w.desk w.journal.room
         × (w.room.items ≡ []) × (w.config.brokers ≤ vec_capacity w.room)
         × AreCounted w.lists w.held w.tier.broker_tiers w.desk (length w.journal.items) };
 }
@@ -95,7 +95,7 @@ impl<D: Disk, S: Store, M: MetaLog> World<D, S, M> {
         requires disks { AreFreshDisks D.content D.control devices.disks.items }
         ensures fresh { IfOk result (IsFresh D.Disk S.Store M.MetaLog partition config lists
             devices.disks.items devices.store devices.meta) }
-        ensures new { IfOk result (IsNew lists) }
+        ensures new { IfOk result (IsNewWorld lists) }
         ensures told { IfOk result (λ w. DisksTell D.content devices.disks.items → AllSeen D.content w.held.nodes) }
         ensures central { IfOk result (λ w. IsSeenEmpty D.Disk S.Store M.MetaLog w
             → IsCentral D.Disk S.Store M.MetaLog (fresh_plain config) w) }
@@ -104,7 +104,7 @@ impl<D: Disk, S: Store, M: MetaLog> World<D, S, M> {
             → IsCentralLeft D.Disk S.Store M.MetaLog (fresh_plain config) w) }
 
         // A refusal gives the devices back. Where no call of the disks can fail it was memory.
-        ensures err { IfErr result (λ e. Refuses D.control devices.disks.items e.0.disks.items e.1) }
+        ensures err { IfErr result (λ e. RefusesDisks D.control devices.disks.items e.0.disks.items e.1) }
         ensures store { IfErr result (λ e. e.0.store ≡ devices.store) }
         ensures meta { IfErr result (λ e. e.0.meta ≡ devices.meta) }
         ensures memory { AreInfallibleDisks D.control devices.disks.items → IfErr result (λ e. e.1 ≡ refusal.NoMemory) }
@@ -128,7 +128,7 @@ impl<D: Disk, S: Store, M: MetaLog> World<D, S, M> {
         ensures fresh { IfOk result (IsFresh D.Disk S.Store M.MetaLog partition config lists
             devices.disks.items devices.store devices.meta) }
         ensures told { IfOk result (λ w. DisksTell D.content devices.disks.items → AllSeen D.content w.held.nodes) }
-        ensures err { IfErr result (λ e. Refuses D.control devices.disks.items e.0.disks.items e.1) }
+        ensures err { IfErr result (λ e. RefusesDisks D.control devices.disks.items e.0.disks.items e.1) }
         ensures store { IfErr result (λ e. e.0.store ≡ devices.store) }
         ensures meta { IfErr result (λ e. e.0.meta ≡ devices.meta) }
     {
@@ -185,7 +185,7 @@ impl<D: Disk, S: Store, M: MetaLog> World<D, S, M> {
         ensures reopened { IfOk result (IsReopened D.Disk S.Store M.MetaLog partition config lists registry
             devices.disks.items devices.store devices.meta) }
 
-        ensures new { IfOk result (IsNew lists) }
+        ensures new { IfOk result (IsNewWorld lists) }
 
         // It has the central fact for each plain state that the devices represent, with whatever metadata events a
         // power cut may leave.

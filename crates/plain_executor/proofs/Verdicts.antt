@@ -8,7 +8,7 @@ use Rattle.plain_log.specs.declared.journal.JournalEntry.{JournalEntry}
 use Rattle.plain_log.specs.declared.state.State.{State}
 use Rattle.plain_log.specs.Fresh.{fresh}
 use Rattle.plain_log.specs.Runs.{replay, entry_step, IsPlainRun}
-use Rattle.plain_executor.specs.Traces.{IsVerdict, Reaches}
+use Rattle.plain_executor.specs.Traces.{IsRunVerdict, JournalReaches}
 
 -- an entry that is no step ends the replay
 pub ends : (lists : List ActorList) (p : State) (journal : List JournalEntry) (place : ℕ) (q : State) (entry : JournalEntry)
@@ -33,7 +33,7 @@ state_tells config lists journal (Some p) r e is = (λ t. record { last = p; rep
 
 -- where a journal leads to, or stops, from the fresh state is the verdict
 pub verdict_told : (config : Config) (lists : List ActorList) (journal : List JournalEntry) (p q : State) (o : Option ℕ) → p ≡ fresh config
-    → Reaches lists p journal q o → IsVerdict config lists journal o
+    → JournalReaches lists p journal q o → IsRunVerdict config lists journal o
 verdict_told config lists journal p q None is h = record { last = q; replays = subst (λ (z : State). replay lists z journal ≡ Some q) is h }
 verdict_told config lists journal p q (Some place) is h = record {
   state = q;
@@ -45,13 +45,13 @@ verdict_told config lists journal p q (Some place) is h = record {
 
 -- and so is the state after it
 pub last_told : (config : Config) (lists : List ActorList) (journal : List JournalEntry) (p q : State) (o : Option ℕ) → p ≡ fresh config
-    → Reaches lists p journal q o → o ≡ None → Some q ≡ replay lists (fresh config) journal
+    → JournalReaches lists p journal q o → o ≡ None → Some q ≡ replay lists (fresh config) journal
 last_told config lists journal p q None is h none = sym (subst (λ (z : State). replay lists z journal ≡ Some q) is h)
 last_told config lists journal p q (Some place) is h none = absurd cc
 
 -- a journal that stops has no state after it
 pub none_told : (config : Config) (lists : List ActorList) (journal : List JournalEntry) (p q : State) (o : Option ℕ) (at : ℕ) → p ≡ fresh config
-    → Reaches lists p journal q o → o ≡ Some at → None ≡ replay lists (fresh config) journal
+    → JournalReaches lists p journal q o → o ≡ Some at → None ≡ replay lists (fresh config) journal
 none_told config lists journal p q None at is h some = absurd cc
 none_told config lists journal p q (Some place) at is h some =
     sym (subst (λ (z : State). replay lists z journal ≡ None) is (ends lists p journal place q h.entry h.run h.entry_is h.refused))

@@ -13,7 +13,7 @@ use Rattle.plain_log.specs.declared.state.Broker.{Broker}
 use Rattle.plain_log.specs.declared.state.Path.{Path}
 use Rattle.plain_log.specs.declared.state.Role.TheVariants as role
 use Rattle.plain_log.specs.State.{put_broker, breaks, stopped, path_of, set_registry}
-use Rattle.plain_log.specs.Safe.{Has}
+use Rattle.plain_log.specs.Safe.{HasOnPath}
 use Rattle.plain_log.specs.RowsOfLog.{gained}
 use Rattle.plain_log.specs.RowsOfElections.{led}
 use Rattle.plain_log.specs.RowsOfReplicas.{acknowledged}
@@ -80,7 +80,7 @@ AtBroker p b P = (x : Broker) (s : Replica) → slice_get p.brokers b ≡ Some x
 
 -- the log of each follower that has joined begins its leader's path
 abbrev pub AreJoined : State → Type 0
-AreJoined p = (b : ℕ) (x : Broker) (e : ℕ) → slice_get p.brokers b ≡ Some x → x.role ≡ role.Joined e → Has p.paths e x.log
+AreJoined p = (b : ℕ) (x : Broker) (e : ℕ) → slice_get p.brokers b ≡ Some x → x.role ≡ role.Joined e → HasOnPath p.paths e x.log
 
 -- where both logs have the same batch at a place, they have the same ones before it
 abbrev pub AreMatching : List (List ℕ) → List (List ℕ) → Type 0
@@ -91,8 +91,8 @@ abbrev pub MatchesPaths : State → Broker → Type 0
 MatchesPaths p x = (e : ℕ) (path : List (List ℕ)) → path_of p.paths e ≡ Some path → AreMatching x.log path
 
 -- each broker can stop once more
-abbrev pub CanStop : State → ℕ → Type 0
-CanStop p b = (x : Broker) → slice_get p.brokers b ≡ Some x → x.stops < 18446744073709551615
+abbrev pub EachCanStop : State → ℕ → Type 0
+EachCanStop p b = (x : Broker) → slice_get p.brokers b ≡ Some x → x.stops < 18446744073709551615
 
 -- the broker where a command begins with a change
 abbrev pub begun_at : Broker → Change → Broker

@@ -8,10 +8,11 @@ use Rattle.plain_log.specs.declared.command.Command.{Command}
 use Rattle.plain_log.specs.declared.command.Command.TheVariants.{Append}
 
 -- the records of an append make a batch
-abbrev pub IsFor : Command → Type 0
-IsFor (Append recs) = IsBuildable recs
-IsFor other = Unit {0}
+abbrev pub IsBuildableAppend : Command → Type 0
+IsBuildableAppend (Append recs) = IsBuildable recs
+IsBuildableAppend other = Unit {0}
 
 -- so is each order of the lists
 abbrev pub AreFor : List ActorList → Type 0
-AreFor lists = (a n : ℕ) (order : Order) → slice_get (orders_of lists a) n ≡ Some order → IsFor order.command
+AreFor lists =
+    (a n : ℕ) (order : Order) → slice_get (orders_of lists a) n ≡ Some order → IsBuildableAppend order.command

@@ -16,9 +16,9 @@ pub record IsFirstRefused (config : Config) (lists : List ActorList) (journal : 
   pub refused : entry_step lists state entry ≡ None
 
 -- the journal is a run, or it has a first entry that is no step
-abbrev pub IsVerdict : Config → List ActorList → List JournalEntry → Option ℕ → Type 0
-IsVerdict config lists journal None = IsPlainRun config lists journal
-IsVerdict config lists journal (Some place) = IsFirstRefused config lists journal place
+abbrev pub IsRunVerdict : Config → List ActorList → List JournalEntry → Option ℕ → Type 0
+IsRunVerdict config lists journal None = IsPlainRun config lists journal
+IsRunVerdict config lists journal (Some place) = IsFirstRefused config lists journal place
 
 -- the entries before this place lead from p to q, and the one that is there is no step after q
 pub record IsRefusedAt (lists : List ActorList) (p : State) (journal : List JournalEntry) (q : State) (place : ℕ) : Type 0 where
@@ -28,6 +28,6 @@ pub record IsRefusedAt (lists : List ActorList) (p : State) (journal : List Jour
   pub refused : entry_step lists q entry ≡ None
 
 -- the journal leads from p to q, or its entries before the first that is no step do
-abbrev pub Reaches : List ActorList → State → List JournalEntry → State → Option ℕ → Type 0
-Reaches lists p journal q None = replay lists p journal ≡ Some q
-Reaches lists p journal q (Some place) = IsRefusedAt lists p journal q place
+abbrev pub JournalReaches : List ActorList → State → List JournalEntry → State → Option ℕ → Type 0
+JournalReaches lists p journal q None = replay lists p journal ≡ Some q
+JournalReaches lists p journal q (Some place) = IsRefusedAt lists p journal q place

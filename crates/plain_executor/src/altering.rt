@@ -2,11 +2,11 @@
 
 ghost use Rattle.std.specs.Prelude.{◌≡◌, ◌<◌, ◌≤◌, ◌^◌, ◌-◌, ℕ, min, take, length, OnOk, OnErr};
 ghost use mathlib.Core.List.{IsPrefix};
-ghost use Rattle.plain_log.specs.Safe.{current, Has};
+ghost use Rattle.plain_log.specs.Safe.{current, HasOnPath};
 ghost use Rattle.plain_log.specs.declared.state.Role.TheVariants as role;
 ghost use Rattle.plain_log.specs.State.{breaks, put_broker};
-ghost use Rattle.plain_executor.specs.Change.{AreJoined, AtBroker, CanStop, acked, path_in, changed};
-ghost use Rattle.plain_executor.specs.Fits.{IsFor};
+ghost use Rattle.plain_executor.specs.Change.{AreJoined, AtBroker, EachCanStop, acked, path_in, changed};
+ghost use Rattle.plain_executor.specs.Fits.{IsBuildableAppend};
 ghost use Rattle.registry.specs.Registry.{epoch_limit};
 
 use crate::change::Change;
@@ -108,7 +108,7 @@ fn break_longer(
     count: usize,
 ) -> Result<(), AllocError>
     requires broker { b < length p.old.brokers }
-    requires stops { CanStop p.old b }
+    requires stops { EachCanStop p.old b }
     requires joined { AreJoined p.old }
     ensures ok { OnOk result (AtBroker p.old b (λ x s. p.new ≡ breaks p.old b (record x { log = take count (path_in p.old epoch) }))) }
     ensures err { OnErr result (p.new ≡ p.old) }
@@ -134,7 +134,7 @@ pub(crate) fn alter(
     requires replica { order.now.broker.0 < length p.old.registry.replicas }
     requires begins { IsPrefix p.old.committed (current p.old.paths p.old.registry.epoch p.old.committed) }
     requires joined { AreJoined p.old }
-    requires fit { IsFor order.now.command }
+    requires fit { IsBuildableAppend order.now.command }
     requires epoch { p.old.registry.epoch ≤ epoch_limit }
     ensures ok { OnOk result (AtBroker p.old order.now.broker.0 (λ x s.
         p.new ≡ changed p.old order.now.broker.0 x s order.now.command change)) }

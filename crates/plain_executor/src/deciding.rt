@@ -5,7 +5,7 @@ ghost use Rattle.std.specs.Option.{option_copied};
 ghost use Rattle.plain_log.specs.Rows.{row};
 ghost use Rattle.plain_log.specs.Safe.{PlainSafe};
 ghost use Rattle.plain_executor.specs.Change.{changed};
-ghost use Rattle.plain_executor.specs.Fits.{IsFor};
+ghost use Rattle.plain_executor.specs.Fits.{IsBuildableAppend};
 
 use crate::change::{Change, given};
 use crate::{elections, followers, log_rows, reads, replicas, tiers};
@@ -24,7 +24,7 @@ pub(crate) fn decide(
     requires safe { PlainSafe p.now }
     requires broker { slice_get p.now.brokers b ≡ Some x.now }
     requires replica { slice_get p.now.registry.replicas b ≡ Some s.now }
-    requires fit { IsFor command.now }
+    requires fit { IsBuildableAppend command.now }
     ensures { row p.now b x.now s.now (option_copied recorded.entry) command.now answer.now
         ≡ option_map (changed p.now b x.now s.now command.now) result }
 {

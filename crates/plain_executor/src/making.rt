@@ -12,7 +12,7 @@ ghost use Rattle.plain_log.specs.RowsOfLog.{gained};
 ghost use Rattle.plain_log.specs.RowsOfElections.{led};
 ghost use Rattle.plain_log.specs.Safe.{PlainSafe};
 ghost use Rattle.plain_log.specs.State.{longer, stopped, set_registry, breaks};
-ghost use Rattle.plain_executor.specs.Fits.{IsFor};
+ghost use Rattle.plain_executor.specs.Fits.{IsBuildableAppend};
 ghost use Rattle.plain_executor.specs.Change.{AtBroker, IsPathAt, acked, batch_in, changed, cut};
 
 use crate::change::Change;
@@ -120,7 +120,7 @@ pub(crate) fn batch_at(
     epoch: u32,
     command: &Command,
 ) -> Result<Bytes, AllocError>
-    requires { IsFor command.now }
+    requires { IsBuildableAppend command.now }
     ensures { IfOk result (λ batch. batch ≡ stamped (batch_in command.now) base epoch) }
 {
     match command {

@@ -4,7 +4,7 @@ ghost use Rattle.std.specs.Prelude.{◌≡◌, ◌<◌, ◌≤◌, ◌∷◌, tr
 ghost use Rattle.registry.specs.Registry.{epoch_limit, elected_alone, shrunk, expanded, started};
 ghost use Rattle.plain_log.specs.RowsOfElections.{led};
 ghost use Rattle.plain_log.specs.State.{set_registry, breaks};
-ghost use Rattle.plain_executor.specs.Change.{AtBroker, CanStop};
+ghost use Rattle.plain_executor.specs.Change.{AtBroker, EachCanStop};
 
 use crate::ends::end;
 use crate::lists::{prepend, shared};
@@ -85,7 +85,7 @@ pub(crate) fn lead(p: &mut State, alloc: Global, b: usize, epoch: u32) -> Result
 /// Stops a broker in the middle of taking the lead.
 pub(crate) fn break_lead(p: &mut State, alloc: Global, b: usize) -> Result<(), AllocError>
     requires within { b < length p.old.brokers }
-    requires stops { CanStop p.old b }
+    requires stops { EachCanStop p.old b }
     ensures ok { OnOk result (AtBroker p.old b (λ x s. p.new
         ≡ record (breaks p.old b x) { broken = p.old.registry.epoch ∷ p.old.broken })) }
     ensures err { OnErr result (p.new ≡ p.old) }

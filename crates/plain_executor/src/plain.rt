@@ -7,7 +7,7 @@ ghost use Rattle.plain_log.specs.Fresh.{fresh};
 ghost use Rattle.plain_log.specs.declared.state.Broker.{Broker as BrokerIs};
 ghost use Rattle.plain_log.specs.State.{actor_at};
 ghost use Rattle.plain_log.specs.Step.{step};
-ghost use Rattle.plain_executor.specs.Fits.{IsFor};
+ghost use Rattle.plain_executor.specs.Fits.{IsBuildableAppend};
 ghost use Rattle.plain_executor.specs.Stepped.{Stepped};
 
 use crate::ends::end;
@@ -112,7 +112,7 @@ impl Plain {
         order: &Order,
         entry: &JournalEntry,
     ) -> Result<bool, AllocError>
-        requires { IsFor order.now.command }
+        requires { IsBuildableAppend order.now.command }
         ensures ok { IfOk result (λ taken. Stepped self.old self.new (step self.old order.now entry.now) taken) }
         ensures err { OnErr result (self.new ≡ self.old) }
     {

@@ -7,7 +7,7 @@ ghost use Rattle.registry.specs.Registry.{epoch_limit};
 ghost use Rattle.plain_log.specs.Safe.{PlainSafe, current};
 ghost use Rattle.plain_log.specs.State.{actor_at, with_actor, put_actor as put_at};
 ghost use Rattle.plain_log.specs.Step.{same_which, same_command, is_recorded, next_actor, event_step, step as step_of};
-ghost use Rattle.plain_executor.specs.Fits.{IsFor};
+ghost use Rattle.plain_executor.specs.Fits.{IsBuildableAppend};
 ghost use Rattle.plain_executor.specs.Stepped.{Stepped};
 ghost use Rattle.plain_executor.specs.Change.{AreJoined, AtBroker, changed};
 ghost use Rattle.plain_log.specs.declared.journal.Event.TheVariants as event;
@@ -138,7 +138,7 @@ fn commit(
     requires replica { order.now.broker.0 < length p.old.registry.replicas }
     requires begins { IsPrefix p.old.committed (current p.old.paths p.old.registry.epoch p.old.committed) }
     requires joined { AreJoined p.old }
-    requires fit { IsFor order.now.command }
+    requires fit { IsBuildableAppend order.now.command }
     requires epoch { p.old.registry.epoch ≤ epoch_limit }
     ensures ok { OnOk result (AtBroker p.old order.now.broker.0 (λ x s.
         p.new ≡ with_actor id.0 actor (changed p.old order.now.broker.0 x s order.now.command change))) }
@@ -171,7 +171,7 @@ fn answer(
     answer: &Answer,
 ) -> Result<bool, AllocError>
     requires safe { PlainSafe p.old }
-    requires fit { IsFor order.now.command }
+    requires fit { IsBuildableAppend order.now.command }
     requires broker { order.now.broker.0 < length p.old.brokers }
     requires replica { order.now.broker.0 < length p.old.registry.replicas }
     ensures ok { IfOk result (λ taken. AtBroker p.old order.now.broker.0 (λ x s.
@@ -196,7 +196,7 @@ fn answer(
 /// What an answer to an order changes, where it is allowed.
 fn decided(p: &State, order: &Order, id: ActorId, answer: &Answer) -> Option<Change>
     requires safe { PlainSafe p.now }
-    requires fit { IsFor order.now.command }
+    requires fit { IsBuildableAppend order.now.command }
     requires broker { order.now.broker.0 < length p.now.brokers }
     requires replica { order.now.broker.0 < length p.now.registry.replicas }
     ensures { AtBroker p.now order.now.broker.0 (λ x s.
@@ -226,7 +226,7 @@ fn begin(
     cut: Option<u64>,
 ) -> Result<bool, AllocError>
     requires safe { PlainSafe p.old }
-    requires fit { IsFor order.now.command }
+    requires fit { IsBuildableAppend order.now.command }
     requires broker { order.now.broker.0 < length p.old.brokers }
     requires replica { order.now.broker.0 < length p.old.registry.replicas }
     ensures ok { IfOk result (λ taken. AtBroker p.old order.now.broker.0 (λ x s.
@@ -257,7 +257,7 @@ pub(crate) fn step(
     entry: &JournalEntry,
 ) -> Result<bool, AllocError>
     requires safe { PlainSafe p.old }
-    requires fit { IsFor order.now.command }
+    requires fit { IsBuildableAppend order.now.command }
     ensures ok { IfOk result (λ taken. Stepped p.old p.new (step_of p.old order.now entry.now) taken) }
     ensures err { OnErr result (p.new ≡ p.old) }
 {

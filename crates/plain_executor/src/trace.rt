@@ -6,7 +6,7 @@ ghost use Rattle.plain_log.specs.Fresh.{fresh};
 ghost use Rattle.plain_log.specs.Runs.{replay as replay_of, orders_of, order_of, entry_step, IsPlainRun, IsInOrder};
 ghost use Rattle.plain_executor.specs.Fits.{AreFor};
 ghost use Rattle.plain_executor.specs.Stepped.{Stepped};
-ghost use Rattle.plain_executor.specs.Traces.{IsVerdict, Reaches};
+ghost use Rattle.plain_executor.specs.Traces.{IsRunVerdict, JournalReaches};
 
 use crate::plain::Plain;
 use plain_log::{ActorList, Config, JournalEntry, Order, runs_answer_in_order};
@@ -62,7 +62,7 @@ pub fn take_all(
     journal: &[JournalEntry],
 ) -> Result<Option<usize>, AllocError>
     requires { AreFor lists.now }
-    ensures { IfOk result (λ place. Reaches lists.now plain.old journal.now plain.new place) }
+    ensures { IfOk result (λ place. JournalReaches lists.now plain.old journal.now plain.new place) }
 {
     for (i, entry) in journal.iter().enumerate() {
         if !take(alloc, plain, lists, entry)? {
@@ -83,7 +83,7 @@ pub fn first_refused(
     requires some { 1 ≤ config.now.brokers }
     requires few { config.now.brokers ≤ 8 }
     requires fit { AreFor lists.now }
-    ensures { IfOk result (λ place. IsVerdict config.now lists.now journal.now place) }
+    ensures { IfOk result (λ place. IsRunVerdict config.now lists.now journal.now place) }
 {
     let mut plain = Plain::fresh(alloc, config)?;
     let place = take_all(alloc, &mut plain, lists, journal);

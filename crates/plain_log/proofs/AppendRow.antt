@@ -22,7 +22,7 @@ use Rattle.plain_log.specs.declared.state.Role.TheVariants.{Idle, Leads, Follows
 use Rattle.registry.specs.Registry.{epoch_limit}
 use Rattle.plain_log.specs.State.{path_of, longer, leads, leads_in, breaks}
 use Rattle.plain_log.specs.RowsOfLog.{offset_limit, has_room, gained, append_row, raw_row}
-use Rattle.plain_log.specs.Safe.{Has, LogSafe, PathSafe, BrokerSafe, AckSafe, current, KnownSafe, SnapshotIsSafe, PlainSafe}
+use Rattle.plain_log.specs.Safe.{HasOnPath, LogSafe, PathSafe, BrokerSafe, AckSafe, current, KnownSafe, SnapshotIsSafe, PlainSafe}
 use Rattle.plain_log.proofs.Options.{both, le_of, eq_of}
 use Rattle.plain_log.proofs.Keeps.{Keeps, grown, silent, by_when, breaks_kept}
 use Rattle.plain_log.proofs.Swaps.{one_leader_set, role_as}
@@ -56,7 +56,7 @@ longer_same (q ∷ ps) e v l is = go (q.epoch == e) refl is (longer_same ps e v 
 pub longer_wider : (ps : List Path) (e : ℕ) (v : List ℕ) → Wider ps (longer ps e v)
 longer_wider ps e v f l is = go (f == e) refl
   where
-    go : (t : Bool) → (f == e) ≡ t → Has (longer ps e v) f l
+    go : (t : Bool) → (f == e) ≡ t → HasOnPath (longer ps e v) f l
     go true t =
         let same : f ≡ e = grind (arith, nat_tests, t) in
         (l ++ v ∷ [], ap (path_of (longer ps e v)) same ∙ longer_same ps e v l (ap (path_of ps) (sym same) ∙ is), (v ∷ [], refl))

@@ -14,7 +14,7 @@ use Rattle.plain_log.specs.declared.state.Role.TheVariants.{Idle, Leads, Follows
 use Rattle.plain_log.specs.Ends.{is_end, common}
 use Rattle.plain_log.specs.State.{path_of, followed}
 use Rattle.plain_log.specs.RowsOfFollowers.{may_join, cut_to, extended}
-use Rattle.plain_log.specs.Safe.{Has, LogSafe, RoleSafe, BrokerSafe, SharedTo, current, KnownSafe}
+use Rattle.plain_log.specs.Safe.{HasOnPath, LogSafe, RoleSafe, BrokerSafe, SharedTo, current, KnownSafe}
 use Rattle.plain_log.proofs.Options.{when_some, both}
 use Rattle.plain_log.proofs.Ends.{log_prefix, is_end_ends, common_left, common_right, common_all}
 use Rattle.plain_log.proofs.Swaps.{Swap, role_as, current_is}
@@ -115,7 +115,7 @@ swap_extended p x n e y is role paths h k =
         let ends = is_end_ends n l tt2.0 in
         let more : end_of x.log < n = grind (arith, nat_tests, tt2.1) in
         let r = role_as p.paths p.registry.epoch x.role (Joined e) x.log role h.role in
-        let has : Has p.paths e x.log = r.1 in
+        let has : HasOnPath p.paths e x.log = r.1 in
         let safe = paths e l pa in
         let one : Some has.0 ≡ Some l = sym has.1 ∙ pa in
         let two : has.0 ≡ l = cc (one) in

@@ -6,7 +6,7 @@ use Rattle.plain_log.proofs.Ends.{is_end_ends, common_left}
 use Rattle.plain_log.proofs.Options.{both, when_some, map_some}
 use Rattle.plain_log.specs.Ends.{is_end}
 use Rattle.plain_log.specs.RowsOfFollowers.{cut_to, goes_on, extended, was_passed, rebuilt}
-use Rattle.plain_log.specs.Safe.{PlainSafe, Has, RoleSafe}
+use Rattle.plain_log.specs.Safe.{PlainSafe, HasOnPath, RoleSafe}
 use Rattle.plain_log.specs.State.{breaks, set_registry, left_by, put_broker, stopped, path_of, followed}
 use Rattle.plain_log.specs.declared.state.Broker.{Broker}
 use Rattle.plain_log.specs.declared.state.PlainSnapshot.{PlainSnapshot}
@@ -108,7 +108,7 @@ pub record IsLonger (x y : Broker) (e : ℕ) : Type 0 where
   pub role : y.role ≡ Joined e
   pub log : IsPrefix x.log y.log
 
-as_longer : (p : State) (x : Broker) (n e : ℕ) (y : Broker) → extended p x n ≡ Some y → x.role ≡ Joined e → Has p.paths e x.log
+as_longer : (p : State) (x : Broker) (n e : ℕ) (y : Broker) → extended p x n ≡ Some y → x.role ≡ Joined e → HasOnPath p.paths e x.log
     → ((f : ℕ) (l : List (List ℕ)) → path_of p.paths f ≡ Some l → IsConsecutive 0 l) → IsLonger x y e
 as_longer p x n e y is role has paths =
     let f = and_then_some _ (followed x.role) y is in
@@ -125,7 +125,7 @@ as_longer p x n e y is role has paths =
       log = in_up_to n x.log g.0 (paths f.0 g.0 g.1) pre (is_end_ends n g.0 t.0) (omega (arith, low));
     })
 
-joined_has : (paths : List Path) (epoch : ℕ) (r : Role) (e : ℕ) (log : List (List ℕ)) → r ≡ Joined e → RoleSafe paths epoch r log → Has paths e log
+joined_has : (paths : List Path) (epoch : ℕ) (r : Role) (e : ℕ) (log : List (List ℕ)) → r ≡ Joined e → RoleSafe paths epoch r log → HasOnPath paths e log
 joined_has paths epoch r e log is h = (subst (λ (k : Role). RoleSafe paths epoch k log) is h).1
 
 pub extended_is : (p : State) (b : ℕ) (x : Broker) (recorded : PlainSnapshot) (n : ℕ) (y : Broker) → slice_get p.brokers b ≡ Some x → (j : JoinedSnapshot p x (Some recorded))

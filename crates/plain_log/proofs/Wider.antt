@@ -8,11 +8,11 @@ use Rattle.plain_log.specs.declared.state.PlainSnapshot.{PlainSnapshot}
 use Rattle.plain_log.specs.declared.state.Role.{Role}
 use Rattle.plain_log.specs.declared.state.Role.TheVariants.{Idle, Leads, Follows, Joined}
 use Rattle.plain_log.specs.State.{path_of}
-use Rattle.plain_log.specs.Safe.{Has, LogSafe, RoleSafe, BrokerSafe, SnapshotIsSafe}
+use Rattle.plain_log.specs.Safe.{HasOnPath, LogSafe, RoleSafe, BrokerSafe, SnapshotIsSafe}
 
 -- each path is the beginning of one
 abbrev pub Wider : List Path → List Path → Type 0
-Wider ps qs = (e : ℕ) (log : List (List ℕ)) → path_of ps e ≡ Some log → Has qs e log
+Wider ps qs = (e : ℕ) (log : List (List ℕ)) → path_of ps e ≡ Some log → HasOnPath qs e log
 
 -- paths are beginnings of themselves
 pub wider_self : (ps : List Path) → Wider ps ps
@@ -25,7 +25,7 @@ wider_trans ps qs rs v w e log is =
     let m = w e k.0 k.1 in
     (m.0, m.1, prefix_trans log k.0 m.0 k.2 m.2)
 
-pub has_wider : (ps qs : List Path) (e : ℕ) (front : List (List ℕ)) → Wider ps qs → Has ps e front → Has qs e front
+pub has_wider : (ps qs : List Path) (e : ℕ) (front : List (List ℕ)) → Wider ps qs → HasOnPath ps e front → HasOnPath qs e front
 has_wider ps qs e front w h = let k = w e h.0 h.1 in (k.0, k.1, prefix_trans front h.0 k.0 h.2 k.2)
 
 pub log_wider : (ps qs : List Path) (log : List (List ℕ)) → Wider ps qs → LogSafe ps log → LogSafe qs log

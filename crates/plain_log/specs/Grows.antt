@@ -6,11 +6,11 @@ use Rattle.plain_log.specs.declared.state.Path.{Path}
 use Rattle.plain_log.specs.declared.state.Broker.{Broker}
 use Rattle.plain_log.specs.declared.state.Role.TheVariants.{Leads}
 use Rattle.plain_log.specs.State.{path_of}
-use Rattle.plain_log.specs.Safe.{Has}
+use Rattle.plain_log.specs.Safe.{HasOnPath}
 
 -- each path begins a path of its epoch
 abbrev pub PathsGrow : List Path → List Path → Type 0
-PathsGrow ps qs = (e : ℕ) (log : List (List ℕ)) → path_of ps e ≡ Some log → Has qs e log
+PathsGrow ps qs = (e : ℕ) (log : List (List ℕ)) → path_of ps e ≡ Some log → HasOnPath qs e log
 
 -- a broker's log is cut or gains batches; one that leads either led that epoch before, without a stop, or is its
 -- first leader

@@ -17,14 +17,14 @@ use Rattle.plain_log.specs.declared.state.Role.TheVariants.{Idle, Leads, Follows
 use Rattle.plain_log.specs.State.{path_of, actor_at, is_in}
 
 -- the path of this epoch begins with these batches
-abbrev pub Has : List Path → ℕ → List (List ℕ) → Type 0
-Has paths e front = (log : List (List ℕ)) × (path_of paths e ≡ Some log) × IsPrefix front log
+abbrev pub HasOnPath : List Path → ℕ → List (List ℕ) → Type 0
+HasOnPath paths e front = (log : List (List ℕ)) × (path_of paths e ≡ Some log) × IsPrefix front log
 
 -- consecutive batches, and each with all before it begins the path of its epoch: the logs match
 pub record LogSafe (paths : List Path) (log : List (List ℕ)) : Type 0 where
   pub consecutive : IsConsecutive 0 log
   pub matching : (front : List (List ℕ)) (batch : List ℕ) → IsPrefix (front ++ batch ∷ []) log
-      → Has paths (epoch_of batch) (front ++ batch ∷ [])
+      → HasOnPath paths (epoch_of batch) (front ++ batch ∷ [])
 
 -- a path: no batch has a later epoch, and it isn't above the registry's
 pub record PathSafe (paths : List Path) (epoch e : ℕ) (log : List (List ℕ)) : Type 0 where
@@ -37,7 +37,7 @@ abbrev pub RoleSafe : List Path → ℕ → Role → List (List ℕ) → Type 0
 RoleSafe paths epoch Idle log = Unit {0}
 RoleSafe paths epoch (Leads e) log = (e ≤ epoch) × (path_of paths e ≡ Some log)
 RoleSafe paths epoch (Follows e) log = e ≤ epoch
-RoleSafe paths epoch (Joined e) log = (e ≤ epoch) × Has paths e log
+RoleSafe paths epoch (Joined e) log = (e ≤ epoch) × HasOnPath paths e log
 
 -- a broker's log, role, flushed end and known high watermark; one that is down is idle and knows none
 pub record BrokerSafe (paths : List Path) (epoch : ℕ) (x : Broker) : Type 0 where

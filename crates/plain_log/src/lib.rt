@@ -2,7 +2,7 @@
 //!
 //! A broker's log is a list of record batches. The state (`State`) has the registry's fields, the brokers, the log
 //! that each leader epoch has had, what is committed, and how far each actor is in its list of commands.
-//! `specs/Step.antt` says which journal entries are a step and what each changes; `specs/Runs.antt` says when a
+//! `specs/Step.antt` says which journal entries are a step and what each changes; `specs/RunsTurns.antt` says when a
 //! journal is a run of given lists. `specs/Safe.antt` has the rules that every state of a run satisfies, and the laws
 //! of this crate say so. The crates above cite these definitions: a written trace is right exactly if it is such a
 //! run.

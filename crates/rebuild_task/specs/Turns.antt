@@ -28,7 +28,7 @@ use Rattle.object_store.specs.Call.{call_code}
 use Rattle.object_store.specs.Calls.{Gets}
 use Rattle.object_store.specs.Content.{Content}
 use Rattle.object_store.specs.Place.{spot_of, all_of, short_of}
-use Rattle.remote_view.specs.Fold.{Seen, entry_of}
+use Rattle.remote_view.specs.Fold.{EntriesSeen, entry_of}
 use Rattle.remote_find.specs.declared.piece.Piece.{Piece}
 use Rattle.remote_find.specs.Pieces.{piece_at}
 use Rattle.plain_log.specs.declared.answer.Answer.TheVariants.{StoreFault, Damaged}
@@ -56,38 +56,38 @@ pub record IsTaken (wanted : ℕ) (bytes : List ℕ) (line : List (ℕ × ℕ)) 
   pub line_is : line ≡ cut_end whole wanted
 
 -- they are the text of no line
-abbrev pub IsUnread : List ℕ → Type 0
-IsUnread bytes = (line : List (ℕ × ℕ)) → IsLine line → bytes ≢ text_of line
+abbrev pub IsNoLine : List ℕ → Type 0
+IsNoLine bytes = (line : List (ℕ × ℕ)) → IsLine line → bytes ≢ text_of line
 
 -- what becomes of a rebuild by bytes of its epochs, and by where more of them are lacking
 abbrev pub TakesBytes : Option ℕ → ℕ → Spot → List ℕ → Result RebuildTurn AllocError → Type 0
 TakesBytes (Some end) wanted spot bytes result = result ≡ Ok (Ends (Damaged (Key spot.key) end))
 TakesBytes None wanted spot bytes (Ok (Goes (Restart line))) = IsTaken wanted bytes line
 TakesBytes None wanted spot bytes (Ok (Goes next)) = ⊥
-TakesBytes None wanted spot bytes (Ok (Ends answer)) = (answer ≡ Damaged (Key spot.key) spot.at) × IsUnread bytes
+TakesBytes None wanted spot bytes (Ok (Ends answer)) = (answer ≡ Damaged (Key spot.key) spot.at) × IsNoLine bytes
 TakesBytes None wanted spot bytes (Err e) = Unit {0}
 
 -- by what the store answered of them
-abbrev pub Takes : ℕ → Spot → Result (Option (List ℕ)) Trouble → Result RebuildTurn AllocError → Type 0
-Takes wanted spot (Err Failed) result = result ≡ Ok (Ends StoreFault)
-Takes wanted spot (Err NoMemory) result = IsErr result
-Takes wanted spot (Ok None) result = result ≡ Ok (Ends (Damaged (Key spot.key) 0))
-Takes wanted spot (Ok (Some bytes)) result = TakesBytes (short_of spot bytes) wanted spot bytes result
+abbrev pub TakesEpochs : ℕ → Spot → Result (Option (List ℕ)) Trouble → Result RebuildTurn AllocError → Type 0
+TakesEpochs wanted spot (Err Failed) result = result ≡ Ok (Ends StoreFault)
+TakesEpochs wanted spot (Err NoMemory) result = IsErr result
+TakesEpochs wanted spot (Ok None) result = result ≡ Ok (Ends (Damaged (Key spot.key) 0))
+TakesEpochs wanted spot (Ok (Some bytes)) result = TakesBytes (short_of spot bytes) wanted spot bytes result
 
 module _ {S : Type 0} (objects : S → Content) (calls : S → Control call_code) where
   -- one read of a segment's epochs
   pub record ReadsEpochs (wanted : ℕ) (spot : Spot) (result : Result RebuildTurn AllocError) (old new : S) : Type 0 where
     pub answer : Result (Option (List ℕ)) Trouble
     pub gets : Gets objects calls spot.key (all_of spot) answer old new
-    pub takes : Takes wanted spot answer result
+    pub takes : TakesEpochs wanted spot answer result
 
   -- they are read where they are
-  abbrev pub EpochsRow : ℕ → Seen → Option Spot → Result RebuildTurn AllocError → S → S → Type 0
+  abbrev pub EpochsRow : ℕ → EntriesSeen → Option Spot → Result RebuildTurn AllocError → S → S → Type 0
   EpochsRow wanted view None result old new = (result ≡ Ok (Ends (Damaged Meta view.notes))) × (new ≡ old)
   EpochsRow wanted view (Some spot) result old new = ReadsEpochs wanted spot result old new
 
   -- a turn of a rebuild: what it came to, or that it ran out of memory
-  abbrev pub RebuildRow : RebuildRequest → List (ℕ × ℕ) → Seen → Result RebuildTurn AllocError → S → S → Type 0
+  abbrev pub RebuildRow : RebuildRequest → List (ℕ × ℕ) → EntriesSeen → Result RebuildTurn AllocError → S → S → Type 0
   RebuildRow wanted line view result old new =
       EpochsRow wanted.offset view
       (epochs_of wanted.partition view.entries (piece_at view.entries line wanted.offset (wanted.offset - 1))) result old new

@@ -5,7 +5,7 @@ ghost use Rattle.plain_log.specs.declared.answer.Answer.TheVariants.{Damaged};
 ghost use Rattle.plain_log.specs.declared.answer.Place.TheVariants.{Key, Meta};
 ghost use Rattle.remote_find.specs.Pieces.{piece_at};
 ghost use Rattle.rebuild_task.specs.declared.turn.RebuildTurn.TheVariants.{Ends};
-ghost use Rattle.rebuild_task.specs.Turns.{epochs_of, Takes, RebuildRow};
+ghost use Rattle.rebuild_task.specs.Turns.{epochs_of, TakesEpochs, RebuildRow};
 
 use crate::turn::{RebuildRequest, RebuildStep, RebuildTurn};
 use bytes::Bytes;
@@ -67,7 +67,7 @@ fn take(
     given: Option<Bytes>,
 ) -> Result<RebuildTurn, AllocError>
     requires { spot.now.at < 2 ^ 34 }
-    ensures { Takes wanted spot.now (Ok given) result }
+    ensures { TakesEpochs wanted spot.now (Ok given) result }
 {
     let Some(bytes) = given else {
         return Ok(damaged(spot, 0));

@@ -8,14 +8,14 @@ use Rattle.record_batch.specs.Record.{DeltaRec}
 use Rattle.record_batch.specs.Check.{rec_in}
 
 -- nothing is said where memory ran out
-abbrev pub Stops : {Y : Type 0} → ReadStop → Option Y → Type 0
-Stops NoReading read = read ≡ None
-Stops NoMemory read = Unit {0}
+abbrev pub StopsAs : {Y : Type 0} → ReadStop → Option Y → Type 0
+StopsAs NoReading read = read ≡ None
+StopsAs NoMemory read = Unit {0}
 
 -- what was read, seen by view
-abbrev pub Gives : {X Y : Type 0} → (X → Y) → Result X ReadStop → Option Y → Type 0
-Gives view (Ok x) read = read ≡ Some (view x)
-Gives view (Err why) read = Stops why read
+abbrev pub GivesView : {X Y : Type 0} → (X → Y) → Result X ReadStop → Option Y → Type 0
+GivesView view (Ok x) read = read ≡ Some (view x)
+GivesView view (Err why) read = StopsAs why read
 
 -- a record, and what follows it
 abbrev pub rec_behind : Rec → List ℕ → Rec × List ℕ

@@ -6,7 +6,7 @@ ghost use Rattle.record_batch.specs.Record.{header_at, header_shown, headers_at,
 ghost use Rattle.record_batch.specs.Check.{ts_in, rec_in, rec_shown, records_from, checked};
 ghost use Rattle.record_batch.specs.Head.{head_of};
 ghost use Rattle.record_batch.specs.Walk.{front_of};
-ghost use Rattle.record_batch.specs.Read.{Gives, rec_behind, all_read};
+ghost use Rattle.record_batch.specs.Read.{GivesView, rec_behind, all_read};
 
 use crate::head::{HEAD_SIZE, Head, fields_of, u32_at};
 use crate::parts::{Front, blob, body_front, header, varint};
@@ -43,7 +43,7 @@ fn copied(alloc: Global, bytes: Option<&[u8]>) -> Result<Option<Blob>, AllocErro
 }
 
 fn header_of(alloc: Global, bytes: &[u8]) -> Result<(Header, &[u8]), ReadStop>
-    ensures { Gives (λ x. header_shown x.0.key x.0.value x.1.now) result (header_at bytes.now) }
+    ensures { GivesView (λ x. header_shown x.0.key x.0.value x.1.now) result (header_at bytes.now) }
 {
     let Some(((key, value), rest)) = header(bytes) else {
         return Err(ReadStop::NoReading);
@@ -55,7 +55,7 @@ fn header_of(alloc: Global, bytes: &[u8]) -> Result<(Header, &[u8]), ReadStop>
 
 /// So many headers. The count says nothing of the memory: a list grows with the headers that are there.
 fn headers_of(alloc: Global, count: u32, bytes: &[u8]) -> Result<(HeaderList, &[u8]), ReadStop>
-    ensures { Gives (λ x. headers_shown x.0 x.1.now) result (headers_at count bytes.now) }
+    ensures { GivesView (λ x. headers_shown x.0 x.1.now) result (headers_at count bytes.now) }
 {
     let mut headers = Row::new(alloc);
     let mut rest = bytes;
@@ -69,7 +69,7 @@ fn headers_of(alloc: Global, count: u32, bytes: &[u8]) -> Result<(HeaderList, &[
 
 #[tactic(auto, unfolding(crate::specs::Record::header_list_at))]
 fn header_list_of(alloc: Global, bytes: &[u8]) -> Result<(HeaderList, &[u8]), ReadStop>
-    ensures { Gives (λ x. headers_shown x.0 x.1.now) result (header_list_at bytes.now) }
+    ensures { GivesView (λ x. headers_shown x.0 x.1.now) result (header_list_at bytes.now) }
 {
     let Some((count, rest)) = varint(bytes) else {
         return Err(ReadStop::NoReading);
@@ -109,7 +109,7 @@ fn owned(alloc: Global, head: Head, front: Front, headers: HeaderList) -> Result
 /// What a record's length counts.
 #[tactic(auto, unfolding(crate::specs::Record::body_at))]
 fn body_of(alloc: Global, head: Head, body: &[u8]) -> Result<Rec, ReadStop>
-    ensures { Gives (λ rec. rec) result (option_map (rec_in head) (body_at body.now)) }
+    ensures { GivesView (λ rec. rec) result (option_map (rec_in head) (body_at body.now)) }
 {
     let Some((front, rest)) = body_front(body) else {
         return Err(ReadStop::NoReading);
@@ -124,7 +124,7 @@ fn body_of(alloc: Global, head: Head, body: &[u8]) -> Result<Rec, ReadStop>
 
 #[tactic(auto, unfolding(crate::specs::Record::record_at))]
 fn record_of(alloc: Global, head: Head, bytes: &[u8]) -> Result<(Rec, &[u8]), ReadStop>
-    ensures { Gives (λ x. rec_behind x.0 x.1.now) result (option_map (rec_shown head) (record_at bytes.now)) }
+    ensures { GivesView (λ x. rec_behind x.0 x.1.now) result (option_map (rec_shown head) (record_at bytes.now)) }
 {
     let Some((body, rest)) = blob(bytes) else {
         return Err(ReadStop::NoReading);

@@ -3,7 +3,7 @@ use Rattle.std.proofs.Common.{◌≡◌, ap, refl, ℕ, ◌+◌, ◌-◌, ◌≤
 use Rattle.registry_file.specs.declared.refusal.RegFileRefusal.{RegFileRefusal}
 use Rattle.registry_file.specs.declared.refusal.RegFileRefusal.TheVariants.{Bad}
 use Rattle.registry_file.specs.Reading.{Read, ◌>>=◌}
-use Rattle.registry_file.specs.Faults.{field_end, IsPlace}
+use Rattle.registry_file.specs.Faults.{field_end, IsEndPlace}
 use Rattle.registry_file.proofs.Inverting.{peeled, ok_same}
 
 -- these bytes can continue as what the reader takes
@@ -13,7 +13,7 @@ Fills {A} R P front = (more : List ℕ) × (x : A) × P x × ((t : List ℕ) →
 -- a reader from the place p on refuses at a place
 pub record Fault {A : Type 0} (R : List ℕ → Read A) (P : A → Type 0) (p : ℕ) (bytes : List ℕ) (at : ℕ) : Type 0 where
   pub above : p ≤ at
-  pub place : IsPlace at
+  pub place : IsEndPlace at
   pub past : at ≤ field_end at
   pub there : at ≤ p + length bytes
   pub before : Fills R P (take (at - p) bytes)

@@ -6,7 +6,7 @@ use Rattle.std.proofs.lemmas.Bool.{lt-ltb, ltb-true, ltb-false}
 use Rattle.registry_file.specs.declared.refusal.RegFileRefusal.{RegFileRefusal}
 use Rattle.registry_file.specs.declared.refusal.RegFileRefusal.TheVariants.{Bad}
 use Rattle.registry_file.specs.Reading.{Read, passing, cut_at, number_at, byte_at, sync_may}
-use Rattle.registry_file.specs.Faults.{field_end, IsPlace}
+use Rattle.registry_file.specs.Faults.{field_end, IsEndPlace}
 use Rattle.registry_file.proofs.Inverting.{peeled, ok_same, passed}
 use Rattle.registry_file.proofs.Again.{cut_again}
 use Rattle.registry_file.proofs.Faults.{Fills, Fault, Took, Reads, split}
@@ -80,12 +80,12 @@ pub told : (p at : ℕ) → Bad p ≡ Bad at → p ≡ at
 told p at e = cc
 
 -- a place before the ends
-pub low_place : (p : ℕ) → p ≤ 28 → IsPlace p
+pub low_place : (p : ℕ) → p ≤ 28 → IsEndPlace p
 low_place p low h = absurd (omega (arith, low, h))
 
 -- a field that is refused
 field-fault : {A : Type 0} (R : List ℕ → Read A) (P : A → Type 0) (p s : ℕ) (bytes : List ℕ) (at : ℕ)
-    → p ≡ at → IsPlace p → field_end p ≡ p + s → Fills R P []
+    → p ≡ at → IsEndPlace p → field_end p ≡ p + s → Fills R P []
     → (s ≤ length bytes → (t : List ℕ) → R (take s bytes ++ t) ≡ Err (Bad p)) → Fault R P p bytes at
 field-fault R P p s bytes at same place end fills broken =
     let none : p - p ≡ 0 = omega arith in
@@ -118,7 +118,7 @@ refusal-of G test p (Err other) why e first next = let same : other ≡ why = cc
 
 -- a number in a field
 pub number_reads : (w : Width) (p : ℕ) (test : ℕ → Bool) (good : ℕ) → ((t : List ℕ) → number_at w p (to_be_bytes w good ++ t) ≡ Ok (good, t)) → test good ≡ true
-    → IsPlace p → field_end p ≡ p + byte_len w → Reads (λ bytes. passing test (Bad p) (number_at w p bytes)) (λ n. test n ≡ true) p (byte_len w)
+    → IsEndPlace p → field_end p ≡ p + byte_len w → Reads (λ bytes. passing test (Bad p) (number_at w p bytes)) (λ n. test n ≡ true) p (byte_len w)
 number_reads w p test good again may place end =
     let R : List ℕ → Read ℕ = λ bytes. passing test (Bad p) (number_at w p bytes) in
     let P : ℕ → Type 0 = λ n. test n ≡ true in

@@ -10,7 +10,7 @@ use Rattle.registry_file.specs.declared.refusal.RegFileRefusal.{RegFileRefusal}
 use Rattle.registry_file.specs.declared.refusal.RegFileRefusal.TheVariants.{Bad}
 use Rattle.registry_file.specs.Spelling.{magic}
 use Rattle.registry_file.specs.Reading.{Read, ◌>>=◌, passing, number_at, count_may, sync_may, front_at, marks_at, end_at, ends_at, eight_at, whole, joined, view_in}
-use Rattle.registry_file.specs.Faults.{field_end, IsPlace, IsFirstFault}
+use Rattle.registry_file.specs.Faults.{field_end, IsEndPlace, IsFirstFault}
 use Rattle.registry_file.proofs.Again.{u16_again, u32_again, u64_again}
 use Rattle.registry_file.proofs.Faults.{Reads, pure_reads, seq_reads, then, split}
 use Rattle.registry_file.proofs.FieldFaults.{sync, told, low_place, number_reads, sync_reads}
@@ -112,10 +112,10 @@ after_end more p end = then (ends_at more (p + 8)) (behind_ends end)
 end-end : (p : ℕ) → 28 < p → field_end p ≡ p + 8
 end-end p high = rw (lt-ltb 28 p high) refl
 
-ends-reads : (count p : ℕ) → 28 < p → IsPlace p → Reads (ends_at count p) Any p (size_of count)
+ends-reads : (count p : ℕ) → 28 < p → IsEndPlace p → Reads (ends_at count p) Any p (size_of count)
 ends-reads zero p high place = pure_reads [] Any p tt
 ends-reads (suc more) p high place =
-    let next : IsPlace (p + 8) = λ h. let is : (p - 29) % 8 ≡ 0 = place high in omega (arith, high, is) in
+    let next : IsEndPlace (p + 8) = λ h. let is : (p - 29) % 8 ≡ 0 = place high in omega (arith, high, is) in
     seq_reads (end_at p) (λ n. nat_le n (2 ^ 62) ≡ true) (after_end more p) Any p 8 (size_of more + 0)
     (number_reads w64 p (λ n. nat_le n (2 ^ 62)) 0 (λ t. u64_again p 0 t (omega arith)) refl place (end-end p high))
     (λ end is1.
@@ -134,7 +134,7 @@ eight-reads count =
 -- a last reading refuses at a place
 record Stop {B : Type 0} (C : List ℕ → Result B RegFileRefusal) (p : ℕ) (bytes : List ℕ) (at : ℕ) : Type 0 where
   above : p ≤ at
-  place : IsPlace at
+  place : IsEndPlace at
   past : at ≤ field_end at
   there : at ≤ p + length bytes
   before : (more : List ℕ) × (y : B) × (C (take (at - p) bytes ++ more) ≡ Ok y)
@@ -183,7 +183,7 @@ stops-behind {A} {B} R P C p s first second = record {
 }
 
 -- a byte that follows
-whole-stop : {B : Type 0} (p : ℕ) (x : B) (bytes : List ℕ) (at : ℕ) → 28 < p → IsPlace p → whole p x bytes ≡ Err (Bad at) → Stop (whole p x) p bytes at
+whole-stop : {B : Type 0} (p : ℕ) (x : B) (bytes : List ℕ) (at : ℕ) → 28 < p → IsEndPlace p → whole p x bytes ≡ Err (Bad at) → Stop (whole p x) p bytes at
 whole-stop p x [] at high place e = absurd (cc)
 whole-stop {B} p x (b ∷ bytes) at high place e =
     let same : p ≡ at = told p at (cc) in
@@ -200,7 +200,7 @@ whole-stop {B} p x (b ∷ bytes) at high place e =
       field = λ fits t. rw (end, size) refl;
     })
 
-whole-stops : {B : Type 0} (p : ℕ) (x : B) → 28 < p → IsPlace p → Stops (whole p x) p
+whole-stops : {B : Type 0} (p : ℕ) (x : B) → 28 < p → IsEndPlace p → Stops (whole p x) p
 whole-stops p x high place = record { stop = λ bytes at e. whole-stop p x bytes at high place e; fills = ([], x, refl) }
 
 abbrev after_ends : Front → Marks → List ℕ → List ℕ → Result RegView RegFileRefusal

@@ -11,8 +11,8 @@ field_end at =
     else if at == 10 then 12 else if at == 6 then 10 else if at == 4 then 6 else 4
 
 -- a place past 28 is one of an end, of the eight bytes each
-abbrev pub IsPlace : ℕ → Type 0
-IsPlace at = 28 < at → (at - 29) % 8 ≡ 0
+abbrev pub IsEndPlace : ℕ → Type 0
+IsEndPlace at = 28 < at → (at - 29) % 8 ≡ 0
 
 -- bytes are the front of a view's file
 abbrev pub CanGoOn : List ℕ → Type 0
@@ -20,7 +20,7 @@ CanGoOn front = (more : List ℕ) × (view : RegView) × (view_in (front ++ more
 
 -- the first field that lacks or breaks a rule begins here, or the first byte that follows is here
 pub record IsFirstFault (bytes : List ℕ) (at : ℕ) : Type 0 where
-  pub place : IsPlace at
+  pub place : IsEndPlace at
   pub there : at ≤ length bytes
   pub before : CanGoOn (take at bytes)
   pub field : field_end at ≤ length bytes → CanGoOn (take (field_end at) bytes) → ⊥

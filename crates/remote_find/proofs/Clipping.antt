@@ -7,7 +7,7 @@ use Rattle.log_terms.specs.Line.{epoch_at}
 use Rattle.epoch_line.specs.Line.{IsLine, start_or, end_of}
 use Rattle.segment_meta.specs.declared.note.Entry.{Entry}
 use Rattle.remote_view.specs.declared.spans.Span.{Span}
-use Rattle.remote_view.specs.Fold.{entry_of, IsKept, AreKept, AreDistinct}
+use Rattle.remote_view.specs.Fold.{entry_of, IsEntryValid, AreEntriesValid, AreDistinct}
 use Rattle.remote_view.specs.Lookup.{is_readable, is_epoch, covers, finished}
 use Rattle.remote_view.specs.Stairs.{span_of}
 use Rattle.remote_view.specs.Laying.{gives}
@@ -124,7 +124,7 @@ span_below_end (entry ∷ next ∷ line) epoch end span all is = by (entry.0 == 
     by true is more = let same : next.1 ≡ span.to = cc in omega (arith, same, all.1.0)
     by false is more = more is
 
-module _ (entries : List Entry) (line : List (ℕ × ℕ)) (log_end offset : ℕ) (piece : Piece) (kept : AreKept entries) (distinct : AreDistinct entries) (rises : IsLine line) (below : offset < log_end) where
+module _ (entries : List Entry) (line : List (ℕ × ℕ)) (log_end offset : ℕ) (piece : Piece) (kept : AreEntriesValid entries) (distinct : AreDistinct entries) (rises : IsLine line) (below : offset < log_end) where
   -- the piece of two spans
   of_spans : (epoch : ℕ) (entry : Entry) (span own : Span) → epoch_at line offset ≡ Some epoch → finished epoch offset entries ≡ Some entry → span_of entry.map epoch (entry.end + 1) ≡ Some span
       → span_of line epoch log_end ≡ Some own → Some (record { id = entry.id; from = max span.from own.from; to = min span.to own.to }) ≡ Some piece
@@ -132,7 +132,7 @@ module _ (entries : List Entry) (line : List (ℕ × ℕ)) (log_end offset : ℕ
   of_spans epoch entry span own at found is is_own made =
       let there = found_among epoch offset entries entry found in
       let copy : entry_of entry.id entries ≡ Some entry = entry_found entries entry distinct there.1 in
-      let is_kept : IsKept entry = kept_found entry.id entries entry kept copy in
+      let is_kept : IsEntryValid entry = kept_found entry.id entries entry kept copy in
       let bounds : IsSpanIn entry.start entry.end span = rw is at (kept_span entry epoch is_kept) in
       let parts' = readable_gives (is_readable entry.state) entry epoch refl there.0 in
       let in_copy : (span.from ≤ offset) × (offset < span.to) = within_says span.from span.to offset (ap (λ (s : Option Span). in_span s offset) (sym is) ∙ (sym (map_lies entry.start entry.end entry.map epoch offset is_kept.map) ∙ parts'.1)) in
@@ -170,7 +170,7 @@ module _ (entries : List Entry) (line : List (ℕ × ℕ)) (log_end offset : ℕ
   with_epoch (Some epoch) at made = with_entry epoch (finished epoch offset entries) refl at made
 
 -- so it is with the piece that holds an offset
-pub piece_lies : (entries : List Entry) (line : List (ℕ × ℕ)) (log_end offset : ℕ) (piece : Piece) → AreKept entries → AreDistinct entries → IsLine line
+pub piece_lies : (entries : List Entry) (line : List (ℕ × ℕ)) (log_end offset : ℕ) (piece : Piece) → AreEntriesValid entries → AreDistinct entries → IsLine line
     → piece_at entries line log_end offset ≡ Some piece → (epoch : ℕ) × (entry : Entry) × IsPieceOf entries line log_end offset epoch entry piece
 piece_lies entries line log_end offset piece kept distinct rises made = by (nat_lt offset log_end) refl made
   where

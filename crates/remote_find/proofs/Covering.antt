@@ -9,7 +9,7 @@ use Rattle.epoch_line.specs.Line.{IsLine}
 use Rattle.tier_base.specs.declared.names.SegmentId.{SegmentId}
 use Rattle.segment_meta.specs.declared.note.Entry.{Entry}
 use Rattle.remote_view.specs.declared.spans.Span.{Span}
-use Rattle.remote_view.specs.Fold.{entry_of, IsKept, AreKept, AreDistinct}
+use Rattle.remote_view.specs.Fold.{entry_of, IsEntryValid, AreEntriesValid, AreDistinct}
 use Rattle.remote_view.specs.Lookup.{is_readable, is_epoch, covers, finished}
 use Rattle.remote_view.specs.Laying.{gives}
 use Rattle.remote_view.specs.Stairs.{span_of}
@@ -39,7 +39,7 @@ some_shared entry (Some a) None one other = absurd (cc)
 some_shared entry (Some a) (Some b) one other = refl
 
 -- a copy that covers an offset has a part there
-clipped_there : (line : List (ℕ × ℕ)) (log_end epoch o : ℕ) (entry : Entry) → IsLine line → IsKept entry → o < log_end → epoch_at line o ≡ Some epoch → covers epoch o entry ≡ true
+clipped_there : (line : List (ℕ × ℕ)) (log_end epoch o : ℕ) (entry : Entry) → IsLine line → IsEntryValid entry → o < log_end → epoch_at line o ≡ Some epoch → covers epoch o entry ≡ true
     → IsSome (clipped line log_end epoch entry)
 clipped_there line log_end epoch o entry rises kept below at h =
     let there : gives epoch o entry ≡ true = gives_there (is_readable entry.state) refl in
@@ -52,7 +52,7 @@ clipped_there line log_end epoch o entry rises kept below at h =
     gives_there false is = absurd (both_ways (covers epoch o entry) (readable_covers epoch o entry false is) h)
 
 -- an offset has a piece where a copy is found there
-pub found_there : (entries : List Entry) (line : List (ℕ × ℕ)) (log_end epoch o : ℕ) → AreKept entries → AreDistinct entries → IsLine line → o < log_end
+pub found_there : (entries : List Entry) (line : List (ℕ × ℕ)) (log_end epoch o : ℕ) → AreEntriesValid entries → AreDistinct entries → IsLine line → o < log_end
     → epoch_at line o ≡ Some epoch → IsSome (finished epoch o entries) → IsSome (piece_at entries line log_end o)
 found_there entries line log_end epoch o kept distinct rises below at some =
     let inside : nat_lt o log_end ≡ true = lt-ltb o log_end below in
@@ -73,13 +73,13 @@ found_nowhere entries line log_end epoch o at none = by (nat_lt o log_end)
     by false = refl
 
 -- an offset that a finished copy covers has a piece
-piece_there : (entries : List Entry) (line : List (ℕ × ℕ)) (log_end epoch o : ℕ) (entry : Entry) → AreKept entries → AreDistinct entries → IsLine line → o < log_end
+piece_there : (entries : List Entry) (line : List (ℕ × ℕ)) (log_end epoch o : ℕ) (entry : Entry) → AreEntriesValid entries → AreDistinct entries → IsLine line → o < log_end
     → epoch_at line o ≡ Some epoch → Among entry entries → covers epoch o entry ≡ true → IsSome (piece_at entries line log_end o)
 piece_there entries line log_end epoch o entry kept distinct rises below at among h =
     found_there entries line log_end epoch o kept distinct rises below at (best_passing (covers epoch o) None entries entry among h)
 
 -- so has each offset after one whose piece it is in
-pub piece_goes_on : (entries : List Entry) (line : List (ℕ × ℕ)) (log_end o q : ℕ) (piece : Piece) → AreKept entries → AreDistinct entries → IsLine line
+pub piece_goes_on : (entries : List Entry) (line : List (ℕ × ℕ)) (log_end o q : ℕ) (piece : Piece) → AreEntriesValid entries → AreDistinct entries → IsLine line
     → AllByRecursion (λ (start : ℕ × ℕ). start.1 ≤ log_end) line → piece_at entries line log_end o ≡ Some piece → o ≤ q → q < piece.to → IsSome (piece_at entries line log_end q)
 piece_goes_on entries line log_end o q piece kept distinct rises all is from to =
     let l = piece_lies entries line log_end o piece kept distinct rises is in
@@ -163,14 +163,14 @@ module _ (pieces : Pieces) (top : ℕ) (low : (o : ℕ) (p : Piece) → pieces o
         by None is more = record { touching = tt; below = tt; longest = no_other at (λ p there. absurd (cc)) }
         by (Some p) is more = with_first p is (nat_le p.to end) refl (more p (let up = on at p is in omega (arith, up.1, past)))
 
-pub covered : (entries : List Entry) (line : List (ℕ × ℕ)) (log_end at : ℕ) → AreKept entries → AreDistinct entries → IsLine line
+pub covered : (entries : List Entry) (line : List (ℕ × ℕ)) (log_end at : ℕ) → AreEntriesValid entries → AreDistinct entries → IsLine line
     → AllByRecursion (λ (start : ℕ × ℕ). start.1 ≤ log_end) line → IsCovered (piece_at entries line log_end) at (covered_to entries line log_end at)
 covered entries line log_end at kept distinct rises all =
     reached_covers (piece_at entries line log_end) log_end (piece_below_end entries line log_end)
     (λ o p is. (let l = piece_lies entries line log_end o p kept distinct rises is in l.2.holds))
     (λ o q p is from to. piece_goes_on entries line log_end o q p kept distinct rises all is from to) (log_end - at) at (omega arith)
 
-pub chain_longest : (entries : List Entry) (line : List (ℕ × ℕ)) (log_end at top : ℕ) → AreKept entries → AreDistinct entries → IsLine line
+pub chain_longest : (entries : List Entry) (line : List (ℕ × ℕ)) (log_end at top : ℕ) → AreEntriesValid entries → AreDistinct entries → IsLine line
     → IsLongest (piece_at entries line log_end) at top (chain entries line log_end at top)
 chain_longest entries line log_end at top kept distinct rises =
     chained_longest (piece_at entries line log_end) log_end (piece_below_end entries line log_end)

@@ -7,7 +7,7 @@ use Rattle.log_terms.specs.Line.{epoch_at}
 use Rattle.epoch_line.specs.Line.{IsLine, last_entry}
 use Rattle.segment_meta.specs.declared.note.Entry.{Entry}
 use Rattle.remote_view.specs.declared.spans.Span.{Span}
-use Rattle.remote_view.specs.Fold.{AreKept, AreDistinct}
+use Rattle.remote_view.specs.Fold.{AreEntriesValid, AreDistinct}
 use Rattle.remote_view.specs.Lookup.{IsReach}
 use Rattle.remote_view.specs.Stairs.{span_of}
 use Rattle.remote_view.proofs.Lying.{in_span, within_says, lies}
@@ -55,7 +55,7 @@ pub own_holds : (line : List (ℕ × ℕ)) (log_end epoch at : ℕ) (own : Span)
 own_holds line log_end epoch at own rises below is lies_in = within_says own.from own.to at (around line log_end epoch at (Some own) rises below is lies_in)
 
 -- copies in an epoch make pieces
-pub pieces_in_epoch : (entries : List Entry) (line : List (ℕ × ℕ)) (log_end epoch at reach o : ℕ) (own : Span) → AreKept entries → AreDistinct entries → IsLine line → at < log_end → epoch_at line at ≡ Some epoch
+pub pieces_in_epoch : (entries : List Entry) (line : List (ℕ × ℕ)) (log_end epoch at reach o : ℕ) (own : Span) → AreEntriesValid entries → AreDistinct entries → IsLine line → at < log_end → epoch_at line at ≡ Some epoch
     → span_of line epoch log_end ≡ Some own → IsReach epoch entries at reach → at ≤ o → o < reach → o < own.to → o < log_end → IsSome (piece_at entries line log_end o)
 pieces_in_epoch entries line log_end epoch at reach o own kept distinct rises below is lies_in h low high inside by_end =
     let from = (own_holds line log_end epoch at own rises below is lies_in).0 in
@@ -73,7 +73,7 @@ one_end pieces at end other h h' up = not_both (pieces end) (h'.each end h.from 
     not_both None some none = absurd (cc)
     not_both (Some p) some none = absurd (cc)
 
-pub covered_once : (entries : List Entry) (line : List (ℕ × ℕ)) (log_end at end : ℕ) → AreKept entries → AreDistinct entries → IsLine line → AllByRecursion (λ (start : ℕ × ℕ). start.1 ≤ log_end) line
+pub covered_once : (entries : List Entry) (line : List (ℕ × ℕ)) (log_end at end : ℕ) → AreEntriesValid entries → AreDistinct entries → IsLine line → AllByRecursion (λ (start : ℕ × ℕ). start.1 ≤ log_end) line
     → IsCovered (piece_at entries line log_end) at end → end ≡ covered_to entries line log_end at
 covered_once entries line log_end at end kept distinct rises all h =
     let h' = covered entries line log_end at kept distinct rises all in

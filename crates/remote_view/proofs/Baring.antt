@@ -8,9 +8,9 @@ use Rattle.log_terms.specs.Line.{epoch_at}
 use Rattle.tier_base.specs.declared.names.SegmentId.{SegmentId}
 use Rattle.segment_meta.specs.declared.note.Entry.{Entry}
 use Rattle.remote_view.specs.declared.tread.Tread.{Tread}
-use Rattle.remote_view.specs.Fold.{entry_of, AreKept, AreDistinct, others}
+use Rattle.remote_view.specs.Fold.{entry_of, AreEntriesValid, AreDistinct, others}
 use Rattle.remote_view.specs.Lookup.{is_readable, is_epoch, covers, id_number, is_better, better_of, best_from, finished}
-use Rattle.remote_view.specs.Stairs.{id_at, Rises, IsStair}
+use Rattle.remote_view.specs.Stairs.{id_at, RisesAlong, IsStair}
 use Rattle.remote_view.specs.Laying.{held, gives, overlaid_in, in_place, IsLifted, IsLaidIn, lies_under}
 use Rattle.remote_view.proofs.Ids.{same_id, bytes_self}
 use Rattle.remote_view.proofs.Best.{Among, found_among, entry_found, held_found, readable_covers, finished_push, append_nil, HaveOthers, insert_late, others_filter, other_numbers, no_others, best_passing}
@@ -18,7 +18,7 @@ use Rattle.remote_view.proofs.Finding.{found_best}
 use Rattle.remote_view.proofs.Keeping.{among_others, id_of, others_more}
 
 -- the best of all is the better of an entry and the best of the others
-with_it : (test : Entry → Bool) (x : Entry) (best : Option Entry) (es : List Entry) → AreDistinct es → AreKept es → entry_of x.id es ≡ Some x
+with_it : (test : Entry → Bool) (x : Entry) (best : Option Entry) (es : List Entry) → AreDistinct es → AreEntriesValid es → entry_of x.id es ≡ Some x
     → best_from best (filter test es) ≡ cond (test x) (Some (better_of (best_from best (filter test (others x.id es))) x)) (best_from best (filter test (others x.id es)))
 with_it test x best [] distinct kept here = absurd (cc)
 with_it test x best (e ∷ es) distinct kept here = by (bytes_eq e.id.0 x.id.0) refl here (λ b there. with_it test x b es distinct.1 kept.1 there)
@@ -45,7 +45,7 @@ with_it test x best (e ∷ es) distinct kept here = by (bytes_eq e.id.0 x.id.0) 
         rw (no_others x.id es none, same) (late (test x) apart)
     by false one is more = early (test e) (test x) (λ b. more b is)
 
-module _ (es : List Entry) (x : Entry) (q o : ℕ) (distinct : AreDistinct es) (kept : AreKept es) (here : entry_of x.id es ≡ Some x) where
+module _ (es : List Entry) (x : Entry) (q o : ℕ) (distinct : AreDistinct es) (kept : AreEntriesValid es) (here : entry_of x.id es ≡ Some x) where
   -- the best of all stays the best of the others, where it is one of them
   other_stays : (b : Entry) → finished q o es ≡ Some b → bytes_eq b.id.0 x.id.0 ≡ false → finished q o (others x.id es) ≡ Some b
   other_stays b is other = by (covers q o x) (finished q o (others x.id es)) (sym (with_it (covers q o) x None es distinct kept here) ∙ is)
@@ -96,7 +96,7 @@ under_parts x e h =
     negated false h = refl
 
 -- from a segment's end on a stair gives nothing of it
-pub ends_own : (es : List Entry) (x : Entry) (q : ℕ) (old : List Tread) → AreDistinct es → AreKept es → entry_of x.id es ≡ Some x → IsStair es q old
+pub ends_own : (es : List Entry) (x : Entry) (q : ℕ) (old : List Tread) → AreDistinct es → AreEntriesValid es → entry_of x.id es ≡ Some x → IsStair es q old
     → (o : ℕ) → x.end + 1 ≤ o → in_place x.id None (id_at old o) ≡ id_at old o
 ends_own es x q old distinct kept here right o past = by (finished q o es) refl
   where
@@ -114,7 +114,7 @@ ends_own es x q old distinct kept here right o past = by (finished q o es) refl
 
 -- in a segment's place a stair gives what is best of some entries, and else what it gave before
 pub record IsBared (sub : List Entry) (id : SegmentId) (q : ℕ) (old new : List Tread) : Type 0 where
-  pub rises : Rises new
+  pub rises : RisesAlong new
   pub says : (o : ℕ) → id_at new o ≡ in_place id (option_map (λ e. e.id) (finished q o sub)) (id_at old o)
 
 -- it was lifted, and nothing is laid yet
@@ -131,7 +131,7 @@ among_at [] i d below = absurd (omega (arith, below))
 among_at (e ∷ es) zero d below = inl refl
 among_at (e ∷ es) (suc i) d below = inr (among_at es i d (omega (arith, below)))
 
-module _ (es : List Entry) (x e : Entry) (i q : ℕ) (old mid : List Tread) (distinct : AreDistinct es) (kept : AreKept es) (here : entry_of x.id es ≡ Some x) (below : i < length es) (is : e ≡ get_or es i e)
+module _ (es : List Entry) (x e : Entry) (i q : ℕ) (old mid : List Tread) (distinct : AreDistinct es) (kept : AreEntriesValid es) (here : entry_of x.id es ≡ Some x) (below : i < length es) (is : e ≡ get_or es i e)
     (right : IsStair es q old) (h : IsBared (others x.id (take i es)) x.id q old mid) where
   -- an entry is laid
   pub bared_more : (new : List Tread) → is_readable e.state ≡ true → bytes_eq e.id.0 x.id.0 ≡ false → IsLaidIn es e q mid new → IsBared (others x.id (take (i + 1) es)) x.id q old new
@@ -226,7 +226,7 @@ module _ (es : List Entry) (x e : Entry) (i q : ℕ) (old mid : List Tread) (dis
           by (Some b) found = let was : id_at old o ≡ Some b.id = right.best o ∙ ap (option_map (λ e. e.id)) found in rw was (chosen b (bytes_eq b.id.0 x.id.0) found refl)
 
 -- with all of them laid it is the stair over the others
-pub all_bared : (es : List Entry) (x : Entry) (q : ℕ) (old new : List Tread) → AreDistinct es → AreKept es → entry_of x.id es ≡ Some x → IsStair es q old → IsBared (others x.id es) x.id q old new
+pub all_bared : (es : List Entry) (x : Entry) (q : ℕ) (old new : List Tread) → AreDistinct es → AreEntriesValid es → entry_of x.id es ≡ Some x → IsStair es q old → IsBared (others x.id es) x.id q old new
     → IsStair (others x.id es) q new
 all_bared es x q old new distinct kept here right h = record { rises = h.rises; best = λ o. h.says o ∙ at_offset o (finished q o es) refl }
   where
@@ -247,7 +247,7 @@ default_free (x ∷ es) zero d e low = refl
 default_free (x ∷ es) (suc i) d e low = default_free es i d e (omega (arith, low))
 
 -- where no other lies under a segment, its stair without it is the stair over the others
-pub alone_right : (es : List Entry) (x : Entry) (q : ℕ) (old new : List Tread) → AreDistinct es → AreKept es → entry_of x.id es ≡ Some x → IsStair es q old
+pub alone_right : (es : List Entry) (x : Entry) (q : ℕ) (old new : List Tread) → AreDistinct es → AreEntriesValid es → entry_of x.id es ≡ Some x → IsStair es q old
     → ((e : Entry) → Among e es → lies_under x e ≡ false) → IsLifted x.id old new → IsStair (others x.id es) q new
 alone_right es x q old new distinct kept here right apart lifted =
     all_bared es x q old new distinct kept here right (rw (take_all (length es) es (omega arith)) at (walk (length es) (omega arith)))

@@ -11,7 +11,7 @@ use Rattle.tier_base.specs.declared.names.BrokerId.{BrokerId}
 use Rattle.tier_base.specs.declared.names.SegmentId.{SegmentId}
 use Rattle.tier_base.specs.declared.plain.State.{State}
 use Rattle.segment_meta.specs.declared.note.Entry.{Entry}
-use Rattle.remote_view.specs.Fold.{entry_of, changed, updated, AreKept, AreDistinct, others}
+use Rattle.remote_view.specs.Fold.{entry_of, changed, updated, AreEntriesValid, AreDistinct, others}
 use Rattle.remote_view.specs.Lookup.{is_readable, covers, id_number, is_better, better_of, best_from, finished}
 use Rattle.remote_view.specs.Laying.{held, gives}
 use Rattle.remote_view.proofs.Ids.{same_id, bytes_self, same_number}
@@ -160,7 +160,7 @@ absent : (t : Bool) (e : Entry) (rest : Option Entry) → cond t (Some e) rest �
 absent true e rest h = absurd (cc)
 absent false e rest h = (refl, h)
 
-pub other_numbers : (id : SegmentId) (es : List Entry) → IsId id → AreKept es → entry_of id es ≡ None → HaveOthers (id_number id) es
+pub other_numbers : (id : SegmentId) (es : List Entry) → IsId id → AreEntriesValid es → entry_of id es ≡ None → HaveOthers (id_number id) es
 other_numbers id [] is kept none = tt
 other_numbers id (e ∷ es) is kept none =
     let parts = absent (bytes_eq e.id.0 id.0) e (entry_of id es) none in
@@ -190,7 +190,7 @@ no_others id (e ∷ es) none =
 
 module _ (broker : BrokerId) (event_ts : ℤ) (state : State) (custom : Option (List ℕ)) where
   -- an entry that counts only when it is changed
-  pub finish_best : (test : Entry → Bool) (x : Entry) (best : Option Entry) (es : List Entry) → AreDistinct es → AreKept es → entry_of x.id es ≡ Some x → test x ≡ false
+  pub finish_best : (test : Entry → Bool) (x : Entry) (best : Option Entry) (es : List Entry) → AreDistinct es → AreEntriesValid es → entry_of x.id es ≡ Some x → test x ≡ false
       → best_from best (filter test (changed x.id (updated broker event_ts state custom) es))
       ≡ cond (test (updated broker event_ts state custom x)) (Some (better_of (best_from best (filter test es)) (updated broker event_ts state custom x))) (best_from best (filter test es))
   finish_best test x best [] distinct kept here out = absurd (cc)

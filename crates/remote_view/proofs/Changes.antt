@@ -13,11 +13,11 @@ use Rattle.segment_meta.specs.Rules.{IsAdded}
 use Rattle.segment_meta.specs.Steps.{next_state}
 use Rattle.remote_view.specs.declared.stairs.Stair.{Stair}
 use Rattle.remote_view.specs.declared.stairs.Stairs.{Stairs}
-use Rattle.remote_view.specs.Fold.{entry_of, changed, updated, recorded, IsKept, AreKept, AreDistinct}
+use Rattle.remote_view.specs.Fold.{entry_of, changed, updated, recorded, IsEntryValid, AreEntriesValid, AreDistinct}
 use Rattle.remote_view.specs.Lookup.{is_readable}
 use Rattle.remote_view.specs.Stairs.{IsStair}
 use Rattle.remote_view.specs.Laying.{IsLaidIn}
-use Rattle.remote_view.specs.Storing.{stair_on, replaced, IsFresh, IsTakenFirst, IsViewed}
+use Rattle.remote_view.specs.Storing.{stair_on, replaced, AreFreshStairs, IsTakenFirst, IsViewed}
 use Rattle.remote_view.specs.declared.spread.Spread.{Spread}
 use Rattle.remote_view.specs.Spread.{AreSpread}
 use Rattle.remote_view.proofs.Ids.{same_id, bytes_self}
@@ -27,14 +27,14 @@ use Rattle.remote_view.proofs.Spreading.{found_in, among_in}
 use Rattle.remote_view.proofs.Renewing.{all_right, nowhere}
 
 -- an update leaves the id, the offsets and the map
-pub change_keeps : (id : SegmentId) (broker : BrokerId) (event_ts : ℤ) (state : State) (custom : Option (List ℕ)) (es : List Entry) → AreKept es
-    → AreKept (changed id (updated broker event_ts state custom) es)
+pub change_keeps : (id : SegmentId) (broker : BrokerId) (event_ts : ℤ) (state : State) (custom : Option (List ℕ)) (es : List Entry) → AreEntriesValid es
+    → AreEntriesValid (changed id (updated broker event_ts state custom) es)
 change_keeps id broker event_ts state custom [] h = tt
 change_keeps id broker event_ts state custom (e ∷ es) h =
     by (bytes_eq e.id.0 id.0) (record { id = h.0.id; ordered = h.0.ordered; bounded = h.0.bounded; map = h.0.map }) (change_keeps id broker event_ts state custom es h.1)
   where
-    by : (t : Bool) → IsKept (updated broker event_ts state custom e) → AreKept (changed id (updated broker event_ts state custom) es)
-        → AreKept (cond t (updated broker event_ts state custom e ∷ es) (e ∷ changed id (updated broker event_ts state custom) es))
+    by : (t : Bool) → IsEntryValid (updated broker event_ts state custom e) → AreEntriesValid (changed id (updated broker event_ts state custom) es)
+        → AreEntriesValid (cond t (updated broker event_ts state custom e ∷ es) (e ∷ changed id (updated broker event_ts state custom) es))
     by true first rest = (first, h.1)
     by false first rest = (h.0, rest)
 
@@ -61,7 +61,7 @@ change_distinct id broker event_ts state custom (e ∷ es) h = by (bytes_eq e.id
     by false rest = (change_misses e.id id broker event_ts state custom es h.0, rest)
 
 -- one entry more
-pub kept_push : (es : List Entry) (e : Entry) → AreKept es → IsKept e → AreKept (es ++ e ∷ [])
+pub kept_push : (es : List Entry) (e : Entry) → AreEntriesValid es → IsEntryValid e → AreEntriesValid (es ++ e ∷ [])
 kept_push [] e h h' = (h', tt)
 kept_push (x ∷ es) e h h' = (h.0, kept_push es e h.1 h')
 
@@ -145,7 +145,7 @@ viewed_add es stairs e h added is none = record {
 
 -- an entry changed, and the stairs with it
 pub viewed_update : (es new : List Entry) (old stairs left : Stairs) (fresh : List Stair) (id : SegmentId) (x : Entry) (broker : BrokerId) (event_ts : ℤ) (state : State) (custom : Option (List ℕ))
-    → IsViewed es old → x.id ≡ id → new ≡ changed id (updated broker event_ts state custom) es → IsFresh (changed x.id (updated broker event_ts state custom) es) stairs fresh
+    → IsViewed es old → x.id ≡ id → new ≡ changed id (updated broker event_ts state custom) es → AreFreshStairs (changed x.id (updated broker event_ts state custom) es) stairs fresh
     → ((e : ℕ) → stair_on left e ≡ replaced fresh e (stair_on stairs e)) → IsViewed new left
 viewed_update es new old stairs left fresh id x broker event_ts state custom h one is made replaced' = rw is (record {
   kept = change_keeps id broker event_ts state custom es h.kept;

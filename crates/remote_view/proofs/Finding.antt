@@ -9,43 +9,43 @@ use Rattle.std.specs.Option.{option_map}
 use Rattle.segment_meta.specs.declared.note.Entry.{Entry}
 use Rattle.tier_base.specs.declared.names.SegmentId.{SegmentId}
 use Rattle.remote_view.specs.declared.tread.Tread.{Tread}
-use Rattle.remote_view.specs.Fold.{entry_of, IsKept, AreKept, AreDistinct}
+use Rattle.remote_view.specs.Fold.{entry_of, IsEntryValid, AreEntriesValid, AreDistinct}
 use Rattle.remote_view.specs.Stairs.{id_at, IsStair}
 use Rattle.remote_view.specs.Laying.{held}
 use Rattle.remote_view.proofs.Best.{Among, later, found_among, entry_found, held_found}
 use Rattle.remote_view.specs.Lookup.{covers, id_number, is_better, better_of, best_from, finished, IsBest}
 
 -- the better of two that were kept
-better-kept : (best : Option Entry) (entry : Entry) → IfSome best IsKept → IsKept entry → IsKept (better_of best entry)
+better-kept : (best : Option Entry) (entry : Entry) → IfSome best IsEntryValid → IsEntryValid entry → IsEntryValid (better_of best entry)
 better-kept None entry h h' = h'
 better-kept (Some best) entry h h' = chosen (is_better entry best)
   where
-    chosen : (t : Bool) → IsKept (cond t entry best)
+    chosen : (t : Bool) → IsEntryValid (cond t entry best)
     chosen true = h'
     chosen false = h
 
 -- the best of those that were kept
-best-kept : (best : Option Entry) (entries : List Entry) → IfSome best IsKept → AreKept entries → IfSome (best_from best entries) IsKept
+best-kept : (best : Option Entry) (entries : List Entry) → IfSome best IsEntryValid → AreEntriesValid entries → IfSome (best_from best entries) IsEntryValid
 best-kept best [] h all = h
 best-kept best (entry ∷ entries) h all =
     best-kept (Some (better_of best entry)) entries (better-kept best entry h all.0) all.1
 
 -- those that pass a test were kept
-passing-kept : (test : Entry → Bool) (entries : List Entry) → AreKept entries → AreKept (filter test entries)
+passing-kept : (test : Entry → Bool) (entries : List Entry) → AreEntriesValid entries → AreEntriesValid (filter test entries)
 passing-kept test [] all = tt
 passing-kept test (entry ∷ entries) all = by (test entry) (passing-kept test entries all.1)
   where
-    by : (t : Bool) → AreKept (filter test entries) → AreKept (cond t (entry ∷ filter test entries) (filter test entries))
+    by : (t : Bool) → AreEntriesValid (filter test entries) → AreEntriesValid (cond t (entry ∷ filter test entries) (filter test entries))
     by true more = (all.0, more)
     by false more = more
 
 -- so what is found was kept
-pub finished_kept : (epoch offset : ℕ) (entries : List Entry) (found : Option (Bor Entry)) → AreKept entries
-    → option_map (λ e. e.now) found ≡ finished epoch offset entries → IfSome found (λ e. IsKept e.now)
+pub finished_kept : (epoch offset : ℕ) (entries : List Entry) (found : Option (Bor Entry)) → AreEntriesValid entries
+    → option_map (λ e. e.now) found ≡ finished epoch offset entries → IfSome found (λ e. IsEntryValid e.now)
 finished_kept epoch offset entries None all e = tt
 finished_kept epoch offset entries (Some entry) all e =
-    let kept : IfSome (finished epoch offset entries) IsKept = best-kept None (filter (covers epoch offset) entries) tt (passing-kept (covers epoch offset) entries all) in
-    subst (λ (o : Option Entry). IfSome o IsKept) (sym e) kept
+    let kept : IfSome (finished epoch offset entries) IsEntryValid = best-kept None (filter (covers epoch offset) entries) tt (passing-kept (covers epoch offset) entries all) in
+    subst (λ (o : Option Entry). IfSome o IsEntryValid) (sym e) kept
 
 -- the entry of the segment that a stair gives
 pub by_stair : (epoch offset : ℕ) (es : List Entry) (stair : List Tread) (id : SegmentId) → AreDistinct es → IsStair es epoch stair → Some id ≡ id_at stair offset

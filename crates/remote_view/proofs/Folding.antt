@@ -9,7 +9,7 @@ use Rattle.segment_meta.specs.declared.note.Note.{Note}
 use Rattle.segment_meta.specs.declared.note.Note.TheVariants.{Add, Update}
 use Rattle.segment_meta.specs.Rules.{IsNote}
 use Rattle.segment_meta.specs.Steps.{next_state}
-use Rattle.remote_view.specs.Fold.{entry_of, state_of, changed, updated, AreDistinct, recorded, folded_from, fold, Seen, fed, view_of}
+use Rattle.remote_view.specs.Fold.{entry_of, state_of, changed, updated, AreDistinct, recorded, folded_from, fold, EntriesSeen, fed, view_of}
 use Rattle.remote_view.proofs.Changes.{change_distinct, distinct_push, adds_it, adds_nothing}
 
 folded-push : (entries : List Entry) (notes : List Note) (note : Note) → recorded (folded_from entries notes) note ≡ folded_from entries (notes ++ note ∷ [])
@@ -24,8 +24,8 @@ pub fed_again : (notes : List Note) (note : Note) → fed (view_of notes) note �
 fed_again notes note =
     let entries = folded-push [] notes note in
     let count = counted-push (length notes) (length (notes ++ note ∷ [])) (length_push notes note) in
-    ap (λ (es : List Entry). (let v : Seen = record { entries = es; notes = counted (counted 0 (length notes)) 1 } in v)) entries
-    ∙ ap (λ (n : ℕ). (let v : Seen = record { entries = fold (notes ++ note ∷ []); notes = n } in v)) count
+    ap (λ (es : List Entry). (let v : EntriesSeen = record { entries = es; notes = counted (counted 0 (length notes)) 1 } in v)) entries
+    ∙ ap (λ (n : ℕ). (let v : EntriesSeen = record { entries = fold (notes ++ note ∷ []); notes = n } in v)) count
 
 -- one event leaves the ids apart
 recorded_distinct : (es : List Entry) (note : Note) → IsNote note → AreDistinct es → AreDistinct (recorded es note)

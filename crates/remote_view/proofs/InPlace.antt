@@ -3,8 +3,8 @@ use Rattle.std.proofs.Common.{◌≡◌, ◌≢◌, refl, ℕ, ◌+◌, List, []
 use Rattle.std.proofs.lemmas.Bool.{cases_eq, eq-eqb, ne_eqb}
 use Rattle.segment_meta.specs.declared.note.Entry.{Entry}
 use Rattle.remote_view.specs.declared.stairs.Stairs.{Stairs}
-use Rattle.remote_view.specs.Fold.{IsKept}
-use Rattle.remote_view.specs.Stairs.{span_of, Rises}
+use Rattle.remote_view.specs.Fold.{IsEntryValid}
+use Rattle.remote_view.specs.Stairs.{span_of, RisesAlong}
 use Rattle.remote_view.specs.Laying.{Fits, IsLaidIn}
 use Rattle.remote_view.specs.Storing.{stair_on}
 use Rattle.remote_view.proofs.Lying.{IsSpanIn}
@@ -19,7 +19,7 @@ other_span : (x : Entry) (epoch from q : ℕ) → x.map ≡ (epoch, from) ∷ []
 other_span x epoch from q is other = rw (is, ne_eqb epoch q (λ same. other (rw same refl))) refl
 
 -- an entry that is put after the stair of its only epoch is laid over all stairs
-pub laid_behind : (es : List Entry) (x : Entry) (epoch from : ℕ) (old new : Stairs) → IsKept x → x.map ≡ (epoch, from) ∷ [] → ((q : ℕ) → Rises (stair_on old q)) → Fits from x.id (stair_on old epoch)
+pub laid_behind : (es : List Entry) (x : Entry) (epoch from : ℕ) (old new : Stairs) → IsEntryValid x → x.map ≡ (epoch, from) ∷ [] → ((q : ℕ) → RisesAlong (stair_on old q)) → Fits from x.id (stair_on old epoch)
     → stair_on new epoch ≡ stair_on old epoch ++ (record { from = from; to = x.end + 1; id = x.id }) ∷ [] → ((q : ℕ) → q ≢ epoch → stair_on new q ≡ stair_on old q)
     → (q : ℕ) → IsLaidIn es x q (stair_on old q) (stair_on new q)
 laid_behind es x epoch from old new kept is rises fits there others q = elim (cases_eq q epoch) [

@@ -12,27 +12,27 @@ use Rattle.segment_meta.specs.Rules.{IsMap}
 use Rattle.segment_meta.specs.Steps.{next_state}
 use Rattle.remote_view.specs.declared.spans.Span.{Span}
 use Rattle.remote_view.specs.declared.tread.Tread.{Tread}
-use Rattle.remote_view.specs.Fold.{entry_of, changed, updated, IsKept, AreKept, AreDistinct, others}
+use Rattle.remote_view.specs.Fold.{entry_of, changed, updated, IsEntryValid, AreEntriesValid, AreDistinct, others}
 use Rattle.remote_view.specs.Lookup.{is_readable, covers, is_better, better_of, best_from, finished}
-use Rattle.remote_view.specs.Stairs.{span_of, id_at, Rises, IsStair}
-use Rattle.remote_view.specs.Laying.{held, gives, IsLaid, IsLaidIn}
+use Rattle.remote_view.specs.Stairs.{span_of, id_at, RisesAlong, IsStair}
+use Rattle.remote_view.specs.Laying.{held, gives, IsSegmentLaid, IsLaidIn}
 use Rattle.remote_view.proofs.Lying.{in_span, IsSpanIn, span_bounds, map_lies}
 use Rattle.remote_view.proofs.Best.{Among, among_filter, held_found, readable_covers, finished_push, finish_best, same_filter, gone_filter}
 
 -- where an epoch lies in an entry that was kept
-pub kept_span : (entry : Entry) (epoch : ℕ) → IsKept entry → IfSome (span_of entry.map epoch (entry.end + 1)) (IsSpanIn entry.start entry.end)
+pub kept_span : (entry : Entry) (epoch : ℕ) → IsEntryValid entry → IfSome (span_of entry.map epoch (entry.end + 1)) (IsSpanIn entry.start entry.end)
 kept_span entry epoch kept = by entry.map kept.map
   where
     by : (map : List (ℕ × ℕ)) → IsMap entry.start entry.end map → IfSome (span_of map epoch (entry.end + 1)) (IsSpanIn entry.start entry.end)
     by [] h = absurd h.first
     by (pair ∷ line) h = rw (← h.first) (span_bounds pair line epoch entry.end h.line h.within)
 
-pub span_ordered : (entry : Entry) (epoch : ℕ) (span : Span) → IsKept entry → span_of entry.map epoch (entry.end + 1) ≡ Some span → span.from ≤ span.to
+pub span_ordered : (entry : Entry) (epoch : ℕ) (span : Span) → IsEntryValid entry → span_of entry.map epoch (entry.end + 1) ≡ Some span → span.from ≤ span.to
 span_ordered entry epoch span kept is = let bounds : IsSpanIn entry.start entry.end span = rw is at (kept_span entry epoch kept) in omega (arith, bounds.some)
 
 -- laid over where its epoch lies
-pub laid_in : (es : List Entry) (entry : Entry) (epoch : ℕ) (span : Span) (old new : List Tread) → IsKept entry → span_of entry.map epoch (entry.end + 1) ≡ Some span
-    → IsLaid es entry span old new → IsLaidIn es entry epoch old new
+pub laid_in : (es : List Entry) (entry : Entry) (epoch : ℕ) (span : Span) (old new : List Tread) → IsEntryValid entry → span_of entry.map epoch (entry.end + 1) ≡ Some span
+    → IsSegmentLaid es entry span old new → IsLaidIn es entry epoch old new
 laid_in es entry epoch span old new kept is laid = record {
   rises = laid.rises;
   says = λ o.
@@ -42,7 +42,7 @@ laid_in es entry epoch span old new kept is laid = record {
 }
 
 -- or nowhere
-pub laid_nowhere : (es : List Entry) (entry : Entry) (epoch : ℕ) (old : List Tread) → IsKept entry → span_of entry.map epoch (entry.end + 1) ≡ None → Rises old → IsLaidIn es entry epoch old old
+pub laid_nowhere : (es : List Entry) (entry : Entry) (epoch : ℕ) (old : List Tread) → IsEntryValid entry → span_of entry.map epoch (entry.end + 1) ≡ None → RisesAlong old → IsLaidIn es entry epoch old old
 laid_nowhere es entry epoch old kept is rises = record {
   rises = rises;
   says = λ o.
@@ -72,7 +72,7 @@ id_of true better best = refl
 id_of false better best = refl
 
 -- a copy that finishes
-pub finish_right : (broker : BrokerId) (event_ts : ℤ) (state : State) (custom : Option (List ℕ)) (es : List Entry) (x : Entry) (q : ℕ) (stair laid : List Tread) → AreDistinct es → AreKept es → entry_of x.id es ≡ Some x
+pub finish_right : (broker : BrokerId) (event_ts : ℤ) (state : State) (custom : Option (List ℕ)) (es : List Entry) (x : Entry) (q : ℕ) (stair laid : List Tread) → AreDistinct es → AreEntriesValid es → entry_of x.id es ≡ Some x
     → is_readable x.state ≡ false → is_readable state ≡ true → IsStair es q stair → IsLaidIn es x q stair laid → IsStair (changed x.id (updated broker event_ts state custom) es) q laid
 finish_right broker event_ts state custom es x q stair laid distinct kept here out into right h = record {
   rises = h.rises;
@@ -126,16 +126,16 @@ untouched broker event_ts state custom es x q stair here before after right =
     (λ o. ap (best_from None) (same_filter broker event_ts state custom (covers q o) x es here (before o) (after o))) right
 
 -- an entry that is found was kept
-pub kept_found : (id : SegmentId) (es : List Entry) (x : Entry) → AreKept es → entry_of id es ≡ Some x → IsKept x
+pub kept_found : (id : SegmentId) (es : List Entry) (x : Entry) → AreEntriesValid es → entry_of id es ≡ Some x → IsEntryValid x
 kept_found id [] x kept here = absurd (cc)
 kept_found id (e ∷ es) x kept here = by (bytes_eq e.id.0 id.0) here (λ there. kept_found id es x kept.1 there)
   where
-    by : (t : Bool) → cond t (Some e) (entry_of id es) ≡ Some x → (entry_of id es ≡ Some x → IsKept x) → IsKept x
+    by : (t : Bool) → cond t (Some e) (entry_of id es) ≡ Some x → (entry_of id es ≡ Some x → IsEntryValid x) → IsEntryValid x
     by true is more = let same : e ≡ x = cc in rw same at kept.0
     by false is more = more is
 
 -- an epoch that a map doesn't have is given nowhere
-pub given_nowhere : (x : Entry) (q o : ℕ) → IsKept x → span_of x.map q (x.end + 1) ≡ None → gives q o x ≡ false
+pub given_nowhere : (x : Entry) (q o : ℕ) → IsEntryValid x → span_of x.map q (x.end + 1) ≡ None → gives q o x ≡ false
 given_nowhere x q o kept none = map_lies x.start x.end x.map q o kept.map ∙ ap (λ (s : Option Span). in_span s o) none
 
 -- what holds of an answer

@@ -7,7 +7,7 @@ use Rattle.std.proofs.lemmas.Bool.{and_parts, leb-true, cases_lt}
 use Rattle.std.proofs.lemmas.List.{drop_more}
 use Rattle.tier_base.specs.declared.names.SegmentId.{SegmentId}
 use Rattle.remote_view.specs.declared.tread.Tread.{Tread}
-use Rattle.remote_view.specs.Stairs.{is_within, id_at, IsUnder, Rises, HasAll, begins_with}
+use Rattle.remote_view.specs.Stairs.{is_within, id_at, IsTreadUnder, RisesAlong, HasAll, begins_with}
 use Rattle.remote_view.specs.Laying.{in_place, of_others, IsLifted}
 use Rattle.remote_view.proofs.Lying.{within_says, within_below, within_past}
 
@@ -20,7 +20,7 @@ behind_weaker [] at later up h = tt
 behind_weaker (x ∷ stair) at later up h = (omega (arith, up, h.0), behind_weaker stair at later up h.1)
 
 -- treads lie after the one before
-rises_behind : (tread : Tread) (stair : List Tread) → Rises (tread ∷ stair) → Behind tread.to stair
+rises_behind : (tread : Tread) (stair : List Tread) → RisesAlong (tread ∷ stair) → Behind tread.to stair
 rises_behind tread [] rises = tt
 rises_behind tread (next ∷ stair) rises =
     let rest = rises_behind next stair rises.2 in
@@ -40,30 +40,30 @@ nothing_before [] at o h low = refl
 nothing_before (x ∷ stair) at o h low = rw (within_below x.from x.to o (omega (arith, h.0, low))) (nothing_before stair at o h.1 low)
 
 -- treads that lie apart from one don't touch it
-under_far : (tread : Tread) (stair : List Tread) (at : ℕ) → tread.to < at → Behind at stair → IsUnder tread stair
+under_far : (tread : Tread) (stair : List Tread) (at : ℕ) → tread.to < at → Behind at stair → IsTreadUnder tread stair
 under_far tread [] at low h = tt
 under_far tread (x ∷ stair) at low h = (omega (arith, low, h.0), λ touch. absurd (omega (arith, touch, low, h.0)))
 
 module _ (id : SegmentId) where
-  under_lifted : (tread : Tread) (stair : List Tread) → Rises (tread ∷ stair) → IsUnder tread (filter (of_others id) stair)
+  under_lifted : (tread : Tread) (stair : List Tread) → RisesAlong (tread ∷ stair) → IsTreadUnder tread (filter (of_others id) stair)
   under_lifted tread [] rises = tt
   under_lifted tread (next ∷ stair) rises = by (of_others id next)
     where
-      by : (t : Bool) → IsUnder tread (cond t (next ∷ filter (of_others id) stair) (filter (of_others id) stair))
+      by : (t : Bool) → IsTreadUnder tread (cond t (next ∷ filter (of_others id) stair) (filter (of_others id) stair))
       by true = rises.1
       by false =
           under_far tread (filter (of_others id) stair) next.to (omega (arith, rises.1.0, rises.2.0))
           (filter_behind (of_others id) stair next.to (rises_behind next stair rises.2))
 
-  lifted_rises : (stair : List Tread) → Rises stair → Rises (filter (of_others id) stair)
+  lifted_rises : (stair : List Tread) → RisesAlong stair → RisesAlong (filter (of_others id) stair)
   lifted_rises [] rises = tt
   lifted_rises (tread ∷ stair) rises = by (of_others id tread) (lifted_rises stair rises.2)
     where
-      by : (t : Bool) → Rises (filter (of_others id) stair) → Rises (cond t (tread ∷ filter (of_others id) stair) (filter (of_others id) stair))
+      by : (t : Bool) → RisesAlong (filter (of_others id) stair) → RisesAlong (cond t (tread ∷ filter (of_others id) stair) (filter (of_others id) stair))
       by true rest = (rises.0, under_lifted tread stair rises, rest)
       by false rest = rest
 
-  lifted_says : (stair : List Tread) → Rises stair → (o : ℕ) → id_at (filter (of_others id) stair) o ≡ in_place id None (id_at stair o)
+  lifted_says : (stair : List Tread) → RisesAlong stair → (o : ℕ) → id_at (filter (of_others id) stair) o ≡ in_place id None (id_at stair o)
   lifted_says [] rises o = refl
   lifted_says (tread ∷ stair) rises o = by (bytes_eq tread.id.0 id.0) (is_within tread.from tread.to o) refl refl (lifted_says stair rises.2 o)
     where
@@ -77,11 +77,11 @@ module _ (id : SegmentId) where
       by false false is here rest = rw here rest
 
   -- without its treads a stair gives nothing in the segment's place
-  pub is_lifted : (stair new : List Tread) → Rises stair → new ≡ filter (of_others id) stair → IsLifted id stair new
+  pub is_lifted : (stair new : List Tread) → RisesAlong stair → new ≡ filter (of_others id) stair → IsLifted id stair new
   is_lifted stair new rises is = rw is (record { rises = lifted_rises stair rises; says = lifted_says stair rises })
 
 -- without its first tread a stair gives nothing in the segment's place, where no other is of the segment
-taken_front : (id : SegmentId) (end : ℕ) (t : Tread) (rest : List Tread) → Rises (t ∷ rest) → begins_with id end (t ∷ rest) ≡ true
+taken_front : (id : SegmentId) (end : ℕ) (t : Tread) (rest : List Tread) → RisesAlong (t ∷ rest) → begins_with id end (t ∷ rest) ≡ true
     → ((o : ℕ) → end ≤ o → in_place id None (id_at (t ∷ rest) o) ≡ id_at (t ∷ rest) o) → IsLifted id (t ∷ rest) rest
 taken_front id end t rest rises first own = record { rises = rises.2; says = says }
   where
@@ -101,7 +101,7 @@ taken_front id end t rest rises first own = record { rises = rises.2; says = say
           rw (within_past t.from t.to o past) (sym same)
     ]
 
-pub taken_first : (id : SegmentId) (end gone : ℕ) (treads : List Tread) → gone < length treads → Rises (drop gone treads) → begins_with id end (drop gone treads) ≡ true
+pub taken_first : (id : SegmentId) (end gone : ℕ) (treads : List Tread) → gone < length treads → RisesAlong (drop gone treads) → begins_with id end (drop gone treads) ≡ true
     → ((o : ℕ) → end ≤ o → in_place id None (id_at (drop gone treads) o) ≡ id_at (drop gone treads) o) → IsLifted id (drop gone treads) (drop (gone + 1) treads)
 taken_first id end gone [] low rises first own = absurd (omega (arith, low))
 taken_first id end gone (x ∷ treads) low rises first own =

@@ -9,8 +9,8 @@ use Rattle.remote_view.specs.declared.spans.Span.{Span}
 use Rattle.remote_view.specs.declared.tread.Tread.{Tread}
 use Rattle.remote_view.specs.Fold.{entry_of}
 use Rattle.remote_view.specs.Lookup.{better_of}
-use Rattle.remote_view.specs.Stairs.{is_within, id_at, IsUnder, Rises}
-use Rattle.remote_view.specs.Laying.{EndsBy, Fits, IsPut, split_at, IsSplit, overlaid, IsLaid}
+use Rattle.remote_view.specs.Stairs.{is_within, id_at, IsTreadUnder, RisesAlong}
+use Rattle.remote_view.specs.Laying.{EndsBy, Fits, IsPut, split_at, IsSplit, overlaid, IsSegmentLaid}
 use Rattle.remote_view.proofs.Lying.{within_true, within_below, within_past}
 use Rattle.remote_view.proofs.Treads.{nothing_past, nothing_below, ends_weaker, behind_says}
 
@@ -21,15 +21,15 @@ StartsFrom at (tread ∷ stair) = at ≤ tread.from
 
 -- a new stair is right below an offset, and the rest of the old one lies after it
 pub record IsSoFar (entries : List Entry) (entry : Entry) (span : Span) (stair rest laid : List Tread) (at : ℕ) : Type 0 where
-  pub rises : Rises laid
+  pub rises : RisesAlong laid
   pub ends : EndsBy at laid
   pub says : (o : ℕ) → o < at → id_at laid o ≡ overlaid entries entry span stair o
-  pub rest_rises : Rises rest
+  pub rest_rises : RisesAlong rest
   pub starts : StartsFrom at rest
   pub left : (o : ℕ) → at ≤ o → id_at stair o ≡ id_at rest o
 
 -- nothing has been laid yet
-pub at_first : (entries : List Entry) (entry : Entry) (span : Span) (stair laid : List Tread) → laid ≡ [] → Rises stair → IsSoFar entries entry span stair stair laid 0
+pub at_first : (entries : List Entry) (entry : Entry) (span : Span) (stair laid : List Tread) → laid ≡ [] → RisesAlong stair → IsSoFar entries entry span stair stair laid 0
 at_first entries entry span stair laid none rises = rw none (record {
   rises = tt;
   ends = tt;
@@ -76,7 +76,7 @@ on_tread : (t : Bool) (w own : SegmentId) → Some (cond t w own) ≡ cond t (So
 on_tread true w own = refl
 on_tread false w own = refl
 
-next_starts : (tread : Tread) (rest : List Tread) → IsUnder tread rest → StartsFrom tread.to rest
+next_starts : (tread : Tread) (rest : List Tread) → IsTreadUnder tread rest → StartsFrom tread.to rest
 next_starts tread [] under = tt
 next_starts tread (next ∷ rest) under = under.0
 
@@ -121,7 +121,7 @@ turn entries entry span stair rest laid one two tread at from to w so is_from is
 
 -- nothing of the old stair is left
 pub at_last : (entries : List Entry) (entry : Entry) (span : Span) (stair laid new : List Tread) (at from : ℕ)
-    → IsSoFar entries entry span stair [] laid at → from ≡ max span.from at → IsPut from span.to entry.id laid new → IsLaid entries entry span stair new
+    → IsSoFar entries entry span stair [] laid at → from ≡ max span.from at → IsPut from span.to entry.id laid new → IsSegmentLaid entries entry span stair new
 at_last entries entry span stair laid new at from so is_from put = record {
   rises = put.rises;
   says = λ o. put.says o ∙ elim (cases_lt o at) [
@@ -131,7 +131,7 @@ at_last entries entry span stair laid new at from so is_from put = record {
 }
 
 -- a stair ends where its last tread does
-pub ends_with : (x : Tread) (stair : List Tread) (last : Tread) → Rises (x ∷ stair) → slice_get (x ∷ stair) (length (x ∷ stair) - 1) ≡ Some last → EndsBy last.to (x ∷ stair)
+pub ends_with : (x : Tread) (stair : List Tread) (last : Tread) → RisesAlong (x ∷ stair) → slice_get (x ∷ stair) (length (x ∷ stair) - 1) ≡ Some last → EndsBy last.to (x ∷ stair)
 ends_with x [] last rises is = let same : x ≡ last = cc in rw same (omega arith, tt)
 ends_with x (y ∷ stair) last rises is =
     let same : suc (suc (length stair)) - 1 ≡ suc (length stair) = omega arith in
@@ -140,13 +140,13 @@ ends_with x (y ∷ stair) last rises is =
     let rest = ends_with y stair last rises.2 there in
     (omega (arith, rises.1.0, rises.2.0, rest.0), rest)
 
-pub ends_with_last : (stair : List Tread) (last : Tread) (at : ℕ) → Rises stair → slice_get stair (length stair - 1) ≡ Some last → last.to ≤ at → EndsBy at stair
+pub ends_with_last : (stair : List Tread) (last : Tread) (at : ℕ) → RisesAlong stair → slice_get stair (length stair - 1) ≡ Some last → last.to ≤ at → EndsBy at stair
 ends_with_last [] last at rises is up = tt
 ends_with_last (x ∷ stair) last at rises is up = ends_weaker (x ∷ stair) last.to at (ends_with x stair last rises is) up
 
 -- one tread more after the last one, of another segment
-rises_more : (x : Tread) (stair : List Tread) (last tread : Tread) → Rises (x ∷ stair) → slice_get (x ∷ stair) (length (x ∷ stair) - 1) ≡ Some last → last.to ≤ tread.from
-    → bytes_eq last.id.0 tread.id.0 ≡ false → tread.from < tread.to → Rises ((x ∷ stair) ++ tread ∷ [])
+rises_more : (x : Tread) (stair : List Tread) (last tread : Tread) → RisesAlong (x ∷ stair) → slice_get (x ∷ stair) (length (x ∷ stair) - 1) ≡ Some last → last.to ≤ tread.from
+    → bytes_eq last.id.0 tread.id.0 ≡ false → tread.from < tread.to → RisesAlong ((x ∷ stair) ++ tread ∷ [])
 rises_more x [] last tread rises is up other some = let same : x ≡ last = cc in rw same (rw same at rises.0, (up, λ touch. other), (some, tt, tt))
 rises_more x (y ∷ stair) last tread rises is up other some =
     let same : suc (suc (length stair)) - 1 ≡ suc (length stair) = omega arith in
@@ -155,7 +155,7 @@ rises_more x (y ∷ stair) last tread rises is up other some =
     (rises.0, rises.1, rises_more y stair last tread rises.2 there up other some)
 
 -- a tread fits after a stair that ends below it with another segment
-pub fits_behind : (stair : List Tread) (last : Tread) (from : ℕ) (id : SegmentId) → Rises stair → slice_get stair (length stair - 1) ≡ Some last → last.to ≤ from → bytes_eq last.id.0 id.0 ≡ false → Fits from id stair
+pub fits_behind : (stair : List Tread) (last : Tread) (from : ℕ) (id : SegmentId) → RisesAlong stair → slice_get stair (length stair - 1) ≡ Some last → last.to ≤ from → bytes_eq last.id.0 id.0 ≡ false → Fits from id stair
 fits_behind [] last from id rises is up other = record { ends = tt; rises = λ to some. (some, tt, tt) }
 fits_behind (x ∷ stair) last from id rises is up other = record {
   ends = ends_with_last (x ∷ stair) last from rises is up;
@@ -167,7 +167,7 @@ fits_nothing stair from id none = rw none (record { ends = tt; rises = λ to som
 
 -- so it lays an entry there
 pub fit_laid : (entries : List Entry) (entry : Entry) (span : Span) (stair : List Tread) → Fits span.from entry.id stair → span.from < span.to
-    → IsLaid entries entry span stair (stair ++ (record { from = span.from; to = span.to; id = entry.id }) ∷ [])
+    → IsSegmentLaid entries entry span stair (stair ++ (record { from = span.from; to = span.to; id = entry.id }) ∷ [])
 fit_laid entries entry span stair fits some = record {
   rises = fits.rises span.to some;
   says = λ o. behind_says stair (record { from = span.from; to = span.to; id = entry.id }) o fits.ends ∙ elim (cases_lt o span.from) [

@@ -5,7 +5,7 @@ use Rattle.std.proofs.lemmas.Bool.{cases_lt, lt-ltb, le-ltb, leb-true, leb-false
 use Rattle.segment_meta.specs.declared.note.Entry.{Entry}
 use Rattle.remote_view.specs.declared.tread.Tread.{Tread}
 use Rattle.remote_view.specs.Lookup.{finished, IsReach}
-use Rattle.remote_view.specs.Stairs.{id_at, IsUnder, Rises, HasAll, IsEndFrom, end_of_touching, IsStair}
+use Rattle.remote_view.specs.Stairs.{id_at, IsTreadUnder, RisesAlong, HasAll, IsEndFrom, end_of_touching, IsStair}
 use Rattle.remote_view.proofs.Lying.{within_true, within_past}
 use Rattle.remote_view.proofs.Treads.{nothing_below}
 use Rattle.remote_view.proofs.Halving.{IsParted, rises_drop}
@@ -16,12 +16,12 @@ FirstPast at [] = Unit {0}
 FirstPast at (tread ∷ stair) = at < tread.to
 
 -- the next tread ends past the end of the one before
-next_past : (tread : Tread) (stair : List Tread) → IsUnder tread stair → Rises stair → FirstPast tread.to stair
+next_past : (tread : Tread) (stair : List Tread) → IsTreadUnder tread stair → RisesAlong stair → FirstPast tread.to stair
 next_past tread [] under rises = tt
 next_past tread (next ∷ stair) under rises = omega (arith, under.0, rises.0)
 
 -- treads that touch reach the end of the last of them
-touching_ends : (stair : List Tread) (at : ℕ) → Rises stair → FirstPast at stair → IsEndFrom stair at (end_of_touching stair at)
+touching_ends : (stair : List Tread) (at : ℕ) → RisesAlong stair → FirstPast at stair → IsEndFrom stair at (end_of_touching stair at)
 touching_ends [] at rises past = record { from = omega arith; each = λ o up down. absurd (omega (arith, up, down)); none = refl }
 touching_ends (tread ∷ stair) at rises past = elim (cases_lt at tread.from) [
   | inl gap ↦ rw (lt-ltb at tread.from gap) (record {
@@ -60,7 +60,7 @@ first_past (x ∷ stair) at zero h = leb-false x.to at (h.1 0 x (omega arith) (o
 first_past (x ∷ stair) at (suc i) h = first_past stair at i (λ k d low high. h.0 (suc k) d (omega arith) (omega (arith, high)), λ k d low high. h.1 (suc k) d (omega (arith, low)) (omega (arith, high)))
 
 -- so the end is found after them
-pub parted_ends : (stair : List Tread) (at i : ℕ) → Rises stair → i ≤ length stair → IsParted at stair i → IsEndFrom stair at (end_of_touching (drop i stair) at)
+pub parted_ends : (stair : List Tread) (at i : ℕ) → RisesAlong stair → i ≤ length stair → IsParted at stair i → IsEndFrom stair at (end_of_touching (drop i stair) at)
 parted_ends stair at i rises l h =
     let rest = touching_ends (drop i stair) at (rises_drop stair i rises) (first_past stair at i h) in
     record {

@@ -10,11 +10,11 @@ use Rattle.segment_meta.specs.declared.note.Entry.{Entry}
 use Rattle.remote_view.specs.declared.tread.Tread.{Tread}
 use Rattle.remote_view.specs.declared.stairs.Stair.{Stair}
 use Rattle.remote_view.specs.declared.stairs.Stairs.{Stairs}
-use Rattle.remote_view.specs.Fold.{entry_of, changed, updated, IsKept}
+use Rattle.remote_view.specs.Fold.{entry_of, changed, updated, IsEntryValid}
 use Rattle.remote_view.specs.Lookup.{is_readable, covers}
 use Rattle.remote_view.specs.Stairs.{span_of, IsStair}
 use Rattle.remote_view.specs.Laying.{gives}
-use Rattle.remote_view.specs.Storing.{stair_on, has_room, names, replaced, HaveRoom, IsFresh}
+use Rattle.remote_view.specs.Storing.{stair_on, has_room, names, replaced, HaveRoom, AreFreshStairs}
 use Rattle.remote_view.proofs.Best.{readable_covers}
 use Rattle.remote_view.proofs.Keeping.{untouched, given_nowhere}
 
@@ -44,7 +44,7 @@ renewed es q (s ∷ fresh) old each kept = elim (cases_eq s.epoch q) [
   | inr other ↦ rw (ne_eqb s.epoch q other) (renewed es q fresh old each.1 (λ none. kept (rw (ne_eqb s.epoch q other) none)))
 ]
 
-pub all_right : (es : List Entry) (stairs new : Stairs) (fresh : List Stair) → IsFresh es stairs fresh → ((e : ℕ) → stair_on new e ≡ replaced fresh e (stair_on stairs e)) → (q : ℕ) → IsStair es q (stair_on new q)
+pub all_right : (es : List Entry) (stairs new : Stairs) (fresh : List Stair) → AreFreshStairs es stairs fresh → ((e : ℕ) → stair_on new e ≡ replaced fresh e (stair_on stairs e)) → (q : ℕ) → IsStair es q (stair_on new q)
 all_right es stairs new fresh h is q = rw (is q) (renewed es q fresh (stair_on stairs q) h.each (h.kept q))
 
 -- stairs of all epochs of a map leave out only epochs that the map hasn't
@@ -69,9 +69,9 @@ nowhere broker event_ts state custom es x q stair here none right =
     out false e o is none = readable_covers q o e false is
 
 -- all epochs of the entry's map have a new stair
-pub made_fresh : (broker : BrokerId) (event_ts : ℤ) (state : State) (custom : Option (List ℕ)) (es : List Entry) (x : Entry) (old stairs : Stairs) (fresh : List Stair) → entry_of x.id es ≡ Some x → IsKept x
+pub made_fresh : (broker : BrokerId) (event_ts : ℤ) (state : State) (custom : Option (List ℕ)) (es : List Entry) (x : Entry) (old stairs : Stairs) (fresh : List Stair) → entry_of x.id es ≡ Some x → IsEntryValid x
     → ((q : ℕ) → IsStair es q (stair_on old q)) → ((q : ℕ) → stair_on stairs q ≡ stair_on old q) → HaveRoom stairs fresh → map (λ s. s.epoch) fresh ≡ map (λ p. p.0) x.map
-    → AllByRecursion (λ s. IsStair (changed x.id (updated broker event_ts state custom) es) s.epoch s.treads) fresh → IsFresh (changed x.id (updated broker event_ts state custom) es) stairs fresh
+    → AllByRecursion (λ s. IsStair (changed x.id (updated broker event_ts state custom) es) s.epoch s.treads) fresh → AreFreshStairs (changed x.id (updated broker event_ts state custom) es) stairs fresh
 made_fresh broker event_ts state custom es x old stairs fresh here kept right same room epochs each = record {
   each = each;
   room = room;
@@ -80,7 +80,7 @@ made_fresh broker event_ts state custom es x old stairs fresh here kept right sa
 
 -- a step between states that can't be read changes no stair
 pub none_fresh : (broker : BrokerId) (event_ts : ℤ) (state : State) (custom : Option (List ℕ)) (es : List Entry) (x : Entry) (stairs : Stairs) (fresh : List Stair) → fresh ≡ [] → entry_of x.id es ≡ Some x
-    → is_readable x.state ≡ false → is_readable state ≡ false → ((q : ℕ) → IsStair es q (stair_on stairs q)) → IsFresh (changed x.id (updated broker event_ts state custom) es) stairs fresh
+    → is_readable x.state ≡ false → is_readable state ≡ false → ((q : ℕ) → IsStair es q (stair_on stairs q)) → AreFreshStairs (changed x.id (updated broker event_ts state custom) es) stairs fresh
 none_fresh broker event_ts state custom es x stairs fresh none here out into right = rw none (record {
   each = tt;
   room = tt;

@@ -7,14 +7,14 @@ use Rattle.remote_view.specs.declared.spans.Span.{Span}
 use Rattle.remote_view.specs.declared.tread.Tread.{Tread}
 use Rattle.remote_view.specs.Lookup.{better_of}
 use Rattle.remote_view.specs.Stairs.{is_within, id_at, HasAll}
-use Rattle.remote_view.specs.Laying.{held, IsLaid}
+use Rattle.remote_view.specs.Laying.{held, IsSegmentLaid}
 use Rattle.remote_view.proofs.Lying.{within_true}
 use Rattle.remote_view.proofs.Treads.{or_else, id_at-append}
 
 -- what is laid leaves no offset without a tread, and gives one to each of its range
 pub runs_on : (es : List Entry) (entry : Entry) (run span grown : Span) (old new : List Tread) → HasAll run.from run.to old
     → ((o : ℕ) → grown.from ≤ o → o < grown.to → ((run.from ≤ o) × (o < run.to)) ⊎ ((span.from ≤ o) × (o < span.to)))
-    → IsLaid es entry span old new → HasAll grown.from grown.to new
+    → IsSegmentLaid es entry span old new → HasAll grown.from grown.to new
 runs_on es entry run span grown old new all parts laid o low high = elim (parts o low high) [
   | inl before ↦ rw (laid.says o) (stays (better_of (held es (id_at old o)) entry).id (is_within span.from span.to o) (id_at old o) (all o before.0 before.1))
   | inr now ↦ rw (laid.says o, within_true span.from span.to o now.0 now.1) refl

@@ -9,7 +9,7 @@ use Rattle.tier_base.specs.declared.plain.State.{State}
 use Rattle.segment_meta.specs.declared.note.Entry.{Entry}
 use Rattle.segment_meta.specs.Rules.{IsAdded}
 use Rattle.remote_view.specs.declared.spread.Spread.{Spread}
-use Rattle.remote_view.specs.Fold.{entry_of, changed, updated, AreKept}
+use Rattle.remote_view.specs.Fold.{entry_of, changed, updated, AreEntriesValid}
 use Rattle.remote_view.specs.Lookup.{is_readable}
 use Rattle.remote_view.specs.Laying.{lies_under}
 use Rattle.remote_view.specs.Spread.{IsIn, AreSpread, spread_with, spread_after}
@@ -35,7 +35,7 @@ in_changed (e ∷ es) id x one change here h = by (bytes_eq e.id.0 id.0) here h 
     by false is (inl same) more = inl (inl same)
     by false is (inr there) more = elim (more is there) [ inl rest ↦ inl (inr rest) | inr same ↦ inr same ]
 
-kept_in : (es : List Entry) (one : Entry) → AreKept es → IsIn one es → one.start ≤ one.end
+kept_in : (es : List Entry) (one : Entry) → AreEntriesValid es → IsIn one es → one.start ≤ one.end
 kept_in [] one kept h = absurd h
 kept_in (e ∷ es) one kept (inl same) = rw same kept.0.ordered
 kept_in (e ∷ es) one kept (inr more) = kept_in es one kept.1 more
@@ -81,7 +81,7 @@ spread_push spread es last out h = record {
 }
 
 module _ (spread : Spread) (es : List Entry) (id : SegmentId) (x : Entry) (broker : BrokerId) (event_ts : ℤ) (state : State) (custom : Option (List ℕ))
-    (here : entry_of id es ≡ Some x) (kept : AreKept es) (h : AreSpread spread es) where
+    (here : entry_of id es ≡ Some x) (kept : AreEntriesValid es) (h : AreSpread spread es) where
   abbrev new : Entry
   new = updated broker event_ts state custom x
 

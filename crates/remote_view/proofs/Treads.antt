@@ -6,7 +6,7 @@ use Rattle.std.proofs.lemmas.Bool.{cases_lt, eq-eqb}
 use Rattle.tier_base.specs.declared.names.SegmentId.{SegmentId}
 use Rattle.remote_view.specs.declared.spans.Span.{Span}
 use Rattle.remote_view.specs.declared.tread.Tread.{Tread}
-use Rattle.remote_view.specs.Stairs.{is_within, id_at, Rises}
+use Rattle.remote_view.specs.Stairs.{is_within, id_at, RisesAlong}
 use Rattle.remote_view.specs.Laying.{EndsBy, IsPut, IsSplit}
 use Rattle.remote_view.proofs.Ids.{same_id}
 use Rattle.remote_view.proofs.Lying.{within_true, within_below, within_past}
@@ -32,7 +32,7 @@ nothing_past (tread ∷ stair) at o ends past =
     rw (within_past tread.from tread.to o (omega (arith, ends.0, past))) (nothing_past stair at o ends.1 past)
 
 -- nor below the first of them
-pub nothing_below : (tread : Tread) (stair : List Tread) (o : ℕ) → Rises (tread ∷ stair) → o < tread.from → id_at (tread ∷ stair) o ≡ None
+pub nothing_below : (tread : Tread) (stair : List Tread) (o : ℕ) → RisesAlong (tread ∷ stair) → o < tread.from → id_at (tread ∷ stair) o ≡ None
 nothing_below tread [] o rises low = rw (within_below tread.from tread.to o low) refl
 nothing_below tread (next ∷ stair) o rises low =
     rw (within_below tread.from tread.to o low) (nothing_below next stair o rises.2 (omega (arith, rises.0, rises.1.0, low)))
@@ -54,31 +54,31 @@ ends_back [] ys at h = h
 ends_back (x ∷ xs) ys at h = ends_back xs ys at h.1
 
 -- the treads before the last one end where it starts, or before
-before_last : (front : List Tread) (last : Tread) → Rises (front ++ last ∷ []) → EndsBy last.from front
+before_last : (front : List Tread) (last : Tread) → RisesAlong (front ++ last ∷ []) → EndsBy last.from front
 before_last [] last rises = tt
 before_last (x ∷ []) last rises = (rises.1.0, tt)
 before_last (x ∷ y ∷ front) last rises =
     let rest = before_last (y ∷ front) last rises.2 in (omega (arith, rises.1.0, rises.2.0, rest.0), rest)
 
-last_some : (front : List Tread) (last : Tread) → Rises (front ++ last ∷ []) → last.from < last.to
+last_some : (front : List Tread) (last : Tread) → RisesAlong (front ++ last ∷ []) → last.from < last.to
 last_some [] last rises = rises.0
 last_some (x ∷ front) last rises = last_some front last rises.2
 
 -- all of them end where the last one does, or before
-last_ends : (front : List Tread) (last : Tread) → Rises (front ++ last ∷ []) → EndsBy last.to (front ++ last ∷ [])
+last_ends : (front : List Tread) (last : Tread) → RisesAlong (front ++ last ∷ []) → EndsBy last.to (front ++ last ∷ [])
 last_ends front last rises =
     let some = last_some front last rises in
     ends_append front (last ∷ []) last.to (ends_weaker front last.from last.to (before_last front last rises) (omega (arith, some))) (omega arith, tt)
 
 -- one tread more
-rises_push : (front : List Tread) (last tread : Tread) → Rises (front ++ last ∷ []) → last.to ≤ tread.from → tread.from < tread.to
-    → (last.to ≡ tread.from → bytes_eq last.id.0 tread.id.0 ≡ false) → Rises ((front ++ last ∷ []) ++ tread ∷ [])
+rises_push : (front : List Tread) (last tread : Tread) → RisesAlong (front ++ last ∷ []) → last.to ≤ tread.from → tread.from < tread.to
+    → (last.to ≡ tread.from → bytes_eq last.id.0 tread.id.0 ≡ false) → RisesAlong ((front ++ last ∷ []) ++ tread ∷ [])
 rises_push [] last tread rises up some apart = (rises.0, (up, apart), (some, tt, tt))
 rises_push (x ∷ []) last tread rises up some apart = (rises.0, rises.1, rises_push [] last tread rises.2 up some apart)
 rises_push (x ∷ y ∷ front) last tread rises up some apart = (rises.0, rises.1, rises_push (y ∷ front) last tread rises.2 up some apart)
 
 -- the last tread made longer
-rises_longer : (front : List Tread) (last : Tread) (to : ℕ) → Rises (front ++ last ∷ []) → last.to ≤ to → Rises (front ++ (record last { to = to }) ∷ [])
+rises_longer : (front : List Tread) (last : Tread) (to : ℕ) → RisesAlong (front ++ last ∷ []) → last.to ≤ to → RisesAlong (front ++ (record last { to = to }) ∷ [])
 rises_longer [] last to rises up = (omega (arith, rises.0, up), tt, tt)
 rises_longer (x ∷ []) last to rises up = (rises.0, rises.1, rises_longer [] last to rises.2 up)
 rises_longer (x ∷ y ∷ front) last to rises up = (rises.0, rises.1, rises_longer (y ∷ front) last to rises.2 up)
@@ -88,7 +88,7 @@ within_none : (from to o : ℕ) → to ≤ from → is_within from to o ≡ fals
 within_none from to o none = elim (cases_lt o from) [ inl low ↦ within_below from to o low | inr high ↦ within_past from to o (omega (arith, high, none)) ]
 
 -- an empty range leaves the stair as it was
-pub put_none : (from to : ℕ) (id : SegmentId) (stair : List Tread) → Rises stair → to ≤ from → IsPut from to id stair stair
+pub put_none : (from to : ℕ) (id : SegmentId) (stair : List Tread) → RisesAlong stair → to ≤ from → IsPut from to id stair stair
 put_none from to id stair rises none = record {
   rises = rises;
   ends = λ at ends up. ends;
@@ -116,11 +116,11 @@ behind_says stair tread o ends = elim (cases_lt o tread.from) [
     at_end (Some id) = refl
 
 -- a tread after the last one
-pub put_behind : (from to : ℕ) (id : SegmentId) (old front : List Tread) (last : Tread) → old ≡ front ++ last ∷ [] → Rises old → EndsBy from old → from < to
+pub put_behind : (from to : ℕ) (id : SegmentId) (old front : List Tread) (last : Tread) → old ≡ front ++ last ∷ [] → RisesAlong old → EndsBy from old → from < to
     → (last.to ≡ from → bytes_eq last.id.0 id.0 ≡ false) → IsPut from to id old ((front ++ last ∷ []) ++ record { from = from; to = to; id = id } ∷ [])
 put_behind from to id old front last is rises ends some apart =
     let new : Tread = record { from = from; to = to; id = id } in
-    let rises' : Rises (front ++ last ∷ []) = rw is at rises in
+    let rises' : RisesAlong (front ++ last ∷ []) = rw is at rises in
     let ends' : EndsBy from (front ++ last ∷ []) = rw is at ends in
     rw is (record {
       rises = rises_push front last new rises' (ends_back front (last ∷ []) from ends').0 some apart;
@@ -143,11 +143,11 @@ ranges a b c o id else some more = elim (cases_lt o a) [
 ]
 
 -- the last tread made longer
-pub put_joined : (from to : ℕ) (id : SegmentId) (old front : List Tread) (last : Tread) → old ≡ front ++ last ∷ [] → Rises old → EndsBy from old → from < to
+pub put_joined : (from to : ℕ) (id : SegmentId) (old front : List Tread) (last : Tread) → old ≡ front ++ last ∷ [] → RisesAlong old → EndsBy from old → from < to
     → last.to ≡ from → bytes_eq last.id.0 id.0 ≡ true → IsPut from to id old (front ++ record { from = last.from; to = to; id = id } ∷ [])
 put_joined from to id old front last is rises ends some touch same =
     let one : last.id ≡ id = same_id last.id id same in
-    let rises' : Rises (front ++ last ∷ []) = rw is at rises in
+    let rises' : RisesAlong (front ++ last ∷ []) = rw is at rises in
     let new : Tread = record { from = last.from; to = to; id = last.id } in
     let long : last.to ≤ to = omega (arith, touch, some) in
     let before = before_last front last rises' in

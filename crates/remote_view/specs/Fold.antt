@@ -65,28 +65,28 @@ abbrev pub fold : List Note → List Entry
 fold notes = folded_from [] notes
 
 -- what a broker has seen of a metadata log: the entries, and the number of events
-pub record Seen : Type 0 where
+pub record EntriesSeen : Type 0 where
   pub entries : List Entry
   pub notes : ℕ
 
 -- the view after one event more
-abbrev pub fed : Seen → Note → Seen
+abbrev pub fed : EntriesSeen → Note → EntriesSeen
 fed view note = record { entries = recorded view.entries note; notes = counted view.notes 1 }
 
 -- the view of events
-abbrev pub view_of : List Note → Seen
+abbrev pub view_of : List Note → EntriesSeen
 view_of notes = record { entries = fold notes; notes = counted 0 (length notes) }
 
 -- an entry's id, its offsets, and its map of epochs in them
-pub record IsKept (entry : Entry) : Type 0 where
+pub record IsEntryValid (entry : Entry) : Type 0 where
   pub id : IsId entry.id
   pub ordered : entry.start ≤ entry.end
   pub bounded : entry.end < 2 ^ 62
   pub map : IsMap entry.start entry.end entry.map
 
 -- each entry is
-abbrev pub AreKept : List Entry → Type 0
-AreKept entries = AllByRecursion IsKept entries
+abbrev pub AreEntriesValid : List Entry → Type 0
+AreEntriesValid entries = AllByRecursion IsEntryValid entries
 
 -- no two entries have one id
 abbrev pub AreDistinct : List Entry → Type 0

@@ -9,7 +9,7 @@ use Rattle.remote_view.specs.declared.spans.Span.{Span}
 use Rattle.remote_view.specs.declared.tread.Tread.{Tread}
 use Rattle.remote_view.specs.Fold.{entry_of}
 use Rattle.remote_view.specs.Lookup.{is_readable, is_epoch, better_of}
-use Rattle.remote_view.specs.Stairs.{is_within, id_at, Rises}
+use Rattle.remote_view.specs.Stairs.{is_within, id_at, RisesAlong}
 
 -- no tread goes past an offset
 abbrev pub EndsBy : ℕ → List Tread → Type 0
@@ -17,14 +17,14 @@ EndsBy at stair = AllByRecursion (λ tread. tread.to ≤ at) stair
 
 -- a range of a segment was put after a stair
 pub record IsPut (from to : ℕ) (id : SegmentId) (old new : List Tread) : Type 0 where
-  pub rises : Rises new
+  pub rises : RisesAlong new
   pub ends : (at : ℕ) → EndsBy at old → to ≤ at → EndsBy at new
   pub says : (offset : ℕ) → id_at new offset ≡ (if is_within from to offset then Some id else id_at old offset)
 
 -- a tread of a segment from an offset on can be put after a stair
 pub record Fits (from : ℕ) (id : SegmentId) (stair : List Tread) : Type 0 where
   pub ends : EndsBy from stair
-  pub rises : (to : ℕ) → from < to → Rises (stair ++ (record { from = from; to = to; id = id }) ∷ [])
+  pub rises : (to : ℕ) → from < to → RisesAlong (stair ++ (record { from = from; to = to; id = id }) ∷ [])
 
 -- what a tread gives, with another segment in a range of it
 abbrev pub split_at : Tread → Span → SegmentId → ℕ → SegmentId
@@ -32,7 +32,7 @@ split_at tread span id offset = if is_within span.from span.to offset then id el
 
 -- a tread was put after a stair, with another segment in a range of it
 pub record IsSplit (tread : Tread) (span : Span) (id : SegmentId) (old new : List Tread) : Type 0 where
-  pub rises : Rises new
+  pub rises : RisesAlong new
   pub ends : EndsBy tread.to new
   pub says : (offset : ℕ) → id_at new offset
       ≡ (if is_within tread.from tread.to offset then Some (split_at tread span id offset) else id_at old offset)
@@ -49,8 +49,8 @@ overlaid entries entry span stair offset =
     else id_at stair offset
 
 -- a segment was laid over a range of a stair
-pub record IsLaid (entries : List Entry) (entry : Entry) (span : Span) (old new : List Tread) : Type 0 where
-  pub rises : Rises new
+pub record IsSegmentLaid (entries : List Entry) (entry : Entry) (span : Span) (old new : List Tread) : Type 0 where
+  pub rises : RisesAlong new
   pub says : (offset : ℕ) → id_at new offset ≡ overlaid entries entry span old offset
 
 -- a tread is of another segment
@@ -64,7 +64,7 @@ in_place id other (Some given) = if bytes_eq given.0 id.0 then other else Some g
 
 -- a segment's treads were taken out of a stair
 pub record IsLifted (id : SegmentId) (old new : List Tread) : Type 0 where
-  pub rises : Rises new
+  pub rises : RisesAlong new
   pub says : (offset : ℕ) → id_at new offset ≡ in_place id None (id_at old offset)
 
 -- they were taken out, or the stair is as before
@@ -91,5 +91,5 @@ overlaid_in entries entry epoch stair offset =
 
 -- an entry was laid over a stair where it gives the stair's epoch
 pub record IsLaidIn (entries : List Entry) (entry : Entry) (epoch : ℕ) (old new : List Tread) : Type 0 where
-  pub rises : Rises new
+  pub rises : RisesAlong new
   pub says : (offset : ℕ) → id_at new offset ≡ overlaid_in entries entry epoch old offset

@@ -28,15 +28,15 @@ id_at [] offset = None
 id_at (tread ∷ stair) offset = if is_within tread.from tread.to offset then Some tread.id else id_at stair offset
 
 -- a tread ends at or before the start of the next one, and has another segment where they touch
-abbrev pub IsUnder : Tread → List Tread → Type 0
-IsUnder tread [] = Unit {0}
-IsUnder tread (next ∷ stair) =
+abbrev pub IsTreadUnder : Tread → List Tread → Type 0
+IsTreadUnder tread [] = Unit {0}
+IsTreadUnder tread (next ∷ stair) =
     (tread.to ≤ next.from) × (tread.to ≡ next.from → bytes_eq tread.id.0 next.id.0 ≡ false)
 
 -- treads rise, and none is empty
-abbrev pub Rises : List Tread → Type 0
-Rises [] = Unit {0}
-Rises (tread ∷ stair) = (tread.from < tread.to) × IsUnder tread stair × Rises stair
+abbrev pub RisesAlong : List Tread → Type 0
+RisesAlong [] = Unit {0}
+RisesAlong (tread ∷ stair) = (tread.from < tread.to) × IsTreadUnder tread stair × RisesAlong stair
 
 -- each offset of a range has a tread
 abbrev pub HasAll : ℕ → ℕ → List Tread → Type 0
@@ -65,5 +65,5 @@ end_of_touching (tread ∷ stair) at = if nat_lt at tread.from then at else end_
 
 -- the stair of an epoch over entries: at each offset it gives the best copy's segment, if there is one
 pub record IsStair (entries : List Entry) (epoch : ℕ) (stair : List Tread) : Type 0 where
-  pub rises : Rises stair
+  pub rises : RisesAlong stair
   pub best : (offset : ℕ) → id_at stair offset ≡ option_map (λ entry. entry.id) (finished epoch offset entries)

@@ -8,7 +8,7 @@ use Rattle.segment_meta.specs.declared.note.Entry.{Entry}
 use Rattle.remote_view.specs.declared.tread.Tread.{Tread}
 use Rattle.remote_view.specs.declared.stairs.Stair.{Stair}
 use Rattle.remote_view.specs.declared.stairs.Stairs.{Stairs}
-use Rattle.remote_view.specs.Fold.{AreKept, AreDistinct}
+use Rattle.remote_view.specs.Fold.{AreEntriesValid, AreDistinct}
 use Rattle.remote_view.specs.Lookup.{is_readable}
 use Rattle.remote_view.specs.Stairs.{span_of, IsStair}
 use Rattle.remote_view.specs.Laying.{IsLaidIn, IsLifted}
@@ -36,7 +36,7 @@ abbrev pub HaveRoom : Stairs → List Stair → Type 0
 HaveRoom stairs fresh = AllByRecursion (λ stair. has_room stairs stair.epoch ≡ true) fresh
 
 -- some stairs are right over entries, there is room for them, and those of the other epochs are right as they are
-pub record IsFresh (entries : List Entry) (stairs : Stairs) (fresh : List Stair) : Type 0 where
+pub record AreFreshStairs (entries : List Entry) (stairs : Stairs) (fresh : List Stair) : Type 0 where
   pub each : AllByRecursion (λ stair. IsStair entries stair.epoch stair.treads) fresh
   pub room : HaveRoom stairs fresh
   pub kept : (epoch : ℕ) → names epoch fresh ≡ false → IsStair entries epoch (stair_on stairs epoch)
@@ -59,6 +59,6 @@ IsTakenFirst false alone state entry old new = (epoch : ℕ) → stair_on new ep
 
 -- what holds of a view's entries and stairs
 pub record IsViewed (entries : List Entry) (stairs : Stairs) : Type 0 where
-  pub kept : AreKept entries
+  pub kept : AreEntriesValid entries
   pub distinct : AreDistinct entries
   pub right : (epoch : ℕ) → IsStair entries epoch (stair_on stairs epoch)

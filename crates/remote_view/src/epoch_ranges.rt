@@ -4,8 +4,8 @@
 //! copied in its order, all offsets of an epoch are in that range.
 
 ghost use Rattle.std.specs.Prelude.{◌≡◌, ◌≤◌, ◌<◌, ◌⊎◌, ◌++◌, ◌∷◌, ℕ, [], None, OnOk, OnErr, IfOk};
-ghost use Rattle.remote_view.specs.Stairs.{id_at, Rises, begins_with, IsEndFrom};
-ghost use Rattle.remote_view.specs.Laying.{in_place, IsLaid, IsLifted, IsTaken};
+ghost use Rattle.remote_view.specs.Stairs.{id_at, RisesAlong, begins_with, IsEndFrom};
+ghost use Rattle.remote_view.specs.Laying.{in_place, IsSegmentLaid, IsLifted, IsTaken};
 
 use crate::changing::is_same;
 use crate::known::Known;
@@ -113,9 +113,9 @@ impl EpochRanges {
         entry: &Entry,
         span: Span,
     ) -> Result<EpochRanges, AllocError>
-        requires rises { Rises self }
+        requires rises { RisesAlong self }
         requires ordered { span.from ≤ span.to }
-        ensures { IfOk result (λ laid. IsLaid known.now entry.now span self laid) }
+        ensures { IfOk result (λ laid. IsSegmentLaid known.now entry.now span self laid) }
     {
         let run = grown(self.run, span);
         let treads = lay(alloc, known, self.treads(), entry, span)?;
@@ -143,7 +143,7 @@ impl EpochRanges {
 
     /// The stair without the treads of a segment, which end at an offset or before.
     pub fn lifted(&self, alloc: Global, id: &SegmentId, end: u64) -> Result<EpochRanges, AllocError>
-        requires rises { Rises self.now }
+        requires rises { RisesAlong self.now }
         requires ends { (o : ℕ) → end ≤ o
             → in_place id.now None (id_at self.now o) ≡ id_at self.now o }
         ensures { IfOk result (λ lifted. IsLifted id.now self.now lifted) }
@@ -163,7 +163,7 @@ impl EpochRanges {
     /// Takes the first tread off, where it is a segment's and ends where the segment's treads do, and returns whether
     /// it did.
     pub fn take_first(&mut self, id: &SegmentId, end: u64) -> bool
-        requires rises { Rises self.old }
+        requires rises { RisesAlong self.old }
         requires ends { (o : ℕ) → end ≤ o
             → in_place id.now None (id_at self.old o) ≡ id_at self.old o }
         ensures { IsTaken result id.now self.old self.new }
@@ -179,7 +179,7 @@ impl EpochRanges {
 
     /// The first offset from one on that has no tread.
     pub fn end_from(&self, at: u64) -> u64
-        requires { Rises self.now }
+        requires { RisesAlong self.now }
         ensures { IsEndFrom self.now at result }
     {
         end_from(self.treads(), past(self.run, at))

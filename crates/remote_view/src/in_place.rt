@@ -3,8 +3,8 @@
 //! In a log that is copied in its order, and whose copies are deleted in it, almost all steps are of these.
 
 ghost use Rattle.std.specs.Prelude.{◌≡◌, ◌≤◌, ◌+◌, ℕ, ◌∷◌, [], None, IsTrue, OnErr, IfOk, IfSome};
-ghost use Rattle.remote_view.specs.Fold.{IsKept};
-ghost use Rattle.remote_view.specs.Stairs.{id_at, Rises};
+ghost use Rattle.remote_view.specs.Fold.{IsEntryValid};
+ghost use Rattle.remote_view.specs.Stairs.{id_at, RisesAlong};
 ghost use Rattle.remote_view.specs.Laying.{in_place, Fits};
 ghost use Rattle.remote_view.specs.Storing.{stair_on, IsLaidBehind, IsTakenFirst};
 
@@ -19,7 +19,7 @@ use tier_base::{SegmentId, State};
 
 /// Whether a tread of a segment from an offset on can be put after a stair.
 fn fits(stair: &[Tread], from: u64, id: &SegmentId) -> bool
-    requires { Rises stair.now }
+    requires { RisesAlong stair.now }
     ensures { IsTrue result → Fits from id.now stair.now }
 {
     match stair.last() {
@@ -46,8 +46,8 @@ pub(crate) fn lay_behind(
     entry: &Entry,
     state: State,
 ) -> Result<bool, AllocError>
-    requires kept { IsKept entry.now }
-    requires rises { (epoch : ℕ) → Rises (stair_on stairs.old epoch) }
+    requires kept { IsEntryValid entry.now }
+    requires rises { (epoch : ℕ) → RisesAlong (stair_on stairs.old epoch) }
     ensures ok { IfOk result (λ done. IsLaidBehind done state entry.now stairs.old stairs.new) }
     ensures err { OnErr result ((epoch : ℕ) → stair_on stairs.new epoch ≡ stair_on stairs.old epoch) }
 {
@@ -69,8 +69,8 @@ pub(crate) fn lay_behind(
 /// Takes an entry's tread off the front of the stair of its only epoch, where it can't be read from now on and no other
 /// lies under it, and returns whether it did.
 pub(crate) fn take_first(stairs: &mut Stairs, spread: Spread, entry: &Entry, state: State) -> bool
-    requires kept { IsKept entry.now }
-    requires rises { (epoch : ℕ) → Rises (stair_on stairs.old epoch) }
+    requires kept { IsEntryValid entry.now }
+    requires rises { (epoch : ℕ) → RisesAlong (stair_on stairs.old epoch) }
     requires ends { (epoch o : ℕ) → entry.now.end + 1 ≤ o → in_place entry.now.id None (id_at (stair_on stairs.old epoch) o)
         ≡ id_at (stair_on stairs.old epoch) o }
     ensures { IsTakenFirst result spread.alone state entry.now stairs.old stairs.new }

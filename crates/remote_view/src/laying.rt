@@ -7,8 +7,8 @@ ghost use Rattle.std.specs.Prelude.{◌≡◌, ◌<◌, ◌≤◌, ◌==◌, ◌
 ghost use Rattle.std.specs.Str.{bytes_eq};
 ghost use Rattle.remote_view.specs.Fold.{entry_of};
 ghost use Rattle.remote_view.specs.Lookup.{better_of};
-ghost use Rattle.remote_view.specs.Stairs.{Rises};
-ghost use Rattle.remote_view.specs.Laying.{EndsBy, IsPut, IsSplit, IsLaid};
+ghost use Rattle.remote_view.specs.Stairs.{RisesAlong};
+ghost use Rattle.remote_view.specs.Laying.{EndsBy, IsPut, IsSplit, IsSegmentLaid};
 
 use crate::changing::is_same;
 use crate::known::Known;
@@ -28,7 +28,7 @@ fn joins(last: &Tread, from: u64, id: &SegmentId) -> bool
 
 /// Puts a range of a segment after a stair. One that is empty changes nothing.
 fn put(stair: &mut Row<Tread>, from: u64, to: u64, id: SegmentId) -> Result<(), AllocError>
-    requires rises { Rises stair.old }
+    requires rises { RisesAlong stair.old }
     requires ends { EndsBy from stair.old }
     ensures { OnOk result (IsPut from to id stair.old stair.new) }
 {
@@ -56,7 +56,7 @@ fn put_split(
     span: Span,
     id: SegmentId,
 ) -> Result<(), AllocError>
-    requires rises { Rises stair.old }
+    requires rises { RisesAlong stair.old }
     requires ends { EndsBy tread.now.from stair.old }
     requires some { tread.now.from < tread.now.to }
     requires ordered { span.from ≤ span.to }
@@ -84,9 +84,9 @@ pub(crate) fn lay(
     entry: &Entry,
     span: Span,
 ) -> Result<Row<Tread>, AllocError>
-    requires rises { Rises stair.now }
+    requires rises { RisesAlong stair.now }
     requires ordered { span.from ≤ span.to }
-    ensures { IfOk result (λ laid. IsLaid known.now entry.now span stair.now laid) }
+    ensures { IfOk result (λ laid. IsSegmentLaid known.now entry.now span stair.now laid) }
 {
     let mut laid = Row::new(alloc);
     let mut at = 0;

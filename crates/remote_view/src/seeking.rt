@@ -1,14 +1,14 @@
 //! The segment that a stair gives at an offset, by halving, and how far it gives one from there on.
 
 ghost use Rattle.std.specs.Prelude.{◌≡◌};
-ghost use Rattle.remote_view.specs.Stairs.{id_at, end_of_touching, Rises, IsEndFrom};
+ghost use Rattle.remote_view.specs.Stairs.{id_at, end_of_touching, RisesAlong, IsEndFrom};
 
 use crate::tread::Tread;
 use tier_base::SegmentId;
 
 /// The segment of the tread that holds an offset.
 pub(crate) fn id_at(stair: &[Tread], offset: u64) -> Option<SegmentId>
-    requires { Rises stair.now }
+    requires { RisesAlong stair.now }
     ensures { result ≡ id_at stair.now offset }
 {
     let at = stair.partition_point(|tread| tread.to <= offset);
@@ -38,7 +38,7 @@ fn end_of_touching(stair: &[Tread], at: u64) -> u64
 
 /// The first offset from one on that no tread holds.
 pub(crate) fn end_from(stair: &[Tread], at: u64) -> u64
-    requires { Rises stair.now }
+    requires { RisesAlong stair.now }
     ensures { IsEndFrom stair.now at result }
 {
     let first = stair.partition_point(|tread| tread.to <= at);

@@ -4,7 +4,7 @@
 //! event changes are made first, and then they replace the old ones together.
 
 ghost use Rattle.std.specs.Prelude.{◌≡◌, ◌≢◌, ◌≤◌, ◌++◌, ◌∷◌, ℕ, [], true, None, OnOk, OnErr, IfOk, if◌then◌else◌, ◌==◌};
-ghost use Rattle.remote_view.specs.Stairs.{id_at, Rises, IsEndFrom};
+ghost use Rattle.remote_view.specs.Stairs.{id_at, RisesAlong, IsEndFrom};
 ghost use Rattle.remote_view.specs.Laying.{in_place, IsLifted, IsTaken};
 ghost use Rattle.remote_view.specs.Storing.{stair_on, has_room, replaced, HaveRoom};
 
@@ -65,7 +65,7 @@ impl Stairs {
         id: &SegmentId,
         end: u64,
     ) -> Result<EpochRanges, AllocError>
-        requires rises { Rises (stair_on self.now epoch) }
+        requires rises { RisesAlong (stair_on self.now epoch) }
         requires ends { (o : ℕ) → end ≤ o
             → in_place id.now None (id_at (stair_on self.now epoch) o) ≡ id_at (stair_on self.now epoch) o }
         ensures { IfOk result (λ lifted. IsLifted id.now (stair_on self.now epoch) lifted) }
@@ -78,7 +78,7 @@ impl Stairs {
 
     /// The first offset from one on that an epoch's stair has no tread for.
     pub fn end_from(&self, epoch: u32, at: u64) -> u64
-        requires { Rises (stair_on self.now epoch) }
+        requires { RisesAlong (stair_on self.now epoch) }
         ensures { IsEndFrom (stair_on self.now epoch) at result }
     {
         match self.treads.get(&epoch) {
@@ -107,7 +107,7 @@ impl Stairs {
     /// Takes the first tread off an epoch's stair, where it is a segment's and ends where the segment's treads do, and
     /// returns whether it did.
     pub fn take_first(&mut self, epoch: u32, id: &SegmentId, end: u64) -> bool
-        requires rises { Rises (stair_on self.old epoch) }
+        requires rises { RisesAlong (stair_on self.old epoch) }
         requires ends { (o : ℕ) → end ≤ o
             → in_place id.now None (id_at (stair_on self.old epoch) o) ≡ id_at (stair_on self.old epoch) o }
         ensures there { IsTaken result id.now (stair_on self.old epoch) (stair_on self.new epoch) }

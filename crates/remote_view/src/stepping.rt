@@ -6,10 +6,10 @@
 ghost use Rattle.std.specs.Prelude.{◌≡◌, ℕ, ℤ, true, List, Option, Some, is_some, OnOk, IfOk};
 ghost use Rattle.tier_base.specs.declared.names.BrokerId.{BrokerId};
 ghost use Rattle.segment_meta.specs.Steps.{next_state};
-ghost use Rattle.remote_view.specs.Fold.{entry_of, changed, updated, IsKept, AreKept, AreDistinct, others};
-ghost use Rattle.remote_view.specs.Stairs.{Rises, IsStair};
+ghost use Rattle.remote_view.specs.Fold.{entry_of, changed, updated, IsEntryValid, AreEntriesValid, AreDistinct, others};
+ghost use Rattle.remote_view.specs.Stairs.{RisesAlong, IsStair};
 ghost use Rattle.remote_view.specs.Laying.{IsLaidIn};
-ghost use Rattle.remote_view.specs.Storing.{stair_on, IsFresh};
+ghost use Rattle.remote_view.specs.Storing.{stair_on, AreFreshStairs};
 
 use crate::epoch_ranges::EpochRanges;
 use crate::known::Known;
@@ -29,8 +29,8 @@ fn lay_in(
     entry: &Entry,
     epoch: u32,
 ) -> Result<EpochRanges, AllocError>
-    requires kept { IsKept entry.now }
-    requires rises { Rises stair }
+    requires kept { IsEntryValid entry.now }
+    requires rises { RisesAlong stair }
     ensures { IfOk result (λ laid. IsLaidIn known.now entry.now epoch stair laid) }
 {
     match span_of(entry.map.entries(), epoch, entry.end + 1) {
@@ -47,7 +47,7 @@ fn bared(
     entry: &Entry,
     epoch: u32,
 ) -> Result<EpochRanges, AllocError>
-    requires kept { AreKept known.now }
+    requires kept { AreEntriesValid known.now }
     requires distinct { AreDistinct known.now }
     requires stair { IsStair known.now epoch (stair_on stairs.now epoch) }
     requires here { entry_of entry.now.id known.now ≡ Some entry.now }
@@ -71,7 +71,7 @@ fn anew(
     state: State,
     epoch: u32,
 ) -> Result<EpochRanges, AllocError>
-    requires kept { AreKept known.now }
+    requires kept { AreEntriesValid known.now }
     requires distinct { AreDistinct known.now }
     requires stair { IsStair known.now epoch (stair_on stairs.now epoch) }
     requires here { entry_of entry.now.id known.now ≡ Some entry.now }
@@ -95,14 +95,14 @@ pub(crate) fn fresh(
     entry: &Entry,
     state: State,
 ) -> Result<Row<Stair>, AllocError>
-    requires kept { AreKept known.now }
+    requires kept { AreEntriesValid known.now }
     requires distinct { AreDistinct known.now }
     requires stairs { (epoch : ℕ) → IsStair known.now epoch (stair_on stairs.old epoch) }
     requires here { entry_of entry.now.id known.now ≡ Some entry.now }
     requires step { is_some (next_state (Some entry.now.state) state) ≡ true }
     ensures same { (epoch : ℕ) → stair_on stairs.new epoch ≡ stair_on stairs.old epoch }
     ensures ok { IfOk result (λ fresh. (broker : BrokerId) (event_ts : ℤ) (custom : Option (List ℕ))
-        → IsFresh (changed entry.now.id (updated broker event_ts state custom) known.now) stairs.new fresh) }
+        → AreFreshStairs (changed entry.now.id (updated broker event_ts state custom) known.now) stairs.new fresh) }
 {
     let mut fresh = Row::new(alloc);
     if !is_readable(entry.state) && !is_readable(state) {

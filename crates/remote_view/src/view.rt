@@ -9,7 +9,7 @@ ghost use Rattle.std.specs.Option.{option_map};
 ghost use Rattle.tier_base.specs.declared.plain.State.TheVariants.{CopyStarted};
 ghost use Rattle.segment_meta.specs.declared.note.Note.TheVariants.{Add, Update};
 ghost use Rattle.segment_meta.specs.Rules.{IsNote, IsAdded};
-ghost use Rattle.remote_view.specs.Fold.{IsKept, AreKept, AreDistinct, entry_of, state_of, recorded, fed};
+ghost use Rattle.remote_view.specs.Fold.{IsEntryValid, AreEntriesValid, AreDistinct, entry_of, state_of, recorded, fed};
 ghost use Rattle.remote_view.specs.Lookup.{finished, due, IsReach};
 ghost use Rattle.remote_view.specs.Stairs.{IsStair};
 
@@ -37,11 +37,11 @@ pub struct View {
 }
 
 impl Model for View {
-    ghost use Rattle.remote_view.specs.Fold.{Seen};
+    ghost use Rattle.remote_view.specs.Fold.{EntriesSeen};
     ghost use Rattle.remote_view.specs.Storing.{IsViewed};
     ghost use Rattle.remote_view.specs.Spread.{AreSpread};
 
-    ghost Value = { Seen };
+    ghost Value = { EntriesSeen };
 
     ghost view = { λ v. record { entries = v.known; notes = v.notes } };
 
@@ -111,7 +111,7 @@ impl View {
     /// one that ends last.
     pub fn finished(&self, epoch: u32, offset: u64) -> Option<&Entry>
         ensures best { option_map (λ e. e.now) result ≡ finished epoch offset self.now.entries }
-        ensures kept { IfSome result (λ e. IsKept e.now) }
+        ensures kept { IfSome result (λ e. IsEntryValid e.now) }
     {
         match id_at(self.stair(epoch), offset) {
             Some(id) => self.known.get(&id),
@@ -136,7 +136,7 @@ impl View {
     /// All entries, in the order of their first events.
     pub fn entries(&self) -> &[Entry]
         ensures entries { result.now ≡ self.now.entries }
-        ensures kept { AreKept self.now.entries }
+        ensures kept { AreEntriesValid self.now.entries }
         ensures distinct { AreDistinct self.now.entries }
     {
         self.known.entries()

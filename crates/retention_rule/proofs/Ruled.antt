@@ -6,7 +6,7 @@ use Rattle.std.proofs.lemmas.Int.{ints}
 use Rattle.tier_base.specs.declared.plain.Item.{Item}
 use Rattle.tier_base.specs.declared.plain.Keep.{Keep}
 use Rattle.retention_rule.specs.Due.{size_of, is_old, is_enough, is_due, start_due}
-use Rattle.retention_rule.specs.Laws.{IsTooOld, Reaches, IsWider, KeepsMore}
+use Rattle.retention_rule.specs.Laws.{IsTooOld, ReachesLimit, IsWider, KeepsMore}
 
 le-is : (a b : ℤ) → int_le a b ≡ true → a ≤ℤ b
 le-is a b e = grind (arith, ints)
@@ -29,34 +29,34 @@ old-is item now keep e =
 is-old : (item : Item) (now : ℤ) (keep : Keep) → IsTooOld item now keep → is_old item now keep ≡ true
 is-old item now keep h = and_from _ _ (is-le _ _ h.0) (is-lt _ _ h.1)
 
-enough-is : (left : ℕ) (keep : Keep) → is_enough left keep ≡ true → Reaches left keep
+enough-is : (left : ℕ) (keep : Keep) → is_enough left keep ≡ true → ReachesLimit left keep
 enough-is left keep e =
     let both = and_parts (int_le (pos 0) keep.bytes) (int_le keep.bytes (pos left)) e in
     (le-is _ _ both.0, le-is _ _ both.1)
 
-is-enough : (left : ℕ) (keep : Keep) → Reaches left keep → is_enough left keep ≡ true
+is-enough : (left : ℕ) (keep : Keep) → ReachesLimit left keep → is_enough left keep ≡ true
 is-enough left keep h = and_from _ _ (is-le _ _ h.0) (is-le _ _ h.1)
 
 -- an item that is due
 due-is : (item : Item) (others : List Item) (rest : ℕ) (now : ℤ) (keep : Keep)
     → is_due item others rest now keep ≡ true
-    → IsTooOld item now keep ⊎ Reaches (rest + size_of others) keep
+    → IsTooOld item now keep ⊎ ReachesLimit (rest + size_of others) keep
 due-is item others rest now keep e = by_cause (or_cases (is_old item now keep) (is_enough (rest + size_of others) keep) e)
   where
     by_cause : (is_old item now keep ≡ true) ⊎ (is_enough (rest + size_of others) keep ≡ true)
-        → IsTooOld item now keep ⊎ Reaches (rest + size_of others) keep
+        → IsTooOld item now keep ⊎ ReachesLimit (rest + size_of others) keep
     by_cause (inl old) = inl (old-is item now keep old)
     by_cause (inr enough) = inr (enough-is (rest + size_of others) keep enough)
 
 -- the item after these
 pub gone_due : (items others : List Item) (item : Item) (rest : ℕ) (now : ℤ) (keep : Keep)
     → length items < start_due (items ++ item ∷ others) rest now keep
-    → IsTooOld item now keep ⊎ Reaches (rest + size_of others) keep
+    → IsTooOld item now keep ⊎ ReachesLimit (rest + size_of others) keep
 gone_due [] others item rest now keep h = go (is_due item others rest now keep) refl h
   where
     go : (t : Bool) → is_due item others rest now keep ≡ t
         → 0 < cond t (start_due others rest now keep + 1) 0
-        → IsTooOld item now keep ⊎ Reaches (rest + size_of others) keep
+        → IsTooOld item now keep ⊎ ReachesLimit (rest + size_of others) keep
     go true e h = due-is item others rest now keep e
     go false e h = absurd (omega (arith, h))
 gone_due (x ∷ items) others item rest now keep h =
@@ -93,7 +93,7 @@ first_young items others item rest now keep h old =
 
 pub first_wanted : (items others : List Item) (item : Item) (rest : ℕ) (now : ℤ) (keep : Keep)
     → start_due (items ++ item ∷ others) rest now keep ≡ length items
-    → Reaches (rest + size_of others) keep → ⊥
+    → ReachesLimit (rest + size_of others) keep → ⊥
 first_wanted items others item rest now keep h reached =
     let no = first_not_due items others item rest now keep h in
     let yes : is_due item others rest now keep ≡ true = or_right (is_old item now keep) _ (is-enough (rest + size_of others) keep reached) in

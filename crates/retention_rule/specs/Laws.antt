@@ -8,8 +8,8 @@ abbrev pub IsTooOld : Item → ℤ → Keep → Type 0
 IsTooOld item now keep = (pos 0 ≤ℤ keep.ms) × (keep.ms <ℤ (now -ℤ item.max_ts))
 
 -- there is a limit, and so many bytes reach it
-abbrev pub Reaches : ℕ → Keep → Type 0
-Reaches left keep = (pos 0 ≤ℤ keep.bytes) × (keep.bytes ≤ℤ pos left)
+abbrev pub ReachesLimit : ℕ → Keep → Type 0
+ReachesLimit left keep = (pos 0 ≤ℤ keep.bytes) × (keep.bytes ≤ℤ pos left)
 
 -- a limit is at least as large as another; none is larger than any
 abbrev pub IsWider : ℤ → ℤ → Type 0

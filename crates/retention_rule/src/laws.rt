@@ -6,14 +6,14 @@ ghost use Rattle.std.specs.Prelude.{◌≡◌, ℕ, ◌+◌, ◌<◌, ◌≤◌,
 ghost use Rattle.tier_base.specs.declared.plain.Item.{Item};
 ghost use Rattle.tier_base.specs.declared.plain.Keep.{Keep};
 ghost use Rattle.retention_rule.specs.Due.{size_of, start_due};
-ghost use Rattle.retention_rule.specs.Laws.{IsTooOld, Reaches, KeepsMore};
+ghost use Rattle.retention_rule.specs.Laws.{IsTooOld, ReachesLimit, KeepsMore};
 
 /// A segment goes only where it is too old, or where what stays without it would still reach the limit.
 #[tactic(auto, using(crate::proofs::Ruled::gone_due))]
 pub fn what_goes_is_due()
     ensures { (items others : List Item) (item : Item) (rest : ℕ) (now : ℤ) (keep : Keep)
         → length items < start_due (items ++ item ∷ others) rest now keep
-        → IsTooOld item now keep ⊎ Reaches (rest + size_of others) keep }
+        → IsTooOld item now keep ⊎ ReachesLimit (rest + size_of others) keep }
 {}
 
 /// The first segment that stays isn't too old, and what stays without it wouldn't reach the limit.
@@ -23,7 +23,7 @@ pub fn what_stays_is_not_due()
         → start_due (items ++ item ∷ others) rest now keep ≡ length items → IsTooOld item now keep → ⊥ }
     ensures size { (items others : List Item) (item : Item) (rest : ℕ) (now : ℤ) (keep : Keep)
         → start_due (items ++ item ∷ others) rest now keep ≡ length items
-        → Reaches (rest + size_of others) keep → ⊥ }
+        → ReachesLimit (rest + size_of others) keep → ⊥ }
 {}
 
 /// Larger limits let no more segments go.

@@ -22,15 +22,15 @@ use Rattle.script_lang.specs.declared.script.PartScript.{PartScript}
 use Rattle.cold_state.specs.Cold.{cold_of}
 use Rattle.cold_start.specs.ColdWorld.{IsCutDisk, AreCut}
 use Rattle.cold_start.specs.Stands.{StandsFor}
-use Rattle.cold_start.specs.Opening.{AllLast, IsOpened}
+use Rattle.cold_start.specs.Opening.{AllLast, IsPartitionOpened}
 use Rattle.cold_start.specs.Running.{Running}
 use Rattle.cold_start.proofs.StandLaw.{keeps_cold}
 use Rattle.cold_start.proofs.SweptWorldLaw.{kept_cut}
 use Rattle.plain_log.specs.declared.command.ActorList.{ActorList}
-use Rattle.run_yard.specs.Opens.{OpensAt}
-use Rattle.run_yard.specs.Runs.{IsRunIn}
+use Rattle.run_yard.specs.Opens.{MayBeginIn}
+use Rattle.run_yard.specs.Runs.{IsRunOnDevices}
 use Rattle.run_yard.specs.Yard.{HoldsAll}
-use Rattle.run_again.specs.Again.{StandsIn, GoesOn, RunsContinue}
+use Rattle.run_again.specs.Again.{StandsIn, RunsFromState, RunsContinue}
 
 module _ {D : Type 0} (content : D → disk_content.Content) where
   -- disks one by one
@@ -75,8 +75,8 @@ module _ {D S M : Type 0} (disk : DiskGhosts D) (store : StoreGhosts S) (meta : 
             (record { is_observable = λ t. subst IsTrue (sym kept_log.is_observable) t; left = kept_log.left });
       }
 
-  goes_on : (config : Config) (part : PartScript) (was held : YardContent D S M) (run : ℕ × List JournalEntry) (came : List Came) (is : IsRunIn disk store meta config part was held run came) → IsTrue held.is_observable
-      → length is.back.disks.items ≡ config.brokers → (q : State) → OpensAt disk store meta part.partition config is.devices is.registry q → GoesOn disk store meta config part held run.1 q
+  goes_on : (config : Config) (part : PartScript) (was held : YardContent D S M) (run : ℕ × List JournalEntry) (came : List Came) (is : IsRunOnDevices disk store meta config part was held run came) → IsTrue held.is_observable
+      → length is.back.disks.items ≡ config.brokers → (q : State) → MayBeginIn disk store meta part.partition config is.devices is.registry q → RunsFromState disk store meta config part held run.1 q
   goes_on config part was held run came is now many q at = record {
     log_run = is.is.log_run q at;
     stand = next_stands config.brokers part.partition held is.back is.kept (cold_of (is.is.log_run q at).last) many (is.holds now) (is.is.stand q at);
@@ -89,7 +89,7 @@ module _ {D S M : Type 0} (disk : DiskGhosts D) (store : StoreGhosts S) (meta : 
   last_long [] (e ∷ nows) last = absurd last
   last_long (d ∷ disks) [] last = absurd last
 
-  given_long : (partition : PartitionId) (config : Config) (lists : List ActorList) (disks : List D) (s : S) (m : M) (reg : D) (t : Running D S M) → IsOpened disk store meta partition config lists disks s m reg t → length disks ≡ config.brokers
+  given_long : (partition : PartitionId) (config : Config) (lists : List ActorList) (disks : List D) (s : S) (m : M) (reg : D) (t : Running D S M) → IsPartitionOpened disk store meta partition config lists disks s m reg t → length disks ≡ config.brokers
   given_long partition config lists disks s m reg t (inl starts) = sym (last_long disks starts.cleared starts.disks_last) ∙ starts.fresh.count
   given_long partition config lists disks s m reg t (inr goes) = goes.reopened.count
 

@@ -14,7 +14,7 @@ use Rattle.meta_log.specs.declared.log.MetaLog.{Ghosts as MetaGhosts}
 use Rattle.plain_log.specs.declared.command.Config.{Config}
 use Rattle.plain_log.specs.declared.state.State.{State}
 use Rattle.plain_log.specs.Fresh.{fresh}
-use Rattle.device_yard.specs.YardContent.{YardContent, Has, HandsDisk, HandsStore, HandsLog, HoldsDisk, HasTier}
+use Rattle.device_yard.specs.YardContent.{YardContent, IsThereWith, HandsDisk, HandsStore, HandsLog, HoldsDisk, HasTier}
 use Rattle.partition_world.specs.declared.tier.Devices.{Devices}
 use Rattle.script_lang.specs.declared.script.PartScript.{PartScript}
 use Rattle.cold_state.specs.Cold.{cold_of}
@@ -89,13 +89,13 @@ module _ {D S M : Type 0} (disk : DiskGhosts D) (store : StoreGhosts S) (meta : 
   no_file (Some y) None rests none = absurd rests
   no_file (Some y) (Some x) rests none = rests.files Registry ∙ none
 
-  had_objects : (a b : Option S) → StoreRests store.content a b → Has (λ s. (k : ObjectKey) × IsSome ((store.content s).objects k)) b → Has (λ s. (k : ObjectKey) × IsSome ((store.content s).objects k)) a
+  had_objects : (a b : Option S) → StoreRests store.content a b → IsThereWith (λ s. (k : ObjectKey) × IsSome ((store.content s).objects k)) b → IsThereWith (λ s. (k : ObjectKey) × IsSome ((store.content s).objects k)) a
   had_objects None None rests has = has
   had_objects None (Some x) rests has = absurd (none_some ((store.content x).objects has.0) (rests.objects has.0) has.1)
   had_objects (Some y) None rests has = absurd rests
   had_objects (Some y) (Some x) rests has = (has.0, subst (λ (o : Option (List ℕ)). IsSome o) (rests.objects has.0) has.1)
 
-  had_notes : (a b : Option M) → LogRests meta.content a b → Has (λ m. (meta.content m).notes ≢ []) b → Has (λ m. (meta.content m).notes ≢ []) a
+  had_notes : (a b : Option M) → LogRests meta.content a b → IsThereWith (λ m. (meta.content m).notes ≢ []) b → IsThereWith (λ m. (meta.content m).notes ≢ []) a
   had_notes None None rests has = has
   had_notes None (Some x) rests has = absurd (has rests.notes)
   had_notes (Some y) None rests has = absurd rests
@@ -124,10 +124,10 @@ module _ {D S M : Type 0} (disk : DiskGhosts D) (store : StoreGhosts S) (meta : 
     where
       none : HasTier disk.content store.content meta.content held p → ⊥
       none (inl objects) =
-          let there : (k : ObjectKey) × IsSome ((store.content back.store).objects k) = subst (Has (λ s. (k : ObjectKey) × IsSome ((store.content s).objects k))) holds.others.store objects in
+          let there : (k : ObjectKey) × IsSome ((store.content back.store).objects k) = subst (IsThereWith (λ s. (k : ObjectKey) × IsSome ((store.content s).objects k))) holds.others.store objects in
           none_some ((store.content back.store).objects there.0) (blank.objects blank.store_tells there.0) there.1
       none (inr notes) =
-          let there : (meta.content back.meta).notes ≢ [] = subst (Has (λ m. (meta.content m).notes ≢ [])) holds.others.log notes in
+          let there : (meta.content back.meta).notes ≢ [] = subst (IsThereWith (λ m. (meta.content m).notes ≢ [])) holds.others.log notes in
           there (blank.notes blank.meta_tells)
 
   led_on : (config : Config) (part : PartScript) (held : YardContent D S M) (back : Devices D S M) (kept : D) (q : State) → length back.disks.items ≡ config.brokers → HoldsAll disk.content part.partition back kept held

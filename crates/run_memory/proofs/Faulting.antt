@@ -22,13 +22,13 @@ use Rattle.plain_log.specs.declared.command.Order.{Order}
 use Rattle.plain_log.specs.declared.journal.Event.TheVariants.{Answers}
 use Rattle.plain_log.specs.declared.journal.JournalEntry.{JournalEntry}
 use Rattle.plain_log.specs.Runs.{order_of}
-use Rattle.broker_log.specs.Seen.{Kept, Up, Down, Away, OnDisk, Faulted}
+use Rattle.broker_log.specs.Seen.{LogState, Up, Down, Away, OnDisk, Faulted}
 use Rattle.partition_commands.specs.declared.partition_state.Node.{Node}
 use Rattle.partition_commands.specs.Fresh.{IsArmed, AreFreshFrom}
 use Rattle.partition_world.specs.Whole.{Whole}
 use Rattle.laws_answers.specs.ByPlan.{FailedByPlan, DisksFailedByPlan, HaveFailedByPlan}
 use Rattle.laws_answers.specs.Faults.{DiskFailed}
-use Rattle.laws_answers.specs.Counted.{DiskFailedFor, FailedAs, IsCounted, FaultsAreCounted}
+use Rattle.laws_answers.specs.Counted.{DiskFailedFor, FailedAs, IsFaultCounted, FaultsAreCounted}
 use Rattle.script_lang.specs.declared.fault.Fault.{Fault}
 use Rattle.script_lang.specs.declared.fault.FaultCall.{FaultCall}
 use Rattle.script_lang.specs.declared.fault.FaultDevice.{FaultDevice}
@@ -118,7 +118,7 @@ module _ {K : Type 0} {code : K → ℕ} (named : FaultDevice → FaultCall → 
 
 module _ {D : Type 0} where
   -- facts of one disk and the next
-  disk_last : (P : D → Type 0) (R S : D → D → Type 0) (T : D → Type 0) (a b : Kept D) → ((d e : D) → P d → R d e → S d e → T e) → OnDisk a P → OnDisk a (λ d. OnDisk b (R d)) → OnDisk a (λ d. OnDisk b (S d)) → OnDisk b T
+  disk_last : (P : D → Type 0) (R S : D → D → Type 0) (T : D → Type 0) (a b : LogState D) → ((d e : D) → P d → R d e → S d e → T e) → OnDisk a P → OnDisk a (λ d. OnDisk b (R d)) → OnDisk a (λ d. OnDisk b (S d)) → OnDisk b T
   disk_last P R S T (Up l) (Up m) to p r s = to l.disk m.disk p r s
   disk_last P R S T (Up l) (Down j e) to p r s = to l.disk e p r s
   disk_last P R S T (Up l) Away to p r s = absurd r
@@ -167,7 +167,7 @@ module _ {D S M : Type 0} (disk : DiskGhosts D) (store : StoreGhosts S) (meta : 
   entry_met entry None counted = counted
   entry_met entry (Some order) counted = λ answer is. met_as order answer (counted answer is)
 
-  entries_met : (entries : List JournalEntry) → AllByRecursion (IsCounted disk store meta w w') entries → AllByRecursion (HasLine disk store meta faults w') entries
+  entries_met : (entries : List JournalEntry) → AllByRecursion (IsFaultCounted disk store meta w w') entries → AllByRecursion (HasLine disk store meta faults w') entries
   entries_met [] counted = tt
   entries_met (entry ∷ entries) counted = (entry_met entry (order_of w'.lists entry) counted.0, entries_met entries counted.1)
 

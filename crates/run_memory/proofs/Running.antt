@@ -32,7 +32,7 @@ use Rattle.partition_world.proofs.LaterLaw.{all_ended}
 use Rattle.partition_world.proofs.LastingRuns.{fresh_new}
 use Rattle.script_lang.specs.Fit.{StepsTo, StepsToEnds}
 use Rattle.script_lang.specs.declared.script.PartScript.{PartScript}
-use Rattle.run_memory.specs.Run.{StartsWith, IsRunOf}
+use Rattle.run_memory.specs.Run.{StartsWith, IsJournalOf}
 use Rattle.run_memory.proofs.Faulting.{faults_planned}
 use Rattle.run_memory.proofs.Scripted.{starts_scripted}
 
@@ -74,7 +74,7 @@ module _ {D S M : Type 0} (disk : DiskGhosts D) (store : StoreGhosts S) (meta : 
 
   -- the journal of a world that a schedule reaches, with each actor at its end, is a run of its partition by that schedule
   pub ended_is_run_of : (config : Config) (part : PartScript) (w w' : Whole D S M) → EndsAreComplete disk store meta → ReachesLater disk store meta → ReachesInTurn disk store meta → FreshIsSafe → ReplaysKeepSafe → RunsMeetNoDamage disk store meta → ReachesByPlan disk store meta → IsConfig config → AreListsFor config part.lists
-      → StartsWith disk store meta part.partition config part.lists part.faults w → IsCentral disk store meta (fresh config) w → Reaches disk store meta w part.schedule w' → ((a : ℕ) → IsAtEnd w' a) → IsRunOf disk store meta config part (part.partition.0, w'.journal.items)
+      → StartsWith disk store meta part.partition config part.lists part.faults w → IsCentral disk store meta (fresh config) w → Reaches disk store meta w part.schedule w' → ((a : ℕ) → IsAtEnd w' a) → IsJournalOf disk store meta config part (part.partition.0, w'.journal.items)
   ended_is_run_of config part w w' law goes turns opens keeps undamaged by_plan fits fit starts c reaches ended =
       let f = starts.fresh in
       let lists = part.lists in
@@ -128,6 +128,6 @@ module _ {D S M : Type 0} (disk : DiskGhosts D) (store : StoreGhosts S) (meta : 
 
   -- and so is that of a world that was run by its schedule
   pub is_run_of : (config : Config) (part : PartScript) (w w' : Whole D S M) → EndsAreComplete disk store meta → ReachesLater disk store meta → ReachesInTurn disk store meta → FreshIsSafe → ReplaysKeepSafe → RunsMeetNoDamage disk store meta → ReachesByPlan disk store meta → IsConfig config → AreListsFor config part.lists → StepsToEnds part
-      → StartsWith disk store meta part.partition config part.lists part.faults w → IsCentral disk store meta (fresh config) w → Reaches disk store meta w part.schedule w' → IsRunOf disk store meta config part (part.partition.0, w'.journal.items)
+      → StartsWith disk store meta part.partition config part.lists part.faults w → IsCentral disk store meta (fresh config) w → Reaches disk store meta w part.schedule w' → IsJournalOf disk store meta config part (part.partition.0, w'.journal.items)
   is_run_of config part w w' law goes turns opens keeps undamaged by_plan fits fit ends starts c reaches =
       ended_is_run_of config part w w' law goes turns opens keeps undamaged by_plan fits fit starts c reaches (schedule_ends config part w w' goes fit ends starts reaches)

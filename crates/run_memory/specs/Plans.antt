@@ -1,6 +1,6 @@
 -- Which calls of a partition's devices fail: those that the script's fault lines name, in the order of the lines.
 use Rattle.std.specs.Prelude.{◌≡◌, ℕ, ◌+◌, ◌==◌, if◌then◌else◌, Bool, false, List, [], ◌∷◌, ◌++◌, Option, Some, None, IsTrue}
-use Rattle.tier_base.specs.Device.{Control, IsFresh}
+use Rattle.tier_base.specs.Device.{Control, IsFreshDevice}
 use Rattle.tier_base.specs.declared.planned.Planned.{Planned}
 use Rattle.disk_model.specs.Call.{call_code}
 use Rattle.disk_model.specs.declared.call.DiskCall.{DiskCall}
@@ -75,7 +75,7 @@ module _ {K : Type 0} {code : K → ℕ} where
   -- the device is as it is provided, with this plan; nothing else decides which of its calls fail once the plan is in
   -- force, and none can before
   pub record IsPlanned (plan : List (Planned K)) (c : Control code) : Type 0 where
-    pub fresh : IsFresh c
+    pub fresh : IsFreshDevice c
     pub plan_is : c.plan ≡ plan
     pub scripted : IsTrue c.scripted
     pub infallible : IsTrue c.infallible

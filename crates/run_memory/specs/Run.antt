@@ -60,7 +60,7 @@ module _ {D S M : Type 0} (disk : DiskGhosts D) (store : StoreGhosts S) (meta : 
   -- with the safety rules; each command is answered once and in order, and begins at most once, right before its
   -- answer; each fetch is given a part of the log of a leader epoch as the run ends, and while elections are clean of
   -- what is committed then; no command is answered `Damaged`; and it is that of a world which the schedule reaches so
-  pub record IsRunOf (config : Config) (part : PartScript) (run : ℕ × List JournalEntry) : Type 0 where
+  pub record IsJournalOf (config : Config) (part : PartScript) (run : ℕ × List JournalEntry) : Type 0 where
     pub partition : run.0 ≡ part.partition.0
     pub plain : IsPlainRun config part.lists run.1
     pub safe : PlainSafe plain.last

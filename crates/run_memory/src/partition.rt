@@ -5,7 +5,7 @@ ghost use Rattle.plain_log.specs.Fresh.{fresh};
 ghost use Rattle.plain_log.specs.Orders.{AreListsFor, IsConfig};
 ghost use Rattle.partition_world.specs.Central.{IsCentral};
 ghost use Rattle.script_lang.specs.Fit.{StepsToEnds};
-ghost use Rattle.run_memory.specs.Run.{StartsWith, IsRunOf};
+ghost use Rattle.run_memory.specs.Run.{StartsWith, IsJournalOf};
 
 use crate::devices::devices;
 use disk_model::{Disk, MemoryDisk};
@@ -52,7 +52,7 @@ pub fn run_partition(
     requires config { IsConfig config }
     requires fit { AreListsFor config part.lists }
     requires ends { StepsToEnds part }
-    ensures run { IfOk result (λ w. IsRunOf ⟦<MemoryDisk as Disk>⟧ ⟦<MemoryStore as Store>⟧ ⟦<MemoryLog as MetaLog>⟧
+    ensures run { IfOk result (λ w. IsJournalOf ⟦<MemoryDisk as Disk>⟧ ⟦<MemoryStore as Store>⟧ ⟦<MemoryLog as MetaLog>⟧
         config part (part.partition.0, w.journal.items)) }
     ensures lists { IfOk result (λ w. w.lists ≡ part.lists) }
 {

@@ -17,12 +17,12 @@ use Rattle.laws_answers.specs.LawsOfFaults.{ReachesByPlan}
 use Rattle.laws_partition.specs.declared.actor_progress.Stepped.{Stepped}
 use Rattle.laws_partition.specs.declared.actor_progress.Stepped.TheVariants.{NoMemory}
 use Rattle.partition_world.specs.Laws.{EndsAreComplete, ReachesLater, ReachesInTurn}
-use Rattle.partition_world.specs.Reaches.{Goes, Paces, Reaches}
+use Rattle.partition_world.specs.Reaches.{TakesTurn, Paces, Reaches}
 use Rattle.partition_world.specs.Turn.{IsAtEnd, Steps}
 use Rattle.partition_world.specs.Whole.{Whole}
 use Rattle.partition_world.proofs.Chains.{step_goes}
 use Rattle.script_lang.specs.declared.script.PartScript.{PartScript}
-use Rattle.run_memory.specs.Run.{IsRunOf}
+use Rattle.run_memory.specs.Run.{IsJournalOf}
 use Rattle.run_memory.proofs.Running.{ended_is_run_of}
 use Rattle.run_threaded.specs.Traced.{Trace, IsSamePart, LeadsFrom, IsThreadedRun, one_by_one, by_schedule}
 
@@ -51,7 +51,7 @@ module _ {D S M : Type 0} (disk : DiskGhosts D) (store : StoreGhosts S) (meta : 
       → LeadsFrom disk store meta script place partition turns w → turns' ≡ turns ++ a ∷ [] → stepped ≢ NoMemory → Steps disk store meta w a.0 stepped w'
       → LeadsFrom disk store meta script place partition turns' w'
   leads_more script place partition turns turns' a w stepped w' h more there s =
-      let goes : Goes disk store meta w a.0 w' = step_goes disk store meta w a.0 stepped w' s there in
+      let goes : TakesTurn disk store meta w a.0 w' = step_goes disk store meta w a.0 stepped w' s there in
       let paces : Paces disk store meta w (Times a 1) w' = (w', goes, refl) in
       let is : one_by_one turns' ≡ one_by_one turns ++ Times a 1 ∷ [] = ap one_by_one more ∙ one_more turns a in
       record {
@@ -80,7 +80,7 @@ module _ {D S M : Type 0} (disk : DiskGhosts D) (store : StoreGhosts S) (meta : 
         is_part = h.is_part;
         is = (
           one_by_one turns,
-          subst (λ (k : PartitionId). IsRunOf disk store meta h.config part' (k.0, w.journal.items)) h.numbered
+          subst (λ (k : PartitionId). IsJournalOf disk store meta h.config part' (k.0, w.journal.items)) h.numbered
               (ended_is_run_of disk store meta h.config part' h.first w law goes in_turn opens keeps undamaged by_plan fits lists h.starts h.central h.reaches ended),
         );
       }

@@ -17,7 +17,7 @@ use Rattle.script_lang.specs.declared.script.PartScript.{PartScript}
 use Rattle.script_lang.specs.declared.script.Script.{Script}
 use Rattle.script_lang.specs.Fit.{IsFit}
 use Rattle.script_lang.specs.Script.{script_in}
-use Rattle.run_memory.specs.Run.{StartsWith, IsRunOf}
+use Rattle.run_memory.specs.Run.{StartsWith, IsJournalOf}
 
 -- the script's bytes, and which of its partitions this is; its world; the actors of the turns so far; whether one
 -- found no memory
@@ -35,7 +35,7 @@ one_by_one [] = []
 one_by_one (actor ∷ turns) = Times actor 1 ∷ one_by_one turns
 
 -- the script is valid with this configuration, and at this place with this partition
-pub record IsPart (script : List ℕ) (place : ℕ) (config : Config) (part : PartScript) : Type 0 where
+pub record IsPartScript (script : List ℕ) (place : ℕ) (config : Config) (part : PartScript) : Type 0 where
   pub read : Script
   pub reads : script_in script ≡ Ok read
   pub fit : IsFit read
@@ -48,7 +48,7 @@ by_schedule schedule part = record part { schedule = schedule }
 
 module _ {D S M : Type 0} where
   -- it is of this script and this place
-  pub record IsOf (t : Trace D S M) (script : List ℕ) (place : ℕ) : Type 0 where
+  pub record IsTraceOf (t : Trace D S M) (script : List ℕ) (place : ℕ) : Type 0 where
     pub script_is : t.script ≡ script
     pub place_is : t.place ≡ place
 
@@ -59,7 +59,7 @@ module _ {D S M : Type 0} where
     pub partition : t'.partition ≡ t.partition
 
   -- it is, and continues
-  pub record GoesOn (t t' : Trace D S M) : Type 0 where
+  pub record TraceContinues (t t' : Trace D S M) : Type 0 where
     pub same : IsSamePart t t'
     pub goes : t'.ended ≡ false
 
@@ -68,7 +68,7 @@ module _ {D S M : Type 0} (disk : DiskGhosts D) (store : StoreGhosts S) (meta : 
   pub record LeadsFrom (script : List ℕ) (place : ℕ) (partition : PartitionId) (turns : List ActorId) (w : Whole D S M) : Type 0 where
     pub config : Config
     pub part : PartScript
-    pub is_part : IsPart script place config part
+    pub is_part : IsPartScript script place config part
     pub numbered : part.partition ≡ partition
     pub first : Whole D S M
     pub starts : StartsWith disk store meta part.partition config part.lists part.faults first
@@ -81,11 +81,11 @@ module _ {D S M : Type 0} (disk : DiskGhosts D) (store : StoreGhosts S) (meta : 
 
   -- a partition's number and journal: a run of it by some schedule
   abbrev pub IsRunByThreads : Config → PartScript → ℕ × List JournalEntry → Type 0
-  IsRunByThreads config part run = (schedule : List Pace) × IsRunOf disk store meta config (by_schedule schedule part) run
+  IsRunByThreads config part run = (schedule : List Pace) × IsJournalOf disk store meta config (by_schedule schedule part) run
 
   -- such a run of the partition that is at this place of the script
   pub record IsThreadedRun (script : List ℕ) (place : ℕ) (run : ℕ × List JournalEntry) : Type 0 where
     pub config : Config
     pub part : PartScript
-    pub is_part : IsPart script place config part
+    pub is_part : IsPartScript script place config part
     pub is : IsRunByThreads config part run

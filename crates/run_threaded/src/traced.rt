@@ -5,7 +5,7 @@ ghost use Rattle.laws_partition.specs.declared.actor_progress.Stepped.TheVariant
 ghost use Rattle.partition_world.specs.Turn.{Steps, IsAtEnd};
 ghost use Rattle.partition_world.specs.Later.{IsLater};
 ghost use Rattle.partition_world.specs.Central.{KeepsCentral};
-ghost use Rattle.run_threaded.specs.Traced.{LeadsFrom, IsTraced, IsOf, GoesOn, IsThreadedRun};
+ghost use Rattle.run_threaded.specs.Traced.{LeadsFrom, IsTraced, IsTraceOf, TraceContinues, IsThreadedRun};
 
 use bytes::Bytes;
 use disk_model::Disk;
@@ -71,7 +71,7 @@ impl<D: Disk, S: Store, M: MetaLog> Traced<D, S, M> {
 
     /// Returns whether this is a run of the partition that is at this place of this script.
     pub fn is_of(&self, script: &Bytes, place: usize) -> bool
-        ensures { IsTrue result ↔ IsOf self.now script.now place }
+        ensures { IsTrue result ↔ IsTraceOf self.now script.now place }
     {
         self.place == place && self.script.as_slice() == script.as_slice()
     }
@@ -111,7 +111,7 @@ impl<D: Disk, S: Store, M: MetaLog> Traced<D, S, M> {
         ensures steps { result ≢ NoMemory → Steps D.Disk S.Store M.MetaLog self.old.world actor.0 result self.new.world }
         ensures central { result ≢ NoMemory → KeepsCentral D.Disk S.Store M.MetaLog self.old.world self.new.world }
         ensures turns { result ≢ NoMemory → self.new.turns ≡ self.old.turns ++ actor ∷ [] }
-        ensures goes_on { result ≢ NoMemory → GoesOn self.old self.new }
+        ensures goes_on { result ≢ NoMemory → TraceContinues self.old self.new }
         ensures ended { result ≡ NoMemory → self.new.ended ≡ true }
     {
         self.step_with(alloc, actor, Ready::Nothing)
@@ -123,7 +123,7 @@ impl<D: Disk, S: Store, M: MetaLog> Traced<D, S, M> {
         ensures steps { result ≢ NoMemory → Steps D.Disk S.Store M.MetaLog self.old.world actor.0 result self.new.world }
         ensures central { result ≢ NoMemory → KeepsCentral D.Disk S.Store M.MetaLog self.old.world self.new.world }
         ensures turns { result ≢ NoMemory → self.new.turns ≡ self.old.turns ++ actor ∷ [] }
-        ensures goes_on { result ≢ NoMemory → GoesOn self.old self.new }
+        ensures goes_on { result ≢ NoMemory → TraceContinues self.old self.new }
         ensures ended { result ≡ NoMemory → self.new.ended ≡ true }
     {
         if self.ended {
@@ -142,7 +142,7 @@ impl<D: Disk, S: Store, M: MetaLog> Traced<D, S, M> {
 
     /// Steps an actor to the end of its list.
     fn run_actor(&mut self, alloc: Global, actor: ActorId) -> Result<(), AllocError>
-        ensures goes_on { OnOk result (GoesOn self.old self.new) }
+        ensures goes_on { OnOk result (TraceContinues self.old self.new) }
         ensures later { OnOk result (IsLater D.Disk S.Store M.MetaLog self.old.world self.new.world) }
         ensures ended { OnOk result (IsAtEnd self.new.world actor.0) }
     {
@@ -158,7 +158,7 @@ impl<D: Disk, S: Store, M: MetaLog> Traced<D, S, M> {
     /// Steps the actors, in the order of their lists, each to the end of its list. Where the threads came there
     /// nothing is left to do.
     fn run_to_end(&mut self, alloc: Global) -> Result<(), AllocError>
-        ensures goes_on { OnOk result (GoesOn self.old self.new) }
+        ensures goes_on { OnOk result (TraceContinues self.old self.new) }
         ensures ended { OnOk result ((a : ℕ) → IsAtEnd self.new.world a) }
     {
         if self.ended() {

@@ -25,15 +25,15 @@ use Rattle.partition_world.specs.Whole.{Whole}
 use Rattle.partition_world.specs.declared.tier.Devices.{Devices}
 use Rattle.partition_world.specs.Turn.{IsAtEnd}
 use Rattle.partition_world.specs.Left.{IsCentralLeft}
-use Rattle.partition_world.specs.Fresh.{IsNew}
+use Rattle.partition_world.specs.Fresh.{IsNewWorld}
 use Rattle.partition_world.proofs.LeftLaw.{left_is_central}
 use Rattle.cold_state.specs.Cold.{cold_of}
 use Rattle.cold_start.specs.ColdWorld.{plain_in}
-use Rattle.cold_start.specs.Opening.{IsOpened, HasCause, ComesBack}
-use Rattle.cold_start.specs.Stepping.{Halts}
+use Rattle.cold_start.specs.Opening.{IsPartitionOpened, OpeningHasCause, DevicesComeBack}
+use Rattle.cold_start.specs.Stepping.{HaltsSteps}
 use Rattle.cold_start.specs.declared.refusal.ColdRefusal.{ColdRefusal}
 use Rattle.cold_start.specs.declared.refusal.ColdRefusal.TheVariants as cold
-use Rattle.run_yard.specs.Refusals.{IsRefused}
+use Rattle.run_yard.specs.Refusals.{IsRunRefused}
 use Rattle.cold_start.specs.Running.{Running}
 use Rattle.cold_start.specs.Stands.{StandsFor, IsBlank}
 use Rattle.partition_world.specs.InTurn.{IsInTurn}
@@ -43,8 +43,8 @@ use Rattle.laws_partition.proofs.Lists.{one_list}
 use Rattle.partition_world.proofs.LaterLaw.{all_ended}
 use Rattle.script_lang.specs.Fit.{StepsTo, StepsToEnds}
 use Rattle.script_lang.specs.declared.script.PartScript.{PartScript}
-use Rattle.run_yard.specs.Opens.{OpensAt}
-use Rattle.run_yard.specs.Run.{IsLogRun, AreOf, IsRun}
+use Rattle.run_yard.specs.Opens.{MayBeginIn}
+use Rattle.run_yard.specs.Run.{IsSafeRun, AreDevicesOf, IsRunOver}
 
 -- what holds of all holds of the one that is at a place
 all_at : {A : Type 0} (P : A → Type 0) (xs : List A) (i : ℕ) (x : A) → All P xs → slice_get xs i ≡ Some x → P x
@@ -89,7 +89,7 @@ module _ {D S M : Type 0} (disk : DiskGhosts D) (store : StoreGhosts S) (meta : 
 
   -- each actor of a world that was run by its partition's schedule is at its end
   all_at_end : (config : Config) (part : PartScript) (w w' : Whole D S M) → ReachesLater disk store meta → AreListsFor config part.lists → StepsToEnds part
-      → IsNew part.lists w → Reaches disk store meta w part.schedule w' → (a : ℕ) → IsAtEnd w' a
+      → IsNewWorld part.lists w → Reaches disk store meta w part.schedule w' → (a : ℕ) → IsAtEnd w' a
   all_at_end config part w w' goes fit ends f reaches =
       let lists = part.lists in
       let later = goes w part.schedule w' reaches in
@@ -100,8 +100,8 @@ module _ {D S M : Type 0} (disk : DiskGhosts D) (store : StoreGhosts S) (meta : 
       (all_at (λ (m : ActorList). StepsTo part.schedule m.actor (length m.orders)) lists place l ends here))
 
   -- it is a run of the plain log from each state for which the world had the central fact
-  log_of : (p : State) (part : PartScript) (w w' : Whole D S M) → RunsMeetNoDamage disk store meta → PlainSafe p → IsNew part.lists w → IsCentralLeft disk store meta p w → (c : IsCentralLeft disk store meta p w')
-      → w'.lists ≡ part.lists → Reaches disk store meta w part.schedule w' → IsLogRun p part.lists w'.journal.items
+  log_of : (p : State) (part : PartScript) (w w' : Whole D S M) → RunsMeetNoDamage disk store meta → PlainSafe p → IsNewWorld part.lists w → IsCentralLeft disk store meta p w → (c : IsCentralLeft disk store meta p w')
+      → w'.lists ≡ part.lists → Reaches disk store meta w part.schedule w' → IsSafeRun p part.lists w'.journal.items
   log_of p part w w' undamaged begun new was c its reaches =
       let last = plain_in disk store meta p w' c in
       let leads : replay part.lists p w'.journal.items ≡ Some last =
@@ -116,43 +116,43 @@ module _ {D S M : Type 0} (disk : DiskGhosts D) (store : StoreGhosts S) (meta : 
       }
 
   -- the partition of an open world
-  pub opened_there : (partition : PartitionId) (config : Config) (lists : List ActorList) (disks : List D) (s : S) (m : M) (reg : D) (t : Running D S M) → IsOpened disk store meta partition config lists disks s m reg t
+  pub opened_there : (partition : PartitionId) (config : Config) (lists : List ActorList) (disks : List D) (s : S) (m : M) (reg : D) (t : Running D S M) → IsPartitionOpened disk store meta partition config lists disks s m reg t
       → t.world.partition ≡ partition
   opened_there partition config lists disks s m reg t (inl starts) = starts.fresh.partition_is
   opened_there partition config lists disks s m reg t (inr goes) = goes.reopened.partition_is
 
-  pub opened_config : (partition : PartitionId) (config : Config) (lists : List ActorList) (disks : List D) (s : S) (m : M) (reg : D) (t : Running D S M) → IsOpened disk store meta partition config lists disks s m reg t
+  pub opened_config : (partition : PartitionId) (config : Config) (lists : List ActorList) (disks : List D) (s : S) (m : M) (reg : D) (t : Running D S M) → IsPartitionOpened disk store meta partition config lists disks s m reg t
       → t.world.config ≡ config
   opened_config partition config lists disks s m reg t (inl starts) = starts.fresh.config_is
   opened_config partition config lists disks s m reg t (inr goes) = goes.reopened.config_is
 
   -- a state in which a run may begin has the safety rules
-  opens_safe : (config : Config) (partition : PartitionId) (devices : Devices D S M) (reg : D) (p : State) → FreshIsSafe → OpensAt disk store meta partition config devices reg p → PlainSafe p
+  opens_safe : (config : Config) (partition : PartitionId) (devices : Devices D S M) (reg : D) (p : State) → FreshIsSafe → MayBeginIn disk store meta partition config devices reg p → PlainSafe p
   opens_safe config partition devices reg p opens (inl stands) = (stands.stand (meta.content devices.meta).notes (inl refl)).safe
   opens_safe config partition devices reg p opens (inr blank) = subst PlainSafe (sym blank.state) (opens config)
 
-  opens_told : (config : Config) (partition : PartitionId) (devices : Devices D S M) (reg : D) (p : State) → OpensAt disk store meta partition config devices reg p → IsTrue (disk.content reg).is_observable
+  opens_told : (config : Config) (partition : PartitionId) (devices : Devices D S M) (reg : D) (p : State) → MayBeginIn disk store meta partition config devices reg p → IsTrue (disk.content reg).is_observable
   opens_told config partition devices reg p (inl stands) = stands.file_tells
   opens_told config partition devices reg p (inr blank) = blank.blank.file_tells
 
   opens_central : (config : Config) (partition : PartitionId) (devices : Devices D S M) (reg : D) (w : Whole D S M) (p : State)
       → ((q : State) → StandsFor disk store meta partition devices.disks.items devices.store devices.meta reg q → IsCentralLeft disk store meta q w)
       → (DisksTell disk.content devices.disks.items → IsBlank disk store meta devices.store devices.meta reg → IsCentralLeft disk store meta (fresh config) w)
-      → OpensAt disk store meta partition config devices reg p → IsCentralLeft disk store meta p w
+      → MayBeginIn disk store meta partition config devices reg p → IsCentralLeft disk store meta p w
   opens_central config partition devices reg w p central blank (inl stands) = central p stands
   opens_central config partition devices reg w p central blank (inr none) = subst (λ (q : State). IsCentralLeft disk store meta q w) (sym none.state) (blank none.disks_tell none.blank)
 
   -- the journal of a world that was run by its schedule is that of a run of its partition
   pub is_run : (config : Config) (part : PartScript) (devices back : Devices D S M) (reg kept : D) (t t' : Running D S M) → EndsAreAnswered disk store meta → ReachesLater disk store meta → ReachesInTurn disk store meta
       → FreshIsSafe → RunsMeetNoDamage disk store meta → ReachesCounted disk store meta → AreListsFor config part.lists → StepsToEnds part
-      → IsOpened disk store meta part.partition config part.lists devices.disks.items devices.store devices.meta reg t → IsNew part.lists t.world
+      → IsPartitionOpened disk store meta part.partition config part.lists devices.disks.items devices.store devices.meta reg t → IsNewWorld part.lists t.world
       → ((p : State) → StandsFor disk store meta part.partition devices.disks.items devices.store devices.meta reg p → IsCentralLeft disk store meta p t.world)
       → (DisksTell disk.content devices.disks.items → IsBlank disk store meta devices.store devices.meta reg → IsCentralLeft disk store meta (fresh config) t.world)
       → (disk.content t'.reg).is_observable ≡ (disk.content reg).is_observable
-      → Reaches disk store meta t.world part.schedule t'.world → AreOf disk store meta t'.world back.disks.items back.store back.meta → kept ≡ t'.reg → length back.disks.items ≡ config.brokers
+      → Reaches disk store meta t.world part.schedule t'.world → AreDevicesOf disk store meta t'.world back.disks.items back.store back.meta → kept ≡ t'.reg → length back.disks.items ≡ config.brokers
       → (IsTrue (disk.content t'.reg).is_observable → (opening : State) (c : IsCentralLeft disk store meta opening t'.world)
       → StandsFor disk store meta t'.world.partition back.disks.items back.store back.meta kept (cold_of (plain_in disk store meta opening t'.world c)))
-      → IsRun disk store meta config part devices reg t'.world.journal.items back kept
+      → IsRunOver disk store meta config part devices reg t'.world.journal.items back kept
   unfolding log_of
   is_run config part devices back reg kept t t' answers goes turns opens undamaged counted fit ends is new central blank is_observable reaches its kept_is many closing =
       let lists = part.lists in
@@ -161,8 +161,8 @@ module _ {D S M : Type 0} (disk : DiskGhosts D) (store : StoreGhosts S) (meta : 
       let later = goes w part.schedule w' reaches in
       let same : w'.lists ≡ lists = later.lists ∙ new.lists_are in
       let there : w'.partition ≡ part.partition = later.partition ∙ opened_there part.partition config lists devices.disks.items devices.store devices.meta reg t is in
-      let first : (p : State) → OpensAt disk store meta part.partition config devices reg p → IsCentralLeft disk store meta p w = λ p at. opens_central config part.partition devices reg w p central blank at in
-      let last : (p : State) → OpensAt disk store meta part.partition config devices reg p → IsCentralLeft disk store meta p w' = λ p at. later.left p (first p at) in
+      let first : (p : State) → MayBeginIn disk store meta part.partition config devices reg p → IsCentralLeft disk store meta p w = λ p at. opens_central config part.partition devices reg w p central blank at in
+      let last : (p : State) → MayBeginIn disk store meta part.partition config devices reg p → IsCentralLeft disk store meta p w' = λ p at. later.left p (first p at) in
       record {
         first = t;
         last = t';
@@ -191,24 +191,24 @@ ok_more (Err e) A B P Q a b p all = tt
 
 module _ {D S M : Type 0} (disk : DiskGhosts D) (store : StoreGhosts S) (meta : MetaGhosts M) where
   -- a run that was refused on its way
-  halted : (asked : ℕ) (devices back : Devices D S M) (reg kept : D) (t t' : Running D S M) (why : ColdRefusal) → kept ≡ t'.reg → Halts disk store meta t t' why → IsRefused disk meta asked devices reg back kept why
-  halted asked devices back reg kept t t' why is (inl none) = subst (IsRefused disk meta asked devices reg back kept) (sym none.0) tt
+  halted : (asked : ℕ) (devices back : Devices D S M) (reg kept : D) (t t' : Running D S M) (why : ColdRefusal) → kept ≡ t'.reg → HaltsSteps disk store meta t t' why → IsRunRefused disk meta asked devices reg back kept why
+  halted asked devices back reg kept t t' why is (inl none) = subst (IsRunRefused disk meta asked devices reg back kept) (sym none.0) tt
   halted asked devices back reg kept t t' why is (inr (w, later, ends, either)) = by ends.only
     where
-      by : (why ≡ cold.RegistryFault) ⊎ (why ≡ cold.NoMemory) → IsRefused disk meta asked devices reg back kept why
+      by : (why ≡ cold.RegistryFault) ⊎ (why ≡ cold.NoMemory) → IsRunRefused disk meta asked devices reg back kept why
       by (inl fault) =
           let rose = ends.cause fault in
-          subst (IsRefused disk meta asked devices reg back kept) (sym fault) (subst (λ (d : D). 0 < (disk.control d).faults) (sym is) (omega (arith, rose)))
-      by (inr none) = subst (IsRefused disk meta asked devices reg back kept) (sym none) tt
+          subst (IsRunRefused disk meta asked devices reg back kept) (sym fault) (subst (λ (d : D). 0 < (disk.control d).faults) (sym is) (omega (arith, rose)))
+      by (inr none) = subst (IsRunRefused disk meta asked devices reg back kept) (sym none) tt
 
   pub refused_run : {T : Type 0} (asked : ℕ) (devices : Devices D S M) (reg : D) (back : Devices D S M) (kept : D) (t t' : Running D S M) (r : Result T ColdRefusal) → kept ≡ t'.reg
-      → IfErr r (λ why. Halts disk store meta t t' why) → IfErr r (λ why. IsRefused disk meta asked devices reg back kept why)
+      → IfErr r (λ why. HaltsSteps disk store meta t t' why) → IfErr r (λ why. IsRunRefused disk meta asked devices reg back kept why)
   refused_run asked devices reg back kept t t' (Ok x) is h = tt
   refused_run asked devices reg back kept t t' (Err why) is h = halted asked devices back reg kept t t' why is h
 
   -- or that wasn't opened
-  pub refused_open : (config : Config) (devices back : Devices D S M) (reg kept : D) (why : ColdRefusal) → HasCause disk meta config devices.disks.items devices.meta reg back.disks.items back.meta kept why
-      → ComesBack disk meta devices.disks.items devices.store devices.meta reg back.disks.items back.store back.meta kept why → IsRefused disk meta config.brokers devices reg back kept why
+  pub refused_open : (config : Config) (devices back : Devices D S M) (reg kept : D) (why : ColdRefusal) → OpeningHasCause disk meta config devices.disks.items devices.meta reg back.disks.items back.meta kept why
+      → DevicesComeBack disk meta devices.disks.items devices.store devices.meta reg back.disks.items back.store back.meta kept why → IsRunRefused disk meta config.brokers devices reg back kept why
   refused_open config devices back reg kept cold.RegistryFault cause comes = let rose = cause.registry_fault refl in omega (arith, rose)
   refused_open config devices back reg kept cold.DeviceFault cause comes = record { disks = comes.disks_last refl; notes = comes.notes_last refl; one = cause.device_fault refl }
   refused_open config devices back reg kept (cold.BadRegistry at) cause comes = record { says = cause.bad_registry at refl; file = λ t. cause.last_read tt t }

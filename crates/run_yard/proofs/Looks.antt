@@ -5,7 +5,7 @@ use Rattle.tier_base.specs.declared.object_key.ObjectKey.{ObjectKey}
 use Rattle.std.proofs.lemmas.Bool.{lt-ltb}
 use Rattle.std.proofs.lemmas.Option.{slice_get-get_or}
 use Rattle.tier_base.specs.Counts.{counted, Rose}
-use Rattle.tier_base.specs.Device.{Control as DeviceControl, Lasts, IsFresh, Went, fate_of_trouble}
+use Rattle.tier_base.specs.Device.{Control as DeviceControl, Lasts, IsFreshDevice, Went, fate_of_trouble}
 use Rattle.tier_base.specs.declared.fault.Trouble.{Trouble}
 use Rattle.tier_base.specs.declared.fault.Trouble.TheVariants as trouble
 use Rattle.tier_base.specs.declared.names.PartitionId.{PartitionId}
@@ -22,7 +22,7 @@ use Rattle.registry_file.specs.Reading.{view_in}
 use Rattle.device_yard.specs.declared.came.Came.{Came}
 use Rattle.device_yard.specs.declared.read_registry.ReadRegistry.{ReadRegistry}
 use Rattle.device_yard.specs.Control.{Control, Hands, TakesRegistry, is_fault}
-use Rattle.device_yard.specs.YardContent.{YardContent, Has, Both, Same, RegistryIs, IsOut, HoldsDisk, HandsDisk, HasTier, IsBare}
+use Rattle.device_yard.specs.YardContent.{YardContent, IsThereWith, Both, Same, RegistryIs, IsOut, HoldsDisk, HandsDisk, HasTier, IsBare}
 use Rattle.laws_partition.proofs.Lines.{cases_eq}
 use Rattle.cold_start.specs.Opening.{says}
 use Rattle.cold_start.specs.declared.refusal.ColdRefusal.{ColdRefusal}
@@ -30,7 +30,7 @@ use Rattle.cold_start.specs.declared.refusal.ColdRefusal.TheVariants as cold
 use Rattle.script_lang.specs.Fit.{AreNumbered}
 use Rattle.script_lang.specs.declared.script.PartScript.{PartScript}
 use Rattle.run_yard.specs.Refusals.{of_cold, of_trouble}
-use Rattle.run_yard.specs.Reading.{RestsOn, file_in, said, judged, ReadsLast, ReadsMore, AreRead, Suits, IsReady, IsSaidOf, IsRefusedSo}
+use Rattle.run_yard.specs.Reading.{RestsOn, file_in, said, judged, ReadsLast, ReadsMore, OnlyReads, Suits, IsReady, IsSaidOf, IsRefusedSo}
 use Rattle.run_yard.specs.Yard.{Uses}
 use Rattle.run_yard.specs.declared.refusal.YardRefusal.{YardRefusal}
 use Rattle.run_yard.specs.declared.refusal.YardRefusal.TheVariants as yard
@@ -174,7 +174,7 @@ module _ {D S M : Type 0} (files : D → disk.Content) (objects : S → store.Co
   logs_then (Some s) (Some t) None f g = absurd g
   logs_then (Some s) (Some t) (Some u) f g = record { is_observable = g.is_observable ∙ f.is_observable; notes = g.notes ∙ f.notes; left = λ l at. f.left l (g.left l at) }
 
-  pub read_none : (h : YardContent D S M) → AreRead files objects notes h h
+  pub read_none : (h : YardContent D S M) → OnlyReads files objects notes h h
   read_none h = record {
     is_observable = refl;
     strays = refl;
@@ -184,7 +184,7 @@ module _ {D S M : Type 0} (files : D → disk.Content) (objects : S → store.Co
     registries = λ p. rests_same files (h.registries p) (h.registries p) refl;
   }
 
-  pub read_then : (a b c : YardContent D S M) → AreRead files objects notes a b → AreRead files objects notes b c → AreRead files objects notes a c
+  pub read_then : (a b c : YardContent D S M) → OnlyReads files objects notes a b → OnlyReads files objects notes b c → OnlyReads files objects notes a c
   read_then a b c f g = record {
     is_observable = g.is_observable ∙ f.is_observable;
     strays = g.strays ∙ f.strays;
@@ -194,7 +194,7 @@ module _ {D S M : Type 0} (files : D → disk.Content) (objects : S → store.Co
     registries = λ p. rests_then files (a.registries p) (b.registries p) (c.registries p) (f.registries p) (g.registries p);
   }
 
-  pub same_read : (a b : YardContent D S M) → Same files objects notes a b → AreRead files objects notes a b
+  pub same_read : (a b : YardContent D S M) → Same files objects notes a b → OnlyReads files objects notes a b
   same_read a b s = record {
     is_observable = s.is_observable;
     strays = s.strays;
@@ -207,7 +207,7 @@ module _ {D S M : Type 0} (files : D → disk.Content) (objects : S → store.Co
   -- a registry's disk was provided, read, and is back
   pub registry_read : (p : PartitionId) (h h1 h2 : YardContent D S M) (d e : D) → IsTrue h.is_observable → h1.is_observable ≡ h.is_observable → (IsTrue h.is_observable → RegistryIs p IsOut h h1)
       → h2.is_observable ≡ h1.is_observable → (IsTrue h1.is_observable → RegistryIs p (HoldsDisk files e) h1 h2) → (IsTrue h.is_observable → HandsDisk files (h.registries p) (files d))
-      → disk.Keeps (files d) (files e) → AreRead files objects notes h h2
+      → disk.Keeps (files d) (files e) → OnlyReads files objects notes h h2
   registry_read p h h1 h2 d e t same out again back gives kept =
       let o = out t in
       let k = back (subst IsTrue (sym same) t) in
@@ -224,31 +224,31 @@ module _ {D S M : Type 0} (files : D → disk.Content) (objects : S → store.Co
       }
 
   -- what a registry says is the same where it was read
-  pub suits_read : (asked : ℕ) (p : PartitionId) (a b : YardContent D S M) → AreRead files objects notes a b → Suits files objects notes asked b p → Suits files objects notes asked a p
+  pub suits_read : (asked : ℕ) (p : PartitionId) (a b : YardContent D S M) → OnlyReads files objects notes a b → Suits files objects notes asked b p → Suits files objects notes asked a p
   suits_read asked p a b r s = ap (said asked) (sym (file_read files (a.registries p) (b.registries p) (r.registries p))) ∙ s
 
-  pub suits_still : (asked : ℕ) (p : PartitionId) (a b : YardContent D S M) → AreRead files objects notes a b → Suits files objects notes asked a p → Suits files objects notes asked b p
+  pub suits_still : (asked : ℕ) (p : PartitionId) (a b : YardContent D S M) → OnlyReads files objects notes a b → Suits files objects notes asked a p → Suits files objects notes asked b p
   suits_still asked p a b r s = ap (said asked) (file_read files (a.registries p) (b.registries p) (r.registries p)) ∙ s
 
-  tier_store : (s t : Option S) → Both (λ x y. store.Keeps (objects x) (objects y)) s t → Has (λ x. (k : ObjectKey) × IsSome ((objects x).objects k)) t → Has (λ x. (k : ObjectKey) × IsSome ((objects x).objects k)) s
+  tier_store : (s t : Option S) → Both (λ x y. store.Keeps (objects x) (objects y)) s t → IsThereWith (λ x. (k : ObjectKey) × IsSome ((objects x).objects k)) t → IsThereWith (λ x. (k : ObjectKey) × IsSome ((objects x).objects k)) s
   tier_store None None both has = has
   tier_store None (Some t) both has = absurd both
   tier_store (Some s) None both has = absurd both
   tier_store (Some s) (Some t) both has = (has.0, subst (λ (o : Option (List ℕ)). IsSome o) (both.objects has.0) has.1)
 
-  tier_log : (s t : Option M) → Both (λ x y. log.Keeps (notes x) (notes y)) s t → Has (λ x. (notes x).notes ≢ []) t → Has (λ x. (notes x).notes ≢ []) s
+  tier_log : (s t : Option M) → Both (λ x y. log.Keeps (notes x) (notes y)) s t → IsThereWith (λ x. (notes x).notes ≢ []) t → IsThereWith (λ x. (notes x).notes ≢ []) s
   tier_log None None both has = has
   tier_log None (Some t) both has = absurd both
   tier_log (Some s) None both has = absurd both
   tier_log (Some s) (Some t) both has = λ none. has (both.notes ∙ none)
 
-  has_still : (s t : Option D) → RestsOn files s t → Has (λ d. IsSome ((files d).files Registry)) s → Has (λ d. IsSome ((files d).files Registry)) t
+  has_still : (s t : Option D) → RestsOn files s t → IsThereWith (λ d. IsSome ((files d).files Registry)) s → IsThereWith (λ d. IsSome ((files d).files Registry)) t
   has_still None t rests has = absurd has
   has_still (Some d) None rests has = absurd rests
   has_still (Some d) (Some e) rests has = subst (λ (o : Option (List ℕ)). IsSome o) (sym (rests.files Registry)) has
 
   -- a partition that may be run may be run where it was read
-  pub ready_read : (asked : ℕ) (p : PartitionId) (a b : YardContent D S M) → AreRead files objects notes a b → Suits files objects notes asked a p → (IsBare files objects notes a p → ⊥) → IsReady files objects notes asked b p
+  pub ready_read : (asked : ℕ) (p : PartitionId) (a b : YardContent D S M) → OnlyReads files objects notes a b → Suits files objects notes asked a p → (IsBare files objects notes a p → ⊥) → IsReady files objects notes asked b p
   ready_read asked p a b r suits bare = record {
     suits = suits_still asked p a b r suits;
     bare = λ k. bare (was k.0, λ has. k.1 (has_still (a.registries p) (b.registries p) (r.registries p) has));
@@ -264,7 +264,7 @@ module _ {D S M : Type 0} (files : D → disk.Content) (objects : S → store.Co
     pub there : IsTrue h.is_observable → (files d).files Registry ≡ file_in files (h.registries p)
     pub told : IsTrue h.is_observable → IsTrue (files d).is_observable
     pub first : IsTrue h.is_observable → (q : PartitionId) → q.0 < p.0 → Suits files objects notes asked h q
-    pub unchanged : IsTrue h.is_observable → AreRead files objects notes h h'
+    pub unchanged : IsTrue h.is_observable → OnlyReads files objects notes h h'
 
   said_of : (p : PartitionId) (asked : ℕ) (h h' : YardContent D S M) (c c' : Control) (d : D) (last_read : List ℕ) (why : ColdRefusal) → Looks p asked h h' c c' d last_read → says asked (view_in last_read) ≡ Some why
       → (IsTrue (files d).is_observable → (files d).files Registry ≡ Some last_read) → IsSaidOf files objects notes p asked why h h' c c'
@@ -305,12 +305,12 @@ module _ {D S M : Type 0} (files : D → disk.Content) (objects : S → store.Co
       subst (λ (w : ColdRefusal). IsRefusedSo files objects notes asked h h' c c' (of_cold p w)) (sym same) tt
 
   -- a refusal after others were passed
-  pub refused_then : (asked : ℕ) (h h1 h2 : YardContent D S M) (c c1 c2 : Control) (why : YardRefusal) → h1.is_observable ≡ h.is_observable → (IsTrue h.is_observable → AreRead files objects notes h h1) → ReadsMore c c1 → counted c.faults 0 ≤ c1.faults
+  pub refused_then : (asked : ℕ) (h h1 h2 : YardContent D S M) (c c1 c2 : Control) (why : YardRefusal) → h1.is_observable ≡ h.is_observable → (IsTrue h.is_observable → OnlyReads files objects notes h h1) → ReadsMore c c1 → counted c.faults 0 ≤ c1.faults
       → IsRefusedSo files objects notes asked h1 h2 c1 c2 why → IsRefusedSo files objects notes asked h h2 c c2 why
   refused_then asked h h1 h2 c c1 c2 yard.Fault same read more falls is = omega (arith, falls, is)
   refused_then asked h h1 h2 c c1 c2 (yard.Mismatch p kept wanted) same read more falls is = (is.0, said_then p asked (cold.Brokers kept wanted) h h1 h2 c c1 c2 same read more is.1)
     where
-      said_then : (p : PartitionId) (asked : ℕ) (w : ColdRefusal) (h h1 h2 : YardContent D S M) (c c1 c2 : Control) → h1.is_observable ≡ h.is_observable → (IsTrue h.is_observable → AreRead files objects notes h h1) → ReadsMore c c1
+      said_then : (p : PartitionId) (asked : ℕ) (w : ColdRefusal) (h h1 h2 : YardContent D S M) (c c1 c2 : Control) → h1.is_observable ≡ h.is_observable → (IsTrue h.is_observable → OnlyReads files objects notes h h1) → ReadsMore c c1
           → IsSaidOf files objects notes p asked w h1 h2 c1 c2 → IsSaidOf files objects notes p asked w h h2 c c2
       said_then p asked w h h1 h2 c c1 c2 same read more s = record {
         bytes = s.bytes;
@@ -354,7 +354,7 @@ one_used one r a b c out back =
     uses_all 1 (one ∷ []) a b c refl (one_more 0 a a b (record { faults = refl; named = refl; returned = refl; out = omega arith }) out) (came_registry one r b c back)
 
 -- one of whose calls failed raises the environment's count
-pub one_risen : (k k' : DeviceControl call_code) (r : ReadRegistry) (a b c : Control) → IsFresh k → Lasts k k' → Hands Went a b → TakesRegistry (record { faults = k'.faults; armed = k'.armed }) r b c
+pub one_risen : (k k' : DeviceControl call_code) (r : ReadRegistry) (a b c : Control) → IsFreshDevice k → Lasts k k' → Hands Went a b → TakesRegistry (record { faults = k'.faults; armed = k'.armed }) r b c
     → Rose k.faults k'.faults → Rose a.faults c.faults
 one_risen k k' r a b c fresh lasts out back rose =
     let unarmed : k'.armed ≡ false = lasts.armed ∙ fresh.armed in

@@ -3,7 +3,7 @@ use Rattle.std.proofs.Common.{◌≡◌, inl, inr, ◌∙◌, sym, ap, subst, re
 use Rattle.std.specs.Prelude.{IsErrOf, Err}
 use Rattle.std.proofs.lemmas.List.Elements.{All-append}
 use Rattle.tier_base.specs.Counts.{counted, Rose}
-use Rattle.tier_base.specs.Device.{Fate, Went, Fault, Dry, IsFresh, fate_of_trouble}
+use Rattle.tier_base.specs.Device.{Fate, Went, Fault, Dry, IsFreshDevice, fate_of_trouble}
 use Rattle.tier_base.specs.declared.fault.Trouble.{Trouble}
 use Rattle.tier_base.specs.declared.fault.Trouble.TheVariants.{Failed, NoMemory}
 use Rattle.tier_base.specs.declared.names.BrokerId.{BrokerId}
@@ -62,7 +62,7 @@ module _ {D S M : Type 0} (disk : DiskGhosts D) (store : StoreGhosts S) (meta : 
   }
 
   pub so_far_more : (p : PartitionId) (b : BrokerId) (h0 h h' : YardContent D S M) (c0 c c' : Control) (disks : List D) (d : D) → b.0 ≡ length disks → SoFar p h0 h c0 c disks
-      → Hands Went c c' → h'.is_observable ≡ h.is_observable → IsFresh (disk.control d) → (disk.content d).is_observable ≡ h.is_observable
+      → Hands Went c c' → h'.is_observable ≡ h.is_observable → IsFreshDevice (disk.control d) → (disk.content d).is_observable ≡ h.is_observable
       → (IsTrue h.is_observable → HandsDisk disk.content (h.disks p b) (disk.content d)) → (IsTrue h.is_observable → DiskIs p b None h h') → SoFar p h0 h' c0 c' (disks ++ d ∷ [])
   so_far_more p b h0 h h' c0 c c' disks d at so hands is_observable fresh kind content is = record {
     each = All-append (IsHandedDisk disk store meta h0) disks (d ∷ []) so.each (all_one (IsHandedDisk disk store meta h0) d this);
@@ -151,7 +151,7 @@ module _ {D S M : Type 0} (disk : DiskGhosts D) (store : StoreGhosts S) (meta : 
   pub all_out : (p : PartitionId) (count : ℕ) (devices : Devices D S M) (h0 h1 h2 : YardContent D S M) → AreHandedDisks disk store meta p count devices.disks.items h0
       → h1.is_observable ≡ h0.is_observable → h2.is_observable ≡ h1.is_observable → (IsTrue h0.is_observable → KeepsRest p h0 h1) → (IsTrue h1.is_observable → StoreIs p None h1 h2)
       → (store.content devices.store).is_observable ≡ h1.is_observable → (IsTrue h1.is_observable → HandsStore store.content (h1.stores p) (store.content devices.store))
-      → IsFresh (meta.control devices.meta)
+      → IsFreshDevice (meta.control devices.meta)
       → (meta.content devices.meta).is_observable ≡ h2.is_observable → (IsTrue h2.is_observable → HandsLog meta.content (h2.logs p) (meta.content devices.meta))
       → AreHanded disk store meta p count devices h0
   all_out p count devices h0 h1 h2 disks same again rest out is_observable gives fresh says notes = record {
@@ -166,7 +166,7 @@ module _ {D S M : Type 0} (disk : DiskGhosts D) (store : StoreGhosts S) (meta : 
 
   -- and the disk of the registry last
   pub all_handed : (p : PartitionId) (count : ℕ) (devices : Devices D S M) (reg : D) (h0 h3 : YardContent D S M) → AreHanded disk store meta p count devices h0 → h3.is_observable ≡ h0.is_observable
-      → (IsTrue h0.is_observable → h3.registries p ≡ h0.registries p) → IsFresh (disk.control reg) → (disk.content reg).is_observable ≡ h3.is_observable
+      → (IsTrue h0.is_observable → h3.registries p ≡ h0.registries p) → IsFreshDevice (disk.control reg) → (disk.content reg).is_observable ≡ h3.is_observable
       → (IsTrue h3.is_observable → HandsDisk disk.content (h3.registries p) (disk.content reg)) → AreAllHanded disk store meta p count devices reg h0
   all_handed p count devices reg h0 h3 is same kept fresh is_observable gives = record {
     others = is;

@@ -10,7 +10,7 @@ use Rattle.object_store.specs.declared.store.Store.{Ghosts as StoreGhosts}
 use Rattle.meta_log.specs.declared.log.MetaLog.{Ghosts as MetaGhosts}
 use Rattle.device_yard.specs.declared.came.Came.{Came}
 use Rattle.device_yard.specs.Control.{Control, is_fault as is_yard_fault}
-use Rattle.device_yard.specs.YardContent.{YardContent, Has, HandsDisk, HandsStore, HandsLog, HoldsDisk, HasTier, HasRegistry, IsBare}
+use Rattle.device_yard.specs.YardContent.{YardContent, IsThereWith, HandsDisk, HandsStore, HandsLog, HoldsDisk, HasTier, HasRegistry, IsBare}
 use Rattle.device_yard.proofs.Nameless.{tierless_is_empty}
 use Rattle.plain_log.specs.declared.command.Config.{Config}
 use Rattle.plain_log.specs.declared.journal.JournalEntry.{JournalEntry}
@@ -30,12 +30,12 @@ use Rattle.cold_start.specs.declared.refusal.ColdRefusal.{ColdRefusal}
 use Rattle.cold_start.specs.declared.refusal.ColdRefusal.TheVariants as cold
 use Rattle.run_yard.specs.declared.refusal.YardRefusal.{YardRefusal}
 use Rattle.run_yard.specs.declared.refusal.YardRefusal.TheVariants as yard
-use Rattle.run_yard.specs.Refusals.{of_cold, IsOfFile, IsRefused, DeviceFailed, IsOfDevices}
+use Rattle.run_yard.specs.Refusals.{of_cold, IsOfFile, IsRunRefused, DeviceFailed, IsOfDevices}
 use Rattle.run_yard.specs.Opens.{OpensFresh}
 use Rattle.run_yard.specs.Reading.{file_in, said, ReadsLast, ReadsMore, IsReady, IsSaidOf, IsRefusedSo}
 use Rattle.run_yard.specs.Run.{IsRunText as IsTextOf}
 use Rattle.run_yard.specs.Handed.{IsHandedDisk, AreHanded, AreAllHanded}
-use Rattle.run_yard.specs.Runs.{IsRunIn, RunsIn, AreRunsIn, IsRunText}
+use Rattle.run_yard.specs.Runs.{IsRunOnDevices, RunsIn, AreRunsIn, IsTextOfRuns}
 use Rattle.run_yard.specs.Yard.{came_of, cames_of, faults_with, HandedOut, CameBack, SameOf, OnlyOf, HoldsAll, KeepsAll}
 use Rattle.run_yard.proofs.Back.{same_of, same_then, length_map, length_append, faults_append}
 use Rattle.run_yard.proofs.Faults.{rose_after, counts_one, still}
@@ -103,7 +103,7 @@ module _ {D S M : Type 0} (disk : DiskGhosts D) (store : StoreGhosts S) (meta : 
       lost None is some = false≢true some
       lost (Some x) is some = absurd (let no : ◌≡◌ {A = Option (List ℕ)} (Some x) None = is in cc)
 
-      by : (o : Option D) → file_in disk.content o ≡ None → Has (λ d. IsSome ((disk.content d).files Registry)) o → ⊥
+      by : (o : Option D) → file_in disk.content o ≡ None → IsThereWith (λ d. IsSome ((disk.content d).files Registry)) o → ⊥
       by None is here = here
       by (Some d) is here = lost ((disk.content d).files Registry) is here
 
@@ -176,7 +176,7 @@ module _ {D S M : Type 0} (disk : DiskGhosts D) (store : StoreGhosts S) (meta : 
   pub refused_of : (asked : ℕ) (p : PartitionId) (count n : ℕ) (h h2 : YardContent D S M) (c c1 c2 : Control) (given back : Devices D S M) (reg kept : D) (why : ColdRefusal)
       → (IsTrue h.is_observable → IsReady disk.content store.content meta.content asked h p) → AreAllHanded disk store meta p count given reg h → HandedOut n c c1 → CameBack (cames_of disk store meta back kept) c1 c2
       → c1.registries ≡ c.registries → c2.registries ≡ c1.registries ++ record { partition = p; last_read = (disk.control kept).last_read } ∷ [] → (disk.control kept).armed ≡ false
-      → IsRefused disk meta asked given reg back kept why → IsRefusedSo disk.content store.content meta.content asked h h2 c c2 (of_cold p why) × (IsTrue h.is_observable → IsOfDevices (of_cold p why))
+      → IsRunRefused disk meta asked given reg back kept why → IsRefusedSo disk.content store.content meta.content asked h h2 c c2 (of_cold p why) × (IsTrue h.is_observable → IsOfDevices (of_cold p why))
   refused_of asked p count n h h2 c c1 c2 given back reg kept why ready handed out came unread read unarmed is = by why is
     where
       clash : (w : ColdRefusal) → IsTrue h.is_observable → IsOfFile disk asked reg kept w → ⊥
@@ -208,7 +208,7 @@ module _ {D S M : Type 0} (disk : DiskGhosts D) (store : StoreGhosts S) (meta : 
       asks : (k a : ℕ) → IsOfFile disk asked reg kept (cold.Brokers k a) → a ≡ asked
       asks k a f = asked_same asked (view_in (disk.control kept).last_read) k a f.says
 
-      by : (w : ColdRefusal) → IsRefused disk meta asked given reg back kept w → IsRefusedSo disk.content store.content meta.content asked h h2 c c2 (of_cold p w) × (IsTrue h.is_observable → IsOfDevices (of_cold p w))
+      by : (w : ColdRefusal) → IsRunRefused disk meta asked given reg back kept w → IsRefusedSo disk.content store.content meta.content asked h h2 c c2 (of_cold p w) × (IsTrue h.is_observable → IsOfDevices (of_cold p w))
       by cold.RegistryFault rose =
           let some : 1 ≤ (disk.control kept).faults = omega (arith, rose) in
           let rise = fault_rises (map (came_of disk.control) back.disks.items ++ came_of store.control back.store ∷ came_of meta.control back.meta ∷ []) [] (came_of disk.control kept) c1.faults (counted_came (came_of disk.control kept) unarmed some) in
@@ -222,12 +222,12 @@ module _ {D S M : Type 0} (disk : DiskGhosts D) (store : StoreGhosts S) (meta : 
   pub ready_stays : (asked : ℕ) (q : PartitionId) (a b : YardContent D S M) → SameOf q a b → IsReady disk.content store.content meta.content asked a q → IsReady disk.content store.content meta.content asked b q
   ready_stays asked q a b same r = record {
     suits = ap (λ (o : Option D). said asked (file_in disk.content o)) same.registry ∙ r.suits;
-    bare = λ k. r.bare (was k.0, λ has. k.1 (subst (Has (λ d. IsSome ((disk.content d).files Registry))) (sym same.registry) has));
+    bare = λ k. r.bare (was k.0, λ has. k.1 (subst (IsThereWith (λ d. IsSome ((disk.content d).files Registry))) (sym same.registry) has));
   }
     where
       was : HasTier disk.content store.content meta.content b q → HasTier disk.content store.content meta.content a q
-      was (inl objects) = inl (subst (Has _) same.store objects)
-      was (inr notes) = inr (subst (Has _) same.log notes)
+      was (inl objects) = inl (subst (IsThereWith _) same.store objects)
+      was (inr notes) = inr (subst (IsThereWith _) same.log notes)
 
   -- what is held of a partition stays so too
   holds_on : (p q : PartitionId) (devices : Devices D S M) (reg : D) (a b : YardContent D S M) → IsTrue a.is_observable → (q ≢ p) → OnlyOf p a b → HoldsAll disk.content q devices reg a → HoldsAll disk.content q devices reg b
@@ -241,7 +241,7 @@ module _ {D S M : Type 0} (disk : DiskGhosts D) (store : StoreGhosts S) (meta : 
   }
 
   run_on : (config : Config) (p : PartitionId) (part : PartScript) (h0 a b : YardContent D S M) (run : ℕ × List JournalEntry) (came : List Came) → (part.partition ≢ p) → OnlyOf p a b
-      → IsRunIn disk store meta config part h0 a run came → IsRunIn disk store meta config part h0 b run came
+      → IsRunOnDevices disk store meta config part h0 a run came → IsRunOnDevices disk store meta config part h0 b run came
   run_on config p part h0 a b run came other only is = record {
     partition = is.partition;
     devices = is.devices;
@@ -272,7 +272,7 @@ module _ {D S M : Type 0} (disk : DiskGhosts D) (store : StoreGhosts S) (meta : 
 
   -- one run more
   runs_snoc : (config : Config) (h0 h : YardContent D S M) (parts : List PartScript) (runs : List (ℕ × List JournalEntry)) (part : PartScript) (run : ℕ × List JournalEntry) (came one : List Came)
-      → AreRunsIn disk store meta config h0 h parts runs came → IsRunIn disk store meta config part h0 h run one → AreRunsIn disk store meta config h0 h (parts ++ part ∷ []) (runs ++ run ∷ []) (came ++ one)
+      → AreRunsIn disk store meta config h0 h parts runs came → IsRunOnDevices disk store meta config part h0 h run one → AreRunsIn disk store meta config h0 h (parts ++ part ∷ []) (runs ++ run ∷ []) (came ++ one)
   runs_snoc config h0 h [] [] part run came one are is = (one, [], ap (λ (l : List Came). l ++ one) are ∙ sym (append-nil one), is, refl)
   runs_snoc config h0 h (first ∷ parts) (r ∷ runs) part run came one are is =
       (are.0, are.1 ++ one, ap (λ (l : List Came). l ++ one) are.2 ∙ append_assoc are.0 are.1 one, are.3, runs_snoc config h0 h parts runs part run are.1 one are.4 is)
@@ -285,7 +285,7 @@ module _ {D S M : Type 0} (disk : DiskGhosts D) (store : StoreGhosts S) (meta : 
 
   -- devices have what was held earlier, where the partition's were the same
   hands_before : (part : PartScript) (h0 a b : YardContent D S M) (run : ℕ × List JournalEntry) (came : List Came) → a.is_observable ≡ h0.is_observable → (IsTrue h0.is_observable → SameOf part.partition h0 a) → (config : Config)
-      → IsRunIn disk store meta config part a b run came → IsRunIn disk store meta config part h0 b run came
+      → IsRunOnDevices disk store meta config part a b run came → IsRunOnDevices disk store meta config part h0 b run came
   hands_before part h0 a b run came is_observable same config is = record {
     partition = is.partition;
     devices = is.devices;
@@ -306,7 +306,7 @@ module _ {D S M : Type 0} (disk : DiskGhosts D) (store : StoreGhosts S) (meta : 
 
   pub text_more : (config : Config) (p : PartitionId) (h0 a b : YardContent D S M) (parts : List PartScript) (part : PartScript) (text printed new : List ℕ) (c0 c c' : Control) → AreNumbered 0 parts → length parts ≤ p.0 → OnlyOf p a b
       → a.is_observable ≡ h0.is_observable → (IsTrue h0.is_observable → SameOf part.partition h0 a)
-      → IsRunText disk store meta config parts h0 a text c0 c → RunsIn disk store meta config part a b printed c c' → new ≡ text ++ printed → IsRunText disk store meta config (parts ++ part ∷ []) h0 b new c0 c'
+      → IsTextOfRuns disk store meta config parts h0 a text c0 c → RunsIn disk store meta config part a b printed c c' → new ≡ text ++ printed → IsTextOfRuns disk store meta config (parts ++ part ∷ []) h0 b new c0 c'
   text_more config p h0 a b parts part text printed new c0 c c' numbered below only is_observable same t adds is = record {
     runs = t.runs ++ adds.run ∷ [];
     came = t.came ++ adds.came;
@@ -327,7 +327,7 @@ module _ {D S M : Type 0} (disk : DiskGhosts D) (store : StoreGhosts S) (meta : 
     pub all : run ++ rest ≡ parts
     pub numbered : AreNumbered 0 run
     pub next : AreNumbered (length run) rest
-    pub text_is : IsRunText disk store meta config run h0 h text c0 c
+    pub text_is : IsTextOfRuns disk store meta config run h0 h text c0 c
     -- those of the partitions that are left are as they were
     pub same : IsTrue h0.is_observable → (p : PartitionId) → length run ≤ p.0 → SameOf p h0 h
     pub is_observable : h.is_observable ≡ h0.is_observable

@@ -19,7 +19,7 @@ use Rattle.device_yard.specs.Control.{Control}
 use Rattle.device_yard.specs.YardContent.{YardContent, Both, Same, StoreIs, HandsDisk, HandsStore, HandsLog}
 use Rattle.partition_commands.specs.Fresh.{AreDisksOf, DisksTell}
 use Rattle.partition_commands.specs.Cold.{DisksReopen}
-use Rattle.partition_world.specs.Fresh.{IsNew}
+use Rattle.partition_world.specs.Fresh.{IsNewWorld}
 use Rattle.partition_world.specs.Later.{IsLater}
 use Rattle.partition_world.specs.Left.{IsCentralLeft}
 use Rattle.partition_world.specs.Whole.{Whole}
@@ -27,16 +27,16 @@ use Rattle.partition_world.specs.declared.tier.Devices.{Devices}
 use Rattle.script_lang.specs.declared.script.PartScript.{PartScript}
 use Rattle.cold_state.specs.Cold.{cold_of}
 use Rattle.cold_start.specs.ColdWorld.{IsCutDisk, IsCutStore, IsCutLog, ClosedAreLeft, plain_in}
-use Rattle.cold_start.specs.Opening.{IsOpened}
+use Rattle.cold_start.specs.Opening.{IsPartitionOpened}
 use Rattle.cold_start.specs.Running.{Running}
-use Rattle.cold_start.specs.Stands.{StandsFor, IsBlank, IsLeft}
-use Rattle.cold_start.specs.Stepping.{Halts}
+use Rattle.cold_start.specs.Stands.{StandsFor, IsBlank, MayBeLeft}
+use Rattle.cold_start.specs.Stepping.{HaltsSteps}
 use Rattle.cold_start.specs.declared.refusal.ColdRefusal.{ColdRefusal}
 use Rattle.cold_start.proofs.Leaving.{uncut, all_uncut}
 use Rattle.run_yard.specs.Handed.{HandsDisks, AreHanded, AreAllHanded}
-use Rattle.run_yard.specs.Reading.{AreRead, IsReady, ReadsMore}
+use Rattle.run_yard.specs.Reading.{OnlyReads, IsReady, ReadsMore}
 use Rattle.run_yard.specs.Runs.{RunsIn}
-use Rattle.run_yard.specs.Stopped.{DiskRests, StoreRests, LogRests, RestsIn, AllRest, IsLedFrom, IsStopped, IsStoppedIn, AreStopped, IsStoppedSo}
+use Rattle.run_yard.specs.Stopped.{DiskRests, StoreRests, LogRests, RestsIn, AllTiersRest, IsLedFrom, IsRunStopped, IsStoppedIn, AreStopped, IsStoppedSo}
 use Rattle.run_yard.specs.Yard.{SameOf, OnlyOf, KeepsRest, KeepsFrom, KeepsDisks, KeepsDevices, KeepsAll}
 use Rattle.run_yard.proofs.Back.{only_then, store_only}
 use Rattle.run_yard.proofs.Ended.{opened_there}
@@ -73,7 +73,7 @@ module _ {D S M : Type 0} (disk : DiskGhosts D) (store : StoreGhosts S) (meta : 
 
   -- what a closed partition gives back is left of it
   left_all : ClosedAreLeft disk → (w : Whole D S M) (reg : D) (back : Devices D S M) (kept : D) → AreDisksOf w.held.nodes back.disks.items → DisksReopen disk.content w.held.nodes back.disks.items
-      → back.store ≡ w.tier.store → back.meta ≡ w.tier.meta → kept ≡ reg → IsLeft disk store meta w reg back.disks.items back.store back.meta kept
+      → back.store ≡ w.tier.store → back.meta ≡ w.tier.meta → kept ≡ reg → MayBeLeft disk store meta w reg back.disks.items back.store back.meta kept
   left_all law w reg back kept are again stores notes same = record {
     logs = law w.held.nodes back.disks.items back.disks.items are again (all_uncut disk.content back.disks.items);
     objects = subst (λ (k : S). IsCutStore (store.content w.tier.store) (store.content k)) (sym stores) (record { is_observable = λ yes. yes; objects = refl });
@@ -82,12 +82,12 @@ module _ {D S M : Type 0} (disk : DiskGhosts D) (store : StoreGhosts S) (meta : 
   }
 
   -- steps that didn't come to their end left what represents what is left of a state to which they led
-  halted : ClosedAreLeft disk → (config : Config) (part : PartScript) (back : Devices D S M) (kept : D) (t t' : Running D S M) (why : ColdRefusal) → t.world.partition ≡ part.partition → IsNew part.lists t.world
+  halted : ClosedAreLeft disk → (config : Config) (part : PartScript) (back : Devices D S M) (kept : D) (t t' : Running D S M) (why : ColdRefusal) → t.world.partition ≡ part.partition → IsNewWorld part.lists t.world
       → IsLater disk store meta t.world t'.world → AreDisksOf t'.world.held.nodes back.disks.items → DisksReopen disk.content t'.world.held.nodes back.disks.items → back.store ≡ t'.world.tier.store
       → back.meta ≡ t'.world.tier.meta → kept ≡ t'.reg
       → (t'.ended ≡ false → IsTrue (disk.content t'.reg).is_observable → (opening : State) (c : IsCentralLeft disk store meta opening t'.world)
       → StandsFor disk store meta t'.world.partition back.disks.items back.store back.meta kept (cold_of (plain_in disk store meta opening t'.world c)))
-      → Halts disk store meta t t' why → IsTrue (disk.content t'.reg).is_observable → (p : State) → IsCentralLeft disk store meta p t.world → IsLedFrom disk store meta part.partition part.lists back kept p
+      → HaltsSteps disk store meta t t' why → IsTrue (disk.content t'.reg).is_observable → (p : State) → IsCentralLeft disk store meta p t.world → IsLedFrom disk store meta part.partition part.lists back kept p
   halted law config part back kept t t' why there new later are again stores notes same closing (inl dry) told p first =
       let c : IsCentralLeft disk store meta p t'.world = later.left p first in
       led config part t'.world back kept t'.world.partition p c (later.lists ∙ new.lists_are) (later.partition ∙ there) (closing dry.1 told p c)
@@ -102,14 +102,14 @@ module _ {D S M : Type 0} (disk : DiskGhosts D) (store : StoreGhosts S) (meta : 
 
   -- a run that was refused on its way
   pub stopped_run : {T : Type 0} → ClosedAreLeft disk → (config : Config) (part : PartScript) (devices back : Devices D S M) (reg kept : D) (t t' : Running D S M) (r : Result T ColdRefusal)
-      → IsOpened disk store meta part.partition config part.lists devices.disks.items devices.store devices.meta reg t → IsNew part.lists t.world
+      → IsPartitionOpened disk store meta part.partition config part.lists devices.disks.items devices.store devices.meta reg t → IsNewWorld part.lists t.world
       → ((p : State) → StandsFor disk store meta part.partition devices.disks.items devices.store devices.meta reg p → IsCentralLeft disk store meta p t.world)
       → (DisksTell disk.content devices.disks.items → IsBlank disk store meta devices.store devices.meta reg → IsCentralLeft disk store meta (fresh config) t.world)
       → (disk.content t'.reg).is_observable ≡ (disk.content reg).is_observable → IsLater disk store meta t.world t'.world
       → AreDisksOf t'.world.held.nodes back.disks.items → DisksReopen disk.content t'.world.held.nodes back.disks.items → back.store ≡ t'.world.tier.store → back.meta ≡ t'.world.tier.meta → kept ≡ t'.reg
       → (t'.ended ≡ false → IsTrue (disk.content t'.reg).is_observable → (opening : State) (c : IsCentralLeft disk store meta opening t'.world)
       → StandsFor disk store meta t'.world.partition back.disks.items back.store back.meta kept (cold_of (plain_in disk store meta opening t'.world c)))
-      → IfErr r (λ why. Halts disk store meta t t' why) → OnErr r (IsStopped disk store meta config part devices reg back kept)
+      → IfErr r (λ why. HaltsSteps disk store meta t t' why) → OnErr r (IsRunStopped disk store meta config part devices reg back kept)
   stopped_run law config part devices back reg kept t t' (Ok x) is new central blank is_observable later are again stores notes same closing h = tt
   stopped_run law config part devices back reg kept t t' (Err why) is new central blank is_observable later are again stores notes same closing h =
       let there = opened_there disk store meta part.partition config part.lists devices.disks.items devices.store devices.meta reg t is in
@@ -123,7 +123,7 @@ module _ {D S M : Type 0} (disk : DiskGhosts D) (store : StoreGhosts S) (meta : 
       → ((p : State) → StandsFor disk store meta part.partition devices.disks.items devices.store devices.meta reg p → StandsFor disk store meta part.partition back.disks.items back.store back.meta kept p)
       → (DisksTell disk.content devices.disks.items → IsBlank disk store meta devices.store devices.meta reg
       → IsBlank disk store meta back.store back.meta kept ⊎ StandsFor disk store meta part.partition back.disks.items back.store back.meta kept (cold_of (fresh config)))
-      → IsStopped disk store meta config part devices reg back kept
+      → IsRunStopped disk store meta config part devices reg back kept
   stopped_open safe config part devices back reg kept stand begun = record {
     from = λ p stands. inl (stand p stands);
     begun = λ tell empty.
@@ -205,7 +205,7 @@ module _ {D S M : Type 0} (disk : DiskGhosts D) (store : StoreGhosts S) (meta : 
   }
 
   -- devices of a partition were out as a call went wrong, and are back
-  went_back : (p : PartitionId) (h0 h1 h2 h3 : YardContent D S M) → IsTrue h0.is_observable → OnlyOf p h0 h1 → Same disk.content store.content meta.content h1 h2 → OnlyOf p h2 h3 → RestsIn disk store meta p h0 h3 → AllRest disk store meta h0 h3
+  went_back : (p : PartitionId) (h0 h1 h2 h3 : YardContent D S M) → IsTrue h0.is_observable → OnlyOf p h0 h1 → Same disk.content store.content meta.content h1 h2 → OnlyOf p h2 h3 → RestsIn disk store meta p h0 h3 → AllTiersRest disk store meta h0 h3
   went_back p h0 h1 h2 h3 t out same back this q = elim (is_or_not q p) [
     | inl here ↦ subst (λ (r : PartitionId). RestsIn disk store meta r h0 h3) (sym here) this
     | inr other ↦ rests_other q h0 h1 h2 h3 (out.others t q other) same (back.others (subst IsTrue (sym (same.is_observable ∙ out.is_observable)) t) q other)
@@ -213,7 +213,7 @@ module _ {D S M : Type 0} (disk : DiskGhosts D) (store : StoreGhosts S) (meta : 
 
   -- the disks alone
   pub disks_again : (p : PartitionId) (disks : List D) (h0 h1 h2 h3 : YardContent D S M) → HandsDisks disk store meta p disks h0 → OnlyOf p h0 h1 → KeepsFrom p (length disks) h0 h1 → KeepsRest p h0 h1
-      → (IsTrue h1.is_observable → Same disk.content store.content meta.content h1 h2) → KeepsDisks p disks h2 h3 → IsTrue h0.is_observable → AllRest disk store meta h0 h3
+      → (IsTrue h1.is_observable → Same disk.content store.content meta.content h1 h2) → KeepsDisks p disks h2 h3 → IsTrue h0.is_observable → AllTiersRest disk store meta h0 h3
   disks_again p disks h0 h1 h2 h3 hands only past rest gone back t =
       let same : Same disk.content store.content meta.content h1 h2 = gone (subst IsTrue (sym only.is_observable) t) in
       let told : IsTrue h2.is_observable = subst IsTrue (sym (same.is_observable ∙ only.is_observable)) t in
@@ -229,7 +229,7 @@ module _ {D S M : Type 0} (disk : DiskGhosts D) (store : StoreGhosts S) (meta : 
   pub store_again : (p : PartitionId) (disks : List D) (s : S) (h0 h1 h2 h3 h4 h5 : YardContent D S M) → HandsDisks disk store meta p disks h0 → OnlyOf p h0 h1 → KeepsFrom p (length disks) h0 h1 → KeepsRest p h0 h1
       → h2.is_observable ≡ h1.is_observable → (IsTrue h1.is_observable → StoreIs p None h1 h2) → (IsTrue h1.is_observable → HandsStore store.content (h1.stores p) (store.content s))
       → (IsTrue h2.is_observable → Same disk.content store.content meta.content h2 h3) → KeepsDisks p disks h3 h4 → h5.is_observable ≡ h4.is_observable → (IsTrue h4.is_observable → StoreIs p (Some s) h4 h5)
-      → IsTrue h0.is_observable → AllRest disk store meta h0 h5
+      → IsTrue h0.is_observable → AllTiersRest disk store meta h0 h5
   store_again p disks s h0 h1 h2 h3 h4 h5 hands only past rest is_observable out gives gone back again stores t =
       let t1 : IsTrue h1.is_observable = subst IsTrue (sym only.is_observable) t in
       let t2 : IsTrue h2.is_observable = subst IsTrue (sym is_observable) t1 in
@@ -248,7 +248,7 @@ module _ {D S M : Type 0} (disk : DiskGhosts D) (store : StoreGhosts S) (meta : 
 
   -- all but the disk of the registry
   pub devices_again : (p : PartitionId) (count : ℕ) (devices : Devices D S M) (h0 h1 h2 h3 : YardContent D S M) → AreHanded disk store meta p count devices h0 → OnlyOf p h0 h1 → (IsTrue h0.is_observable → KeepsFrom p count h0 h1)
-      → (IsTrue h0.is_observable → h1.registries p ≡ h0.registries p) → (IsTrue h1.is_observable → Same disk.content store.content meta.content h1 h2) → KeepsDevices p devices h2 h3 → IsTrue h0.is_observable → AllRest disk store meta h0 h3
+      → (IsTrue h0.is_observable → h1.registries p ≡ h0.registries p) → (IsTrue h1.is_observable → Same disk.content store.content meta.content h1 h2) → KeepsDevices p devices h2 h3 → IsTrue h0.is_observable → AllTiersRest disk store meta h0 h3
   devices_again p count devices h0 h1 h2 h3 handed only past kept gone back t =
       let same : Same disk.content store.content meta.content h1 h2 = gone (subst IsTrue (sym only.is_observable) t) in
       let told : IsTrue h2.is_observable = subst IsTrue (sym (same.is_observable ∙ only.is_observable)) t in
@@ -261,7 +261,7 @@ module _ {D S M : Type 0} (disk : DiskGhosts D) (store : StoreGhosts S) (meta : 
       })
 
   -- where nothing happened all is as it was
-  pub all_rest : (h : YardContent D S M) → AllRest disk store meta h h
+  pub all_rest : (h : YardContent D S M) → AllTiersRest disk store meta h h
   all_rest h p = record {
     disks = λ b. disks (h.disks p b);
     objects = stores (h.stores p);
@@ -284,8 +284,8 @@ module _ {D S M : Type 0} (disk : DiskGhosts D) (store : StoreGhosts S) (meta : 
   -- the partition's devices were out, and its run was refused
   pub stopped_in : (config : Config) (part : PartScript) (given back : Devices D S M) (reg kept : D) (h0 h1 h2 : YardContent D S M) → (IsTrue h0.is_observable → IsReady disk.content store.content meta.content config.brokers h0 part.partition)
       → AreAllHanded disk store meta part.partition config.brokers given reg h0 → OnlyOf part.partition h0 h1 → length back.disks.items ≡ config.brokers
-      → IsStopped disk store meta config part given reg back kept → KeepsAll disk.content part.partition back kept h1 h2
-      → IsTrue h0.is_observable → AllRest disk store meta h0 h2 ⊎ IsStoppedIn disk store meta config part h0 h2
+      → IsRunStopped disk store meta config part given reg back kept → KeepsAll disk.content part.partition back kept h1 h2
+      → IsTrue h0.is_observable → AllTiersRest disk store meta h0 h2 ⊎ IsStoppedIn disk store meta config part h0 h2
   stopped_in config part given back reg kept h0 h1 h2 ready handed only many stopped keeps t = inr (record {
     devices = given;
     registry = reg;
@@ -302,7 +302,7 @@ module _ {D S M : Type 0} (disk : DiskGhosts D) (store : StoreGhosts S) (meta : 
 
   -- the next partition's run was refused, or its devices couldn't be had
   pub stopped_next : (config : Config) (parts rest after : List PartScript) (part : PartScript) (h0 h h' : YardContent D S M) (c0 c : Control) (text : List ℕ) → rest ≡ part ∷ after → SoFar disk store meta config parts rest h0 h c0 c text
-      → (IsTrue h.is_observable → AllRest disk store meta h h' ⊎ IsStoppedIn disk store meta config part h h') → IsTrue h0.is_observable → AreStopped disk store meta config parts h0 h'
+      → (IsTrue h.is_observable → AllTiersRest disk store meta h h' ⊎ IsStoppedIn disk store meta config part h h') → IsTrue h0.is_observable → AreStopped disk store meta config parts h0 h'
   stopped_next config parts rest after part h0 h h' c0 c text steps so stopped t = record {
     front = so.run;
     rest = rest;
@@ -333,6 +333,6 @@ module _ {D S M : Type 0} (disk : DiskGhosts D) (store : StoreGhosts S) (meta : 
       }
 
   -- the registries were read before
-  pub stopped_so : (config : Config) (parts : List PartScript) (h0 h h' : YardContent D S M) → h.is_observable ≡ h0.is_observable → (IsTrue h0.is_observable → AreRead disk.content store.content meta.content h0 h)
+  pub stopped_so : (config : Config) (parts : List PartScript) (h0 h h' : YardContent D S M) → h.is_observable ≡ h0.is_observable → (IsTrue h0.is_observable → OnlyReads disk.content store.content meta.content h0 h)
       → (IsTrue h.is_observable → AreStopped disk store meta config parts h h') → IsTrue h0.is_observable → IsStoppedSo disk store meta config parts h0 h'
   stopped_so config parts h0 h h' is_observable read stopped t = inr (h, read t, stopped (subst IsTrue (sym is_observable) t))

@@ -2,7 +2,7 @@
 use Rattle.std.proofs.Common.{◌≡◌, ◌∙◌, sym, ap, refl, ℕ, List, [], ◌++◌, length, arith, append_assoc, append-nil}
 use Rattle.device_yard.specs.declared.came.Came.{Came}
 use Rattle.device_yard.specs.Control.{Control}
-use Rattle.run_yard.specs.Yard.{HandedOut, CameBack, Uses, IsUsed}
+use Rattle.run_yard.specs.Yard.{HandedOut, CameBack, Uses, AllCameBack}
 use Rattle.run_yard.proofs.Faults.{goes_on, still}
 
 -- devices that went out are back
@@ -26,12 +26,12 @@ uses_then x y a b c f g = record {
 pub uses_none : (a : Control) → Uses [] a a
 uses_none a = record { never_falls = omega arith; named = refl; returned = sym (append-nil a.returned); out = refl }
 
-pub used_none : (a : Control) → IsUsed a a
+pub used_none : (a : Control) → AllCameBack a a
 used_none a = record { came = []; uses = uses_none a }
 
 -- where a further part wasn't run to its end, the devices that went out before are back too
-pub used_then : (x : List Came) (a b c : Control) → Uses x a b → IsUsed b c → IsUsed a c
+pub used_then : (x : List Came) (a b c : Control) → Uses x a b → AllCameBack b c → AllCameBack a c
 used_then x a b c f h = record { came = x ++ h.came; uses = uses_then x h.came a b c f h.uses }
 
-pub used_both : (a b c : Control) → IsUsed a b → IsUsed b c → IsUsed a c
+pub used_both : (a b c : Control) → AllCameBack a b → AllCameBack b c → AllCameBack a c
 used_both a b c f g = used_then f.came a b c f.uses g

@@ -2,7 +2,7 @@
 --
 -- They are fresh, and report what they hold where the environment is observable: what it held.
 use Rattle.std.specs.Prelude.{◌≡◌, ℕ, List, Some, slice_get, length, All, IsTrue}
-use Rattle.tier_base.specs.Device.{IsFresh}
+use Rattle.tier_base.specs.Device.{IsFreshDevice}
 use Rattle.tier_base.specs.declared.names.BrokerId.{BrokerId}
 use Rattle.tier_base.specs.declared.names.PartitionId.{PartitionId}
 use Rattle.disk_model.specs.declared.disk.Disk.{Ghosts as DiskGhosts}
@@ -14,7 +14,7 @@ use Rattle.partition_world.specs.declared.tier.Devices.{Devices}
 module _ {D S M : Type 0} (disk : DiskGhosts D) (store : StoreGhosts S) (meta : MetaGhosts M) where
   -- a disk
   pub record IsHandedDisk (held : YardContent D S M) (d : D) : Type 0 where
-    pub fresh : IsFresh (disk.control d)
+    pub fresh : IsFreshDevice (disk.control d)
     pub is_observable : (disk.content d).is_observable ≡ held.is_observable
 
   -- each of the disks of its first brokers has what the environment held as that broker's
@@ -39,7 +39,7 @@ module _ {D S M : Type 0} (disk : DiskGhosts D) (store : StoreGhosts S) (meta : 
   pub record AreHanded (partition : PartitionId) (count : ℕ) (devices : Devices D S M) (held : YardContent D S M) : Type 0 where
     pub disks : AreHandedDisks partition count devices.disks.items held
     pub store_tells : (store.content devices.store).is_observable ≡ held.is_observable
-    pub meta_fresh : IsFresh (meta.control devices.meta)
+    pub meta_fresh : IsFreshDevice (meta.control devices.meta)
     pub meta_tells : (meta.content devices.meta).is_observable ≡ held.is_observable
     pub objects : IsTrue held.is_observable
         → HandsStore store.content (held.stores partition) (store.content devices.store)

@@ -2,7 +2,7 @@
 --
 --   form                says
 --   OpensFresh .. p     the devices hold nothing of a partition, and p is the fresh state
---   OpensAt .. p        they represent p, or hold nothing of a partition and p is the fresh state
+--   MayBeginIn .. p        they represent p, or hold nothing of a partition and p is the fresh state
 use Rattle.std.specs.Prelude.{◌≡◌, ◌⊎◌}
 use Rattle.tier_base.specs.declared.names.PartitionId.{PartitionId}
 use Rattle.disk_model.specs.declared.disk.Disk.{Ghosts as DiskGhosts}
@@ -23,7 +23,7 @@ module _ {D S M : Type 0} (disk : DiskGhosts D) (store : StoreGhosts S) (meta : 
     pub blank : IsBlank disk store meta devices.store devices.meta registry
 
   -- the plain states in which a run may begin
-  abbrev pub OpensAt : PartitionId → Config → Devices D S M → D → State → Type 0
-  OpensAt partition config devices registry p =
+  abbrev pub MayBeginIn : PartitionId → Config → Devices D S M → D → State → Type 0
+  MayBeginIn partition config devices registry p =
       StandsFor disk store meta partition devices.disks.items devices.store devices.meta registry p
       ⊎ OpensFresh config devices registry p

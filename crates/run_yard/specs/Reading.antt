@@ -3,7 +3,7 @@
 --   form                    says
 --   Rests d e               a disk reads as it did
 --   RestsOn a b             so does what is held of it; where there was none, one without files may be
---   AreRead old new         nothing has changed, but that registries may have been read
+--   OnlyReads old new         nothing has changed, but that registries may have been read
 --   said asked file         what a registry's file makes of a run with so many brokers: a refusal, or none
 --   Suits asked held p      the partition's makes none of it
 --   judged asked found      what a run with so many brokers returns where the registry was found so
@@ -34,7 +34,7 @@ use Rattle.run_yard.specs.declared.refusal.YardRefusal.{YardRefusal}
 use Rattle.run_yard.specs.declared.refusal.YardRefusal.TheVariants.{Fault, Mismatch, BadRegistry, NoMemory}
 
 -- a disk reads as it did, and a power cut leaves nothing else of it
-pub record Rests (old new : disk.Content) : Type 0 where
+pub record DiskRests (old new : disk.Content) : Type 0 where
   pub is_observable : new.is_observable ≡ old.is_observable
   pub files : (n : FileName) → new.files n ≡ old.files n
   pub images : (c : disk.Files) → disk.Image new c → disk.Image old c
@@ -43,7 +43,7 @@ pub record Rests (old new : disk.Content) : Type 0 where
 abbrev pub RestsOn : {D : Type 0} → (D → disk.Content) → Option D → Option D → Type 0
 RestsOn files None None = Unit {0}
 RestsOn files None (Some e) = IsEmptyDisk (files e)
-RestsOn files (Some d) (Some e) = Rests (files d) (files e)
+RestsOn files (Some d) (Some e) = DiskRests (files d) (files e)
 RestsOn files (Some d) None = ⊥
 
 -- the registry's file of a disk that is held
@@ -74,7 +74,7 @@ pub record ReadsMore (old new : Control) : Type 0 where
 
 module _ {D S M : Type 0} (files : D → disk.Content) (objects : S → store.Content) (notes : M → log.Content) where
   -- no name and no content that is held has changed, but that registries' disks may be there that hold nothing
-  pub record AreRead (old new : YardContent D S M) : Type 0 where
+  pub record OnlyReads (old new : YardContent D S M) : Type 0 where
     pub is_observable : new.is_observable ≡ old.is_observable
     pub strays : new.strays ≡ old.strays
     pub disks : (p : PartitionId) (b : BrokerId) → RestsOn files (old.disks p b) (new.disks p b)
@@ -99,7 +99,7 @@ module _ {D S M : Type 0} (files : D → disk.Content) (objects : S → store.Co
     pub says : says asked (view_in bytes) ≡ Some why
     pub file : IsTrue old.is_observable → file_in files (old.registries partition) ≡ Some bytes
     pub first : IsTrue old.is_observable → (q : PartitionId) → q.0 < partition.0 → Suits asked old q
-    pub unchanged : IsTrue old.is_observable → AreRead old new
+    pub unchanged : IsTrue old.is_observable → OnlyReads old new
 
   -- why a run with so many brokers was refused
   abbrev pub IsRefusedSo : ℕ → YardContent D S M → YardContent D S M → Control → Control → YardRefusal → Type 0

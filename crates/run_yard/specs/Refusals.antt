@@ -50,9 +50,10 @@ module _ {D S M : Type 0} (disk : DiskGhosts D) (meta : MetaGhosts M) where
     pub one : OneFailed disk.control devices.disks.items back.disks.items ⊎ Rose (meta.control devices.meta).faults (meta.control back.meta).faults
 
   -- a partition's run with so many brokers was refused for this: with its devices passed in, and given back
-  abbrev pub IsRefused : ℕ → Devices D S M → D → Devices D S M → D → ColdRefusal → Type 0
-  IsRefused asked devices registry back kept cold.RegistryFault = 0 < (disk.control kept).faults
-  IsRefused asked devices registry back kept cold.DeviceFault = DeviceFailed devices back
-  IsRefused asked devices registry back kept (cold.BadRegistry at) = IsOfFile disk asked registry kept (cold.BadRegistry at)
-  IsRefused asked devices registry back kept (cold.Brokers k a) = IsOfFile disk asked registry kept (cold.Brokers k a)
-  IsRefused asked devices registry back kept cold.NoMemory = Unit {0}
+  abbrev pub IsRunRefused : ℕ → Devices D S M → D → Devices D S M → D → ColdRefusal → Type 0
+  IsRunRefused asked devices registry back kept cold.RegistryFault = 0 < (disk.control kept).faults
+  IsRunRefused asked devices registry back kept cold.DeviceFault = DeviceFailed devices back
+  IsRunRefused asked devices registry back kept (cold.BadRegistry at) = IsOfFile disk asked registry kept (cold.BadRegistry at)
+  IsRunRefused asked devices registry back kept (cold.Brokers k a) =
+      IsOfFile disk asked registry kept (cold.Brokers k a)
+  IsRunRefused asked devices registry back kept cold.NoMemory = Unit {0}

@@ -2,8 +2,8 @@
 --
 --   form                        says
 --   IsLedFrom .. p              devices represent what is left of a state to which commands lead from p
---   IsStopped d r back kept     a run over these devices stopped, and left those
---   RestsIn p, AllRest          what is held of a partition is as it was, and of all
+--   IsRunStopped d r back kept     a run over these devices stopped, and left those
+--   RestsIn p, AllTiersRest          what is held of a partition is as it was, and of all
 --   IsStoppedIn part was held   the partition's run was refused over its devices, which are held again
 --   AreStopped parts was held   the first partitions have their runs, and a refusal came then
 --   IsStoppedSo parts was held  that, once the registries were read, or nothing was run
@@ -34,7 +34,7 @@ use Rattle.cold_state.specs.Cold.{cold_of}
 use Rattle.cold_start.specs.Stands.{StandsFor, IsBlank}
 use Rattle.run_yard.specs.Handed.{HandsDevices}
 use Rattle.run_yard.specs.Opens.{OpensFresh}
-use Rattle.run_yard.specs.Reading.{AreRead, file_in}
+use Rattle.run_yard.specs.Reading.{OnlyReads, file_in}
 use Rattle.run_yard.specs.Runs.{AreRunsIn}
 use Rattle.run_yard.specs.Yard.{SameOf, OnlyOf, HoldsAll}
 
@@ -77,7 +77,7 @@ module _ {D S M : Type 0} (disk : DiskGhosts D) (store : StoreGhosts S) (meta : 
   -- A run over these devices stopped, before its first turn or after one, and left those. They represent each state
   -- that the devices represented, or what is left of one to which commands lead from there. Where the devices held
   -- nothing, they still do, or the run began in the fresh state.
-  pub record IsStopped (config : Config) (part : PartScript) (devices : Devices D S M) (registry : D)
+  pub record IsRunStopped (config : Config) (part : PartScript) (devices : Devices D S M) (registry : D)
       (back : Devices D S M) (kept : D) : Type 0 where
     pub from : (p : State) → StandAs part.partition devices registry p
         → StandAs part.partition back kept p ⊎ IsLedFrom part.partition part.lists back kept p
@@ -94,8 +94,8 @@ module _ {D S M : Type 0} (disk : DiskGhosts D) (store : StoreGhosts S) (meta : 
     pub file : DiskRests disk.content (old.registries p) (new.registries p)
 
   -- and of each
-  abbrev pub AllRest : YardContent D S M → YardContent D S M → Type 0
-  AllRest old new = (p : PartitionId) → RestsIn p old new
+  abbrev pub AllTiersRest : YardContent D S M → YardContent D S M → Type 0
+  AllTiersRest old new = (p : PartitionId) → RestsIn p old new
 
   -- A partition's run was refused once its devices were out: they had what the environment held before, and it holds
   -- now what came back.
@@ -109,7 +109,7 @@ module _ {D S M : Type 0} (disk : DiskGhosts D) (store : StoreGhosts S) (meta : 
     pub handed : HandsDevices disk store meta part.partition devices registry was
     pub begun : file_in disk.content (was.registries part.partition) ≡ None
         → OpensFresh disk store meta config devices registry (fresh config)
-    pub stopped : IsStopped config part devices registry back kept
+    pub stopped : IsRunStopped config part devices registry back kept
     pub holds : HoldsAll disk.content part.partition back kept held
     pub only : OnlyOf part.partition was held
 
@@ -124,12 +124,12 @@ module _ {D S M : Type 0} (disk : DiskGhosts D) (store : StoreGhosts S) (meta : 
     pub came : List Came
     pub are : AreRunsIn disk store meta config was mid front runs came
     pub others : (p : PartitionId) → length front ≤ p.0 → SameOf p was mid
-    pub end : AllRest mid held
+    pub end : AllTiersRest mid held
         ⊎ ((part : PartScript) × (more : List PartScript) × (rest ≡ part ∷ more) × IsStoppedIn config part mid held)
 
   -- nothing was run; or no registry refused the run, and the partitions were run so far
   abbrev pub IsStoppedSo : Config → List PartScript → YardContent D S M → YardContent D S M → Type 0
   IsStoppedSo config parts was held =
-      AreRead disk.content store.content meta.content was held
-      ⊎ ((found : YardContent D S M) × AreRead disk.content store.content meta.content was found
+      OnlyReads disk.content store.content meta.content was held
+      ⊎ ((found : YardContent D S M) × OnlyReads disk.content store.content meta.content was found
       × AreStopped config parts found held)

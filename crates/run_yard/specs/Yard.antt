@@ -57,7 +57,7 @@ pub record Uses (came : List Came) (old new : Control) : Type 0 where
   pub out : new.out ≡ old.out
 
 -- devices went out, and all are back
-pub record IsUsed (old new : Control) : Type 0 where
+pub record AllCameBack (old new : Control) : Type 0 where
   pub came : List Came
   pub uses : Uses came old new
 
@@ -91,7 +91,7 @@ module _ {D S M : Type 0} where
     pub rest : IsTrue old.is_observable → KeepsRest partition old new
 
   -- the environment holds these devices of the partition, but for the disk of its registry
-  pub record Holds (partition : PartitionId) (devices : Devices D S M) (held : YardContent D S M) : Type 0 where
+  pub record YardHolds (partition : PartitionId) (devices : Devices D S M) (held : YardContent D S M) : Type 0 where
     pub disks : (b : BrokerId) (disk : D) → slice_get devices.disks.items b.0 ≡ Some disk → held.disks partition b ≡ Some disk
     pub store : held.stores partition ≡ Some devices.store
     pub log : held.logs partition ≡ Some devices.meta
@@ -99,14 +99,14 @@ module _ {D S M : Type 0} where
   pub record KeepsDevices (partition : PartitionId) (devices : Devices D S M)
       (old new : YardContent D S M) : Type 0 where
     pub only : OnlyOf partition old new
-    pub here : IsTrue old.is_observable → Holds partition devices new
+    pub here : IsTrue old.is_observable → YardHolds partition devices new
     pub past : IsTrue old.is_observable → KeepsFrom partition (length devices.disks.items) old new
     pub registry : IsTrue old.is_observable → new.registries partition ≡ old.registries partition
 
 module _ {D S M : Type 0} (files : D → disk.Content) where
   -- it holds all of them
   pub record HoldsAll (partition : PartitionId) (devices : Devices D S M) (registry : D) (held : YardContent D S M) : Type 0 where
-    pub others : Holds partition devices held
+    pub others : YardHolds partition devices held
     pub file : HoldsDisk files registry (held.registries partition)
 
   pub record KeepsAll (partition : PartitionId) (devices : Devices D S M) (registry : D) (old new : YardContent D S M) : Type 0 where

@@ -5,8 +5,8 @@
 ghost use Rattle.std.specs.Prelude.{◌≡◌, ◌<◌, All, IfErr, OnOk, IsTrue};
 ghost use Rattle.tier_base.specs.declared.names.PartitionId.{PartitionId as Id};
 ghost use Rattle.script_lang.specs.Fit.{AreNumbered};
-ghost use Rattle.run_yard.specs.Reading.{AreRead, Suits, ReadsMore, IsRefusedSo, judged};
-ghost use Rattle.run_yard.specs.Yard.{IsUsed};
+ghost use Rattle.run_yard.specs.Reading.{OnlyReads, Suits, ReadsMore, IsRefusedSo, judged};
+ghost use Rattle.run_yard.specs.Yard.{AllCameBack};
 
 use crate::refusal::{YardRefusal, refused};
 use cold_start::ColdRefusal;
@@ -42,9 +42,9 @@ fn check_one<Y: Yard>(yard: &mut Y, partition: PartitionId, asked: u16) -> Resul
 
     // Whatever it answers, nothing has changed.
     ensures read { IsTrue (Y.held yard.old).is_observable
-        → AreRead Y.D.content Y.S.content Y.M.content (Y.held yard.old) (Y.held yard.new) }
+        → OnlyReads Y.D.content Y.S.content Y.M.content (Y.held yard.old) (Y.held yard.new) }
     ensures is_observable { (Y.held yard.new).is_observable ≡ (Y.held yard.old).is_observable }
-    ensures used { IsUsed (Y.control yard.old) (Y.control yard.new) }
+    ensures used { AllCameBack (Y.control yard.old) (Y.control yard.new) }
     ensures more { ReadsMore (Y.control yard.old) (Y.control yard.new) }
 {
     let mut disk = match yard.registry(partition) {
@@ -74,9 +74,9 @@ pub(crate) fn check_all<Y: Yard>(
 
     // Whatever it answers, nothing has changed.
     ensures read { IsTrue (Y.held yard.old).is_observable
-        → AreRead Y.D.content Y.S.content Y.M.content (Y.held yard.old) (Y.held yard.new) }
+        → OnlyReads Y.D.content Y.S.content Y.M.content (Y.held yard.old) (Y.held yard.new) }
     ensures is_observable { (Y.held yard.new).is_observable ≡ (Y.held yard.old).is_observable }
-    ensures used { IsUsed (Y.control yard.old) (Y.control yard.new) }
+    ensures used { AllCameBack (Y.control yard.old) (Y.control yard.new) }
     ensures more { ReadsMore (Y.control yard.old) (Y.control yard.new) }
 {
     for part in parts {

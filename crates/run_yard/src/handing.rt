@@ -8,7 +8,7 @@ ghost use Rattle.tier_base.specs.declared.fault.Trouble.TheVariants.{Failed};
 ghost use Rattle.device_yard.specs.declared.came.Came.{Came};
 ghost use Rattle.run_yard.specs.Yard.{OnlyOf, HandedOut, KeepsRest, KeepsFrom, Uses};
 ghost use Rattle.run_yard.specs.Handed.{AreHandedDisks, AreHanded, AreAllHanded};
-ghost use Rattle.run_yard.specs.Stopped.{AllRest};
+ghost use Rattle.run_yard.specs.Stopped.{AllTiersRest};
 
 use crate::keeping::{keep, keep_disks};
 use device_yard::Yard;
@@ -33,7 +33,7 @@ fn hand_disks<Y: Yard>(
     ensures unread { (Y.control yard.new).registries ≡ (Y.control yard.old).registries }
     ensures err { OnErr result ((came : List Came) × Uses came (Y.control yard.old) (Y.control yard.new)) }
     ensures same { OnErr result (IsTrue (Y.held yard.old).is_observable
-        → AllRest Y.D.Disk Y.S.Store Y.M.MetaLog (Y.held yard.old) (Y.held yard.new)) }
+        → AllTiersRest Y.D.Disk Y.S.Store Y.M.MetaLog (Y.held yard.old) (Y.held yard.new)) }
     ensures cause { IsErrOf result Failed → Rose (Y.control yard.old).faults (Y.control yard.new).faults }
 {
     let mut disks = Vec::with_capacity(alloc, count as usize)?;
@@ -67,7 +67,7 @@ fn hand_devices<Y: Yard>(
     ensures unread { (Y.control yard.new).registries ≡ (Y.control yard.old).registries }
     ensures err { OnErr result ((came : List Came) × Uses came (Y.control yard.old) (Y.control yard.new)) }
     ensures same { OnErr result (IsTrue (Y.held yard.old).is_observable
-        → AllRest Y.D.Disk Y.S.Store Y.M.MetaLog (Y.held yard.old) (Y.held yard.new)) }
+        → AllTiersRest Y.D.Disk Y.S.Store Y.M.MetaLog (Y.held yard.old) (Y.held yard.new)) }
     ensures cause { IsErrOf result Failed → Rose (Y.control yard.old).faults (Y.control yard.new).faults }
 {
     let disks = hand_disks(alloc, yard, partition, count)?;
@@ -103,7 +103,7 @@ pub(crate) fn hand_out<Y: Yard>(
     ensures unread { (Y.control yard.new).registries ≡ (Y.control yard.old).registries }
     ensures err { OnErr result ((came : List Came) × Uses came (Y.control yard.old) (Y.control yard.new)) }
     ensures same { OnErr result (IsTrue (Y.held yard.old).is_observable
-        → AllRest Y.D.Disk Y.S.Store Y.M.MetaLog (Y.held yard.old) (Y.held yard.new)) }
+        → AllTiersRest Y.D.Disk Y.S.Store Y.M.MetaLog (Y.held yard.old) (Y.held yard.new)) }
     ensures cause { IsErrOf result Failed → Rose (Y.control yard.old).faults (Y.control yard.new).faults }
 {
     let devices = hand_devices(alloc, yard, partition, count)?;

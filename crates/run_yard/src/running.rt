@@ -1,18 +1,18 @@
 //! The run of a partition, from its devices to its trace.
 
 ghost use Rattle.std.specs.Prelude.{◌≡◌, ◌⊎◌, false, length, All, IfOk, IfErr, OnOk, OnErr};
-ghost use Rattle.tier_base.specs.Device.{IsFresh, Lasts};
+ghost use Rattle.tier_base.specs.Device.{IsFreshDevice, Lasts};
 ghost use Rattle.plain_log.specs.Orders.{AreListsFor, IsConfig};
 ghost use Rattle.script_lang.specs.Fit.{StepsToEnds};
 ghost use Rattle.partition_world.specs.Later.{IsLater};
 ghost use Rattle.partition_world.specs.Reaches.{Reaches};
 ghost use Rattle.trace_text.specs.Trace.{journal_text};
 ghost use Rattle.cold_start.specs.Opening.{AreUnarmed};
-ghost use Rattle.cold_start.specs.Stepping.{Halts};
+ghost use Rattle.cold_start.specs.Stepping.{HaltsSteps};
 ghost use Rattle.cold_start.specs.declared.refusal.ColdRefusal.TheVariants as refusal;
 ghost use Rattle.run_yard.specs.Run.{IsRunText};
-ghost use Rattle.run_yard.specs.Refusals.{IsRefused};
-ghost use Rattle.run_yard.specs.Stopped.{IsStopped};
+ghost use Rattle.run_yard.specs.Refusals.{IsRunRefused};
+ghost use Rattle.run_yard.specs.Stopped.{IsRunStopped};
 
 use cold_start::{Cold, ColdRefusal, closed_disks_are_left, run_cold};
 use disk_model::Disk;
@@ -38,7 +38,7 @@ fn trace<D: Disk, S: Store, M: MetaLog>(
     ensures reaches { OnOk result (Reaches D.Disk S.Store M.MetaLog cold.old.world schedule.now cold.new.world) }
     ensures going { OnOk result (cold.new.ended ≡ false) }
     ensures text { IfOk result (λ text. text.items ≡ journal_text partition.0 cold.new.world.journal.items) }
-    ensures err { IfErr result (λ why. Halts D.Disk S.Store M.MetaLog cold.old cold.new why) }
+    ensures err { IfErr result (λ why. HaltsSteps D.Disk S.Store M.MetaLog cold.old cold.new why) }
     ensures control { Lasts (D.control cold.old.reg) (D.control cold.new.reg) }
     ensures told { (D.content cold.new.reg).is_observable ≡ (D.content cold.old.reg).is_observable }
 {
@@ -70,10 +70,10 @@ pub fn run_on<D: Disk, S: Store, M: MetaLog>(
     requires unarmed { (D.control registry).armed ≡ false }
     ensures text { IfOk result.2 (λ text. IsRunText D.Disk S.Store M.MetaLog config part devices registry text.items
         result.0 result.1) }
-    ensures refused { IfErr result.2 (λ why. IsRefused D.Disk M.MetaLog config.brokers devices registry result.0 result.1 why) }
+    ensures refused { IfErr result.2 (λ why. IsRunRefused D.Disk M.MetaLog config.brokers devices registry result.0 result.1 why) }
 
     // A refusal leaves devices that represent the state before the run, or what is left of one to which commands led.
-    ensures stopped { OnErr result.2 (IsStopped D.Disk S.Store M.MetaLog config part devices registry
+    ensures stopped { OnErr result.2 (IsRunStopped D.Disk S.Store M.MetaLog config part devices registry
         result.0 result.1) }
 
     // Whatever it answers.

@@ -7,9 +7,9 @@ ghost use Rattle.script_lang.specs.Fit.{StepsToEnds, AreNumbered};
 ghost use Rattle.device_yard.specs.YardContent.{IsBare};
 ghost use Rattle.run_yard.specs.Reading.{IsReady, ReadsMore, IsRefusedSo};
 ghost use Rattle.run_yard.specs.Refusals.{IsOfDevices};
-ghost use Rattle.run_yard.specs.Runs.{RunsIn, IsRunText, IsReadAndRun};
-ghost use Rattle.run_yard.specs.Stopped.{AllRest, IsStoppedIn, AreStopped, IsStoppedSo};
-ghost use Rattle.run_yard.specs.Yard.{OnlyOf, IsUsed};
+ghost use Rattle.run_yard.specs.Runs.{RunsIn, IsTextOfRuns, IsReadAndRun};
+ghost use Rattle.run_yard.specs.Stopped.{AllTiersRest, IsStoppedIn, AreStopped, IsStoppedSo};
+ghost use Rattle.run_yard.specs.Yard.{OnlyOf, AllCameBack};
 
 use crate::checking::check_all;
 use crate::handing::hand_out;
@@ -40,9 +40,9 @@ fn run_part<Y: Yard>(
         (Y.control yard.old) (Y.control yard.new)) }
     ensures plain { IfErr result (λ why. IsTrue (Y.held yard.old).is_observable → IsOfDevices why) }
     ensures stopped { OnErr result (IsTrue (Y.held yard.old).is_observable
-        → AllRest Y.D.Disk Y.S.Store Y.M.MetaLog (Y.held yard.old) (Y.held yard.new)
+        → AllTiersRest Y.D.Disk Y.S.Store Y.M.MetaLog (Y.held yard.old) (Y.held yard.new)
         ⊎ IsStoppedIn Y.D.Disk Y.S.Store Y.M.MetaLog config part (Y.held yard.old) (Y.held yard.new)) }
-    ensures err { OnErr result (IsUsed (Y.control yard.old) (Y.control yard.new)) }
+    ensures err { OnErr result (AllCameBack (Y.control yard.old) (Y.control yard.new)) }
     ensures more { ReadsMore (Y.control yard.old) (Y.control yard.new) }
     ensures is_observable { (Y.held yard.new).is_observable ≡ (Y.held yard.old).is_observable }
 {
@@ -85,12 +85,12 @@ fn run_parts<Y: Yard>(
     requires numbered { AreNumbered 0 parts }
     requires ready { IsTrue (Y.held yard.old).is_observable
         → All (λ part. IsReady Y.D.content Y.S.content Y.M.content config.brokers (Y.held yard.old) part.partition) parts }
-    ensures text { IfOk result (λ text. IsRunText Y.D.Disk Y.S.Store Y.M.MetaLog config parts (Y.held yard.old) (Y.held yard.new) text.items (Y.control yard.old) (Y.control yard.new)) }
+    ensures text { IfOk result (λ text. IsTextOfRuns Y.D.Disk Y.S.Store Y.M.MetaLog config parts (Y.held yard.old) (Y.held yard.new) text.items (Y.control yard.old) (Y.control yard.new)) }
     ensures refused { IfErr result (IsRefusedSo Y.D.content Y.S.content Y.M.content config.brokers (Y.held yard.old) (Y.held yard.new)
         (Y.control yard.old) (Y.control yard.new)) }
     ensures stopped { OnErr result (IsTrue (Y.held yard.old).is_observable
         → AreStopped Y.D.Disk Y.S.Store Y.M.MetaLog config parts (Y.held yard.old) (Y.held yard.new)) }
-    ensures err { OnErr result (IsUsed (Y.control yard.old) (Y.control yard.new)) }
+    ensures err { OnErr result (AllCameBack (Y.control yard.old) (Y.control yard.new)) }
     ensures is_observable { (Y.held yard.new).is_observable ≡ (Y.held yard.old).is_observable }
 {
     let mut text = Vec::new(alloc);
@@ -132,7 +132,7 @@ pub fn run_in_yard<Y: Yard>(
     // A refusal leaves each partition as it was, as a whole run leaves it, or as a run that was refused on its way.
     ensures stopped { OnErr result (IsTrue (Y.held yard.old).is_observable
         → IsStoppedSo Y.D.Disk Y.S.Store Y.M.MetaLog config parts (Y.held yard.old) (Y.held yard.new)) }
-    ensures err { OnErr result (IsUsed (Y.control yard.old) (Y.control yard.new)) }
+    ensures err { OnErr result (AllCameBack (Y.control yard.old) (Y.control yard.new)) }
     ensures is_observable { (Y.held yard.new).is_observable ≡ (Y.held yard.old).is_observable }
 {
     match check_all(yard, parts.as_slice(), config.brokers) {

@@ -4,7 +4,7 @@ use Rattle.std.proofs.lemmas.List.{take-append-drop, length-take-le, get_or-take
 use Rattle.std.proofs.lemmas.Bool.{cases_lt}
 use Rattle.std.specs.List.{IsAfterLastMatch}
 use Rattle.script_lang.specs.Words.{is_blank}
-use Rattle.script_help.specs.Places.{IsHead, IsPart, BeginsWord}
+use Rattle.script_help.specs.Places.{IsHead, IsPartOf, BeginsWord}
 
 pub head_at : (text : List ℕ) (i : ℕ) → 0 < i → i ≤ length text → is_blank (get_or text (i - 1) 32) ≡ false → IsHead text (take i text)
 head_at text i some within last =
@@ -16,7 +16,7 @@ head_at text i some within last =
       last = rw long (ap is_blank (get_or-take i text (i - 1) 32 (omega arith)) ∙ last);
     }
 
-pub part_behind : (part rest all : List ℕ) (i : ℕ) → rest ≡ drop i all → IsPart part rest → IsPart part all
+pub part_behind : (part rest all : List ℕ) (i : ℕ) → rest ≡ drop i all → IsPartOf part rest → IsPartOf part all
 part_behind part rest all i is h = record {
   left = take i all ++ h.left;
   right = h.right;

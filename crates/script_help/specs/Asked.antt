@@ -24,7 +24,7 @@ abbrev pub HasWords : List ℕ → Type 0
 HasWords script = words_read (script_in script) ≡ true
 
 -- the last line can continue to one whose words are valid
-pub record GoesOn (script : List ℕ) : Type 0 where
+pub record CanBeCompleted (script : List ℕ) : Type 0 where
   pub tail : List ℕ
   pub reads : HasWords (script ++ tail)
 

@@ -4,7 +4,7 @@ use Rattle.std.specs.List.{slice_index_or}
 use Rattle.script_lang.specs.Words.{is_blank}
 
 -- the bytes are a part of others
-pub record IsPart (part all : List ℕ) : Type 0 where
+pub record IsPartOf (part all : List ℕ) : Type 0 where
   pub left : List ℕ
   pub right : List ℕ
   pub parts : left ++ part ++ right ≡ all
@@ -23,5 +23,5 @@ pub record BeginsWord (text : List ℕ) (at : ℕ) : Type 0 where
   pub before : (i : ℕ) → i + 1 ≡ at → is_blank (slice_index_or text i 32) ≡ true
 
 -- a word begins there, or the text ends
-abbrev pub IsUnder : List ℕ → ℕ → Type 0
-IsUnder text column = BeginsWord text column ⊎ (column ≡ length text)
+abbrev pub IsWordStart : List ℕ → ℕ → Type 0
+IsWordStart text column = BeginsWord text column ⊎ (column ≡ length text)

@@ -7,7 +7,7 @@
 use Rattle.std.specs.Prelude.{◌≡◌, ◌≢◌, ℕ, ◌+◌, ◌==◌, ◌&&◌, nat_le, if◌then◌else◌, List, [], ◌∷◌, ◌++◌, length, map, replicate, codes}
 use Rattle.script_lang.specs.declared.refusal.Why.{Why}
 use Rattle.script_lang.specs.declared.refusal.Why.TheVariants.{NotText}
-use Rattle.script_help.specs.Places.{IsPart, IsUnder}
+use Rattle.script_help.specs.Places.{IsPartOf, IsWordStart}
 
 -- the byte that is shown for one of a line
 abbrev pub shown_byte : ℕ → ℕ
@@ -40,9 +40,9 @@ pub record IsEnded (text : List ℕ) : Type 0 where
 -- continues to the end of a line
 pub record Explains (script : List ℕ) (why : Why) (text : List ℕ) : Type 0 where
   pub line : List ℕ
-  pub of_script : IsPart line script
+  pub of_script : IsPartOf line script
   pub column : ℕ
-  pub under : why ≢ NotText → IsUnder line column
+  pub under : why ≢ NotText → IsWordStart line column
   pub front : List ℕ
   pub shown : ShowsLine line column [] front
   pub rest : List ℕ

@@ -1,7 +1,7 @@
 //! Asking the parser whether a line can continue with a word.
 
 ghost use Rattle.std.specs.Prelude.{◌≡◌, ◌++◌, true, IfOk, IfSome};
-ghost use Rattle.script_help.specs.Asked.{is_later_cause, HasWords, GoesOn, then_word};
+ghost use Rattle.script_help.specs.Asked.{is_later_cause, HasWords, CanBeCompleted, then_word};
 
 use crate::words::TAILS;
 use script_lang::{ScriptRefusal, Why, parse};
@@ -90,7 +90,7 @@ pub fn find_tail(alloc: Global, head: &[u8]) -> Result<Option<&'static str>, All
 
 /// Whether the last line of a script can continue to one that is valid.
 pub fn goes_on(alloc: Global, head: &[u8]) -> Result<bool, AllocError>
-    ensures { IfOk result (λ yes. yes ≡ true → GoesOn head.now) }
+    ensures { IfOk result (λ yes. yes ≡ true → CanBeCompleted head.now) }
 {
     match find_tail(alloc, head)? {
         Some(_) => Ok(true),
@@ -100,7 +100,7 @@ pub fn goes_on(alloc: Global, head: &[u8]) -> Result<bool, AllocError>
 
 /// Whether the last line of a script can continue by a word.
 pub fn goes_on_with(alloc: Global, head: &[u8], word: &str) -> Result<bool, AllocError>
-    ensures { IfOk result (λ yes. yes ≡ true → GoesOn (then_word head.now word.now)) }
+    ensures { IfOk result (λ yes. yes ≡ true → CanBeCompleted (then_word head.now word.now)) }
 {
     let script = with_word(alloc, head, word)?;
     goes_on(alloc, script.as_slice())

@@ -2,7 +2,7 @@
 
 ghost use Rattle.std.specs.Prelude.{ℕ, ◌≢◌, ◌<◌, List, IfOk, string_bytes};
 ghost use Rattle.script_lang.specs.declared.refusal.Why.{Why};
-ghost use Rattle.script_help.specs.Places.{IsPart, IsUnder};
+ghost use Rattle.script_help.specs.Places.{IsPartOf, IsWordStart};
 ghost use Rattle.script_help.specs.Shown.{Explains, IsEnded};
 
 use crate::causes::{cause, section};
@@ -115,7 +115,8 @@ fn told(alloc: Global, cause: &str, wanted: &Wanted, section: &str) -> Result<St
 /// A line with a caret under a column, and a text after them.
 fn joined(alloc: Global, text: &[u8], column: usize, told: &str) -> Result<String, AllocError>
     requires { IsEnded told.now }
-    ensures { (script : List ℕ) (why : Why) → IsPart text.now script → (why ≢ Why.NotText → IsUnder text.now column)
+    ensures { (script : List ℕ) (why : Why) → IsPartOf text.now script
+        → (why ≢ Why.NotText → IsWordStart text.now column)
         → IfOk result (λ out. Explains script why (string_bytes out)) }
 {
     let mut out = String::new(alloc);

@@ -3,7 +3,7 @@
 ghost use Rattle.std.specs.Prelude.{◌≡◌, ◌≤◌, ◌<◌, ◌-◌, length, false, All, IfOk, OnOk};
 ghost use Rattle.std.specs.List.{IsAfterLastMatch, slice_index_or};
 ghost use Rattle.script_lang.specs.Words.{is_blank};
-ghost use Rattle.script_help.specs.Places.{IsPart, IsHead};
+ghost use Rattle.script_help.specs.Places.{IsPartOf, IsHead};
 
 use std::alloc::{AllocError, Global};
 
@@ -44,7 +44,7 @@ fn before_feed(bytes: &[u8]) -> usize
 
 /// A line without the carriage return at its end.
 fn without_return(line: &[u8]) -> &[u8]
-    ensures { IsPart result.now line.now }
+    ensures { IsPartOf result.now line.now }
 {
     match line {
         [text @ .., b'\r'] => text,
@@ -54,7 +54,7 @@ fn without_return(line: &[u8]) -> &[u8]
 
 /// The first line, without its end, and the lines after it.
 pub fn first_line(bytes: &[u8]) -> (&[u8], &[u8])
-    ensures line { IsPart result.0.now bytes.now }
+    ensures line { IsPartOf result.0.now bytes.now }
     ensures shorter { 0 < length bytes.now → length result.1.now < length bytes.now }
 {
     let (line, rest) = bytes.split_at(before_feed(bytes));
@@ -67,7 +67,7 @@ pub fn first_line(bytes: &[u8]) -> (&[u8], &[u8])
 /// The lines before the one of this number, and its text.
 #[tactic(auto, using(crate::proofs::Fronts::part_behind))]
 pub fn line_at(script: &[u8], number: u32) -> (&[u8], &[u8])
-    ensures { IsPart result.1.now script.now }
+    ensures { IsPartOf result.1.now script.now }
 {
     let (before, rest) = script.split_at(line_start(script, number));
     (before, first_line(rest).0)

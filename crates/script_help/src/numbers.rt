@@ -1,7 +1,7 @@
 //! The numbers with which a line can continue. The greatest is found by halving.
 
 ghost use Rattle.std.specs.Prelude.{◌≡◌, ◌++◌, ◌<◌, ◌^◌, true, IfOk, IfSome, decimal, string_bytes};
-ghost use Rattle.script_help.specs.Asked.{HasWords, GoesOn, then_word};
+ghost use Rattle.script_help.specs.Asked.{HasWords, CanBeCompleted, then_word};
 
 use crate::asking::{find_tail, has_words, with_text, with_word};
 use std::alloc::{AllocError, Global};
@@ -71,8 +71,9 @@ fn greatest(alloc: Global, head: &[u8], tail: &str, some: u64) -> Result<String,
 /// The numbers by which a line can continue where this is one, if it is.
 fn numbers_round(alloc: Global, head: &[u8], some: u64) -> Result<Option<Numbers>, AllocError>
     requires { some < 2 ^ 63 }
-    ensures low { IfOk result (λ found. IfSome found (λ n. GoesOn (then_word head.now (string_bytes n.low)))) }
-    ensures high { IfOk result (λ found. IfSome found (λ n. GoesOn (then_word head.now (string_bytes n.high)))) }
+    ensures low { IfOk result (λ found. IfSome found (λ n. CanBeCompleted (then_word head.now (string_bytes n.low)))) }
+    ensures high { IfOk result
+        (λ found. IfSome found (λ n. CanBeCompleted (then_word head.now (string_bytes n.high)))) }
 {
     let word = spelled(alloc, some)?;
     let script = with_word(alloc, head, word.as_str())?;
@@ -86,8 +87,9 @@ fn numbers_round(alloc: Global, head: &[u8], some: u64) -> Result<Option<Numbers
 
 /// The numbers by which a line can continue, if there are some. Each range has one of those that are asked for first.
 pub fn numbers_at(alloc: Global, head: &[u8]) -> Result<Option<Numbers>, AllocError>
-    ensures low { IfOk result (λ found. IfSome found (λ n. GoesOn (then_word head.now (string_bytes n.low)))) }
-    ensures high { IfOk result (λ found. IfSome found (λ n. GoesOn (then_word head.now (string_bytes n.high)))) }
+    ensures low { IfOk result (λ found. IfSome found (λ n. CanBeCompleted (then_word head.now (string_bytes n.low)))) }
+    ensures high { IfOk result
+        (λ found. IfSome found (λ n. CanBeCompleted (then_word head.now (string_bytes n.high)))) }
 {
     if let Some(numbers) = numbers_round(alloc, head, 1)? {
         return Ok(Some(numbers));

@@ -3,8 +3,8 @@
 ghost use Rattle.std.specs.Prelude.{◌≡◌, ◌≢◌, ◌≤◌, ◌<◌, ◌-◌, ◌++◌, true, length, All, IfOk};
 ghost use Rattle.std.specs.List.{HoldsAt};
 ghost use Rattle.script_lang.specs.declared.refusal.Why.{Why};
-ghost use Rattle.script_help.specs.Asked.{GoesOn};
-ghost use Rattle.script_help.specs.Places.{IsHead, IsUnder};
+ghost use Rattle.script_help.specs.Asked.{CanBeCompleted};
+ghost use Rattle.script_help.specs.Places.{IsHead, IsWordStart};
 
 use crate::asking::goes_on;
 use crate::line::{first_line, first_word, heads, last_word, last_word_at};
@@ -58,7 +58,7 @@ fn bad_byte_at(text: &[u8]) -> usize
 
 /// Whether a script can continue after the lines of these counts and a part of its line.
 fn goes_on_behind(alloc: Global, counts: &[u8], head: &[u8]) -> Result<bool, AllocError>
-    ensures { IfOk result (λ yes. yes ≡ true → GoesOn (counts.now ++ head.now)) }
+    ensures { IfOk result (λ yes. yes ≡ true → CanBeCompleted (counts.now ++ head.now)) }
 {
     let mut script = Vec::from_slice(alloc, counts)?;
     script.extend_from_slice(head)?;
@@ -75,7 +75,7 @@ fn count_first(
     requires { most ≤ length heads.now }
     ensures within { IfOk result (λ count. count ≤ most) }
     ensures goes { IfOk result (λ count. 0 < count
-        → HoldsAt (λ head. GoesOn (counts.now ++ head.now)) heads.now (count - 1)) }
+        → HoldsAt (λ head. CanBeCompleted (counts.now ++ head.now)) heads.now (count - 1)) }
 {
     let mut good = 0;
     let mut bad = most;
@@ -139,7 +139,7 @@ fn count_further(
 fn count_readable(alloc: Global, counts: &[u8], heads: &[&[u8]]) -> Result<usize, AllocError>
     ensures within { IfOk result (λ count. count ≤ length heads.now) }
     ensures goes { IfOk result (λ count. 0 < count
-        → HoldsAt (λ head. GoesOn (counts.now ++ head.now)) heads.now (count - 1)) }
+        → HoldsAt (λ head. CanBeCompleted (counts.now ++ head.now)) heads.now (count - 1)) }
 {
     let first = count_first(alloc, counts, heads, heads.len().min(FEW))?;
     if first < FEW {
@@ -190,7 +190,7 @@ fn head_before<'a>(heads: &[&'a [u8]], number: usize) -> &'a [u8] {
 /// The place of the word of this number in a text, or the text's end.
 fn place_of<'a>(text: &'a [u8], heads: &[&'a [u8]], number: usize) -> TextPlace<'a>
     requires { All (λ head. IsHead text.now head.now) heads.now }
-    ensures { IsUnder text.now result.column }
+    ensures { IsWordStart text.now result.column }
 {
     let head = head_before(heads, number);
     if number < heads.len() {
@@ -222,7 +222,7 @@ pub fn find_place<'a>(
     text: &'a [u8],
     why: Why,
 ) -> Result<TextPlace<'a>, AllocError>
-    ensures { IfOk result (λ place. why ≢ Why.NotText → IsUnder text.now place.column) }
+    ensures { IfOk result (λ place. why ≢ Why.NotText → IsWordStart text.now place.column) }
 {
     if why == Why::NotText {
         return Ok(TextPlace {

@@ -1,7 +1,7 @@
 //! What would be right at a place of a line.
 
 ghost use Rattle.std.specs.Prelude.{ℕ, List, All, IfOk};
-ghost use Rattle.script_help.specs.Asked.{GoesOn, then_word};
+ghost use Rattle.script_help.specs.Asked.{CanBeCompleted, then_word};
 ghost use Rattle.script_help.specs.Wanted.{LeadsOn};
 
 use crate::asking::{goes_on_with, has_words};
@@ -56,8 +56,8 @@ fn with_words(
     head: &[u8],
     table: &[&'static str],
 ) -> Result<Vec<&'static str>, AllocError>
-    requires { All (λ word. GoesOn (then_word head.now word.now)) words.items }
-    ensures { IfOk result (λ words. All (λ word. GoesOn (then_word head.now word.now)) words.items) }
+    requires { All (λ word. CanBeCompleted (then_word head.now word.now)) words.items }
+    ensures { IfOk result (λ words. All (λ word. CanBeCompleted (then_word head.now word.now)) words.items) }
 {
     let mut words = words;
     for word in table {
@@ -78,7 +78,7 @@ fn ends_line(head: &[u8]) -> bool {
 
 /// The words by which a line can continue. Some are worth asking for only where it begins, the others only after that.
 fn words_at(alloc: Global, head: &[u8]) -> Result<Vec<&'static str>, AllocError>
-    ensures { IfOk result (λ words. All (λ word. GoesOn (then_word head.now word.now)) words.items) }
+    ensures { IfOk result (λ words. All (λ word. CanBeCompleted (then_word head.now word.now)) words.items) }
 {
     let words = Vec::new(alloc);
     if ends_line(head) {

@@ -16,7 +16,7 @@ use Rattle.script_lang.specs.declared.actors.Slot.{Slot}
 use Rattle.script_lang.specs.declared.script.PartScript.{PartScript}
 use Rattle.script_lang.specs.Forms.{partitions_of}
 use Rattle.script_lang.specs.Script.{Told, slot_at, empty_part, part_with, parts_with_list, parts_with_lists, config_of, script_of}
-use Rattle.script_lang.specs.Fit.{AreNumbered, StepsTo, StepsToEnds, IsSound, IsFit}
+use Rattle.script_lang.specs.Fit.{AreNumbered, StepsTo, StepsToEnds, IsScriptSound, IsFit}
 use Rattle.script_lang.proofs.Sound.{all-set-with, numbered-set}
 
 -- lists that can be run, of actors below this one, and each is stepped to its end
@@ -128,7 +128,7 @@ lists-step parts next actor after slots rest slot all is put steps count few rea
     )
 
 -- the script of lines of which this holds
-pub script-fits : (t : Told) → IsSound t → IsFit (script_of t)
+pub script-fits : (t : Told) → IsScriptSound t → IsFit (script_of t)
 script-fits t h =
     let config = config_of t.options in
     let count = partitions_of t.options in

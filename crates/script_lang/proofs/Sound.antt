@@ -20,7 +20,7 @@ use Rattle.script_lang.specs.declared.script.PartScript.{PartScript}
 use Rattle.script_lang.specs.Forms.{brokers_of}
 use Rattle.script_lang.specs.Limits.{AreSmall, size_of, none_so_far}
 use Rattle.script_lang.specs.Script.{Told, idle, slot_at, with_order, with_pace, with_fault, parts_stepped, empty_part, empty_parts, config_of, nothing_told}
-use Rattle.script_lang.specs.Fit.{AreNumbered, IsSaid, IsSaidTo, IsFormInRange, FitsBatch, AreCountsWith, IsSound}
+use Rattle.script_lang.specs.Fit.{AreNumbered, IsCommandInRange, IsSaidTo, IsFormInRange, FitsBatch, AreCountsWith, IsScriptSound}
 
 -- what holds of all items holds, or what follows from it, when one is changed
 pub all-set-with : {X : Type 0} (P Q : X → Type 0) (f : X → X) → ((x : X) → P x → Q x) → ((x : X) → P x → Q (f x)) → (xs : List X) (i : ℕ) (d : X) → All P xs → All Q (slice_set xs i (f (slice_index_or xs i d)))
@@ -58,7 +58,7 @@ stepped-empty : (parts : List PartScript) (at_once : Bool) (actor : ActorId) (nu
 stepped-empty parts false actor number partition h = h
 stepped-empty parts true actor number partition h = pace-empty parts partition _ h
 
-empty-of : (t : Told) → IsSound t → AreEmpty t.parts
+empty-of : (t : Told) → IsScriptSound t → AreEmpty t.parts
 empty-of t h = record { numbered = h.numbered; empty = h.empty; count = h.parts }
 
 one-more : (orders : List Order) (order : Order) (n : ℕ) → length orders ≤ n → length (orders ++ order ∷ []) ≤ n + 1
@@ -78,7 +78,7 @@ orders-order P (s ∷ ss) zero p o is h (suc a) = h (suc a)
 orders-order P (s ∷ ss) (suc k) p o is h zero = h 0
 orders-order P (s ∷ ss) (suc k) p o is h (suc a) = orders-order P ss k p o is (λ b. h (suc b)) a
 
-in-range : (command : Command) → IsSaid command → size_of command ≤ 1048576 → IsInRange command
+in-range : (command : Command) → IsCommandInRange command → size_of command ≤ 1048576 → IsInRange command
 in-range (Append recs) said fits = record { some = said; fits = fits }
 in-range (Raw bytes) said fits = fits
 in-range Flush said fits = tt
@@ -107,9 +107,9 @@ order-for : (options : Options) (order : Order) → IsSaidTo (brokers_of options
 order-for options order said fits = record { broker = said.broker; command = in-range order.command said.command fits }
 
 -- with an order
-pub sound-order : (t self : Told) (counts : Counts) (actor : ActorId) (partition : PartitionId) (order : Order) (at_once : Bool) (number : ℕ) → t ≡ self → IsSound t
+pub sound-order : (t self : Told) (counts : Counts) (actor : ActorId) (partition : PartitionId) (order : Order) (at_once : Bool) (number : ℕ) → t ≡ self → IsScriptSound t
     → IsFormInRange self.options (Placed actor partition order at_once) → AreCountsWith self.sums (Placed actor partition order at_once) counts → FitsBatch (Placed actor partition order at_once)
-    → IsSound (record { options = t.options; begun = true; sums = counts; actors = with_order t.actors actor.0 partition order; parts = parts_stepped t.parts at_once actor number partition.0 })
+    → IsScriptSound (record { options = t.options; begun = true; sums = counts; actors = with_order t.actors actor.0 partition order; parts = parts_stepped t.parts at_once actor number partition.0 })
 sound-order t self counts actor partition order at_once number is h range with fits =
     let said : IsSaidTo (brokers_of t.options) order = rw is (range.1) in
     let count : counts.commands ≡ t.sums.commands + 1 = rw is (with.commands) in
@@ -127,8 +127,8 @@ sound-order t self counts actor partition order at_once number is h range with f
     }
 
 -- with turns
-pub sound-turns : (t self : Told) (counts : Counts) (actor : ActorId) (turns partition : ℕ) → t ≡ self → IsSound t → AreCountsWith self.sums (Turn actor turns) counts
-    → IsSound (record { options = t.options; begun = true; sums = counts; actors = t.actors; parts = with_pace t.parts partition (Times actor turns) })
+pub sound-turns : (t self : Told) (counts : Counts) (actor : ActorId) (turns partition : ℕ) → t ≡ self → IsScriptSound t → AreCountsWith self.sums (Turn actor turns) counts
+    → IsScriptSound (record { options = t.options; begun = true; sums = counts; actors = t.actors; parts = with_pace t.parts partition (Times actor turns) })
 sound-turns t self counts actor turns partition is h with =
     let count : counts.commands ≡ t.sums.commands + 0 = rw is (with.commands) in
     let empty = pace-empty t.parts partition (Times actor turns) (empty-of t h) in
@@ -145,8 +145,8 @@ sound-turns t self counts actor turns partition is h with =
     }
 
 -- with a fault
-pub sound-fault : (t : Told) (partition : ℕ) (fault : Fault) → IsSound t
-    → IsSound (record { options = t.options; begun = true; sums = t.sums; actors = t.actors; parts = with_fault t.parts partition fault })
+pub sound-fault : (t : Told) (partition : ℕ) (fault : Fault) → IsScriptSound t
+    → IsScriptSound (record { options = t.options; begun = true; sums = t.sums; actors = t.actors; parts = with_fault t.parts partition fault })
 sound-fault t partition fault h =
     let empty = fault-empty t.parts partition fault (empty-of t h) in
     record {
@@ -175,7 +175,7 @@ lists-empty n zero = All-nil (λ (part : PartScript). part.lists ≡ [])
 lists-empty n (suc count) = All-cons (λ (part : PartScript). part.lists ≡ []) (empty_part n) (empty_parts (n + 1) count) refl (lists-empty (n + 1) count)
 
 -- with no line
-pub sound-new : AreSmall none_so_far → IsSound nothing_told
+pub sound-new : AreSmall none_so_far → IsScriptSound nothing_told
 sound-new small = record {
   options = record {
     brokers = (omega arith, omega arith);

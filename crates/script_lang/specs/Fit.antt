@@ -46,18 +46,18 @@ pub record IsFit (script : Script) : Type 0 where
   pub ends : All StepsToEnds script.parts
 
 -- a command's numbers are in range, and an append has records
-abbrev pub IsSaid : Command → Type 0
-IsSaid (Append recs) = 0 < length recs
-IsSaid (Follow limit) = limit ≤ 2147483647
-IsSaid (Raise start) = start ≤ 4611686018427387904
-IsSaid (Clock ms) = (pos 0 ≤ℤ ms) × (ms <ℤ pos (2 ^ 63))
-IsSaid (Fetch offset limit) = (offset ≤ 4611686018427387904) × (limit ≤ 2147483647)
-IsSaid other = Unit {0}
+abbrev pub IsCommandInRange : Command → Type 0
+IsCommandInRange (Append recs) = 0 < length recs
+IsCommandInRange (Follow limit) = limit ≤ 2147483647
+IsCommandInRange (Raise start) = start ≤ 4611686018427387904
+IsCommandInRange (Clock ms) = (pos 0 ≤ℤ ms) × (ms <ℤ pos (2 ^ 63))
+IsCommandInRange (Fetch offset limit) = (offset ≤ 4611686018427387904) × (limit ≤ 2147483647)
+IsCommandInRange other = Unit {0}
 
 -- the order is to a broker that there is
 pub record IsSaidTo (brokers : ℕ) (order : Order) : Type 0 where
   pub broker : order.broker.0 < brokers
-  pub command : IsSaid order.command
+  pub command : IsCommandInRange order.command
 
 -- an option that worlds are made with is in its range
 abbrev pub IsOptionInRange : OptionLine → Type 0
@@ -98,7 +98,7 @@ pub record AreInRange (options : Options) : Type 0 where
   pub interval : index_interval_of options ≤ 16777216
 
 -- what holds of the lines so far
-pub record IsSound (t : Told) : Type 0 where
+pub record IsScriptSound (t : Told) : Type 0 where
   pub options : AreInRange t.options
   pub small : AreSmall t.sums
   pub few : (a : ℕ) → length (slot_at t.actors a).orders ≤ t.sums.commands

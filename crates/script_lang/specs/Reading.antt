@@ -11,10 +11,10 @@ use Rattle.script_lang.specs.declared.refusal.ScriptRefusal.TheVariants.{Bad, No
 use Rattle.script_lang.specs.Words.{parts_of}
 
 -- what is returned for this result. Only being out of memory is unspecified
-abbrev pub Reads : {A : Type 0} → Result A LineRefusal → Result A Why → Type 0
-Reads (Ok x) reading = reading ≡ Ok x
-Reads (Err (Because why)) reading = reading ≡ Err why
-Reads (Err NoMemory) reading = Unit {0}
+abbrev pub AnswersReading : {A : Type 0} → Result A LineRefusal → Result A Why → Type 0
+AnswersReading (Ok x) reading = reading ≡ Ok x
+AnswersReading (Err (Because why)) reading = reading ≡ Err why
+AnswersReading (Err NoMemory) reading = Unit {0}
 
 -- the same of the line with this number, as a script's refusal reports it
 abbrev pub ReadsLine : {A : Type 0} → ℕ → Result A ScriptRefusal → Result A Why → Type 0

@@ -1,10 +1,10 @@
 //! Reading a command: its name and its arguments.
 
 ghost use Rattle.std.specs.Prelude.{◌≡◌, ◌≢◌, ◌<◌, length, IfOk};
-ghost use Rattle.script_lang.specs.Reading.{Reads};
+ghost use Rattle.script_lang.specs.Reading.{AnswersReading};
 ghost use Rattle.script_lang.specs.Commands.{alone, append_in, raw_in, fetch_in, follow_in, raise_in, which_behind};
 ghost use Rattle.script_lang.specs.Commands.{offset_in, clock_in, flag_in, command_led, common_led};
-ghost use Rattle.script_lang.specs.Fit.{IsSaid};
+ghost use Rattle.script_lang.specs.Fit.{IsCommandInRange};
 
 use crate::names::{OffsetName, Verb, find_offset};
 use crate::records::{hex, records};
@@ -18,8 +18,8 @@ use tier_base::Blob;
 /// Reads the records of an append.
 #[tactic(auto, unfolding(crate::specs::Commands::append_in))]
 fn append(alloc: Global, words: Words) -> Result<Command, LineRefusal>
-    ensures value { Reads result (append_in words.entry) }
-    ensures said { IfOk result IsSaid }
+    ensures value { AnswersReading result (append_in words.entry) }
+    ensures said { IfOk result IsCommandInRange }
 {
     let recs = records(alloc, words)?;
     if recs.is_empty() {
@@ -38,8 +38,8 @@ fn share(blob: Blob) -> Result<Bytes, AllocError>
 /// Reads the bytes of raw.
 #[tactic(auto, unfolding(crate::specs::Commands::raw_in))]
 fn raw(alloc: Global, words: Words) -> Result<Command, LineRefusal>
-    ensures value { Reads result (raw_in words.entry) }
-    ensures said { IfOk result IsSaid }
+    ensures value { AnswersReading result (raw_in words.entry) }
+    ensures said { IfOk result IsCommandInRange }
 {
     let mut words = words;
     let bytes = hex(alloc, words.first(Why::Word)?, Why::Hex)?;
@@ -51,7 +51,7 @@ fn raw(alloc: Global, words: Words) -> Result<Command, LineRefusal>
 #[tactic(auto, unfolding(crate::specs::Commands::fetch_in))]
 fn fetch(words: Words) -> Result<Command, Why>
     ensures value { result ≡ fetch_in words.entry }
-    ensures said { IfOk result IsSaid }
+    ensures said { IfOk result IsCommandInRange }
 {
     let mut words = words;
     let offset = words.number(0, 1 << 62)?;
@@ -63,7 +63,7 @@ fn fetch(words: Words) -> Result<Command, Why>
 #[tactic(auto, unfolding(crate::specs::Commands::follow_in))]
 fn follow(words: Words) -> Result<Command, Why>
     ensures value { result ≡ follow_in words.entry }
-    ensures said { IfOk result IsSaid }
+    ensures said { IfOk result IsCommandInRange }
 {
     let limit = words.only_number(0, (1 << 31) - 1)? as u32;
     Ok(Command::Follow { limit })
@@ -73,7 +73,7 @@ fn follow(words: Words) -> Result<Command, Why>
 #[tactic(auto, unfolding(crate::specs::Commands::raise_in))]
 fn raise(words: Words) -> Result<Command, Why>
     ensures value { result ≡ raise_in words.entry }
-    ensures said { IfOk result IsSaid }
+    ensures said { IfOk result IsCommandInRange }
 {
     let start = words.only_number(0, 1 << 62)?;
     Ok(Command::Raise { start })
@@ -105,7 +105,7 @@ fn which(name: OffsetName, words: Words) -> Result<Which, Why>
 #[tactic(auto, unfolding(crate::specs::Commands::offset_in))]
 fn offset(words: Words) -> Result<Command, Why>
     ensures value { result ≡ offset_in words.entry }
-    ensures said { IfOk result IsSaid }
+    ensures said { IfOk result IsCommandInRange }
 {
     let mut words = words;
     let name = find_offset(words.first(Why::Word)?);
@@ -116,7 +116,7 @@ fn offset(words: Words) -> Result<Command, Why>
 #[tactic(auto, unfolding(crate::specs::Commands::clock_in))]
 fn clock(words: Words) -> Result<Command, Why>
     ensures value { result ≡ clock_in words.entry }
-    ensures said { IfOk result IsSaid }
+    ensures said { IfOk result IsCommandInRange }
 {
     let ms = words.only_number(0, (1 << 63) - 1)? as i64;
     Ok(Command::Clock { ms })
@@ -132,9 +132,9 @@ fn flag(words: Words) -> Result<bool, Why>
 
 /// Reads a command without arguments.
 fn alone(command: Command, words: Words) -> Result<Command, Why>
-    requires { IsSaid command }
+    requires { IsCommandInRange command }
     ensures value { result ≡ alone command words.entry }
-    ensures said { IfOk result IsSaid }
+    ensures said { IfOk result IsCommandInRange }
 {
     words.end(Why::Word)?;
     Ok(command)
@@ -145,7 +145,7 @@ fn small(verb: Verb, words: Words) -> Result<Command, Why>
     requires records { verb ≢ Verb.Append }
     requires bytes { verb ≢ Verb.Raw }
     ensures value { result ≡ command_led verb words.entry }
-    ensures said { IfOk result IsSaid }
+    ensures said { IfOk result IsCommandInRange }
 {
     match verb {
         Verb::Flush => alone(Command::Flush, words),
@@ -172,8 +172,8 @@ fn small(verb: Verb, words: Words) -> Result<Command, Why>
 
 /// Reads a command that goes to a broker.
 pub fn command(alloc: Global, verb: Verb, words: Words) -> Result<Command, LineRefusal>
-    ensures value { Reads result (command_led verb words.entry) }
-    ensures said { IfOk result IsSaid }
+    ensures value { AnswersReading result (command_led verb words.entry) }
+    ensures said { IfOk result IsCommandInRange }
 {
     match verb {
         Verb::Append => append(alloc, words),
@@ -185,7 +185,7 @@ pub fn command(alloc: Global, verb: Verb, words: Words) -> Result<Command, LineR
 /// Reads a command of the whole partition.
 pub fn common(verb: Verb, words: Words) -> Result<Command, Why>
     ensures value { result ≡ common_led verb words.entry }
-    ensures said { IfOk result IsSaid }
+    ensures said { IfOk result IsCommandInRange }
 {
     match verb {
         Verb::Clock => clock(words),

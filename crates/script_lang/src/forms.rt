@@ -1,7 +1,7 @@
 //! Reading a line: its first word decides which form the others have.
 
 ghost use Rattle.std.specs.Prelude.{◌≡◌, ◌-◌, ◌<◌, ◌≤◌, Ok, IfOk};
-ghost use Rattle.script_lang.specs.Reading.{Reads};
+ghost use Rattle.script_lang.specs.Reading.{AnswersReading};
 ghost use Rattle.script_lang.specs.Forms.{brokers_of, partitions_of, common_in, addressed_in, order_in, placed_in};
 ghost use Rattle.script_lang.specs.Forms.{later_in, turn_in, form_led, form_in};
 ghost use Rattle.script_lang.specs.Fit.{IsSaidTo, IsFormInRange};
@@ -42,7 +42,7 @@ fn addressed_order(
     words: Words,
 ) -> Result<Order, LineRefusal>
     requires { 1 ≤ brokers }
-    ensures value { Reads result (addressed_in brokers word.now words.entry) }
+    ensures value { AnswersReading result (addressed_in brokers word.now words.entry) }
     ensures said { IfOk result (IsSaidTo brokers) }
 {
     let mut words = words;
@@ -58,7 +58,7 @@ fn addressed_order(
 #[tactic(auto, unfolding(crate::specs::Forms::order_in))]
 fn order(alloc: Global, brokers: u16, words: Words) -> Result<Order, LineRefusal>
     requires { 1 ≤ brokers }
-    ensures value { Reads result (order_in brokers words.entry) }
+    ensures value { AnswersReading result (order_in brokers words.entry) }
     ensures said { IfOk result (IsSaidTo brokers) }
 {
     let mut words = words;
@@ -80,7 +80,7 @@ fn placed(
 ) -> Result<Form, LineRefusal>
     requires actor { actor.0 < 64 }
     requires brokers { 1 ≤ brokers_of options }
-    ensures value { Reads result (placed_in options at_once actor.0 words.entry) }
+    ensures value { AnswersReading result (placed_in options at_once actor.0 words.entry) }
     ensures range { IfOk result (IsFormInRange options) }
 {
     let mut words = words;
@@ -99,7 +99,7 @@ fn placed(
 #[tactic(auto, unfolding(crate::specs::Forms::later_in))]
 fn later(alloc: Global, options: Options, words: Words) -> Result<Form, LineRefusal>
     requires { 1 ≤ brokers_of options }
-    ensures value { Reads result (later_in options words.entry) }
+    ensures value { AnswersReading result (later_in options words.entry) }
     ensures range { IfOk result (IsFormInRange options) }
 {
     let mut words = words;
@@ -128,7 +128,7 @@ fn form_behind(
     words: Words,
 ) -> Result<Form, LineRefusal>
     requires { 1 ≤ brokers_of options }
-    ensures value { Reads result (form_led options lead word.now words.entry) }
+    ensures value { AnswersReading result (form_led options lead word.now words.entry) }
     ensures range { IfOk result (IsFormInRange options) }
 {
     let option = match lead {
@@ -164,7 +164,7 @@ fn form_behind(
 /// Reads the words of a line.
 pub fn form(alloc: Global, options: Options, words: Words) -> Result<Form, LineRefusal>
     requires { 1 ≤ brokers_of options }
-    ensures value { Reads result (form_in options words.entry) }
+    ensures value { AnswersReading result (form_in options words.entry) }
     ensures range { IfOk result (IsFormInRange options) }
 {
     let mut words = words;

@@ -2,7 +2,7 @@
 
 ghost use Rattle.std.specs.Prelude.{◌≡◌, ◌||◌, ◌==◌, [], IfOk};
 ghost use Rattle.std.specs.List.{list_all};
-ghost use Rattle.script_lang.specs.Reading.{Reads};
+ghost use Rattle.script_lang.specs.Reading.{AnswersReading};
 ghost use Rattle.script_lang.specs.Records.{is_letter, is_name_byte, hex_in, value_in, field_in, header_in};
 ghost use Rattle.script_lang.specs.Records.{headers_in, record_in, records_in};
 
@@ -36,7 +36,7 @@ fn is_name(bytes: &[u8]) -> bool
 /// Reads hexadecimal digits.
 #[tactic(auto, unfolding(crate::specs::Records::hex_in))]
 pub fn hex(alloc: Global, digits: &[u8], why: Why) -> Result<Blob, LineRefusal>
-    ensures { Reads result (hex_in digits.now why) }
+    ensures { AnswersReading result (hex_in digits.now why) }
 {
     match hex::decode(alloc, digits) {
         Ok(bytes) => Ok(Blob::from_vec(bytes)),
@@ -48,7 +48,7 @@ pub fn hex(alloc: Global, digits: &[u8], why: Why) -> Result<Blob, LineRefusal>
 /// Reads a value: a name, or hexadecimal digits.
 #[tactic(auto, unfolding(crate::specs::Records::value_in))]
 fn value(alloc: Global, word: &[u8]) -> Result<Blob, LineRefusal>
-    ensures { Reads result (value_in word.now) }
+    ensures { AnswersReading result (value_in word.now) }
 {
     match word {
         [b':', bytes @ ..] => {
@@ -65,7 +65,7 @@ fn value(alloc: Global, word: &[u8]) -> Result<Blob, LineRefusal>
 /// Reads a value, or `-` for none.
 #[tactic(auto, unfolding(crate::specs::Records::field_in))]
 fn field(alloc: Global, word: &[u8]) -> Result<Option<Blob>, LineRefusal>
-    ensures { Reads result (field_in word.now) }
+    ensures { AnswersReading result (field_in word.now) }
 {
     if is(word, "-") {
         return Ok(None);
@@ -76,7 +76,7 @@ fn field(alloc: Global, word: &[u8]) -> Result<Option<Blob>, LineRefusal>
 /// Reads a header.
 #[tactic(auto, unfolding(crate::specs::Records::header_in))]
 fn header(alloc: Global, word: &[u8]) -> Result<Header, LineRefusal>
-    ensures { Reads result (header_in word.now) }
+    ensures { AnswersReading result (header_in word.now) }
 {
     let mut parts = Fields::of(word, b'=');
     let key = value(alloc, parts.first(Why::Field)?)?;
@@ -87,7 +87,7 @@ fn header(alloc: Global, word: &[u8]) -> Result<Header, LineRefusal>
 
 /// Reads the headers in the parts that are left.
 fn headers(alloc: Global, parts: Fields) -> Result<HeaderList, LineRefusal>
-    ensures { Reads result (headers_in [] parts.entry) }
+    ensures { AnswersReading result (headers_in [] parts.entry) }
 {
     let mut parts = parts;
     let mut headers = HeaderList::new(alloc);
@@ -100,7 +100,7 @@ fn headers(alloc: Global, parts: Fields) -> Result<HeaderList, LineRefusal>
 /// Reads a record.
 #[tactic(auto, unfolding(crate::specs::Records::record_in))]
 fn record(alloc: Global, word: &[u8]) -> Result<Rec, LineRefusal>
-    ensures { Reads result (record_in word.now) }
+    ensures { AnswersReading result (record_in word.now) }
 {
     let mut parts = Fields::of(word, b',');
     let ts = number(parts.first(Why::Field)?, 0, (1 << 63) - 1, Why::Field)? as i64;
@@ -117,7 +117,7 @@ fn record(alloc: Global, word: &[u8]) -> Result<Rec, LineRefusal>
 
 /// Reads the records in the words that are left.
 pub fn records(alloc: Global, words: Words) -> Result<Row<Rec>, LineRefusal>
-    ensures { Reads result (records_in [] words.entry) }
+    ensures { AnswersReading result (records_in [] words.entry) }
 {
     let mut words = words;
     let mut recs = Row::new(alloc);

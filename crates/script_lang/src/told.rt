@@ -4,7 +4,7 @@
 //! the limits; then it is added to the lines so far. The causes of each step come before those of the next.
 
 ghost use Rattle.std.specs.Prelude.{◌≡◌, ◌<◌, false, Ok, IfOk, OnOk};
-ghost use Rattle.script_lang.specs.Reading.{Reads};
+ghost use Rattle.script_lang.specs.Reading.{AnswersReading};
 ghost use Rattle.script_lang.specs.declared.form.Form.{Form};
 ghost use Rattle.script_lang.specs.Script.{nothing_told, same_partition, known_actor, may_stand, sums_with};
 ghost use Rattle.script_lang.specs.Script.{told_with, form_behind, line_behind, script_of, segment_bytes_of, slot_at};
@@ -38,7 +38,7 @@ pub struct Told {
 
 impl Model for Told {
     ghost use Rattle.script_lang.specs.Script.{Told as SpecTold};
-    ghost use Rattle.script_lang.specs.Fit.{IsSound};
+    ghost use Rattle.script_lang.specs.Fit.{IsScriptSound};
 
     ghost Value = { SpecTold };
 
@@ -50,7 +50,7 @@ impl Model for Told {
       parts = t.partitions;
     } };
 
-    ghost invariant = { λ t. IsSound (record {
+    ghost invariant = { λ t. IsScriptSound (record {
       options = t.options;
       begun = t.begun;
       sums = t.counts;
@@ -216,7 +216,7 @@ impl Told {
     #[tactic(auto, unfolding(crate::specs::Script::form_behind))]
     fn try_form(self, form: Form) -> Result<Told, LineRefusal>
         requires { IsFormInRange self.options form }
-        ensures { Reads result (form_behind self form) }
+        ensures { AnswersReading result (form_behind self form) }
     {
         self.allow(&form)?;
         let counts = self.count(&form)?;
@@ -226,7 +226,7 @@ impl Told {
     /// Reads a line.
     #[tactic(auto, unfolding(crate::specs::Script::line_behind))]
     pub fn with_line(self, alloc: Global, line: &[u8]) -> Result<Told, LineRefusal>
-        ensures { Reads result (line_behind self line.now) }
+        ensures { AnswersReading result (line_behind self line.now) }
     {
         let form = form(alloc, self.options, Words::of(text(line)?))?;
         self.try_form(form)

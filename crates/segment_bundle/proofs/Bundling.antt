@@ -6,7 +6,7 @@ use Rattle.sparse_index.specs.Offsets.{OffsetTable, entry_bytes}
 use Rattle.sparse_index.specs.Times.{TimeTable, moment_bytes}
 use Rattle.epoch_line.specs.Line.{cut_end}
 use Rattle.epoch_line.specs.Text.{text_of}
-use Rattle.segment_file.specs.Closed.{Whole, IsWhole, AreIndexes}
+use Rattle.segment_file.specs.Closed.{ClosedSegment, IsWholeSegment, AreIndexes}
 use Rattle.segment_file.specs.Segment.{IsSegment}
 use Rattle.segment_file.proofs.Joining.{segment_same}
 use Rattle.segment_bundle.specs.Parts.{Parts, first_offset, parts_from, parts_of, Bundled, IsBundle}
@@ -23,8 +23,8 @@ made_same : {a b c d a' b' c' d' : List ℕ} → a ≡ a' → b ≡ b' → c ≡
 made_same e f g h = rw (e, f, g, h) refl
 
 -- the parts that were made are the definition's
-pub parts_made : (segment : Whole) (line : List (ℕ × ℕ)) (interval : ℕ) (offsets : OffsetTable) (moments : TimeTable) (log index times epochs : List ℕ)
-    → (w : IsWhole segment) → AreIndexes segment.base segment.bytes interval offsets moments
+pub parts_made : (segment : ClosedSegment) (line : List (ℕ × ℕ)) (interval : ℕ) (offsets : OffsetTable) (moments : TimeTable) (log index times epochs : List ℕ)
+    → (w : IsWholeSegment segment) → AreIndexes segment.base segment.bytes interval offsets moments
     → log ≡ segment.bytes → index ≡ bytes_of entry_bytes offsets.entries → times ≡ bytes_of moment_bytes moments.entries → epochs ≡ text_of (cut_end line (segment.last + 1))
     → made log index times epochs ≡ parts_of w.batches line interval
 parts_made segment line interval offsets moments log index times epochs w indexes log-is index-is times-is epochs-is =
@@ -37,13 +37,13 @@ parts_made segment line interval offsets moments log index times epochs w indexe
     all ∙ ap (λ n. parts_from n w.batches line interval) first
 
 -- in whatever way the segment's bytes are read
-pub parts_read : (segment : Whole) (line : List (ℕ × ℕ)) (interval : ℕ) (parts : Parts) (w : IsWhole segment) → parts ≡ parts_of w.batches line interval
+pub parts_read : (segment : ClosedSegment) (line : List (ℕ × ℕ)) (interval : ℕ) (parts : Parts) (w : IsWholeSegment segment) → parts ≡ parts_of w.batches line interval
     → (batches : List (List ℕ)) → IsSegment segment.base batches → segment.bytes ≡ joined batches → parts ≡ parts_of batches line interval
 parts_read segment line interval parts w is batches s bytes-are =
     is ∙ ap (λ bs. parts_of bs line interval) (segment_same segment.base segment.base w.batches batches w.is s (sym w.bytes_are ∙ bytes-are))
 
 -- a bundle of them
-pub is_bundle : (segment : Whole) (bundle : Bundled) (w : IsWhole segment) → bundle.source ≡ segment.bytes → bundle.parts ≡ parts_of w.batches bundle.line bundle.interval → IsBundle bundle
+pub is_bundle : (segment : ClosedSegment) (bundle : Bundled) (w : IsWholeSegment segment) → bundle.source ≡ segment.bytes → bundle.parts ≡ parts_of w.batches bundle.line bundle.interval → IsBundle bundle
 is_bundle segment bundle w source parts = record {
   batches = w.batches;
   some = w.some;

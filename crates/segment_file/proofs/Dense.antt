@@ -12,7 +12,7 @@ use Rattle.log_terms.specs.Log.{joined}
 use Rattle.sparse_index.specs.Entries.{last_of}
 use Rattle.segment_file.specs.declared.placed.Placed.{Placed}
 use Rattle.segment_file.specs.Index.{Marks, placed, placed_from, begun_at, is_due, time_of, with_time, raised, unmarked, marked, marked_by, index_of, time_index_of}
-use Rattle.segment_file.specs.Density.{IsNear}
+use Rattle.segment_file.specs.Density.{HasEntryNear}
 use Rattle.segment_file.proofs.Placing.{placed_append, placed_size}
 use Rattle.segment_file.proofs.Laying.{marked_append, marked_size, last_push}
 
@@ -43,18 +43,18 @@ low_all base interval marks (batch ∷ batches) low =
     (low_step base interval marks (placed marks.size batch) (omega arith) low)
 
 -- a batch has an entry near, as soon as it is marked
-near_step : (base interval : ℕ) (marks : Marks) (one : Placed) → IsLow marks → IsNear interval (marked base interval marks one).entries marks.size
+near_step : (base interval : ℕ) (marks : Marks) (one : Placed) → IsLow marks → HasEntryNear interval (marked base interval marks one).entries marks.size
 near_step base interval marks one low = go (is_due interval marks.entries marks.size) refl
   where
     old : (last : Option (ℕ × ℕ)) → last_of marks.entries ≡ last → begun_at last ≤ marks.size
-        → nat_lt interval (marks.size - begun_at last) ≡ false → IsNear interval marks.entries marks.size
+        → nat_lt interval (marks.size - begun_at last) ≡ false → HasEntryNear interval marks.entries marks.size
     old None e l due = let low = ltb-false interval (marks.size - 0) due in inl (omega (arith, low))
     old (Some entry) e l due =
         let low = ltb-false interval (marks.size - entry.1) due in
         inr (entry, (contains_last marks.entries entry e, (l, omega (arith, l, low))))
 
     go : (t : Bool) → is_due interval marks.entries marks.size ≡ t
-        → IsNear interval (cond t (marks.entries ++ (one.last - base, marks.size) ∷ []) marks.entries) marks.size
+        → HasEntryNear interval (cond t (marks.entries ++ (one.last - base, marks.size) ∷ []) marks.entries) marks.size
     go true e =
         inr (
           (one.last - base, marks.size),
@@ -63,16 +63,16 @@ near_step base interval marks one low = go (is_due interval marks.entries marks.
     go false e = old (last_of marks.entries) refl low e
 
 -- and keeps it
-near_append : (bytes at : ℕ) (entries more : List (ℕ × ℕ)) → IsNear bytes entries at → IsNear bytes (entries ++ more) at
+near_append : (bytes at : ℕ) (entries more : List (ℕ × ℕ)) → HasEntryNear bytes entries at → HasEntryNear bytes (entries ++ more) at
 near_append bytes at entries more (inl first) = inl first
 near_append bytes at entries more (inr near) = inr (near.0, (Contains-append_left entries more near.0 near.1.0, near.1.1))
 
-near_kept : (base interval at : ℕ) (marks : Marks) (batches : List Placed) → IsNear interval marks.entries at → IsNear interval (marked_by base interval marks batches).entries at
+near_kept : (base interval at : ℕ) (marks : Marks) (batches : List Placed) → HasEntryNear interval marks.entries at → HasEntryNear interval (marked_by base interval marks batches).entries at
 near_kept base interval at marks [] near = near
 near_kept base interval at marks (one ∷ batches) near =
     near_kept base interval at (marked base interval marks one) batches (go (is_due interval marks.entries marks.size))
   where
-    go : (t : Bool) → IsNear interval (cond t (marks.entries ++ (one.last - base, marks.size) ∷ []) marks.entries) at
+    go : (t : Bool) → HasEntryNear interval (cond t (marks.entries ++ (one.last - base, marks.size) ∷ []) marks.entries) at
     go true = near_append interval at marks.entries _ near
     go false = near
 
@@ -87,16 +87,16 @@ parted_marks base interval front rest batch =
     ∙ marked_append base interval (unmarked base) (placed_from 0 front) (placed_from (0 + length (joined front)) (batch ∷ rest))
 
 pub each_near : (base interval : ℕ) (front rest : List (List ℕ)) (batch : List ℕ)
-    → IsNear interval (index_of base interval (placed_from 0 (front ++ batch ∷ rest))).entries (length (joined front))
+    → HasEntryNear interval (index_of base interval (placed_from 0 (front ++ batch ∷ rest))).entries (length (joined front))
 each_near base interval front rest batch =
     let marks = marked_by base interval (unmarked base) (placed_from 0 front) in
     let one = placed (0 + length (joined front)) batch in
     let size : marks.size ≡ 0 + length (joined front) = marked_size base interval (unmarked base) (placed_from 0 front) ∙ placed_size 0 front in
     let place : marks.size ≡ length (joined front) = omega (arith, size) in
     let near = near_step base interval marks one (low_all base interval (unmarked base) front (omega arith)) in
-    subst (λ (m : Marks). IsNear interval m.entries (length (joined front))) (sym (parted_marks base interval front rest batch))
+    subst (λ (m : Marks). HasEntryNear interval m.entries (length (joined front))) (sym (parted_marks base interval front rest batch))
     (near_kept base interval (length (joined front)) (marked base interval marks one) (placed_from (0 + length (joined front) + length batch) rest)
-    (subst (λ (n : ℕ). IsNear interval (marked base interval marks one).entries n) place near))
+    (subst (λ (n : ℕ). HasEntryNear interval (marked base interval marks one).entries n) place near))
 
 -- the greatest timestamp is at or above each
 pub above_old : (top : ℤ × ℕ) (one : Placed) → top.0 ≤ℤ (raised top one).0

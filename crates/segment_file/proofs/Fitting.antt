@@ -5,7 +5,7 @@ use Rattle.std.specs.List.Sorted.{IsPartitionPoint, IsPartitionedBy, IsNonDecrea
 use Rattle.std.proofs.lemmas.List.{take-append-drop}
 use Rattle.std.proofs.lemmas.List.Sorted.{IsPartitionedBy-ltb, IsPartitionedBy-leb, IsNonDecreasingBy-from_all_adjacent}
 use Rattle.segment_file.specs.declared.placed.Placed.{Placed}
-use Rattle.segment_file.specs.Growing.{end_after, size_after, ending_by, AreLaid}
+use Rattle.segment_file.specs.Growing.{end_after, size_after, ending_by, AreBatchesLaid}
 use Rattle.segment_file.specs.Reach.{fitting, run_reach}
 use Rattle.segment_file.proofs.Laying.{lasts-rise, rest-point, laid_parts, end_up, size_up, end_append, size_append}
 
@@ -22,17 +22,17 @@ both_true : (a b : Bool) → a ≡ true → b ≡ true → (a && b) ≡ true
 both_true true b h k = k
 both_true false b h k = absurd (cc (h))
 
-tos-adjacent : (first at : ℕ) (batches : List Placed) (k : ℕ) (d : Placed) → AreLaid first at batches → suc k < length batches → (get_or batches k d).to ≤ (get_or batches (suc k) d).to
+tos-adjacent : (first at : ℕ) (batches : List Placed) (k : ℕ) (d : Placed) → AreBatchesLaid first at batches → suc k < length batches → (get_or batches k d).to ≤ (get_or batches (suc k) d).to
 tos-adjacent first at [] k d laid l = absurd (omega (arith, l))
 tos-adjacent first at (one ∷ []) k d laid l = absurd (omega (arith, l))
 tos-adjacent first at (one ∷ two ∷ batches) zero d laid l = omega (arith, laid.2.1)
 tos-adjacent first at (one ∷ two ∷ batches) (suc k) d laid l = tos-adjacent (one.last + 1) one.to (two ∷ batches) k d laid.2 (omega (arith, l))
 
-tos-rise : (first at : ℕ) (batches : List Placed) → AreLaid first at batches → IsNonDecreasingBy (λ (b : Placed). b.to) batches
+tos-rise : (first at : ℕ) (batches : List Placed) → AreBatchesLaid first at batches → IsNonDecreasingBy (λ (b : Placed). b.to) batches
 tos-rise first at batches laid = IsNonDecreasingBy-from_all_adjacent (λ (b : Placed). b.to) batches (λ k d l. rw add-one (tos-adjacent first at batches k d laid (omega (arith, l))))
 
 -- those that fit come first
-pub fits-parted : (first at bound top : ℕ) (batches : List Placed) → AreLaid first at batches → IsPartitionedBy (fits bound top) batches
+pub fits-parted : (first at bound top : ℕ) (batches : List Placed) → AreBatchesLaid first at batches → IsPartitionedBy (fits bound top) batches
 fits-parted first at bound top batches laid = λ i j d le lt both.
     let b = and_both _ _ both in
     both_true _ _
@@ -89,7 +89,7 @@ reach_on bound top end at (b ∷ bs) l lt = go (fits bound top b) refl (reach_on
         rw (e, t) refl
 
 -- what is needed doesn't end before it begins
-pub run_up : (bound top end at : ℕ) (batches : List Placed) → AreLaid end at batches → at ≤ run_reach bound top end at batches
+pub run_up : (bound top end at : ℕ) (batches : List Placed) → AreBatchesLaid end at batches → at ≤ run_reach bound top end at batches
 run_up bound top end at [] laid = omega arith
 run_up bound top end at (b ∷ bs) laid = go (fits bound top b) refl (run_up bound top (b.last + 1) b.to bs laid.2)
   where
@@ -103,14 +103,14 @@ run_up bound top end at (b ∷ bs) laid = go (fits bound top b) refl (run_up bou
 
 -- what follows the batches that end by an offset
 pub record Behind (base end : ℕ) (batches rest : List Placed) : Type 0 where
-  pub laid : AreLaid (end_after base (ending_by end batches)) (size_after 0 (ending_by end batches)) rest
+  pub laid : AreBatchesLaid (end_after base (ending_by end batches)) (size_after 0 (ending_by end batches)) rest
   pub end_is : end_after (end_after base (ending_by end batches)) rest ≡ end_after base batches
   pub size_is : size_after (size_after 0 (ending_by end batches)) rest ≡ size_after 0 batches
 
-pub behind : (base end kept : ℕ) (batches : List Placed) → AreLaid base 0 batches → take kept batches ≡ ending_by end batches → Behind base end batches (drop kept batches)
+pub behind : (base end kept : ℕ) (batches : List Placed) → AreBatchesLaid base 0 batches → take kept batches ≡ ending_by end batches → Behind base end batches (drop kept batches)
 behind base end kept batches laid front =
     let parts : batches ≡ ending_by end batches ++ drop kept batches = sym (take-append-drop kept batches) ∙ ap (λ (l : List Placed). l ++ drop kept batches) front in
-    let both = laid_parts base 0 (ending_by end batches) (drop kept batches) (subst (AreLaid base 0) parts laid) in
+    let both = laid_parts base 0 (ending_by end batches) (drop kept batches) (subst (AreBatchesLaid base 0) parts laid) in
     record {
       laid = both.1;
       end_is = sym (ap (end_after base) parts ∙ end_append base (ending_by end batches) (drop kept batches));
@@ -123,10 +123,10 @@ pub record IsFront (first at : ℕ) (front whole : List Placed) : Type 0 where
   pub size : size_after at front ≤ size_after at whole
   pub up : at ≤ size_after at front
 
-pub front_of : (first at i : ℕ) (batches : List Placed) → AreLaid first at batches → IsFront first at (take i batches) batches
+pub front_of : (first at i : ℕ) (batches : List Placed) → AreBatchesLaid first at batches → IsFront first at (take i batches) batches
 front_of first at i batches laid =
     let parts : batches ≡ take i batches ++ drop i batches = sym (take-append-drop i batches) in
-    let both = laid_parts first at (take i batches) (drop i batches) (subst (AreLaid first at) parts laid) in
+    let both = laid_parts first at (take i batches) (drop i batches) (subst (AreBatchesLaid first at) parts laid) in
     let end-is : end_after first batches ≡ end_after (end_after first (take i batches)) (drop i batches) = ap (end_after first) parts ∙ end_append first (take i batches) (drop i batches) in
     let size-is : size_after at batches ≡ size_after (size_after at (take i batches)) (drop i batches) = ap (size_after at) parts ∙ size_append at (take i batches) (drop i batches) in
     let end-up = end_up (end_after first (take i batches)) (size_after at (take i batches)) (drop i batches) both.1 in

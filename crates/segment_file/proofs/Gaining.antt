@@ -16,8 +16,8 @@ use Rattle.record_batch.proofs.Passing.{checked_long}
 use Rattle.segment_file.specs.declared.gathering.Gathered.{Gathered}
 use Rattle.segment_file.specs.Walk.{size_in}
 use Rattle.segment_file.specs.Segment.{IsSegment, greatest_from, greatest_ts}
-use Rattle.segment_file.specs.Closed.{IsBadPlace, Whole, IsWhole}
-use Rattle.segment_file.specs.Gathering.{epoch_after, MayGoOn, IsGathered, Tells, GoesOnAt, NothingAt, later_ts, with_epoch, gained}
+use Rattle.segment_file.specs.Closed.{IsBadPlace, ClosedSegment, IsWholeSegment}
+use Rattle.segment_file.specs.Gathering.{epoch_after, MayComeNext, IsGathered, HeadDescribes, GoesOnAt, NothingAt, later_ts, with_epoch, gained}
 use Rattle.segment_file.proofs.Finding.{not_empty}
 use Rattle.segment_file.proofs.Runs.{joined_push}
 use Rattle.segment_file.proofs.Standing.{AreBytes, bytes_drop, front_bytes}
@@ -101,7 +101,7 @@ line_push base (x ∷ xs) batch row =
     ∙ sym (with_by (line_of (x ∷ xs)) (epoch_after (epoch_of x) xs) last.0 (epoch_of batch) (base_of batch) last.1)
 
 -- a batch that may continue by its head does
-goes_on : (base : ℕ) (bytes : List ℕ) (front : Gathered) (batch : List ℕ) (head : Head) → (g : IsGathered base bytes front) → IsOk (checked batch) → Tells batch head → MayGoOn base front.at front.end front.epoch head
+goes_on : (base : ℕ) (bytes : List ℕ) (front : Gathered) (batch : List ℕ) (head : Head) → (g : IsGathered base bytes front) → IsOk (checked batch) → HeadDescribes batch head → MayComeNext base front.at front.end front.epoch head
     → GoesOn base g.batches batch
 goes_on base bytes front batch head g ok t m = record {
   is = ok;
@@ -114,8 +114,8 @@ goes_on base bytes front batch head g ok t m = record {
 }
 
 -- and the other way round
-may_go_on : (base : ℕ) (bytes : List ℕ) (front : Gathered) (batch : List ℕ) (head : Head) → (g : IsGathered base bytes front) → Tells batch head → GoesOn base g.batches batch
-    → MayGoOn base front.at front.end front.epoch head
+may_go_on : (base : ℕ) (bytes : List ℕ) (front : Gathered) (batch : List ℕ) (head : Head) → (g : IsGathered base bytes front) → HeadDescribes batch head → GoesOn base g.batches batch
+    → MayComeNext base front.at front.end front.epoch head
 may_go_on base bytes front batch head g t o = record {
   begins = t.base ∙ (o.begins ∙ sym g.end_is);
   near = (let e = o.begins in let d = t.delta in let n = o.near in let i = g.end_is in omega (arith, e, d, n, i));
@@ -129,7 +129,7 @@ may_go_on base bytes front batch head g t o = record {
 pub gathered_more : (base : ℕ) (bytes : List ℕ) (front : Gathered) (head : Head) → IsGathered base bytes front → GoesOnAt base bytes front head → IsGathered base bytes (gained front head)
 gathered_more base bytes front head g o =
     let batch = o.batch in
-    let t : Tells batch head = o.is_observable in
+    let t : HeadDescribes batch head = o.is_observable in
     let on = goes_on base bytes front batch head g o.is t o.may in
     let more = joined_push g.batches batch in
     let size : length (joined (g.batches ++ batch ∷ [])) ≡ length (joined g.batches) + length batch = ap length more ∙ length-append (joined g.batches) batch in
@@ -212,8 +212,8 @@ pub some_end : (base : ℕ) (bytes : List ℕ) (front : Gathered) → IsGathered
 some_end base bytes front g some = has_end base front.end front.at g.batches g.is.consecutive g.end_is g.at_is some
 
 -- the bytes are a closed segment
-pub whole : (base : ℕ) (bytes : List ℕ) (front : Gathered) (segment : Whole) → IsGathered base bytes front → 0 < front.at → front.at ≡ length bytes
-    → segment.base ≡ base → segment.last ≡ front.end - 1 → segment.max_ts ≡ front.max_ts → segment.bytes ≡ bytes → segment.epochs ≡ front.epochs → IsWhole segment
+pub whole : (base : ℕ) (bytes : List ℕ) (front : Gathered) (segment : ClosedSegment) → IsGathered base bytes front → 0 < front.at → front.at ≡ length bytes
+    → segment.base ≡ base → segment.last ≡ front.end - 1 → segment.max_ts ≡ front.max_ts → segment.bytes ≡ bytes → segment.epochs ≡ front.epochs → IsWholeSegment segment
 whole base bytes front segment g some all base-is last-is ts-is bytes-are epochs-are =
     let none : drop front.at bytes ≡ [] = drop_all front.at bytes all in
     let end : 1 ≤ front.end = some_end base bytes front g some in record {

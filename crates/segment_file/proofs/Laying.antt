@@ -10,7 +10,7 @@ use Rattle.sparse_index.specs.Entries.{last_of}
 use Rattle.sparse_index.specs.Offsets.{OffsetTable, Rises}
 use Rattle.segment_file.specs.declared.placed.Placed.{Placed}
 use Rattle.segment_file.specs.Index.{Marks, is_due, with_offset, unmarked, marked, marked_by, index_of}
-use Rattle.segment_file.specs.Growing.{end_after, size_after, ending_by, latest_from, latest_ts, AreLaid, IsGrowing}
+use Rattle.segment_file.specs.Growing.{end_after, size_after, ending_by, latest_from, latest_ts, AreBatchesLaid, IsGrowing}
 
 -- the last batch gives where all of them end
 pub last_size : (at : ℕ) (batches : List Placed) (batch : Placed) → slice_get batches (length batches - 1) ≡ Some batch → size_after at batches ≡ batch.to
@@ -30,20 +30,20 @@ last_end first (one ∷ two ∷ batches) batch e =
     last_end (one.last + 1) (two ∷ batches) batch (rw same (rw less at e))
 
 -- the end of batches is not before their beginning
-pub end_up : (first at : ℕ) (batches : List Placed) → AreLaid first at batches → first ≤ end_after first batches
+pub end_up : (first at : ℕ) (batches : List Placed) → AreBatchesLaid first at batches → first ≤ end_after first batches
 end_up first at [] laid = omega arith
 end_up first at (one ∷ batches) laid = let rest = end_up (one.last + 1) one.to batches laid.2 in omega (arith, rest, laid.0)
 
-pub size_up : (first at : ℕ) (batches : List Placed) → AreLaid first at batches → at ≤ size_after at batches
+pub size_up : (first at : ℕ) (batches : List Placed) → AreBatchesLaid first at batches → at ≤ size_after at batches
 size_up first at [] laid = omega arith
 size_up first at (one ∷ batches) laid = let rest = size_up (one.last + 1) one.to batches laid.2 in omega (arith, rest, laid.1)
 
 -- two parts
-pub laid_parts : (first at : ℕ) (front rest : List Placed) → AreLaid first at (front ++ rest) → AreLaid first at front × AreLaid (end_after first front) (size_after at front) rest
+pub laid_parts : (first at : ℕ) (front rest : List Placed) → AreBatchesLaid first at (front ++ rest) → AreBatchesLaid first at front × AreBatchesLaid (end_after first front) (size_after at front) rest
 laid_parts first at [] rest laid = (tt, laid)
 laid_parts first at (one ∷ front) rest laid = let both = laid_parts (one.last + 1) one.to front rest laid.2 in ((laid.0, laid.1, both.0), both.1)
 
-pub laid_push : (first at : ℕ) (batches : List Placed) (batch : Placed) → AreLaid first at batches → end_after first batches ≤ batch.last → size_after at batches < batch.to → AreLaid first at (batches ++ batch ∷ [])
+pub laid_push : (first at : ℕ) (batches : List Placed) (batch : Placed) → AreBatchesLaid first at batches → end_after first batches ≤ batch.last → size_after at batches < batch.to → AreBatchesLaid first at (batches ++ batch ∷ [])
 laid_push first at [] batch laid up more = (up, more, tt)
 laid_push first at (one ∷ batches) batch laid up more = (laid.0, laid.1, laid_push (one.last + 1) one.to batches batch laid.2 up more)
 
@@ -82,7 +82,7 @@ below_by base interval first marks one false is from up more below = λ entry e.
     let old : last_of marks.entries ≡ Some entry = rw is at e in
     let b = below entry old in (omega (arith, b.0, up), omega (arith, b.1, more))
 
-pub last_below : (base interval first : ℕ) (marks : Marks) (batches : List Placed) → base ≤ first → AreLaid first marks.size batches → LastBelow base marks.entries first marks.size
+pub last_below : (base interval first : ℕ) (marks : Marks) (batches : List Placed) → base ≤ first → AreBatchesLaid first marks.size batches → LastBelow base marks.entries first marks.size
     → LastBelow base (marked_by base interval marks batches).entries (end_after first batches) (size_after marks.size batches)
 last_below base interval first marks [] from laid below = below
 last_below base interval first marks (one ∷ batches) from laid below =
@@ -93,11 +93,11 @@ pub none_below : (base : ℕ) → LastBelow base [] base 0
 none_below base = λ entry e. absurd (cc)
 
 -- of a segment's batches
-pub entry_below : (base interval : ℕ) (batches : List Placed) → AreLaid base 0 batches → LastBelow base (index_of base interval batches).entries (end_after base batches) (size_after 0 batches)
+pub entry_below : (base interval : ℕ) (batches : List Placed) → AreBatchesLaid base 0 batches → LastBelow base (index_of base interval batches).entries (end_after base batches) (size_after 0 batches)
 entry_below base interval batches laid = last_below base interval base (unmarked base) batches (omega arith) laid (none_below base)
 
 -- so the next batch's entry rises above it
-pub rises_above : (base interval last : ℕ) (batches : List Placed) (index : OffsetTable) → AreLaid base 0 batches → index ≡ index_of base interval batches → end_after base batches ≤ last
+pub rises_above : (base interval last : ℕ) (batches : List Placed) (index : OffsetTable) → AreBatchesLaid base 0 batches → index ≡ index_of base interval batches → end_after base batches ≤ last
     → ForSome (last_of index.entries) (λ entry. Rises entry (last - index.base, size_after 0 batches))
 rises_above base interval last batches index laid is up = λ entry e.
     let same : index.base ≡ base = ap (λ (t : OffsetTable). t.base) is in
@@ -117,13 +117,13 @@ index_push base interval batches batch =
     table_in base entries = record { base = base; entries = entries }
 
 -- the batches that end by an offset come first
-lasts-adjacent : (first at : ℕ) (batches : List Placed) (k : ℕ) (d : Placed) → AreLaid first at batches → suc k < length batches → (get_or batches k d).last ≤ (get_or batches (suc k) d).last
+lasts-adjacent : (first at : ℕ) (batches : List Placed) (k : ℕ) (d : Placed) → AreBatchesLaid first at batches → suc k < length batches → (get_or batches k d).last ≤ (get_or batches (suc k) d).last
 lasts-adjacent first at [] k d laid l = absurd (omega (arith, l))
 lasts-adjacent first at (one ∷ []) k d laid l = absurd (omega (arith, l))
 lasts-adjacent first at (one ∷ two ∷ batches) zero d laid l = omega (arith, laid.2.0)
 lasts-adjacent first at (one ∷ two ∷ batches) (suc k) d laid l = lasts-adjacent (one.last + 1) one.to (two ∷ batches) k d laid.2 (omega (arith, l))
 
-pub lasts-rise : (first at : ℕ) (batches : List Placed) → AreLaid first at batches → IsNonDecreasingBy (λ (b : Placed). b.last) batches
+pub lasts-rise : (first at : ℕ) (batches : List Placed) → AreBatchesLaid first at batches → IsNonDecreasingBy (λ (b : Placed). b.last) batches
 lasts-rise first at batches laid = IsNonDecreasingBy-from_all_adjacent (λ (b : Placed). b.last) batches (λ k d l. rw add-one (lasts-adjacent first at batches k d laid (omega (arith, l))))
 
 pub rest-point : (p : Placed → Bool) (x : Placed) (xs : List Placed) (i : ℕ) → IsPartitionPoint (λ y. p y ≡ true) (λ y. p y ≡ false) (x ∷ xs) (suc i) → IsPartitionPoint (λ y. p y ≡ true) (λ y. p y ≡ false) xs i

@@ -13,8 +13,8 @@ use Rattle.tier_base.specs.declared.plain.Stop.TheVariants.{Mark, Piece, Limit}
 use Rattle.segment_file.specs.declared.taking.Cutout.{Cutout}
 use Rattle.segment_file.specs.declared.taking.Going.{Going}
 use Rattle.segment_file.specs.Walk.{size_in}
-use Rattle.segment_file.specs.Run.{end_after, Begins, Follows, AreBatches, Stand, NoBatch, would_pass, Fits, GoesOn, StopIs, IsRun, IsBadAt}
-use Rattle.segment_file.specs.Going.{IsNext, IsGoing, IsDone}
+use Rattle.segment_file.specs.Run.{end_after, MayBeginAt, Follows, AreBatches, HasBatchesUpTo, NoBatch, would_pass, Fits, RunContinues, StopIs, IsRunCutAt, IsBadAt}
+use Rattle.segment_file.specs.Going.{IsNextBatch, IsGoing, HasEnded}
 use Rattle.segment_file.proofs.Finding.{size_told, size_kept, headed_front}
 
 pub joined_append : (xs ys : List (List ℕ)) → joined (xs ++ ys) ≡ joined xs ++ joined ys
@@ -63,8 +63,8 @@ from_above n batch h = go (nat_lt (last_of batch) n) refl
     go false is = rw is refl
 
 -- one batch more exists
-stand_push : (offset bound : ℕ) (bytes : List ℕ) (batches : List (List ℕ)) (at to end : ℕ) (last : Option ℕ) → Stand offset bound bytes batches (drop at bytes) at
-    → end_after None batches ≡ last → (n : IsNext last offset bound bytes at to end) → Stand offset bound bytes (batches ++ n.batch ∷ []) (drop to bytes) to
+stand_push : (offset bound : ℕ) (bytes : List ℕ) (batches : List (List ℕ)) (at to end : ℕ) (last : Option ℕ) → HasBatchesUpTo offset bound bytes batches (drop at bytes) at
+    → end_after None batches ≡ last → (n : IsNextBatch last offset bound bytes at to end) → HasBatchesUpTo offset bound bytes (batches ++ n.batch ∷ []) (drop to bytes) to
 stand_push offset bound bytes batches at to end last s ends n =
     let more = joined_push batches n.batch in
     let follows : Follows (end_after None batches) offset bound n.batch = rw ends n.follows in record {
@@ -76,7 +76,7 @@ stand_push offset bound bytes batches at to end last s ends n =
 -- batches that all end at or below the offset
 pub record Passed (offset bound : ℕ) (bytes : List ℕ) (at : ℕ) (last : Option ℕ) : Type 0 where
   pub batches : List (List ℕ)
-  pub stand : Stand offset bound bytes batches (drop at bytes) at
+  pub stand : HasBatchesUpTo offset bound bytes batches (drop at bytes) at
   pub none : from_offset offset batches ≡ []
   pub ends : end_after None batches ≡ last
   pub inside : at ≤ length bytes
@@ -95,7 +95,7 @@ passed_none offset bound bytes = record {
 pub passed_low : (offset bound : ℕ) (last : Option ℕ) → offset < bound → ForSome last (λ end. end ≤ offset) → ForSome last (λ end. end < bound)
 passed_low offset bound last h low = λ end is. let l : end ≤ offset = low end is in omega (arith, l, h)
 
-pub passed_more : (offset bound : ℕ) (bytes : List ℕ) (at to end : ℕ) (last : Option ℕ) → Passed offset bound bytes at last → IsNext last offset bound bytes at to end
+pub passed_more : (offset bound : ℕ) (bytes : List ℕ) (at to end : ℕ) (last : Option ℕ) → Passed offset bound bytes at last → IsNextBatch last offset bound bytes at to end
     → end ≤ offset → Passed offset bound bytes to (Some end)
 passed_more offset bound bytes at to end last p n below =
     let is : end ≡ last_of n.batch + 1 = n.end_is in record {
@@ -120,7 +120,7 @@ passed_bad offset bound limit bytes at last p nothing = record {
 }
 
 -- the batch that holds the offset
-pub begun_here : (offset bound limit : ℕ) (bytes : List ℕ) (at to end : ℕ) (last : Option ℕ) (going : Going) → Passed offset bound bytes at last → IsNext last offset bound bytes at to end
+pub begun_here : (offset bound limit : ℕ) (bytes : List ℕ) (at to end : ℕ) (last : Option ℕ) (going : Going) → Passed offset bound bytes at last → IsNextBatch last offset bound bytes at to end
     → offset < end → going.from ≡ at → going.to ≡ to → going.end ≡ end → IsGoing bytes offset limit bound going
 begun_here offset bound limit bytes at to end last going p n holds from-is to-is end-is =
     let is : end ≡ last_of n.batch + 1 = n.end_is in
@@ -140,7 +140,7 @@ begun_here offset bound limit bytes at to end last going p n holds from-is to-is
     }
 
 -- a base that may be there is below the bound
-pub begins_low : (last : Option ℕ) (offset bound base : ℕ) → offset < bound → ForSome last (λ end. end < bound) → Begins last offset base → base < bound
+pub begins_low : (last : Option ℕ) (offset bound base : ℕ) → offset < bound → ForSome last (λ end. end < bound) → MayBeginAt last offset base → base < bound
 begins_low None offset bound base h low b = omega (arith, h, b)
 begins_low (Some end) offset bound base h low b = let l : end < bound = low end refl in omega (arith, l, b)
 
@@ -161,7 +161,7 @@ fits_of limit (batch ∷ next ∷ run) h = h
 
 -- a run that continues by a batch
 pub going_more : (bytes : List ℕ) (offset limit bound to end : ℕ) (going more : Going) → IsGoing bytes offset limit bound going
-    → IsNext (Some going.end) offset bound bytes going.to to end → would_pass limit (going.to - going.from) (headed (drop going.to bytes)) ≡ false
+    → IsNextBatch (Some going.end) offset bound bytes going.to to end → would_pass limit (going.to - going.from) (headed (drop going.to bytes)) ≡ false
     → more.from ≡ going.from → more.to ≡ to → more.end ≡ end → IsGoing bytes offset limit bound more
 going_more bytes offset limit bound to end going more g n passes from-is to-is end-is =
     let run = g.first ∷ g.others in
@@ -192,7 +192,7 @@ pub going_bad : (bytes : List ℕ) (offset limit bound : ℕ) (going : Going) �
 going_bad bytes offset limit bound going g below passes nothing =
     let size : going.to - going.from ≡ length (joined (g.first ∷ g.others)) = omega (arith, g.from) in
     let open-end : ForSome (Some going.end) (λ end. end < bound) = λ end is. let same : going.end ≡ end = cc in omega (arith, same, below) in
-    let goes : GoesOn limit bound (Some going.end) (g.first ∷ g.others) (drop going.to bytes) = (open-end, (rw size at passes)) in record {
+    let goes : RunContinues limit bound (Some going.end) (g.first ∷ g.others) (drop going.to bytes) = (open-end, (rw size at passes)) in record {
       batches = g.batches;
       rest = drop going.to bytes;
       stand = g.stand;
@@ -203,7 +203,7 @@ going_bad bytes offset limit bound going g below passes nothing =
 
 -- a run that has ended
 pub going_done : (bytes : List ℕ) (offset limit bound : ℕ) (going : Going) → IsGoing bytes offset limit bound going
-    → (going.end < bound → would_pass limit (going.to - going.from) (headed (drop going.to bytes)) ≡ true) → IsDone bytes offset limit bound going
+    → (going.end < bound → would_pass limit (going.to - going.from) (headed (drop going.to bytes)) ≡ true) → HasEnded bytes offset limit bound going
 going_done bytes offset limit bound going g stops =
     let size : going.to - going.from ≡ length (joined (g.first ∷ g.others)) = omega (arith, g.from) in
     record { is = g; stops = λ below. rw size at (stops below) }
@@ -235,10 +235,10 @@ by_mark end mark piece_end passes stop false e below stops is-mark is-piece is-l
     by_piece end mark piece_end passes stop (end == piece_end) refl (λ same. absurd (cc (eq-eqb end mark same, e))) below stops is-piece is-limit
 
 -- it is the run
-pub run_of : (bytes : List ℕ) (offset limit mark piece_end : ℕ) (going : Going) (cut : Cutout) → IsDone bytes offset limit (min mark piece_end) going
+pub run_of : (bytes : List ℕ) (offset limit mark piece_end : ℕ) (going : Going) (cut : Cutout) → HasEnded bytes offset limit (min mark piece_end) going
     → cut.from ≡ going.from → cut.to ≡ going.to → cut.next ≡ going.end
     → (going.end ≡ mark → cut.stop ≡ Mark) → (going.end ≢ mark → going.end ≡ piece_end → cut.stop ≡ Piece) → (going.end ≢ mark → going.end ≢ piece_end → cut.stop ≡ Limit)
-    → IsRun bytes offset limit mark piece_end cut
+    → IsRunCutAt bytes offset limit mark piece_end cut
 run_of bytes offset limit mark piece_end going cut d from-is to-is next-is is-mark is-piece is-limit =
     let g = d.is in
     let passes = would_pass limit (length (joined (g.first ∷ g.others))) (headed (drop going.to bytes)) in record {

@@ -9,7 +9,7 @@ use Rattle.sparse_index.specs.Entries.{last_of}
 use Rattle.sparse_index.specs.Offsets.{OffsetTable, is_up_to, floor_of, place_of, find, cut_to}
 use Rattle.segment_file.specs.declared.placed.Placed.{Placed}
 use Rattle.segment_file.specs.Index.{Marks, is_due, with_offset, unmarked, marked, marked_by, index_of}
-use Rattle.segment_file.specs.Growing.{end_after, size_after, ending_by, AreLaid, BeginsSearch}
+use Rattle.segment_file.specs.Growing.{end_after, size_after, ending_by, AreBatchesLaid, BeginsSearch}
 use Rattle.segment_file.proofs.Laying.{end_up, size_up, laid_parts, end_append, size_append, marked_append, marked_size}
 
 -- an entry is a batch's
@@ -58,7 +58,7 @@ last_passes P p (x ∷ xs) e all is = go (p x) refl (λ more. last_passes P p xs
     go false t others = others (rw t at is)
 
 -- a search misses no batch from the offset on
-search_from : (base interval offset : ℕ) (batches : List Placed) (floor : Option (ℕ × ℕ)) → AreLaid base 0 batches → floor_of (index_of base interval batches) offset ≡ floor
+search_from : (base interval offset : ℕ) (batches : List Placed) (floor : Option (ℕ × ℕ)) → AreBatchesLaid base 0 batches → floor_of (index_of base interval batches) offset ≡ floor
     → BeginsSearch base batches offset (place_of base floor).1
 search_from base interval offset batches None laid is = record { front = []; rest = batches; parts = refl; place = refl; before = λ up. up }
 search_from base interval offset batches (Some entry) laid is =
@@ -66,7 +66,7 @@ search_from base interval offset batches (Some entry) laid is =
     (all_placed base interval batches [] batches (unmarked base) refl refl tt) is in
     let placed = found.0 in
     let at : base + entry.0 ≤ offset = leb-true _ _ found.1 in
-    let both = laid_parts base 0 placed.front (placed.one ∷ placed.rest) (subst (AreLaid base 0) placed.parts laid) in
+    let both = laid_parts base 0 placed.front (placed.one ∷ placed.rest) (subst (AreBatchesLaid base 0) placed.parts laid) in
     let up : base ≤ end_after base placed.front = end_up base 0 placed.front both.0 in
     let next : end_after base placed.front ≤ placed.one.last = both.1.0 in
     let offset : entry.0 ≡ placed.one.last - base = placed.offset in record {
@@ -77,7 +77,7 @@ search_from base interval offset batches (Some entry) laid is =
       before = λ from. omega (arith, at, up, next, offset);
     }
 
-pub search_begins : (base interval offset : ℕ) (batches : List Placed) → AreLaid base 0 batches → BeginsSearch base batches offset (find (index_of base interval batches) offset).1
+pub search_begins : (base interval offset : ℕ) (batches : List Placed) → AreBatchesLaid base 0 batches → BeginsSearch base batches offset (find (index_of base interval batches) offset).1
 search_begins base interval offset batches laid = search_from base interval offset batches (floor_of (index_of base interval batches) offset) laid refl
 
 -- entries of batches that come later are later
@@ -98,7 +98,7 @@ later_by base interval size entries more at last false is up later = record {
   late = later.late;
 }
 
-later : (base interval size first : ℕ) (marks : Marks) (rest : List Placed) → size ≤ marks.size → AreLaid first marks.size rest → Later marks.entries (marked_by base interval marks rest).entries size
+later : (base interval size first : ℕ) (marks : Marks) (rest : List Placed) → size ≤ marks.size → AreBatchesLaid first marks.size rest → Later marks.entries (marked_by base interval marks rest).entries size
 later base interval size first marks [] up laid = record { added = []; parts = sym (append-nil marks.entries); late = tt }
 later base interval size first marks (one ∷ rest) up laid =
     later_by base interval size marks.entries (marked_by base interval marks (one ∷ rest)).entries marks.size one.last (is_due interval marks.entries marks.size) refl up
@@ -109,7 +109,7 @@ weaker : (m n : ℕ) (entries : List (ℕ × ℕ)) → m ≤ n → AllByRecursio
 weaker m n [] up all = tt
 weaker m n (entry ∷ entries) up all = (omega (arith, up, all.0), weaker m n entries up all.1)
 
-earlier : (base interval first : ℕ) (marks : Marks) (batches : List Placed) → AreLaid first marks.size batches → AllByRecursion (λ entry. entry.1 < marks.size) marks.entries
+earlier : (base interval first : ℕ) (marks : Marks) (batches : List Placed) → AreBatchesLaid first marks.size batches → AllByRecursion (λ entry. entry.1 < marks.size) marks.entries
     → AllByRecursion (λ entry. entry.1 < size_after marks.size batches) (marked_by base interval marks batches).entries
 earlier base interval first marks [] laid all = all
 earlier base interval first marks (one ∷ batches) laid all =
@@ -135,12 +135,12 @@ ending_front end (one ∷ batches) = go (nat_lt one.last end) refl (ending_front
     go false t more = (one ∷ batches, rw t refl)
 
 -- the index of a front
-index_front : (base interval : ℕ) (front rest : List Placed) → AreLaid base 0 (front ++ rest) → cut_to (index_of base interval (front ++ rest)) (size_after 0 front) ≡ index_of base interval front
+index_front : (base interval : ℕ) (front rest : List Placed) → AreBatchesLaid base 0 (front ++ rest) → cut_to (index_of base interval (front ++ rest)) (size_after 0 front) ≡ index_of base interval front
 index_front base interval front rest laid =
     let both = laid_parts base 0 front rest laid in
     let marks = marked_by base interval (unmarked base) front in
     let size = marked_size base interval (unmarked base) front in
-    let laid-rest : AreLaid (end_after base front) marks.size rest = subst (λ n. AreLaid (end_after base front) n rest) (sym size) both.1 in
+    let laid-rest : AreBatchesLaid (end_after base front) marks.size rest = subst (λ n. AreBatchesLaid (end_after base front) n rest) (sym size) both.1 in
     let more = later base interval (size_after 0 front) (end_after base front) marks rest (omega (arith, size)) laid-rest in
     let low = earlier base interval base (unmarked base) front both.0 tt in
     ap (λ (m : Marks). cut_to (table_in base m.entries) (size_after 0 front)) (marked_append base interval (unmarked base) front rest)
@@ -149,24 +149,24 @@ index_front base interval front rest laid =
     table_in : ℕ → List (ℕ × ℕ) → OffsetTable
     table_in base entries = record { base = base; entries = entries }
 
-pub index_cut : (base interval end : ℕ) (batches : List Placed) → AreLaid base 0 batches
+pub index_cut : (base interval end : ℕ) (batches : List Placed) → AreBatchesLaid base 0 batches
     → cut_to (index_of base interval batches) (size_after 0 (ending_by end batches)) ≡ index_of base interval (ending_by end batches)
 index_cut base interval end batches laid =
     let more = ending_front end batches in
     ap (λ bs. cut_to (index_of base interval bs) (size_after 0 (ending_by end batches))) more.1
-    ∙ index_front base interval (ending_by end batches) more.0 (subst (AreLaid base 0) more.1 laid)
+    ∙ index_front base interval (ending_by end batches) more.0 (subst (AreBatchesLaid base 0) more.1 laid)
 
 -- what a front keeps of the whole
 pub record KeptFront (base : ℕ) (front whole : List Placed) : Type 0 where
-  pub laid : AreLaid base 0 front
+  pub laid : AreBatchesLaid base 0 front
   pub end : end_after base front ≤ end_after base whole
   pub size : size_after 0 front ≤ size_after 0 whole
 
-pub ending_kept : (base end : ℕ) (batches : List Placed) → AreLaid base 0 batches → KeptFront base (ending_by end batches) batches
+pub ending_kept : (base end : ℕ) (batches : List Placed) → AreBatchesLaid base 0 batches → KeptFront base (ending_by end batches) batches
 ending_kept base end batches laid =
     let front = ending_by end batches in
     let more = ending_front end batches in
-    let both = laid_parts base 0 front more.0 (subst (AreLaid base 0) more.1 laid) in
+    let both = laid_parts base 0 front more.0 (subst (AreBatchesLaid base 0) more.1 laid) in
     let end-is : end_after base batches ≡ end_after (end_after base front) more.0 = ap (end_after base) more.1 ∙ end_append base front more.0 in
     let size-is : size_after 0 batches ≡ size_after (size_after 0 front) more.0 = ap (size_after 0) more.1 ∙ size_append 0 front more.0 in
     let end-up = end_up (end_after base front) (size_after 0 front) more.0 both.1 in

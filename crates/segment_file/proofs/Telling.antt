@@ -7,7 +7,7 @@ use Rattle.record_batch.specs.declared.head.Head.{Head}
 use Rattle.record_batch.specs.declared.refusal.BatchRefusal.{BatchRefusal}
 use Rattle.record_batch.specs.Head.{head_of}
 use Rattle.record_batch.specs.Check.{Batch, checked}
-use Rattle.segment_file.specs.Gathering.{Tells}
+use Rattle.segment_file.specs.Gathering.{HeadDescribes}
 use Rattle.segment_file.specs.Index.{placed, placed_in}
 use Rattle.segment_file.proofs.Finding.{size_told}
 use Rattle.segment_file.proofs.Standing.{AreBytes, bytes_take, bytes_drop, base_told, delta_told}
@@ -26,7 +26,7 @@ ts_told : (batch : List ℕ) → (head_of batch).max_ts ≡ max_ts_of batch
 unfolding head_of max_ts_of
 ts_told batch = refl
 
-tells_by : (batch : List ℕ) (b : Batch) → AreBytes batch → checked batch ≡ Ok b → Tells batch (head_of batch)
+tells_by : (batch : List ℕ) (b : Batch) → AreBytes batch → checked batch ≡ Ok b → HeadDescribes batch (head_of batch)
 tells_by batch b clean e = record {
   size = size_told batch b e;
   base = base_told batch clean;
@@ -36,15 +36,15 @@ tells_by batch b clean e = record {
 }
 
 -- a head gives its batch's numbers
-pub is_observable : (batch : List ℕ) → AreBytes batch → IsOk (checked batch) → Tells batch (head_of batch)
+pub is_observable : (batch : List ℕ) → AreBytes batch → IsOk (checked batch) → HeadDescribes batch (head_of batch)
 is_observable batch clean ok = go (checked batch) refl ok
   where
-    go : (r : Result Batch BatchRefusal) → checked batch ≡ r → IsOk r → Tells batch (head_of batch)
+    go : (r : Result Batch BatchRefusal) → checked batch ≡ r → IsOk r → HeadDescribes batch (head_of batch)
     go (Ok b) e ok = tells_by batch b clean e
     go (Err why) e ok = absurd (cc)
 
 -- so it reports how the batch is placed
-pub placed_same : (at : ℕ) (batch : List ℕ) (head : Head) → Tells batch head → placed_in at head ≡ placed at batch
+pub placed_same : (at : ℕ) (batch : List ℕ) (head : Head) → HeadDescribes batch head → placed_in at head ≡ placed at batch
 placed_same at batch head t = rw (t.base, t.delta, t.max_ts, t.size) refl
 
 pub head_places : (at : ℕ) (batch : List ℕ) → IsOk (checked batch) → ((i : ℕ) → get_or batch i 0 < 2 ^ 8) → placed_in at (head_of batch) ≡ placed at batch

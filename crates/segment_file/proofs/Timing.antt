@@ -11,7 +11,7 @@ use Rattle.log_terms.specs.Log.{joined}
 use Rattle.sparse_index.specs.Entries.{last_of}
 use Rattle.segment_file.specs.declared.placed.Placed.{Placed}
 use Rattle.segment_file.specs.Index.{Marks, placed, placed_from, begun_at, is_due, time_of, with_time, raised, unmarked, marked, marked_by, time_index_of}
-use Rattle.segment_file.specs.Density.{AreEarlier, IsTimeOf, BeginBy, IsTimed}
+use Rattle.segment_file.specs.Density.{AreEarlier, IsTimeOf, BeginBy, HasMomentFor}
 use Rattle.segment_file.proofs.Runs.{joined_push}
 use Rattle.segment_file.proofs.Laying.{marked_append, last_push}
 use Rattle.segment_file.proofs.Placing.{placed_append}
@@ -164,17 +164,17 @@ record Waits (interval at : ℕ) (batches : List (List ℕ)) (marks : Marks) (ts
   up : ts ≤ℤ marks.top.0
 
 abbrev IsSoon : ℕ → ℕ → ℕ → List (List ℕ) → Marks → ℤ → Type 0
-IsSoon base interval at batches marks ts = IsTimed base batches marks.moments (at + interval) ts ⊎ Waits interval at batches marks ts
+IsSoon base interval at batches marks ts = HasMomentFor base batches marks.moments (at + interval) ts ⊎ Waits interval at batches marks ts
 
 -- the entries with that of the greatest reach what it does
 reach_with : (base limit : ℕ) (batches : List (List ℕ)) (moments : List (ℤ × ℕ)) (top : ℤ × ℕ) (ts : ℤ) → ts ≤ℤ top.0 → ((entry : ℤ × ℕ) → Contains (with_time base moments top) entry → IsTimeOf base batches entry)
-    → ((front rest : List (List ℕ)) (batch : List ℕ) → batches ≡ front ++ batch ∷ rest → BeginBy 0 limit front) → IsTimed base batches (with_time base moments top) limit ts
+    → ((front rest : List (List ℕ)) (batch : List ℕ) → batches ≡ front ++ batch ∷ rest → BeginBy 0 limit front) → HasMomentFor base batches (with_time base moments top) limit ts
 reach_with base limit batches moments top ts up each near = go (last_of (with_time base moments top)) refl
   where
     high : ts ≤ℤ time_of (last_of (with_time base moments top))
     high = up_through ts top.0 _ up (top_closed base moments top)
 
-    go : (last : Option (ℤ × ℕ)) → last_of (with_time base moments top) ≡ last → IsTimed base batches (with_time base moments top) limit ts
+    go : (last : Option (ℤ × ℕ)) → last_of (with_time base moments top) ≡ last → HasMomentFor base batches (with_time base moments top) limit ts
     go None e = inl (subst (λ (l : Option (ℤ × ℕ)). ts ≤ℤ time_of l) e high)
     go (Some entry) e =
         let among = contains_last (with_time base moments top) entry e in
@@ -182,31 +182,31 @@ reach_with base limit batches moments top ts up each near = go (last_of (with_ti
         inr (record { entry = entry; among = among; reaches = subst (λ (l : Option (ℤ × ℕ)). ts ≤ℤ time_of l) e high; of = of; near = near of.front of.rest of.batch of.parts })
 
 -- what is reached stays so
-reach_more : (base limit : ℕ) (batches : List (List ℕ)) (batch : List ℕ) (moments more : List (ℤ × ℕ)) (ts : ℤ) → IsTimed base batches moments limit ts → IsTimed base (batches ++ batch ∷ []) (moments ++ more) limit ts
+reach_more : (base limit : ℕ) (batches : List (List ℕ)) (batch : List ℕ) (moments more : List (ℤ × ℕ)) (ts : ℤ) → HasMomentFor base batches moments limit ts → HasMomentFor base (batches ++ batch ∷ []) (moments ++ more) limit ts
 reach_more base limit batches batch moments more ts (inl none) = inl none
 reach_more base limit batches batch moments more ts (inr h) =
     inr (record { entry = h.entry; among = Contains-append_left moments more h.entry h.among; reaches = h.reaches; of = time_more base batches batch h.entry h.of; near = h.near })
 
-reach_same : (base limit : ℕ) (batches : List (List ℕ)) (batch : List ℕ) (moments : List (ℤ × ℕ)) (ts : ℤ) → IsTimed base batches moments limit ts → IsTimed base (batches ++ batch ∷ []) moments limit ts
+reach_same : (base limit : ℕ) (batches : List (List ℕ)) (batch : List ℕ) (moments : List (ℤ × ℕ)) (ts : ℤ) → HasMomentFor base batches moments limit ts → HasMomentFor base (batches ++ batch ∷ []) moments limit ts
 reach_same base limit batches batch moments ts (inl none) = inl none
 reach_same base limit batches batch moments ts (inr h) =
     inr (record { entry = h.entry; among = h.among; reaches = h.reaches; of = time_more base batches batch h.entry h.of; near = h.near })
 
-reach_step : (base limit : ℕ) (batches : List (List ℕ)) (batch : List ℕ) (moments : List (ℤ × ℕ)) (top : ℤ × ℕ) (due : Bool) (ts : ℤ) → IsTimed base batches moments limit ts
-    → IsTimed base (batches ++ batch ∷ []) (cond due (with_time base moments top) moments) limit ts
+reach_step : (base limit : ℕ) (batches : List (List ℕ)) (batch : List ℕ) (moments : List (ℤ × ℕ)) (top : ℤ × ℕ) (due : Bool) (ts : ℤ) → HasMomentFor base batches moments limit ts
+    → HasMomentFor base (batches ++ batch ∷ []) (cond due (with_time base moments top) moments) limit ts
 reach_step base limit batches batch moments top false ts h = reach_same base limit batches batch moments ts h
 reach_step base limit batches batch moments top true ts h = go (int_lt (time_of (last_of moments)) top.0)
   where
-    go : (t : Bool) → IsTimed base (batches ++ batch ∷ []) (cond t (moments ++ (top.0, top.1 - base) ∷ []) moments) limit ts
+    go : (t : Bool) → HasMomentFor base (batches ++ batch ∷ []) (cond t (moments ++ (top.0, top.1 - base) ∷ []) moments) limit ts
     go true = reach_more base limit batches batch moments ((top.0, top.1 - base) ∷ []) ts h
     go false = reach_same base limit batches batch moments ts h
 
 -- closing reaches what waits
-reach_close : (base limit : ℕ) (batches : List (List ℕ)) (moments : List (ℤ × ℕ)) (top : ℤ × ℕ) (ts : ℤ) → IsTimed base batches moments limit ts → IsTimed base batches (with_time base moments top) limit ts
+reach_close : (base limit : ℕ) (batches : List (List ℕ)) (moments : List (ℤ × ℕ)) (top : ℤ × ℕ) (ts : ℤ) → HasMomentFor base batches moments limit ts → HasMomentFor base batches (with_time base moments top) limit ts
 reach_close base limit batches moments top ts (inl none) = inl none
 reach_close base limit batches moments top ts (inr h) = go (int_lt (time_of (last_of moments)) top.0)
   where
-    go : (t : Bool) → IsTimed base batches (cond t (moments ++ (top.0, top.1 - base) ∷ []) moments) limit ts
+    go : (t : Bool) → HasMomentFor base batches (cond t (moments ++ (top.0, top.1 - base) ∷ []) moments) limit ts
     go true = inr (record { entry = h.entry; among = Contains-append_left moments _ h.entry h.among; reaches = h.reaches; of = h.of; near = h.near })
     go false = inr h
 
@@ -255,14 +255,14 @@ soon_all base interval at batches (batch ∷ rest) marks ts t s =
     (soon_all base interval at (batches ++ batch ∷ []) rest (marked base interval marks (placed marks.size batch)) ts
     (timed_step base interval batches batch marks t) (soon_step base interval at batches batch marks ts t s))
 
-soon_closed : (base interval at : ℕ) (batches : List (List ℕ)) (marks : Marks) (ts : ℤ) → Timed base batches marks → IsSoon base interval at batches marks ts → IsTimed base batches (with_time base marks.moments marks.top) (at + interval) ts
+soon_closed : (base interval at : ℕ) (batches : List (List ℕ)) (marks : Marks) (ts : ℤ) → Timed base batches marks → IsSoon base interval at batches marks ts → HasMomentFor base batches (with_time base marks.moments marks.top) (at + interval) ts
 soon_closed base interval at batches marks ts t (inl h) = reach_close base (at + interval) batches marks.moments marks.top ts h
 soon_closed base interval at batches marks ts t (inr w) =
     reach_with base (at + interval) batches marks.moments marks.top ts w.up (each_with base batches marks.moments marks.top t.least t.top t.each)
     (λ front rest batch parts. begin_prefix 0 (at + interval) front (batch ∷ rest) batches parts w.begins)
 
 pub each_near : (base interval : ℕ) (front rest : List (List ℕ)) (batch : List ℕ)
-    → IsTimed base (front ++ batch ∷ rest) (time_index_of base interval (placed_from 0 (front ++ batch ∷ rest))).entries (length (joined front) + interval) (max_ts_of batch)
+    → HasMomentFor base (front ++ batch ∷ rest) (time_index_of base interval (placed_from 0 (front ++ batch ∷ rest))).entries (length (joined front) + interval) (max_ts_of batch)
 each_near base interval front rest batch =
     let at = length (joined front) in
     let marks = marked_by base interval (unmarked base) (placed_from 0 front) in
@@ -280,5 +280,5 @@ each_near base interval front rest batch =
     ∙ ap (λ (n : ℕ). marked_by base interval marks (placed_from n (batch ∷ rest))) (let place : 0 + at ≡ marks.size = omega (arith, t.size) in place)
     in
     let closed = soon_closed base interval at ((front ++ batch ∷ []) ++ rest) then (max_ts_of batch) all.0 all.1 in
-    subst (λ (m : Marks). IsTimed base (front ++ batch ∷ rest) (with_time base m.moments m.top) (at + interval) (max_ts_of batch)) (sym same)
-    (subst (λ (l : List (List ℕ)). IsTimed base l (with_time base then.moments then.top) (at + interval) (max_ts_of batch)) (append_assoc front (batch ∷ []) rest) closed)
+    subst (λ (m : Marks). HasMomentFor base (front ++ batch ∷ rest) (with_time base m.moments m.top) (at + interval) (max_ts_of batch)) (sym same)
+    (subst (λ (l : List (List ℕ)). HasMomentFor base l (with_time base then.moments then.top) (at + interval) (max_ts_of batch)) (append_assoc front (batch ∷ []) rest) closed)

@@ -21,9 +21,9 @@ use Rattle.segment_file.specs.declared.marking.Marking.{Marking}
 use Rattle.segment_file.specs.declared.placed.Placed.{Placed}
 use Rattle.segment_file.specs.Segment.{IsSegment}
 use Rattle.segment_file.specs.Closed.{AreIndexes}
-use Rattle.segment_file.specs.Growing.{AreLaid, end_after}
+use Rattle.segment_file.specs.Growing.{AreBatchesLaid, end_after}
 use Rattle.segment_file.specs.Index.{Marks, placed, placed_from, is_due, with_time, time_of, raised, unmarked, marked, marked_by, closing}
-use Rattle.segment_file.specs.Gathering.{Tells}
+use Rattle.segment_file.specs.Gathering.{HeadDescribes}
 use Rattle.segment_file.specs.Marking.{HasSegment, marks_in, IsFrom, MayMark, IsMarked}
 use Rattle.segment_file.proofs.Finding.{drop_append, length_drop, headed_front}
 use Rattle.segment_file.proofs.Standing.{AreBytes, bytes_drop, front_bytes}
@@ -80,7 +80,7 @@ head_read batch rest ok = go (checked batch) refl ok
     go (Err why) e ok = absurd (cc)
 
 -- placed batches are laid one after another
-pub placed_laid : (base at : ℕ) (xs : List (List ℕ)) → AllByRecursion (λ (b : List ℕ). IsOk (checked b)) xs → IsConsecutive base xs → AreLaid base at (placed_from at xs)
+pub placed_laid : (base at : ℕ) (xs : List (List ℕ)) → AllByRecursion (λ (b : List ℕ). IsOk (checked b)) xs → IsConsecutive base xs → AreBatchesLaid base at (placed_from at xs)
 placed_laid base at [] all row = tt
 placed_laid base at (x ∷ xs) all row =
     let long = checked_long x all.0 in
@@ -134,7 +134,7 @@ tops_step base interval first marks one tops next fits =
     go r true t = rw t (timed base marks.moments (raised marks.top one) marks.top.1 r.from_base r.up tops.above)
     go r false t = rw t (λ moment e. (let a = tops.above moment e in let u = r.up in omega (arith, a, u)))
 
-pub tops_by : (base interval first at : ℕ) (marks : Marks) (batches : List Placed) → Tops base first marks → AreLaid first at batches → end_after first batches ≤ base + 2 ^ 31
+pub tops_by : (base interval first at : ℕ) (marks : Marks) (batches : List Placed) → Tops base first marks → AreBatchesLaid first at batches → end_after first batches ≤ base + 2 ^ 31
     → Tops base (end_after first batches) (marked_by base interval marks batches)
 tops_by base interval first at marks [] tops laid near = tops
 tops_by base interval first at marks (one ∷ batches) tops laid near =
@@ -219,11 +219,11 @@ next_in base bytes interval at marking m within = go m.rest m.parts m.is
 pub read_there : (base : ℕ) (bytes : List ℕ) (interval at : ℕ) (marking : Marking) → (n : NextIn base bytes interval at marking) → headed (drop at bytes) ≡ Ok (head_of n.batch)
 read_there base bytes interval at marking n = ap headed n.there ∙ head_read n.batch (joined n.rest) n.ok
 
-pub tells_there : (base : ℕ) (bytes : List ℕ) (interval at : ℕ) (marking : Marking) (head : Head) → AreBytes bytes → (n : NextIn base bytes interval at marking) → headed (drop at bytes) ≡ Ok head → Tells n.batch head
+pub tells_there : (base : ℕ) (bytes : List ℕ) (interval at : ℕ) (marking : Marking) (head : Head) → AreBytes bytes → (n : NextIn base bytes interval at marking) → headed (drop at bytes) ≡ Ok head → HeadDescribes n.batch head
 tells_there base bytes interval at marking head clean n e =
     let same : head_of n.batch ≡ head = ok_same (headed (drop at bytes)) (head_of n.batch) head (read_there base bytes interval at marking n) e in
     let clean' : AreBytes n.batch = front_bytes n.batch (joined n.rest) (subst AreBytes n.there (bytes_drop at bytes clean)) in
-    subst (Tells n.batch) same (is_observable n.batch clean' n.ok)
+    subst (HeadDescribes n.batch) same (is_observable n.batch clean' n.ok)
   where
     ok_same : (r : Result Head HeadRefusal) (h h' : Head) → r ≡ Ok h → r ≡ Ok h' → h ≡ h'
     ok_same r h h' e e' = cc

@@ -11,7 +11,7 @@ use Rattle.segment_file.specs.Segment.{IsSegment, greatest_ts}
 use Rattle.segment_file.specs.Index.{placed_from, index_of, time_index_of}
 
 -- a closed segment: its first and last offset, its greatest timestamp, its bytes, its leader epochs
-pub record Whole : Type 0 where
+pub record ClosedSegment : Type 0 where
   pub base : ℕ
   pub last : ℕ
   pub max_ts : ℤ
@@ -19,12 +19,12 @@ pub record Whole : Type 0 where
   pub epochs : List (ℕ × ℕ)
 
 -- the segment of these parts
-abbrev pub whole_of : ℕ → ℕ → ℤ → List ℕ → List (ℕ × ℕ) → Whole
+abbrev pub whole_of : ℕ → ℕ → ℤ → List ℕ → List (ℕ × ℕ) → ClosedSegment
 whole_of base last max_ts bytes epochs =
     record { base = base; last = last; max_ts = max_ts; bytes = bytes; epochs = epochs }
 
 -- what a closed segment keeps
-pub record IsWhole (segment : Whole) : Type 0 where
+pub record IsWholeSegment (segment : ClosedSegment) : Type 0 where
   pub batches : List (List ℕ)
   pub some : batches ≢ []
   pub bytes_are : segment.bytes ≡ joined batches
@@ -44,10 +44,10 @@ pub record IsBadPlace (base : ℕ) (bytes : List ℕ) (at : ℕ) : Type 0 where
   pub unread : (others : List (List ℕ)) → others ≢ [] → IsSegment base others → bytes ≢ joined others
 
 -- what the reader answers
-abbrev pub ReadsWhole : ℕ → List ℕ → Result Whole ClosedRefusal → Type 0
-ReadsWhole base bytes (Ok segment) = (segment.base ≡ base) × (segment.bytes ≡ bytes)
-ReadsWhole base bytes (Err (BadAt at)) = IsBadPlace base bytes at
-ReadsWhole base bytes (Err NoMemory) = Unit {0}
+abbrev pub ReadsSegment : ℕ → List ℕ → Result ClosedSegment ClosedRefusal → Type 0
+ReadsSegment base bytes (Ok segment) = (segment.base ≡ base) × (segment.bytes ≡ bytes)
+ReadsSegment base bytes (Err (BadAt at)) = IsBadPlace base bytes at
+ReadsSegment base bytes (Err NoMemory) = Unit {0}
 
 -- both indexes of these bytes, read as any batches
 abbrev pub AreIndexes : ℕ → List ℕ → ℕ → OffsetTable → TimeTable → Type 0

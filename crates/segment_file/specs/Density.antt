@@ -13,8 +13,8 @@ HasNear bytes entries at =
     (entry : ℕ × ℕ) × (Contains entries entry × ((entry.1 ≤ at) × (at ≤ entry.1 + bytes)))
 
 -- one of them does, or the segment's beginning
-abbrev pub IsNear : ℕ → List (ℕ × ℕ) → ℕ → Type 0
-IsNear bytes entries at = (at ≤ bytes) ⊎ HasNear bytes entries at
+abbrev pub HasEntryNear : ℕ → List (ℕ × ℕ) → ℕ → Type 0
+HasEntryNear bytes entries at = (at ≤ bytes) ⊎ HasNear bytes entries at
 
 -- each of these batches is earlier than a timestamp
 abbrev pub AreEarlier : ℤ → List (List ℕ) → Type 0
@@ -44,5 +44,5 @@ pub record HasTime (base : ℕ) (batches : List (List ℕ)) (entries : List (ℤ
   pub near : BeginBy 0 limit of.front
 
 -- one of them is, or the timestamp is that of none
-abbrev pub IsTimed : ℕ → List (List ℕ) → List (ℤ × ℕ) → ℕ → ℤ → Type 0
-IsTimed base batches entries limit ts = (ts ≤ℤ negsuc 0) ⊎ HasTime base batches entries limit ts
+abbrev pub HasMomentFor : ℕ → List (List ℕ) → List (ℤ × ℕ) → ℕ → ℤ → Type 0
+HasMomentFor base batches entries limit ts = (ts ≤ℤ negsuc 0) ⊎ HasTime base batches entries limit ts

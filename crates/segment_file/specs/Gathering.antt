@@ -23,7 +23,7 @@ epoch_after epoch [] = epoch
 epoch_after epoch (batch ∷ batches) = epoch_after (epoch_of batch) batches
 
 -- a batch of this head may continue batches that take so many bytes and end there
-pub record MayGoOn (base at end epoch : ℕ) (head : Head) : Type 0 where
+pub record MayComeNext (base at end epoch : ℕ) (head : Head) : Type 0 where
   pub begins : cast_unsigned w64 head.base_offset ≡ end
   pub near : end + cast_unsigned w32 head.last_offset_delta < base + 2 ^ 31
   pub low : end + cast_unsigned w32 head.last_offset_delta < 2 ^ 62
@@ -44,7 +44,7 @@ pub record IsGathered (base : ℕ) (bytes : List ℕ) (front : Gathered) : Type 
   pub epochs_are : front.epochs ≡ line_of batches
 
 -- the head gives the batch's numbers
-pub record Tells (batch : List ℕ) (head : Head) : Type 0 where
+pub record HeadDescribes (batch : List ℕ) (head : Head) : Type 0 where
   pub size : size_in head ≡ length batch
   pub base : cast_unsigned w64 head.base_offset ≡ base_of batch
   pub delta : cast_unsigned w32 head.last_offset_delta ≡ last_offset_delta_of batch
@@ -56,15 +56,15 @@ pub record GoesOnAt (base : ℕ) (bytes : List ℕ) (front : Gathered) (head : H
   pub batch : List ℕ
   pub is : IsOk (checked batch)
   pub parts : drop front.at bytes ≡ batch ++ drop (front.at + size_in head) bytes
-  pub is_observable : Tells batch head
-  pub may : MayGoOn base front.at front.end front.epoch head
+  pub is_observable : HeadDescribes batch head
+  pub may : MayComeNext base front.at front.end front.epoch head
   pub inside : front.at + size_in head ≤ length bytes
 
 -- no batch that is there continues
 abbrev pub NothingAt : ℕ → List ℕ → Gathered → Type 0
 NothingAt base bytes front =
     (batch more : List ℕ) → drop front.at bytes ≡ batch ++ more → IsOk (checked batch)
-    → MayGoOn base front.at front.end front.epoch (head_of batch) → ⊥
+    → MayComeNext base front.at front.end front.epoch (head_of batch) → ⊥
 
 -- the last entry is of this epoch
 abbrev pub is_of : Option ℕ → ℕ → Bool

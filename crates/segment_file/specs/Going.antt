@@ -5,10 +5,10 @@ use Rattle.log_terms.specs.Log.{joined, from_offset}
 use Rattle.record_batch.specs.Check.{headed}
 use Rattle.segment_file.specs.declared.taking.Going.{Going}
 use Rattle.segment_file.specs.declared.taking.BadAt.{BadAt}
-use Rattle.segment_file.specs.Run.{end_after, Follows, Stand, Fits, would_pass, IsBadAt}
+use Rattle.segment_file.specs.Run.{end_after, Follows, HasBatchesUpTo, Fits, would_pass, IsBadAt}
 
 -- a batch that follows is from one place to another, and ends before this offset
-pub record IsNext (last : Option ℕ) (offset bound : ℕ) (bytes : List ℕ) (at to end : ℕ) : Type 0 where
+pub record IsNextBatch (last : Option ℕ) (offset bound : ℕ) (bytes : List ℕ) (at to end : ℕ) : Type 0 where
   pub batch : List ℕ
   pub follows : Follows last offset bound batch
   pub parts : drop at bytes ≡ batch ++ drop to bytes
@@ -20,7 +20,7 @@ pub record IsNext (last : Option ℕ) (offset bound : ℕ) (bytes : List ℕ) (a
 -- a run that has begun
 pub record IsGoing (bytes : List ℕ) (offset limit bound : ℕ) (going : Going) : Type 0 where
   pub batches : List (List ℕ)
-  pub stand : Stand offset bound bytes batches (drop going.to bytes) going.to
+  pub stand : HasBatchesUpTo offset bound bytes batches (drop going.to bytes) going.to
   pub first : List ℕ
   pub others : List (List ℕ)
   pub run : from_offset offset batches ≡ first ∷ others
@@ -31,7 +31,7 @@ pub record IsGoing (bytes : List ℕ) (offset limit bound : ℕ) (going : Going)
   pub below : going.end ≤ bound
 
 -- how it has ended: at the bound, or before a batch that would pass the limit
-pub record IsDone (bytes : List ℕ) (offset limit bound : ℕ) (going : Going) : Type 0 where
+pub record HasEnded (bytes : List ℕ) (offset limit bound : ℕ) (going : Going) : Type 0 where
   pub is : IsGoing bytes offset limit bound going
   pub stops : going.end < bound → would_pass limit (length (joined (is.first ∷ is.others))) (headed (drop going.to bytes)) ≡ true
 
@@ -42,5 +42,5 @@ GoingFrom bytes offset limit bound (Err bad) = IsBadAt bytes offset limit bound 
 
 -- a run has ended, or can't
 abbrev pub Done : List ℕ → ℕ → ℕ → ℕ → Result Going BadAt → Type 0
-Done bytes offset limit bound (Ok going) = IsDone bytes offset limit bound going
+Done bytes offset limit bound (Ok going) = HasEnded bytes offset limit bound going
 Done bytes offset limit bound (Err bad) = IsBadAt bytes offset limit bound bad.at

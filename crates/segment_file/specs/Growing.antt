@@ -44,10 +44,10 @@ latest_ts [] = negsuc 0
 latest_ts (batch ∷ batches) = latest_from batch.max_ts batches
 
 -- each batch ends past where it begins, in offsets and in bytes
-abbrev pub AreLaid : ℕ → ℕ → List Placed → Type 0
-AreLaid first at [] = Unit {0}
-AreLaid first at (batch ∷ batches) =
-    (first ≤ batch.last) × (at < batch.to) × AreLaid (batch.last + 1) batch.to batches
+abbrev pub AreBatchesLaid : ℕ → ℕ → List Placed → Type 0
+AreBatchesLaid first at [] = Unit {0}
+AreBatchesLaid first at (batch ∷ batches) =
+    (first ≤ batch.last) × (at < batch.to) × AreBatchesLaid (batch.last + 1) batch.to batches
 
 -- a batch of this head may be added: it begins where the last one ends, and the segment reaches to its end
 pub record MayPush (segment : Grown) (head : Head) : Type 0 where
@@ -58,7 +58,7 @@ pub record MayPush (segment : Grown) (head : Head) : Type 0 where
 -- what a growing segment keeps
 pub record IsGrowing (base interval : ℕ) (batches : List Placed) (index : OffsetTable) (latest : ℤ) : Type 0 where
   pub base_fits : base ≤ 2 ^ 62
-  pub laid : AreLaid base 0 batches
+  pub laid : AreBatchesLaid base 0 batches
   pub near : end_after base batches ≤ base + 2 ^ 31
   pub small : size_after 0 batches < 2 ^ 31
   pub indexed : index ≡ index_of base interval batches

@@ -21,14 +21,14 @@ end_after last [] = last
 end_after last (batch ∷ batches) = end_after (Some (last_of batch + 1)) batches
 
 -- a batch may begin here: where the one before ends, and the first one not past the offset
-abbrev pub Begins : Option ℕ → ℕ → ℕ → Type 0
-Begins None offset base = base ≤ offset
-Begins (Some end) offset base = base ≡ end
+abbrev pub MayBeginAt : Option ℕ → ℕ → ℕ → Type 0
+MayBeginAt None offset base = base ≤ offset
+MayBeginAt (Some end) offset base = base ≡ end
 
 -- a batch that follows on what ends there, and ends within the bound
 pub record Follows (last : Option ℕ) (offset bound : ℕ) (batch : List ℕ) : Type 0 where
   pub is : IsOk (checked batch)
-  pub begins : Begins last offset (base_of batch)
+  pub begins : MayBeginAt last offset (base_of batch)
   pub below : last_of batch + 1 ≤ bound
 
 -- batches, each of which follows on the one before
@@ -38,7 +38,8 @@ AreBatches last offset bound (batch ∷ batches) =
     Follows last offset bound batch × AreBatches (Some (last_of batch + 1)) offset bound batches
 
 -- batches that follow are at the front of bytes, up to a place
-pub record Stand (offset bound : ℕ) (bytes : List ℕ) (batches : List (List ℕ)) (rest : List ℕ) (at : ℕ) : Type 0 where
+pub record HasBatchesUpTo (offset bound : ℕ) (bytes : List ℕ) (batches : List (List ℕ)) (rest : List ℕ)
+    (at : ℕ) : Type 0 where
   pub parts : bytes ≡ joined batches ++ rest
   pub follow : AreBatches None offset bound batches
   pub place : at ≡ length (joined batches)
@@ -60,9 +61,9 @@ Fits limit (batch ∷ []) = Unit {0}
 Fits limit (batch ∷ next ∷ run) = length (joined (batch ∷ next ∷ run)) ≤ limit
 
 -- a run that has begun continues: it ends below the bound, and the next batch wouldn't pass the limit
-abbrev pub GoesOn : ℕ → ℕ → Option ℕ → List (List ℕ) → List ℕ → Type 0
-GoesOn limit bound last [] rest = Unit {0}
-GoesOn limit bound last (first ∷ run) rest =
+abbrev pub RunContinues : ℕ → ℕ → Option ℕ → List (List ℕ) → List ℕ → Type 0
+RunContinues limit bound last [] rest = Unit {0}
+RunContinues limit bound last (first ∷ run) rest =
     ForSome last (λ end. end < bound) × (would_pass limit (length (joined (first ∷ run))) (headed rest) ≡ false)
 
 -- why a run ends: the first that holds of the high watermark, the piece's end and the limit
@@ -72,10 +73,10 @@ StopIs Piece end mark piece_end passes = (end ≢ mark) × (end ≡ piece_end)
 StopIs Limit end mark piece_end passes = (end ≢ mark) × (end ≢ piece_end) × (passes ≡ true)
 
 -- the run at an offset
-pub record IsRun (bytes : List ℕ) (offset limit mark piece_end : ℕ) (cut : Cutout) : Type 0 where
+pub record IsRunCutAt (bytes : List ℕ) (offset limit mark piece_end : ℕ) (cut : Cutout) : Type 0 where
   pub batches : List (List ℕ)
   pub rest : List ℕ
-  pub stand : Stand offset (min mark piece_end) bytes batches rest cut.to
+  pub stand : HasBatchesUpTo offset (min mark piece_end) bytes batches rest cut.to
   pub first : List ℕ
   pub others : List (List ℕ)
   pub run : from_offset offset batches ≡ first ∷ others
@@ -88,12 +89,12 @@ pub record IsRun (bytes : List ℕ) (offset limit mark piece_end : ℕ) (cut : C
 pub record IsBadAt (bytes : List ℕ) (offset limit bound at : ℕ) : Type 0 where
   pub batches : List (List ℕ)
   pub rest : List ℕ
-  pub stand : Stand offset bound bytes batches rest at
+  pub stand : HasBatchesUpTo offset bound bytes batches rest at
   pub fits : Fits limit (from_offset offset batches)
-  pub goes_on : GoesOn limit bound (end_after None batches) (from_offset offset batches) rest
+  pub goes_on : RunContinues limit bound (end_after None batches) (from_offset offset batches) rest
   pub nothing : NoBatch (end_after None batches) offset bound rest
 
 -- what is answered at an offset
-abbrev pub Takes : List ℕ → ℕ → ℕ → ℕ → ℕ → Result Cutout BadAt → Type 0
-Takes bytes offset limit mark piece_end (Ok cut) = IsRun bytes offset limit mark piece_end cut
-Takes bytes offset limit mark piece_end (Err bad) = IsBadAt bytes offset limit (min mark piece_end) bad.at
+abbrev pub AnswersRunAt : List ℕ → ℕ → ℕ → ℕ → ℕ → Result Cutout BadAt → Type 0
+AnswersRunAt bytes offset limit mark piece_end (Ok cut) = IsRunCutAt bytes offset limit mark piece_end cut
+AnswersRunAt bytes offset limit mark piece_end (Err bad) = IsBadAt bytes offset limit (min mark piece_end) bad.at

@@ -1,7 +1,7 @@
 //! A closed log segment: whole, checked batches, and what the batches come to.
 
 ghost use Rattle.std.specs.Prelude.{◌≡◌, ◌≤◌, ◌^◌, IfOk};
-ghost use Rattle.segment_file.specs.Closed.{IsWhole, ReadsWhole, AreIndexes};
+ghost use Rattle.segment_file.specs.Closed.{IsWholeSegment, ReadsSegment, AreIndexes};
 
 use crate::gathering::gather;
 use crate::marking::indexes_of;
@@ -23,13 +23,13 @@ pub struct Closed {
 }
 
 impl Model for Closed {
-    ghost use Rattle.segment_file.specs.Closed.{Whole, IsWhole, whole_of};
+    ghost use Rattle.segment_file.specs.Closed.{ClosedSegment, IsWholeSegment, whole_of};
 
-    ghost Value = { Whole };
+    ghost Value = { ClosedSegment };
 
     ghost view = { λ c. whole_of c.base c.last c.max_ts c.bytes c.epochs };
 
-    ghost invariant = { λ c. IsWhole (whole_of c.base c.last c.max_ts c.bytes c.epochs) };
+    ghost invariant = { λ c. IsWholeSegment (whole_of c.base c.last c.max_ts c.bytes c.epochs) };
 }
 
 impl Closed {
@@ -37,7 +37,7 @@ impl Closed {
     /// `ClosedRefusal` has the causes of a failure.
     pub fn read(alloc: Global, base: u64, bytes: Bytes) -> Result<Closed, ClosedRefusal>
         requires { base ≤ 2 ^ 62 }
-        ensures { ReadsWhole base bytes result }
+        ensures { ReadsSegment base bytes result }
     {
         let front = gather(alloc, base, bytes.as_slice())?;
         Ok(Closed {
@@ -86,7 +86,7 @@ impl Closed {
     /// The batches, one after another.
     pub fn bytes(&self) -> &Bytes
         ensures bytes { result.now ≡ self.now.bytes }
-        ensures whole { IsWhole self.now }
+        ensures whole { IsWholeSegment self.now }
     {
         &self.bytes
     }

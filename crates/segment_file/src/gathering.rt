@@ -3,7 +3,7 @@
 ghost use Rattle.std.specs.Prelude.{◌≡◌, ◌↔◌, ◌+◌, ◌<◌, ◌≤◌, ◌^◌, ℕ, List, IsTrue, IfSome, OnOk, OnErr, None};
 ghost use Rattle.std.specs.Option.{ForSome};
 ghost use Rattle.epoch_line.specs.Line.{last_entry};
-ghost use Rattle.segment_file.specs.Gathering.{MayGoOn, IsGathered, GoesOnAt, NothingAt, Gathers, later_ts, with_epoch, gained};
+ghost use Rattle.segment_file.specs.Gathering.{MayComeNext, IsGathered, GoesOnAt, NothingAt, Gathers, later_ts, with_epoch, gained};
 
 use crate::refusal::ClosedRefusal;
 use crate::walking::{Found, size_in, walk};
@@ -85,7 +85,7 @@ fn may_go_on(base: u64, front: &Gathered, head: &Head) -> bool
     requires base_fits { base ≤ 2 ^ 62 }
     requires end_fits { front.now.end ≤ 2 ^ 62 }
     requires small { front.now.at < 2 ^ 31 }
-    ensures { IsTrue result ↔ MayGoOn base front.now.at front.now.end front.now.epoch head.now }
+    ensures { IsTrue result ↔ MayComeNext base front.now.at front.now.end front.now.epoch head.now }
 {
     let delta = head.last_offset_delta.cast_unsigned() as u64;
     let epoch = head.leader_epoch.cast_unsigned();
@@ -107,7 +107,7 @@ fn may_go_on(base: u64, front: &Gathered, head: &Head) -> bool
 
 /// Adds the batch of a head that continues.
 fn gain(base: u64, front: &mut Gathered, head: &Head) -> Result<(), AllocError>
-    requires may { MayGoOn base front.old.at front.old.end front.old.epoch head.now }
+    requires may { MayComeNext base front.old.at front.old.end front.old.epoch head.now }
     requires epochs { ForSome (last_entry front.old.epochs) (λ entry. (entry.0 ≡ front.old.epoch) × (entry.1 < front.old.end)) }
     ensures { OnOk result (front.new ≡ gained front.old head.now) }
 {

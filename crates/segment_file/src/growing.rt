@@ -9,7 +9,7 @@ ghost use Rattle.std.specs.Option.{ForSome};
 ghost use Rattle.sparse_index.specs.Entries.{last_of};
 ghost use Rattle.sparse_index.specs.Offsets.{Rises, find};
 ghost use Rattle.segment_file.specs.Index.{placed_in, begun_at, is_due, with_offset, index_of};
-ghost use Rattle.segment_file.specs.Growing.{AreLaid, end_after, size_after, ending_by, latest_ts, with_batch, MayPush, BeginsSearch};
+ghost use Rattle.segment_file.specs.Growing.{AreBatchesLaid, end_after, size_after, ending_by, latest_ts, with_batch, MayPush, BeginsSearch};
 ghost use Rattle.segment_file.specs.Reach.{reach_at};
 
 use crate::placed::{Placed, place};
@@ -227,7 +227,7 @@ fn later(first: bool, latest: i64, own: i64) -> i64
 
 /// How many batches end at or below an offset: those in front.
 fn count_ending(base: u64, batches: &[Placed], end: u64) -> usize
-    requires { AreLaid base 0 batches.now }
+    requires { AreBatchesLaid base 0 batches.now }
     ensures within { result ≤ length batches.now }
     ensures front { take result batches.now ≡ ending_by end batches.now }
 {

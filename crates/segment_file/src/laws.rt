@@ -12,7 +12,7 @@ ghost use Rattle.segment_file.specs.Walk.{found_at};
 ghost use Rattle.segment_file.specs.Segment.{IsSegment};
 ghost use Rattle.sparse_index.specs.Entries.{last_of};
 ghost use Rattle.segment_file.specs.Index.{placed, placed_in, placed_from, index_of, time_index_of, time_of};
-ghost use Rattle.segment_file.specs.Density.{IsNear, IsTimeOf, IsTimed};
+ghost use Rattle.segment_file.specs.Density.{HasEntryNear, IsTimeOf, HasMomentFor};
 ghost use Rattle.segment_file.specs.Growing.{end_after, size_after, ending_by, AreParted};
 
 /// A batch is found where it is, whatever follows it.
@@ -69,7 +69,7 @@ pub fn placed_batches_part()
 /// No batch begins more than the interval's bytes after an entry of the offset index, or after the segment's beginning.
 pub fn each_batch_has_an_entry_near()
     ensures { (base interval : ℕ) (front rest : List (List ℕ)) (batch : List ℕ)
-        → IsNear interval (index_of base interval (placed_from 0 (front ++ batch ∷ rest))).entries
+        → HasEntryNear interval (index_of base interval (placed_from 0 (front ++ batch ∷ rest))).entries
         (length (joined front)) }
 {}
 
@@ -90,7 +90,7 @@ pub fn each_time_entry_is_the_greatest_so_far()
 /// bytes after it.
 pub fn each_batch_has_a_time_entry_near()
     ensures { (base interval : ℕ) (front rest : List (List ℕ)) (batch : List ℕ)
-        → IsTimed base (front ++ batch ∷ rest)
+        → HasMomentFor base (front ++ batch ∷ rest)
         (time_index_of base interval (placed_from 0 (front ++ batch ∷ rest))).entries
         (length (joined front) + interval) (max_ts_of batch) }
 {}

@@ -4,7 +4,7 @@
 //! shows that the batch would exceed the limit.
 
 ghost use Rattle.std.specs.Prelude.{◌≡◌, ◌<◌, ◌≤◌, ◌^◌, ◌+◌, length, take};
-ghost use Rattle.segment_file.specs.Growing.{AreLaid, end_after, size_after};
+ghost use Rattle.segment_file.specs.Growing.{AreBatchesLaid, end_after, size_after};
 ghost use Rattle.segment_file.specs.Reach.{fitting, run_reach, reach_from};
 
 use crate::growing::end_of;
@@ -15,7 +15,7 @@ const HEAD_SIZE: u32 = 61;
 
 /// Up to which position batches are needed that begin at an offset and a position.
 pub(crate) fn reach_from(first: u64, at: u32, batches: &[Placed], bound: u64, top: u64) -> u32
-    requires laid { AreLaid first at batches.now }
+    requires laid { AreBatchesLaid first at batches.now }
     requires near { end_after first batches.now < 2 ^ 64 }
     requires small { size_after at batches.now < 2 ^ 31 }
     ensures reach { result ≡ reach_from bound top at batches.now }
@@ -29,7 +29,7 @@ pub(crate) fn reach_from(first: u64, at: u32, batches: &[Placed], bound: u64, to
 
 /// Up to which position a run is needed that ends at an offset and a position by now, with these batches after it.
 fn run_reach(end: u64, at: u32, behind: &[Placed], bound: u64, top: u64) -> u32
-    requires laid { AreLaid end at behind.now }
+    requires laid { AreBatchesLaid end at behind.now }
     requires near { end_after end behind.now < 2 ^ 64 }
     requires small { size_after at behind.now < 2 ^ 31 }
     ensures reach { result ≡ run_reach bound top end at behind.now }
@@ -57,7 +57,7 @@ fn size_from(at: u32, batches: &[Placed]) -> u32
 
 /// How many batches end at or below a bound and a position: those in front.
 fn count_fitting(end: u64, at: u32, batches: &[Placed], bound: u64, top: u64) -> usize
-    requires { AreLaid end at batches.now }
+    requires { AreBatchesLaid end at batches.now }
     ensures within { result ≤ length batches.now }
     ensures front { take result batches.now ≡ fitting bound top batches.now }
 {

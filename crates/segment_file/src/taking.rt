@@ -8,8 +8,8 @@ ghost use Rattle.std.specs.Prelude.{◌≡◌, ◌≢◌, ◌↔◌, ◌-◌, �
 ghost use Rattle.std.specs.Option.{ForSome};
 ghost use Rattle.tier_base.specs.declared.plain.Stop.TheVariants as Stop;
 ghost use Rattle.record_batch.specs.Check.{headed};
-ghost use Rattle.segment_file.specs.Run.{Begins, NoBatch, would_pass, Takes};
-ghost use Rattle.segment_file.specs.Going.{IsNext, IsGoing, GoingFrom, Done};
+ghost use Rattle.segment_file.specs.Run.{MayBeginAt, NoBatch, would_pass, AnswersRunAt};
+ghost use Rattle.segment_file.specs.Going.{IsNextBatch, IsGoing, GoingFrom, Done};
 
 use crate::walking::{Found, size_in, walk};
 use record_batch::read_head;
@@ -48,7 +48,7 @@ pub fn take_run(
 ) -> Result<Cutout, BadAt>
     requires mark { offset < mark }
     requires piece { offset < piece_end }
-    ensures { Takes bytes.now offset limit mark piece_end result }
+    ensures { AnswersRunAt bytes.now offset limit mark piece_end result }
 {
     let bound = mark.min(piece_end);
     let first = snapshot(bytes, offset, bound)?;
@@ -118,7 +118,7 @@ fn would_pass(bytes: &[u8], at: usize, size: usize, limit: u64) -> bool
 
 /// Whether a batch with this base may follow one that ends there.
 fn begins(last: Option<u64>, offset: u64, base: u64) -> bool
-    ensures { IsTrue result ↔ Begins last offset base }
+    ensures { IsTrue result ↔ MayBeginAt last offset base }
 {
     match last {
         None => base <= offset,
@@ -137,7 +137,7 @@ fn follower(
     requires inside { at ≤ length bytes.now }
     requires below { offset < bound }
     requires low { ForSome last (λ end. end < bound) }
-    ensures some { IfSome result (λ x. IsNext last offset bound bytes.now at x.0 x.1) }
+    ensures some { IfSome result (λ x. IsNextBatch last offset bound bytes.now at x.0 x.1) }
     ensures none { result ≡ None → NoBatch last offset bound (drop at bytes.now) }
 {
     let Found::Batch(head) = walk(bytes, at) else {

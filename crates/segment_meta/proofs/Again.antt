@@ -15,7 +15,7 @@ use Rattle.segment_meta.specs.declared.note.Entry.{Entry}
 use Rattle.segment_meta.specs.declared.note.Front.{Front}
 use Rattle.segment_meta.specs.declared.note.Note.{Note}
 use Rattle.segment_meta.specs.declared.note.Note.TheVariants.{Add, Update}
-use Rattle.segment_meta.specs.Rules.{IsMap, IsAdded, IsCustom, MayTell, IsNote, EntryFits, NoteFits}
+use Rattle.segment_meta.specs.Rules.{IsMap, IsAdded, IsCustom, MayHaveCustom, IsNote, EntryFits, NoteFits}
 use Rattle.segment_meta.specs.Spelling.{ts_bytes, pair_bytes, pairs_bytes, span_bytes, event_bytes, entry_bytes, version_of, custom_bytes, packed_bytes, update_bytes, note_bytes}
 use Rattle.segment_meta.specs.Reading.{cut_at, number_at, ts_at, id_at, range_at, front_at, pair_at, pairs_at, packed_in, entry_of, added_in, size_may, custom_in, updated_in, kind_in, note_in}
 
@@ -206,7 +206,7 @@ size-passes DeleteStarted bytes c = let none : bytes ≡ [] = c.bare (λ wrong. 
 size-passes DeleteFinished bytes c = let none : bytes ≡ [] = c.bare (λ wrong. absurd (cc)) in rw none refl
 
 -- custom metadata is read again
-custom-again : (state : State) (custom : Option (List ℕ)) → MayTell state custom
+custom-again : (state : State) (custom : Option (List ℕ)) → MayHaveCustom state custom
     → custom_in (is_some custom) state (custom_bytes custom) ≡ Ok custom
 unfolding custom_in
 custom-again state None may = refl
@@ -217,7 +217,7 @@ custom-again state (Some bytes) may =
 -- an update is read again
 updated-again : (id : SegmentId) (broker : BrokerId) (event_ts : ℤ) (state : State) (custom : Option (List ℕ))
     → length id.0 ≡ 16 → broker.0 < 2 ^ 16 → FitsSigned w64 event_ts
-    → state ≢ CopyStarted → MayTell state custom
+    → state ≢ CopyStarted → MayHaveCustom state custom
     → updated_in (is_some custom) (update_bytes id broker event_ts state custom) ≡ Ok (Update id broker event_ts state custom)
 unfolding updated_in update_bytes
 updated-again id broker event_ts CopyStarted custom long fits fits' later may = absurd (later refl)

@@ -11,7 +11,7 @@ use Rattle.segment_meta.specs.declared.note.Note.{Note}
 use Rattle.segment_meta.specs.declared.note.Note.TheVariants.{Add, Update}
 use Rattle.segment_meta.specs.declared.refusal.NoteRefusal.{NoteRefusal}
 use Rattle.segment_meta.specs.declared.refusal.NoteRefusal.TheVariants.{BadVersion, BadState, Bad}
-use Rattle.segment_meta.specs.Rules.{IsMap, IsCustom, MayTell, IsNote}
+use Rattle.segment_meta.specs.Rules.{IsMap, IsCustom, MayHaveCustom, IsNote}
 use Rattle.segment_meta.specs.Spelling.{state_code, ts_bytes, pair_bytes, pairs_bytes, span_bytes, event_bytes, entry_bytes, version_of, custom_bytes, packed_bytes, update_bytes, note_bytes}
 use Rattle.segment_meta.specs.Reading.{passing, cut_at, number_at, ts_at, id_at, byte_at, range_at, front_at, epoch_may, start_may, pair_at, pairs_at, packed_in, entry_of, added_in, later_state, size_may, custom_in, updated_in, kind_in, note_in, Answers}
 use Rattle.segment_meta.proofs.Inverting.{peeled, ok_same, passed, whole_ok}
@@ -184,7 +184,7 @@ is-custom DeleteFinished bytes n long may =
 
 record CustomRead (packed : Bool) (state : State) (custom : Option (List ℕ)) (bytes : List ℕ) : Type 0 where
   told : packed ≡ is_some custom
-  may : MayTell state custom
+  may : MayHaveCustom state custom
   spelled : AreBytes bytes → bytes ≡ custom_bytes custom
 
 custom-read : (packed : Bool) (state : State) (bytes : List ℕ) (custom : Option (List ℕ)) → custom_in packed state bytes ≡ Ok custom

@@ -37,9 +37,9 @@ pub record IsCustom (state : State) (bytes : List ℕ) : Type 0 where
   pub bare : state ≢ CopyFinished → bytes ≡ []
 
 -- and so where it is observable
-abbrev pub MayTell : State → Option (List ℕ) → Type 0
-MayTell state None = Unit {0}
-MayTell state (Some bytes) = IsCustom state bytes
+abbrev pub MayHaveCustom : State → Option (List ℕ) → Type 0
+MayHaveCustom state None = Unit {0}
+MayHaveCustom state (Some bytes) = IsCustom state bytes
 
 -- the custom metadata of an update that reports nothing of it, of a segment that is packed or not
 abbrev pub bare_custom : Bool → Option (List ℕ)
@@ -49,7 +49,7 @@ bare_custom true = Some []
 -- the rules of an event
 abbrev pub IsNote : Note → Type 0
 IsNote (Add entry) = IsAdded entry
-IsNote (Update id broker event_ts state custom) = (state ≢ CopyStarted) × MayTell state custom
+IsNote (Update id broker event_ts state custom) = (state ≢ CopyStarted) × MayHaveCustom state custom
 
 -- an entry as a program holds it
 pub record EntryFits (entry : Entry) : Type 0 where

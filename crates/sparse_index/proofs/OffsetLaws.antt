@@ -6,7 +6,7 @@ use Rattle.std.specs.Option.{ForSome}
 use Rattle.std.proofs.lemmas.List.{length_push, take_more, take_all, length-take-le, take-append-drop}
 use Rattle.std.proofs.lemmas.Nat.{from_be_bytes-to_be_bytes_4}
 use Rattle.std.specs.Int.{w32, to_be_bytes, from_be_bytes}
-use Rattle.sparse_index.specs.Bytes.{bytes_of, IsUnread}
+use Rattle.sparse_index.specs.Bytes.{bytes_of, IsNoIndex}
 use Rattle.sparse_index.proofs.BytesLaws.{pieces-same, bytes-push, bytes-length, falls-unread, chain-front}
 use Rattle.std.specs.List.Sorted.{IsPartitionedBy}
 use Rattle.std.proofs.lemmas.Bool.{leb-true, le-leb, lt-leb, ltb-true, lt-ltb, and_parts, and_from}
@@ -142,7 +142,7 @@ pub whole-entries : (bytes : List ℕ) (entries : List (ℕ × ℕ)) → bytes �
 whole-entries bytes entries e = let size = ap length e ∙ bytes-length entry_bytes 8 (omega arith) entry-long entries in omega (arith, size)
 
 -- no index has bytes that begin with an entry that falls
-pub offsets-unread : (bytes more : List ℕ) (before : List (ℕ × ℕ)) (entry : ℕ × ℕ) → IsWide entry → AreOffsets before → (AreOffsets (before ++ entry ∷ []) → ⊥) → bytes ≡ bytes_of entry_bytes before ++ (entry_bytes entry ++ more) → IsUnread AreOffsets entry_bytes bytes
+pub offsets-unread : (bytes more : List ℕ) (before : List (ℕ × ℕ)) (entry : ℕ × ℕ) → IsWide entry → AreOffsets before → (AreOffsets (before ++ entry ∷ []) → ⊥) → bytes ≡ bytes_of entry_bytes before ++ (entry_bytes entry ++ more) → IsNoIndex AreOffsets entry_bytes bytes
 offsets-unread bytes more before entry wide stands fall parts =
     falls-unread entry_bytes 8 (omega arith) entry-long IsWide entry-same FitsEntry Rises (λ x fits. (omega (arith, fits.0), omega (arith, fits.1))) bytes more before entry wide stands fall parts
 

@@ -14,7 +14,7 @@ use Rattle.std.proofs.lemmas.Nat.{from_be_bytes-to_be_bytes_4, from_be_bytes-to_
 use Rattle.std.proofs.lemmas.Option.{slice_get-get_or, same_Some}
 use Rattle.std.proofs.lemmas.Slice.Zip.{length-zip, get_or-zip}
 use mir.Val.{to_z, of_z}
-use Rattle.sparse_index.specs.Bytes.{bytes_of, IsUnread}
+use Rattle.sparse_index.specs.Bytes.{bytes_of, IsNoIndex}
 use Rattle.sparse_index.specs.Entries.{last_of, last_passing}
 use Rattle.sparse_index.specs.Times.{TimeTable, FitsMoment, RisesInTime, AreMoments, AreTimeColumns, time_table, with_moment, moment_of, moment_bytes, moment_follows}
 use Rattle.sparse_index.proofs.Parted.{count-all, count-agree}
@@ -165,7 +165,7 @@ pub whole-entries : (bytes : List ℕ) (entries : List (ℤ × ℕ)) → bytes �
 whole-entries bytes entries e = let size = ap length e ∙ bytes-length moment_bytes 12 (omega arith) moment-long entries in omega (arith, size)
 
 -- no index has bytes that begin with an entry that falls
-pub moments-unread : (bytes more : List ℕ) (before : List (ℤ × ℕ)) (entry : ℤ × ℕ) → IsWide entry → AreMoments before → (AreMoments (before ++ entry ∷ []) → ⊥) → bytes ≡ bytes_of moment_bytes before ++ (moment_bytes entry ++ more) → IsUnread AreMoments moment_bytes bytes
+pub moments-unread : (bytes more : List ℕ) (before : List (ℤ × ℕ)) (entry : ℤ × ℕ) → IsWide entry → AreMoments before → (AreMoments (before ++ entry ∷ []) → ⊥) → bytes ≡ bytes_of moment_bytes before ++ (moment_bytes entry ++ more) → IsNoIndex AreMoments moment_bytes bytes
 moments-unread bytes more before entry wide stands fall parts =
     falls-unread moment_bytes 12 (omega arith) moment-long IsWide moment-same FitsMoment RisesInTime (λ x fits. (fits.0, omega (arith, fits.2))) bytes more before entry wide stands fall parts
 

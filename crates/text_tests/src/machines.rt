@@ -1,7 +1,7 @@
 //! The happy path of each public call, and an entry that is refused. Expected values are worked by hand.
 
 ghost use Rattle.std.specs.Prelude.{◌≡◌, All, IfOk};
-ghost use Rattle.plain_executor.specs.Fits.{AreFor, IsFor};
+ghost use Rattle.plain_executor.specs.Fits.{AreFor, IsBuildableAppend};
 
 use plain_executor::{Plain, first_refused, is_complete, is_complete_run, is_run};
 use plain_log::{ActorList, Answer, Command, Config, Event, JournalEntry, Order};
@@ -159,7 +159,7 @@ fn told_fresh(alloc: Global) -> Option<(Option<(u128, u64)>, (u64, u64, u32, usi
 
 /// An actor's flushes of broker 1.
 fn flushes(alloc: Global, actor: u16, count: u32) -> Result<ActorList, AllocError>
-    ensures { IfOk result (λ list. All (λ order. IsFor order.command) list.orders) }
+    ensures { IfOk result (λ list. All (λ order. IsBuildableAppend order.command) list.orders) }
 {
     let mut orders = Row::new(alloc);
     for _ in 0..count {

@@ -1,7 +1,7 @@
 //! A journal and a summary, worked by hand.
 
 ghost use Rattle.std.specs.Prelude.{◌≡◌, All, IfOk};
-ghost use Rattle.plain_executor.specs.Fits.{AreFor, IsFor};
+ghost use Rattle.plain_executor.specs.Fits.{AreFor, IsBuildableAppend};
 
 use plain_log::{ActorList, Answer, Command, Config, Event, JournalEntry, Order};
 use run_summary::{End, Given, Told, summary, tell};
@@ -26,7 +26,7 @@ fn config() -> Config
 
 /// An actor's fetch from broker 0, and its flush there.
 fn list(alloc: Global) -> Result<ActorList, AllocError>
-    ensures { IfOk result (λ list. All (λ order. IsFor order.command) list.orders) }
+    ensures { IfOk result (λ list. All (λ order. IsBuildableAppend order.command) list.orders) }
 {
     let broker = BrokerId(0);
     let mut orders = Row::new(alloc);

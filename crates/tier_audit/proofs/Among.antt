@@ -10,7 +10,7 @@ use Rattle.sparse_index.proofs.Chains.{chain-push, chain-last}
 use Rattle.segment_file.proofs.Laying.{last_push}
 use Rattle.segment_file.proofs.Joining.{all_parts}
 use Rattle.tier_audit.specs.Flaws.{IsFirstBad}
-use Rattle.tier_audit.specs.Entries.{IsBehind, IsLeft, IsRead}
+use Rattle.tier_audit.specs.Entries.{IsBehind, IsLeftOf, ArePartlyRead}
 
 all_push : {X : Type 0} (P : X → Type 0) (xs : List X) (x : X) → AllByRecursion P xs → P x → AllByRecursion P (xs ++ x ∷ [])
 all_push P [] x all one = (one, tt)
@@ -66,7 +66,7 @@ module _ {X : Type 0} (Fits : X → Type 0) (R : X → X → Type 0) (along : (x
   Are items entries = IsChain Fits R entries × AllByRecursion (λ entry. In entry items) entries
 
   -- an entry continues where it is one of those that are left
-  goes_on : (items left before : List X) (item : X) → IsChain Fits R items → IsLeft items left before → Are items before → In item left → Are items (before ++ item ∷ [])
+  goes_on : (items left before : List X) (item : X) → IsChain Fits R items → IsLeftOf items left before → Are items before → In item left → Are items (before ++ item ∷ [])
   goes_on items left before item chain l are there =
       let row : IsChain Fits R (l.passed ++ left) = subst (IsChain Fits R) l.parts chain in
       let in-all : In item (l.passed ++ left) = in_back item l.passed left there in (
@@ -76,7 +76,7 @@ module _ {X : Type 0} (Fits : X → Type 0) (R : X → X → Type 0) (along : (x
       )
 
   -- and only there
-  only_left : (items left before : List X) (item : X) → IsChain Fits R items → IsLeft items left before → Are items (before ++ item ∷ []) → In item left
+  only_left : (items left before : List X) (item : X) → IsChain Fits R items → IsLeftOf items left before → Are items (before ++ item ∷ []) → In item left
   only_left items left before item chain l are =
       let row : IsChain Fits R (l.passed ++ left) = subst (IsChain Fits R) l.parts chain in
       let above = (chain-last Fits R before item are.0).1 in
@@ -108,7 +108,7 @@ module _ {X : Type 0} (Fits : X → Type 0) (R : X → X → Type 0) (along : (x
               ]
 
   -- those that are left behind it
-  left_more : (items left before more : List X) (item : X) → IsLeft items left before → IsBehind item left more → IsLeft items more (before ++ item ∷ [])
+  left_more : (items left before more : List X) (item : X) → IsLeftOf items left before → IsBehind item left more → IsLeftOf items more (before ++ item ∷ [])
   left_more items left before more item l b = record {
     passed = (l.passed ++ b.front) ++ item ∷ [];
     parts = l.parts ∙ (ap (λ ys. l.passed ++ ys) b.parts ∙ (sym (append_assoc l.passed b.front (item ∷ more)) ∙ sym (append_assoc (l.passed ++ b.front) (item ∷ []) more)));
@@ -118,7 +118,7 @@ module _ {X : Type 0} (Fits : X → Type 0) (R : X → X → Type 0) (along : (x
   behind_in : (item : X) (left more : List X) → IsBehind item left more → In item left
   behind_in item left more b = subst (In item) (sym b.parts) (in_back item b.front (item ∷ more) (inl refl))
 
-  none_left : (items : List X) → IsLeft items items []
+  none_left : (items : List X) → IsLeftOf items items []
   none_left items = record { passed = []; parts = refl; last = refl }
 
   front_are : (items xs ys : List X) → Are items (xs ++ ys) → Are items xs
@@ -126,7 +126,7 @@ module _ {X : Type 0} (Fits : X → Type 0) (R : X → X → Type 0) (along : (x
 
   module _ (spelling : X → List ℕ) (n : ℕ) (some : 0 < n) (long : (x : X) → length (spelling x) ≡ n) (Raw : X → Type 0) (same : (x y : X) → Raw x → Raw y → spelling x ≡ spelling y → x ≡ y) (weak : (x : X) → Fits x → Raw x) where
     abbrev Reads : List X → List ℕ → List ℕ → List X → Type 0
-    Reads items bytes rest left = IsRead n (bytes_of spelling) (Are items) items bytes rest left
+    Reads items bytes rest left = ArePartlyRead n (bytes_of spelling) (Are items) items bytes rest left
 
     raws : (items entries : List X) → Are items entries → AllByRecursion Raw entries
     raws items entries are = go entries are.0

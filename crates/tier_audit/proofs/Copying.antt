@@ -24,9 +24,9 @@ use Rattle.object_store.specs.Place.{key_of, whole, at_in, length_in, part_of, t
 use Rattle.tier_audit.specs.declared.verdict.Flaw.{Flaw}
 use Rattle.tier_audit.specs.declared.verdict.Flaw.TheVariants.{NoEntry, Left, Custom, Missing, Wrong}
 use Rattle.tier_audit.specs.declared.log_part.LogPart.TheVariants as log_part
-use Rattle.tier_audit.specs.Asking.{Asks}
-use Rattle.tier_audit.specs.Whole.{Describes, AreMarks, AreHeights, IsRight, place_of, Stands, Hold, IsReadable, AreReadable}
-use Rattle.tier_audit.specs.Flaws.{IsEntryPlace, HasLog, IsPlace, IsPlaceIn, in_object, parts_before, IsWrong, IsAtPart, IsCopyFlaw}
+use Rattle.tier_audit.specs.Asking.{OnlyAsks}
+use Rattle.tier_audit.specs.Whole.{Describes, AreMarks, AreHeights, IsPartRight, place_of, IsPartStored, PartsHold, IsReadable, AreReadable}
+use Rattle.tier_audit.specs.Flaws.{IsEntryPlace, HasCopiedLog, IsFlawPlace, IsPlaceIn, in_object, parts_before, IsWrong, IsAtPart, IsCopyFlaw}
 use Rattle.tier_audit.specs.Copies.{IsPlaceBeside, ReadsSpot, ReadsLogSpot, from_rest, IsWrongBeside, FindsAt, FindsPart, FindsParts, FindsCopy, IsFirstUnreadable}
 
 -- a store that was asked holds the same
@@ -41,11 +41,11 @@ tells_on old new keeps is_observable = keeps.is_observable ∙ is_observable
 
 module _ {S : Type 0} (objects : S → Content) (calls : S → Control call_code) where
   -- it wasn't asked
-  pub asks_none : (store : S) → Asks objects calls Went store store
+  pub asks_none : (store : S) → OnlyAsks objects calls Went store store
   asks_none store = record { control = lasts_same (calls store); cause = λ e. absurd (cc); content = record { is_observable = refl; objects = λ k. refl } }
 
   -- it was asked, and then again
-  pub asks_then : (fate : Fate) (old mid new : S) → Asks objects calls Went old mid → Asks objects calls fate mid new → Asks objects calls fate old new
+  pub asks_then : (fate : Fate) (old mid new : S) → OnlyAsks objects calls Went old mid → OnlyAsks objects calls fate mid new → OnlyAsks objects calls fate old new
   asks_then fate old mid new first second = record {
     control = lasts_then (calls old) (calls mid) (calls new) first.control second.control;
     cause = λ e. (let later = first.control.never_falls in let rose = second.cause e in omega (arith, later, rose));
@@ -80,26 +80,26 @@ reaches at owed object some from =
 
 module _ (objects : Objects) (entry : Entry) (batches : List (List ℕ)) where
   -- a part that is has one object
-  same_spot : (part : Part) (s : Stands objects entry batches part) (spot : Spot) → place_of entry part ≡ Some spot → s.spot ≡ spot
+  same_spot : (part : Part) (s : IsPartStored objects entry batches part) (spot : Spot) → place_of entry part ≡ Some spot → s.spot ≡ spot
   same_spot part s spot place = same_Some s.spot spot (sym s.place ∙ place)
 
-  same_object : (part : Part) (s : Stands objects entry batches part) (spot : Spot) (object : List ℕ) → place_of entry part ≡ Some spot → objects spot.key ≡ Some object → s.object ≡ object
+  same_object : (part : Part) (s : IsPartStored objects entry batches part) (spot : Spot) (object : List ℕ) → place_of entry part ≡ Some spot → objects spot.key ≡ Some object → s.object ≡ object
   same_object part s spot object place there =
       same_Some s.object object (sym s.there ∙ (ap (λ (q : Spot). objects q.key) (same_spot part s spot place) ∙ there))
 
   -- and so the same bytes
-  pub stands_so : (part : Part) (s : Stands objects entry batches part) (spot : Spot) (object : List ℕ) → place_of entry part ≡ Some spot → objects spot.key ≡ Some object
-      → (short_of spot (all_of spot object) ≡ None) × IsRight entry batches part (all_of spot object)
+  pub stands_so : (part : Part) (s : IsPartStored objects entry batches part) (spot : Spot) (object : List ℕ) → place_of entry part ≡ Some spot → objects spot.key ≡ Some object
+      → (short_of spot (all_of spot object) ≡ None) × IsPartRight entry batches part (all_of spot object)
   stands_so part s spot object place there =
-      subst (λ (o : List ℕ). (short_of spot (all_of spot o) ≡ None) × IsRight entry batches part (all_of spot o)) (same_object part s spot object place there)
-      (subst (λ (q : Spot). (short_of q (all_of q s.object) ≡ None) × IsRight entry batches part (all_of q s.object)) (same_spot part s spot place) (s.whole, s.right))
+      subst (λ (o : List ℕ). (short_of spot (all_of spot o) ≡ None) × IsPartRight entry batches part (all_of spot o)) (same_object part s spot object place there)
+      (subst (λ (q : Spot). (short_of q (all_of q s.object) ≡ None) × IsPartRight entry batches part (all_of q s.object)) (same_spot part s spot place) (s.whole, s.right))
 
   -- the parts before one that is in the same object reach up to it
   module _ (l : Layout) (packed : entry.packed ≡ true) (told : told_layout entry.custom ≡ Some l) (object : List ℕ) (there : objects (key_of entry.partition entry.id Pack) ≡ Some object) where
     placed : (part : Part) → place_of entry part ≡ Some (part_of (key_of entry.partition entry.id Pack) l part)
     placed part = rw (packed, told) refl
 
-    over : (part : Part) → Stands objects entry batches part → at_in l part ≤ length object → at_in l part + length_in l part ≤ length object
+    over : (part : Part) → IsPartStored objects entry batches part → at_in l part ≤ length object → at_in l part + length_in l part ≤ length object
     over part s from =
         let so = stands_so part s (part_of (key_of entry.partition entry.id Pack) l part) object (placed part) there in
         reaches (at_in l part) (length_in l part) object (enough (at_in l part) (length_in l part) (length (take (length_in l part) (drop (at_in l part) object))) so.0) from
@@ -141,7 +141,7 @@ module _ (objects : Objects) (entry : Entry) (spot : Spot) (place : place_of ent
         from : spot.at ≤ length object
         from = from_part objects entry [] Log (λ l object packed told there. omega arith) spot object place there
 
-        found : ((batches : List (List ℕ)) → Describes entry batches → Stands objects entry batches Log → ⊥) → IsPlaceIn objects entry Log (short_of spot (all_of spot object)) (all_of spot object) within
+        found : ((batches : List (List ℕ)) → Describes entry batches → IsPartStored objects entry batches Log → ⊥) → IsPlaceIn objects entry Log (short_of spot (all_of spot object)) (all_of spot object) within
             → IsCopyFlaw objects entry (Wrong spot.key (from_rest spot (drop spot.at object) within))
         found wrong p = (
           at_log,
@@ -195,37 +195,37 @@ part_told objects entry log part spot rest within place given reads =
     (part_wrong objects entry log part spot place g.0 g.1 within
     (subst (λ (bytes : List ℕ). ReadsSpot entry log part (short_of spot (capped spot.len bytes)) (capped spot.len bytes) (Some within)) g.2 reads))
 
-module _ (objects : Objects) (entry : Entry) (log : List (List ℕ)) (has : HasLog objects entry log) where
+module _ (objects : Objects) (entry : Entry) (log : List (List ℕ)) (has : HasCopiedLog objects entry log) where
   -- no other batches are the log
-  same_log : (batches : List (List ℕ)) → HasLog objects entry batches → batches ≡ log
+  same_log : (batches : List (List ℕ)) → HasCopiedLog objects entry batches → batches ≡ log
   same_log batches h =
       let other = stands_so objects entry log Log has.log h.log.spot h.log.object h.log.place h.log.there in
       segment_same entry.start entry.start batches log h.describes.is has.describes.is (sym h.log.right ∙ other.1)
 
-  all_same : (parts : List Part) → Hold objects entry (Log ∷ parts) → AllByRecursion (Stands objects entry log) (Log ∷ parts)
+  all_same : (parts : List Part) → PartsHold objects entry (Log ∷ parts) → AllByRecursion (IsPartStored objects entry log) (Log ∷ parts)
   all_same parts h =
-      subst (λ (bs : List (List ℕ)). AllByRecursion (Stands objects entry bs) (Log ∷ parts)) (same_log h.0 (record { describes = h.1; log = h.2.0 })) h.2
+      subst (λ (bs : List (List ℕ)). AllByRecursion (IsPartStored objects entry bs) (Log ∷ parts)) (same_log h.0 (record { describes = h.1; log = h.2.0 })) h.2
 
-  place_beside : (part : Part) (bytes : List ℕ) (at : ℕ) → IsPlaceBeside entry log part bytes at → IsPlace objects entry part bytes at
+  place_beside : (part : Part) (bytes : List ℕ) (at : ℕ) → IsPlaceBeside entry log part bytes at → IsFlawPlace objects entry part bytes at
   place_beside Log bytes at p = p
   place_beside Index bytes at p = λ batches h. subst (λ (bs : List (List ℕ)). IsEntryPlace 8 (bytes_of entry_bytes) (AreMarks entry.start bs) bytes at) (sym (same_log batches h)) p
   place_beside TimeIndex bytes at p = λ batches h. subst (λ (bs : List (List ℕ)). IsEntryPlace 12 (bytes_of moment_bytes) (AreHeights entry.start bs) bytes at) (sym (same_log batches h)) p
   place_beside Epochs bytes at p = p
   place_beside Pack bytes at p = p
 
-  last_stands : (part : Part) (front : List Part) → Hold objects entry (Log ∷ front ++ part ∷ []) → Stands objects entry log part
+  last_stands : (part : Part) (front : List Part) → PartsHold objects entry (Log ∷ front ++ part ∷ []) → IsPartStored objects entry log part
   last_stands part front h =
       let all = all_same (front ++ part ∷ []) h in
-      (all_parts (Stands objects entry log) front (part ∷ []) all.1).1.0
+      (all_parts (IsPartStored objects entry log) front (part ∷ []) all.1).1.0
 
-  hold_all : (front : List Part) → AllByRecursion (Stands objects entry log) (Log ∷ front) → Hold objects entry (Log ∷ front)
+  hold_all : (front : List Part) → AllByRecursion (IsPartStored objects entry log) (Log ∷ front) → PartsHold objects entry (Log ∷ front)
   hold_all front all = (log, has.describes, all)
 
   -- a flaw of a part is the copy's, where the parts before it are
-  module _ (part : Part) (own : part ≢ Pack) (front : List Part) (is : parts_before part ≡ Log ∷ front) (all : AllByRecursion (Stands objects entry log) (Log ∷ front))
+  module _ (part : Part) (own : part ≢ Pack) (front : List Part) (is : parts_before part ≡ Log ∷ front) (all : AllByRecursion (IsPartStored objects entry log) (Log ∷ front))
       (far : (l : Layout) (object : List ℕ) → entry.packed ≡ true → told_layout entry.custom ≡ Some l → objects (key_of entry.partition entry.id Pack) ≡ Some object → at_in l part ≤ length object) where
     abbrev at_part : (spot : Spot) → place_of entry part ≡ Some spot → IsAtPart objects entry spot.key
-    at_part spot place = record { part = part; own = own; spot = spot; place = place; key_is = refl; before = subst (Hold objects entry) (sym is) (hold_all front all) }
+    at_part spot place = record { part = part; own = own; spot = spot; place = place; key_is = refl; before = subst (PartsHold objects entry) (sym is) (hold_all front all) }
 
     wrong_at : (spot : Spot) (at : ℕ) → place_of entry part ≡ Some spot → IsWrongBeside objects entry log part spot at → IsWrong objects entry part spot at
     wrong_at spot at place w = by (short_of spot (all_of spot w.object)) refl w.reads
@@ -233,11 +233,11 @@ module _ (objects : Objects) (entry : Entry) (log : List (List ℕ)) (has : HasL
         told : at ≡ in_object spot w.object w.within
         told = w.at_is ∙ end_told objects entry log spot w.object w.within (from_part objects entry log part far spot w.object place w.there)
 
-        found : (Stands objects entry log part → ⊥) → IsPlaceIn objects entry part (short_of spot (all_of spot w.object)) (all_of spot w.object) w.within → IsWrong objects entry part spot at
+        found : (IsPartStored objects entry log part → ⊥) → IsPlaceIn objects entry part (short_of spot (all_of spot w.object)) (all_of spot w.object) w.within → IsWrong objects entry part spot at
         found wrong p = record {
           object = w.object;
           there = w.there;
-          wrong = λ h. wrong (last_stands part front (subst (λ (parts : List Part). Hold objects entry (parts ++ part ∷ [])) is h));
+          wrong = λ h. wrong (last_stands part front (subst (λ (parts : List Part). PartsHold objects entry (parts ++ part ∷ [])) is h));
           within = w.within;
           place = p;
           at_is = told;
@@ -272,22 +272,22 @@ module _ (objects : Objects) (entry : Entry) (log : List (List ℕ)) (has : HasL
   index_from : (l : Layout) (object : List ℕ) → entry.packed ≡ true → told_layout entry.custom ≡ Some l → objects (key_of entry.partition entry.id Pack) ≡ Some object → l.log ≤ length object
   index_from l object packed told there = (let up : 0 + l.log ≤ length object = over objects entry log l packed told object there Log has.log (omega arith) in omega (arith, up))
 
-  times_from : Stands objects entry log Index → (l : Layout) (object : List ℕ) → entry.packed ≡ true → told_layout entry.custom ≡ Some l → objects (key_of entry.partition entry.id Pack) ≡ Some object
+  times_from : IsPartStored objects entry log Index → (l : Layout) (object : List ℕ) → entry.packed ≡ true → told_layout entry.custom ≡ Some l → objects (key_of entry.partition entry.id Pack) ≡ Some object
       → l.log + l.index ≤ length object
   times_from index l object packed told there = over objects entry log l packed told object there Index index (index_from l object packed told there)
 
-  epochs_from : Stands objects entry log Index → Stands objects entry log TimeIndex → (l : Layout) (object : List ℕ) → entry.packed ≡ true → told_layout entry.custom ≡ Some l
+  epochs_from : IsPartStored objects entry log Index → IsPartStored objects entry log TimeIndex → (l : Layout) (object : List ℕ) → entry.packed ≡ true → told_layout entry.custom ≡ Some l
       → objects (key_of entry.partition entry.id Pack) ≡ Some object → l.log + l.index + l.times ≤ length object
   epochs_from index times l object packed told there = over objects entry log l packed told object there TimeIndex times (times_from index l object packed told there)
 
   pub index_flaw : (flaw : Flaw) → FindsPart objects entry log Index (Some flaw) → IsCopyFlaw objects entry flaw
   index_flaw = part_flaw Index (λ e. absurd (cc (e))) [] refl (has.log, tt) index_from
 
-  pub times_flaw : Stands objects entry log Index → (flaw : Flaw) → FindsPart objects entry log TimeIndex (Some flaw) → IsCopyFlaw objects entry flaw
+  pub times_flaw : IsPartStored objects entry log Index → (flaw : Flaw) → FindsPart objects entry log TimeIndex (Some flaw) → IsCopyFlaw objects entry flaw
   times_flaw index = part_flaw TimeIndex (λ e. absurd (cc (e))) (Index ∷ []) refl (has.log, (index, tt)) (times_from index)
 
   -- what is found of the last part
-  pub last_found : Stands objects entry log Index → Stands objects entry log TimeIndex → (r : Result (Option Flaw) Trouble) → IfOk r (λ found. FindsPart objects entry log Epochs found) → IfOk r (λ found. FindsParts objects entry found)
+  pub last_found : IsPartStored objects entry log Index → IsPartStored objects entry log TimeIndex → (r : Result (Option Flaw) Trouble) → IfOk r (λ found. FindsPart objects entry log Epochs found) → IfOk r (λ found. FindsParts objects entry found)
   last_found index times (Ok None) epochs = hold_all (Index ∷ TimeIndex ∷ Epochs ∷ []) (has.log, (index, (times, (epochs, tt))))
   last_found index times (Ok (Some flaw)) found = part_flaw Epochs (λ e. absurd (cc (e))) (Index ∷ TimeIndex ∷ []) refl (has.log, (index, (times, tt))) (epochs_from index times) flaw found
   last_found index times (Err e) found = found

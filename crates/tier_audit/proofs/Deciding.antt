@@ -4,14 +4,14 @@ use Rattle.std.specs.Option.{option_map}
 use Rattle.tier_base.specs.declared.plain.State.{State}
 use Rattle.tier_base.specs.declared.plain.State.TheVariants.{DeleteFinished}
 use Rattle.tier_base.specs.declared.object_key.ObjectKey.{ObjectKey}
-use Rattle.tier_base.specs.Told.{In, Names}
+use Rattle.tier_base.specs.Told.{In, NamesAllHeld}
 use Rattle.segment_meta.specs.declared.note.Entry.{Entry}
 use Rattle.object_store.specs.Content.{Objects}
 use Rattle.remote_view.specs.Fold.{entry_of, state_of}
 use Rattle.tier_sweep.specs.Rest.{AreNamed, NoneIsLeft}
 use Rattle.tier_audit.specs.declared.verdict.Flaw.{Flaw}
 use Rattle.tier_audit.specs.declared.verdict.Flaw.TheVariants.{NoEntry, Left, Custom, Missing, Wrong}
-use Rattle.tier_audit.specs.Whole.{AreReadable, IsWhole}
+use Rattle.tier_audit.specs.Whole.{AreReadable, IsWholeTier}
 use Rattle.tier_audit.specs.Flaws.{is_stray, IsFirstStray, IsFirstOfCopies, IsFirstFlaw}
 use Rattle.tier_audit.specs.Strays.{goes, IsLeast, FindsStray}
 use Rattle.tier_audit.specs.Copies.{IsFirstUnreadable}
@@ -24,7 +24,7 @@ stays_named (Some entry) e = refl
 stays_left : (o : Option State) → is_stray o ≡ false → o ≢ Some DeleteFinished
 stays_left o e is = (let go : is_stray o ≡ true = ap is_stray is in cc)
 
-module _ (objects : Objects) (entries : List Entry) (keys : List ObjectKey) (names : Names objects keys) where
+module _ (objects : Objects) (entries : List Entry) (keys : List ObjectKey) (names : NamesAllHeld objects keys) where
   -- where no object is to go, each has an entry and none is left
   pub all_named : ((key : ObjectKey) → In key keys → goes entries key ≡ false) → AreNamed objects entries
   all_named none key there = stays_named (entry_of key.id entries) (none key ((names.are key).0 there))
@@ -65,5 +65,5 @@ module _ (objects : Objects) (entries : List Entry) (keys : List ObjectKey) (nam
   copy_is_first none (Wrong key at) u = of_copies none (Wrong key at) u
 
   -- or all is right
-  pub whole_is : ((key : ObjectKey) → In key keys → goes entries key ≡ false) → AreReadable objects entries → IsWhole objects entries
+  pub whole_is : ((key : ObjectKey) → In key keys → goes entries key ≡ false) → AreReadable objects entries → IsWholeTier objects entries
   whole_is none readable = record { named = all_named none; none_left = none_left none; readable = readable }

@@ -17,7 +17,7 @@ use Rattle.segment_file.specs.declared.placed.Placed.{Placed}
 use Rattle.segment_file.specs.declared.walking.Found.TheVariants as found
 use Rattle.segment_file.specs.Walk.{size_in, found_at}
 use Rattle.segment_file.specs.Segment.{greatest_from, greatest_ts}
-use Rattle.segment_file.specs.Gathering.{Tells, with_epoch, later_ts}
+use Rattle.segment_file.specs.Gathering.{HeadDescribes, with_epoch, later_ts}
 use Rattle.segment_file.specs.Index.{placed, placed_in, placed_from}
 use Rattle.segment_file.proofs.Finding.{not_empty}
 use Rattle.segment_file.proofs.Standing.{AreBytes, bytes_drop, front_bytes, standing}
@@ -26,15 +26,15 @@ use Rattle.segment_file.proofs.Runs.{joined_append, joined_push}
 use Rattle.segment_file.proofs.Joining.{all_parts, end_push, end_append, consecutive_parts, consecutive_up, segment_push, segment_last, segment_front, parts_same}
 use Rattle.segment_file.proofs.Placing.{placed_push}
 use Rattle.segment_meta.specs.declared.note.Entry.{Entry}
-use Rattle.remote_view.specs.Fold.{IsKept}
+use Rattle.remote_view.specs.Fold.{IsEntryValid}
 use Rattle.tier_audit.specs.declared.log_part.Front.{Front}
 use Rattle.tier_audit.specs.Whole.{Describes}
-use Rattle.tier_audit.specs.Flaws.{IsFirstBad, MayBegin}
-use Rattle.tier_audit.specs.Logs.{AreBegun, BeginsMore, IsFront, IsNear, MayCome, ComesNext, NothingNext, Gains, IsStopped, IsAll, HasBatches}
+use Rattle.tier_audit.specs.Flaws.{IsFirstBad, MayBeginLog}
+use Rattle.tier_audit.specs.Logs.{AreBegun, BeginsMore, IsLogFront, IsNextHead, MayCome, ComesNext, NoBatchComes, FrontGains, IsFrontStopped, IsAll, HasBatches}
 use Rattle.tier_audit.proofs.Lines.{line_push, line_front, epochs_up, own_epochs}
 
 -- a batch that may come has a head that says so
-pub near_by : (entry : Entry) (front : Front) (batch : List ℕ) (head : Head) → Tells batch head → MayCome entry front batch → IsNear entry front head
+pub near_by : (entry : Entry) (front : Front) (batch : List ℕ) (head : Head) → HeadDescribes batch head → MayCome entry front batch → IsNextHead entry front head
 near_by entry front batch head t m = record {
   begins = t.base ∙ m.begins;
   within = (let b = m.begins in let d = t.delta in let w = m.within in omega (arith, b, d, w));
@@ -45,12 +45,12 @@ near_by entry front batch head t m = record {
 
 -- the batch that was found may come, where its head says so
 pub comes_next : (entry : Entry) (bytes : List ℕ) (front : Front) (head : Head) (next : Placed) (more : Option ℕ) → AreBytes bytes → front.at ≤ length bytes
-    → found_at front.at (drop front.at bytes) ≡ found.Batch head → IsNear entry front head → next ≡ placed_in front.at head → epoch_at entry.map front.end ≡ Some (cast_unsigned w32 head.leader_epoch)
+    → found_at front.at (drop front.at bytes) ≡ found.Batch head → IsNextHead entry front head → next ≡ placed_in front.at head → epoch_at entry.map front.end ≡ Some (cast_unsigned w32 head.leader_epoch)
     → BeginsMore entry.map front.snapshot (cast_unsigned w32 head.leader_epoch) front.end more → ComesNext entry bytes front (next, more)
 comes_next entry bytes front head next more clean inside e near place has snapshot =
     let s = standing front.at bytes head clean inside e in
     let clean' : AreBytes s.batch = front_bytes s.batch _ (subst AreBytes s.parts (bytes_drop front.at bytes clean)) in
-    let t : Tells s.batch head = subst (Tells s.batch) (sym s.head_is) (is_observable s.batch clean' s.is) in
+    let t : HeadDescribes s.batch head = subst (HeadDescribes s.batch) (sym s.head_is) (is_observable s.batch clean' s.is) in
     let start : front.end ≡ base_of s.batch = sym near.begins ∙ t.base in
     let size : size_in head ≡ length s.batch = s.size in
     let own : epoch_at entry.map (base_of s.batch) ≡ Some (epoch_of s.batch) = ap (epoch_at entry.map) (sym start) ∙ has ∙ ap (λ (n : ℕ). Some n) t.epoch in
@@ -93,8 +93,8 @@ begun_more map xs batch (Some n) (Some m) are is =
     (line_push xs batch ∙ (ap (λ (line : List (ℕ × ℕ)). with_epoch line (epoch_of batch) (base_of batch)) are.0 ∙ is.0), is.1)
 
 -- a front may begin the log with a batch more that may come
-begins_more : (entry : Entry) (bytes : List ℕ) (front : Front) (batch : List ℕ) → IsKept entry → (f : IsFront entry bytes front) → IsOk (checked batch) → MayCome entry front batch
-    → MayBegin entry (f.batches ++ batch ∷ [])
+begins_more : (entry : Entry) (bytes : List ℕ) (front : Front) (batch : List ℕ) → IsEntryValid entry → (f : IsLogFront entry bytes front) → IsOk (checked batch) → MayCome entry front batch
+    → MayBeginLog entry (f.batches ++ batch ∷ [])
 begins_more entry bytes front batch kept f ok m =
     let end = end_push entry.start f.batches batch in
     let b = f.begins in
@@ -135,7 +135,7 @@ greatest_push at (x ∷ xs) batch all e =
     rw (not_empty at (omega (arith, e, long, size))) (greatest_from_push (max_ts_of x) xs batch)
 
 -- the front with the batch that comes next
-pub front_more : (entry : Entry) (bytes : List ℕ) (old new : Front) (next : Placed × Option ℕ) → IsKept entry → IsFront entry bytes old → ComesNext entry bytes old next → Gains old next new → IsFront entry bytes new
+pub front_more : (entry : Entry) (bytes : List ℕ) (old new : Front) (next : Placed × Option ℕ) → IsEntryValid entry → IsLogFront entry bytes old → ComesNext entry bytes old next → FrontGains old next new → IsLogFront entry bytes new
 front_more entry bytes old new next kept f n g =
     let batch = n.batch in
     let more = joined_push f.batches batch in
@@ -162,7 +162,7 @@ drop_front [] ys = refl
 drop_front (x ∷ xs) ys = drop_front xs ys
 
 -- a batch that makes a longer front may come
-may_come : (entry : Entry) (bytes : List ℕ) (front : Front) (batch : List ℕ) → (f : IsFront entry bytes front) → MayBegin entry (f.batches ++ batch ∷ []) → MayCome entry front batch
+may_come : (entry : Entry) (bytes : List ℕ) (front : Front) (batch : List ℕ) → (f : IsLogFront entry bytes front) → MayBeginLog entry (f.batches ++ batch ∷ []) → MayCome entry front batch
 may_come entry bytes front batch f b =
     let on = segment_last entry.start f.batches batch b.is in
     let end = end_push entry.start f.batches batch in
@@ -181,7 +181,7 @@ may_come entry bytes front batch f b =
     }
 
 -- where none comes next the front goes no further
-pub stopped_here : (entry : Entry) (bytes : List ℕ) (front : Front) → IsFront entry bytes front → NothingNext entry bytes front → IsStopped entry bytes front
+pub stopped_here : (entry : Entry) (bytes : List ℕ) (front : Front) → IsLogFront entry bytes front → NoBatchComes entry bytes front → IsFrontStopped entry bytes front
 stopped_here entry bytes front f none = record {
   is = f;
   stops = λ batch more parts b.
@@ -191,7 +191,7 @@ stopped_here entry bytes front f none = record {
 }
 
 -- so it is at the bytes' end
-pub stopped_end : (entry : Entry) (bytes : List ℕ) (front : Front) → IsFront entry bytes front → length bytes ≤ front.at → IsStopped entry bytes front
+pub stopped_end : (entry : Entry) (bytes : List ℕ) (front : Front) → IsLogFront entry bytes front → length bytes ≤ front.at → IsFrontStopped entry bytes front
 stopped_end entry bytes front f all = record {
   is = f;
   stops = λ batch more parts b.
@@ -227,7 +227,7 @@ each_up [] = tt
 each_up (x ∷ xs) = (greatest_above (max_ts_of x) xs, from_each (max_ts_of x) xs (greatest_ts (x ∷ xs)) refl)
 
 -- the front of a right log may begin it
-pub describes_begins : (entry : Entry) (xs ys : List (List ℕ)) → Describes entry (xs ++ ys) → MayBegin entry xs
+pub describes_begins : (entry : Entry) (xs ys : List (List ℕ)) → Describes entry (xs ++ ys) → MayBeginLog entry xs
 describes_begins entry xs ys d =
     let row = consecutive_parts entry.start xs ys d.is.consecutive in
     let up = consecutive_up (end_from entry.start xs) ys row.1 in
@@ -252,7 +252,7 @@ take_all (suc n) [] e = refl
 take_all (suc n) (x ∷ xs) e = ap (λ ys. x ∷ ys) (take_all n xs (omega (arith, e)))
 
 -- batches that come to all are the log
-pub has_batches : (entry : Entry) (bytes : List ℕ) (front : Front) (found : List Placed) → IsFront entry bytes front → IsAll entry (length bytes) front → found ≡ front.batches.items → HasBatches entry bytes found
+pub has_batches : (entry : Entry) (bytes : List ℕ) (front : Front) (found : List Placed) → IsLogFront entry bytes front → IsAll entry (length bytes) front → found ≡ front.batches.items → HasBatches entry bytes found
 has_batches entry bytes front found f a same =
     let at = f.at_is in
     let some = a.some in
@@ -281,7 +281,7 @@ all_begun map xs None are same = absurd (are ([], append-nil (line_of xs) ∙ sy
 all_begun map xs (Some n) are same = ap (λ (k : ℕ). Some k) (prefix_short (line_of xs) map n are.0 are.1 same)
 
 -- batches that are right come to all
-comes_to_all : (entry : Entry) (bytes : List ℕ) (front : Front) → (f : IsFront entry bytes front) → Describes entry f.batches → length (drop front.at bytes) ≡ 0 → IsAll entry (length bytes) front
+comes_to_all : (entry : Entry) (bytes : List ℕ) (front : Front) → (f : IsLogFront entry bytes front) → Describes entry f.batches → length (drop front.at bytes) ≡ 0 → IsAll entry (length bytes) front
 comes_to_all entry bytes front f d none =
     let at = f.at_is in
     let size = d.size_is in
@@ -299,7 +299,7 @@ comes_to_all entry bytes front f d none =
     filled (x ∷ xs) full all e = (let long = checked_long x all.0 in let size = length-append x (joined xs) in omega (arith, long, size, e))
 
 -- a log whose front goes no further and doesn't come to all is wrong
-pub not_right : (entry : Entry) (bytes : List ℕ) (front : Front) → IsStopped entry bytes front → (IsAll entry (length bytes) front → ⊥) → (batches : List (List ℕ)) → Describes entry batches → bytes ≢ joined batches
+pub not_right : (entry : Entry) (bytes : List ℕ) (front : Front) → IsFrontStopped entry bytes front → (IsAll entry (length bytes) front → ⊥) → (batches : List (List ℕ)) → Describes entry batches → bytes ≢ joined batches
 not_right entry bytes front s none batches d e =
     let f = s.is in
     let same = parts_same f.batches batches (drop front.at bytes) f.begins.is.checked d.is.checked (sym e ∙ f.parts) in
@@ -312,7 +312,7 @@ not_right entry bytes front s none batches d e =
         s.stops m (joined more) (e ∙ (ap joined whole ∙ joined_append (s.is.batches ++ m ∷ []) more)) (describes_begins entry (s.is.batches ++ m ∷ []) more (subst (Describes entry) whole d))
 
 -- and this place is reported of it
-pub first_bad : (entry : Entry) (bytes : List ℕ) (front : Front) → IsStopped entry bytes front → IsFirstBad joined (MayBegin entry) bytes front.at
+pub first_bad : (entry : Entry) (bytes : List ℕ) (front : Front) → IsFrontStopped entry bytes front → IsFirstBad joined (MayBeginLog entry) bytes front.at
 first_bad entry bytes front s = record {
   before = s.is.batches;
   rest = drop front.at bytes;

@@ -8,7 +8,7 @@ use Rattle.sparse_index.specs.Entries.{IsChain, StandsBefore}
 use Rattle.sparse_index.specs.Offsets.{AreOffsets}
 use Rattle.sparse_index.specs.Times.{RisesInTime, AreMoments}
 use Rattle.segment_file.specs.declared.placed.Placed.{Placed}
-use Rattle.segment_file.specs.Growing.{AreLaid, end_after, size_after}
+use Rattle.segment_file.specs.Growing.{AreBatchesLaid, end_after, size_after}
 use Rattle.segment_file.proofs.Laying.{end_up, size_up}
 use Rattle.segment_file.proofs.Placing.{placed_end, placed_size}
 use Rattle.segment_file.proofs.Tracking.{placed_laid}
@@ -18,7 +18,7 @@ use Rattle.tier_audit.specs.Entries.{ArePlaced}
 -- batches that are laid as far as a segment reaches
 pub record AreNear (base first at : ℕ) (batches : List Placed) : Type 0 where
   pub from : base ≤ first
-  pub laid : AreLaid first at batches
+  pub laid : AreBatchesLaid first at batches
   pub near : end_after first batches ≤ base + 2 ^ 31
   pub small : size_after at batches < 2 ^ 31
 

@@ -35,7 +35,7 @@ use Rattle.object_store.specs.Content.{Objects}
 use Rattle.object_store.specs.declared.placing.Spot.{Spot}
 use Rattle.object_store.specs.Place.{key_of, own_keys, whole, at_in, length_in, part_of, told_layout, all_of, short_of}
 use Rattle.object_store.proofs.Parts.{parts_stand, parts_whole, not_short}
-use Rattle.tier_audit.specs.Whole.{Describes, marks_of, heights_of, AreOf, AreTimesOf, AreMarks, AreHeights, IsRight, place_of, Stands, IsReadable, ArePut}
+use Rattle.tier_audit.specs.Whole.{Describes, marks_of, heights_of, AreEntriesOf, AreTimesOf, AreMarks, AreHeights, IsPartRight, place_of, IsPartStored, IsReadable, ArePut}
 use Rattle.tier_audit.proofs.Fronts.{each_up}
 use Rattle.tier_audit.proofs.Marks.{AreNear, IsNearOne, near_one, near_rest, placed_near}
 
@@ -52,11 +52,11 @@ all_in items item there = there
 
 module _ (base interval : ℕ) (all : List (ℕ × ℕ)) where
   -- the entries with that of a batch more
-  offset_more : (first : ℕ) (marks : Marks) (batch : Placed) → IsNearOne base first marks.size batch → In (batch.last - base, marks.size) all → LastBelow base marks.entries first marks.size → AreOf all marks.entries
-      → AreOf all (with_offset base interval marks.entries marks.size batch.last)
+  offset_more : (first : ℕ) (marks : Marks) (batch : Placed) → IsNearOne base first marks.size batch → In (batch.last - base, marks.size) all → LastBelow base marks.entries first marks.size → AreEntriesOf all marks.entries
+      → AreEntriesOf all (with_offset base interval marks.entries marks.size batch.last)
   offset_more first marks batch n there below are = go (is_due interval marks.entries marks.size) refl
     where
-      go : (t : Bool) → is_due interval marks.entries marks.size ≡ t → AreOf all (with_offset base interval marks.entries marks.size batch.last)
+      go : (t : Bool) → is_due interval marks.entries marks.size ≡ t → AreEntriesOf all (with_offset base interval marks.entries marks.size batch.last)
       go true t =
           let from = n.from in
           let up = n.up in
@@ -71,8 +71,8 @@ module _ (base interval : ℕ) (all : List (ℕ × ℕ)) where
       go false t = rw t are
 
   -- and with those of all batches more
-  offsets_by : (first : ℕ) (marks : Marks) (batches : List Placed) → AreNear base first marks.size batches → AllIn (marks_of base marks.size batches) all → LastBelow base marks.entries first marks.size → AreOf all marks.entries
-      → AreOf all (marked_by base interval marks batches).entries
+  offsets_by : (first : ℕ) (marks : Marks) (batches : List Placed) → AreNear base first marks.size batches → AllIn (marks_of base marks.size batches) all → LastBelow base marks.entries first marks.size → AreEntriesOf all marks.entries
+      → AreEntriesOf all (marked_by base interval marks batches).entries
   offsets_by first marks [] n there below are = are
   offsets_by first marks (batch ∷ batches) n there below are =
       let one = near_one base first marks.size batch batches n in
@@ -250,7 +250,7 @@ module _ (entry : Entry) (batches : List (List ℕ)) (line : List (ℕ × ℕ)) 
       time_more entry.start interval all entry.max_ts fits marks.moments marks.top t.top t.tops.from_base t.tops.near t.tops.above t.are
 
   -- each part is right
-  pub part_right : (part : Part) → part ≢ Pack → IsRight entry batches part (part_in (parts_of batches line interval) part)
+  pub part_right : (part : Part) → part ≢ Pack → IsPartRight entry batches part (part_in (parts_of batches line interval) part)
   part_right Pack own = absurd (own refl)
   part_right Log own = refl
   part_right Index own = (
@@ -283,18 +283,18 @@ copy_readable objects entry batches line interval d fits rises map put =
     key : ObjectKey
     key = key_of entry.partition entry.id Pack
 
-    at : (spot : Spot) (part : Part) → part ≢ Pack → (object : List ℕ) → place_of entry part ≡ Some spot → objects spot.key ≡ Some object → short_of spot (all_of spot object) ≡ None → all_of spot object ≡ part_in parts part → Stands objects entry batches part
+    at : (spot : Spot) (part : Part) → part ≢ Pack → (object : List ℕ) → place_of entry part ≡ Some spot → objects spot.key ≡ Some object → short_of spot (all_of spot object) ≡ None → all_of spot object ≡ part_in parts part → IsPartStored objects entry batches part
     at spot part other object place there whole is = record {
       spot = spot;
       place = place;
       object = object;
       there = there;
       whole = whole;
-      right = subst (IsRight entry batches part) (sym is) (part_right entry batches line interval d fits rises map part other);
+      right = subst (IsPartRight entry batches part) (sym is) (part_right entry batches line interval d fits rises map part other);
     }
 
     -- each has an object of its own
-    own : entry.packed ≡ false → (part : Part) → part ≢ Pack → Stands objects entry batches part
+    own : entry.packed ≡ false → (part : Part) → part ≢ Pack → IsPartStored objects entry batches part
     own is part other = at (whole (key_of entry.partition entry.id part)) part other (part_in parts part) (rw is refl) (by part other) refl refl
       where
         nth : (n : ℕ) (part : Part) → slice_get (own_keys entry.partition entry.id) n ≡ Some (key_of entry.partition entry.id part) → objects (key_of entry.partition entry.id part) ≡ Some (part_in parts part)
@@ -308,7 +308,7 @@ copy_readable objects entry batches line interval d fits rises map put =
         by Pack other = absurd (other refl)
 
     -- or all have one
-    pack : entry.packed ≡ true → (part : Part) → part ≢ Pack → Stands objects entry batches part
+    pack : entry.packed ≡ true → (part : Part) → part ≢ Pack → IsPartStored objects entry batches part
     pack is part other = at (part_of key (layout_of parts) part) part other (part_in parts Pack) place there whole (bytes part other)
       where
         told : told_layout entry.custom ≡ Some (layout_of parts)
@@ -331,9 +331,9 @@ copy_readable objects entry batches line interval d fits rises map put =
         whole = not_short (at_in (layout_of parts) part) (Some (length_in (layout_of parts) part)) (all_of (part_of key (layout_of parts) part) (part_in parts Pack))
             (subst (λ (bytes : List ℕ). length_in (layout_of parts) part ≡ length bytes) (sym (parts_stand key parts.log parts.index parts.times parts.epochs part)) (parts_whole key parts.log parts.index parts.times parts.epochs part))
 
-    one : (part : Part) → part ≢ Pack → Stands objects entry batches part
+    one : (part : Part) → part ≢ Pack → IsPartStored objects entry batches part
     one part other = by entry.packed refl
       where
-        by : (packed : Bool) → entry.packed ≡ packed → Stands objects entry batches part
+        by : (packed : Bool) → entry.packed ≡ packed → IsPartStored objects entry batches part
         by false is = own is part other
         by true is = pack is part other

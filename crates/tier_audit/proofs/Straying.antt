@@ -15,22 +15,22 @@ use Rattle.tier_base.specs.Told.{In}
 use Rattle.segment_meta.specs.declared.note.Entry.{Entry}
 use Rattle.remote_view.specs.Fold.{entry_of, state_of}
 use Rattle.tier_audit.specs.declared.keys.Stray.{Stray}
-use Rattle.tier_audit.specs.Flaws.{is_stray, IsUpTo}
-use Rattle.tier_audit.specs.Strays.{goes, IsFirstIn, IsBehind, Offers, flaw_of, FindsStray}
+use Rattle.tier_audit.specs.Flaws.{is_stray, IsTextUpTo}
+use Rattle.tier_audit.specs.Strays.{goes, IsFirstIn, ComesBehind, Offers, flaw_of, FindsStray}
 use Rattle.tier_audit.proofs.Among.{in_front, in_parts}
 
 -- a text doesn't come after itself
-itself : (text : List ℕ) → IsUpTo text text
+itself : (text : List ℕ) → IsTextUpTo text text
 itself text = ap is_gt (tied_itself nat_list_cmp_total text)
 
-along : (a b c : List ℕ) → IsUpTo a b → IsUpTo b c → IsUpTo a c
+along : (a b c : List ℕ) → IsTextUpTo a b → IsTextUpTo b c → IsTextUpTo a c
 along = upto nat_list_cmp_total
 
 -- of two texts one doesn't come after the other
-either : (a b : List ℕ) → (IsUpTo a b → ⊥) → IsUpTo b a
+either : (a b : List ℕ) → (IsTextUpTo a b → ⊥) → IsTextUpTo b a
 either a b none = go (slice_cmp nat_cmp a b) refl
   where
-    go : (o : Ordering) → slice_cmp nat_cmp a b ≡ o → IsUpTo b a
+    go : (o : Ordering) → slice_cmp nat_cmp a b ≡ o → IsTextUpTo b a
     go Less e = absurd (none (ap is_gt e))
     go Equal e = absurd (none (ap is_gt e))
     go Greater e = ap is_gt (nat_list_cmp_total.antisymm b a ∙ ap ordering_reverse e)
@@ -62,14 +62,14 @@ first_passed entries keys key (Some stray) stays h = (
 pub first_offered : (entries : List Entry) (keys : List ObjectKey) (key : ObjectKey) (old new : Option Stray) → goes entries key ≡ true → IsFirstIn entries keys old → Offers key old new → IsFirstIn entries (keys ++ key ∷ []) new
 first_offered entries keys key old new go h (inl kept) = subst (IsFirstIn entries (keys ++ key ∷ [])) (sym kept.0) (by old h kept.1)
   where
-    by : (old : Option Stray) → IsFirstIn entries keys old → IsBehind (key_text key) old → IsFirstIn entries (keys ++ key ∷ []) old
+    by : (old : Option Stray) → IsFirstIn entries keys old → ComesBehind (key_text key) old → IsFirstIn entries (keys ++ key ∷ []) old
     by None h behind = absurd behind
     by (Some stray) h behind = (
       record {
         within = in_front stray.key keys (key ∷ []) h.0.within;
         least = λ other there goes-too. elim (in_parts other keys (key ∷ []) there) [
           | inl was ↦ h.0.least other was goes-too
-          | inr is ↦ subst (λ (x : ObjectKey). IsUpTo (key_text stray.key) (key_text x)) (sym (is_last other key is)) (subst (λ (t : List ℕ). IsUpTo t (key_text key)) h.2 behind)
+          | inr is ↦ subst (λ (x : ObjectKey). IsTextUpTo (key_text stray.key) (key_text x)) (sym (is_last other key is)) (subst (λ (t : List ℕ). IsTextUpTo t (key_text key)) h.2 behind)
         ];
       },
       h.1,
@@ -80,9 +80,9 @@ first_offered entries keys key old (Some stray) go h (inr taken) =
     let is : stray.key ≡ key = taken.0.0 in (
       record {
         within = subst (λ (x : ObjectKey). In x (keys ++ key ∷ [])) (sym is) (in_last key keys);
-        least = λ other there goes-too. subst (λ (x : ObjectKey). IsUpTo (key_text x) (key_text other)) (sym is) (elim (in_parts other keys (key ∷ []) there) [
+        least = λ other there goes-too. subst (λ (x : ObjectKey). IsTextUpTo (key_text x) (key_text other)) (sym is) (elim (in_parts other keys (key ∷ []) there) [
           | inl was ↦ by old h taken.1 other was goes-too
-          | inr new ↦ subst (λ (x : ObjectKey). IsUpTo (key_text key) (key_text x)) (sym (is_last other key new)) (itself (key_text key))
+          | inr new ↦ subst (λ (x : ObjectKey). IsTextUpTo (key_text key) (key_text x)) (sym (is_last other key new)) (itself (key_text key))
         ]);
       },
       subst (λ (x : ObjectKey). goes entries x ≡ true) (sym is) go,
@@ -93,10 +93,10 @@ first_offered entries keys key old (Some stray) go h (inr taken) =
     in_last key [] = inl refl
     in_last key (x ∷ keys) = inr (in_last key keys)
 
-    by : (old : Option Stray) → IsFirstIn entries keys old → (IsBehind (key_text key) old → ⊥) → (other : ObjectKey) → In other keys → goes entries other ≡ true → IsUpTo (key_text key) (key_text other)
+    by : (old : Option Stray) → IsFirstIn entries keys old → (ComesBehind (key_text key) old → ⊥) → (other : ObjectKey) → In other keys → goes entries other ≡ true → IsTextUpTo (key_text key) (key_text other)
     by None h none other was goes-too = absurd (let no : goes entries other ≡ false = h other was in cc)
     by (Some first) h none other was goes-too =
-        let before : IsUpTo (key_text key) (key_text first.key) = subst (IsUpTo (key_text key)) h.2 (either first.text.items (key_text key) none) in
+        let before : IsTextUpTo (key_text key) (key_text first.key) = subst (IsTextUpTo (key_text key)) h.2 (either first.text.items (key_text key) none) in
         along (key_text key) (key_text first.key) (key_text other) before (h.0.least other was goes-too)
 
 -- one key on

@@ -96,7 +96,7 @@ concat_push [] line = append-nil line
 concat_push (x ∷ lines) line = ap (λ t. x ++ t) (concat_push lines line) ∙ sym (append_assoc x (concat lines) line)
 
 -- a text that other read: it is wrong, and the place is reported
-pub bad_text : (entry : Entry) (bytes : List ℕ) (number at : ℕ) → text.IsFirstBad bytes number → at ≡ place_behind (number - 1) bytes
+pub bad_text : (entry : Entry) (bytes : List ℕ) (number at : ℕ) → text.IsFirstBadLine bytes number → at ≡ place_behind (number - 1) bytes
     → ((line : List (ℕ × ℕ)) → HasMap entry bytes line → ⊥) × IsFirstBad concat CanBegin bytes at
 bad_text entry bytes number at bad is =
     let counted = bad.counted in

@@ -20,7 +20,7 @@ use Rattle.tier_audit.specs.declared.refusal.AuditRefusal.TheVariants.{StoreFaul
 
 module _ {S : Type 0} (objects : S → Content) (calls : S → Control call_code) where
   -- calls that read alone ended so: a fault was counted
-  pub record Asks (fate : Fate) (old new : S) : Type 0 where
+  pub record OnlyAsks (fate : Fate) (old new : S) : Type 0 where
     pub control : Lasts (calls old) (calls new)
     pub cause : fate ≡ Fault → Rose (calls old).faults (calls new).faults
     pub content : Keeps (objects old) (objects new)
@@ -31,20 +31,20 @@ pub data AllRead (old : Control call_code) : Control call_code → Type 0 where
   OneRead : (mid new : Control call_code) → AllRead old mid → Ran Get Went mid new → AllRead old new
 
 -- reads of objects that all went, and a last one that ended so; none such where no fault is reported
-pub record Reads (fate : Fate) (old new : Control call_code) : Type 0 where
+pub record ReadsObjects (fate : Fate) (old new : Control call_code) : Type 0 where
   pub mid : Control call_code
   pub before : AllRead old mid
   pub last : Ran Get fate mid new ⊎ ((fate ≢ Fault) × (new ≡ mid))
 
 -- one listing that went, and reads after it
-pub record ListsFirst (fate : Fate) (old new : Control call_code) : Type 0 where
+pub record ListsAndReads (fate : Fate) (old new : Control call_code) : Type 0 where
   pub mid : Control call_code
   pub lists : RanQuietly Keys Went old mid
-  pub reads : Reads fate mid new
+  pub reads : ReadsObjects fate mid new
 
 -- one listing, and reads after it where it went
 abbrev pub Audits : Fate → Control call_code → Control call_code → Type 0
-Audits fate old new = RanQuietly Keys fate old new ⊎ ListsFirst fate old new
+Audits fate old new = RanQuietly Keys fate old new ⊎ ListsAndReads fate old new
 
 -- the calls of the store in an audit, by what it answers
 abbrev pub AsksStore : {T : Type 0} → Result T AuditRefusal → Control call_code → Control call_code → Type 0

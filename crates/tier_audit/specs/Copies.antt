@@ -19,46 +19,46 @@ use Rattle.tier_audit.specs.declared.verdict.Flaw.{Flaw}
 use Rattle.tier_audit.specs.declared.verdict.Flaw.TheVariants.{Custom, Missing, Wrong}
 use Rattle.tier_audit.specs.declared.copies.LogFound.{LogFound}
 use Rattle.tier_audit.specs.declared.copies.LogFound.TheVariants as log_found
-use Rattle.tier_audit.specs.Whole.{AreMarks, AreHeights, IsRight, place_of, Stands, Hold, all_parts, IsReadable, AreReadable}
+use Rattle.tier_audit.specs.Whole.{AreMarks, AreHeights, IsPartRight, place_of, IsPartStored, PartsHold, all_parts, IsReadable, AreReadable}
 use Rattle.tier_audit.specs.Entries.{ArePlaced}
-use Rattle.tier_audit.specs.Logs.{ReadsLog}
+use Rattle.tier_audit.specs.Logs.{AuditsLog}
 use Rattle.tier_audit.specs.declared.log_part.LogPart.{LogPart}
 use Rattle.tier_audit.specs.declared.log_part.LogPart.TheVariants as log_part
-use Rattle.tier_audit.specs.Flaws.{IsFirstBad, MayBegin, IsEntryPlace, HasLog, IsCopyFlaw}
+use Rattle.tier_audit.specs.Flaws.{IsFirstBad, MayBeginLog, IsEntryPlace, HasCopiedLog, IsCopyFlaw}
 
 -- the batches of a copy's log, as they are in it
 pub record HasPlaced (objects : Objects) (entry : Entry) (found : List Placed) : Type 0 where
   pub batches : List (List ℕ)
-  pub log : HasLog objects entry batches
+  pub log : HasCopiedLog objects entry batches
   pub found_are : found ≡ placed_from 0 batches
 
 -- the place that is reported of a part beside these batches
 abbrev pub IsPlaceBeside : Entry → List (List ℕ) → Part → List ℕ → ℕ → Type 0
-IsPlaceBeside entry batches Log bytes at = IsFirstBad joined (MayBegin entry) bytes at
+IsPlaceBeside entry batches Log bytes at = IsFirstBad joined (MayBeginLog entry) bytes at
 IsPlaceBeside entry batches Index bytes at = IsEntryPlace 8 (bytes_of entry_bytes) (AreMarks entry.start batches) bytes at
 IsPlaceBeside entry batches TimeIndex bytes at = IsEntryPlace 12 (bytes_of moment_bytes) (AreHeights entry.start batches) bytes at
 IsPlaceBeside entry batches Epochs bytes at = IsFirstBad concat CanBegin bytes at
 IsPlaceBeside entry batches Pack bytes at = ⊥
 
 -- what is found of a part's bytes beside these batches: that they are right, or the place that is reported
-abbrev pub ReadsPart : Entry → List (List ℕ) → Part → List ℕ → Option ℕ → Type 0
-ReadsPart entry batches part bytes None = IsRight entry batches part bytes
-ReadsPart entry batches part bytes (Some at) = (IsRight entry batches part bytes → ⊥) × IsPlaceBeside entry batches part bytes at
+abbrev pub AuditsPart : Entry → List (List ℕ) → Part → List ℕ → Option ℕ → Type 0
+AuditsPart entry batches part bytes None = IsPartRight entry batches part bytes
+AuditsPart entry batches part bytes (Some at) = (IsPartRight entry batches part bytes → ⊥) × IsPlaceBeside entry batches part bytes at
 
 -- what is found of a part's bytes, by where the object ends before the part does
 abbrev pub ReadsSpot : Entry → List (List ℕ) → Part → Option ℕ → List ℕ → Option ℕ → Type 0
 ReadsSpot entry batches part (Some end) bytes found = found ≡ Some (length bytes)
-ReadsSpot entry batches part None bytes found = ReadsPart entry batches part bytes found
+ReadsSpot entry batches part None bytes found = AuditsPart entry batches part bytes found
 
 -- what is found of a log's bytes, by the same
 abbrev pub ReadsLogSpot : Entry → Option ℕ → List ℕ → LogPart → Type 0
 ReadsLogSpot entry (Some end) bytes found = found ≡ log_part.Wrong (length bytes)
-ReadsLogSpot entry None bytes found = ReadsLog entry bytes found
+ReadsLogSpot entry None bytes found = AuditsLog entry bytes found
 
 -- the place that is reported of a log's bytes is within them
-abbrev pub IsWithin : List ℕ → LogPart → Type 0
-IsWithin bytes (log_part.Right found) = Unit {0}
-IsWithin bytes (log_part.Wrong at) = at ≤ length bytes
+abbrev pub IsPlaceWithin : List ℕ → LogPart → Type 0
+IsPlaceWithin bytes (log_part.Right found) = Unit {0}
+IsPlaceWithin bytes (log_part.Wrong at) = at ≤ length bytes
 
 -- a place in a part, reported as one in its object, of which these are the bytes from the part on: the part's end as
 -- the object's
@@ -75,7 +75,7 @@ pub record IsWrongBeside (objects : Objects) (entry : Entry) (batches : List (Li
 
 -- what is found of a part beside these batches, by where it is
 abbrev pub FindsAt : Objects → Entry → List (List ℕ) → Part → Option Spot → Option Flaw → Type 0
-FindsAt objects entry batches part spot None = Stands objects entry batches part
+FindsAt objects entry batches part spot None = IsPartStored objects entry batches part
 FindsAt objects entry batches part None (Some (Custom id)) = id ≡ entry.id
 FindsAt objects entry batches part (Some spot) (Some (Missing key)) = (key ≡ spot.key) × (objects key ≡ None)
 FindsAt objects entry batches part (Some spot) (Some (Wrong key at)) =
@@ -98,7 +98,7 @@ PlacesLog entry (log_found.Flawed flaw) = Unit {0}
 
 -- what is found of all parts of a copy
 abbrev pub FindsParts : Objects → Entry → Option Flaw → Type 0
-FindsParts objects entry None = Hold objects entry all_parts
+FindsParts objects entry None = PartsHold objects entry all_parts
 FindsParts objects entry (Some flaw) = IsCopyFlaw objects entry flaw
 
 -- what is found of an entry's copy

@@ -24,15 +24,15 @@ pub record IsBehind {X : Type 0} (item : X) (items left : List X) : Type 0 where
   pub parts : items ≡ front ++ item ∷ left
 
 -- these are left of a list, after the last of the entries so far
-pub record IsLeft {X : Type 0} (items left before : List X) : Type 0 where
+pub record IsLeftOf {X : Type 0} (items left before : List X) : Type 0 where
   pub passed : List X
   pub parts : items ≡ passed ++ left
   pub last : last_of before ≡ last_of passed
 
 -- the entries so far, at the front of the bytes
-pub record IsRead {X : Type 0} (width : ℕ) (spelled : List X → List ℕ) (Are : List X → Type 0) (items : List X) (bytes rest : List ℕ) (left : List X) : Type 0 where
+pub record ArePartlyRead {X : Type 0} (width : ℕ) (spelled : List X → List ℕ) (Are : List X → Type 0) (items : List X) (bytes rest : List ℕ) (left : List X) : Type 0 where
   pub before : List X
   pub parts : bytes ≡ spelled before ++ rest
   pub are : Are before
-  pub left_is : IsLeft items left before
+  pub left_is : IsLeftOf items left before
   pub even : length rest % width ≡ 0

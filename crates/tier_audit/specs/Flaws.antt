@@ -8,10 +8,10 @@
 -- that the entry's map has at its base offset, or it can't exist.
 --
 --   form                                 says
---   IsFirstBad spelled MayBegin b at     the first place in bytes at which an item can't exist
+--   IsFirstBad spelled MayBeginLog b at     the first place in bytes at which an item can't exist
 --   IsWrong objects entry part at        a part exists and isn't right, and this place is reported of it
 --   IsFirstFlaw objects entries flaw     the first flaw
---   IsVerdict objects entries verdict    what an audit says
+--   IsAuditVerdict objects entries verdict    what an audit says
 use Rattle.std.specs.Prelude.{◌≡◌, ◌≢◌, ◌⊎◌, ℕ, ◌+◌, ◌≤◌, ◌%◌, ◌==◌, if◌then◌else◌, Bool, true, false, ◌≤ℤ◌, List, [], ◌∷◌, ◌++◌, length, Option, Some, None, IsSome}
 use Rattle.std.specs.List.{AllByRecursion, concat}
 use Rattle.std.specs.Ordering.{nat_cmp, is_gt}
@@ -22,7 +22,7 @@ use Rattle.tier_base.specs.declared.plain.State.{State}
 use Rattle.tier_base.specs.declared.plain.State.TheVariants.{CopyFinished, DeleteFinished}
 use Rattle.tier_base.specs.declared.object_key.ObjectKey.{ObjectKey}
 use Rattle.tier_base.specs.Key.{key_text}
-use Rattle.tier_base.specs.Told.{Names}
+use Rattle.tier_base.specs.Told.{NamesAllHeld}
 use Rattle.log_terms.specs.Batch.{base_of, epoch_of, max_ts_of}
 use Rattle.log_terms.specs.Line.{epoch_at}
 use Rattle.log_terms.specs.Log.{joined, end_from}
@@ -41,20 +41,20 @@ use Rattle.tier_audit.specs.declared.verdict.Flaw.{Flaw}
 use Rattle.tier_audit.specs.declared.verdict.Flaw.TheVariants.{NoEntry, Left, Custom, Missing, Wrong}
 use Rattle.tier_audit.specs.declared.verdict.Verdict.{Verdict}
 use Rattle.tier_audit.specs.declared.verdict.Verdict.TheVariants.{Sound, Unsound}
-use Rattle.tier_audit.specs.Whole.{Describes, AreMarks, AreHeights, place_of, Stands, Hold, AreReadable, IsWhole}
+use Rattle.tier_audit.specs.Whole.{Describes, AreMarks, AreHeights, place_of, IsPartStored, PartsHold, AreReadable, IsWholeTier}
 
 -- the items before a place may begin bytes, and with one more that is there they may not
-pub record IsFirstBad {X : Type 0} (spelled : List X → List ℕ) (MayBegin : List X → Type 0) (bytes : List ℕ) (at : ℕ) : Type 0 where
+pub record IsFirstBad {X : Type 0} (spelled : List X → List ℕ) (MayBeginLog : List X → Type 0) (bytes : List ℕ) (at : ℕ) : Type 0 where
   pub before : List X
   pub rest : List ℕ
   pub parts : bytes ≡ spelled before ++ rest
   pub place : at ≡ length (spelled before)
-  pub begins : MayBegin before
-  pub stops : (item : X) (more : List ℕ) → bytes ≡ spelled (before ++ item ∷ []) ++ more → MayBegin (before ++ item ∷ []) → ⊥
+  pub begins : MayBeginLog before
+  pub stops : (item : X) (more : List ℕ) → bytes ≡ spelled (before ++ item ∷ []) ++ more → MayBeginLog (before ++ item ∷ []) → ⊥
 
 -- batches may begin the log of a copy: they end within it, each has the map's epoch at its base, and none is past its
 -- greatest timestamp
-pub record MayBegin (entry : Entry) (batches : List (List ℕ)) : Type 0 where
+pub record MayBeginLog (entry : Entry) (batches : List (List ℕ)) : Type 0 where
   pub is : IsSegment entry.start batches
   pub within : end_from entry.start batches ≤ entry.end + 1
   pub epochs : AllByRecursion (λ batch. epoch_at entry.map (base_of batch) ≡ Some (epoch_of batch)) batches
@@ -62,30 +62,30 @@ pub record MayBegin (entry : Entry) (batches : List (List ℕ)) : Type 0 where
 
 -- the place that is reported of entries of one width
 abbrev pub IsEntryPlace : {X : Type 0} → ℕ → (List X → List ℕ) → (List X → Type 0) → List ℕ → ℕ → Type 0
-IsEntryPlace width spelled MayBegin bytes at =
-    ((length bytes % width ≢ 0) × (at ≡ length bytes)) ⊎ ((length bytes % width ≡ 0) × IsFirstBad spelled MayBegin bytes at)
+IsEntryPlace width spelled MayBeginLog bytes at =
+    ((length bytes % width ≢ 0) × (at ≡ length bytes)) ⊎ ((length bytes % width ≡ 0) × IsFirstBad spelled MayBeginLog bytes at)
 
 -- the batches of a copy's log, where that is right
-pub record HasLog (objects : Objects) (entry : Entry) (batches : List (List ℕ)) : Type 0 where
+pub record HasCopiedLog (objects : Objects) (entry : Entry) (batches : List (List ℕ)) : Type 0 where
   pub describes : Describes entry batches
-  pub log : Stands objects entry batches Log
+  pub log : IsPartStored objects entry batches Log
 
 -- the place that is reported of a part's bytes
-abbrev pub IsPlace : Objects → Entry → Part → List ℕ → ℕ → Type 0
-IsPlace objects entry Log bytes at = IsFirstBad joined (MayBegin entry) bytes at
-IsPlace objects entry Index bytes at =
-    (batches : List (List ℕ)) → HasLog objects entry batches
+abbrev pub IsFlawPlace : Objects → Entry → Part → List ℕ → ℕ → Type 0
+IsFlawPlace objects entry Log bytes at = IsFirstBad joined (MayBeginLog entry) bytes at
+IsFlawPlace objects entry Index bytes at =
+    (batches : List (List ℕ)) → HasCopiedLog objects entry batches
     → IsEntryPlace 8 (bytes_of entry_bytes) (AreMarks entry.start batches) bytes at
-IsPlace objects entry TimeIndex bytes at =
-    (batches : List (List ℕ)) → HasLog objects entry batches
+IsFlawPlace objects entry TimeIndex bytes at =
+    (batches : List (List ℕ)) → HasCopiedLog objects entry batches
     → IsEntryPlace 12 (bytes_of moment_bytes) (AreHeights entry.start batches) bytes at
-IsPlace objects entry Epochs bytes at = IsFirstBad concat CanBegin bytes at
-IsPlace objects entry Pack bytes at = ⊥
+IsFlawPlace objects entry Epochs bytes at = IsFirstBad concat CanBegin bytes at
+IsFlawPlace objects entry Pack bytes at = ⊥
 
 -- the same, by where the object ends before the part does: then it is the bytes' end
 abbrev pub IsPlaceIn : Objects → Entry → Part → Option ℕ → List ℕ → ℕ → Type 0
 IsPlaceIn objects entry part (Some end) bytes at = at ≡ length bytes
-IsPlaceIn objects entry part None bytes at = IsPlace objects entry part bytes at
+IsPlaceIn objects entry part None bytes at = IsFlawPlace objects entry part bytes at
 
 -- a place in a part, reported as one in its object: the part's end as the object's
 abbrev pub in_object : Spot → List ℕ → ℕ → ℕ
@@ -103,7 +103,7 @@ parts_before Pack = []
 pub record IsWrong (objects : Objects) (entry : Entry) (part : Part) (spot : Spot) (at : ℕ) : Type 0 where
   pub object : List ℕ
   pub there : objects spot.key ≡ Some object
-  pub wrong : Hold objects entry (parts_before part ++ part ∷ []) → ⊥
+  pub wrong : PartsHold objects entry (parts_before part ++ part ∷ []) → ⊥
   pub within : ℕ
   pub place : IsPlaceIn objects entry part (short_of spot (all_of spot object)) (all_of spot object) within
   pub at_is : at ≡ in_object spot object within
@@ -115,7 +115,7 @@ pub record IsAtPart (objects : Objects) (entry : Entry) (key : ObjectKey) : Type
   pub spot : Spot
   pub place : place_of entry part ≡ Some spot
   pub key_is : key ≡ spot.key
-  pub before : Hold objects entry (parts_before part)
+  pub before : PartsHold objects entry (parts_before part)
 
 -- the first flaw of a finished copy
 abbrev pub IsCopyFlaw : Objects → Entry → Flaw → Type 0
@@ -133,14 +133,14 @@ is_stray (Some DeleteFinished) = true
 is_stray state = false
 
 -- a text doesn't come after another
-abbrev pub IsUpTo : List ℕ → List ℕ → Type 0
-IsUpTo text other = is_gt (slice_cmp nat_cmp text other) ≡ false
+abbrev pub IsTextUpTo : List ℕ → List ℕ → Type 0
+IsTextUpTo text other = is_gt (slice_cmp nat_cmp text other) ≡ false
 
 -- an object is under this key, and under none before it one that is to go
 pub record IsFirstStray (objects : Objects) (entries : List Entry) (key : ObjectKey) : Type 0 where
   pub there : IsSome (objects key)
   pub least : (other : ObjectKey) → IsSome (objects other) → is_stray (state_of other.id entries) ≡ true
-      → IsUpTo (key_text key) (key_text other)
+      → IsTextUpTo (key_text key) (key_text other)
 
 -- no object is to go, and this is the first flaw of the first finished copy that isn't readable
 pub record IsFirstOfCopies (objects : Objects) (entries : List Entry) (flaw : Flaw) : Type 0 where
@@ -161,8 +161,8 @@ IsFirstFlaw objects entries (Left key) = IsFirstStray objects entries key × (st
 IsFirstFlaw objects entries flaw = IsFirstOfCopies objects entries flaw
 
 -- what an audit says
-abbrev pub IsVerdict : Objects → List Entry → Verdict → Type 0
-IsVerdict objects entries (Sound count number) =
-    IsWhole objects entries × (count ≡ length entries)
-    × ((keys : List ObjectKey) × Names objects keys × (number ≡ length keys))
-IsVerdict objects entries (Unsound flaw) = IsFirstFlaw objects entries flaw
+abbrev pub IsAuditVerdict : Objects → List Entry → Verdict → Type 0
+IsAuditVerdict objects entries (Sound count number) =
+    IsWholeTier objects entries × (count ≡ length entries)
+    × ((keys : List ObjectKey) × NamesAllHeld objects keys × (number ≡ length keys))
+IsAuditVerdict objects entries (Unsound flaw) = IsFirstFlaw objects entries flaw

@@ -17,7 +17,7 @@ use Rattle.tier_audit.specs.declared.log_part.Front.{Front}
 use Rattle.tier_audit.specs.declared.log_part.LogPart.{LogPart}
 use Rattle.tier_audit.specs.declared.log_part.LogPart.TheVariants.{Right, Wrong}
 use Rattle.tier_audit.specs.Whole.{Describes}
-use Rattle.tier_audit.specs.Flaws.{IsFirstBad, MayBegin}
+use Rattle.tier_audit.specs.Flaws.{IsFirstBad, MayBeginLog}
 
 -- so many of a map's entries are the epochs of batches; none where these don't begin the map entry by entry
 abbrev pub AreBegun : List (ℕ × ℕ) → List (List ℕ) → Option ℕ → Type 0
@@ -31,11 +31,11 @@ BeginsMore map (Some snapshot) epoch base None = IsPrefix (with_epoch (take snap
 BeginsMore map (Some snapshot) epoch base (Some more) = (with_epoch (take snapshot map) epoch base ≡ take more map) × (more ≤ length map)
 
 -- the batches of a log's front come to this, and may begin the log
-pub record IsFront (entry : Entry) (bytes : List ℕ) (front : Front) : Type 0 where
+pub record IsLogFront (entry : Entry) (bytes : List ℕ) (front : Front) : Type 0 where
   pub batches : List (List ℕ)
   pub parts : bytes ≡ joined batches ++ drop front.at bytes
   pub inside : front.at ≤ length bytes
-  pub begins : MayBegin entry batches
+  pub begins : MayBeginLog entry batches
   pub at_is : front.at ≡ length (joined batches)
   pub end_is : front.end ≡ end_from entry.start batches
   pub max_ts_is : front.max_ts ≡ greatest_ts batches
@@ -43,7 +43,7 @@ pub record IsFront (entry : Entry) (bytes : List ℕ) (front : Front) : Type 0 w
   pub begun_are : AreBegun entry.map batches front.snapshot
 
 -- the batch of a head begins where the front ends, and goes past nothing
-pub record IsNear (entry : Entry) (front : Front) (head : Head) : Type 0 where
+pub record IsNextHead (entry : Entry) (front : Front) (head : Head) : Type 0 where
   pub begins : cast_unsigned w64 head.base_offset ≡ front.end
   pub within : front.end + cast_unsigned w32 head.last_offset_delta ≤ entry.end
   pub near : front.end + cast_unsigned w32 head.last_offset_delta < entry.start + 2 ^ 31
@@ -70,12 +70,12 @@ pub record ComesNext (entry : Entry) (bytes : List ℕ) (front : Front) (next : 
   pub begun_is : BeginsMore entry.map front.snapshot (epoch_of batch) (base_of batch) next.1
 
 -- none does
-abbrev pub NothingNext : Entry → List ℕ → Front → Type 0
-NothingNext entry bytes front =
+abbrev pub NoBatchComes : Entry → List ℕ → Front → Type 0
+NoBatchComes entry bytes front =
     (batch more : List ℕ) → drop front.at bytes ≡ batch ++ more → IsOk (checked batch) → MayCome entry front batch → ⊥
 
 -- a batch was added
-pub record Gains (old : Front) (next : Placed × Option ℕ) (new : Front) : Type 0 where
+pub record FrontGains (old : Front) (next : Placed × Option ℕ) (new : Front) : Type 0 where
   pub at_is : new.at ≡ next.0.to
   pub end_is : new.end ≡ next.0.last + 1
   pub begun_is : new.snapshot ≡ next.1
@@ -83,9 +83,9 @@ pub record Gains (old : Front) (next : Placed × Option ℕ) (new : Front) : Typ
   pub batches_are : new.batches.items ≡ old.batches.items ++ next.0 ∷ []
 
 -- a front that goes no further
-pub record IsStopped (entry : Entry) (bytes : List ℕ) (front : Front) : Type 0 where
-  pub is : IsFront entry bytes front
-  pub stops : (batch more : List ℕ) → bytes ≡ joined (is.batches ++ batch ∷ []) ++ more → MayBegin entry (is.batches ++ batch ∷ []) → ⊥
+pub record IsFrontStopped (entry : Entry) (bytes : List ℕ) (front : Front) : Type 0 where
+  pub is : IsLogFront entry bytes front
+  pub stops : (batch more : List ℕ) → bytes ≡ joined (is.batches ++ batch ∷ []) ++ more → MayBeginLog entry (is.batches ++ batch ∷ []) → ⊥
 
 -- the batches come to all that the entry says, in so many bytes
 pub record IsAll (entry : Entry) (size : ℕ) (front : Front) : Type 0 where
@@ -104,7 +104,7 @@ pub record HasBatches (entry : Entry) (bytes : List ℕ) (found : List Placed) :
   pub found_are : found ≡ placed_from 0 batches
 
 -- what is found of a log
-abbrev pub ReadsLog : Entry → List ℕ → LogPart → Type 0
-ReadsLog entry bytes (Right found) = HasBatches entry bytes found.items
-ReadsLog entry bytes (Wrong at) =
-    ((batches : List (List ℕ)) → Describes entry batches → bytes ≢ joined batches) × IsFirstBad joined (MayBegin entry) bytes at
+abbrev pub AuditsLog : Entry → List ℕ → LogPart → Type 0
+AuditsLog entry bytes (Right found) = HasBatches entry bytes found.items
+AuditsLog entry bytes (Wrong at) =
+    ((batches : List (List ℕ)) → Describes entry batches → bytes ≢ joined batches) × IsFirstBad joined (MayBeginLog entry) bytes at

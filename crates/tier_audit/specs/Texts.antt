@@ -13,9 +13,9 @@ pub record HasMap (entry : Entry) (bytes : List ℕ) (line : List (ℕ × ℕ)) 
   pub map_is : within line entry.start entry.end ≡ entry.map
 
 -- what is found of the text: that it is right, or the place that is reported
-abbrev pub ReadsEpochs : Entry → List ℕ → Option ℕ → Type 0
-ReadsEpochs entry bytes None = (line : List (ℕ × ℕ)) × HasMap entry bytes line
-ReadsEpochs entry bytes (Some at) = ((line : List (ℕ × ℕ)) → HasMap entry bytes line → ⊥) × IsFirstBad concat CanBegin bytes at
+abbrev pub AuditsEpochs : Entry → List ℕ → Option ℕ → Type 0
+AuditsEpochs entry bytes None = (line : List (ℕ × ℕ)) × HasMap entry bytes line
+AuditsEpochs entry bytes (Some at) = ((line : List (ℕ × ℕ)) → HasMap entry bytes line → ⊥) × IsFirstBad concat CanBegin bytes at
 
 -- the place after so many line feeds
 abbrev pub place_behind : ℕ → List ℕ → ℕ

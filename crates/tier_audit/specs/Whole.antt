@@ -9,10 +9,10 @@
 --
 --   form                           says
 --   Describes entry batches        a copy's entry describes these batches
---   IsRight entry batches p bytes  these bytes are a right part of the copy
+--   IsPartRight entry batches p bytes  these bytes are a right part of the copy
 --   Hold objects entry parts       these parts of a copy are whole, and are right
 --   ArePut objects entry parts     a copy's objects hold these parts
---   IsWhole objects entries        all is right
+--   IsWholeTier objects entries        all is right
 --
 -- Of how dense indexes are nothing is said: an interval isn't kept.
 --
@@ -66,8 +66,8 @@ heights_of base ts (batch ∷ batches) =
     else heights_of base ts batches
 
 -- index entries that rise, each of them one of these
-abbrev pub AreOf : List (ℕ × ℕ) → List (ℕ × ℕ) → Type 0
-AreOf marks entries = AreOffsets entries × AllByRecursion (λ entry. In entry marks) entries
+abbrev pub AreEntriesOf : List (ℕ × ℕ) → List (ℕ × ℕ) → Type 0
+AreEntriesOf marks entries = AreOffsets entries × AllByRecursion (λ entry. In entry marks) entries
 
 -- moments that rise, each of them one of these
 abbrev pub AreTimesOf : List (ℤ × ℕ) → List (ℤ × ℕ) → Type 0
@@ -75,41 +75,42 @@ AreTimesOf heights moments = AreMoments moments × AllByRecursion (λ moment. In
 
 -- the entries of an index of batches: marks of some of them
 abbrev pub AreMarks : ℕ → List (List ℕ) → List (ℕ × ℕ) → Type 0
-AreMarks base batches entries = AreOf (marks_of base 0 (placed_from 0 batches)) entries
+AreMarks base batches entries = AreEntriesOf (marks_of base 0 (placed_from 0 batches)) entries
 
 -- the moments of a time index of batches: of some that are later than -1 and than all before them
 abbrev pub AreHeights : ℕ → List (List ℕ) → List (ℤ × ℕ) → Type 0
 AreHeights base batches moments = AreTimesOf (heights_of base (negsuc 0) (placed_from 0 batches)) moments
 
 -- these bytes are a right part of the copy
-abbrev pub IsRight : Entry → List (List ℕ) → Part → List ℕ → Type 0
-IsRight entry batches Log bytes = bytes ≡ joined batches
-IsRight entry batches Index bytes =
+abbrev pub IsPartRight : Entry → List (List ℕ) → Part → List ℕ → Type 0
+IsPartRight entry batches Log bytes = bytes ≡ joined batches
+IsPartRight entry batches Index bytes =
     (entries : List (ℕ × ℕ)) × AreMarks entry.start batches entries × (bytes ≡ bytes_of entry_bytes entries)
-IsRight entry batches TimeIndex bytes =
+IsPartRight entry batches TimeIndex bytes =
     (moments : List (ℤ × ℕ)) × AreHeights entry.start batches moments × (bytes ≡ bytes_of moment_bytes moments)
-IsRight entry batches Epochs bytes =
+IsPartRight entry batches Epochs bytes =
     (line : List (ℕ × ℕ)) × IsLine line × (bytes ≡ text_of line) × (within line entry.start entry.end ≡ entry.map)
-IsRight entry batches Pack bytes = ⊥
+IsPartRight entry batches Pack bytes = ⊥
 
 -- where a part of a copy exists
 abbrev pub place_of : Entry → Part → Option Spot
 place_of entry part = spot_of entry.partition entry.id entry.packed entry.custom part
 
 -- a part of a copy is whole, and is right
-pub record Stands (objects : Objects) (entry : Entry) (batches : List (List ℕ)) (part : Part) : Type 0 where
+pub record IsPartStored (objects : Objects) (entry : Entry) (batches : List (List ℕ)) (part : Part) : Type 0 where
   pub spot : Spot
   pub place : place_of entry part ≡ Some spot
   pub object : List ℕ
   pub there : objects spot.key ≡ Some object
   pub whole : short_of spot (all_of spot object) ≡ None
-  pub right : IsRight entry batches part (all_of spot object)
+  pub right : IsPartRight entry batches part (all_of spot object)
 
 -- these parts of a copy are whole and are right, all of the same batches
-abbrev pub Hold : Objects → Entry → List Part → Type 0
-Hold objects entry [] = Unit {0}
-Hold objects entry (part ∷ parts) =
-    (batches : List (List ℕ)) × Describes entry batches × AllByRecursion (Stands objects entry batches) (part ∷ parts)
+abbrev pub PartsHold : Objects → Entry → List Part → Type 0
+PartsHold objects entry [] = Unit {0}
+PartsHold objects entry (part ∷ parts) =
+    (batches : List (List ℕ)) × Describes entry batches
+    × AllByRecursion (IsPartStored objects entry batches) (part ∷ parts)
 
 -- all of them, in their order
 abbrev pub all_parts : List Part
@@ -117,7 +118,7 @@ all_parts = Log ∷ Index ∷ TimeIndex ∷ Epochs ∷ []
 
 -- a finished copy is readable
 abbrev pub IsReadable : Objects → Entry → Type 0
-IsReadable objects entry = entry.state ≡ CopyFinished → Hold objects entry all_parts
+IsReadable objects entry = entry.state ≡ CopyFinished → PartsHold objects entry all_parts
 
 -- the objects of a copy hold these parts, and of a packed one the custom metadata is their layout
 pub record ArePut (objects : Objects) (entry : Entry) (parts : Parts) : Type 0 where
@@ -130,7 +131,7 @@ abbrev pub AreReadable : Objects → List Entry → Type 0
 AreReadable objects entries = AllByRecursion (IsReadable objects) entries
 
 -- all is right
-pub record IsWhole (objects : Objects) (entries : List Entry) : Type 0 where
+pub record IsWholeTier (objects : Objects) (entries : List Entry) : Type 0 where
   pub named : AreNamed objects entries
   pub none_left : NoneIsLeft objects entries
   pub readable : AreReadable objects entries

@@ -7,8 +7,8 @@ ghost use Rattle.object_store.specs.Content.{Keeps};
 ghost use Rattle.meta_log.specs.Content.{Keeps as KeepsNotes};
 ghost use Rattle.remote_view.specs.Fold.{fold};
 ghost use Rattle.tier_audit.specs.declared.refusal.AuditRefusal.TheVariants.{StoreFault, MetaFault};
-ghost use Rattle.tier_audit.specs.Asking.{Asks, Audits, AsksStore, AsksLog};
-ghost use Rattle.tier_audit.specs.Flaws.{IsVerdict};
+ghost use Rattle.tier_audit.specs.Asking.{OnlyAsks, Audits, AsksStore, AsksLog};
+ghost use Rattle.tier_audit.specs.Flaws.{IsAuditVerdict};
 
 use crate::copies::find_unreadable;
 use crate::keys::find_stray;
@@ -29,7 +29,8 @@ pub fn audit<S: Store, M: MetaLog>(
     meta: &mut M,
 ) -> Result<Verdict, AuditRefusal>
     ensures verdict { IsTrue (S.content store.old).is_observable → IsTrue (M.content meta.old).is_observable
-        → IfOk result (λ verdict. IsVerdict (S.content store.old).objects (fold (M.content meta.old).notes) verdict) }
+        → IfOk result (λ verdict. IsAuditVerdict (S.content store.old).objects
+        (fold (M.content meta.old).notes) verdict) }
     ensures store_kept { Keeps (S.content store.old) (S.content store.new) }
     ensures meta_kept { KeepsNotes (M.content meta.old) (M.content meta.new) }
     ensures store_calls { Lasts (S.control store.old) (S.control store.new) }
@@ -58,10 +59,10 @@ pub fn audit<S: Store, M: MetaLog>(
 
 /// Says whether the store holds what a view of the whole metadata log says.
 fn audit_store<S: Store>(alloc: Global, view: &View, store: &mut S) -> Result<Verdict, Trouble>
-    ensures asks { Asks S.content S.control (fate_of result) store.old store.new }
+    ensures asks { OnlyAsks S.content S.control (fate_of result) store.old store.new }
     ensures calls { Audits (fate_of result) (S.control store.old) (S.control store.new) }
     ensures verdict { IsTrue (S.content store.old).is_observable
-        → IfOk result (λ verdict. IsVerdict (S.content store.old).objects view.now.entries verdict) }
+        → IfOk result (λ verdict. IsAuditVerdict (S.content store.old).objects view.now.entries verdict) }
 {
     let keys = store.keys()?;
     if let Some(flaw) = find_stray(alloc, view, keys.as_slice())? {

@@ -7,12 +7,12 @@ ghost use Rattle.tier_base.specs.declared.plain.Part.TheVariants.{Log, Pack};
 ghost use Rattle.tier_base.specs.Device.{fate_of};
 ghost use Rattle.object_store.specs.Place.{capped, short_of};
 ghost use Rattle.segment_file.specs.Index.{placed_from};
-ghost use Rattle.remote_view.specs.Fold.{IsKept, AreKept};
-ghost use Rattle.tier_audit.specs.Asking.{Asks, Reads};
+ghost use Rattle.remote_view.specs.Fold.{IsEntryValid, AreEntriesValid};
+ghost use Rattle.tier_audit.specs.Asking.{OnlyAsks, ReadsObjects};
 ghost use Rattle.tier_audit.specs.declared.verdict.Flaw.TheVariants.{Wrong};
 ghost use Rattle.tier_audit.specs.Entries.{ArePlaced};
 ghost use Rattle.tier_audit.specs.Whole.{place_of};
-ghost use Rattle.tier_audit.specs.Copies.{HasPlaced, ReadsPart, ReadsSpot, ReadsLogSpot, IsWithin, from_rest, FindsPart, PlacesLog, FindsLog, FindsParts, FindsCopy, FindsCopies};
+ghost use Rattle.tier_audit.specs.Copies.{HasPlaced, AuditsPart, ReadsSpot, ReadsLogSpot, IsPlaceWithin, from_rest, FindsPart, PlacesLog, FindsLog, FindsParts, FindsCopy, FindsCopies};
 
 use crate::epochs_part::read_epochs;
 use crate::index_part::read_index;
@@ -41,9 +41,9 @@ pub(crate) fn find_unreadable<S: Store>(
     entries: &[Entry],
     store: &mut S,
 ) -> Result<Option<Flaw>, Trouble>
-    requires { AreKept entries.now }
-    ensures asks { Asks S.content S.control (fate_of result) store.old store.new }
-    ensures reads { Reads (fate_of result) (S.control store.old) (S.control store.new) }
+    requires { AreEntriesValid entries.now }
+    ensures asks { OnlyAsks S.content S.control (fate_of result) store.old store.new }
+    ensures reads { ReadsObjects (fate_of result) (S.control store.old) (S.control store.new) }
     ensures found { IsTrue (S.content store.old).is_observable
         → IfOk result (λ found. FindsCopies (S.content store.old).objects entries.now found) }
 {
@@ -61,9 +61,9 @@ fn check_entry<S: Store>(
     entry: &Entry,
     store: &mut S,
 ) -> Result<Option<Flaw>, Trouble>
-    requires { IsKept entry.now }
-    ensures asks { Asks S.content S.control (fate_of result) store.old store.new }
-    ensures reads { Reads (fate_of result) (S.control store.old) (S.control store.new) }
+    requires { IsEntryValid entry.now }
+    ensures asks { OnlyAsks S.content S.control (fate_of result) store.old store.new }
+    ensures reads { ReadsObjects (fate_of result) (S.control store.old) (S.control store.new) }
     ensures found { IsTrue (S.content store.old).is_observable
         → IfOk result (λ found. FindsCopy (S.content store.old).objects entry.now found) }
 {
@@ -79,9 +79,9 @@ fn check_copy<S: Store>(
     entry: &Entry,
     store: &mut S,
 ) -> Result<Option<Flaw>, Trouble>
-    requires { IsKept entry.now }
-    ensures asks { Asks S.content S.control (fate_of result) store.old store.new }
-    ensures reads { Reads (fate_of result) (S.control store.old) (S.control store.new) }
+    requires { IsEntryValid entry.now }
+    ensures asks { OnlyAsks S.content S.control (fate_of result) store.old store.new }
+    ensures reads { ReadsObjects (fate_of result) (S.control store.old) (S.control store.new) }
     ensures found { IsTrue (S.content store.old).is_observable
         → IfOk result (λ found. FindsParts (S.content store.old).objects entry.now found) }
 {
@@ -93,9 +93,9 @@ fn check_copy<S: Store>(
 
 /// Reads a copy's log.
 fn check_log<S: Store>(alloc: Global, entry: &Entry, store: &mut S) -> Result<LogFound, Trouble>
-    requires { IsKept entry.now }
-    ensures asks { Asks S.content S.control (fate_of result) store.old store.new }
-    ensures reads { Reads (fate_of result) (S.control store.old) (S.control store.new) }
+    requires { IsEntryValid entry.now }
+    ensures asks { OnlyAsks S.content S.control (fate_of result) store.old store.new }
+    ensures reads { ReadsObjects (fate_of result) (S.control store.old) (S.control store.new) }
     ensures placed { IfOk result (λ found. PlacesLog entry.now found) }
     ensures found { IsTrue (S.content store.old).is_observable
         → IfOk result (λ found. FindsLog (S.content store.old).objects entry.now found) }
@@ -119,10 +119,10 @@ fn check_parts<S: Store>(
     batches: &[Placed],
     store: &mut S,
 ) -> Result<Option<Flaw>, Trouble>
-    requires kept { IsKept entry.now }
+    requires kept { IsEntryValid entry.now }
     requires placed { ArePlaced entry.now.start batches.now }
-    ensures asks { Asks S.content S.control (fate_of result) store.old store.new }
-    ensures reads { Reads (fate_of result) (S.control store.old) (S.control store.new) }
+    ensures asks { OnlyAsks S.content S.control (fate_of result) store.old store.new }
+    ensures reads { ReadsObjects (fate_of result) (S.control store.old) (S.control store.new) }
     ensures found { IsTrue (S.content store.old).is_observable
         → HasPlaced (S.content store.old).objects entry.now batches.now
         → IfOk result (λ found. FindsParts (S.content store.old).objects entry.now found) }
@@ -144,12 +144,12 @@ fn check_part<S: Store>(
     part: Part,
     store: &mut S,
 ) -> Result<Option<Flaw>, Trouble>
-    requires kept { IsKept entry.now }
+    requires kept { IsEntryValid entry.now }
     requires placed { ArePlaced entry.now.start batches.now }
     requires part { part ≢ Log }
     requires own { part ≢ Pack }
-    ensures asks { Asks S.content S.control (fate_of result) store.old store.new }
-    ensures reads { Reads (fate_of result) (S.control store.old) (S.control store.new) }
+    ensures asks { OnlyAsks S.content S.control (fate_of result) store.old store.new }
+    ensures reads { ReadsObjects (fate_of result) (S.control store.old) (S.control store.new) }
     ensures found { IsTrue (S.content store.old).is_observable → (log : List (List ℕ)) → batches.now ≡ placed_from 0 log
         → IfOk result (λ found. FindsPart (S.content store.old).objects entry.now log part found) }
 {
@@ -172,11 +172,11 @@ fn read_log_at(
     spot: &Spot,
     rest: &[u8],
 ) -> Result<LogPart, AllocError>
-    requires kept { IsKept entry.now }
+    requires kept { IsEntryValid entry.now }
     requires low { spot.now.at < 2 ^ 34 }
     ensures reads { IfOk result (λ found. ReadsLogSpot entry.now (short_of spot.now (capped spot.now.len rest.now))
         (capped spot.now.len rest.now) found) }
-    ensures within { IfOk result (λ found. IsWithin (capped spot.now.len rest.now) found) }
+    ensures within { IfOk result (λ found. IsPlaceWithin (capped spot.now.len rest.now) found) }
 {
     let bytes = capped(spot.len, rest);
     if spot.short(bytes).is_some() {
@@ -195,7 +195,7 @@ fn read_at(
     spot: &Spot,
     rest: &[u8],
 ) -> Result<Option<usize>, AllocError>
-    requires kept { IsKept entry.now }
+    requires kept { IsEntryValid entry.now }
     requires placed { ArePlaced entry.now.start batches.now }
     requires part { part ≢ Log }
     requires own { part ≢ Pack }
@@ -219,12 +219,12 @@ fn read_part(
     part: Part,
     bytes: &[u8],
 ) -> Result<Option<usize>, AllocError>
-    requires kept { IsKept entry.now }
+    requires kept { IsEntryValid entry.now }
     requires placed { ArePlaced entry.now.start batches.now }
     requires part { part ≢ Log }
     requires own { part ≢ Pack }
     ensures { (log : List (List ℕ)) → batches.now ≡ placed_from 0 log
-        → IfOk result (λ found. ReadsPart entry.now log part bytes.now found) }
+        → IfOk result (λ found. AuditsPart entry.now log part bytes.now found) }
 {
     match part {
         Part::Log | Part::Pack => unreachable!(),

@@ -1,8 +1,8 @@
 //! The text of a copy's leader epochs, read beside its entry.
 
 ghost use Rattle.std.specs.Prelude.{◌≡◌, ◌↔◌, IfOk, IsTrue};
-ghost use Rattle.remote_view.specs.Fold.{IsKept};
-ghost use Rattle.tier_audit.specs.Texts.{ReadsEpochs, place_behind};
+ghost use Rattle.remote_view.specs.Fold.{IsEntryValid};
+ghost use Rattle.tier_audit.specs.Texts.{AuditsEpochs, place_behind};
 
 use epoch_line::{Line, TextRefusal};
 use segment_meta::Entry;
@@ -14,8 +14,8 @@ pub(crate) fn read_epochs(
     entry: &Entry,
     bytes: &[u8],
 ) -> Result<Option<usize>, AllocError>
-    requires { IsKept entry.now }
-    ensures { IfOk result (λ found. ReadsEpochs entry.now bytes.now found) }
+    requires { IsEntryValid entry.now }
+    ensures { IfOk result (λ found. AuditsEpochs entry.now bytes.now found) }
 {
     match Line::from_text(alloc, bytes) {
         Ok(line) => {

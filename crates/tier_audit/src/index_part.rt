@@ -8,7 +8,7 @@ ghost use Rattle.std.specs.Int.{w32, to_be_bytes};
 ghost use Rattle.tier_base.specs.Told.{In};
 ghost use Rattle.sparse_index.specs.Bytes.{bytes_of};
 ghost use Rattle.sparse_index.specs.Offsets.{AreOffsets, entry_bytes};
-ghost use Rattle.tier_audit.specs.Whole.{marks_of, AreOf};
+ghost use Rattle.tier_audit.specs.Whole.{marks_of, AreEntriesOf};
 ghost use Rattle.tier_audit.specs.Entries.{ArePlaced, ReadsEntries, IsBehind};
 
 use segment_file::Placed;
@@ -25,7 +25,7 @@ pub(crate) fn read_index(
     bytes: &[u8],
 ) -> Result<Option<usize>, AllocError>
     requires { ArePlaced base batches.now }
-    ensures { IfOk result (λ found. ReadsEntries 8 (bytes_of entry_bytes) (AreOf (marks_of base 0 batches.now)) bytes.now found) }
+    ensures { IfOk result (λ found. ReadsEntries 8 (bytes_of entry_bytes) (AreEntriesOf (marks_of base 0 batches.now)) bytes.now found) }
 {
     let marks = marks_of(alloc, base, batches)?;
     Ok(place_in(marks.as_slice(), bytes))
@@ -48,7 +48,7 @@ fn marks_of(alloc: Global, base: u64, batches: &[Placed]) -> Result<Vec<(u32, u3
 /// The place that is reported of an index of which these are the marks, or none where it is right.
 fn place_in(marks: &[(u32, u32)], bytes: &[u8]) -> Option<usize>
     requires { AreOffsets marks.now }
-    ensures { ReadsEntries 8 (bytes_of entry_bytes) (AreOf marks.now) bytes.now result }
+    ensures { ReadsEntries 8 (bytes_of entry_bytes) (AreEntriesOf marks.now) bytes.now result }
 {
     if bytes.len() % ENTRY_BYTES != 0 {
         return Some(bytes.len());

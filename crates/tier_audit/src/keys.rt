@@ -3,8 +3,8 @@
 //! One pass keeps the first one so far, and its text.
 
 ghost use Rattle.std.specs.Prelude.{◌≡◌, ◌↔◌, IfOk, OnOk, IsTrue};
-ghost use Rattle.tier_audit.specs.Flaws.{is_stray, IsUpTo};
-ghost use Rattle.tier_audit.specs.Strays.{FindsStray, Offers, IsBehind, flaw_of};
+ghost use Rattle.tier_audit.specs.Flaws.{is_stray, IsTextUpTo};
+ghost use Rattle.tier_audit.specs.Strays.{FindsStray, Offers, ComesBehind, flaw_of};
 
 use crate::verdict::Flaw;
 use object_store::ObjectKey;
@@ -72,7 +72,7 @@ fn offer(alloc: Global, first: &mut Option<Stray>, key: &ObjectKey) -> Result<()
 
 /// Whether the first one so far doesn't come after a text.
 fn is_behind(text: &[u8], first: &Option<Stray>) -> bool
-    ensures { IsTrue result ↔ IsBehind text.now first.now }
+    ensures { IsTrue result ↔ ComesBehind text.now first.now }
 {
     match first {
         Some(first) => is_up_to(first.text.as_slice(), text),
@@ -82,7 +82,7 @@ fn is_behind(text: &[u8], first: &Option<Stray>) -> bool
 
 /// Whether a text doesn't come after another.
 fn is_up_to(text: &[u8], other: &[u8]) -> bool
-    ensures { IsTrue result ↔ IsUpTo text.now other.now }
+    ensures { IsTrue result ↔ IsTextUpTo text.now other.now }
 {
     !text.cmp(other).is_gt()
 }

@@ -7,13 +7,13 @@ ghost use Rattle.segment_bundle.specs.Parts.{parts_of};
 ghost use Rattle.segment_meta.specs.declared.note.Entry.{Entry};
 ghost use Rattle.object_store.specs.Content.{Objects};
 ghost use Rattle.tier_audit.specs.declared.verdict.Flaw.{Flaw};
-ghost use Rattle.tier_audit.specs.Whole.{Describes, ArePut, IsReadable, IsWhole};
+ghost use Rattle.tier_audit.specs.Whole.{Describes, ArePut, IsReadable, IsWholeTier};
 ghost use Rattle.tier_audit.specs.Flaws.{IsFirstFlaw};
 
 /// A tier that is whole has no flaw.
 #[tactic(auto, using(crate::proofs::Saying::one_thing))]
 pub fn an_audit_says_one_thing()
-    ensures { (objects : Objects) (entries : List Entry) (flaw : Flaw) → IsWhole objects entries
+    ensures { (objects : Objects) (entries : List Entry) (flaw : Flaw) → IsWholeTier objects entries
         → IsFirstFlaw objects entries flaw → ⊥ }
 {}
 

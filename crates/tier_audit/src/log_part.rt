@@ -14,8 +14,8 @@ ghost use Rattle.epoch_line.specs.Line.{IsLine, last_epoch};
 ghost use Rattle.segment_file.specs.Gathering.{with_epoch, later_ts};
 ghost use Rattle.segment_file.specs.Walk.{size_in};
 ghost use Rattle.segment_file.specs.Index.{placed_in};
-ghost use Rattle.remote_view.specs.Fold.{IsKept};
-ghost use Rattle.tier_audit.specs.Logs.{IsFront, IsNear, BeginsMore, ComesNext, NothingNext, Gains, IsAll, ReadsLog, IsStopped};
+ghost use Rattle.remote_view.specs.Fold.{IsEntryValid};
+ghost use Rattle.tier_audit.specs.Logs.{IsLogFront, IsNextHead, BeginsMore, ComesNext, NoBatchComes, FrontGains, IsAll, AuditsLog, IsFrontStopped};
 
 use record_batch::Head;
 use segment_file::{Found, Placed, walk};
@@ -47,8 +47,8 @@ pub(crate) enum LogPart {
 
 /// Reads a copy's log.
 pub(crate) fn read_log(alloc: Global, entry: &Entry, bytes: &[u8]) -> Result<LogPart, AllocError>
-    requires { IsKept entry.now }
-    ensures { IfOk result (λ log. ReadsLog entry.now bytes.now log) }
+    requires { IsEntryValid entry.now }
+    ensures { IfOk result (λ log. AuditsLog entry.now bytes.now log) }
 {
     let front = front_of(alloc, entry, bytes)?;
     if is_all(entry, bytes.len(), &front) {
@@ -62,8 +62,8 @@ pub(crate) fn read_log(alloc: Global, entry: &Entry, bytes: &[u8]) -> Result<Log
 
 /// The batches that may begin the log, as far as they go.
 fn front_of(alloc: Global, entry: &Entry, bytes: &[u8]) -> Result<Front, AllocError>
-    requires { IsKept entry.now }
-    ensures { IfOk result (λ front. IsStopped entry.now bytes.now front) }
+    requires { IsEntryValid entry.now }
+    ensures { IfOk result (λ front. IsFrontStopped entry.now bytes.now front) }
 {
     let mut front = nothing_yet(alloc, entry);
     while (front.at as usize) < bytes.len() {
@@ -77,8 +77,8 @@ fn front_of(alloc: Global, entry: &Entry, bytes: &[u8]) -> Result<Front, AllocEr
 
 /// What no batch comes to.
 fn nothing_yet(alloc: Global, entry: &Entry) -> Front
-    requires { IsKept entry.now }
-    ensures { (bytes : List ℕ) → IsFront entry.now bytes result }
+    requires { IsEntryValid entry.now }
+    ensures { (bytes : List ℕ) → IsLogFront entry.now bytes result }
 {
     Front {
         at: 0,
@@ -91,10 +91,10 @@ fn nothing_yet(alloc: Global, entry: &Entry) -> Front
 
 /// The batch that is next and may come there, and how many of the map's entries have begun with it.
 fn next_batch(entry: &Entry, front: &Front, bytes: &[u8]) -> Option<(Placed, Option<usize>)>
-    requires kept { IsKept entry.now }
-    requires front { IsFront entry.now bytes.now front.now }
+    requires kept { IsEntryValid entry.now }
+    requires front { IsLogFront entry.now bytes.now front.now }
     ensures some { IfSome result (λ next. ComesNext entry.now bytes.now front.now next) }
-    ensures none { result ≡ None → NothingNext entry.now bytes.now front.now }
+    ensures none { result ≡ None → NoBatchComes entry.now bytes.now front.now }
 {
     let Found::Batch(head) = walk(bytes, front.at as usize) else {
         return None;
@@ -113,10 +113,10 @@ fn next_batch(entry: &Entry, front: &Front, bytes: &[u8]) -> Option<(Placed, Opt
 /// Whether the batch of a head begins where the front ends, ends within the copy and what a segment reaches, and isn't
 /// past the copy's greatest timestamp.
 fn is_near(entry: &Entry, front: &Front, head: &Head) -> bool
-    requires kept { IsKept entry.now }
+    requires kept { IsEntryValid entry.now }
     requires end_fits { front.now.end ≤ 2 ^ 62 }
     requires small { front.now.at < 2 ^ 31 }
-    ensures { IsTrue result ↔ IsNear entry.now front.now head.now }
+    ensures { IsTrue result ↔ IsNextHead entry.now front.now head.now }
 {
     let last = front.end + head.last_offset_delta.cast_unsigned() as u64;
     if head.base_offset.cast_unsigned() != front.end {
@@ -209,7 +209,7 @@ fn place(head: &Head, front: &Front) -> Placed
 /// Adds a batch.
 fn gain(front: &mut Front, batch: Placed, snapshot: Option<usize>) -> Result<(), AllocError>
     requires { batch.last < 2 ^ 62 }
-    ensures { OnOk result (Gains front.old (batch, snapshot) front.new) }
+    ensures { OnOk result (FrontGains front.old (batch, snapshot) front.new) }
 {
     front.batches.push(batch)?;
     front.max_ts = later_ts(front.at, front.max_ts, batch.max_ts);

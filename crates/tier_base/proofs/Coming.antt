@@ -7,7 +7,7 @@ use Rattle.std.proofs.lemmas.List.{get_or-set_same, get_or-set_other}
 use Rattle.tier_base.specs.declared.planned.Planned.{Planned}
 use Rattle.tier_base.specs.Counts.{counted}
 use Rattle.tier_base.specs.Device.{planned}
-use Rattle.tier_base.specs.Nexts.{rises_from, coming, IsNext, AreNext, said_first}
+use Rattle.tier_base.specs.Nexts.{rises_from, coming, IsNextFault, AreNext, said_first}
 
 module _ {K : Type 0} (code : K → ℕ) where
   -- where the numbers rise from past this one on, it is none of theirs
@@ -107,7 +107,7 @@ module _ {K : Type 0} (code : K → ℕ) where
       by false e none = none (grind (arith, e, past.1))
 
   -- the next call of its kind says what the plan says of it
-  pub said_next : (call : K) (made at : ℕ) (plan : List (Planned K)) → IsNext code (code call) made plan (Some at) → made < 2 ^ 64 - 1
+  pub said_next : (call : K) (made at : ℕ) (plan : List (Planned K)) → IsNextFault code (code call) made plan (Some at) → made < 2 ^ 64 - 1
       → said_first (made + 1) (drop at plan) ≡ planned code call (counted made 1) plan
   said_next call made at plan next small =
       let one : counted made 1 ≡ made + 1 = omega (arith, small) in
@@ -116,19 +116,19 @@ module _ {K : Type 0} (code : K → ℕ) where
       ∙ ap (λ (n : ℕ). planned code call n plan) (sym one)
 
   -- once more of them are made, it is further on
-  pub next_later : (kind before made at next : ℕ) (plan : List (Planned K)) → before ≤ made → IsNext code kind before plan (Some at)
-      → drop next plan ≡ coming code kind made (drop at plan) → IsNext code kind made plan (Some next)
+  pub next_later : (kind before made at next : ℕ) (plan : List (Planned K)) → before ≤ made → IsNextFault code kind before plan (Some at)
+      → drop next plan ≡ coming code kind made (drop at plan) → IsNextFault code kind made plan (Some next)
   next_later kind before made at next plan up is later =
       (is.0, later ∙ ap (coming code kind made) is.1 ∙ coming_coming kind before made plan up)
 
 module _ {K : Type 0} (code : K → ℕ) (plan : List (Planned K)) (counts : List ℕ) (nexts : List (Option ℕ)) (kind made : ℕ) (next : Option ℕ) where
   -- one more call of a kind is counted
   pub count_one : kind < length counts → kind < length nexts → AreNext code plan counts nexts
-      → (IsNext code kind (get_or counts kind 0) plan (get_or nexts kind None) → IsNext code kind made plan next)
+      → (IsNextFault code kind (get_or counts kind 0) plan (get_or nexts kind None) → IsNextFault code kind made plan next)
       → AreNext code plan (set counts kind made) (set nexts kind next)
   count_one counted placed are later other = by (other == kind) refl
     where
-      by : (t : Bool) → (other == kind) ≡ t → IsNext code other (get_or (set counts kind made) other 0) plan (get_or (set nexts kind next) other None)
+      by : (t : Bool) → (other == kind) ≡ t → IsNextFault code other (get_or (set counts kind made) other 0) plan (get_or (set nexts kind next) other None)
       by true e =
           rw (eqb-true other kind e, get_or-set_same counts kind made 0 counted, get_or-set_same nexts kind next None placed)
           (later (are kind))

@@ -8,7 +8,7 @@ use Rattle.tier_base.specs.declared.ending.Ending.{Ending}
 use Rattle.tier_base.specs.declared.ending.Ending.TheVariants.{Done}
 use Rattle.tier_base.specs.Counts.{counted}
 use Rattle.tier_base.specs.Device.{Went, planned, met, made_after}
-use Rattle.tier_base.specs.Faults.{Faults, AreKept, NumbersFit, count_of, faults_of, ending_at, ending_from, goes_well, has_none, shorter}
+use Rattle.tier_base.specs.Faults.{Faults, AreFaultsSound, NumbersFit, count_of, faults_of, ending_at, ending_from, goes_well, has_none, shorter}
 use Rattle.tier_base.proofs.MetCalls.{met_none, met_same, met_more}
 
 truth : (b : Bool) → b ≡ true → IsTrue b
@@ -37,7 +37,7 @@ module _ {K : Type 0} (code : K → ℕ) where
   by_plan (Some true) n = one_more n
   by_plan (Some false) n = one_more n
 
-  module _ (f f' : Faults K) (call : K) (ending : Ending) (kept : AreKept code f) (ends : ending ≡ ending_at code f call) (plan : f'.plan ≡ f.plan)
+  module _ (f f' : Faults K) (call : K) (ending : Ending) (kept : AreFaultsSound code f) (ends : ending ≡ ending_at code f call) (plan : f'.plan ≡ f.plan)
       (scripted : f'.scripted ≡ f.scripted) (fuse : f'.fuse ≡ shorter f.fuse)
       (made : (kind : K) → count_of code f' kind ≡ made_after code call Went f.armed kind (count_of code f kind))
       (faults : f'.faults ≡ (if goes_well ending then f.faults else counted f.faults 1)) where
@@ -74,7 +74,7 @@ module _ {K : Type 0} (code : K → ℕ) where
         by true e = rw (scripted ∙ e) (named f.armed refl (kept.alone (truth f.scripted e)))
         by false e = rw (scripted ∙ e) faults
 
-    pub kept_after : AreKept code f'
+    pub kept_after : AreFaultsSound code f'
     kept_after = record {
       numbers = subst NumbersFit (sym plan) kept.numbers;
       alone = λ is. fuse ∙ ap shorter (kept.alone (subst IsTrue scripted is));
@@ -100,7 +100,7 @@ zeros i = go no_counts i (refl, (refl, (refl, (refl, (refl, (refl, (refl, (refl,
 module _ {K : Type 0} (code : K → ℕ) where
   -- at first no call was made
   pub kept_first : (plan : List (Planned K)) (counts : List ℕ) → NumbersFit plan → ((kind : K) → get_or counts (code kind) 0 ≡ 0)
-      → AreKept code (record { plan = plan; armed = false; counts = counts; fuse = None; scripted = true; faults = 0 })
+      → AreFaultsSound code (record { plan = plan; armed = false; counts = counts; fuse = None; scripted = true; faults = 0 })
   kept_first plan counts fit none = record {
     numbers = fit;
     alone = λ is. refl;
@@ -117,7 +117,7 @@ module _ {K : Type 0} (code : K → ℕ) where
       by true (Some n) e = exact
       by false fuse e = exact
 
-  pub kept_fused : (f : Faults K) (fuse : Option ℕ) → AreKept code f → AreKept code (record f { fuse = fuse; scripted = f.scripted && has_none fuse })
+  pub kept_fused : (f : Faults K) (fuse : Option ℕ) → AreFaultsSound code f → AreFaultsSound code (record f { fuse = fuse; scripted = f.scripted && has_none fuse })
   kept_fused f fuse kept = record {
     numbers = kept.numbers;
     alone = alone f.scripted fuse;

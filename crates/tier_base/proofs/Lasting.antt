@@ -1,6 +1,6 @@
 -- Calls of a device one after the other.
 use Rattle.std.proofs.Common.{ℕ, refl, ◌∙◌, ◌≡◌, Bool, false, ap, arith}
-use Rattle.tier_base.specs.Device.{Fate, Went, Fault, Dry, Control, Ran, Rests, Lasts, made_after}
+use Rattle.tier_base.specs.Device.{Fate, Went, Fault, Dry, Control, Ran, NoCalls, Lasts, made_after}
 
 module _ {K : Type 0} (code : K → ℕ) where
   -- a call of a device that isn't armed isn't counted
@@ -48,7 +48,7 @@ module _ {K : Type 0} {code : K → ℕ} where
   }
 
   -- what is no call
-  pub rests_lasts : (old new : Control code) → Rests old new → Lasts old new
+  pub rests_lasts : (old new : Control code) → NoCalls old new → Lasts old new
   rests_lasts old new rests = record {
     plan = rests.plan;
     armed = rests.armed;

@@ -9,7 +9,7 @@
 --   Rests old new               no call
 --   Lasts old new               any calls but `arm`
 --   Arms old new                from now on planned calls fail
---   IsFresh c                   as the device is provided
+--   IsFreshDevice c                   as the device is provided
 --   FailsAsPlanned c            of a scripted device: as many calls failed as its plan names of those that were made
 --
 -- Planned calls are counted from the first `arm` on. A device is infallible while no call can fail. It is scripted if
@@ -119,7 +119,7 @@ module _ {K : Type 0} {code : K → ℕ} where
     pub planned : IsTrue old.scripted → fate ≡ Fault → due call old ≡ Some done
 
   -- no call
-  pub record Rests (old new : Control code) : Type 0 where
+  pub record NoCalls (old new : Control code) : Type 0 where
     pub plan : new.plan ≡ old.plan
     pub armed : new.armed ≡ old.armed
     pub scripted : new.scripted ≡ old.scripted
@@ -151,7 +151,7 @@ module _ {K : Type 0} {code : K → ℕ} where
     pub still_infallible : IsTrue old.scripted → IsTrue old.infallible → old.plan ≡ [] → IsTrue new.infallible
 
   -- a device as it is provided: no fault, no call counted, nothing returned
-  pub record IsFresh (c : Control code) : Type 0 where
+  pub record IsFreshDevice (c : Control code) : Type 0 where
     pub faults : c.faults ≡ 0
     pub armed : c.armed ≡ false
     pub made : (kind : K) → c.made kind ≡ 0

@@ -80,7 +80,7 @@ module _ {K : Type 0} (code : K → ℕ) where
   faults_of f = if f.scripted then counted 0 (met code (count_of f) f.plan) else f.faults
 
   -- what holds of them at any moment
-  pub record AreKept (f : Faults K) : Type 0 where
+  pub record AreFaultsSound (f : Faults K) : Type 0 where
     pub numbers : NumbersFit f.plan
     pub alone : IsTrue f.scripted → f.fuse ≡ None
     pub exact : f.faults ≡ faults_of f

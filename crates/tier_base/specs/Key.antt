@@ -64,9 +64,9 @@ ReadsId text None = (id : SegmentId) → IsId id → id_text id ≢ text
 ReadsId text (Some id) = IsId id × (id_text id ≡ text)
 
 -- what the reader of a key's end answers
-abbrev pub ReadsPart : List ℕ → Option Part → Type 0
-ReadsPart text None = (part : Part) → part_text part ≢ text
-ReadsPart text (Some part) = part_text part ≡ text
+abbrev pub ReadsKeyEnd : List ℕ → Option Part → Type 0
+ReadsKeyEnd text None = (part : Part) → part_text part ≢ text
+ReadsKeyEnd text (Some part) = part_text part ≡ text
 
 -- what the reader of a key answers: the one that is spelled so, or none where none is
 abbrev pub ReadsKey : List ℕ → Option ObjectKey → Type 0

@@ -17,13 +17,13 @@ module _ {K : Type 0} (code : K → ℕ) where
       if (code p.call == kind) && nat_lt made p.number then p ∷ ps else coming kind made ps
 
   -- it is there, where a kind's numbers don't fall along the plan
-  abbrev pub IsNext : ℕ → ℕ → List (Planned K) → Option ℕ → Type 0
-  IsNext kind made plan None = Unit {0}
-  IsNext kind made plan (Some at) = IsTrue (rises_from kind 0 plan) × (drop at plan ≡ coming kind made plan)
+  abbrev pub IsNextFault : ℕ → ℕ → List (Planned K) → Option ℕ → Type 0
+  IsNextFault kind made plan None = Unit {0}
+  IsNextFault kind made plan (Some at) = IsTrue (rises_from kind 0 plan) × (drop at plan ≡ coming kind made plan)
 
   -- of each kind
   abbrev pub AreNext : List (Planned K) → List ℕ → List (Option ℕ) → Type 0
-  AreNext plan counts nexts = (kind : ℕ) → IsNext kind (get_or counts kind 0) plan (get_or nexts kind None)
+  AreNext plan counts nexts = (kind : ℕ) → IsNextFault kind (get_or counts kind 0) plan (get_or nexts kind None)
 
 -- what a plan's first call says, where it has this number
 abbrev pub said_first : {K : Type 0} → ℕ → List (Planned K) → Option Bool

@@ -38,7 +38,7 @@ module _ {N : Type 0} where
   Once (x ∷ xs) = (In x xs → ⊥) × Once xs
 
   -- the names of what is held, each once and no other
-  pub record Names (held : N → Option (List ℕ)) (names : List N) : Type 0 where
+  pub record NamesAllHeld (held : N → Option (List ℕ)) (names : List N) : Type 0 where
     pub are : (n : N) → IsSome (held n) ↔ In n names
     pub once : Once names
 

@@ -8,7 +8,7 @@
 
 ghost use Rattle.std.specs.Prelude.{◌≡◌, ◌≤◌, ◌↔◌, [], List, ℕ, true, not, ◌&&◌, if◌then◌else◌, None, is_some, IsTrue, OnOk};
 ghost use Rattle.tier_base.specs.Counts.{counted};
-ghost use Rattle.tier_base.specs.Device.{Went, made_after, Ran, MayBeDone, Arms, IsFresh, failing};
+ghost use Rattle.tier_base.specs.Device.{Went, made_after, Ran, MayBeDone, Arms, IsFreshDevice, failing};
 ghost use Rattle.tier_base.specs.Faults.{Faults, is_done, count_of, faults_of, ending_at, goes_well, has_none, shorter, control_of};
 
 use crate::ending::Ending;
@@ -30,7 +30,7 @@ pub struct FaultPlan<K: CallKind> {
 }
 
 impl<K: CallKind> Model for FaultPlan<K> {
-    ghost use Rattle.tier_base.specs.Faults.{Faults, AreKept};
+    ghost use Rattle.tier_base.specs.Faults.{Faults, AreFaultsSound};
     ghost use Rattle.tier_base.specs.Nexts.{AreNext};
 
     ghost Value = { Faults K };
@@ -45,7 +45,7 @@ impl<K: CallKind> Model for FaultPlan<K> {
     } };
 
     ghost invariant = { λ f. AreNext K.code f.plan.items f.counts f.nexts
-        × AreKept K.code (record {
+        × AreFaultsSound K.code (record {
           plan = f.plan.items;
           armed = f.armed;
           counts = f.counts;
@@ -61,7 +61,7 @@ impl<K: CallKind> FaultPlan<K> {
         ensures plan { result.plan ≡ plan.items }
         ensures fuse { result.fuse ≡ None }
         ensures scripted { IsTrue result.scripted }
-        ensures fresh { IsFresh (control_of K.code result []) }
+        ensures fresh { IsFreshDevice (control_of K.code result []) }
     {
         fit(plan.as_slice());
         let nexts = all_nexts(plan.as_slice());

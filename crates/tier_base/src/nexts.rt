@@ -6,7 +6,7 @@ ghost use Rattle.std.proofs.Math.ListN.{get_or, set};
 ghost use Rattle.tier_base.specs.Counts.{counted};
 ghost use Rattle.tier_base.specs.Device.{planned};
 ghost use Rattle.tier_base.specs.Faults.{NumbersFit};
-ghost use Rattle.tier_base.specs.Nexts.{rises_from, coming, IsNext, AreNext, said_first};
+ghost use Rattle.tier_base.specs.Nexts.{rises_from, coming, IsNextFault, AreNext, said_first};
 
 use crate::planned::{CallKind, Planned};
 
@@ -28,7 +28,7 @@ fn fits(number: u32)
 
 /// The first planned call of each kind.
 pub(crate) fn all_nexts<K: CallKind>(plan: &[Planned<K>]) -> [Option<usize>; 8]
-    ensures { (kind : ℕ) → IsNext K.code kind 0 plan.now (get_or result kind None) }
+    ensures { (kind : ℕ) → IsNextFault K.code kind 0 plan.now (get_or result kind None) }
 {
     let mut nexts = [None; 8];
     for kind in 0..8usize {
@@ -39,7 +39,7 @@ pub(crate) fn all_nexts<K: CallKind>(plan: &[Planned<K>]) -> [Option<usize>; 8]
 
 /// The first planned call of a kind.
 fn first_next<K: CallKind>(plan: &[Planned<K>], kind: usize) -> Option<usize>
-    ensures { IsNext K.code kind 0 plan.now result }
+    ensures { IsNextFault K.code kind 0 plan.now result }
 {
     if rises(plan, kind) {
         Some(skip(plan, kind, 0, 0))
@@ -57,7 +57,7 @@ fn next_after<K: CallKind>(
     next: Option<usize>,
 ) -> Option<usize>
     ensures { (before : ℕ) → before ≤ made
-        → IsNext K.code kind before plan.now next → IsNext K.code kind made plan.now result }
+        → IsNextFault K.code kind before plan.now next → IsNextFault K.code kind made plan.now result }
 {
     let at = next?;
     Some(skip(plan, kind, made, at))
@@ -102,7 +102,7 @@ pub(crate) fn said<K: CallKind>(
     made: u64,
     next: Option<usize>,
 ) -> Option<bool>
-    requires { IsNext K.code (K.code call) made plan.now next }
+    requires { IsNextFault K.code (K.code call) made plan.now next }
     ensures { result ≡ planned K.code call (counted made 1) plan.now }
 {
     match next {

@@ -1,7 +1,7 @@
 //! The key of an object in the remote store, and its text. The module Key of specs/ has the grammar.
 
 ghost use Rattle.std.specs.Prelude.{◌≡◌, IfOk};
-ghost use Rattle.tier_base.specs.Key.{key_text, part_text, ReadsKey, ReadsPart};
+ghost use Rattle.tier_base.specs.Key.{key_text, part_text, ReadsKey, ReadsKeyEnd};
 
 use crate::names::{PartitionId, SegmentId};
 use crate::numeral::number;
@@ -32,7 +32,7 @@ fn suffix(part: Part) -> &'static str
 
 /// The part whose keys end so.
 fn part_of(text: &[u8]) -> Option<Part>
-    ensures { ReadsPart text.now result }
+    ensures { ReadsKeyEnd text.now result }
 {
     if text == b".log".as_slice() {
         return Some(Part::Log);

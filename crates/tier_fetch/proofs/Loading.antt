@@ -7,7 +7,7 @@ use Rattle.sparse_index.specs.Offsets.{OffsetTable}
 use Rattle.index_cache.specs.Cache.{Cache, found, in_front, brought_front}
 use Rattle.object_store.specs.Call.{call_code}
 use Rattle.object_store.specs.Content.{Content}
-use Rattle.remote_view.specs.Fold.{Seen, entry_of}
+use Rattle.remote_view.specs.Fold.{EntriesSeen, entry_of}
 use Rattle.remote_find.specs.declared.piece.Piece.{Piece}
 use Rattle.tier_fetch.specs.declared.turn.FetchRequest.{FetchRequest}
 use Rattle.tier_fetch.specs.declared.turn.Span.{Span}
@@ -15,7 +15,7 @@ use Rattle.tier_fetch.specs.declared.turn.FetchTurn.{FetchTurn}
 use Rattle.tier_fetch.specs.Turns.{spot_in, LoadRow, IndexRow}
 
 -- it is read, and the cache was left as it was before
-pub not_cached : {S : Type 0} (objects : S → Content) (calls : S → Control call_code) (wanted : FetchRequest) (piece : Piece) (view : Seen) (result : Result FetchTurn AllocError) (f : OffsetTable → Span)
+pub not_cached : {S : Type 0} (objects : S → Content) (calls : S → Control call_code) (wanted : FetchRequest) (piece : Piece) (view : EntriesSeen) (result : Result FetchTurn AllocError) (f : OffsetTable → Span)
     (cache mid new : Cache) (s s' : S) → None ≡ option_map f (found piece.id.0 cache.pairs) → mid ≡ brought_front cache piece.id.0
     → LoadRow objects calls wanted piece view (spot_in wanted.partition piece.id part.Index (entry_of piece.id view.entries)) result mid new s s'
     → IndexRow objects calls wanted piece view result (found piece.id.0 cache.pairs) cache new s s'

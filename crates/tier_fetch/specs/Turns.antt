@@ -22,11 +22,11 @@ use Rattle.tier_base.specs.declared.plain.Part.{Part}
 use Rattle.tier_base.specs.declared.plain.Part.TheVariants as part
 use Rattle.tier_base.specs.declared.plain.Stop.{Stop}
 use Rattle.tier_base.specs.Device.{Control}
-use Rattle.sparse_index.specs.Bytes.{bytes_of, IsUnread}
+use Rattle.sparse_index.specs.Bytes.{bytes_of, IsNoIndex}
 use Rattle.sparse_index.specs.Offsets.{OffsetTable, AreOffsets, entry_bytes}
 use Rattle.index_cache.specs.Cache.{Cache, found, brought_front, kept}
 use Rattle.segment_file.specs.declared.taking.Cutout.{Cutout}
-use Rattle.segment_file.specs.Run.{IsRun, IsBadAt}
+use Rattle.segment_file.specs.Run.{IsRunCutAt, IsBadAt}
 use Rattle.segment_meta.specs.declared.note.Entry.{Entry}
 use Rattle.object_store.specs.declared.placing.Spot.{Spot}
 use Rattle.object_store.specs.Call as store_call
@@ -35,7 +35,7 @@ use Rattle.object_store.specs.Calls.{Gets}
 use Rattle.object_store.specs.Place.{spot_of, all_of, some_of, short_of, short_in}
 use Rattle.meta_log.specs.Call as meta_call
 use Rattle.meta_log.specs.Content as meta
-use Rattle.remote_view.specs.Fold.{Seen, entry_of}
+use Rattle.remote_view.specs.Fold.{EntriesSeen, entry_of}
 use Rattle.remote_find.specs.declared.piece.Piece.{Piece}
 use Rattle.remote_find.specs.Pieces.{piece_at}
 use Rattle.view_refresh.specs.Refreshing.{Refreshed, Unread, Halted}
@@ -53,14 +53,14 @@ use Rattle.tier_fetch.specs.declared.turn.FetchTurn.TheVariants.{Goes, Ends}
 use Rattle.tier_fetch.specs.Span.{span_of}
 
 -- the turn's piece, where it has one, ends past the offset
-abbrev pub IsFor : ℕ → FetchStep → Type 0
-IsFor offset Refresh = Unit {0}
-IsFor offset (Index piece) = offset < piece.to
-IsFor offset (Log piece span) = offset < piece.to
+abbrev pub IsPieceFor : ℕ → FetchStep → Type 0
+IsPieceFor offset Refresh = Unit {0}
+IsPieceFor offset (Index piece) = offset < piece.to
+IsPieceFor offset (Log piece span) = offset < piece.to
 
 -- a fetch that continues has such a turn next
 abbrev pub GoesFor : ℕ → FetchTurn → Type 0
-GoesFor offset (Goes next) = IsFor offset next
+GoesFor offset (Goes next) = IsPieceFor offset next
 GoesFor offset (Ends answer) = Unit {0}
 
 -- what a refreshed view of so many metadata events says of an offset, by its piece: a missing one is damage of the
@@ -97,7 +97,7 @@ LoadsBytes (Some end) wanted piece base spot bytes result old new =
     (result ≡ Ok (Ends (Damaged (Key spot.key) end))) × (new ≡ old)
 LoadsBytes None wanted piece base spot bytes (Ok (Goes next)) old new = IsLoaded wanted piece base bytes (Goes next) old new
 LoadsBytes None wanted piece base spot bytes (Ok (Ends answer)) old new =
-    (answer ≡ Damaged (Key spot.key) spot.at) × IsUnread AreOffsets entry_bytes bytes × (new ≡ old)
+    (answer ≡ Damaged (Key spot.key) spot.at) × IsNoIndex AreOffsets entry_bytes bytes × (new ≡ old)
 LoadsBytes None wanted piece base spot bytes (Err e) old new = new ≡ old
 
 -- by what the store answered of it
@@ -109,17 +109,17 @@ Loads wanted piece base spot (Ok None) result old new = (result ≡ Ok (Ends (Da
 Loads wanted piece base spot (Ok (Some bytes)) result old new = LoadsBytes (short_of spot bytes) wanted piece base spot bytes result old new
 
 -- the run that is cut out of bytes, clipped by the piece
-pub record IsRunOf (wanted : FetchRequest) (piece : Piece) (bytes : List ℕ) (tier : Tier) (size : ℕ) (stop : Stop) (run : List ℕ)
+pub record IsCutRun (wanted : FetchRequest) (piece : Piece) (bytes : List ℕ) (tier : Tier) (size : ℕ) (stop : Stop) (run : List ℕ)
     : Type 0 where
   pub cut : Cutout
-  pub is : IsRun bytes wanted.offset wanted.limit wanted.mark piece.to cut
+  pub is : IsRunCutAt bytes wanted.offset wanted.limit wanted.mark piece.to cut
   pub part : run ≡ slice_range bytes cut.from cut.to
   pub tier_is : tier ≡ Remote piece.id
   pub size_is : size ≡ length run
   pub stop_is : stop ≡ cut.stop
 
 -- the bytes from a position of a segment's log on have no such run from this place on
-pub record HasNoRun (wanted : FetchRequest) (piece : Piece) (spot : Spot) (span : Span) (bytes : List ℕ) (place : Place) (at : ℕ)
+pub record HasNoRemoteRun (wanted : FetchRequest) (piece : Piece) (spot : Spot) (span : Span) (bytes : List ℕ) (place : Place) (at : ℕ)
     : Type 0 where
   pub found : ℕ
   pub bad : IsBadAt bytes wanted.offset wanted.limit (min wanted.mark piece.to) found
@@ -129,23 +129,25 @@ pub record HasNoRun (wanted : FetchRequest) (piece : Piece) (spot : Spot) (span 
 -- what becomes of it by bytes of the segment's log, and by where more of them are lacking
 abbrev pub CutsBytes : Option ℕ → FetchRequest → Piece → Spot → Span → List ℕ → Result FetchTurn AllocError → Type 0
 CutsBytes (Some end) wanted piece spot span bytes result = result ≡ Ok (Ends (Damaged (Key spot.key) end))
-CutsBytes None wanted piece spot span bytes (Ok (Ends (Run tier size stop run))) = IsRunOf wanted piece bytes tier size stop run
-CutsBytes None wanted piece spot span bytes (Ok (Ends (Damaged place at))) = HasNoRun wanted piece spot span bytes place at
+CutsBytes None wanted piece spot span bytes (Ok (Ends (Run tier size stop run))) = IsCutRun wanted piece bytes tier size stop run
+CutsBytes None wanted piece spot span bytes (Ok (Ends (Damaged place at))) = HasNoRemoteRun wanted piece spot span bytes place at
 CutsBytes None wanted piece spot span bytes (Ok turn) = ⊥
 CutsBytes None wanted piece spot span bytes (Err e) = Unit {0}
 
 -- by what the store answered of it
-abbrev pub Cuts : FetchRequest → Piece → Spot → Span → Result (Option (List ℕ)) Trouble → Result FetchTurn AllocError
+abbrev pub CutsRunOut : FetchRequest → Piece → Spot → Span → Result (Option (List ℕ)) Trouble
+    → Result FetchTurn AllocError
     → Type 0
-Cuts wanted piece spot span (Err Failed) result = result ≡ Ok (Ends StoreFault)
-Cuts wanted piece spot span (Err NoMemory) result = IsErr result
-Cuts wanted piece spot span (Ok None) result = result ≡ Ok (Ends (Damaged (Key spot.key) 0))
-Cuts wanted piece spot span (Ok (Some bytes)) result =
+CutsRunOut wanted piece spot span (Err Failed) result = result ≡ Ok (Ends StoreFault)
+CutsRunOut wanted piece spot span (Err NoMemory) result = IsErr result
+CutsRunOut wanted piece spot span (Ok None) result = result ≡ Ok (Ends (Damaged (Key spot.key) 0))
+CutsRunOut wanted piece spot span (Ok (Some bytes)) result =
     CutsBytes (short_in spot span.from span.most bytes) wanted piece spot span bytes result
 
 module _ {M : Type 0} (notes : M → meta.Content) (calls : M → Control meta_call.call_code) where
   -- the piece is chosen
-  abbrev pub RefreshRow : FetchRequest → List (ℕ × ℕ) → Result FetchTurn AllocError → Seen → Seen → M → M → Type 0
+  abbrev pub RefreshRow : FetchRequest → List (ℕ × ℕ) → Result FetchTurn AllocError → EntriesSeen → EntriesSeen → M → M
+      → Type 0
   RefreshRow wanted line (Ok (Ends MetaFault)) before after old new = Unread notes calls before after old new
   RefreshRow wanted line (Ok turn) before after old new =
       (turn ≡ chosen after.notes (piece_at after.entries line wanted.log_end wanted.offset))
@@ -162,13 +164,13 @@ module _ {S : Type 0} (objects : S → store.Content) (calls : S → Control sto
     pub loads : Loads wanted piece place.0 place.1 answer result cache cache'
 
   -- the index isn't in the cache: it is read where it is
-  abbrev pub LoadRow : FetchRequest → Piece → Seen → Option (ℕ × Spot) → Result FetchTurn AllocError → Cache → Cache → S → S → Type 0
+  abbrev pub LoadRow : FetchRequest → Piece → EntriesSeen → Option (ℕ × Spot) → Result FetchTurn AllocError → Cache → Cache → S → S → Type 0
   LoadRow wanted piece view None result cache cache' old new =
       (result ≡ Ok (Ends (Damaged Meta view.notes))) × (cache' ≡ cache) × (new ≡ old)
   LoadRow wanted piece view (Some place) result cache cache' old new = ReadsIndex wanted piece place result cache cache' old new
 
   -- the index: no call is made where it is in the cache
-  abbrev pub IndexRow : FetchRequest → Piece → Seen → Result FetchTurn AllocError → Option OffsetTable → Cache → Cache → S → S → Type 0
+  abbrev pub IndexRow : FetchRequest → Piece → EntriesSeen → Result FetchTurn AllocError → Option OffsetTable → Cache → Cache → S → S → Type 0
   IndexRow wanted piece view result (Some index) cache cache' old new =
       (result ≡ Ok (reads_by wanted piece index)) × (cache' ≡ brought_front cache piece.id.0) × (new ≡ old)
   IndexRow wanted piece view result None cache cache' old new =
@@ -176,21 +178,22 @@ module _ {S : Type 0} (objects : S → store.Content) (calls : S → Control sto
       cache cache' old new
 
   -- one read of a segment's log, no further than the span
-  pub record ReadsLog (wanted : FetchRequest) (piece : Piece) (spot : Spot) (span : Span) (result : Result FetchTurn AllocError)
+  pub record ReadsRemoteLog (wanted : FetchRequest) (piece : Piece) (spot : Spot) (span : Span) (result : Result FetchTurn AllocError)
       (old new : S) : Type 0 where
     pub answer : Result (Option (List ℕ)) Trouble
     pub gets : Gets objects calls spot.key (some_of spot span.from span.most) answer old new
-    pub cuts : Cuts wanted piece spot span answer result
+    pub cuts : CutsRunOut wanted piece spot span answer result
 
   -- the run is read where the segment's log is
-  abbrev pub LogRow : FetchRequest → Piece → Span → Seen → Option (ℕ × Spot) → Result FetchTurn AllocError → S → S
+  abbrev pub LogRow : FetchRequest → Piece → Span → EntriesSeen → Option (ℕ × Spot) → Result FetchTurn AllocError → S
+      → S
       → Type 0
   LogRow wanted piece span view None result old new = (result ≡ Ok (Ends (Damaged Meta view.notes))) × (new ≡ old)
-  LogRow wanted piece span view (Some place) result old new = ReadsLog wanted piece place.1 span result old new
+  LogRow wanted piece span view (Some place) result old new = ReadsRemoteLog wanted piece place.1 span result old new
 
 -- what a fetch's turns change: its broker's view and cache, the store and the metadata log
 pub record Tiers (S M : Type 0) : Type 0 where
-  pub view : Seen
+  pub view : EntriesSeen
   pub cache : Cache
   pub store : S
   pub meta : M
@@ -198,16 +201,17 @@ pub record Tiers (S M : Type 0) : Type 0 where
 module _ {S M : Type 0} (objects : S → store.Content) (calls : S → Control store_call.call_code)
     (notes : M → meta.Content) (notings : M → Control meta_call.call_code) where
   -- a turn of a fetch, by what was next: what it came to, or that it ran out of memory
-  abbrev pub FetchRow : FetchRequest → List (ℕ × ℕ) → FetchStep → Result FetchTurn AllocError → Tiers S M → Tiers S M
+  abbrev pub RemoteFetchRow : FetchRequest → List (ℕ × ℕ) → FetchStep → Result FetchTurn AllocError → Tiers S M
+      → Tiers S M
       → Type 0
-  FetchRow wanted line Refresh result old new =
+  RemoteFetchRow wanted line Refresh result old new =
       (new ≡ record old { view = new.view; meta = new.meta })
       × RefreshRow notes notings wanted line result old.view new.view old.meta new.meta
-  FetchRow wanted line (Index piece) result old new =
+  RemoteFetchRow wanted line (Index piece) result old new =
       (new ≡ record old { cache = new.cache; store = new.store })
       × IndexRow objects calls wanted piece old.view result (found piece.id.0 old.cache.pairs)
       old.cache new.cache old.store new.store
-  FetchRow wanted line (Log piece span) result old new =
+  RemoteFetchRow wanted line (Log piece span) result old new =
       (new ≡ record old { store = new.store })
       × LogRow objects calls wanted piece span old.view
       (spot_in wanted.partition piece.id part.Log (entry_of piece.id old.view.entries)) result old.store new.store

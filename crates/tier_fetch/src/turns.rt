@@ -9,7 +9,7 @@ ghost use Rattle.plain_log.specs.declared.answer.Answer.TheVariants.{Damaged};
 ghost use Rattle.plain_log.specs.declared.answer.Place.TheVariants.{Key, Meta};
 ghost use Rattle.tier_fetch.specs.declared.turn.FetchTurn.TheVariants.{Ends};
 ghost use Rattle.tier_fetch.specs.Span.{span_of};
-ghost use Rattle.tier_fetch.specs.Turns.{Tiers, IsFor, GoesFor, chosen, spot_in, Loads, Cuts, RefreshRow, IndexRow, LoadRow, LogRow, FetchRow};
+ghost use Rattle.tier_fetch.specs.Turns.{Tiers, IsPieceFor, GoesFor, chosen, spot_in, Loads, CutsRunOut, RefreshRow, IndexRow, LoadRow, LogRow, RemoteFetchRow};
 
 use crate::spanning::span_of;
 use crate::turn::{FetchRequest, FetchStep, FetchTurn, Span};
@@ -39,8 +39,8 @@ pub fn fetch_turn<S: Store, M: MetaLog>(
     meta: &mut M,
 ) -> Result<FetchTurn, AllocError>
     requires below { wanted.now.offset < wanted.now.mark }
-    requires holds { IsFor wanted.now.offset next }
-    ensures row { FetchRow S.content S.control M.content M.control wanted.now line.now next result
+    requires holds { IsPieceFor wanted.now.offset next }
+    ensures row { RemoteFetchRow S.content S.control M.content M.control wanted.now line.now next result
         (record { view = view.old; cache = cache.old; store = store.old; meta = meta.old })
         (record { view = view.new; cache = cache.new; store = store.new; meta = meta.new }) }
     ensures goes { IfOk result (GoesFor wanted.now.offset) }
@@ -251,7 +251,7 @@ fn cut_out(
     requires below { wanted.now.offset < wanted.now.mark }
     requires holds { wanted.now.offset < piece.now.to }
     requires near { spot.now.at < 2 ^ 34 }
-    ensures row { Cuts wanted.now piece.now spot.now span (Ok given) result }
+    ensures row { CutsRunOut wanted.now piece.now spot.now span (Ok given) result }
     ensures goes { IfOk result (GoesFor wanted.now.offset) }
 {
     let Some(bytes) = given else {

@@ -8,10 +8,10 @@ use Rattle.log_terms.specs.Log.{IsConsecutive, end_from, end_of}
 use Rattle.log_terms.proofs.Lists.{prefix_self, prefix_trans}
 use Rattle.log_terms.proofs.Logs.{end_append, end_above, consecutive_prefix, nested, one_end, prefix_end}
 use Rattle.plain_log.specs.declared.state.State.{State as Plain}
-use Rattle.plain_log.specs.Safe.{Has, LogSafe, PlainSafe}
+use Rattle.plain_log.specs.Safe.{HasOnPath, LogSafe, PlainSafe}
 use Rattle.segment_meta.specs.declared.note.Entry.{Entry}
 use Rattle.tier_safe.proofs.Basics.{nat_cases}
-use Rattle.tier_safe.specs.Lineage.{Describes}
+use Rattle.tier_safe.specs.Lineage.{DescribesPath}
 use Rattle.tier_safe.specs.Kept.{Shares}
 use Rattle.plain_log.proofs.Ends.{log_prefix}
 
@@ -63,15 +63,15 @@ pub agree : (p : Plain) (xs ys : List (List ℕ)) (o e : ℕ) → PlainSafe p �
 agree p xs ys o e s sx sy hx hy =
     let one = holding 0 xs o e hx in
     let two = holding 0 ys o e hy in
-    let a = subst (λ (k : ℕ). Has p.paths k (one.front ++ one.batch ∷ [])) one.epoch (sx.matching one.front one.batch one.begins) in
-    let b = subst (λ (k : ℕ). Has p.paths k (two.front ++ two.batch ∷ [])) two.epoch (sy.matching two.front two.batch two.begins) in
+    let a = subst (λ (k : ℕ). HasOnPath p.paths k (one.front ++ one.batch ∷ [])) one.epoch (sx.matching one.front one.batch one.begins) in
+    let b = subst (λ (k : ℕ). HasOnPath p.paths k (two.front ++ two.batch ∷ [])) two.epoch (sy.matching two.front two.batch two.begins) in
     let same : b.0 ≡ a.0 = cc (a.1, b.1) in
     let r = shared_begins xs ys (one.front ++ one.batch ∷ []) (two.front ++ two.batch ∷ []) a.0 o (s.paths e a.0 a.1).log_safe.consecutive a.2
     (subst (λ (w : List (List ℕ)). IsPrefix (two.front ++ two.batch ∷ []) w) same b.2) one.begins two.begins one.past two.past in
     record { front = r.0; one = r.1; two = r.2; past = r.3 }
 
 -- a beginning of a path is safe
-pub has_safe : (p : Plain) (e : ℕ) (xs : List (List ℕ)) → PlainSafe p → Has p.paths e xs → LogSafe p.paths xs
+pub has_safe : (p : Plain) (e : ℕ) (xs : List (List ℕ)) → PlainSafe p → HasOnPath p.paths e xs → LogSafe p.paths xs
 has_safe p e xs s h = log_prefix p.paths xs h.0 h.2 (s.paths e h.0 h.1).log_safe
 
 -- an offset after a beginning is held by what comes after it
@@ -151,7 +151,7 @@ map_at n (x ∷ xs) o c low high =
 -- entries
 
 -- an entry's map has the epochs of the path that its batches are a part of
-pub entry_at : (p : Plain) (entry : Entry) (batches : List (List ℕ)) (line : List (ℕ × ℕ)) (o : ℕ) → PlainSafe p → (d : Describes p.paths entry batches line)
+pub entry_at : (p : Plain) (entry : Entry) (batches : List (List ℕ)) (line : List (ℕ × ℕ)) (o : ℕ) → PlainSafe p → (d : DescribesPath p.paths entry batches line)
     → entry.start ≤ o → o ≤ entry.end → epoch_at entry.map o ≡ epoch_holding (d.part.front ++ batches) o
 entry_at p entry batches line o s d low high =
     let safe = has_safe p d.part.epoch (d.part.front ++ batches) s d.part.begins in
@@ -161,7 +161,7 @@ entry_at p entry batches line o s d low high =
 
 -- where a log has the epoch at an offset that an entry's map has, it is that path up to there
 pub entry_agrees : (p : Plain) (entry : Entry) (batches : List (List ℕ)) (line : List (ℕ × ℕ)) (log : List (List ℕ)) (o e : ℕ) → PlainSafe p
-    → (d : Describes p.paths entry batches line) → LogSafe p.paths log → entry.start ≤ o → o ≤ entry.end
+    → (d : DescribesPath p.paths entry batches line) → LogSafe p.paths log → entry.start ≤ o → o ≤ entry.end
     → epoch_at entry.map o ≡ Some e → epoch_holding log o ≡ Some e → Shares (d.part.front ++ batches) log o
 entry_agrees p entry batches line log o e s d safe low high map holds =
     agree p (d.part.front ++ batches) log o e s (has_safe p d.part.epoch (d.part.front ++ batches) s d.part.begins) safe
@@ -183,7 +183,7 @@ front_off [] ys zs e = e
 front_off (x ∷ xs) ys zs e = front_off xs ys zs (cc (e))
 
 -- an entry describes one list of batches
-pub describes_one : (p : Plain) (entry : Entry) (xs ys : List (List ℕ)) (l m : List (ℕ × ℕ)) → PlainSafe p → Describes p.paths entry xs l → Describes p.paths entry ys m → xs ≡ ys
+pub describes_one : (p : Plain) (entry : Entry) (xs ys : List (List ℕ)) (l m : List (ℕ × ℕ)) → PlainSafe p → DescribesPath p.paths entry xs l → DescribesPath p.paths entry ys m → xs ≡ ys
 describes_one p entry xs ys l m s d f =
     let a = d.part.front ++ xs in
     let b = f.part.front ++ ys in

@@ -4,7 +4,7 @@ use Rattle.log_terms.specs.Log.{end_of}
 use Rattle.log_terms.proofs.Lists.{get-set, each-set, prefix_more, length-slice_set}
 use Rattle.plain_log.specs.declared.state.State.{State as Plain}
 use Rattle.plain_log.specs.declared.state.Broker.{Broker}
-use Rattle.remote_view.specs.Fold.{Seen}
+use Rattle.remote_view.specs.Fold.{EntriesSeen}
 use Rattle.tier_safe.specs.Scene.{Scene, BrokerTierView}
 use Rattle.tier_safe.specs.Changes.{note_for, Change, Steps, Moves, Chooses, Tells, Stores, Sees, Caches, Drops, effect}
 use Rattle.tier_safe.specs.Views.{IsViewOf, ViewsStand}
@@ -32,7 +32,7 @@ views_kept (Drops b tier_view start dropping) c p m h =
 
 pub views_stepped : (tier_views : List BrokerTierView) (c : Scene) (p q : Plain) → StepGoes tier_views c p q → TierSafe c p → ViewsStand c.notes tier_views
 views_stepped tier_views c p q m h = λ b tier_view at.
-    (let f = followed tier_views c p q b tier_view m h at in subst (λ (v : Seen). IsViewOf c.notes v) (sym f.goes.view) (h.views b f.old f.old_is))
+    (let f = followed tier_views c p q b tier_view m h at in subst (λ (v : EntriesSeen). IsViewOf c.notes v) (sym f.goes.view) (h.views b f.old f.old_is))
 
 -- a tier view that exists, put in its place
 tier_view_set : (tier_views : List BrokerTierView) (brokers : List Broker) (b : ℕ) (old new : BrokerTierView) → slice_get tier_views b ≡ Some old

@@ -25,11 +25,11 @@ use Rattle.expiry_task.specs.declared.turn.DeletionStep.{DeletionStep as ExpiryN
 use Rattle.expiry_task.specs.declared.turn.DeletionStep.TheVariants as expiring
 use Rattle.expiry_task.specs.Turns.{note_of}
 use Rattle.plain_log.proofs.Options.{map_some}
-use Rattle.remote_view.specs.Fold.{Seen, entry_of, state_of, recorded, updated, fold}
+use Rattle.remote_view.specs.Fold.{EntriesSeen, entry_of, state_of, recorded, updated, fold}
 use Rattle.tier_safe.specs.Scene.{Scene, BrokerTierView, TierTask, Copies, Expires}
 use Rattle.tier_safe.specs.Changes.{Move, Leaves, Overtakes, Dooms, Wants, Refreshes, Lines, Asks, Finds, Skips, Reads, moved, Telling, CopyStarts, CopyEnds, ExpiryStarts, ExpiryEnds, note_for, after_telling, Storing, Puts, Undoes, Deletes, key_for, after_storing, undone, Change, Steps, Moves, Chooses, Tells, Stores, Sees, Caches, Drops, effect}
-use Rattle.tier_safe.specs.Views.{IsIdOf, IsUsed}
-use Rattle.tier_safe.specs.Copies.{IsEntryFor, HasPut, HasPutBefore, HasPutAll, CopyHasKey, CopyAt, CopyStands, CopiesStand, is_deleted}
+use Rattle.tier_safe.specs.Views.{IsIdOf, IsIdUsed}
+use Rattle.tier_safe.specs.Copies.{IsEntryFor, IsPartPut, HasPutBefore, HasPutAll, CopyHasKey, CopyAt, CopyStands, CopiesStand, is_deleted}
 use Rattle.tier_safe.specs.Safe.{TierSafe}
 use Rattle.tier_safe.specs.Moves.{MayMove, MayOvertake}
 use Rattle.tier_safe.specs.May.{MayAlter, MayStore, MayTell}
@@ -173,7 +173,7 @@ overtaken : (a : ℕ) (copy : Copied) (c : Scene) (p : Plain) → MayOvertake a 
 overtaken a copy c p m h =
     let s = h.copies.each a copy copying.Check m.actor_state in
     let v = h.views m.b m.tier_view m.tier_view_is in
-    let shown : state_of copy.id (fold v.before) ≡ Some m.state = subst (λ (w : Seen). state_of copy.id w.entries ≡ Some m.state) v.is m.shows in
+    let shown : state_of copy.id (fold v.before) ≡ Some m.state = subst (λ (w : EntriesSeen). state_of copy.id w.entries ≡ Some m.state) v.is m.shows in
     let x = map_some (λ (e : Entry). e.state) (entry_of copy.id (fold v.before)) m.state shown in
     let y = prefix_goes v.before c.notes copy.id x.0 v.begins x.1 in
     let same = one_some (entry_of copy.id (fold c.notes)) s.at.entry y.0 s.at.there y.1 in
@@ -205,7 +205,7 @@ moved_works a (Reads sought from) c p m h = (tt, tt)
 
 -- the id that a tier view would choose next isn't used
 pub next_unused : (c : Scene) (p : Plain) (id : SegmentId) (partition b : ℕ) (tier_view : BrokerTierView) → TierSafe c p → slice_get c.tier_views b ≡ Some tier_view → tier_view.up ≡ true
-    → IsIdOf id partition b tier_view.incarnation tier_view.next → IsUsed (fold c.notes) c.desk id → ⊥
+    → IsIdOf id partition b tier_view.incarnation tier_view.next → IsIdUsed (fold c.notes) c.desk id → ⊥
 next_unused c p id partition b tier_view h at up is used =
     let chosen = h.ids id partition b tier_view.incarnation tier_view.next tier_view used is at in
     let below = chosen.below up refl in
@@ -307,13 +307,13 @@ told_copies telling a origin c p m h =
 
 -- the object of a number is put, and none or a further one is left
 part_put : (old new : Objects) (es : List Entry) (copy : Copied) (n : ℕ) (key : ObjectKey) (next : Option ObjectKey) → slice_get (keys copy) n ≡ Some key
-    → slice_get (keys copy) (n + 1) ≡ next → HasPut new copy key → ((k : ObjectKey) → k ≢ key → new k ≡ old k)
+    → slice_get (keys copy) (n + 1) ≡ next → IsPartPut new copy key → ((k : ObjectKey) → k ≢ key → new k ≡ old k)
     → CopyAt old es copy (copying.Put n) → CopyAt new es copy (put_at (n + 1) next)
 part_put old new es copy n key next at more put rest h = by next more
   where
-    one : h.entry.state ≡ CopyStarted → (i : ℕ) (k : ObjectKey) → slice_get (keys copy) i ≡ Some k → i < n + 1 → HasPut new copy k
+    one : h.entry.state ≡ CopyStarted → (i : ℕ) (k : ObjectKey) → slice_get (keys copy) i ≡ Some k → i < n + 1 → IsPartPut new copy k
     one e i k is low = elim (key_cases k key) [
-      | inl same ↦ subst (HasPut new copy) (sym same) put
+      | inl same ↦ subst (IsPartPut new copy) (sym same) put
       | inr other ↦ elim (nat_cases i n) [
         | inl last ↦ absurd (other (one_some (slice_get (keys copy) n) k key (ap (slice_get (keys copy)) (sym last) ∙ is) at))
         | inr before ↦ rest k other ∙ h.state.1 e i k is (omega (arith, low, before))

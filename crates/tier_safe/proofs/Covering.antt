@@ -16,9 +16,9 @@ use Rattle.log_terms.proofs.Lists.{get-set, prefix_self, prefix_more}
 use Rattle.log_terms.proofs.Logs.{one_end}
 use Rattle.plain_log.specs.declared.state.State.{State as Plain}
 use Rattle.plain_log.specs.declared.state.Broker.{Broker}
-use Rattle.plain_log.specs.Safe.{Has, PlainSafe}
+use Rattle.plain_log.specs.Safe.{HasOnPath, PlainSafe}
 use Rattle.plain_log.proofs.Options.{both, le_of}
-use Rattle.remote_view.specs.Fold.{Seen, entry_of, fold}
+use Rattle.remote_view.specs.Fold.{EntriesSeen, entry_of, fold}
 use Rattle.remote_view.specs.Lookup.{is_readable, is_epoch, covers}
 use Rattle.remote_find.proofs.Clipping.{given}
 use Rattle.tier_safe.specs.Scene.{Scene, BrokerTierView}
@@ -26,7 +26,7 @@ use Rattle.tier_safe.specs.Changes.{note_for, Dropping, Trims, Restarts, Change,
 use Rattle.tier_safe.specs.Lineage.{Covers, CoversLog}
 use Rattle.tier_safe.specs.Starts.{DeletedEnd, CoveredStands}
 use Rattle.tier_safe.specs.Safe.{TierSafe}
-use Rattle.tier_safe.specs.May.{MayAlter, MayDrop}
+use Rattle.tier_safe.specs.May.{MayAlter, MayDropLocal}
 use Rattle.tier_safe.proofs.Entries.{Follows}
 use Rattle.tier_safe.proofs.Steps.{StepGoes}
 use Rattle.tier_safe.proofs.Entries.{prefix_goes}
@@ -119,13 +119,13 @@ comparable_same xs ys o c below below2 = elim c [
 ]
 
 -- two beginnings of a path that end at one offset
-pub one_front : (p : Plain) (e : ℕ) (xs ys : List (List ℕ)) → PlainSafe p → Has p.paths e xs → Has p.paths e ys → end_of xs ≡ end_of ys → xs ≡ ys
+pub one_front : (p : Plain) (e : ℕ) (xs ys : List (List ℕ)) → PlainSafe p → HasOnPath p.paths e xs → HasOnPath p.paths e ys → end_of xs ≡ end_of ys → xs ≡ ys
 one_front p e xs ys s h k same =
     let log = one_some _ h.0 k.0 h.1 k.1 in
     one_end 0 xs ys h.0 (s.paths e h.0 h.1).log_safe.consecutive h.2 (subst (λ (l : List (List ℕ)). IsPrefix ys l) (sym log) k.2) same
 
 -- a local log that starts later
-dropped : (b : ℕ) (tier_view : BrokerTierView) (start : ℕ) (dropping : Dropping) (c : Scene) (p : Plain) → MayDrop b tier_view start dropping c p → PlainSafe p → TierSafe c p
+dropped : (b : ℕ) (tier_view : BrokerTierView) (start : ℕ) (dropping : Dropping) (c : Scene) (p : Plain) → MayDropLocal b tier_view start dropping c p → PlainSafe p → TierSafe c p
     → (x : Broker) → slice_get p.brokers b ≡ Some x → (o : ℕ) → p.registry.start ≤ o → o < start → CoversLog (fold c.notes) x.log o
 dropped b tier_view start Trims c p m safe h x bx o low high = elim (cases_lt o tier_view.start) [
   | inl old ↦ h.covered b tier_view x m.tier_view_is bx o low old
@@ -134,7 +134,7 @@ dropped b tier_view start Trims c p m safe h x bx o low high = elim (cases_lt o 
       let same = one_some (slice_get p.brokers b) m.x x m.broker_is bx in
       let seen = subst (λ (y : Broker). CoversLog tier_view.view.entries y.log o) same (m.why o low new high) in
       log_goes c.notes v.before c.notes p.registry.start x.log o h.deletions.ended v.begins (prefix_self c.notes) v.begins low
-      (subst (λ (s : Seen). CoversLog s.entries x.log o) v.is seen)
+      (subst (λ (s : EntriesSeen). CoversLog s.entries x.log o) v.is seen)
 ]
 dropped b tier_view start (Restarts a rebuild) c p m safe h x bx o low high =
     let same = one_some (slice_get p.brokers b) m.x x m.broker_is bx in

@@ -24,12 +24,12 @@ use Rattle.expiry_task.specs.declared.turn.ExpiredSegment.{ExpiredSegment}
 use Rattle.expiry_task.specs.declared.turn.DeletionStep.{DeletionStep as ExpiryNext}
 use Rattle.expiry_task.specs.declared.turn.DeletionStep.TheVariants as expiring
 use Rattle.expiry_task.specs.Turns.{keys as expiry_keys, delete_at}
-use Rattle.remote_view.specs.Fold.{Seen, entry_of, recorded, updated, fold}
+use Rattle.remote_view.specs.Fold.{EntriesSeen, entry_of, recorded, updated, fold}
 use Rattle.remote_view.specs.Lookup.{is_gone}
 use Rattle.tier_safe.specs.Scene.{Scene, BrokerTierView, TierTask, Copies, Expires}
 use Rattle.tier_safe.specs.Changes.{Move, Leaves, Overtakes, Dooms, Wants, Refreshes, Lines, Asks, Finds, Skips, Reads, moved, Telling, CopyStarts, CopyEnds, ExpiryStarts, ExpiryEnds, note_for, after_telling, Storing, Puts, Undoes, Deletes, after_storing, undone, Change, Steps, Moves, Chooses, Tells, Stores, Sees, Caches, Drops, effect}
 use Rattle.tier_safe.specs.Copies.{is_deleted}
-use Rattle.tier_safe.specs.Starts.{DeletedEnd, IsBegun, ExpiryHasKey, ExpiryStands, DeletionsStand}
+use Rattle.tier_safe.specs.Starts.{DeletedEnd, HasBegun, ExpiryHasKey, ExpiryStands, DeletionsStand}
 use Rattle.tier_safe.specs.Safe.{TierSafe}
 use Rattle.tier_safe.specs.Moves.{MayMove, MayDoom}
 use Rattle.tier_safe.specs.May.{MayAlter, MayStore, MayTell}
@@ -94,7 +94,7 @@ expiries_set es start desk a w own others k expired_segment next at = elim (get-
   | inr there ↦ others k expired_segment next there.1
 ]
 
-begun_rises : (next : ExpiryNext) (old new : State) → state_code old ≤ state_code new → IsBegun next old → IsBegun next new
+begun_rises : (next : ExpiryNext) (old new : State) → state_code old ≤ state_code new → HasBegun next old → HasBegun next new
 begun_rises expiring.Start old new h b = tt
 begun_rises (expiring.Delete n) old new h b = deleted_rises old new h b
 begun_rises expiring.Finish old new h b = deleted_rises old new h b
@@ -114,7 +114,7 @@ expiry_goes es note start expired_segment next h =
 expired_segment_work : (a b : ℕ) (expired_segment : ExpiredSegment) (c : Scene) (p : Plain) → MayDoom a b expired_segment c p → TierSafe c p → ExpiryStands (fold c.notes) p.registry.start expired_segment expiring.Start
 expired_segment_work a b expired_segment c p m h =
     let v = h.views b m.tier_view m.tier_view_is in
-    let y = prefix_goes v.before c.notes expired_segment.id m.entry v.begins (subst (λ (s : Seen). entry_of expired_segment.id s.entries ≡ Some m.entry) v.is m.there) in
+    let y = prefix_goes v.before c.notes expired_segment.id m.entry v.begins (subst (λ (s : EntriesSeen). entry_of expired_segment.id s.entries ≡ Some m.entry) v.is m.there) in
     let d = both (nat_lt m.entry.end p.registry.start) (not (is_gone m.entry.state)) m.due in
     let low : m.entry.end < p.registry.start = grind (arith, nat_tests, d.0) in
     record { entry = y.0; there = y.1; below = rw y.2.end low; snapshot = tt; key = tt }
@@ -155,7 +155,7 @@ told_expiry (ExpiryStarts expired_segment) a origin c p m h =
     }
 told_expiry (ExpiryEnds expired_segment) a origin c p m h = tt
 
-after_begun : (n : ℕ) (next : Option ObjectKey) (state : State) → is_deleted state ≡ true → IsBegun (delete_at n next) state
+after_begun : (n : ℕ) (next : Option ObjectKey) (state : State) → is_deleted state ≡ true → HasBegun (delete_at n next) state
 after_begun n None state d = d
 after_begun n (Some key) state d = d
 

@@ -20,10 +20,10 @@ use Rattle.plain_log.specs.State.{path_of}
 use Rattle.copy_task.specs.Copying.{Copied, keys as copy_keys}
 use Rattle.copy_task.specs.declared.turn.CopyStep.TheVariants as copying
 use Rattle.remote_find.specs.declared.piece.Piece.{Piece}
-use Rattle.remote_view.specs.Fold.{Seen, entry_of, fold, view_of}
+use Rattle.remote_view.specs.Fold.{EntriesSeen, entry_of, fold, view_of}
 use Rattle.tier_safe.specs.Scene.{Scene, BrokerTierView, Sought, TierTask, Copies, Seeks}
 use Rattle.tier_safe.specs.Changes.{Move, Leaves, Overtakes, Dooms, Wants, Refreshes, Lines, Asks, Finds, Skips, Reads, moved, Telling, CopyStarts, CopyEnds, ExpiryStarts, ExpiryEnds, note_for, after_telling, Storing, Puts, Undoes, Deletes, after_storing, undone, Change, Steps, Moves, Chooses, Tells, Stores, Sees, Caches, Drops, effect}
-use Rattle.tier_safe.specs.Lineage.{IsPart, Describes}
+use Rattle.tier_safe.specs.Lineage.{IsPathPart, DescribesPath}
 use Rattle.plain_log.specs.Grows.{BrokerGrows}
 use Rattle.tier_safe.specs.Starts.{DeletedEnd}
 use Rattle.tier_safe.specs.Fetches.{SeesCopy, StillLeads, PieceStands, IsIndexOf, PositionStands, FetchStands, FetchesStand}
@@ -128,11 +128,11 @@ moved_fetch a (Reads sought from) c p m h = placed a sought from c p m h
 
 -- metadata events
 
-describes_follows : (paths : List Path) (x y : Entry) (batches : List (List ℕ)) (line : List (ℕ × ℕ)) → Follows x y → Describes paths x batches line → Describes paths y batches line
+describes_follows : (paths : List Path) (x y : Entry) (batches : List (List ℕ)) (line : List (ℕ × ℕ)) → Follows x y → DescribesPath paths x batches line → DescribesPath paths y batches line
 describes_follows paths x y batches line f d = record {
   some = d.some;
   is = subst (λ (n : ℕ). IsSegment n batches) (sym f.start) d.is;
-  part = subst (λ (n : ℕ). IsPart paths n batches line) (sym f.start) d.part;
+  part = subst (λ (n : ℕ). IsPathPart paths n batches line) (sym f.start) d.part;
   last_is = rw (f.end, f.start) d.last_is;
   map_is = f.map ∙ d.map_is;
   max_ts_is = f.max_ts ∙ d.max_ts_is;
@@ -203,8 +203,8 @@ SeesOn old new = (id : SegmentId) → SeesCopy old.view.entries id → SeesCopy 
 -- a view of more metadata events
 sees_more : (old new : BrokerTierView) (before more : List Note) → old.view ≡ view_of before → new.view ≡ view_of more → IsPrefix before more → SeesOn old new
 sees_more old new before more was is pre id k =
-    let y = prefix_goes before more id k.0 pre (subst (λ (v : Seen). entry_of id v.entries ≡ Some k.0) was k.1) in
-    (y.0, subst (λ (v : Seen). entry_of id v.entries ≡ Some y.0) (sym is) y.1, not_begun k.0.state y.0.state y.2.state k.2)
+    let y = prefix_goes before more id k.0 pre (subst (λ (v : EntriesSeen). entry_of id v.entries ≡ Some k.0) was k.1) in
+    (y.0, subst (λ (v : EntriesSeen). entry_of id v.entries ≡ Some y.0) (sym is) y.1, not_begun k.0.state y.0.state y.2.state k.2)
 
 -- a tier view whose local start doesn't fall, and whose view has the entries that it had
 fetches_tier_view : (paths : List Path) (notes : List Note) (start : ℕ) (tier_views : List BrokerTierView) (brokers : List Broker) (desk : List TierTask) (b : ℕ) (old new : BrokerTierView) → slice_get tier_views b ≡ Some old
@@ -285,7 +285,7 @@ fetches_stepped tier_views c p q m h = λ a sought tier_view y actor_state is by
           let low = f.below none b.0 in
           let start = s.goes.leads sought.epoch b.2 b.3 leads.role in
           omega (arith, low, start));
-      seen = λ piece has. subst (λ (v : Seen). SeesCopy v.entries piece.id) (sym s.goes.view) (f.seen piece has);
+      seen = λ piece has. subst (λ (v : EntriesSeen). SeesCopy v.entries piece.id) (sym s.goes.view) (f.seen piece has);
       piece = λ piece has leads low. (let b = led_before p.paths sought s.x s.y g f.stops f.taken leads in
           let q = f.piece piece has b.0 (omega (arith, low, m.grows.start)) in
           record {

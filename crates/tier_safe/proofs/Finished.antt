@@ -27,7 +27,7 @@ use Rattle.remote_view.specs.Fold.{entry_of, recorded, updated, fold}
 use Rattle.remote_view.proofs.Changes.{found_id}
 use Rattle.tier_safe.specs.Scene.{Scene, BrokerTierView, Expires}
 use Rattle.tier_safe.specs.Changes.{Telling, CopyStarts, CopyEnds, ExpiryStarts, ExpiryEnds, note_for, Storing, Puts, Undoes, Deletes, key_for, Change, Steps, Moves, Chooses, Tells, Stores, Sees, Caches, Drops, effect}
-use Rattle.tier_safe.specs.Lineage.{IsPart, TellsParts, IsStoredWhole, IsSource}
+use Rattle.tier_safe.specs.Lineage.{IsPathPart, TellsParts, IsStoredWhole, IsSource}
 use Rattle.tier_safe.specs.Copies.{FinishedStand, IsEntryFor, HasPutAll}
 use Rattle.tier_safe.specs.Safe.{TierSafe}
 use Rattle.tier_safe.specs.May.{MayAlter, MayStore, MayTell}
@@ -50,7 +50,7 @@ copied_held objects paths copy entry s e id told put = record {
   describes = record {
     some = s.copied.some;
     is = subst (λ (n : ℕ). IsSegment n s.copied.batches) (sym e.start) s.copied.is;
-    part = subst (λ (n : ℕ). IsPart paths n s.copied.batches copy.line) (sym e.start) s.part;
+    part = subst (λ (n : ℕ). IsPathPart paths n s.copied.batches copy.line) (sym e.start) s.part;
     last_is = rw (e.end, e.start) s.copied.last_is;
     map_is = e.map ∙ s.copied.epochs_are;
     max_ts_is = e.max_ts ∙ s.copied.max_ts_is;

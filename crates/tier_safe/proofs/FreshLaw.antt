@@ -15,7 +15,7 @@ use Rattle.segment_meta.specs.declared.note.Entry.{Entry}
 use Rattle.remote_view.specs.Fold.{fold, entry_of}
 use Rattle.log_terms.proofs.Lists.{append_nil}
 use Rattle.tier_safe.specs.Scene.{BrokerTierView, TierTask, Free, Copies, Expires, Rebuilds, Seeks, Scene}
-use Rattle.tier_safe.specs.Views.{IsViewOf, IsUsed}
+use Rattle.tier_safe.specs.Views.{IsViewOf, IsIdUsed}
 use Rattle.tier_safe.specs.Safe.{TierSafe}
 use Rattle.tier_safe.specs.Fresh.{fresh_tier_view}
 use Rattle.tier_safe.specs.Laws.{FreshIsSafe}
@@ -72,7 +72,7 @@ fresh_tier partition n actor_states objects none = record {
   notes = record { right = tt; ids = λ a copy next at. absurd (cc (replicate_is actor_states a Free (Copies copy next) at)) };
 }
   where
-    unused : (id : _) → IsUsed [] (replicate actor_states Free) id → ⊥
+    unused : (id : _) → IsIdUsed [] (replicate actor_states Free) id → ⊥
     unused id used = elim used [
       | inl named ↦ absurd (cc (named.1))
       | inr on ↦ absurd (cc (replicate_is actor_states on.0 Free (Copies on.1 on.2) on.3))

@@ -15,7 +15,7 @@ use Rattle.copy_task.specs.declared.turn.CopyStep.TheVariants as copying
 use Rattle.remote_view.specs.Fold.{recorded, fold}
 use Rattle.tier_safe.specs.Scene.{Scene, BrokerTierView, TierTask, Copies}
 use Rattle.tier_safe.specs.Changes.{Move, Leaves, Overtakes, Dooms, Wants, Refreshes, Lines, Asks, Finds, Skips, Reads, moved, Telling, CopyStarts, CopyEnds, ExpiryStarts, ExpiryEnds, note_for, after_telling, Storing, Puts, Undoes, Deletes, after_storing, undone, Change, Steps, Moves, Chooses, Tells, Stores, Sees, Caches, Drops, effect}
-use Rattle.tier_safe.specs.Views.{IsNamed, IsIdOf, IsChosen, IsUsed, IdsStand}
+use Rattle.tier_safe.specs.Views.{IsNamed, IsIdOf, IsChosen, IsIdUsed, IdsStand}
 use Rattle.tier_safe.specs.Safe.{TierSafe}
 use Rattle.tier_safe.specs.Follow.{IdsGo, BrokerTierGoes}
 use Rattle.tier_safe.specs.Moves.{MayMove}
@@ -26,16 +26,16 @@ use Rattle.tier_safe.proofs.Basics.{id_cases}
 
 -- a work's id is used already
 abbrev pub UsedTask : List Entry → List TierTask → TierTask → Type 0
-UsedTask es desk (Copies copy next) = IsUsed es desk copy.id
+UsedTask es desk (Copies copy next) = IsIdUsed es desk copy.id
 UsedTask es desk other = Unit {0}
 
 -- what is used after a work was put in its place was used before
-used_set : (es new : List Entry) (desk : List TierTask) (a : ℕ) (w : TierTask) → ((id : SegmentId) → IsNamed new id → IsUsed es desk id) → UsedTask es desk w
-    → (id : SegmentId) → IsUsed new (slice_set desk a w) id → IsUsed es desk id
+used_set : (es new : List Entry) (desk : List TierTask) (a : ℕ) (w : TierTask) → ((id : SegmentId) → IsNamed new id → IsIdUsed es desk id) → UsedTask es desk w
+    → (id : SegmentId) → IsIdUsed new (slice_set desk a w) id → IsIdUsed es desk id
 used_set es new desk a w named own id u = elim u [
   | inl is ↦ named id is
   | inr on ↦ elim (get-set desk a w on.0 (Copies on.1 on.2) on.3) [
-    | inl here ↦ subst (λ (i : SegmentId). IsUsed es desk i) on.4 (subst (λ (v : TierTask). UsedTask es desk v) (sym here.1) own)
+    | inl here ↦ subst (λ (i : SegmentId). IsIdUsed es desk i) on.4 (subst (λ (v : TierTask). UsedTask es desk v) (sym here.1) own)
     | inr there ↦ inr (on.0, on.1, on.2, there.1, on.4)
   ]
 ]
@@ -59,20 +59,20 @@ told_used (ExpiryStarts expired_segment) a c m = tt
 told_used (ExpiryEnds expired_segment) a c m = tt
 
 -- the id of a metadata event was used
-note_used : (telling : Telling) (a : ℕ) (origin : EventOrigin) (c : Scene) (p : Plain) → MayTell a telling c → TierSafe c p → IsUsed (fold c.notes) c.desk (id_in (note_for telling origin))
+note_used : (telling : Telling) (a : ℕ) (origin : EventOrigin) (c : Scene) (p : Plain) → MayTell a telling c → TierSafe c p → IsIdUsed (fold c.notes) c.desk (id_in (note_for telling origin))
 note_used (CopyStarts copy) a origin c p m h = inr (a, copy, _, m.actor_state, refl)
 note_used (CopyEnds copy) a origin c p m h = inr (a, copy, _, m.actor_state, refl)
 note_used (ExpiryStarts expired_segment) a origin c p m h = let e = h.deletions.each a expired_segment _ m.actor_state in inl (e.entry, e.there)
 note_used (ExpiryEnds expired_segment) a origin c p m h = let e = h.deletions.each a expired_segment _ m.actor_state in inl (e.entry, e.there)
 
 told_named : (telling : Telling) (a : ℕ) (origin : EventOrigin) (c : Scene) (p : Plain) → MayTell a telling c → TierSafe c p → (id : SegmentId)
-    → IsNamed (recorded (fold c.notes) (note_for telling origin)) id → IsUsed (fold c.notes) c.desk id
+    → IsNamed (recorded (fold c.notes) (note_for telling origin)) id → IsIdUsed (fold c.notes) c.desk id
 told_named telling a origin c p m h id is = elim (id_cases (id_in (note_for telling origin)) id) [
-  | inl own ↦ subst (λ (i : SegmentId). IsUsed (fold c.notes) c.desk i) own (note_used telling a origin c p m h)
+  | inl own ↦ subst (λ (i : SegmentId). IsIdUsed (fold c.notes) c.desk i) own (note_used telling a origin c p m h)
   | inr other ↦ inl (is.0, sym (other_entry (fold c.notes) (note_for telling origin) id other) ∙ is.1)
 ]
 
-undone_used : (es : List Entry) (desk : List TierTask) (copy : Copied) (n : ℕ) (next : Option ObjectKey) → IsUsed es desk copy.id → UsedTask es desk (undone copy n next)
+undone_used : (es : List Entry) (desk : List TierTask) (copy : Copied) (n : ℕ) (next : Option ObjectKey) → IsIdUsed es desk copy.id → UsedTask es desk (undone copy n next)
 undone_used es desk copy n None u = tt
 undone_used es desk copy n (Some key) u = u
 
@@ -109,7 +109,7 @@ ids_chosen a b tier_view copy c p m h = λ id partition d inc att s used is at. 
     same_copy : (other : Copied) (next : CopyNext) → Copies other next ≡ Copies copy copying.Start → other.id ≡ copy.id
     same_copy other next e = let same : other ≡ copy = cc (e) in ap (λ (k : Copied). k.id) same
 
-    by_old : (id : SegmentId) (partition d inc att : ℕ) (s : BrokerTierView) → IsUsed (fold c.notes) c.desk id → IsIdOf id partition d inc att
+    by_old : (id : SegmentId) (partition d inc att : ℕ) (s : BrokerTierView) → IsIdUsed (fold c.notes) c.desk id → IsIdOf id partition d inc att
         → slice_get (slice_set c.tier_views b (record tier_view { next = tier_view.next + 1 })) d ≡ Some s → IsChosen s inc att
     by_old id partition d inc att s used is at = elim (get-set c.tier_views b (record tier_view { next = tier_view.next + 1 }) d s at) [
       | inl here ↦

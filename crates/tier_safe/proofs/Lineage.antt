@@ -9,10 +9,10 @@ use Rattle.plain_log.proofs.Wider.{has_wider}
 use Rattle.sparse_index.specs.Offsets.{OffsetTable}
 use Rattle.copy_task.specs.Copying.{Copied}
 use Rattle.plain_log.specs.Grows.{PathsGrow}
-use Rattle.tier_safe.specs.Lineage.{IsPart, Describes, IsStoredWhole, IsSource}
+use Rattle.tier_safe.specs.Lineage.{IsPathPart, DescribesPath, IsStoredWhole, IsSource}
 use Rattle.tier_safe.specs.Fetches.{IsIndexOf}
 
-pub part_grows : (ps qs : List Path) (base : ℕ) (batches : List (List ℕ)) (line : List (ℕ × ℕ)) → PathsGrow ps qs → IsPart ps base batches line → IsPart qs base batches line
+pub part_grows : (ps qs : List Path) (base : ℕ) (batches : List (List ℕ)) (line : List (ℕ × ℕ)) → PathsGrow ps qs → IsPathPart ps base batches line → IsPathPart qs base batches line
 part_grows ps qs base batches line w h = record {
   epoch = h.epoch;
   front = h.front;
@@ -21,7 +21,7 @@ part_grows ps qs base batches line w h = record {
   line_is = h.line_is;
 }
 
-pub describes_grows : (ps qs : List Path) (entry : Entry) (batches : List (List ℕ)) (line : List (ℕ × ℕ)) → PathsGrow ps qs → Describes ps entry batches line → Describes qs entry batches line
+pub describes_grows : (ps qs : List Path) (entry : Entry) (batches : List (List ℕ)) (line : List (ℕ × ℕ)) → PathsGrow ps qs → DescribesPath ps entry batches line → DescribesPath qs entry batches line
 describes_grows ps qs entry batches line w h = record {
   some = h.some;
   is = h.is;

@@ -10,7 +10,7 @@ use Rattle.log_terms.proofs.Logs.{lt_true}
 use Rattle.epoch_line.specs.Line.{start_or}
 use Rattle.epoch_line.specs.Line as line
 use Rattle.segment_meta.specs.declared.note.Entry.{Entry}
-use Rattle.remote_view.specs.Fold.{Seen, entry_of}
+use Rattle.remote_view.specs.Fold.{EntriesSeen, entry_of}
 use Rattle.remote_view.specs.Lookup.{is_readable, covers, better_of, best_from, finished}
 use Rattle.remote_view.proofs.Best.{found_among}
 use Rattle.remote_find.specs.declared.piece.Piece.{Piece}
@@ -94,7 +94,7 @@ lacking_is_found c p b tier_view x line offset h is bx low below all is_observab
     let within = (h.tier_views.each b tier_view x is bx).within in
     let high : offset < end_of x.log = omega (arith, below, within) in
     let k = h.covered b tier_view x is bx offset low below in
-    let v : Covers tier_view.view.entries k.epoch offset = subst (λ (s : Seen). Covers s.entries k.epoch offset) (sym all) k.covers in
+    let v : Covers tier_view.view.entries k.epoch offset = subst (λ (s : EntriesSeen). Covers s.entries k.epoch offset) (sym all) k.covers in
     piece_found tier_view.view.entries line (end_of x.log) offset k.epoch high (is_observable.says offset high ∙ k.holds) v
 
 -- so is what a fetch asks for
@@ -119,7 +119,7 @@ found_stands notes view line log offset piece v right is_observable made =
       before = v.before;
       begins = v.begins;
       entry = k.1;
-      there = subst (λ (s : Seen). entry_of piece.id s.entries ≡ Some k.1) v.is i.copy;
+      there = subst (λ (s : EntriesSeen). entry_of piece.id s.entries ≡ Some k.1) v.is i.copy;
       finished = readable k.1.state i.readable;
       holds = i.holds;
       within = i.within;
@@ -134,7 +134,7 @@ covering : (e o : ℕ) (entry : Entry) → is_readable entry.state ≡ true → 
 covering e o entry readable low high gives = rw (readable, le-leb entry.start o low, le-leb o entry.end high, gives, eq-eqb e e refl) refl
 
 -- a piece covers each of its offsets
-piece_covers : (view : Seen) (line : List (ℕ × ℕ)) (log : List (List ℕ)) (at : ℕ) (piece : Piece) → IsRightView view → TellsEpochs line log
+piece_covers : (view : EntriesSeen) (line : List (ℕ × ℕ)) (log : List (List ℕ)) (at : ℕ) (piece : Piece) → IsRightView view → TellsEpochs line log
     → piece_at view.entries line (end_of log) at ≡ Some piece → (o : ℕ) → at ≤ o → o < piece.to → CoversLog view.entries log o
 piece_covers view line log at piece right is_observable made o low high =
     let k = piece_lies view.entries line (end_of log) at piece right.kept right.distinct is_observable.rises made in

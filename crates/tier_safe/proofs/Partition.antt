@@ -8,7 +8,7 @@ use Rattle.log_terms.proofs.Lists.{get-set}
 use Rattle.meta_log.specs.declared.event_origin.EventOrigin.{EventOrigin}
 use Rattle.object_store.specs.Content.{Objects}
 use Rattle.plain_log.specs.declared.state.State.{State as Plain}
-use Rattle.remote_view.specs.Fold.{Seen, entry_of, recorded, fold}
+use Rattle.remote_view.specs.Fold.{EntriesSeen, entry_of, recorded, fold}
 use Rattle.copy_task.specs.Copying.{Copied, keys as copy_keys, entry_of as copied_entry}
 use Rattle.copy_task.specs.declared.turn.CopyStep.{CopyStep as CopyNext}
 use Rattle.expiry_task.specs.declared.turn.ExpiredSegment.{ExpiredSegment}
@@ -86,7 +86,7 @@ expiries_set partition desk a w own h k expired_segment next at = elim (get-set 
 expired_segment_of : (a b : ℕ) (expired_segment : ExpiredSegment) (c : Scene) (p : Plain) → MayDoom a b expired_segment c p → TierSafe c p → expired_segment.partition ≡ c.partition
 expired_segment_of a b expired_segment c p m h =
     let v = h.views b m.tier_view m.tier_view_is in
-    let there : entry_of expired_segment.id (fold v.before) ≡ Some m.entry = subst (λ (s : Seen). entry_of expired_segment.id s.entries ≡ Some m.entry) v.is m.there in
+    let there : entry_of expired_segment.id (fold v.before) ≡ Some m.entry = subst (λ (s : EntriesSeen). entry_of expired_segment.id s.entries ≡ Some m.entry) v.is m.there in
     let y = prefix_goes v.before c.notes expired_segment.id m.entry v.begins there in
     m.partition ∙ (sym y.2.partition ∙ h.partition.told expired_segment.id y.0 y.1)
 

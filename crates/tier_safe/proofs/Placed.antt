@@ -15,7 +15,7 @@ use Rattle.object_store.specs.Place.{key_of, keys_of, whole, spot_of, told_layou
 use Rattle.object_store.specs.declared.placing.Spot.{Spot}
 use Rattle.object_store.proofs.Parts.{AreAll, parts_stand}
 use Rattle.plain_log.specs.declared.state.Path.{Path}
-use Rattle.tier_safe.specs.Lineage.{Stand, TellsParts, IsStoredWhole}
+use Rattle.tier_safe.specs.Lineage.{HavePartsStored, TellsParts, IsStoredWhole}
 
 -- one of the parts that are read
 abbrev pub IsRead : Part → Type 0
@@ -49,7 +49,7 @@ alone objects partition id custom part bytes there = record {
 }
 
 own_placed : (objects : Objects) (partition : PartitionId) (id : SegmentId) (custom : Option (List ℕ)) (parts : Parts) (part : Part) → IsRead part
-    → Stand objects (keys_of partition id false) parts → HasSpot objects partition id false custom part (part_in parts part)
+    → HavePartsStored objects (keys_of partition id false) parts → HasSpot objects partition id false custom part (part_in parts part)
 own_placed objects partition id custom parts Log read h = alone objects partition id custom Log parts.log (h 0 (key_of partition id Log) refl)
 own_placed objects partition id custom parts Index read h = alone objects partition id custom Index parts.index (h 1 (key_of partition id Index) refl)
 own_placed objects partition id custom parts TimeIndex read h = alone objects partition id custom TimeIndex parts.times (h 2 (key_of partition id TimeIndex) refl)
@@ -58,7 +58,7 @@ own_placed objects partition id custom parts Pack read h = absurd read
 
 -- a part of a packed segment
 pack_placed : (objects : Objects) (partition : PartitionId) (id : SegmentId) (custom : Option (List ℕ)) (parts : Parts) (part : Part) → IsRead part
-    → Stand objects (keys_of partition id true) parts → TellsParts custom parts → HasSpot objects partition id true custom part (part_in parts part)
+    → HavePartsStored objects (keys_of partition id true) parts → TellsParts custom parts → HasSpot objects partition id true custom part (part_in parts part)
 pack_placed objects partition id custom parts part read h t = record {
   spot = part_of (key_of partition id Pack) (layout_of parts) part;
   is = ap (option_map (λ (l : Layout). part_of (key_of partition id Pack) l part)) (ap told_layout t.is ∙ layout_again (layout_of parts) (pack_fits parts t.fits));
@@ -89,7 +89,7 @@ held_placed objects paths entry part read h = by entry.packed h.stand h.custom
     parts : Parts
     parts = parts_of h.batches h.line h.interval
 
-    by : (packed : Bool) → Stand objects (keys_of entry.partition entry.id packed) parts → (packed ≡ true → TellsParts entry.custom parts)
+    by : (packed : Bool) → HavePartsStored objects (keys_of entry.partition entry.id packed) parts → (packed ≡ true → TellsParts entry.custom parts)
         → HasSpot objects entry.partition entry.id packed entry.custom part (part_in parts part)
     by false h t = own_placed objects entry.partition entry.id entry.custom parts part read h
     by true h t = pack_placed objects entry.partition entry.id entry.custom parts part read h (t refl)

@@ -9,7 +9,7 @@ use Rattle.plain_log.specs.declared.state.State.{State as Plain}
 use Rattle.plain_log.specs.declared.state.Path.{Path}
 use Rattle.plain_log.proofs.Wider.{has_wider}
 use Rattle.log_terms.proofs.Lists.{prefix_trans}
-use Rattle.remote_view.specs.Fold.{Seen, fold}
+use Rattle.remote_view.specs.Fold.{EntriesSeen, fold}
 use Rattle.copy_task.specs.Copying.{Copied, keys as copy_keys}
 use Rattle.copy_task.specs.declared.turn.CopyStep.TheVariants as copying
 use Rattle.tier_safe.specs.Scene.{Scene, BrokerTierView, Rebuild, TierTask, Copies, Rebuilds}
@@ -64,7 +64,7 @@ refreshed a rebuild c p m h =
       above = r.above;
       covered = r.covered;
       seen = λ tier_view at yes below. (let above = r.above in
-          subst (λ (s : Seen). CoversLog s.entries r.front (rebuild.wanted - 1)) (sym (m.all tier_view at)) (r.covered (rebuild.wanted - 1) (omega (arith, below)) (omega (arith, above))));
+          subst (λ (s : EntriesSeen). CoversLog s.entries r.front (rebuild.wanted - 1)) (sym (m.all tier_view at)) (r.covered (rebuild.wanted - 1) (omega (arith, below)) (omega (arith, above))));
       line = r.line;
     }
 
@@ -161,9 +161,9 @@ rebuilds_kept (Stores a storing objects) c p m h =
 rebuilds_kept (Sees b tier_view view) c p m h =
     rebuilds_tier_view p.paths c.notes p.registry.start c.tier_views c.desk b tier_view (record tier_view { view = view }) m.tier_view_is
     (λ log o low k.
-    subst (λ (s : Seen). CoversLog s.entries log o) (sym m.new)
+    subst (λ (s : EntriesSeen). CoversLog s.entries log o) (sym m.new)
     (log_goes c.notes m.before m.more p.registry.start log o h.deletions.ended m.grows m.begins (prefix_trans m.before m.more c.notes m.grows m.begins) low
-    (subst (λ (s : Seen). CoversLog s.entries log o) m.old k)))
+    (subst (λ (s : EntriesSeen). CoversLog s.entries log o) m.old k)))
     h.rebuilds
 rebuilds_kept (Caches b tier_view cache) c p m h =
     rebuilds_tier_view p.paths c.notes p.registry.start c.tier_views c.desk b tier_view (record tier_view { cache = cache }) m.tier_view_is (λ log o low k. k) h.rebuilds
@@ -181,6 +181,6 @@ rebuilds_stepped tier_views c p q m h = λ a rebuild actor_state.
       above = r.above;
       covered = λ o low high. r.covered o (omega (arith, low, m.grows.start)) high;
       seen = λ tier_view at yes below. (let f = followed tier_views c p q rebuild.broker tier_view m h at in
-          subst (λ (s : Seen). CoversLog s.entries r.front (rebuild.wanted - 1)) (sym f.goes.view) (r.seen f.old f.old_is yes (omega (arith, below, m.grows.start))));
+          subst (λ (s : EntriesSeen). CoversLog s.entries r.front (rebuild.wanted - 1)) (sym f.goes.view) (r.seen f.old f.old_is yes (omega (arith, below, m.grows.start))));
       line = r.line;
     })

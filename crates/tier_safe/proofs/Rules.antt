@@ -18,19 +18,19 @@ use Rattle.tier_base.specs.declared.object_key.ObjectKey.{ObjectKey}
 use Rattle.segment_meta.specs.declared.note.Note.{Note}
 use Rattle.segment_meta.specs.declared.note.Note.TheVariants.{Add, Update}
 use Rattle.segment_meta.specs.declared.note.Entry.{Entry}
-use Rattle.segment_meta.specs.Rules.{IsNote, MayTell as MayTellCustom, bare_custom}
+use Rattle.segment_meta.specs.Rules.{IsNote, MayHaveCustom as MayTellCustom, bare_custom}
 use Rattle.segment_meta.specs.Steps.{next_state}
 use Rattle.object_store.specs.Content.{Objects}
 use Rattle.meta_log.specs.declared.event_origin.EventOrigin.{EventOrigin}
 use Rattle.plain_log.specs.declared.state.State.{State as Plain}
-use Rattle.remote_view.specs.Fold.{state_of, recorded, changed, updated, folded_from, fold, AreKept, AreDistinct}
+use Rattle.remote_view.specs.Fold.{state_of, recorded, changed, updated, folded_from, fold, AreEntriesValid, AreDistinct}
 use Rattle.remote_view.proofs.Changes.{change_keeps, kept_push}
 use Rattle.remote_view.proofs.Folding.{fold_distinct}
 use Rattle.copy_task.specs.Copying.{Copied, keys as copy_keys, IsCopied, start_note}
 use Rattle.copy_task.specs.declared.turn.CopyStep.{CopyStep as CopyNext}
 use Rattle.tier_safe.specs.Scene.{TierTask, Copies, Scene}
 use Rattle.tier_safe.specs.Changes.{Move, Leaves, Overtakes, Dooms, Wants, Refreshes, Lines, Asks, Finds, Skips, Reads, moved, Telling, CopyStarts, CopyEnds, ExpiryStarts, ExpiryEnds, after_telling, note_for, Storing, Puts, Undoes, Deletes, after_storing, undone, Change, Steps, Moves, Chooses, Tells, Stores, Sees, Caches, Drops, effect}
-use Rattle.tier_safe.specs.Views.{IsRight, NotesStand}
+use Rattle.tier_safe.specs.Views.{IsNoteRight, NotesStand}
 use Rattle.tier_safe.specs.Safe.{TierSafe}
 use Rattle.tier_safe.specs.Moves.{MayMove}
 use Rattle.tier_safe.specs.May.{MayTell, MayStore, MayAlter}
@@ -59,7 +59,7 @@ line_rises n [] c rise far = tt
 line_rises n (b ∷ bs) c rise far = rising (epoch_of b) (base_of b) (last_of b + 1) bs rise.1 (omega arith) c.1 rise.2 far
 
 -- the metadata event that a copy starts keeps the rules
-pub started_right : (copy : Copied) (origin : EventOrigin) → IsCopied copy → IsId copy.id → IsRight (start_note copy origin)
+pub started_right : (copy : Copied) (origin : EventOrigin) → IsCopied copy → IsId copy.id → IsNoteRight (start_note copy origin)
 started_right copy origin is id =
     let line : IsLine copy.segment.epochs = subst IsLine (sym is.epochs_are) (line_rises copy.segment.base is.batches is.is.consecutive is.is.epochs is.is.low) in
     record {
@@ -74,7 +74,7 @@ bare_right state true = record { few = omega arith; bare = λ ne. refl }
 
 -- so do a command's metadata events
 told_right : (telling : Telling) (a : ℕ) (origin : EventOrigin) (c : Scene) (p : Plain) → MayTell a telling c → TierSafe c p → NotesStand c.notes c.desk
-    → IsRight (note_for telling origin)
+    → IsNoteRight (note_for telling origin)
 told_right (CopyStarts copy) a origin c p m h n = started_right copy origin (h.copies.each a copy _ m.actor_state).source.copied (n.ids a copy _ m.actor_state)
 told_right (CopyEnds copy) a origin c p m h n = record { is = (λ e. absurd (cc (e)), custom_may copy); id = tt }
 told_right (ExpiryStarts expired_segment) a origin c p m h n = record { is = (λ e. absurd (cc (e)), bare_right DeleteStarted expired_segment.packed); id = tt }
@@ -82,39 +82,39 @@ told_right (ExpiryEnds expired_segment) a origin c p m h n = record { is = (λ e
 
 -- the entries of such metadata events
 
-right_note : (notes : List Note) → AllByRecursion IsRight notes → AllByRecursion IsNote notes
+right_note : (notes : List Note) → AllByRecursion IsNoteRight notes → AllByRecursion IsNote notes
 right_note [] h = tt
 right_note (note ∷ notes) h = (h.0.is, right_note notes h.1)
 
-right_prefix : (notes before : List Note) → IsPrefix before notes → AllByRecursion IsRight notes → AllByRecursion IsRight before
+right_prefix : (notes before : List Note) → IsPrefix before notes → AllByRecursion IsNoteRight notes → AllByRecursion IsNoteRight before
 right_prefix notes [] p h = tt
 right_prefix [] (b ∷ before) p h = absurd (cc (p.1))
 right_prefix (note ∷ notes) (b ∷ before) p h =
     let same : b ≡ note = cc (p.1) in
-    (subst IsRight (sym same) h.0, right_prefix notes before (p.0, cc (p.1)) h.1)
+    (subst IsNoteRight (sym same) h.0, right_prefix notes before (p.0, cc (p.1)) h.1)
 
-right_push : (notes : List Note) (note : Note) → AllByRecursion IsRight notes → IsRight note → AllByRecursion IsRight (notes ++ note ∷ [])
+right_push : (notes : List Note) (note : Note) → AllByRecursion IsNoteRight notes → IsNoteRight note → AllByRecursion IsNoteRight (notes ++ note ∷ [])
 right_push [] note h k = (k, tt)
 right_push (first ∷ notes) note h k = (h.0, right_push notes note h.1 k)
 
-recorded_kept : (es : List Entry) (note : Note) → IsRight note → AreKept es → AreKept (recorded es note)
+recorded_kept : (es : List Entry) (note : Note) → IsNoteRight note → AreEntriesValid es → AreEntriesValid (recorded es note)
 recorded_kept es (Add e) k h = by (is_some (next_state (state_of e.id es) e.state))
   where
-    by : (t : Bool) → AreKept (cond t (es ++ e ∷ []) es)
+    by : (t : Bool) → AreEntriesValid (cond t (es ++ e ∷ []) es)
     by true = kept_push es e h (record { id = k.id; ordered = k.is.ordered; bounded = k.is.bounded; map = k.is.map })
     by false = h
 recorded_kept es (Update id broker event_ts state custom) k h = by (is_some (next_state (state_of id es) state))
   where
-    by : (t : Bool) → AreKept (cond t (changed id (updated broker event_ts state custom) es) es)
+    by : (t : Bool) → AreEntriesValid (cond t (changed id (updated broker event_ts state custom) es) es)
     by true = change_keeps id broker event_ts state custom es h
     by false = h
 
-folded_kept : (es : List Entry) (notes : List Note) → AllByRecursion IsRight notes → AreKept es → AreKept (folded_from es notes)
+folded_kept : (es : List Entry) (notes : List Note) → AllByRecursion IsNoteRight notes → AreEntriesValid es → AreEntriesValid (folded_from es notes)
 folded_kept es [] k h = h
 folded_kept es (note ∷ notes) k h = folded_kept (recorded es note) notes k.1 (recorded_kept es note k.0 h)
 
 -- the entries of a view keep their rules, and no two have one id
-pub seen_kept : (notes before : List Note) (desk : List TierTask) → NotesStand notes desk → IsPrefix before notes → AreKept (fold before) × AreDistinct (fold before)
+pub seen_kept : (notes before : List Note) (desk : List TierTask) → NotesStand notes desk → IsPrefix before notes → AreEntriesValid (fold before) × AreDistinct (fold before)
 seen_kept notes before desk n p =
     let r = right_prefix notes before p n.right in
     (folded_kept [] before r tt, fold_distinct before (right_note before r))

@@ -12,7 +12,7 @@ use Rattle.segment_meta.specs.declared.note.Entry.{Entry}
 use Rattle.plain_log.specs.declared.state.Broker.{Broker}
 use Rattle.plain_log.specs.declared.state.State.{State as Plain}
 use Rattle.plain_log.specs.Safe.{PlainSafe}
-use Rattle.remote_view.specs.Fold.{Seen, entry_of, fold}
+use Rattle.remote_view.specs.Fold.{EntriesSeen, entry_of, fold}
 use Rattle.remote_find.specs.declared.piece.Piece.{Piece}
 use Rattle.tier_safe.specs.Scene.{BrokerTierView, Sought, Seeks, Scene}
 use Rattle.tier_safe.specs.Lineage.{IsStoredWhole}
@@ -132,7 +132,7 @@ rebuilds_served c p a r tier_view id x e both actor_state tier_view_is below fou
     let k = h.rebuilds a r actor_state in
     let v = h.views r.broker tier_view tier_view_is in
     let t = covers_is e (r.wanted - 1) x gives in
-    let there : entry_of id (fold v.before) ≡ Some x = subst (λ (w : Seen). entry_of id w.entries ≡ Some x) v.is found in
+    let there : entry_of id (fold v.before) ≡ Some x = subst (λ (w : EntriesSeen). entry_of id w.entries ≡ Some x) v.is found in
     let y = prefix_goes v.before c.notes id x v.begins there in
     let done = finished_stays c.notes c.notes v.before p.registry.start (r.wanted - 1) id x y.0 h.deletions.ended v.begins (prefix_self c.notes) there t.finished (omega (arith, below)) t.to y.1 y.2 in
     let held = h.finished id y.0 y.1 done in

@@ -7,7 +7,7 @@ use Rattle.plain_log.specs.declared.state.Role.{Role}
 use Rattle.plain_log.specs.declared.state.Role.TheVariants.{Leads}
 use Rattle.plain_log.specs.State.{path_of}
 use Rattle.plain_log.specs.Safe.{RoleSafe}
-use Rattle.tier_safe.specs.Lineage.{IsPart}
+use Rattle.tier_safe.specs.Lineage.{IsPathPart}
 use Rattle.tier_safe.specs.Laws.{SegmentsAreSources}
 
 leads_path : (paths : List Path) (epoch : ℕ) (r : Role) (e : ℕ) (log : List (List ℕ)) → r ≡ Leads e → RoleSafe paths epoch r log → path_of paths e ≡ Some log
@@ -16,7 +16,7 @@ leads_path paths epoch r e log is h = (subst (λ (k : Role). RoleSafe paths epoc
 pub segments_are_sources : SegmentsAreSources
 segments_are_sources p b x e copy k front rest safe at role parts base line = record {
   copied = k;
-  part = subst (λ (n : ℕ). IsPart p.paths n k.batches copy.line) base (record {
+  part = subst (λ (n : ℕ). IsPathPart p.paths n k.batches copy.line) base (record {
     epoch = e;
     front = front;
     ends = refl;

@@ -15,24 +15,24 @@ use Rattle.segment_bundle.specs.Parts.{part_in}
 use Rattle.object_store.specs.Call as store_call
 use Rattle.object_store.specs.Content.{Objects, MadeAt, made_if, Changes}
 use Rattle.object_store.specs.Content as store
-use Rattle.object_store.specs.Calls.{Puts as StorePuts}
+use Rattle.object_store.specs.Calls.{PutsObject as StorePuts}
 use Rattle.object_store.specs.Place.{whole, spot_of}
 use Rattle.object_store.specs.declared.placing.Spot.{Spot}
 use Rattle.meta_log.specs.Call as meta_call
-use Rattle.meta_log.specs.Calls.{Appends}
+use Rattle.meta_log.specs.Calls.{AppendsToMetaLog}
 use Rattle.meta_log.specs.Content as meta
 use Rattle.meta_log.specs.declared.event_origin.EventOrigin.{EventOrigin}
 use Rattle.log_terms.proofs.Lists.{set-same, prefix_self, prefix_length, look}
 use Rattle.plain_log.specs.declared.state.State.{State as Plain}
 use Rattle.plain_log.specs.declared.answer.Answer.TheVariants.{MetaFault, StoreFault}
-use Rattle.remote_view.specs.Fold.{Seen, state_of, view_of}
+use Rattle.remote_view.specs.Fold.{EntriesSeen, state_of, view_of}
 use Rattle.view_refresh.specs.Refreshing.{Refreshes, Advances, fed_all}
 use Rattle.view_refresh.proofs.Feeding.{refreshed}
 use Rattle.remote_view.proofs.Folding.{fed_again}
 use Rattle.std.proofs.lemmas.List.{take-append-drop}
 use Rattle.std.specs.declared.alloc.AllocError.{AllocError}
 use Rattle.copy_task.specs.Copying.{Copied, keys as copy_keys, start_note, finish_note}
-use Rattle.copy_task.specs.Turns.{StartRow, FinishRow, CheckRow, PutRow, DeleteRow, CopyRow, checked, delete_at, Tiers as CopyTiers}
+use Rattle.copy_task.specs.Turns.{StartRow, FinishRow, CheckRow, PutObjectRow, DeleteRow, CopyTurnRow, checked, delete_at, Tiers as CopyTiers}
 use Rattle.copy_task.specs.declared.turn.CopyStep.{CopyStep as CopyNext}
 use Rattle.copy_task.specs.declared.turn.CopyStep.TheVariants as copying
 use Rattle.copy_task.specs.declared.turn.CopyTurn.{CopyTurn}
@@ -50,7 +50,7 @@ use Rattle.tier_safe.specs.Views.{IsViewOf}
 use Rattle.tier_safe.specs.Copies.{is_deleted}
 use Rattle.tier_safe.specs.Safe.{TierSafe}
 use Rattle.tier_safe.specs.May.{May, Mays, IsChanged}
-use Rattle.tier_safe.specs.Turns.{Shows, after_turn, copy_work, expiry_work, CopyTurnsChange, ExpiryTurnsChange, RefreshesChange, HaltsChange}
+use Rattle.tier_safe.specs.Turns.{ShowsScene, after_turn, copy_work, expiry_work, CopyTurnsChange, ExpiryTurnsChange, RefreshesChange, HaltsChange}
 use Rattle.tier_safe.proofs.Basics.{key_cases}
 
 -- lists of works and tier views
@@ -104,7 +104,7 @@ pub as_scene : (c d e : Scene) (p : Plain) → d ≡ e → IsChanged c p d → I
 as_scene c d e p same h = record { changes = h.changes; may = h.may; is = h.is ∙ same }
 
 -- the command leaves the desk
-pub leaves : (c : Scene) (p : Plain) (a b : ℕ) (tier_view : BrokerTierView) (work : TierTask) (o : Objects) (n : List Note) (v : Seen)
+pub leaves : (c : Scene) (p : Plain) (a b : ℕ) (tier_view : BrokerTierView) (work : TierTask) (o : Objects) (n : List Note) (v : EntriesSeen)
     → IsChanged c p (after_turn c a b tier_view work o n v) → IsChanged c p (after_turn c a b tier_view Free o n v)
 leaves c p a b tier_view work o n v h =
     as_scene c (effect (Moves a Leaves) (after_turn c a b tier_view work o n v)) (after_turn c a b tier_view Free o n v) p
@@ -131,11 +131,11 @@ stores c p a b tier_view storing objects at actor_state key made =
     (scene_same _ _ refl refl refl (sym (set-same c.tier_views b tier_view at)) refl) (one_change c p (Stores a storing objects) (refl, record { actor_state = actor_state; key = key; made = made }))
 
 -- what a turn leaves is said of other names
-pub renamed : (c : Scene) (p : Plain) (a b : ℕ) (tier_view : BrokerTierView) (work other : TierTask) (o o2 : Objects) (n n2 : List Note) (v v2 : Seen) → work ≡ other → o ≡ o2 → n ≡ n2 → v ≡ v2
+pub renamed : (c : Scene) (p : Plain) (a b : ℕ) (tier_view : BrokerTierView) (work other : TierTask) (o o2 : Objects) (n n2 : List Note) (v v2 : EntriesSeen) → work ≡ other → o ≡ o2 → n ≡ n2 → v ≡ v2
     → IsChanged c p (after_turn c a b tier_view work o n v) → IsChanged c p (after_turn c a b tier_view other o2 n2 v2)
 renamed c p a b tier_view work other o o2 n n2 v v2 ew eo en ev h =
     as_scene c (after_turn c a b tier_view work o n v) (after_turn c a b tier_view other o2 n2 v2) p
-    (scene_same _ _ refl eo en (ap (λ (x : Seen). slice_set c.tier_views b (record tier_view { view = x })) ev) (ap (slice_set c.desk a) ew)) h
+    (scene_same _ _ refl eo en (ap (λ (x : EntriesSeen). slice_set c.tier_views b (record tier_view { view = x })) ev) (ap (slice_set c.desk a) ew)) h
 
 -- an object that was or wasn't changed
 not_made : (key : ObjectKey) (made : Option (List ℕ) → Option (List ℕ)) (old new : Objects) → MadeAt key (made_if false made) old new → new ≡ old
@@ -148,7 +148,7 @@ module _ {S M : Type 0} (objects : S → store.Content) (calls : S → Control s
     (notes : M → meta.Content) (notings : M → Control meta_call.call_code) where
   -- a metadata event that was appended, whether the command continues or not
   told_went : (c : Scene) (p : Plain) (a b : ℕ) (tier_view : BrokerTierView) (telling : Telling) (origin : EventOrigin) (s : store.Content) (old new : M)
-      → Shows c a b tier_view (before_telling telling) s (notes old) tier_view.view → Appends notes notings (note_for telling origin) Went old new
+      → ShowsScene c a b tier_view (before_telling telling) s (notes old) tier_view.view → AppendsToMetaLog notes notings (note_for telling origin) Went old new
       → IsChanged c p (after_turn c a b tier_view (after_telling telling) s.objects (notes new).notes tier_view.view)
   told_went c p a b tier_view telling origin s old new h k =
       by (k.content.notes h.meta_tells).0 ((k.content.notes h.meta_tells).1.went refl) (k.content.notes h.meta_tells).2
@@ -160,7 +160,7 @@ module _ {S M : Type 0} (objects : S → store.Content) (calls : S → Control s
       by false t is = absurd (cc (t))
 
   told_failed : (c : Scene) (p : Plain) (a b : ℕ) (tier_view : BrokerTierView) (telling : Telling) (origin : EventOrigin) (s : store.Content) (old new : M)
-      → Shows c a b tier_view (before_telling telling) s (notes old) tier_view.view → Appends notes notings (note_for telling origin) Fault old new
+      → ShowsScene c a b tier_view (before_telling telling) s (notes old) tier_view.view → AppendsToMetaLog notes notings (note_for telling origin) Fault old new
       → IsChanged c p (after_turn c a b tier_view Free s.objects (notes new).notes tier_view.view)
   told_failed c p a b tier_view telling origin s old new h k = by (k.content.notes h.meta_tells).0 (k.content.notes h.meta_tells).2
     where
@@ -172,7 +172,7 @@ module _ {S M : Type 0} (objects : S → store.Content) (calls : S → Control s
 
   -- an object that was changed, whether the command continues or not
   stored_went : (c : Scene) (p : Plain) (a b : ℕ) (tier_view : BrokerTierView) (storing : Storing) (may : Bool → Type 0) (old new : S) (n : meta.Content)
-      → Shows c a b tier_view (before_storing storing) (objects old) n tier_view.view → KeyStands storing → Changes (key_for storing) (made_by storing) may (objects old) (objects new)
+      → ShowsScene c a b tier_view (before_storing storing) (objects old) n tier_view.view → KeyStands storing → Changes (key_for storing) (made_by storing) may (objects old) (objects new)
       → ((done : Bool) → may done → IsTrue done) → IsChanged c p (after_turn c a b tier_view (after_storing storing) (objects new).objects n.notes tier_view.view)
   stored_went c p a b tier_view storing may old new n h key k went = by (k.objects h.store_tells).0 (went (k.objects h.store_tells).0 (k.objects h.store_tells).1) (k.objects h.store_tells).2
     where
@@ -184,7 +184,7 @@ module _ {S M : Type 0} (objects : S → store.Content) (calls : S → Control s
       by false t made = absurd (cc (t))
 
   stored_failed : (c : Scene) (p : Plain) (a b : ℕ) (tier_view : BrokerTierView) (storing : Storing) (may : Bool → Type 0) (old new : S) (n : meta.Content)
-      → Shows c a b tier_view (before_storing storing) (objects old) n tier_view.view → KeyStands storing → Changes (key_for storing) (made_by storing) may (objects old) (objects new)
+      → ShowsScene c a b tier_view (before_storing storing) (objects old) n tier_view.view → KeyStands storing → Changes (key_for storing) (made_by storing) may (objects old) (objects new)
       → IsChanged c p (after_turn c a b tier_view Free (objects new).objects n.notes tier_view.view)
   stored_failed c p a b tier_view storing may old new n h key k = by (k.objects h.store_tells).0 (k.objects h.store_tells).2
     where
@@ -210,7 +210,7 @@ module _ {S M : Type 0} (objects : S → store.Content) (calls : S → Control s
   -- the turns of a copy
 
   start_turn : (c : Scene) (p : Plain) (a b : ℕ) (tier_view : BrokerTierView) (copied : Copied) (origin : EventOrigin) (turn : CopyTurn) (s : store.Content) (old new : M)
-      → Shows c a b tier_view (Copies copied copying.Start) s (notes old) tier_view.view → StartRow notes notings copied origin (Ok turn) old new
+      → ShowsScene c a b tier_view (Copies copied copying.Start) s (notes old) tier_view.view → StartRow notes notings copied origin (Ok turn) old new
       → IsChanged c p (after_turn c a b tier_view (copy_work copied turn) s.objects (notes new).notes tier_view.view)
   start_turn c p a b tier_view copied origin (CopyStops MetaFault) s old new h row = told_failed c p a b tier_view (CopyStarts copied) origin s old new h row
   start_turn c p a b tier_view copied origin turn s old new h row =
@@ -218,7 +218,7 @@ module _ {S M : Type 0} (objects : S → store.Content) (calls : S → Control s
       (told_went c p a b tier_view (CopyStarts copied) origin s old new h row.1)
 
   finish_turn : (c : Scene) (p : Plain) (a b : ℕ) (tier_view : BrokerTierView) (copied : Copied) (origin : EventOrigin) (turn : CopyTurn) (s : store.Content) (old new : M)
-      → Shows c a b tier_view (Copies copied copying.Finish) s (notes old) tier_view.view → FinishRow notes notings copied origin (Ok turn) old new
+      → ShowsScene c a b tier_view (Copies copied copying.Finish) s (notes old) tier_view.view → FinishRow notes notings copied origin (Ok turn) old new
       → IsChanged c p (after_turn c a b tier_view (copy_work copied turn) s.objects (notes new).notes tier_view.view)
   finish_turn c p a b tier_view copied origin (CopyStops MetaFault) s old new h row = told_failed c p a b tier_view (CopyEnds copied) origin s old new h row
   finish_turn c p a b tier_view copied origin turn s old new h row =
@@ -227,7 +227,7 @@ module _ {S M : Type 0} (objects : S → store.Content) (calls : S → Control s
 
   put_turn : (c : Scene) (p : Plain) (a b : ℕ) (tier_view : BrokerTierView) (copied : Copied) (n : ℕ) (o : Option ObjectKey) (turn : CopyTurn) (ns : meta.Content) (old new : S)
       → slice_get (copy_keys copied) n ≡ o → n < length (copy_keys copied)
-      → Shows c a b tier_view (Copies copied (copying.Put n)) (objects old) ns tier_view.view → PutRow objects calls copied n o (Ok turn) old new
+      → ShowsScene c a b tier_view (Copies copied (copying.Put n)) (objects old) ns tier_view.view → PutObjectRow objects calls copied n o (Ok turn) old new
       → IsChanged c p (after_turn c a b tier_view (copy_work copied turn) (objects new).objects ns.notes tier_view.view)
   put_turn c p a b tier_view copied n None turn ns old new at low h row = absurd (let there = look (copy_keys copied) n low in cc (there.1, at))
   put_turn c p a b tier_view copied n (Some key) (CopyStops StoreFault) ns old new at low h row =
@@ -236,13 +236,13 @@ module _ {S M : Type 0} (objects : S → store.Content) (calls : S → Control s
       renamed c p a b tier_view _ _ (objects new).objects (objects new).objects ns.notes ns.notes tier_view.view tier_view.view (ap (copy_work copied) (sym row.0)) refl refl refl
       (stored_went c p a b tier_view (Puts copied n key) _ old new ns h at (part_under copied key row.1.part row.1.place _ _ _ row.1.puts.content) (λ done k. k.went refl))
 
-  after_undone : (copied : Copied) (view : Seen) (n : ℕ) (next : Option ObjectKey) → undone copied n next ≡ copy_work copied (delete_at copied view n next)
+  after_undone : (copied : Copied) (view : EntriesSeen) (n : ℕ) (next : Option ObjectKey) → undone copied n next ≡ copy_work copied (delete_at copied view n next)
   after_undone copied view n None = refl
   after_undone copied view n (Some key) = refl
 
-  delete_turn : (c : Scene) (p : Plain) (a b : ℕ) (tier_view : BrokerTierView) (copied : Copied) (view : Seen) (n : ℕ) (o : Option ObjectKey) (turn : CopyTurn) (ns : meta.Content) (old new : S)
+  delete_turn : (c : Scene) (p : Plain) (a b : ℕ) (tier_view : BrokerTierView) (copied : Copied) (view : EntriesSeen) (n : ℕ) (o : Option ObjectKey) (turn : CopyTurn) (ns : meta.Content) (old new : S)
       → slice_get (copy_keys copied) n ≡ o → n < length (copy_keys copied)
-      → Shows c a b tier_view (Copies copied (copying.Delete n)) (objects old) ns tier_view.view → DeleteRow objects calls copied view n o turn old new
+      → ShowsScene c a b tier_view (Copies copied (copying.Delete n)) (objects old) ns tier_view.view → DeleteRow objects calls copied view n o turn old new
       → IsChanged c p (after_turn c a b tier_view (copy_work copied turn) (objects new).objects ns.notes tier_view.view)
   delete_turn c p a b tier_view copied view n None turn ns old new at low h row = absurd (let there = look (copy_keys copied) n low in cc (there.1, at))
   delete_turn c p a b tier_view copied view n (Some key) (CopyStops StoreFault) ns old new at low h row =
@@ -253,7 +253,7 @@ module _ {S M : Type 0} (objects : S → store.Content) (calls : S → Control s
       (stored_went c p a b tier_view (Undoes copied n key) _ old new ns h at row.1.content (λ done k. k.went refl))
 
   -- a view takes all metadata events
-  pub sees_all : (c : Scene) (p : Plain) (a b : ℕ) (tier_view : BrokerTierView) (work : TierTask) (s : store.Content) (old : M) (view : Seen) → Shows c a b tier_view work s (notes old) tier_view.view → length c.notes < 2 ^ 64
+  pub sees_all : (c : Scene) (p : Plain) (a b : ℕ) (tier_view : BrokerTierView) (work : TierTask) (s : store.Content) (old : M) (view : EntriesSeen) → ShowsScene c a b tier_view work s (notes old) tier_view.view → length c.notes < 2 ^ 64
       → IsViewOf c.notes tier_view.view → Refreshes (notes old) tier_view.view view
       → (view ≡ view_of c.notes) × IsChanged c p (after_turn c a b tier_view work c.objects c.notes view)
   sees_all c p a b tier_view work s old view h few v r =
@@ -270,7 +270,7 @@ module _ {S M : Type 0} (objects : S → store.Content) (calls : S → Control s
             (one_change c p (Sees b tier_view view) (refl, record { tier_view_is = h.tier_view_is; before = v.before; old = v.is; more = c.notes; new = all; grows = v.begins; begins = prefix_self c.notes })),
       )
 
-  overtakes : (c : Scene) (p : Plain) (a b : ℕ) (tier_view : BrokerTierView) (copied : Copied) (state : State) (view : Seen) → slice_get c.tier_views b ≡ Some tier_view
+  overtakes : (c : Scene) (p : Plain) (a b : ℕ) (tier_view : BrokerTierView) (copied : Copied) (state : State) (view : EntriesSeen) → slice_get c.tier_views b ≡ Some tier_view
       → slice_get c.desk a ≡ Some (Copies copied copying.Check) → state_of copied.id view.entries ≡ Some state → is_deleted state ≡ true
       → IsChanged c p (after_turn c a b tier_view (Copies copied copying.Check) c.objects c.notes view)
       → IsChanged c p (after_turn c a b tier_view (Copies copied (copying.Delete 0)) c.objects c.notes view)
@@ -291,7 +291,7 @@ module _ {S M : Type 0} (objects : S → store.Content) (calls : S → Control s
         },
       ))
 
-  by_state : (c : Scene) (p : Plain) (a b : ℕ) (tier_view : BrokerTierView) (copied : Copied) (view : Seen) (n : ℕ) (o : Option State) → slice_get c.tier_views b ≡ Some tier_view
+  by_state : (c : Scene) (p : Plain) (a b : ℕ) (tier_view : BrokerTierView) (copied : Copied) (view : EntriesSeen) (n : ℕ) (o : Option State) → slice_get c.tier_views b ≡ Some tier_view
       → slice_get c.desk a ≡ Some (Copies copied copying.Check) → state_of copied.id view.entries ≡ o
       → IsChanged c p (after_turn c a b tier_view (Copies copied copying.Check) c.objects c.notes view)
       → IsChanged c p (after_turn c a b tier_view (copy_work copied (checked copied n o)) c.objects c.notes view)
@@ -301,8 +301,8 @@ module _ {S M : Type 0} (objects : S → store.Content) (calls : S → Control s
   by_state c p a b tier_view copied view n (Some DeleteStarted) at actor_state is h = overtakes c p a b tier_view copied DeleteStarted view at actor_state is refl h
   by_state c p a b tier_view copied view n (Some DeleteFinished) at actor_state is h = overtakes c p a b tier_view copied DeleteFinished view at actor_state is refl h
 
-  check_turn : (c : Scene) (p : Plain) (a b : ℕ) (tier_view : BrokerTierView) (copied : Copied) (turn : CopyTurn) (s : store.Content) (old new : M) (view : Seen)
-      → Shows c a b tier_view (Copies copied copying.Check) s (notes old) tier_view.view → length c.notes < 2 ^ 64 → IsViewOf c.notes tier_view.view
+  check_turn : (c : Scene) (p : Plain) (a b : ℕ) (tier_view : BrokerTierView) (copied : Copied) (turn : CopyTurn) (s : store.Content) (old new : M) (view : EntriesSeen)
+      → ShowsScene c a b tier_view (Copies copied copying.Check) s (notes old) tier_view.view → length c.notes < 2 ^ 64 → IsViewOf c.notes tier_view.view
       → CheckRow notes notings copied (Ok turn) tier_view.view view old new
       → IsChanged c p (after_turn c a b tier_view (copy_work copied turn) s.objects (notes new).notes view)
   check_turn c p a b tier_view copied (CopyStops MetaFault) s old new view h few v row =
@@ -312,7 +312,7 @@ module _ {S M : Type 0} (objects : S → store.Content) (calls : S → Control s
       renamed c p a b tier_view _ _ c.objects s.objects c.notes (notes new).notes view view (ap (copy_work copied) (sym row.0)) h.objects_are (h.notes_are ∙ sym row.1.content.notes) refl
       (by_state c p a b tier_view copied view view.notes (state_of copied.id view.entries) h.tier_view_is h.actor_state refl all.1)
 
-  shown : (c : Scene) (a b : ℕ) (tier_view : BrokerTierView) (work : TierTask) (s : store.Content) (n : meta.Content) (view : Seen) → Shows c a b tier_view work s n view → Shows c a b tier_view work s n tier_view.view
+  shown : (c : Scene) (a b : ℕ) (tier_view : BrokerTierView) (work : TierTask) (s : store.Content) (n : meta.Content) (view : EntriesSeen) → ShowsScene c a b tier_view work s n view → ShowsScene c a b tier_view work s n tier_view.view
   shown c a b tier_view work s n view h = record {
     objects_are = h.objects_are;
     notes_are = h.notes_are;
@@ -324,13 +324,13 @@ module _ {S M : Type 0} (objects : S → store.Content) (calls : S → Control s
   }
 
   -- what a copy's turn leaves of the rest
-  copied_rest : (c : Scene) (p : Plain) (a b : ℕ) (tier_view : BrokerTierView) (work : TierTask) (o : Objects) (n : List Note) (v : Seen) (new : CopyTiers S M)
+  copied_rest : (c : Scene) (p : Plain) (a b : ℕ) (tier_view : BrokerTierView) (work : TierTask) (o : Objects) (n : List Note) (v : EntriesSeen) (new : CopyTiers S M)
       → o ≡ (objects new.store).objects → n ≡ (notes new.meta).notes → v ≡ new.view
       → IsChanged c p (after_turn c a b tier_view work o n v) → IsChanged c p (after_turn c a b tier_view work (objects new.store).objects (notes new.meta).notes new.view)
   copied_rest c p a b tier_view work o n v new eo en ev h = renamed c p a b tier_view work work o _ n _ v _ refl eo en ev h
 
   copy_went : (copied : Copied) (origin : EventOrigin) (next : CopyNext) (turn : CopyTurn) (old new : CopyTiers S M) (c : Scene) (p : Plain) (a b : ℕ) (tier_view : BrokerTierView)
-      → CopyRow objects calls notes notings copied origin next (Ok turn) old new → Shows c a b tier_view (Copies copied next) (objects old.store) (notes old.meta) old.view
+      → CopyTurnRow objects calls notes notings copied origin next (Ok turn) old new → ShowsScene c a b tier_view (Copies copied next) (objects old.store) (notes old.meta) old.view
       → length c.notes < 2 ^ 64 → TierSafe c p
       → IsChanged c p (after_turn c a b tier_view (copy_work copied turn) (objects new.store).objects (notes new.meta).notes new.view)
   copy_went copied origin copying.Start turn old new c p a b tier_view row h few safe =
@@ -349,7 +349,7 @@ module _ {S M : Type 0} (objects : S → store.Content) (calls : S → Control s
       copied_rest c p a b tier_view (copy_work copied turn) (objects old.store).objects (notes new.meta).notes new.view new
       (ap (λ (t : S). (objects t).objects) (sym row.0)) refl refl
       (check_turn c p a b tier_view copied turn (objects old.store) old.meta new.meta new.view (shown c a b tier_view _ _ _ old.view h) few (safe.views b tier_view h.tier_view_is)
-      (subst (λ (v : Seen). CheckRow notes notings copied (Ok turn) v new.view old.meta new.meta) (sym h.view_is) row.1))
+      (subst (λ (v : EntriesSeen). CheckRow notes notings copied (Ok turn) v new.view old.meta new.meta) (sym h.view_is) row.1))
   copy_went copied origin (copying.Delete n) turn old new c p a b tier_view row h few safe =
       copied_rest c p a b tier_view (copy_work copied turn) (objects new.store).objects (notes old.meta).notes tier_view.view new
       refl (ap (λ (t : CopyTiers S M). (notes t.meta).notes) (sym row.0)) (h.view_is ∙ ap (λ (t : CopyTiers S M). t.view) (sym row.0))
@@ -358,7 +358,7 @@ module _ {S M : Type 0} (objects : S → store.Content) (calls : S → Control s
   -- the turns of an expiry
 
   expiry_start : (c : Scene) (p : Plain) (a b : ℕ) (tier_view : BrokerTierView) (expired_segment : ExpiredSegment) (origin : EventOrigin) (turn : ExpiryTurn) (s : store.Content) (old new : M)
-      → Shows c a b tier_view (Expires expired_segment expiring.Start) s (notes old) tier_view.view → expiry.StartRow notes notings expired_segment origin (Ok turn) old new
+      → ShowsScene c a b tier_view (Expires expired_segment expiring.Start) s (notes old) tier_view.view → expiry.StartRow notes notings expired_segment origin (Ok turn) old new
       → IsChanged c p (after_turn c a b tier_view (expiry_work expired_segment turn) s.objects (notes new).notes tier_view.view)
   expiry_start c p a b tier_view expired_segment origin (ExpiryStops MetaFault) s old new h row = told_failed c p a b tier_view (ExpiryStarts expired_segment) origin s old new h row
   expiry_start c p a b tier_view expired_segment origin turn s old new h row =
@@ -366,7 +366,7 @@ module _ {S M : Type 0} (objects : S → store.Content) (calls : S → Control s
       (told_went c p a b tier_view (ExpiryStarts expired_segment) origin s old new h row.1)
 
   expiry_finish : (c : Scene) (p : Plain) (a b : ℕ) (tier_view : BrokerTierView) (expired_segment : ExpiredSegment) (origin : EventOrigin) (turn : ExpiryTurn) (s : store.Content) (old new : M)
-      → Shows c a b tier_view (Expires expired_segment expiring.Finish) s (notes old) tier_view.view → expiry.FinishRow notes notings expired_segment origin (Ok turn) old new
+      → ShowsScene c a b tier_view (Expires expired_segment expiring.Finish) s (notes old) tier_view.view → expiry.FinishRow notes notings expired_segment origin (Ok turn) old new
       → IsChanged c p (after_turn c a b tier_view (expiry_work expired_segment turn) s.objects (notes new).notes tier_view.view)
   expiry_finish c p a b tier_view expired_segment origin (ExpiryStops MetaFault) s old new h row = told_failed c p a b tier_view (ExpiryEnds expired_segment) origin s old new h row
   expiry_finish c p a b tier_view expired_segment origin turn s old new h row =
@@ -375,7 +375,7 @@ module _ {S M : Type 0} (objects : S → store.Content) (calls : S → Control s
 
   expiry_delete : (c : Scene) (p : Plain) (a b : ℕ) (tier_view : BrokerTierView) (expired_segment : ExpiredSegment) (n : ℕ) (o : Option ObjectKey) (turn : ExpiryTurn) (ns : meta.Content) (old new : S)
       → slice_get (expiry_keys expired_segment) n ≡ o → n < length (expiry_keys expired_segment)
-      → Shows c a b tier_view (Expires expired_segment (expiring.Delete n)) (objects old) ns tier_view.view → expiry.DeleteRow objects calls expired_segment n o turn old new
+      → ShowsScene c a b tier_view (Expires expired_segment (expiring.Delete n)) (objects old) ns tier_view.view → expiry.DeleteRow objects calls expired_segment n o turn old new
       → IsChanged c p (after_turn c a b tier_view (expiry_work expired_segment turn) (objects new).objects ns.notes tier_view.view)
   expiry_delete c p a b tier_view expired_segment n None turn ns old new at low h row = absurd (let there = look (expiry_keys expired_segment) n low in cc (there.1, at))
   expiry_delete c p a b tier_view expired_segment n (Some key) (ExpiryStops StoreFault) ns old new at low h row =
@@ -385,7 +385,7 @@ module _ {S M : Type 0} (objects : S → store.Content) (calls : S → Control s
       (stored_went c p a b tier_view (Deletes expired_segment n key) _ old new ns h at row.1.content (λ done k. k.went refl))
 
   expiry_went : (expired_segment : ExpiredSegment) (origin : EventOrigin) (next : ExpiryNext) (turn : ExpiryTurn) (old new : ExpiryTiers S M) (c : Scene) (p : Plain) (a b : ℕ) (tier_view : BrokerTierView)
-      → ExpiryRow objects calls notes notings expired_segment origin next (Ok turn) old new → Shows c a b tier_view (Expires expired_segment next) (objects old.store) (notes old.meta) tier_view.view
+      → ExpiryRow objects calls notes notings expired_segment origin next (Ok turn) old new → ShowsScene c a b tier_view (Expires expired_segment next) (objects old.store) (notes old.meta) tier_view.view
       → TierSafe c p
       → IsChanged c p (after_turn c a b tier_view (expiry_work expired_segment turn) (objects new.store).objects (notes new.meta).notes tier_view.view)
   expiry_went expired_segment origin expiring.Start turn old new c p a b tier_view row h safe =
@@ -400,14 +400,14 @@ module _ {S M : Type 0} (objects : S → store.Content) (calls : S → Control s
 
   -- turns that need memory
 
-  stays : (c : Scene) (p : Plain) (a b : ℕ) (tier_view : BrokerTierView) (work : TierTask) (s : store.Content) (n : meta.Content) (o : Objects) (ns : List Note) → Shows c a b tier_view work s n tier_view.view
+  stays : (c : Scene) (p : Plain) (a b : ℕ) (tier_view : BrokerTierView) (work : TierTask) (s : store.Content) (n : meta.Content) (o : Objects) (ns : List Note) → ShowsScene c a b tier_view work s n tier_view.view
       → o ≡ s.objects → ns ≡ n.notes → IsChanged c p (after_turn c a b tier_view work o ns tier_view.view)
   stays c p a b tier_view work s n o ns h eo en =
       as_scene c c (after_turn c a b tier_view work o ns tier_view.view) p
       (scene_same _ _ refl (h.objects_are ∙ sym eo) (h.notes_are ∙ sym en) (sym (set-same c.tier_views b tier_view h.tier_view_is)) (sym (set-same c.desk a work h.actor_state)))
       (record { changes = []; may = refl; is = refl })
 
-  dry_notes : (note : Note) (old new : M) → IsTrue (notes old).is_observable → Appends notes notings note Dry old new → (notes new).notes ≡ (notes old).notes
+  dry_notes : (note : Note) (old new : M) → IsTrue (notes old).is_observable → AppendsToMetaLog notes notings note Dry old new → (notes new).notes ≡ (notes old).notes
   dry_notes note old new t k = by (k.content.notes t).0 ((k.content.notes t).1.dry refl) (k.content.notes t).2
     where
       by : (done : Bool) → done ≡ false → (notes new).notes ≡ meta.appended_if done note (notes old).notes → (notes new).notes ≡ (notes old).notes
@@ -421,7 +421,7 @@ module _ {S M : Type 0} (objects : S → store.Content) (calls : S → Control s
       by false f made = not_made key (replaced bytes) (objects old).objects (objects new).objects made
       by true f made = absurd (cc (f))
 
-  put_dry : (copied : Copied) (n : ℕ) (o : Option ObjectKey) (e : AllocError) (old new : S) → IsTrue (objects old).is_observable → PutRow objects calls copied n o (Err e) old new
+  put_dry : (copied : Copied) (n : ℕ) (o : Option ObjectKey) (e : AllocError) (old new : S) → IsTrue (objects old).is_observable → PutObjectRow objects calls copied n o (Err e) old new
       → (objects new).objects ≡ (objects old).objects
   put_dry copied n None e old new t row = ap (λ (s : S). (objects s).objects) row.1
   put_dry copied n (Some key) e old new t (inl same) = ap (λ (s : S). (objects s).objects) same
@@ -431,31 +431,31 @@ module _ {S M : Type 0} (objects : S → store.Content) (calls : S → Control s
   fed_view : (before more : List Note) → fed_all (view_of before) more ≡ view_of (before ++ more)
   fed_view before [] = ap view_of (sym (append-nil before))
   fed_view before (note ∷ more) =
-      ap (λ (v : Seen). fed_all v more) (fed_again before note) ∙ (fed_view (before ++ note ∷ []) more ∙ ap view_of (append_assoc before (note ∷ []) more))
+      ap (λ (v : EntriesSeen). fed_all v more) (fed_again before note) ∙ (fed_view (before ++ note ∷ []) more ∙ ap view_of (append_assoc before (note ∷ []) more))
 
-  pub sees_some : (c : Scene) (p : Plain) (a b : ℕ) (tier_view : BrokerTierView) (work : TierTask) (s : store.Content) (old : M) (view : Seen) → Shows c a b tier_view work s (notes old) tier_view.view → length c.notes < 2 ^ 64
+  pub sees_some : (c : Scene) (p : Plain) (a b : ℕ) (tier_view : BrokerTierView) (work : TierTask) (s : store.Content) (old : M) (view : EntriesSeen) → ShowsScene c a b tier_view work s (notes old) tier_view.view → length c.notes < 2 ^ 64
       → IsViewOf c.notes tier_view.view → Advances (notes old) tier_view.view view → IsChanged c p (after_turn c a b tier_view work c.objects c.notes view)
   sees_some c p a b tier_view work s old view h few v r =
       let within : length v.before ≤ length c.notes = prefix_length v.before c.notes v.begins in
-      let count : tier_view.view.notes ≡ length v.before = ap (λ (w : Seen). w.notes) v.is ∙ omega (arith, few, within) in
+      let count : tier_view.view.notes ≡ length v.before = ap (λ (w : EntriesSeen). w.notes) v.is ∙ omega (arith, few, within) in
       let rest : r.notes ++ r.rest ≡ drop (length v.before) c.notes =
       r.further h.meta_tells ∙ ap (λ (n : ℕ). drop n (notes old).notes) count ∙ ap (drop (length v.before)) (sym h.notes_are) in
       let whole : (v.before ++ r.notes) ++ r.rest ≡ c.notes =
       append_assoc v.before r.notes r.rest ∙ ap (λ (ns : List Note). v.before ++ ns) rest
       ∙ ap (λ (ns : List Note). ns ++ drop (length v.before) c.notes) (prefix_taken v.before c.notes v.begins) ∙ take-append-drop (length v.before) c.notes in
-      let new : view ≡ view_of (v.before ++ r.notes) = r.view ∙ ap (λ (w : Seen). fed_all w r.notes) v.is ∙ fed_view v.before r.notes in
+      let new : view ≡ view_of (v.before ++ r.notes) = r.view ∙ ap (λ (w : EntriesSeen). fed_all w r.notes) v.is ∙ fed_view v.before r.notes in
       as_scene c (effect (Sees b tier_view view) c) (after_turn c a b tier_view work c.objects c.notes view) p
       (scene_same _ _ refl refl refl refl (sym (set-same c.desk a work h.actor_state)))
       (one_change c p (Sees b tier_view view) (refl, record { tier_view_is = h.tier_view_is; before = v.before; old = v.is; more = v.before ++ r.notes; new = new; grows = (r.notes, refl); begins = (r.rest, whole) }))
 
-  note_dry : (note : Note) (c : Scene) (p : Plain) (a b : ℕ) (tier_view : BrokerTierView) (work : TierTask) (s : store.Content) (old new : M) → Shows c a b tier_view work s (notes old) tier_view.view
-      → (new ≡ old) ⊎ Appends notes notings note Dry old new → IsChanged c p (after_turn c a b tier_view work s.objects (notes new).notes tier_view.view)
+  note_dry : (note : Note) (c : Scene) (p : Plain) (a b : ℕ) (tier_view : BrokerTierView) (work : TierTask) (s : store.Content) (old new : M) → ShowsScene c a b tier_view work s (notes old) tier_view.view
+      → (new ≡ old) ⊎ AppendsToMetaLog notes notings note Dry old new → IsChanged c p (after_turn c a b tier_view work s.objects (notes new).notes tier_view.view)
   note_dry note c p a b tier_view work s old new h (inl same) = stays c p a b tier_view work s (notes old) s.objects (notes new).notes h refl (ap (λ (m : M). (notes m).notes) same)
   note_dry note c p a b tier_view work s old new h (inr k) = stays c p a b tier_view work s (notes old) s.objects (notes new).notes h refl (dry_notes note old new h.meta_tells k)
 
   -- whatever an actor's state has
   pub copy_dry : (copied : Copied) (origin : EventOrigin) (next : CopyNext) (e : AllocError) (old new : CopyTiers S M) (c : Scene) (p : Plain) (a b : ℕ) (tier_view : BrokerTierView) (work : TierTask)
-      → CopyRow objects calls notes notings copied origin next (Err e) old new → Shows c a b tier_view work (objects old.store) (notes old.meta) old.view
+      → CopyTurnRow objects calls notes notings copied origin next (Err e) old new → ShowsScene c a b tier_view work (objects old.store) (notes old.meta) old.view
       → length c.notes < 2 ^ 64 → TierSafe c p
       → IsChanged c p (after_turn c a b tier_view work (objects new.store).objects (notes new.meta).notes new.view)
   copy_dry copied origin copying.Start e old new c p a b tier_view work row h few safe =
@@ -474,7 +474,7 @@ module _ {S M : Type 0} (objects : S → store.Content) (calls : S → Control s
   copy_dry copied origin copying.Check e old new c p a b tier_view work row h few safe =
       renamed c p a b tier_view _ _ c.objects _ c.notes _ new.view new.view refl (h.objects_are ∙ ap (λ (t : S). (objects t).objects) (sym row.0)) (h.notes_are ∙ sym row.1.content.notes) refl
       (sees_some c p a b tier_view work (objects old.store) old.meta new.view (shown c a b tier_view _ _ _ old.view h) few (safe.views b tier_view h.tier_view_is)
-      (subst (λ (v : Seen). Advances (notes old.meta) v new.view) (sym h.view_is) row.1.view))
+      (subst (λ (v : EntriesSeen). Advances (notes old.meta) v new.view) (sym h.view_is) row.1.view))
   copy_dry copied origin (copying.Delete n) e old new c p a b tier_view work row h few safe = absurd row
 
   pub copy_turns : CopyTurnsChange objects calls notes notings
@@ -482,7 +482,7 @@ module _ {S M : Type 0} (objects : S → store.Content) (calls : S → Control s
   copy_turns copied origin next (Err e) old new c p a b tier_view row h few safe = copy_dry copied origin next e old new c p a b tier_view (Copies copied next) row h few safe
 
   expiry_dry : (expired_segment : ExpiredSegment) (origin : EventOrigin) (next : ExpiryNext) (e : AllocError) (old new : ExpiryTiers S M) (c : Scene) (p : Plain) (a b : ℕ) (tier_view : BrokerTierView)
-      → ExpiryRow objects calls notes notings expired_segment origin next (Err e) old new → Shows c a b tier_view (Expires expired_segment next) (objects old.store) (notes old.meta) tier_view.view
+      → ExpiryRow objects calls notes notings expired_segment origin next (Err e) old new → ShowsScene c a b tier_view (Expires expired_segment next) (objects old.store) (notes old.meta) tier_view.view
       → IsChanged c p (after_turn c a b tier_view (Expires expired_segment next) (objects new.store).objects (notes new.meta).notes tier_view.view)
   expiry_dry expired_segment origin expiring.Start e old new c p a b tier_view row h =
       stays c p a b tier_view _ (objects old.store) (notes old.meta) (objects new.store).objects (notes new.meta).notes h (ap (λ (t : ExpiryTiers S M). (objects t.store).objects) row.0)

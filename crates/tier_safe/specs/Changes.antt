@@ -22,7 +22,7 @@ use Rattle.segment_meta.specs.declared.note.Note.{Note}
 use Rattle.segment_bundle.specs.Parts.{part_in}
 use Rattle.object_store.specs.Content.{Objects}
 use Rattle.meta_log.specs.declared.event_origin.EventOrigin.{EventOrigin}
-use Rattle.remote_view.specs.Fold.{Seen}
+use Rattle.remote_view.specs.Fold.{EntriesSeen}
 use Rattle.remote_find.specs.declared.piece.Piece.{Piece}
 use Rattle.copy_task.specs.Copying.{Copied, keys as copy_keys, start_note, finish_note}
 use Rattle.copy_task.specs.Turns.{put_at}
@@ -149,7 +149,7 @@ pub data Change : Type 0 where
   Chooses : (a b : ℕ) → (tier_view : BrokerTierView) → (copy : Copied) → Change
   Tells : (a : ℕ) → (telling : Telling) → (origin : EventOrigin) → Change
   Stores : (a : ℕ) → (storing : Storing) → (objects : Objects) → Change
-  Sees : (b : ℕ) → (tier_view : BrokerTierView) → (view : Seen) → Change
+  Sees : (b : ℕ) → (tier_view : BrokerTierView) → (view : EntriesSeen) → Change
   Caches : (b : ℕ) → (tier_view : BrokerTierView) → (cache : List (SegmentId × OffsetTable)) → Change
   Drops : (b : ℕ) → (tier_view : BrokerTierView) → (start : ℕ) → (dropping : Dropping) → Change
 

@@ -51,16 +51,16 @@ pub record IsEntryFor (copy : Copied) (entry : Entry) : Type 0 where
   pub packed : entry.packed ≡ copy.packed
 
 -- the part under a key is in the store
-abbrev pub HasPut : Objects → Copied → ObjectKey → Type 0
-HasPut objects copy key = objects key ≡ Some (part_in copy.parts key.part)
+abbrev pub IsPartPut : Objects → Copied → ObjectKey → Type 0
+IsPartPut objects copy key = objects key ≡ Some (part_in copy.parts key.part)
 
 -- the parts under the first so many keys exist
 abbrev pub HasPutBefore : Objects → Copied → ℕ → Type 0
-HasPutBefore objects copy n = (i : ℕ) (key : ObjectKey) → slice_get (keys copy) i ≡ Some key → i < n → HasPut objects copy key
+HasPutBefore objects copy n = (i : ℕ) (key : ObjectKey) → slice_get (keys copy) i ≡ Some key → i < n → IsPartPut objects copy key
 
 -- all parts exist
 abbrev pub HasPutAll : Objects → Copied → Type 0
-HasPutAll objects copy = (i : ℕ) (key : ObjectKey) → slice_get (keys copy) i ≡ Some key → HasPut objects copy key
+HasPutAll objects copy = (i : ℕ) (key : ObjectKey) → slice_get (keys copy) i ≡ Some key → IsPartPut objects copy key
 
 -- the deletion has started
 abbrev pub is_deleted : State → Bool

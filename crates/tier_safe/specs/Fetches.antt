@@ -25,7 +25,7 @@ use Rattle.plain_log.specs.State.{path_of}
 use Rattle.remote_view.specs.Fold.{entry_of, fold}
 use Rattle.remote_find.specs.declared.piece.Piece.{Piece}
 use Rattle.tier_safe.specs.Scene.{BrokerTierView, Sought, TierTask, Seeks}
-use Rattle.tier_safe.specs.Lineage.{Describes}
+use Rattle.tier_safe.specs.Lineage.{DescribesPath}
 
 -- what is found
 
@@ -48,7 +48,7 @@ pub record IsIndexOf (paths : List Path) (entry : Entry) (index : OffsetTable) :
   pub batches : List (List ℕ)
   pub line : List (ℕ × ℕ)
   pub interval : ℕ
-  pub describes : Describes paths entry batches line
+  pub describes : DescribesPath paths entry batches line
   pub is : index ≡ index_of entry.start interval (placed_from 0 batches)
 
 -- it is, while the copy of this id is finished

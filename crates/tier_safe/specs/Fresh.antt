@@ -9,7 +9,7 @@ abbrev pub fresh_tier_view : BrokerTierView
 fresh_tier_view = record { up = true; start = 0; incarnation = 1; next = 0; view = view_of []; cache = [] }
 
 -- no object, no metadata event, fresh brokers, and free actors' states
-pub record IsFresh (brokers actor_states : ℕ) (c : Scene) : Type 0 where
+pub record IsFreshScene (brokers actor_states : ℕ) (c : Scene) : Type 0 where
   pub objects : (key : ObjectKey) → c.objects key ≡ None
   pub notes : c.notes ≡ []
   pub tier_views : c.tier_views ≡ replicate brokers fresh_tier_view

@@ -24,7 +24,7 @@ use Rattle.tier_safe.specs.Changes.{Change, effects}
 use Rattle.tier_safe.specs.Lineage.{IsStoredWhole, IsSource}
 use Rattle.tier_safe.specs.May.{Mays, IsChanged}
 use Rattle.tier_safe.specs.Safe.{BothSafe}
-use Rattle.tier_safe.specs.Fresh.{IsFresh}
+use Rattle.tier_safe.specs.Fresh.{IsFreshScene}
 use Rattle.tier_safe.specs.Kept.{IsKeptAt}
 
 -- changes keep the rules
@@ -47,7 +47,7 @@ SegmentsAreSources = (p : Plain) (b : ℕ) (x : Broker) (e : ℕ) (copy : Copied
 -- the rules hold where nothing has happened yet
 abbrev pub FreshIsSafe : Type 0
 FreshIsSafe =
-    (config : Config) (actor_states : ℕ) (c : Scene) → 1 ≤ config.brokers → IsFresh config.brokers actor_states c
+    (config : Config) (actor_states : ℕ) (c : Scene) → 1 ≤ config.brokers → IsFreshScene config.brokers actor_states c
     → BothSafe c (fresh config)
 
 -- what a broker's local log lacks, from the log start offset on, is kept

@@ -13,8 +13,8 @@ use Rattle.segment_meta.specs.declared.note.Note.{Note}
 use Rattle.object_store.specs.Content.{Objects, MadeAt}
 use Rattle.plain_log.specs.declared.state.State.{State as Plain}
 use Rattle.plain_log.specs.declared.state.Broker.{Broker}
-use Rattle.plain_log.specs.Safe.{Has}
-use Rattle.remote_view.specs.Fold.{Seen, view_of}
+use Rattle.plain_log.specs.Safe.{HasOnPath}
+use Rattle.remote_view.specs.Fold.{EntriesSeen, view_of}
 use Rattle.copy_task.specs.Copying.{Copied}
 use Rattle.tier_safe.specs.Scene.{BrokerTierView, Free, Rebuilds, Scene}
 use Rattle.tier_safe.specs.Changes.{Telling, before_telling, Storing, before_storing, key_for, KeyStands, made_by, Dropping, Trims, Restarts, Change, Steps, Moves, Chooses, Tells, Stores, Sees, Caches, Drops, effect, effects}
@@ -45,7 +45,7 @@ pub record MayStore (a : ℕ) (storing : Storing) (objects : Objects) (c : Scene
   pub made : MadeAt (key_for storing) (made_by storing) c.objects objects
 
 -- the view of the first metadata events becomes that of more of them
-pub record MaySee (b : ℕ) (tier_view : BrokerTierView) (view : Seen) (c : Scene) : Type 0 where
+pub record MaySee (b : ℕ) (tier_view : BrokerTierView) (view : EntriesSeen) (c : Scene) : Type 0 where
   pub tier_view_is : slice_get c.tier_views b ≡ Some tier_view
   pub before : List Note
   pub old : tier_view.view ≡ view_of before
@@ -66,10 +66,10 @@ DropsWhy Trims tier_view start c p x =
     (o : ℕ) → p.registry.start ≤ o → tier_view.start ≤ o → o < start → CoversLog tier_view.view.entries x.log o
 DropsWhy (Restarts a rebuild) tier_view start c p x =
     (slice_get c.desk a ≡ Some (Rebuilds rebuild)) × (rebuild.wanted ≡ start) × (end_of x.log ≡ start)
-    × Has p.paths rebuild.epoch x.log
+    × HasOnPath p.paths rebuild.epoch x.log
 
 -- a local log starts later, at or below its end
-pub record MayDrop (b : ℕ) (tier_view : BrokerTierView) (start : ℕ) (dropping : Dropping) (c : Scene)
+pub record MayDropLocal (b : ℕ) (tier_view : BrokerTierView) (start : ℕ) (dropping : Dropping) (c : Scene)
     (p : Plain) : Type 0 where
   pub tier_view_is : slice_get c.tier_views b ≡ Some tier_view
   pub x : Broker
@@ -87,7 +87,7 @@ MayAlter (Tells a telling origin) c p = MayTell a telling c
 MayAlter (Stores a storing objects) c p = MayStore a storing objects c
 MayAlter (Sees b tier_view view) c p = MaySee b tier_view view c
 MayAlter (Caches b tier_view cache) c p = MayCache b tier_view cache c p
-MayAlter (Drops b tier_view start dropping) c p = MayDrop b tier_view start dropping c p
+MayAlter (Drops b tier_view start dropping) c p = MayDropLocal b tier_view start dropping c p
 
 -- the condition of a change
 abbrev pub May : Change → Scene → Plain → Plain → Type 0

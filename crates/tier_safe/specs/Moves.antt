@@ -11,7 +11,7 @@ use Rattle.segment_meta.specs.declared.note.Entry.{Entry}
 use Rattle.plain_log.specs.declared.state.State.{State as Plain}
 use Rattle.plain_log.specs.declared.state.Broker.{Broker}
 use Rattle.plain_log.specs.State.{path_of}
-use Rattle.plain_log.specs.Safe.{Has}
+use Rattle.plain_log.specs.Safe.{HasOnPath}
 use Rattle.remote_view.specs.Fold.{entry_of, state_of, fold, view_of}
 use Rattle.remote_view.specs.Lookup.{is_due}
 use Rattle.remote_find.specs.declared.piece.Piece.{Piece}
@@ -53,7 +53,7 @@ pub record MayWant (a : ℕ) (rebuild : Rebuild) (c : Scene) (p : Plain) : Type 
   pub tier_view_is : slice_get c.tier_views leader ≡ Some tier_view
   pub x : Broker
   pub broker_is : slice_get p.brokers leader ≡ Some x
-  pub has : Has p.paths rebuild.epoch x.log
+  pub has : HasOnPath p.paths rebuild.epoch x.log
   pub start : tier_view.start ≡ rebuild.wanted
   pub front : List (List ℕ)
   pub begins : IsPrefix front x.log

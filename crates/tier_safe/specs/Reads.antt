@@ -16,7 +16,7 @@ use Rattle.segment_meta.specs.declared.note.Entry.{Entry}
 use Rattle.segment_meta.specs.declared.note.Note.{Note}
 use Rattle.plain_log.specs.declared.state.State.{State as Plain}
 use Rattle.plain_log.specs.declared.state.Broker.{Broker}
-use Rattle.remote_view.specs.Fold.{Seen, entry_of, fold, view_of, AreKept, AreDistinct}
+use Rattle.remote_view.specs.Fold.{EntriesSeen, entry_of, fold, view_of, AreEntriesValid, AreDistinct}
 use Rattle.remote_view.specs.Lookup.{covers}
 use Rattle.remote_find.specs.declared.piece.Piece.{Piece}
 use Rattle.remote_find.specs.Pieces.{piece_at, covered_to}
@@ -36,8 +36,8 @@ pub record TellsEpochs (line : List (ℕ × ℕ)) (log : List (List ℕ)) : Type
   pub within : AllByRecursion (λ start. start.1 ≤ end_of log) line
 
 -- a view's entries keep their rules, and no two have one id
-pub record IsRightView (view : Seen) : Type 0 where
-  pub kept : AreKept view.entries
+pub record IsRightView (view : EntriesSeen) : Type 0 where
+  pub kept : AreEntriesValid view.entries
   pub distinct : AreDistinct view.entries
 
 -- each offset from the log start offset on that a broker's local log lacks is found in its view, where it has seen all
@@ -61,13 +61,14 @@ AskedIsFound = (c : Scene) (p : Plain) (a : ℕ) (sought : Sought) (tier_view : 
 
 -- what is found in a view, by a log's leader epochs, exists: a fetch may keep it
 abbrev pub FoundStands : Type 0
-FoundStands = (notes : List Note) (view : Seen) (line : List (ℕ × ℕ)) (log : List (List ℕ)) (offset : ℕ) (piece : Piece)
+FoundStands =
+    (notes : List Note) (view : EntriesSeen) (line : List (ℕ × ℕ)) (log : List (List ℕ)) (offset : ℕ) (piece : Piece)
     → IsViewOf notes view → IsRightView view → TellsEpochs line log
     → piece_at view.entries line (end_of log) offset ≡ Some piece → PieceStands notes log offset piece
 
 -- each offset up to the end that pieces reach, one after another, is covered: a local log may drop it
 abbrev pub ReachedIsCovered : Type 0
-ReachedIsCovered = (view : Seen) (line : List (ℕ × ℕ)) (log : List (List ℕ)) (at : ℕ) → IsRightView view → TellsEpochs line log
+ReachedIsCovered = (view : EntriesSeen) (line : List (ℕ × ℕ)) (log : List (List ℕ)) (at : ℕ) → IsRightView view → TellsEpochs line log
     → (o : ℕ) → at ≤ o → o < covered_to view.entries line (end_of log) at → CoversLog view.entries log o
 
 -- a rebuild that has refreshed finds the remote segment of the last offset below the wanted one
@@ -83,7 +84,7 @@ WantedIsFound = (c : Scene) (p : Plain) (a : ℕ) (rebuild : Rebuild) (tier_view
 
 -- the piece's segment is finished and exists, and what of its batches ends with the piece is what the log has from the
 -- offset on; the position is the one that their index gives
-pub record IsServed (c : Scene) (p : Plain) (log : List (List ℕ)) (sought : Sought) (piece : Piece) : Type 0 where
+pub record IsPieceServed (c : Scene) (p : Plain) (log : List (List ℕ)) (sought : Sought) (piece : Piece) : Type 0 where
   pub entry : Entry
   pub there : entry_of piece.id (fold c.notes) ≡ Some entry
   pub partition : entry.partition ≡ c.partition
@@ -100,7 +101,7 @@ abbrev pub FetchesAreServed : Type 0
 FetchesAreServed = (c : Scene) (p : Plain) (a : ℕ) (sought : Sought) (piece : Piece) (tier_view : BrokerTierView) (x : Broker) → BothSafe c p
     → slice_get c.desk a ≡ Some (Seeks sought) → slice_get c.tier_views sought.broker ≡ Some tier_view
     → slice_get p.brokers sought.broker ≡ Some x → sought.piece ≡ Some piece → StillLeads sought x
-    → p.registry.start ≤ sought.offset → IsServed c p x.log sought piece
+    → p.registry.start ≤ sought.offset → IsPieceServed c p x.log sought piece
 
 -- a finished copy begins with the batches below the wanted offset, and the leader epochs of its epochs is theirs up to
 -- there

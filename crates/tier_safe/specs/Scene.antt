@@ -12,7 +12,7 @@ use Rattle.tier_base.specs.declared.names.SegmentId.{SegmentId}
 use Rattle.sparse_index.specs.Offsets.{OffsetTable}
 use Rattle.segment_meta.specs.declared.note.Note.{Note}
 use Rattle.object_store.specs.Content.{Objects}
-use Rattle.remote_view.specs.Fold.{Seen}
+use Rattle.remote_view.specs.Fold.{EntriesSeen}
 use Rattle.remote_find.specs.declared.piece.Piece.{Piece}
 use Rattle.copy_task.specs.Copying.{Copied}
 use Rattle.copy_task.specs.declared.turn.CopyStep.{CopyStep as CopyNext}
@@ -27,7 +27,7 @@ pub record BrokerTierView : Type 0 where
   -- how often its log was opened, and the number of its next copy since
   pub incarnation : ℕ
   pub next : ℕ
-  pub view : Seen
+  pub view : EntriesSeen
   -- offset indexes of remote segments
   pub cache : List (SegmentId × OffsetTable)
 

@@ -18,7 +18,7 @@ use Rattle.segment_meta.specs.declared.note.Entry.{Entry}
 use Rattle.segment_meta.specs.declared.note.Note.{Note}
 use Rattle.plain_log.specs.declared.state.Path.{Path}
 use Rattle.plain_log.specs.declared.state.Broker.{Broker}
-use Rattle.plain_log.specs.Safe.{Has}
+use Rattle.plain_log.specs.Safe.{HasOnPath}
 use Rattle.remote_view.specs.Fold.{entry_of, fold}
 use Rattle.expiry_task.specs.Turns.{keys}
 use Rattle.expiry_task.specs.declared.turn.ExpiredSegment.{ExpiredSegment}
@@ -52,10 +52,10 @@ DeletedEnd notes start =
     → then.state ≡ CopyFinished → entry_of id (fold notes) ≡ Some now → now.state ≢ CopyFinished → now.end < start
 
 -- once an expiry's first metadata event is reported, the deletion has started
-abbrev pub IsBegun : ExpiryNext → State → Type 0
-IsBegun expiring.Start state = Unit {0}
-IsBegun (expiring.Delete n) state = is_deleted state ≡ true
-IsBegun expiring.Finish state = is_deleted state ≡ true
+abbrev pub HasBegun : ExpiryNext → State → Type 0
+HasBegun expiring.Start state = Unit {0}
+HasBegun (expiring.Delete n) state = is_deleted state ≡ true
+HasBegun expiring.Finish state = is_deleted state ≡ true
 
 -- the object that an expiry takes away next has a key
 abbrev pub ExpiryHasKey : ExpiredSegment → ExpiryNext → Type 0
@@ -68,7 +68,7 @@ pub record ExpiryStands (entries : List Entry) (start : ℕ) (expired_segment : 
   pub entry : Entry
   pub there : entry_of expired_segment.id entries ≡ Some entry
   pub below : entry.end < start
-  pub snapshot : IsBegun next entry.state
+  pub snapshot : HasBegun next entry.state
   pub key : ExpiryHasKey expired_segment next
 
 -- what is deleted, and what is about to be
@@ -94,7 +94,7 @@ pub record RebuildStands (paths : List Path) (notes : List Note) (start : ℕ) (
     (rebuild : Rebuild)
     : Type 0 where
   pub front : List (List ℕ)
-  pub begins : Has paths rebuild.epoch front
+  pub begins : HasOnPath paths rebuild.epoch front
   pub ends : end_of front ≡ rebuild.wanted
   pub above : rebuild.end < rebuild.wanted
   pub covered : (o : ℕ) → start ≤ o → o < rebuild.wanted → CoversLog (fold notes) front o

@@ -14,7 +14,7 @@ use Rattle.meta_log.specs.Call as meta_call
 use Rattle.meta_log.specs.Content as meta
 use Rattle.meta_log.specs.declared.event_origin.EventOrigin.{EventOrigin}
 use Rattle.plain_log.specs.declared.state.State.{State as Plain}
-use Rattle.remote_view.specs.Fold.{Seen, view_of}
+use Rattle.remote_view.specs.Fold.{EntriesSeen, view_of}
 use Rattle.view_refresh.specs.Refreshing.{Refreshes, Advances}
 use Rattle.copy_task.specs.Copying.{Copied}
 use Rattle.copy_task.specs.Turns as copy
@@ -31,7 +31,7 @@ use Rattle.tier_safe.specs.May.{IsChanged}
 use Rattle.tier_safe.specs.Safe.{TierSafe}
 
 -- the tier has what a store and a metadata log report, the view of broker b, and what actor a's state keeps
-pub record Shows (c : Scene) (a b : ℕ) (tier_view : BrokerTierView) (work : TierTask) (objects : store.Content) (notes : meta.Content) (view : Seen)
+pub record ShowsScene (c : Scene) (a b : ℕ) (tier_view : BrokerTierView) (work : TierTask) (objects : store.Content) (notes : meta.Content) (view : EntriesSeen)
     : Type 0 where
   pub objects_are : c.objects ≡ objects.objects
   pub notes_are : c.notes ≡ notes.notes
@@ -42,7 +42,7 @@ pub record Shows (c : Scene) (a b : ℕ) (tier_view : BrokerTierView) (work : Ti
   pub actor_state : slice_get c.desk a ≡ Some work
 
 -- the tier after a turn of the command in that actor's state
-abbrev pub after_turn : Scene → ℕ → ℕ → BrokerTierView → TierTask → store.Objects → List Note → Seen → Scene
+abbrev pub after_turn : Scene → ℕ → ℕ → BrokerTierView → TierTask → store.Objects → List Note → EntriesSeen → Scene
 after_turn c a b tier_view work objects notes view = record {
   partition = c.partition;
   objects = objects;
@@ -74,15 +74,15 @@ expiry_after expired_segment next (Err e) = Expires expired_segment next
 module _ {M : Type 0} (notes : M → meta.Content) where
   -- a refresh of a broker's view is changes, and the view has all metadata events then
   abbrev pub RefreshesChange : Type 0
-  RefreshesChange = (old : M) (view : Seen) (c : Scene) (p : Plain) (a b : ℕ) (tier_view : BrokerTierView) (work : TierTask) (objects : store.Content)
-      → Shows c a b tier_view work objects (notes old) tier_view.view → length c.notes < 2 ^ 64 → TierSafe c p
+  RefreshesChange = (old : M) (view : EntriesSeen) (c : Scene) (p : Plain) (a b : ℕ) (tier_view : BrokerTierView) (work : TierTask) (objects : store.Content)
+      → ShowsScene c a b tier_view work objects (notes old) tier_view.view → length c.notes < 2 ^ 64 → TierSafe c p
       → Refreshes (notes old) tier_view.view view
       → (view ≡ view_of c.notes) × IsChanged c p (after_turn c a b tier_view work c.objects c.notes view)
 
   -- so is one that ran out of memory
   abbrev pub HaltsChange : Type 0
-  HaltsChange = (old : M) (view : Seen) (c : Scene) (p : Plain) (a b : ℕ) (tier_view : BrokerTierView) (work : TierTask) (objects : store.Content)
-      → Shows c a b tier_view work objects (notes old) tier_view.view → length c.notes < 2 ^ 64 → TierSafe c p
+  HaltsChange = (old : M) (view : EntriesSeen) (c : Scene) (p : Plain) (a b : ℕ) (tier_view : BrokerTierView) (work : TierTask) (objects : store.Content)
+      → ShowsScene c a b tier_view work objects (notes old) tier_view.view → length c.notes < 2 ^ 64 → TierSafe c p
       → Advances (notes old) tier_view.view view
       → IsChanged c p (after_turn c a b tier_view work c.objects c.notes view)
 
@@ -93,8 +93,8 @@ module _ {S M : Type 0} (objects : S → store.Content) (calls : S → Control s
   CopyTurnsChange =
       (copied : Copied) (origin : EventOrigin) (next : CopyNext) (result : Result CopyTurn AllocError) (old new : copy.Tiers S M)
       (c : Scene) (p : Plain) (a b : ℕ) (tier_view : BrokerTierView)
-      → copy.CopyRow objects calls notes notings copied origin next result old new
-      → Shows c a b tier_view (Copies copied next) (objects old.store) (notes old.meta) old.view
+      → copy.CopyTurnRow objects calls notes notings copied origin next result old new
+      → ShowsScene c a b tier_view (Copies copied next) (objects old.store) (notes old.meta) old.view
       → length c.notes < 2 ^ 64 → TierSafe c p
       → IsChanged c p (after_turn c a b tier_view (copy_after copied next result)
       (objects new.store).objects (notes new.meta).notes new.view)
@@ -105,7 +105,7 @@ module _ {S M : Type 0} (objects : S → store.Content) (calls : S → Control s
       (expired_segment : ExpiredSegment) (origin : EventOrigin) (next : ExpiryNext) (result : Result ExpiryTurn AllocError) (old new : expiry.Tiers S M)
       (c : Scene) (p : Plain) (a b : ℕ) (tier_view : BrokerTierView)
       → expiry.ExpiryRow objects calls notes notings expired_segment origin next result old new
-      → Shows c a b tier_view (Expires expired_segment next) (objects old.store) (notes old.meta) tier_view.view
+      → ShowsScene c a b tier_view (Expires expired_segment next) (objects old.store) (notes old.meta) tier_view.view
       → TierSafe c p
       → IsChanged c p (after_turn c a b tier_view (expiry_after expired_segment next result)
       (objects new.store).objects (notes new.meta).notes tier_view.view)

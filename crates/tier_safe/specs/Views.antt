@@ -19,7 +19,7 @@ use Rattle.segment_meta.specs.declared.note.Entry.{Entry}
 use Rattle.segment_meta.specs.declared.note.Note.{Note}
 use Rattle.segment_meta.specs.declared.note.Note.TheVariants.{Add, Update}
 use Rattle.object_store.specs.Content.{Objects}
-use Rattle.remote_view.specs.Fold.{Seen, entry_of, view_of}
+use Rattle.remote_view.specs.Fold.{EntriesSeen, entry_of, view_of}
 use Rattle.copy_task.specs.Copying.{Copied}
 use Rattle.copy_task.specs.declared.turn.CopyStep.{CopyStep as CopyNext}
 use Rattle.expiry_task.specs.declared.turn.ExpiredSegment.{ExpiredSegment}
@@ -34,19 +34,19 @@ HasId (Add entry) = IsId entry.id
 HasId (Update id broker event_ts state custom) = Unit {0}
 
 -- a metadata event keeps its rules
-pub record IsRight (note : Note) : Type 0 where
+pub record IsNoteRight (note : Note) : Type 0 where
   pub is : IsNote note
   pub id : HasId note
 
 -- each metadata event keeps its rules, and so will those of the copies on the desk
 pub record NotesStand (notes : List Note) (desk : List TierTask) : Type 0 where
-  pub right : AllByRecursion IsRight notes
+  pub right : AllByRecursion IsNoteRight notes
   pub ids : (a : ℕ) (copy : Copied) (next : CopyNext) → slice_get desk a ≡ Some (Copies copy next) → IsId copy.id
 
 -- views
 
 -- the view is the fold of the first metadata events
-pub record IsViewOf (notes : List Note) (view : Seen) : Type 0 where
+pub record IsViewOf (notes : List Note) (view : EntriesSeen) : Type 0 where
   pub before : List Note
   pub begins : IsPrefix before notes
   pub is : view ≡ view_of before
@@ -87,13 +87,13 @@ abbrev pub IsNamed : List Entry → SegmentId → Type 0
 IsNamed entries id = (entry : Entry) × (entry_of id entries ≡ Some entry)
 
 -- it has one, or is that of a copy on the desk
-abbrev pub IsUsed : List Entry → List TierTask → SegmentId → Type 0
-IsUsed entries desk id = IsNamed entries id
+abbrev pub IsIdUsed : List Entry → List TierTask → SegmentId → Type 0
+IsIdUsed entries desk id = IsNamed entries id
     ⊎ ((a : ℕ) × (copy : Copied) × (next : CopyNext) × (slice_get desk a ≡ Some (Copies copy next)) × (copy.id ≡ id))
 
 -- each id that is used was chosen by its broker before
 abbrev pub IdsStand : List Entry → List BrokerTierView → List TierTask → Type 0
 IdsStand entries tier_views desk =
-    (id : SegmentId) (partition b incarnation attempt : ℕ) (tier_view : BrokerTierView) → IsUsed entries desk id
+    (id : SegmentId) (partition b incarnation attempt : ℕ) (tier_view : BrokerTierView) → IsIdUsed entries desk id
     → IsIdOf id partition b incarnation attempt → slice_get tier_views b ≡ Some tier_view
     → IsChosen tier_view incarnation attempt

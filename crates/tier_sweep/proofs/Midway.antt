@@ -10,13 +10,13 @@ use Rattle.tier_base.specs.declared.plain.State.TheVariants.{CopyStarted, CopyFi
 use Rattle.segment_meta.specs.declared.note.Entry.{Entry}
 use Rattle.segment_meta.specs.declared.note.Note.{Note}
 use Rattle.segment_meta.specs.Steps.{next_state}
-use Rattle.segment_meta.specs.Rules.{IsNote, MayTell, bare_custom}
+use Rattle.segment_meta.specs.Rules.{IsNote, MayHaveCustom, bare_custom}
 use Rattle.remote_view.specs.Fold.{entry_of, state_of, changed, updated, recorded, folded_from, fold, AreDistinct}
 use Rattle.remote_view.proofs.Ids.{same_id, bytes_self}
 use Rattle.remote_view.proofs.Folding.{fold_distinct}
 use Rattle.meta_log.specs.Content.{AreNotes}
 use Rattle.tier_sweep.specs.Rest.{is_under_way, stays}
-use Rattle.tier_sweep.specs.Sweeping.{is_copying, note_of, notes_of, starts_of, ends_of, rested, MayTake, SweptTier, IsUnderSweep, Starting, Taking, Ending}
+use Rattle.tier_sweep.specs.Sweeping.{is_copying, note_of, notes_of, starts_of, ends_of, rested, MayRemove, SweptTier, IsUnderSweep, Starting, Taking, Ending}
 use Rattle.tier_sweep.proofs.Rested.{folded_append, by_recursion, notes_distinct, entry_rested}
 
 -- a sweep reports this state
@@ -94,7 +94,7 @@ going_starts_none CopyFinished is = absurd (cc (is))
 going_starts_none DeleteStarted is = λ e. absurd (cc (e))
 going_starts_none DeleteFinished is = λ e. absurd (cc (e))
 
-bare_told : (t : State) → is_going t ≡ true → (packed : Bool) → MayTell t (bare_custom packed)
+bare_told : (t : State) → is_going t ≡ true → (packed : Bool) → MayHaveCustom t (bare_custom packed)
 bare_told t is false = tt
 bare_told t is true = record { few = omega arith; bare = λ e. refl }
 
@@ -220,7 +220,7 @@ under_distinct old new are h =
     fold_distinct new.notes (subst (AllByRecursion IsNote) (sym told.now) (both IsNote old.notes told.notes (by_recursion IsNote old.notes are) (are_notes (fold old.notes) told.notes told.are)))
 
 -- no object has gone that stays
-pub under_may_take : (old new : SweptTier) → IsUnderSweep old new → MayTake (fold old.notes) old.objects new.objects
+pub under_may_take : (old new : SweptTier) → IsUnderSweep old new → MayRemove (fold old.notes) old.objects new.objects
 under_may_take old new (Starting h) key = inl (h.objects key)
 under_may_take old new (Taking h) key = h.objects key
 under_may_take old new (Ending h) key = by (stays (fold old.notes) key.id) refl (h.objects key)

@@ -14,7 +14,7 @@ use Rattle.meta_log.specs.Content.{AreNotes}
 use Rattle.remote_view.specs.Fold.{entry_of, state_of, changed, updated, recorded, folded_from, fold, AreDistinct}
 use Rattle.remote_view.proofs.Ids.{same_id, bytes_self}
 use Rattle.remote_view.proofs.Folding.{fold_distinct}
-use Rattle.tier_sweep.specs.Rest.{is_under_way, AllRest}
+use Rattle.tier_sweep.specs.Rest.{is_under_way, NoneUnderWay}
 use Rattle.tier_sweep.specs.Sweeping.{is_copying, note_of, notes_of, starts_of, ends_of, rested}
 
 -- the other way round
@@ -173,7 +173,7 @@ entry_rested q (e ∷ es) =
     by false rest = rest
 
 -- they all rest
-pub all_rest : (es : List Entry) → AllRest (map rested es)
+pub all_rest : (es : List Entry) → NoneUnderWay (map rested es)
 all_rest [] = tt
 all_rest (e ∷ es) = (by (is_under_way e.state) refl, all_rest es)
   where

@@ -8,7 +8,7 @@ use Rattle.tier_base.specs.declared.plain.State.TheVariants.{CopyStarted, CopyFi
 use Rattle.segment_meta.specs.declared.note.Entry.{Entry}
 use Rattle.meta_log.specs.Content.{AreNotes}
 use Rattle.remote_view.specs.Fold.{entry_of, state_of, fold}
-use Rattle.tier_sweep.specs.Rest.{is_under_way, is_finished, stays, AreNamed, NoneIsLeft, AllRest}
+use Rattle.tier_sweep.specs.Rest.{is_under_way, is_finished, stays, AreNamed, NoneIsLeft, NoneUnderWay}
 use Rattle.tier_sweep.specs.Sweeping.{starts_of, ends_of, rested, kept_of, SweptTier, IsSwept, IsUnderSweep}
 use Rattle.tier_sweep.proofs.Rested.{fold_swept, notes_distinct, entry_rested, all_rest}
 use Rattle.tier_sweep.proofs.Midway.{under_rests, under_distinct, under_may_take}
@@ -103,11 +103,11 @@ state_some q es state = by (entry_of q es)
     by (Some x) is = refl
 
 pub swept_rests : (old new : SweptTier) (n : ℕ) → AreNotes old.notes → IsSwept old new n
-    → AreNamed new.objects (fold new.notes) × NoneIsLeft new.objects (fold new.notes) × AllRest (fold new.notes)
+    → AreNamed new.objects (fold new.notes) × NoneIsLeft new.objects (fold new.notes) × NoneUnderWay (fold new.notes)
 swept_rests old new n are h = (
   λ key held. state_some key.id (fold new.notes) CopyFinished (swept_finished old new n are h key held),
   λ key held gone. (let is = swept_finished old new n are h key held in absurd (cc (gone, is))),
-  subst AllRest (sym (swept_entries old new n are h)) (all_rest (fold old.notes)),
+  subst NoneUnderWay (sym (swept_entries old new n are h)) (all_rest (fold old.notes)),
 )
 
 pub swept_keeps : (old new : SweptTier) (n : ℕ) (id : SegmentId) → AreNotes old.notes → IsSwept old new n → state_of id (fold old.notes) ≡ Some CopyFinished

@@ -15,8 +15,8 @@ use Rattle.segment_meta.specs.declared.note.Entry.{Entry}
 use Rattle.remote_view.proofs.Ids.{same_id, bytes_self}
 use Rattle.tier_sweep.specs.declared.refusal.SweepRefusal.{SweepRefusal}
 use Rattle.tier_sweep.specs.Rest.{stays}
-use Rattle.tier_sweep.specs.Sweeping.{MayTake, count_swept}
-use Rattle.tier_sweep.specs.Parts.{Takes, TakesAll, TakesEach}
+use Rattle.tier_sweep.specs.Sweeping.{MayRemove, count_swept}
+use Rattle.tier_sweep.specs.Parts.{RemovesObject, TakesAll, TakesEach}
 
 id_cases : (a b : SegmentId) → (a ≡ b) ⊎ (a ≢ b)
 id_cases a b = by (bytes_eq a.0 b.0) refl
@@ -61,7 +61,7 @@ key_cases a b = elim (id_cases a.id b.id) [
         ∙ ap (λ (n : PartitionId). (let k : ObjectKey = record { partition = n; id = b.id; part = b.part } in k)) partition
 
 -- what may be taken in two runs may be in one
-then_may : (entries : List Entry) (old mid new : Objects) → MayTake entries old mid → MayTake entries mid new → MayTake entries old new
+then_may : (entries : List Entry) (old mid new : Objects) → MayRemove entries old mid → MayRemove entries mid new → MayRemove entries old new
 then_may entries old mid new first second key = elim (second key) [
   | inr gone ↦ inr gone
   | inl same ↦ elim (first key) [
@@ -71,7 +71,7 @@ then_may entries old mid new first second key = elim (second key) [
 ]
 
 -- one object that doesn't stay may be taken
-pub one_may : {T : Type 0} (entries : List Entry) (key : ObjectKey) (result : Result T SweepRefusal) (old new : Objects) → stays entries key.id ≡ false → Takes key result old new → MayTake entries old new
+pub one_may : {T : Type 0} (entries : List Entry) (key : ObjectKey) (result : Result T SweepRefusal) (old new : Objects) → stays entries key.id ≡ false → RemovesObject key result old new → MayRemove entries old new
 one_may entries key result old new goes h q = elim (key_cases q key) [
   | inr other ↦ inl (h.taken.others q other)
   | inl same ↦ by h.done (ap old same) (ap (λ (k : ObjectKey). stays entries k.id) same ∙ goes) (ap new same ∙ h.taken.there)
@@ -105,7 +105,7 @@ more_keys keys i key low is = take_more keys i key low ∙ ap (λ (k : ObjectKey
 
 -- its object doesn't stay
 pub takes_next : {T : Type 0} (entries : List Entry) (keys : List ObjectKey) (i : ℕ) (key : ObjectKey) (result : Result T SweepRefusal) (old mid new : Objects) → i < length keys
-    → key ≡ get_or keys i key → stays entries key.id ≡ false → TakesAll entries (take i keys) old mid → Takes key result mid new → IsOk result
+    → key ≡ get_or keys i key → stays entries key.id ≡ false → TakesAll entries (take i keys) old mid → RemovesObject key result mid new → IsOk result
     → TakesAll entries (take (i + 1) keys) old new
 takes_next entries keys i key result old mid new low is goes h one went =
     let also = one_may entries key result mid new goes one in
@@ -134,7 +134,7 @@ takes_over entries keys i key old mid low is remains h = rw (more_keys keys i ke
 
 -- some were taken, and the next may be
 pub takes_some : {T U : Type 0} (entries : List Entry) (keys all : List ObjectKey) (key : ObjectKey) (result : Result T SweepRefusal) (answer : Result U SweepRefusal) (old mid new : Objects)
-    → stays entries key.id ≡ false → TakesAll entries keys old mid → Takes key result mid new → IsErr answer → TakesEach entries all answer old new
+    → stays entries key.id ≡ false → TakesAll entries keys old mid → RemovesObject key result mid new → IsErr answer → TakesEach entries all answer old new
 takes_some entries keys all key result (Ok x) old mid new goes h one is = absurd (cc (is))
 takes_some entries keys all key result (Err why) old mid new goes h one is = then_may entries old mid new h.only (one_may entries key result mid new goes one)
 

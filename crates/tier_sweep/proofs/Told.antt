@@ -7,7 +7,7 @@ use Rattle.segment_meta.specs.declared.note.Entry.{Entry}
 use Rattle.segment_meta.specs.declared.note.Note.{Note}
 use Rattle.tier_sweep.specs.declared.refusal.SweepRefusal.{SweepRefusal}
 use Rattle.tier_sweep.specs.Sweeping.{note_of, notes_of, IsTelling}
-use Rattle.tier_sweep.specs.Parts.{Tells}
+use Rattle.tier_sweep.specs.Parts.{AppendsNotes}
 
 regroup : (a t r d : List Note) → (a ++ t) ++ (r ++ d) ≡ a ++ ((t ++ r) ++ d)
 regroup a t r d = simp append_assoc
@@ -74,6 +74,6 @@ module _ (passes : State → Bool) (state : State) where
       }
 
 -- a refusal, by whatever call
-pub tells_err : {T : Type 0} (notes old new : List Note) (result : Result T SweepRefusal) → IsErr result → IsTelling notes old new → Tells notes result old new
+pub tells_err : {T : Type 0} (notes old new : List Note) (result : Result T SweepRefusal) → IsErr result → IsTelling notes old new → AppendsNotes notes result old new
 tells_err notes old new (Ok x) is h = absurd (cc (is))
 tells_err notes old new (Err why) is h = h

@@ -6,7 +6,7 @@
 --   MetaRuns result old new       calls of the metadata log: no fault of it is hidden, whatever is answered
 --   StoreRuns result old new      the same of the store
 --   Deletes result old new        so many deletions went, or the last one failed and nothing was called after it
---   ListsFirst Behind old new     one listing went before all others
+--   ListsAndDeletes Behind old new     one listing went before all others
 use Rattle.std.specs.Prelude.{◌≡◌, ◌⊎◌, ℕ, ◌+◌, Bool, false, List, ◌++◌, None, IsOk, IsTrue, Ok, Err}
 use Rattle.std.specs.declared.result.Result.{Result}
 use Rattle.tier_base.specs.declared.object_key.ObjectKey.{ObjectKey}
@@ -22,7 +22,7 @@ use Rattle.meta_log.specs.Content.{Content, Left}
 use Rattle.tier_sweep.specs.declared.refusal.SweepRefusal.{SweepRefusal}
 use Rattle.tier_sweep.specs.declared.refusal.SweepRefusal.TheVariants.{StoreFault, MetaFault}
 use Rattle.tier_sweep.specs.Rest.{stays}
-use Rattle.tier_sweep.specs.Sweeping.{MayTake, IsTelling}
+use Rattle.tier_sweep.specs.Sweeping.{MayRemove, IsTelling}
 
 -- a run of calls of the metadata log is refused for its own fault, and because memory ran out
 abbrev pub MetaCause : {T : Type 0} → Result T SweepRefusal → ℕ → ℕ → Type 0
@@ -90,7 +90,7 @@ DeletesOne (Err StoreFault) old new = RanQuietly Delete Fault old new
 DeletesOne (Err e) old new = ⊥
 
 -- one listing that went, and deletions after it
-pub record ListsFirst (Behind : Control call_code → Control call_code → Type 0) (old new : Control call_code) : Type 0 where
+pub record ListsAndDeletes (Behind : Control call_code → Control call_code → Type 0) (old new : Control call_code) : Type 0 where
   pub mid : Control call_code
   pub lists : RanQuietly Keys Went old mid
   pub behind : Behind mid new
@@ -100,26 +100,26 @@ abbrev pub SomeDeleted : Control call_code → Control call_code → Type 0
 SomeDeleted old new = ((count : ℕ) × Deleted old count new) ⊎ FailsToDelete old new
 
 -- these events are reported, or after a refusal some, from the first on
-abbrev pub Tells : {T : Type 0} → List Note → Result T SweepRefusal → List Note → List Note → Type 0
-Tells notes (Ok x) old new = new ≡ old ++ notes
-Tells notes (Err e) old new = IsTelling notes old new
+abbrev pub AppendsNotes : {T : Type 0} → List Note → Result T SweepRefusal → List Note → List Note → Type 0
+AppendsNotes notes (Ok x) old new = new ≡ old ++ notes
+AppendsNotes notes (Err e) old new = IsTelling notes old new
 
 -- and so it is of each list of events that a power cut may leave then
 abbrev pub LeavesTelling : {T : Type 0} → List Note → Result T SweepRefusal → List Note → Content → Type 0
-LeavesTelling notes result old new = (left : List Note) → Left new left → Tells notes result old left
+LeavesTelling notes result old new = (left : List Note) → Left new left → AppendsNotes notes result old left
 
 -- one object goes, or after a refusal it may have gone, and no other
-pub record Takes {T : Type 0} (key : ObjectKey) (result : Result T SweepRefusal) (old new : store.Objects) : Type 0 where
+pub record RemovesObject {T : Type 0} (key : ObjectKey) (result : Result T SweepRefusal) (old new : store.Objects) : Type 0 where
   pub done : Bool
   pub went : IsOk result → IsTrue done
   pub taken : store.MadeAt key (store.made_if done removed) old new
 
 -- those of these keys' objects go that don't stay, and no other
 pub record TakesAll (entries : List Entry) (keys : List ObjectKey) (old new : store.Objects) : Type 0 where
-  pub only : MayTake entries old new
+  pub only : MayRemove entries old new
   pub gone : (key : ObjectKey) → In key keys → stays entries key.id ≡ false → new key ≡ None
 
 -- all of them, or after a refusal some
 abbrev pub TakesEach : {T : Type 0} → List Entry → List ObjectKey → Result T SweepRefusal → store.Objects → store.Objects → Type 0
 TakesEach entries keys (Ok x) old new = TakesAll entries keys old new
-TakesEach entries keys (Err e) old new = MayTake entries old new
+TakesEach entries keys (Err e) old new = MayRemove entries old new

@@ -3,7 +3,7 @@
 --   form                         says
 --   AreNamed objects entries     each object's id has an entry
 --   NoneIsLeft objects entries   no object exists of an id whose deletion is finished
---   AllRest entries              neither a copy nor a deletion is in progress
+--   NoneUnderWay entries              neither a copy nor a deletion is in progress
 --
 -- Source: KIP-405, where a copy is recorded as started before its first object is put, and a deletion as finished after
 -- its last object is gone. So what a broker that stopped for good leaves is a copy or a deletion in progress, with any
@@ -42,5 +42,5 @@ abbrev pub NoneIsLeft : Objects → List Entry → Type 0
 NoneIsLeft objects entries = (key : ObjectKey) → IsSome (objects key) → state_of key.id entries ≢ Some DeleteFinished
 
 -- neither a copy nor a deletion is in progress
-abbrev pub AllRest : List Entry → Type 0
-AllRest entries = AllByRecursion (λ entry. is_under_way entry.state ≡ false) entries
+abbrev pub NoneUnderWay : List Entry → Type 0
+NoneUnderWay entries = AllByRecursion (λ entry. is_under_way entry.state ≡ false) entries

@@ -17,7 +17,7 @@ use Rattle.tier_base.specs.declared.plain.State.{State}
 use Rattle.tier_base.specs.declared.plain.State.TheVariants.{CopyStarted, DeleteStarted, DeleteFinished}
 use Rattle.tier_base.specs.declared.object_key.ObjectKey.{ObjectKey}
 use Rattle.tier_base.specs.Counts.{counted, Rose}
-use Rattle.tier_base.specs.Told.{Names}
+use Rattle.tier_base.specs.Told.{NamesAllHeld}
 use Rattle.segment_meta.specs.declared.note.Entry.{Entry}
 use Rattle.segment_meta.specs.declared.note.Note.{Note}
 use Rattle.segment_meta.specs.declared.note.Note.TheVariants.{Update}
@@ -63,8 +63,9 @@ abbrev pub count_swept : List Entry → List ObjectKey → ℕ
 count_swept entries keys = length (filter (λ key. not (stays entries key.id)) keys)
 
 -- some objects that don't stay are gone, and no other
-abbrev pub MayTake : List Entry → store.Objects → store.Objects → Type 0
-MayTake entries old new = (key : ObjectKey) → (new key ≡ old key) ⊎ ((stays entries key.id ≡ false) × (new key ≡ None))
+abbrev pub MayRemove : List Entry → store.Objects → store.Objects → Type 0
+MayRemove entries old new =
+    (key : ObjectKey) → (new key ≡ old key) ⊎ ((stays entries key.id ≡ false) × (new key ≡ None))
 
 -- some of these events are reported, from the first on
 pub record IsTelling (notes old new : List Note) : Type 0 where
@@ -91,7 +92,7 @@ pub record IsSwept (old new : SweptTier) (swept : ℕ) : Type 0 where
   pub objects : (key : ObjectKey) → new.objects key ≡ kept_of (fold old.notes) old.objects key
   pub notes : new.notes ≡ old.notes ++ starts_of (fold old.notes) ++ ends_of (fold old.notes)
   pub keys : List ObjectKey
-  pub named : Names old.objects keys
+  pub named : NamesAllHeld old.objects keys
   pub count : swept ≡ count_swept (fold old.notes) keys
 
 -- some of the starts are reported, and no object has gone
@@ -102,7 +103,7 @@ pub record IsStarting (old new : SweptTier) : Type 0 where
 -- all of them are, and some objects have gone
 pub record IsTaking (old new : SweptTier) : Type 0 where
   pub notes : new.notes ≡ old.notes ++ starts_of (fold old.notes)
-  pub objects : MayTake (fold old.notes) old.objects new.objects
+  pub objects : MayRemove (fold old.notes) old.objects new.objects
 
 -- all objects have gone, and some of the ends are reported
 pub record IsEnding (old new : SweptTier) : Type 0 where
@@ -121,10 +122,10 @@ LeavesUnder store log store_now log_now = (notes : List Note) → meta.Left log_
     → (before : List Note) × meta.Left log before × IsUnderSweep (tier_with store before) (tier_with store_now notes)
 
 -- a refusal for a fault has its cause: that device's count of faults has risen
-abbrev pub HasCause : {T : Type 0} → Result T SweepRefusal → ℕ → ℕ → ℕ → ℕ → Type 0
-HasCause (Err StoreFault) store store_now log log_now = Rose store store_now
-HasCause (Err MetaFault) store store_now log log_now = Rose log log_now
-HasCause result store store_now log log_now = Unit {0}
+abbrev pub SweepHasCause : {T : Type 0} → Result T SweepRefusal → ℕ → ℕ → ℕ → ℕ → Type 0
+SweepHasCause (Err StoreFault) store store_now log log_now = Rose store store_now
+SweepHasCause (Err MetaFault) store store_now log log_now = Rose log log_now
+SweepHasCause result store store_now log log_now = Unit {0}
 
 -- and no other answer hides a fault: the counts of faults are as before, but that of the device whose fault is
 -- reported, which has one more

@@ -6,14 +6,15 @@ ghost use Rattle.tier_base.specs.declared.plain.State.TheVariants.{CopyFinished}
 ghost use Rattle.tier_base.specs.declared.object_key.ObjectKey.{ObjectKey};
 ghost use Rattle.meta_log.specs.Content.{AreNotes};
 ghost use Rattle.remote_view.specs.Fold.{fold, entry_of, state_of};
-ghost use Rattle.tier_sweep.specs.Rest.{AreNamed, NoneIsLeft, AllRest};
+ghost use Rattle.tier_sweep.specs.Rest.{AreNamed, NoneIsLeft, NoneUnderWay};
 ghost use Rattle.tier_sweep.specs.Sweeping.{SweptTier, IsSwept, IsUnderSweep, kept_of, starts_of, ends_of, rested};
 
 /// What is swept rests: each object's id has an entry, no object exists of a deleted segment, and no copy or deletion
 /// is in progress.
 pub fn what_is_swept_rests()
     ensures { (old new : SweptTier) (n : ℕ) → AreNotes old.notes → IsSwept old new n
-        → AreNamed new.objects (fold new.notes) × NoneIsLeft new.objects (fold new.notes) × AllRest (fold new.notes) }
+        → AreNamed new.objects (fold new.notes) × NoneIsLeft new.objects (fold new.notes)
+        × NoneUnderWay (fold new.notes) }
 {}
 
 /// A sweep makes finished deletions of what is in progress, and nothing else of the entries.

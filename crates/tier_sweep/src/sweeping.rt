@@ -5,14 +5,14 @@
 //! refused sweep a further one finishes the work.
 
 ghost use Rattle.std.specs.Prelude.{◌≡◌, ◌⊎◌, IfOk, OnOk, OnErr, IsTrue};
-ghost use Rattle.tier_base.specs.Told.{Names};
+ghost use Rattle.tier_base.specs.Told.{NamesAllHeld};
 ghost use Rattle.tier_base.specs.Device.{RanQuietly, Went, Lasts};
 ghost use Rattle.object_store.specs.declared.call.StoreCall.TheVariants.{Keys};
 ghost use Rattle.object_store.specs.Content as objects;
 ghost use Rattle.meta_log.specs.Content as notes;
 ghost use Rattle.remote_view.specs.Fold.{fold};
-ghost use Rattle.tier_sweep.specs.Sweeping.{IsSwept, IsUnderSweep, LeavesUnder, HasCause, IsQuiet, tier_of};
-ghost use Rattle.tier_sweep.specs.Parts.{MetaRuns, StoreRuns, AllWent, Deleted, SomeDeleted, ListsFirst};
+ghost use Rattle.tier_sweep.specs.Sweeping.{IsSwept, IsUnderSweep, LeavesUnder, SweepHasCause, IsQuiet, tier_of};
+ghost use Rattle.tier_sweep.specs.Parts.{MetaRuns, StoreRuns, AllWent, Deleted, SomeDeleted, ListsAndDeletes};
 
 use crate::refusal::SweepRefusal;
 use crate::taking::take_all;
@@ -42,7 +42,7 @@ pub fn sweep<S: Store, M: MetaLog>(
     ensures left { IsTrue (S.content store.old).is_observable → IsTrue (M.content meta.old).is_observable → LeavesUnder
         (S.content store.old) (M.content meta.old) (S.content store.new) (M.content meta.new) }
     ensures told { IsTrue (M.content meta.old).is_observable → OnOk result (notes.LeavesTold (M.content meta.new)) }
-    ensures cause { HasCause result (S.control store.old).faults (S.control store.new).faults
+    ensures cause { SweepHasCause result (S.control store.old).faults (S.control store.new).faults
         (M.control meta.old).faults (M.control meta.new).faults }
 
     // Of each device whether it reports, and its calls: no fault is hidden.
@@ -53,11 +53,11 @@ pub fn sweep<S: Store, M: MetaLog>(
     ensures quiet { IsQuiet result (S.control store.old).faults (S.control store.new).faults
         (M.control meta.old).faults (M.control meta.new).faults }
     ensures store_went { IfOk result (λ swept.
-        ListsFirst (λ old new. Deleted old swept new) (S.control store.old) (S.control store.new)) }
+        ListsAndDeletes (λ old new. Deleted old swept new) (S.control store.old) (S.control store.new)) }
     ensures meta_went { OnOk result (AllWent (M.control meta.old) (M.control meta.new)) }
 
     // Nothing is reported before the store was listed.
-    ensures listed { ListsFirst SomeDeleted (S.control store.old) (S.control store.new)
+    ensures listed { ListsAndDeletes SomeDeleted (S.control store.old) (S.control store.new)
         ⊎ notes.Keeps (M.content meta.old) (M.content meta.new) }
 {
     let view = read_view(alloc, meta)?;
@@ -87,7 +87,7 @@ fn read_view<M: MetaLog>(alloc: Global, meta: &mut M) -> Result<View, SweepRefus
 /// Lists the objects.
 fn list<S: Store>(store: &mut S) -> Result<Row<ObjectKey>, SweepRefusal>
     ensures keys { IsTrue (S.content store.old).is_observable
-        → IfOk result (λ keys. Names (S.content store.old).objects keys) }
+        → IfOk result (λ keys. NamesAllHeld (S.content store.old).objects keys) }
     ensures content { objects.Keeps (S.content store.old) (S.content store.new) }
     ensures once { OnOk result (RanQuietly Keys Went (S.control store.old) (S.control store.new)) }
     ensures calls { StoreRuns result (S.control store.old) (S.control store.new) }

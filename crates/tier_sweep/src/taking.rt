@@ -3,7 +3,7 @@
 ghost use Rattle.std.specs.Prelude.{◌≡◌, IfOk, IsTrue};
 ghost use Rattle.tier_sweep.specs.Rest.{stays};
 ghost use Rattle.tier_sweep.specs.Sweeping.{count_swept};
-ghost use Rattle.tier_sweep.specs.Parts.{StoreRuns, Deletes, DeletesOne, Takes, TakesEach};
+ghost use Rattle.tier_sweep.specs.Parts.{StoreRuns, Deletes, DeletesOne, RemovesObject, TakesEach};
 
 use crate::refusal::SweepRefusal;
 use object_store::{ObjectKey, Store};
@@ -37,7 +37,7 @@ pub(crate) fn take_all<S: Store>(
 fn take<S: Store>(store: &mut S, key: &ObjectKey) -> Result<(), SweepRefusal>
     ensures is_observable { (S.content store.new).is_observable ≡ (S.content store.old).is_observable }
     ensures objects { IsTrue (S.content store.old).is_observable
-        → Takes key.now result (S.content store.old).objects (S.content store.new).objects }
+        → RemovesObject key.now result (S.content store.old).objects (S.content store.new).objects }
     ensures deletes { DeletesOne result (S.control store.old) (S.control store.new) }
     ensures calls { StoreRuns result (S.control store.old) (S.control store.new) }
 {

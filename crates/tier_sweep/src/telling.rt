@@ -7,7 +7,7 @@ ghost use Rattle.tier_base.specs.declared.plain.State.TheVariants.{CopyStarted};
 ghost use Rattle.meta_log.specs.Content.{LeavesTold};
 ghost use Rattle.tier_sweep.specs.Rest.{is_under_way};
 ghost use Rattle.tier_sweep.specs.Sweeping.{is_copying, note_of, starts_of, ends_of};
-ghost use Rattle.tier_sweep.specs.Parts.{MetaRuns, Tells, LeavesTelling};
+ghost use Rattle.tier_sweep.specs.Parts.{MetaRuns, AppendsNotes, LeavesTelling};
 
 use crate::refusal::SweepRefusal;
 use meta_log::MetaLog;
@@ -23,7 +23,7 @@ pub(crate) fn tell_starts<M: MetaLog>(
 ) -> Result<(), SweepRefusal>
     ensures is_observable { (M.content meta.new).is_observable ≡ (M.content meta.old).is_observable }
     ensures notes { IsTrue (M.content meta.old).is_observable
-        → Tells (starts_of entries.now) result (M.content meta.old).notes (M.content meta.new).notes }
+        → AppendsNotes (starts_of entries.now) result (M.content meta.old).notes (M.content meta.new).notes }
     ensures left { IsTrue (M.content meta.old).is_observable → LeavesTold (M.content meta.old)
         → LeavesTelling (starts_of entries.now) result (M.content meta.old).notes (M.content meta.new) }
     ensures calls { MetaRuns result (M.control meta.old) (M.control meta.new) }
@@ -44,7 +44,7 @@ pub(crate) fn tell_ends<M: MetaLog>(
 ) -> Result<(), SweepRefusal>
     ensures is_observable { (M.content meta.new).is_observable ≡ (M.content meta.old).is_observable }
     ensures notes { IsTrue (M.content meta.old).is_observable
-        → Tells (ends_of entries.now) result (M.content meta.old).notes (M.content meta.new).notes }
+        → AppendsNotes (ends_of entries.now) result (M.content meta.old).notes (M.content meta.new).notes }
     ensures left { IsTrue (M.content meta.old).is_observable → LeavesTold (M.content meta.old)
         → LeavesTelling (ends_of entries.now) result (M.content meta.old).notes (M.content meta.new) }
     ensures calls { MetaRuns result (M.control meta.old) (M.control meta.new) }
@@ -67,7 +67,7 @@ fn tell<M: MetaLog>(
     requires { state ≢ CopyStarted }
     ensures is_observable { (M.content meta.new).is_observable ≡ (M.content meta.old).is_observable }
     ensures notes { IsTrue (M.content meta.old).is_observable
-        → Tells (note_of state entry.now ∷ []) result (M.content meta.old).notes (M.content meta.new).notes }
+        → AppendsNotes (note_of state entry.now ∷ []) result (M.content meta.old).notes (M.content meta.new).notes }
     ensures left { IsTrue (M.content meta.old).is_observable → LeavesTold (M.content meta.old)
         → LeavesTelling (note_of state entry.now ∷ []) result (M.content meta.old).notes (M.content meta.new) }
     ensures calls { MetaRuns result (M.control meta.old) (M.control meta.new) }

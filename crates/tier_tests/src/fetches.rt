@@ -3,7 +3,7 @@
 //! No test holds a fetch: a story is a table of fetches, each with what it comes to.
 
 ghost use Rattle.std.specs.Prelude.{◌<◌, IsTrue};
-ghost use Rattle.tier_fetch.specs.Turns.{IsFor};
+ghost use Rattle.tier_fetch.specs.Turns.{IsPieceFor};
 
 use crate::given::{
     FINISHED, PARTITION, batches, failing_log, failing_store, id, key, puts, shared, tells,
@@ -111,7 +111,7 @@ fn came_to(turn: &FetchTurn, held: &[u8]) -> Turned {
 /// Whether a turn may be one of a fetch.
 fn may_go(wanted: &FetchRequest, next: &FetchStep) -> bool
     ensures below { IsTrue result → wanted.now.offset < wanted.now.mark }
-    ensures holds { IsTrue result → IsFor wanted.now.offset next.now }
+    ensures holds { IsTrue result → IsPieceFor wanted.now.offset next.now }
 {
     let holds = match next {
         FetchStep::Refresh => true,

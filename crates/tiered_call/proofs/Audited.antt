@@ -12,14 +12,14 @@ use Rattle.device_yard.specs.Control.{Control}
 use Rattle.device_yard.specs.YardContent.{YardContent}
 use Rattle.yard_audit.specs.declared.auditing.Audited.{Audited}
 use Rattle.yard_audit.specs.Reports.{TellsAudit}
-use Rattle.yard_audit.specs.Tiers.{AllRest, IsBack}
+use Rattle.yard_audit.specs.Tiers.{YardRests, StaysOut}
 use Rattle.tiered_call.specs.declared.status.Status.TheVariants.{WriteFault}
 use Rattle.tiered_call.specs.Rounds.{AuditsYard, status_of}
 
 module _ {D S M W : Type 0} (disk : DiskGhosts D) (store : StoreGhosts S) (meta : MetaGhosts M) (sink : SinkGhosts W)
     (held held' : YardContent D S M) (control control' : Control) (out out' : W) (told : Audited)
-    (tells_so : TellsAudit disk.content store.content meta.content held told) (rests : IsTrue held.is_observable → AllRest disk.content store.content meta.content held held')
-    (same : held'.is_observable ≡ held.is_observable) (back : IsBack control control') where
+    (tells_so : TellsAudit disk.content store.content meta.content held told) (rests : IsTrue held.is_observable → YardRests disk.content store.content meta.content held held')
+    (same : held'.is_observable ≡ held.is_observable) (back : StaysOut control control') where
   -- it was written
   pub written : Appends (sink.written out) (sink.written out') told.text.items
       → AuditsYard disk store meta sink held held' control control' out out' (status_of told.unsound)

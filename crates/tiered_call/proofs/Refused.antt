@@ -12,8 +12,8 @@ use Rattle.object_store.specs.Content as store
 use Rattle.object_store.specs.declared.store.Store.{Ghosts as StoreGhosts}
 use Rattle.meta_log.specs.Content as log
 use Rattle.meta_log.specs.declared.log.MetaLog.{Ghosts as MetaGhosts}
-use Rattle.device_yard.specs.Control.{Control, Names}
-use Rattle.device_yard.specs.YardContent.{YardContent, Has, Both, Same, IsBare, IsName, IsFirst}
+use Rattle.device_yard.specs.Control.{Control, NamesFirst}
+use Rattle.device_yard.specs.YardContent.{YardContent, IsThereWith, Both, Same, IsBare, IsNameInYard, IsFirstName}
 use Rattle.script_lang.specs.declared.refusal.Why.{Why}
 use Rattle.script_lang.specs.declared.script.Script.{Script}
 use Rattle.run_yard.specs.Reading.{IsRefusedSo}
@@ -25,21 +25,21 @@ use Rattle.tiered_call.specs.Yards.{ended, StopsOver, HasNoTrace}
 
 module _ {D S M : Type 0} (files : D → disk.Content) (objects : S → store.Content) (notes : M → log.Content) where
   object_back : (a b : Option S) → Both (λ s t. store.Keeps (objects s) (objects t)) a b
-      → Has (λ s. (k : ObjectKey) × IsSome ((objects s).objects k)) b → Has (λ s. (k : ObjectKey) × IsSome ((objects s).objects k)) a
+      → IsThereWith (λ s. (k : ObjectKey) × IsSome ((objects s).objects k)) b → IsThereWith (λ s. (k : ObjectKey) × IsSome ((objects s).objects k)) a
   object_back None None both has = has
   object_back None (Some t) both has = absurd both
   object_back (Some s) None both has = absurd both
   object_back (Some s) (Some t) both has = (has.0, subst IsSome (both.objects has.0) has.1)
 
   note_back : (a b : Option M) → Both (λ m n. log.Keeps (notes m) (notes n)) a b
-      → Has (λ m. (notes m).notes ≢ []) b → Has (λ m. (notes m).notes ≢ []) a
+      → IsThereWith (λ m. (notes m).notes ≢ []) b → IsThereWith (λ m. (notes m).notes ≢ []) a
   note_back None None both has = has
   note_back None (Some n) both has = absurd both
   note_back (Some m) None both has = absurd both
   note_back (Some m) (Some n) both has = λ none. has (both.notes ∙ none)
 
   registry_on : (a b : Option D) → Both (λ d e. disk.Keeps (files d) (files e)) a b
-      → Has (λ d. IsSome ((files d).files Registry)) a → Has (λ d. IsSome ((files d).files Registry)) b
+      → IsThereWith (λ d. IsSome ((files d).files Registry)) a → IsThereWith (λ d. IsSome ((files d).files Registry)) b
   registry_on None None both has = has
   registry_on None (Some e) both has = absurd both
   registry_on (Some d) None both has = absurd both
@@ -47,7 +47,7 @@ module _ {D S M : Type 0} (files : D → disk.Content) (objects : S → store.Co
 
   -- where nothing is named, no partition has an object or a metadata event and no registry, nor has it once the
   -- environment was asked
-  pub still_not_bare : (held found : YardContent D S M) → Same files objects notes held found → IsFirst (IsName files objects notes held) None
+  pub still_not_bare : (held found : YardContent D S M) → Same files objects notes held found → IsFirstName (IsNameInYard files objects notes held) None
       → (p : PartitionId) → IsBare files objects notes found p → ⊥
   still_not_bare held found same none p bare =
       none (codes "p" ++ decimal p.0) (inr (
@@ -62,7 +62,7 @@ module _ {D S M : Type 0} (files : D → disk.Content) (objects : S → store.Co
 module _ {D S M : Type 0} (disk : DiskGhosts D) (store : StoreGhosts S) (meta : MetaGhosts M) where
   -- a refused run's status has its cause
   pub stops_so : (brokers : ℕ) (held found held' : YardContent D S M) (control asked control' : Control) (why : YardRefusal)
-      → Names (Ok None) control asked → Same disk.content store.content meta.content held found
+      → NamesFirst (Ok None) control asked → Same disk.content store.content meta.content held found
       → IsRefusedSo disk.content store.content meta.content brokers found held' asked control' why
       → StopsOver disk store meta brokers held held' control control' (ended why)
   stops_so brokers held found held' control asked control' refusal.Fault names same refused =

@@ -7,14 +7,14 @@ use Rattle.plain_log.specs.declared.command.Config.{Config}
 use Rattle.plain_log.specs.declared.journal.JournalEntry.{JournalEntry}
 use Rattle.script_lang.specs.declared.script.PartScript.{PartScript}
 use Rattle.trace_text.specs.Trace.{journal_text, trace_of}
-use Rattle.run_memory.specs.Run.{IsRunOf}
+use Rattle.run_memory.specs.Run.{IsJournalOf}
 use Rattle.tiered_call.specs.Headline.{AreRunsOf}
-use Rattle.tiered_call.specs.Running.{AddsRun, IsRunText, IsSoFar}
+use Rattle.tiered_call.specs.Running.{AddsRun, IsTextOfScript, IsSoFar}
 
 module _ {D S M : Type 0} (disk : DiskGhosts D) (store : StoreGhosts S) (meta : MetaGhosts M) where
   -- one partition more
   pub runs_snoc : (config : Config) (parts : List PartScript) (runs : List (ℕ × List JournalEntry)) (part : PartScript) (run : ℕ × List JournalEntry)
-      → AreRunsOf disk store meta config parts runs → IsRunOf disk store meta config part run → AreRunsOf disk store meta config (parts ++ part ∷ []) (runs ++ run ∷ [])
+      → AreRunsOf disk store meta config parts runs → IsJournalOf disk store meta config part run → AreRunsOf disk store meta config (parts ++ part ∷ []) (runs ++ run ∷ [])
   runs_snoc config [] [] part run are is = (is, tt)
   runs_snoc config (first ∷ parts) (one ∷ runs) part run are is = (are.0, runs_snoc config parts runs part run are.1 is)
   runs_snoc config [] (one ∷ runs) part run are is = elim are [ ]
@@ -24,8 +24,8 @@ module _ {D S M : Type 0} (disk : DiskGhosts D) (store : StoreGhosts S) (meta : 
   trace_snoc [] run = append-nil (journal_text run.0 run.1)
   trace_snoc (one ∷ runs) run = ap (λ (t : List ℕ). journal_text one.0 one.1 ++ t) (trace_snoc runs run) ∙ sym (append_assoc (journal_text one.0 one.1) (trace_of runs) (journal_text run.0 run.1))
 
-  pub text_snoc : (config : Config) (parts : List PartScript) (part : PartScript) (text new : List ℕ) → IsRunText disk store meta config parts text → AddsRun disk store meta config part text new
-      → IsRunText disk store meta config (parts ++ part ∷ []) new
+  pub text_snoc : (config : Config) (parts : List PartScript) (part : PartScript) (text new : List ℕ) → IsTextOfScript disk store meta config parts text → AddsRun disk store meta config part text new
+      → IsTextOfScript disk store meta config (parts ++ part ∷ []) new
   text_snoc config parts part text new t a = record {
     runs = t.runs ++ a.run ∷ [];
     are = runs_snoc config parts t.runs part a.run t.are a.is;

@@ -13,24 +13,24 @@ use Rattle.plain_log.specs.declared.command.Order.{Order}
 use Rattle.plain_log.specs.declared.journal.JournalEntry.{JournalEntry}
 use Rattle.plain_log.specs.Orders.{IsInRange, IsOrderFor, IsListFor, AreListsFor}
 use Rattle.plain_log.specs.Runs.{IsPlainRun}
-use Rattle.plain_executor.specs.Fits.{IsFor, AreFor}
+use Rattle.plain_executor.specs.Fits.{IsBuildableAppend, AreFor}
 use Rattle.plain_executor.proofs.Fitting.{IsListFor as IsMachinesList, lists_for}
 use Rattle.run_summary.specs.declared.told.Told.{Told}
 use Rattle.run_summary.specs.Told.{told_of}
 use Rattle.script_lang.specs.declared.script.PartScript.{PartScript}
-use Rattle.tiered_call.specs.Headline.{IsTold, AreTold}
+use Rattle.tiered_call.specs.Headline.{IsRunSummary, AreRunSummaries}
 use Rattle.tiered_call.specs.Telling.{IsToldRun, AreToldRuns, IsToldSoFar}
 use Rattle.tiered_call.proofs.Running.{runs_snoc}
 
 -- the plain log's machine takes what a world takes
-is_for : (command : Command) → IsInRange command → IsFor command
+is_for : (command : Command) → IsInRange command → IsBuildableAppend command
 is_for (Append recs) h = h
 is_for other h = tt
 
 pub fits : (config : Config) (lists : List ActorList) → AreListsFor config lists → AreFor lists
 fits config lists h =
     lists_for lists (All-weaker (IsListFor config) IsMachinesList
-    (λ l own. All-weaker (IsOrderFor config) (λ (order : Order). IsFor order.command) (λ order is. is_for order.command is.command) l.orders own.orders) lists h.each)
+    (λ l own. All-weaker (IsOrderFor config) (λ (order : Order). IsBuildableAppend order.command) (λ order is. is_for order.command is.command) l.orders own.orders) lists h.each)
 
 -- what a journal comes to, by other names
 pub told_at : (config : Config) (partition : ℕ) (lists l : List ActorList) (journal j : List JournalEntry) (t : Option Told) → l ≡ lists → j ≡ journal
@@ -45,7 +45,7 @@ run_is_told config partition lists journal run none = absurd (let is = run.repla
 
 -- one partition more
 told_snoc : (config : Config) (parts : List PartScript) (runs : List (ℕ × List JournalEntry)) (told : List Told) (part : PartScript) (run : ℕ × List JournalEntry) (one : Told)
-    → AreTold config parts runs told → IsTold config part run one → AreTold config (parts ++ part ∷ []) (runs ++ run ∷ []) (told ++ one ∷ [])
+    → AreRunSummaries config parts runs told → IsRunSummary config part run one → AreRunSummaries config (parts ++ part ∷ []) (runs ++ run ∷ []) (told ++ one ∷ [])
 told_snoc config [] [] [] part run one are is = (is, tt)
 told_snoc config (p ∷ parts) (r ∷ runs) (t ∷ told) part run one are is = (are.0, told_snoc config parts runs told part run one are.1 is)
 told_snoc config [] [] (t ∷ told) part run one are is = elim are [ ]

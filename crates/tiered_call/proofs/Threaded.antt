@@ -12,8 +12,8 @@ use Rattle.script_lang.specs.declared.script.Script.{Script}
 use Rattle.script_lang.specs.Fit.{IsFit}
 use Rattle.script_lang.specs.Script.{script_in}
 use Rattle.trace_text.specs.Trace.{journal_text}
-use Rattle.run_threaded.specs.Traced.{IsPart, IsRunByThreads}
-use Rattle.tiered_call.specs.Headline.{IsTrace, IsTraceByThreads, AreRunsOf, AreRunsByThreads}
+use Rattle.run_threaded.specs.Traced.{IsPartScript, IsRunByThreads}
+use Rattle.tiered_call.specs.Headline.{IsTraceOfScript, IsTraceByThreads, AreRunsOf, AreRunsByThreads}
 use Rattle.tiered_call.specs.Threads.{AddsThreadedRun, IsSoFarByThreads}
 use Rattle.tiered_call.proofs.Running.{trace_snoc}
 
@@ -28,7 +28,7 @@ seam (y ∷ before) x after = seam before x after
 
 -- the partition after so many is the one at that place
 pub part_behind : (bytes copy : List ℕ) (script : Script) (before after rest : List PartScript) (part : PartScript) (place : ℕ) → script_in bytes ≡ Ok script → IsFit script → copy ≡ bytes
-    → rest ≡ part ∷ after → before ++ rest ≡ script.parts → place ≡ length before → IsPart copy place script.config part
+    → rest ≡ part ∷ after → before ++ rest ≡ script.parts → place ≡ length before → IsPartScript copy place script.config part
 part_behind bytes copy script before after rest part place reads fit same next all here = record {
   read = script;
   reads = ap script_in same ∙ reads;
@@ -52,7 +52,7 @@ module _ {D S M : Type 0} (disk : DiskGhosts D) (store : StoreGhosts S) (meta : 
   some_order config [] (run ∷ runs) are = elim are [ ]
   some_order config (part ∷ parts) [] are = elim are [ ]
 
-  pub trace_in_some_order : (bytes text : List ℕ) → IsTrace disk store meta bytes text → IsTraceByThreads disk store meta bytes text
+  pub trace_in_some_order : (bytes text : List ℕ) → IsTraceOfScript disk store meta bytes text → IsTraceByThreads disk store meta bytes text
   trace_in_some_order bytes text t = record {
     script = t.script;
     read = t.read;

@@ -18,29 +18,31 @@ use Rattle.script_lang.specs.Script.{script_in}
 use Rattle.trace_text.specs.Trace.{trace_of}
 use Rattle.run_summary.specs.declared.told.Told.{Told}
 use Rattle.run_summary.specs.Told.{told_of, summary_text}
-use Rattle.run_memory.specs.Run.{IsRunOf}
+use Rattle.run_memory.specs.Run.{IsJournalOf}
 use Rattle.run_threaded.specs.Traced.{IsRunByThreads}
 
 -- this is what the partition's run comes to
-abbrev pub IsTold : Config → PartScript → ℕ × List JournalEntry → Told → Type 0
-IsTold config part run told = told_of config run.0 part.lists run.1 ≡ Some told
+abbrev pub IsRunSummary : Config → PartScript → ℕ × List JournalEntry → Told → Type 0
+IsRunSummary config part run told = told_of config run.0 part.lists run.1 ≡ Some told
 
 -- and this what the partitions' runs come to
-abbrev pub AreTold : Config → List PartScript → List (ℕ × List JournalEntry) → List Told → Type 0
-AreTold config [] [] [] = Unit {0}
-AreTold config (part ∷ parts) (run ∷ runs) (one ∷ told) = IsTold config part run one × AreTold config parts runs told
-AreTold config parts runs told = ⊥
+abbrev pub AreRunSummaries : Config → List PartScript → List (ℕ × List JournalEntry) → List Told → Type 0
+AreRunSummaries config [] [] [] = Unit {0}
+AreRunSummaries config (part ∷ parts) (run ∷ runs) (one ∷ told) =
+    IsRunSummary config part run one × AreRunSummaries config parts runs told
+AreRunSummaries config parts runs told = ⊥
 
 module _ {D S M : Type 0} (disk : DiskGhosts D) (store : StoreGhosts S) (meta : MetaGhosts M) where
   -- each partition has its run
   abbrev pub AreRunsOf : Config → List PartScript → List (ℕ × List JournalEntry) → Type 0
   AreRunsOf config [] [] = Unit {0}
-  AreRunsOf config (part ∷ parts) (run ∷ runs) = IsRunOf disk store meta config part run × AreRunsOf config parts runs
+  AreRunsOf config (part ∷ parts) (run ∷ runs) =
+      IsJournalOf disk store meta config part run × AreRunsOf config parts runs
   AreRunsOf config [] (run ∷ runs) = ⊥
   AreRunsOf config (part ∷ parts) [] = ⊥
 
   -- the script is valid, and the text is the trace of a run of each of its partitions
-  pub record IsTrace (bytes text : List ℕ) : Type 0 where
+  pub record IsTraceOfScript (bytes text : List ℕ) : Type 0 where
     pub script : Script
     pub read : script_in bytes ≡ Ok script
     pub runs : List (ℕ × List JournalEntry)
@@ -69,7 +71,7 @@ module _ {D S M : Type 0} (disk : DiskGhosts D) (store : StoreGhosts S) (meta : 
     pub runs : List (ℕ × List JournalEntry)
     pub are : AreRunsOf script.config script.parts runs
     pub told : List Told
-    pub tell : AreTold script.config script.parts runs told
+    pub tell : AreRunSummaries script.config script.parts runs told
     pub spelled : text ≡ summary_text told
 
   -- a summary of the script was written

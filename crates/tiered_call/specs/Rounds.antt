@@ -19,7 +19,7 @@ use Rattle.yard_audit.specs.declared.refusal.RoundRefusal.{RoundRefusal}
 use Rattle.yard_audit.specs.declared.refusal.RoundRefusal.TheVariants.{Fault, NoMemory}
 use Rattle.yard_audit.specs.Reports.{TellsAudit, TellsSweep}
 use Rattle.yard_audit.specs.Rounds.{IsUnderSweepIn}
-use Rattle.yard_audit.specs.Tiers.{AllRest, DisksRest}
+use Rattle.yard_audit.specs.Tiers.{YardRests, DisksRest}
 use Rattle.tiered_call.specs.declared.status.Status.{Status}
 use Rattle.tiered_call.specs.declared.status.Status.TheVariants as ending
 use Rattle.tiered_call.specs.Endings.{IsDoneOrNoMemory}
@@ -85,10 +85,10 @@ module _ {D S M : Type 0} (disk : DiskGhosts D) (store : StoreGhosts S) (meta : 
     pub written : AppendsFront sunk sunk' text
 
 -- why nothing was written
-abbrev pub IsRefused : Status → Type 0
-IsRefused ending.YardFault = Unit {0}
-IsRefused ending.NoMemory = Unit {0}
-IsRefused other = ⊥
+abbrev pub WroteNothing : Status → Type 0
+WroteNothing ending.YardFault = Unit {0}
+WroteNothing ending.NoMemory = Unit {0}
+WroteNothing other = ⊥
 
 module _ {D S M W : Type 0} (disk : DiskGhosts D) (store : StoreGhosts S) (meta : MetaGhosts M) (sink : SinkGhosts W) where
   -- `audit`, over an environment to a sink
@@ -96,7 +96,7 @@ module _ {D S M W : Type 0} (disk : DiskGhosts D) (store : StoreGhosts S) (meta 
     -- what was found is written, and the status reports the first tier that isn't sound
     pub audit : IsWritten status → WritesAudit disk store meta held (sink.written out) (sink.written out') status
     -- nothing of the tiers and of the disks has changed
-    pub rest : IsTrue held.is_observable → AllRest disk.content store.content meta.content held held'
+    pub rest : IsTrue held.is_observable → YardRests disk.content store.content meta.content held held'
     pub is_observable : held'.is_observable ≡ held.is_observable
     -- each device that was provided is back
     pub back : control'.out ≡ control.out
@@ -108,7 +108,7 @@ module _ {D S M W : Type 0} (disk : DiskGhosts D) (store : StoreGhosts S) (meta 
     -- where nothing fails the audit is written, unless memory runs out
     pub complete : ¬ Rose control.faults control'.faults → ¬ Rose (sink.faults out) (sink.faults out') → IsWrittenOrNoMemory status
     -- nothing else touches the sink
-    pub unwritten : IsRefused status → out' ≡ out
+    pub unwritten : WroteNothing status → out' ≡ out
 
   -- `sweep`, over an environment to a sink
   pub record SweepsYard (held held' : YardContent D S M) (control control' : Control) (out out' : W) (status : Status) : Type 0 where
@@ -128,4 +128,4 @@ module _ {D S M W : Type 0} (disk : DiskGhosts D) (store : StoreGhosts S) (meta 
     -- where nothing fails all is done and written, unless memory runs out
     pub complete : ¬ Rose control.faults control'.faults → ¬ Rose (sink.faults out) (sink.faults out') → IsDoneOrNoMemory status
     -- nothing else touches the sink
-    pub unwritten : IsRefused status → out' ≡ out
+    pub unwritten : WroteNothing status → out' ≡ out

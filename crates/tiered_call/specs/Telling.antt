@@ -9,21 +9,21 @@ use Rattle.plain_log.specs.declared.journal.JournalEntry.{JournalEntry}
 use Rattle.run_summary.specs.declared.told.Told.{Told}
 use Rattle.script_lang.specs.declared.script.PartScript.{PartScript}
 use Rattle.script_lang.specs.Fit.{StepsToEnds}
-use Rattle.run_memory.specs.Run.{IsRunOf}
-use Rattle.tiered_call.specs.Headline.{AreRunsOf, IsTold, AreTold}
+use Rattle.run_memory.specs.Run.{IsJournalOf}
+use Rattle.tiered_call.specs.Headline.{AreRunsOf, IsRunSummary, AreRunSummaries}
 
 module _ {D S M : Type 0} (disk : DiskGhosts D) (store : StoreGhosts S) (meta : MetaGhosts M) where
   -- this is what a run of the partition comes to
   pub record IsToldRun (config : Config) (part : PartScript) (told : Told) : Type 0 where
     pub run : ℕ × List JournalEntry
-    pub is : IsRunOf disk store meta config part run
-    pub is_observable : IsTold config part run told
+    pub is : IsJournalOf disk store meta config part run
+    pub is_observable : IsRunSummary config part run told
 
   -- and this what runs of the partitions come to
   pub record AreToldRuns (config : Config) (parts : List PartScript) (told : List Told) : Type 0 where
     pub runs : List (ℕ × List JournalEntry)
     pub are : AreRunsOf disk store meta config parts runs
-    pub tell : AreTold config parts runs told
+    pub tell : AreRunSummaries config parts runs told
 
   -- so far: the parts that were run, those that are left, and what the former came to
   pub record IsToldSoFar (config : Config) (parts rest : List PartScript) (told : List Told) : Type 0 where

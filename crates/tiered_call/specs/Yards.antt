@@ -13,8 +13,8 @@ use Rattle.tier_base.specs.declared.names.PartitionId.{PartitionId}
 use Rattle.disk_model.specs.declared.disk.Disk.{Ghosts as DiskGhosts}
 use Rattle.object_store.specs.declared.store.Store.{Ghosts as StoreGhosts}
 use Rattle.meta_log.specs.declared.log.MetaLog.{Ghosts as MetaGhosts}
-use Rattle.device_yard.specs.Control.{Control, Names}
-use Rattle.device_yard.specs.YardContent.{YardContent, IsFirst, IsName, Same}
+use Rattle.device_yard.specs.Control.{Control, NamesFirst}
+use Rattle.device_yard.specs.YardContent.{YardContent, IsFirstName, IsNameInYard, Same}
 use Rattle.script_lang.specs.declared.refusal.Why.{Why}
 use Rattle.script_lang.specs.declared.script.Script.{Script}
 use Rattle.script_lang.specs.Script.{script_in}
@@ -70,15 +70,16 @@ module _ {D S M : Type 0} (disk : DiskGhosts D) (store : StoreGhosts S) (meta : 
   -- the environment answered this name and provided nothing, what it holds is the same, and over one that reports the
   -- name is its first
   pub record AnswersName (name : List ℕ) (held held' : YardContent D S M) (control control' : Control) : Type 0 where
-    pub names : Names (Ok (Some name)) control control'
+    pub names : NamesFirst (Ok (Some name)) control control'
     pub same : Same disk.content store.content meta.content held held'
-    pub first : IsTrue held.is_observable → IsFirst (IsName disk.content store.content meta.content held) (Some name)
+    pub first : IsTrue held.is_observable
+        → IsFirstName (IsNameInYard disk.content store.content meta.content held) (Some name)
 
   -- the environment answered no name and holds what it held, and then a partition's registry refused a run with so many
   -- brokers
   pub record RegistryRefuses (brokers : ℕ) (why : YardRefusal) (held held' : YardContent D S M) (control control' : Control) : Type 0 where
     pub asked : Control
-    pub names : Names (Ok None) control asked
+    pub names : NamesFirst (Ok None) control asked
     pub found : YardContent D S M
     pub same : Same disk.content store.content meta.content held found
     pub refused : IsRefusedSo disk.content store.content meta.content brokers found held' asked control' why
@@ -113,8 +114,9 @@ module _ {D S M : Type 0} (disk : DiskGhosts D) (store : StoreGhosts S) (meta : 
   -- the script over the environment's devices, which are all back
   pub record RunsOver (script : Script) (text : List ℕ) (held held' : YardContent D S M) (control control' : Control) : Type 0 where
     pub asked : Control
-    pub names : Names (Ok None) control asked
-    pub nameless : IsTrue held.is_observable → IsFirst (IsName disk.content store.content meta.content held) None
+    pub names : NamesFirst (Ok None) control asked
+    pub nameless : IsTrue held.is_observable
+        → IsFirstName (IsNameInYard disk.content store.content meta.content held) None
     pub found : YardContent D S M
     pub same : Same disk.content store.content meta.content held found
     pub text_is : IsReadAndRun disk store meta script.config script.parts found held' text asked control'

@@ -8,7 +8,7 @@ ghost use Rattle.script_lang.specs.declared.refusal.Why.{Why};
 ghost use Rattle.script_lang.specs.declared.script.Script.{Script as ScriptOf};
 ghost use Rattle.script_lang.specs.Fit.{IsFit};
 ghost use Rattle.script_lang.specs.Script.{script_in};
-ghost use Rattle.run_threaded.specs.Traced.{IsPart};
+ghost use Rattle.run_threaded.specs.Traced.{IsPartScript};
 ghost use Rattle.tiered_call.specs.Headline.{IsTraceByThreads};
 ghost use Rattle.tiered_call.specs.Threads.{AddsThreadedRun, IsTextByThreads};
 ghost use Rattle.tiered_call.specs.Endings.{Simulates};
@@ -41,7 +41,7 @@ fn begun(
     config: Config,
     part: PartScript,
 ) -> Result<Run, AllocError>
-    requires { IsPart script place config part }
+    requires { IsPartScript script place config part }
 {
     let PartScript {
         partition,

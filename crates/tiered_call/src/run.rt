@@ -7,8 +7,8 @@
 ghost use Rattle.std.specs.Prelude.{◌≡◌, ◌<◌, ◌-◌, ◌^◌, ℕ, Ok, None, length, IfOk, IfErr, OnOk, IsTrue};
 ghost use Rattle.script_lang.specs.Fit.{IsFit};
 ghost use Rattle.script_lang.specs.Script.{script_in};
-ghost use Rattle.device_yard.specs.Control.{Names};
-ghost use Rattle.device_yard.specs.YardContent.{IsFirst, IsName, Same};
+ghost use Rattle.device_yard.specs.Control.{NamesFirst};
+ghost use Rattle.device_yard.specs.YardContent.{IsFirstName, IsNameInYard, Same};
 ghost use Rattle.run_yard.specs.Reading.{IsRefusedSo};
 ghost use Rattle.tiered_call.specs.Yards.{ended, IsOfScript, AnswersName, StopsOver, HasNoTrace, RunsOver, IsTraceOver, RunsInYard};
 
@@ -22,9 +22,9 @@ use tier_base::{ReadRefusal, Sink, Source, Trouble, read_all, write_all};
 
 /// Asks an environment for a name.
 fn ask<Y: Yard>(yard: &mut Y) -> Result<(), Status>
-    ensures names { OnOk result (Names (Ok None) (Y.control yard.old) (Y.control yard.new)) }
+    ensures names { OnOk result (NamesFirst (Ok None) (Y.control yard.old) (Y.control yard.new)) }
     ensures nameless { OnOk result (IsTrue (Y.held yard.old).is_observable
-        → IsFirst (IsName Y.D.content Y.S.content Y.M.content (Y.held yard.old)) None) }
+        → IsFirstName (IsNameInYard Y.D.content Y.S.content Y.M.content (Y.held yard.old)) None) }
     ensures same { OnOk result (Same Y.D.content Y.S.content Y.M.content (Y.held yard.old) (Y.held yard.new)) }
     ensures stops { IfErr result (λ status. (brokers : ℕ) → StopsOver Y.D.Disk Y.S.Store Y.M.MetaLog brokers (Y.held yard.old)
         (Y.held yard.new) (Y.control yard.old) (Y.control yard.new) status) }

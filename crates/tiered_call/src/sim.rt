@@ -8,8 +8,8 @@ ghost use Rattle.plain_log.specs.Orders.{AreListsFor, IsConfig};
 ghost use Rattle.script_lang.specs.declared.refusal.Why.{Why};
 ghost use Rattle.script_lang.specs.Fit.{StepsToEnds};
 ghost use Rattle.script_lang.specs.Script.{script_in};
-ghost use Rattle.tiered_call.specs.Headline.{IsTrace};
-ghost use Rattle.tiered_call.specs.Running.{AddsRun, IsRunText};
+ghost use Rattle.tiered_call.specs.Headline.{IsTraceOfScript};
+ghost use Rattle.tiered_call.specs.Running.{AddsRun, IsTextOfScript};
 ghost use Rattle.tiered_call.specs.Endings.{Simulates};
 
 use crate::status::Status;
@@ -51,7 +51,7 @@ fn run_parts(alloc: Global, config: Config, parts: Row<PartScript>) -> Result<Ve
     requires config { IsConfig config }
     requires fit { All (λ part. AreListsFor config part.lists) parts }
     requires ends { All StepsToEnds parts }
-    ensures { IfOk result (λ text. IsRunText ⟦<MemoryDisk as Disk>⟧ ⟦<MemoryStore as Store>⟧ ⟦<MemoryLog as MetaLog>⟧
+    ensures { IfOk result (λ text. IsTextOfScript ⟦<MemoryDisk as Disk>⟧ ⟦<MemoryStore as Store>⟧ ⟦<MemoryLog as MetaLog>⟧
         config parts text.items) }
 {
     let mut text = Vec::new(alloc);
@@ -64,7 +64,7 @@ fn run_parts(alloc: Global, config: Config, parts: Row<PartScript>) -> Result<Ve
 /// Reads a script, runs it, and returns the trace.
 pub(crate) fn trace_of(alloc: Global, script: &[u8]) -> Result<Vec<u8>, ScriptRefusal>
     requires { length script.now < 2 ^ 32 - 1 }
-    ensures trace { IfOk result (λ text. IsTrace ⟦<MemoryDisk as Disk>⟧ ⟦<MemoryStore as Store>⟧ ⟦<MemoryLog as MetaLog>⟧
+    ensures trace { IfOk result (λ text. IsTraceOfScript ⟦<MemoryDisk as Disk>⟧ ⟦<MemoryStore as Store>⟧ ⟦<MemoryLog as MetaLog>⟧
         script.now text.items) }
     ensures bad { (line : ℕ) (why : Why) → IsErrOf result (ScriptRefusal.Bad line why)
         → script_in script.now ≡ Err (line, why) }
@@ -78,7 +78,7 @@ pub(crate) fn trace_of(alloc: Global, script: &[u8]) -> Result<Vec<u8>, ScriptRe
 
 /// Reads a script, runs it, and writes what each of its commands was answered.
 pub fn simulate<R: Source, W: Sink>(alloc: Global, script: &mut R, out: &mut W) -> Status
-    ensures { Simulates (IsTrace ⟦<MemoryDisk as Disk>⟧ ⟦<MemoryStore as Store>⟧ ⟦<MemoryLog as MetaLog>⟧) R.Source W.Sink
+    ensures { Simulates (IsTraceOfScript ⟦<MemoryDisk as Disk>⟧ ⟦<MemoryStore as Store>⟧ ⟦<MemoryLog as MetaLog>⟧) R.Source W.Sink
         script.old script.new out.old out.new result }
 {
     let bytes = match read_all(alloc, script, SCRIPT_LIMIT) {

@@ -3,7 +3,7 @@
 ghost use Rattle.std.specs.Prelude.{◌≡◌, ◌≢◌, ◌↔◌, ◌⊎◌, ℕ, Some, None};
 ghost use Rattle.tiered_call.specs.declared.words.Form.{Form};
 ghost use Rattle.tiered_call.specs.Words.{form_of as form_is};
-ghost use Rattle.tiered_call.specs.Headline.{IsTrace, IsTraceByThreads};
+ghost use Rattle.tiered_call.specs.Headline.{IsTraceOfScript, IsTraceByThreads};
 ghost use Rattle.tiered_call.specs.Endings.{Simulates, Generates};
 ghost use Rattle.tiered_call.specs.Rounds.{AuditsYard, SweepsYard};
 ghost use Rattle.tiered_call.specs.Yards.{IsOfScript, RunsInYard};
@@ -35,7 +35,7 @@ pub fn tiered<H: AllocGlobal + Threads + Wait + Sync, R: Source, Y: Yard, W: Sin
 ) -> Status
     // A script is run: every command of it is answered once and in order, as the plain log allows, and all of that is written.
     ensures simulates { form_is words.now ≡ Some Form.Sim
-        → Simulates (IsTrace ⟦<MemoryDisk as Disk>⟧ ⟦<MemoryStore as Store>⟧ ⟦<MemoryLog as MetaLog>⟧) R.Source W.Sink
+        → Simulates (IsTraceOfScript ⟦<MemoryDisk as Disk>⟧ ⟦<MemoryStore as Store>⟧ ⟦<MemoryLog as MetaLog>⟧) R.Source W.Sink
         script.old script.new out.old out.new result }
 
     // The same where each actor has a thread of its own: each run is one by some schedule.
@@ -88,7 +88,7 @@ pub fn tiered_in_order<H: AllocGlobal, R: Source, Y: Yard, W: Sink>(
 ) -> Status
     // What `tiered` says of these forms.
     ensures simulates { form_is words.now ≡ Some Form.Sim
-        → Simulates (IsTrace ⟦<MemoryDisk as Disk>⟧ ⟦<MemoryStore as Store>⟧ ⟦<MemoryLog as MetaLog>⟧) R.Source W.Sink
+        → Simulates (IsTraceOfScript ⟦<MemoryDisk as Disk>⟧ ⟦<MemoryStore as Store>⟧ ⟦<MemoryLog as MetaLog>⟧) R.Source W.Sink
         script.old script.new out.old out.new result }
     ensures runs { form_is words.now ≡ Some Form.Run
         → RunsInYard Y.D.Disk Y.S.Store Y.M.MetaLog R.Source W.Sink script.old script.new

@@ -12,19 +12,19 @@ use Rattle.record_batch.specs.Head.{head_of}
 use Rattle.record_batch.proofs.Passing.{checked_long}
 use Rattle.plain_log.specs.RowsOfReads.{first_at}
 use Rattle.segment_file.specs.Walk.{size_in}
-use Rattle.segment_file.specs.Gathering.{Tells}
+use Rattle.segment_file.specs.Gathering.{HeadDescribes}
 use Rattle.segment_file.proofs.Standing.{AreBytes, bytes_drop, front_bytes}
 use Rattle.segment_file.proofs.Telling.{is_observable}
 use Rattle.segment_file.proofs.Tracking.{head_read}
 use Rattle.tier_fetch.specs.Span.{capped}
-use Rattle.time_find.specs.Dates.{AreChecked, IsDated}
+use Rattle.time_find.specs.Dates.{AreAllChecked, IsDated}
 use Rattle.time_find.specs.declared.run.Dated.TheVariants.{At, Behind}
 
 -- the batches whose bytes are left: they have of the timestamp what all have, and end where all end
 pub record IsLeft (ts : ℤ) (start offset : ℕ) (batches : List (List ℕ)) (rest : List ℕ) (end : ℕ) : Type 0 where
   pub left : List (List ℕ)
   pub clean : AreBytes rest
-  pub checked : AreChecked left
+  pub checked : AreAllChecked left
   pub bytes_are : rest ≡ joined left
   pub same : first_at ts start left ≡ first_at ts start batches
   pub ends : end_from end left ≡ end_from offset batches
@@ -32,7 +32,7 @@ pub record IsLeft (ts : ℤ) (start offset : ℕ) (batches : List (List ℕ)) (r
 -- whatever batches the run has, their rest is left
 abbrev pub GoesBy : ℤ → ℕ → ℕ → List ℕ → List ℕ → ℕ → Type 0
 GoesBy ts start offset run rest end =
-    AreBytes run → (batches : List (List ℕ)) → AreChecked batches → end_from offset batches < 2 ^ 64 → run ≡ joined batches → IsLeft ts start offset batches rest end
+    AreBytes run → (batches : List (List ℕ)) → AreAllChecked batches → end_from offset batches < 2 ^ 64 → run ≡ joined batches → IsLeft ts start offset batches rest end
 
 -- at first all are left
 pub all_left : (ts : ℤ) (start offset : ℕ) (run : List ℕ) → GoesBy ts start offset run run offset
@@ -43,14 +43,14 @@ pub record Stands (ts : ℤ) (start offset : ℕ) (batches : List (List ℕ)) (r
   pub batch : List ℕ
   pub more : List (List ℕ)
   pub clean : AreBytes rest
-  pub checked : AreChecked more
+  pub checked : AreAllChecked more
   pub parts : rest ≡ batch ++ joined more
-  pub is_observable : Tells batch head
+  pub is_observable : HeadDescribes batch head
   pub same : first_at ts start (batch ∷ more) ≡ first_at ts start batches
   pub ends : end_from (last_of batch + 1) more ≡ end_from offset batches
 
 -- the head that is read is that of the first batch
-by_left : (ts : ℤ) (start offset : ℕ) (batches : List (List ℕ)) (rest : List ℕ) (end : ℕ) (left : List (List ℕ)) → AreBytes rest → 0 < length rest → AreChecked left
+by_left : (ts : ℤ) (start offset : ℕ) (batches : List (List ℕ)) (rest : List ℕ) (end : ℕ) (left : List (List ℕ)) → AreBytes rest → 0 < length rest → AreAllChecked left
     → rest ≡ joined left → first_at ts start left ≡ first_at ts start batches → end_from end left ≡ end_from offset batches
     → (head : Head) × (headed rest ≡ Ok head) × Stands ts start offset batches rest head
 by_left ts start offset batches rest end [] clean some ok parts same ends =
@@ -146,7 +146,7 @@ pub dated_behind : (ts : ℤ) (start offset : ℕ) (batches : List (List ℕ)) (
     → IsDated ts start offset batches (Behind end)
 dated_behind ts start offset batches rest end l none = go l.left l.checked (sym (ap length l.bytes_are) ∙ none) l.same l.ends
   where
-    go : (left : List (List ℕ)) → AreChecked left → length (joined left) ≡ 0 → first_at ts start left ≡ first_at ts start batches → end_from end left ≡ end_from offset batches
+    go : (left : List (List ℕ)) → AreAllChecked left → length (joined left) ≡ 0 → first_at ts start left ≡ first_at ts start batches → end_from end left ≡ end_from offset batches
         → IsDated ts start offset batches (Behind end)
     go [] ok none same ends = (sym same, ends)
     go (batch ∷ more) ok none same ends =

@@ -6,14 +6,14 @@ use Rattle.epoch_line.specs.Line.{IsLine}
 use Rattle.local_log.specs.Stored.{end_of}
 use Rattle.segment_file.specs.Growing.{Grown, latest_ts}
 use Rattle.segment_meta.specs.declared.note.Entry.{Entry}
-use Rattle.remote_view.specs.Fold.{AreKept, AreDistinct}
+use Rattle.remote_view.specs.Fold.{AreEntriesValid, AreDistinct}
 use Rattle.remote_find.specs.declared.piece.Piece.{Piece}
 use Rattle.remote_find.specs.Pieces.{piece_at}
 use Rattle.remote_find.proofs.Clipping.{piece_lies}
 use Rattle.time_find.specs.Passing.{is_passed, passed_over}
 
 -- a piece ends past its offset
-pub ends_past : (entries : List Entry) (line : List (ℕ × ℕ)) (log_end at : ℕ) (piece : Piece) → AreKept entries → AreDistinct entries → IsLine line
+pub ends_past : (entries : List Entry) (line : List (ℕ × ℕ)) (log_end at : ℕ) (piece : Piece) → AreEntriesValid entries → AreDistinct entries → IsLine line
     → piece_at entries line log_end at ≡ Some piece → at < piece.to
 ends_past entries line log_end at piece kept distinct rises found = (piece_lies entries line log_end at piece kept distinct rises found).2.holds.1
 

@@ -11,8 +11,8 @@ use Rattle.time_find.specs.declared.run.Dated.{Dated}
 use Rattle.time_find.specs.declared.run.Dated.TheVariants.{At, Behind}
 
 -- batches, each checked
-abbrev pub AreChecked : List (List ℕ) → Type 0
-AreChecked batches = AllByRecursion (λ (batch : List ℕ). IsOk (checked batch)) batches
+abbrev pub AreAllChecked : List (List ℕ) → Type 0
+AreAllChecked batches = AllByRecursion (λ (batch : List ℕ). IsOk (checked batch)) batches
 
 -- what a run has of a timestamp that is looked for from a log start on; one without batches ends at the offset
 abbrev pub IsDated : ℤ → ℕ → ℕ → List (List ℕ) → Dated → Type 0

@@ -8,7 +8,7 @@ use Rattle.local_log.specs.Stored.{end_of}
 use Rattle.segment_meta.specs.declared.note.Entry.{Entry}
 use Rattle.plain_log.specs.declared.answer.Answer.TheVariants.{Damaged}
 use Rattle.plain_log.specs.declared.answer.Place.TheVariants.{Meta}
-use Rattle.remote_view.specs.Fold.{Seen, entry_of}
+use Rattle.remote_view.specs.Fold.{EntriesSeen, entry_of}
 use Rattle.remote_find.specs.declared.piece.Piece.{Piece}
 use Rattle.remote_find.specs.Pieces.{piece_at}
 use Rattle.time_find.specs.declared.turn.Asked.{Asked}
@@ -69,7 +69,7 @@ pub record SeeksNothing (asked : Asked) (line : List (ℕ × ℕ)) (entries : Li
   pub none : piece_at entries line asked.log_end at ≡ None
 
 -- what a view shows to a search: a missing piece is damage of the metadata log
-abbrev pub Seeks : Asked → List (ℕ × ℕ) → Seen → ℕ → TimeTurn → Type 0
+abbrev pub Seeks : Asked → List (ℕ × ℕ) → EntriesSeen → ℕ → TimeTurn → Type 0
 Seeks asked line view cursor (Goes at Seek) = SeeksOn asked line view.entries cursor at
 Seeks asked line view cursor (Goes at (Times piece)) = SeeksPiece asked line view.entries cursor at piece
 Seeks asked line view cursor (Goes at other) = ⊥

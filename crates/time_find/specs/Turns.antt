@@ -20,7 +20,7 @@ use Rattle.tier_base.specs.declared.fault.Trouble.TheVariants.{Failed, NoMemory}
 use Rattle.tier_base.specs.declared.plain.Part.TheVariants as part
 use Rattle.tier_base.specs.Device.{Control, Went, Ran}
 use Rattle.log_terms.specs.Log.{joined, end_from}
-use Rattle.sparse_index.specs.Bytes.{bytes_of, IsUnread}
+use Rattle.sparse_index.specs.Bytes.{bytes_of, IsNoIndex}
 use Rattle.sparse_index.specs.Times.{TimeTable, AreMoments, moment_bytes, below_time}
 use Rattle.object_store.specs.declared.placing.Spot.{Spot}
 use Rattle.object_store.specs.Call as store_call
@@ -35,9 +35,9 @@ use Rattle.disk_model.specs.declared.call.DiskCall.TheVariants.{Read}
 use Rattle.tier_base.specs.declared.plain.FileName.{FileName}
 use Rattle.local_log.specs.Reading.{segment_at, is_edge}
 use Rattle.local_log.specs.declared.reading.RunOut.{RunOut}
-use Rattle.broker_log.specs.Seen.{Kept, Stays, WhileUp, OnDisk, Lasting, OneFault, Quiet, closed_in}
-use Rattle.broker_log.specs.Turns.{Reads, Misreads}
-use Rattle.remote_view.specs.Fold.{Seen, entry_of}
+use Rattle.broker_log.specs.Seen.{LogState, LogStays, WhileUp, OnDisk, Lasting, OneFault, Quiet, closed_in}
+use Rattle.broker_log.specs.Turns.{ReadsRun, Misreads}
+use Rattle.remote_view.specs.Fold.{EntriesSeen, entry_of}
 use Rattle.remote_find.specs.declared.piece.Piece.{Piece}
 use Rattle.view_refresh.specs.Refreshing.{Refreshed, Unread, Halted}
 use Rattle.plain_log.specs.declared.answer.Answer.TheVariants.{MetaFault, StoreFault, DiskFault, Damaged, Run, Offset}
@@ -48,14 +48,14 @@ use Rattle.tier_fetch.specs.declared.turn.Span.{Span}
 use Rattle.tier_fetch.specs.declared.turn.FetchTurn.{FetchTurn}
 use Rattle.tier_fetch.specs.declared.turn.FetchTurn.TheVariants as fetch
 use Rattle.tier_fetch.specs.declared.turn.FetchStep.TheVariants as fetching
-use Rattle.tier_fetch.specs.Turns.{Tiers, FetchRow, spot_in}
+use Rattle.tier_fetch.specs.Turns.{Tiers, RemoteFetchRow, spot_in}
 use Rattle.time_find.specs.declared.turn.Asked.{Asked}
 use Rattle.time_find.specs.declared.turn.SearchStep.{SearchStep}
 use Rattle.time_find.specs.declared.turn.SearchStep.TheVariants.{Seek, Times as ReadsTimes, Index, Log}
 use Rattle.time_find.specs.declared.turn.TimeTurn.{TimeTurn}
 use Rattle.time_find.specs.declared.turn.TimeTurn.TheVariants.{Goes, Ends}
 use Rattle.time_find.specs.declared.run.Dated.TheVariants.{At}
-use Rattle.time_find.specs.Dates.{AreChecked, IsDated}
+use Rattle.time_find.specs.Dates.{AreAllChecked, IsDated}
 use Rattle.time_find.specs.Passing.{top_of, passed_over, Seeks}
 
 -- what a turn needs of the cursor: a piece ends past it, and is searched from it on or later
@@ -67,24 +67,24 @@ IsSet cursor (Log piece from span) = (cursor ≤ from) × (from < piece.to)
 
 -- a search that continues from a cursor has such a turn next: its cursor hasn't fallen, and has risen where it has no
 -- piece
-abbrev pub GoesOn : ℕ → TimeTurn → Type 0
-GoesOn cursor (Goes at Seek) = cursor < at
-GoesOn cursor (Goes at next) = (cursor ≤ at) × IsSet at next
-GoesOn cursor (Ends answer) = Unit {0}
+abbrev pub SearchContinues : ℕ → TimeTurn → Type 0
+SearchContinues cursor (Goes at Seek) = cursor < at
+SearchContinues cursor (Goes at next) = (cursor ≤ at) × IsSet at next
+SearchContinues cursor (Ends answer) = Unit {0}
 
 -- remote segments are looked for below the local log alone
-abbrev pub IsBelow : Asked → ℕ → SearchStep → Type 0
-IsBelow asked cursor Seek = cursor < asked.local
-IsBelow asked cursor next = Unit {0}
+abbrev pub IsBelowLocal : Asked → ℕ → SearchStep → Type 0
+IsBelowLocal asked cursor Seek = cursor < asked.local
+IsBelowLocal asked cursor next = Unit {0}
 
 -- what a search comes to with a run of batches that was read at an offset, and ends at or below the known high
 -- watermark: it ends past it
 abbrev pub IsSearched : Asked → ℕ → List ℕ → TimeTurn → Type 0
 IsSearched asked offset run (Ends (Offset n)) =
-    (batches : List (List ℕ)) → AreChecked batches → end_from offset batches ≤ asked.mark → run ≡ joined batches
+    (batches : List (List ℕ)) → AreAllChecked batches → end_from offset batches ≤ asked.mark → run ≡ joined batches
     → IsDated asked.ts asked.start offset batches (At n)
 IsSearched asked offset run (Goes end Seek) =
-    (batches : List (List ℕ)) → AreChecked batches → end_from offset batches ≤ asked.mark → run ≡ joined batches
+    (batches : List (List ℕ)) → AreAllChecked batches → end_from offset batches ≤ asked.mark → run ≡ joined batches
     → (first_at asked.ts asked.start batches ≡ None) × (end ≡ max (offset + 1) (end_from offset batches))
 IsSearched asked offset run turn = ⊥
 
@@ -102,7 +102,7 @@ shown asked cursor piece from =
     if nat_lt from (top_of asked piece) then Goes cursor (Index piece from) else Goes (top_of asked piece) Seek
 
 -- these are the bytes of a time index, and the search continues as it shows
-pub record IsTimed (asked : Asked) (cursor : ℕ) (piece : Piece) (base : ℕ) (bytes : List ℕ) (turn : TimeTurn) : Type 0 where
+pub record IsTimeIndexRead (asked : Asked) (cursor : ℕ) (piece : Piece) (base : ℕ) (bytes : List ℕ) (turn : TimeTurn) : Type 0 where
   pub index : TimeTable
   pub base_is : index.base ≡ base
   pub rises : AreMoments index.entries
@@ -113,9 +113,9 @@ pub record IsTimed (asked : Asked) (cursor : ℕ) (piece : Piece) (base : ℕ) (
 -- are lacking
 abbrev pub TimesBytes : Option ℕ → Asked → ℕ → Piece → ℕ → Spot → List ℕ → Result TimeTurn AllocError → Type 0
 TimesBytes (Some end) asked cursor piece base spot bytes result = result ≡ Ok (Ends (Damaged (Key spot.key) end))
-TimesBytes None asked cursor piece base spot bytes (Ok (Goes at next)) = IsTimed asked cursor piece base bytes (Goes at next)
+TimesBytes None asked cursor piece base spot bytes (Ok (Goes at next)) = IsTimeIndexRead asked cursor piece base bytes (Goes at next)
 TimesBytes None asked cursor piece base spot bytes (Ok (Ends answer)) =
-    (answer ≡ Damaged (Key spot.key) spot.at) × IsUnread AreMoments moment_bytes bytes
+    (answer ≡ Damaged (Key spot.key) spot.at) × IsNoIndex AreMoments moment_bytes bytes
 TimesBytes None asked cursor piece base spot bytes (Err e) = Unit {0}
 
 -- by what the store answered of it
@@ -145,16 +145,17 @@ Indexes cursor piece from (Ok (fetch.Ends answer)) result = result ≡ Ok (Ends 
 Indexes cursor piece from (Err e) result = IsErr result
 
 -- by what it came to of the segment's log
-abbrev pub Searches : Asked → ℕ → Result FetchTurn AllocError → Result TimeTurn AllocError → Type 0
-Searches asked from (Ok (fetch.Ends (Run tier size stop bytes))) (Ok turn) = IsSearched asked from bytes turn
-Searches asked from (Ok (fetch.Ends (Run tier size stop bytes))) (Err e) = ⊥
-Searches asked from (Ok (fetch.Ends answer)) result = result ≡ Ok (Ends answer)
-Searches asked from (Ok (fetch.Goes next)) result = ⊥
-Searches asked from (Err e) result = IsErr result
+abbrev pub SearchTakes : Asked → ℕ → Result FetchTurn AllocError → Result TimeTurn AllocError → Type 0
+SearchTakes asked from (Ok (fetch.Ends (Run tier size stop bytes))) (Ok turn) = IsSearched asked from bytes turn
+SearchTakes asked from (Ok (fetch.Ends (Run tier size stop bytes))) (Err e) = ⊥
+SearchTakes asked from (Ok (fetch.Ends answer)) result = result ≡ Ok (Ends answer)
+SearchTakes asked from (Ok (fetch.Goes next)) result = ⊥
+SearchTakes asked from (Err e) result = IsErr result
 
 module _ {M : Type 0} (notes : M → meta.Content) (calls : M → Control meta_call.call_code) where
   -- remote segments that are too early are passed over
-  abbrev pub SeekRow : Asked → List (ℕ × ℕ) → ℕ → Result TimeTurn AllocError → Seen → Seen → M → M → Type 0
+  abbrev pub SeekRow : Asked → List (ℕ × ℕ) → ℕ → Result TimeTurn AllocError → EntriesSeen → EntriesSeen → M → M
+      → Type 0
   SeekRow asked line cursor (Ok (Ends MetaFault)) before after old new = Unread notes calls before after old new
   SeekRow asked line cursor (Ok turn) before after old new =
       Seeks asked line after cursor turn × Refreshed notes calls before after old new
@@ -162,34 +163,35 @@ module _ {M : Type 0} (notes : M → meta.Content) (calls : M → Control meta_c
 
 module _ {S : Type 0} (objects : S → store.Content) (calls : S → Control store_call.call_code) where
   -- one read of a segment's time index
-  pub record ReadsIndex (asked : Asked) (cursor : ℕ) (piece : Piece) (place : ℕ × Spot) (result : Result TimeTurn AllocError)
+  pub record ReadsTimeIndex (asked : Asked) (cursor : ℕ) (piece : Piece) (place : ℕ × Spot) (result : Result TimeTurn AllocError)
       (old new : S) : Type 0 where
     pub answer : Result (Option (List ℕ)) Trouble
     pub gets : Gets objects calls place.1.key (all_of place.1) answer old new
     pub times : Times asked cursor piece place.0 place.1 answer result
 
   -- the time index is read where it is
-  abbrev pub TimesRow : Asked → ℕ → Piece → Seen → Option (ℕ × Spot) → Result TimeTurn AllocError → S → S → Type 0
+  abbrev pub TimesRow : Asked → ℕ → Piece → EntriesSeen → Option (ℕ × Spot) → Result TimeTurn AllocError → S → S
+      → Type 0
   TimesRow asked cursor piece view None result old new = (result ≡ Ok (Ends (Damaged Meta view.notes))) × (new ≡ old)
-  TimesRow asked cursor piece view (Some place) result old new = ReadsIndex asked cursor piece place result old new
+  TimesRow asked cursor piece view (Some place) result old new = ReadsTimeIndex asked cursor piece place result old new
 
 module _ {S M : Type 0} (objects : S → store.Content) (calls : S → Control store_call.call_code)
     (notes : M → meta.Content) (notings : M → Control meta_call.call_code) where
   -- the offset index is had as a fetch from this offset has it; none is where the known high watermark isn't past it
-  abbrev pub IndexRow : Asked → List (ℕ × ℕ) → ℕ → Piece → ℕ → Result TimeTurn AllocError → Tiers S M → Tiers S M → Type 0
-  IndexRow asked line cursor piece from result old new =
+  abbrev pub SearchIndexRow : Asked → List (ℕ × ℕ) → ℕ → Piece → ℕ → Result TimeTurn AllocError → Tiers S M → Tiers S M → Type 0
+  SearchIndexRow asked line cursor piece from result old new =
       ((asked.mark ≤ from) × (result ≡ Ok (Goes (top_of asked piece) Seek)) × (new ≡ old))
       ⊎ ((from < asked.mark) × ((turn : Result FetchTurn AllocError)
-      × FetchRow objects calls notes notings (wanted_at asked from) line (fetching.Index piece) turn old new
+      × RemoteFetchRow objects calls notes notings (wanted_at asked from) line (fetching.Index piece) turn old new
       × Indexes cursor piece from turn result))
 
   -- the log is read as that fetch reads it
-  abbrev pub LogRow : Asked → List (ℕ × ℕ) → Piece → ℕ → Span → Result TimeTurn AllocError → Tiers S M → Tiers S M → Type 0
-  LogRow asked line piece from span result old new =
+  abbrev pub SearchLogRow : Asked → List (ℕ × ℕ) → Piece → ℕ → Span → Result TimeTurn AllocError → Tiers S M → Tiers S M → Type 0
+  SearchLogRow asked line piece from span result old new =
       ((asked.mark ≤ from) × (result ≡ Ok (Goes (top_of asked piece) Seek)) × (new ≡ old))
       ⊎ ((from < asked.mark) × ((turn : Result FetchTurn AllocError)
-      × FetchRow objects calls notes notings (wanted_at asked from) line (fetching.Log piece span) turn old new
-      × Searches asked from turn result))
+      × RemoteFetchRow objects calls notes notings (wanted_at asked from) line (fetching.Log piece span) turn old new
+      × SearchTakes asked from turn result))
 
   -- a turn of a search among the remote segments, by what was next: what it came to, or that it ran out of memory
   abbrev pub TimeRow : Asked → List (ℕ × ℕ) → ℕ → SearchStep → Result TimeTurn AllocError → Tiers S M → Tiers S M
@@ -201,39 +203,41 @@ module _ {S M : Type 0} (objects : S → store.Content) (calls : S → Control s
       (new ≡ record old { store = new.store })
       × TimesRow objects calls asked cursor piece old.view (spot_in asked.partition piece.id part.TimeIndex (entry_of piece.id old.view.entries))
       result old.store new.store
-  TimeRow asked line cursor (Index piece from) result old new = IndexRow asked line cursor piece from result old new
-  TimeRow asked line cursor (Log piece from span) result old new = LogRow asked line piece from span result old new
+  TimeRow asked line cursor (Index piece from) result old new =
+      SearchIndexRow asked line cursor piece from result old new
+  TimeRow asked line cursor (Log piece from span) result old new =
+      SearchLogRow asked line piece from span result old new
 
 module _ {D : Type 0} (content : D → disk.Content) (control : D → Control disk_call.call_code) where
   -- a run was read at an offset, and was searched
-  pub record SearchesRun (old : Kept D) (asked : Asked) (at : ℕ) (turn : TimeTurn) (new : Kept D) : Type 0 where
+  pub record SearchesRun (old : LogState D) (asked : Asked) (at : ℕ) (turn : TimeTurn) (new : LogState D) : Type 0 where
     pub out : RunOut
-    pub reads : Reads content control old new at (2 ^ 64 - 1) asked.mark out
+    pub reads : ReadsRun content control old new at (2 ^ 64 - 1) asked.mark out
     pub quiet : Quiet control old new
     pub searched : IsSearched asked at out.bytes turn
 
   -- what the disk passed in this turn has no run there, and the log is as it was: where a batch ends at the known high
   -- watermark it was read once
-  pub record FindsDamage (old : Kept D) (asked : Asked) (at : ℕ) (name : FileName) (place : ℕ) (new : Kept D) : Type 0 where
+  pub record SearchHasDamage (old : LogState D) (asked : Asked) (at : ℕ) (name : FileName) (place : ℕ) (new : LogState D) : Type 0 where
     pub misreads : Misreads content control old new at (2 ^ 64 - 1) asked.mark name place
     pub ran : WhileUp old (λ log. is_edge (segment_at log asked.mark) asked.mark ≡ true
         → OnDisk old (λ d. OnDisk new (λ e. Ran Read Went (control d) (control e))))
     pub quiet : Quiet control old new
 
   -- the disk failed in a read, and the log is as it was
-  abbrev pub Fails : Kept D → Kept D → Type 0
-  Fails old new = Stays content old new × Lasting control old new × OneFault control old new
+  abbrev pub LocalReadFails : LogState D → LogState D → Type 0
+  LocalReadFails old new = LogStays content old new × Lasting control old new × OneFault control old new
 
   -- a search in the local log that has come to an offset
-  abbrev pub ReadRow : Kept D → Asked → ℕ → TimeTurn → Kept D → Type 0
-  ReadRow old asked at (Ends DiskFault) new = Fails old new
-  ReadRow old asked at (Ends (Damaged (File name) place)) new = FindsDamage old asked at name place new
-  ReadRow old asked at turn new = SearchesRun old asked at turn new
+  abbrev pub ReadLocalRow : LogState D → Asked → ℕ → TimeTurn → LogState D → Type 0
+  ReadLocalRow old asked at (Ends DiskFault) new = LocalReadFails old new
+  ReadLocalRow old asked at (Ends (Damaged (File name) place)) new = SearchHasDamage old asked at name place new
+  ReadLocalRow old asked at turn new = SearchesRun old asked at turn new
 
   -- a turn of a search in the local log: nothing is read at or past the known high watermark
-  abbrev pub OwnRow : Kept D → Asked → ℕ → TimeTurn → Kept D → Type 0
-  OwnRow old asked cursor turn new =
+  abbrev pub LocalSearchRow : LogState D → Asked → ℕ → TimeTurn → LogState D → Type 0
+  LocalSearchRow old asked cursor turn new =
       ((asked.mark ≤ passed_over asked.ts cursor (closed_in old)) × (turn ≡ Goes (passed_over asked.ts cursor (closed_in old)) Seek)
       × (new ≡ old))
       ⊎ ((passed_over asked.ts cursor (closed_in old) < asked.mark)
-      × ReadRow old asked (passed_over asked.ts cursor (closed_in old)) turn new)
+      × ReadLocalRow old asked (passed_over asked.ts cursor (closed_in old)) turn new)

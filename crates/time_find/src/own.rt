@@ -1,8 +1,8 @@
 //! A turn of a search in the local log.
 
 ghost use Rattle.std.specs.Prelude.{◌≡◌, ◌<◌, ◌≤◌, true, OnErr, IfOk};
-ghost use Rattle.broker_log.specs.Seen.{is_up, WhileUp, Quiet, Stays};
-ghost use Rattle.time_find.specs.Turns.{GoesOn, OwnRow};
+ghost use Rattle.broker_log.specs.Seen.{is_up, WhileUp, Quiet, LogStays};
+ghost use Rattle.time_find.specs.Turns.{SearchContinues, LocalSearchRow};
 
 use crate::passing::passed_over;
 use crate::run::search_run;
@@ -23,9 +23,9 @@ pub fn own_turn<D: Disk>(
     requires up { is_up log.old ≡ true }
     requires local { WhileUp log.old (λ l. l.local_start ≤ cursor) }
     requires mark { cursor < asked.now.mark }
-    ensures row { IfOk result (λ turn. OwnRow D.content D.control log.old asked.now cursor turn log.new) }
-    ensures goes { IfOk result (GoesOn cursor) }
-    ensures stays { OnErr result (Stays D.content log.old log.new) }
+    ensures row { IfOk result (λ turn. LocalSearchRow D.content D.control log.old asked.now cursor turn log.new) }
+    ensures goes { IfOk result (SearchContinues cursor) }
+    ensures stays { OnErr result (LogStays D.content log.old log.new) }
     ensures quiet { OnErr result (Quiet D.control log.old log.new) }
 {
     let at = passed_over(log.closed(), cursor, asked.ts);

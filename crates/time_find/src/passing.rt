@@ -5,7 +5,7 @@ ghost use Rattle.plain_log.specs.declared.answer.Answer.TheVariants.{Damaged};
 ghost use Rattle.plain_log.specs.declared.answer.Place.TheVariants.{Meta};
 ghost use Rattle.remote_view.specs.Fold.{entry_of};
 ghost use Rattle.time_find.specs.Passing.{is_passed, is_early, passed_over, Seeks};
-ghost use Rattle.time_find.specs.Turns.{GoesOn};
+ghost use Rattle.time_find.specs.Turns.{SearchContinues};
 
 use crate::turn::{Asked, SearchStep, TimeTurn};
 use epoch_line::Line;
@@ -50,7 +50,7 @@ pub(crate) fn seek(asked: &Asked, line: &Line, view: &View, cursor: u64) -> Time
     requires local { cursor < asked.now.local }
     requires mark { cursor < asked.now.mark }
     ensures row { Seeks asked.now line.now view.now cursor result }
-    ensures goes { GoesOn cursor result }
+    ensures goes { SearchContinues cursor result }
 {
     // Reading both shows that each piece ends past its offset.
     let _entries = view.entries();

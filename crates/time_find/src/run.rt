@@ -2,8 +2,8 @@
 
 ghost use Rattle.std.specs.Prelude.{◌≡◌, ◌<◌, ◌^◌, ℕ, List};
 ghost use Rattle.log_terms.specs.Log.{joined, end_from};
-ghost use Rattle.time_find.specs.Dates.{AreChecked, IsDated};
-ghost use Rattle.time_find.specs.Turns.{GoesOn, IsSearched};
+ghost use Rattle.time_find.specs.Dates.{AreAllChecked, IsDated};
+ghost use Rattle.time_find.specs.Turns.{SearchContinues, IsSearched};
 
 use crate::turn::{Asked, SearchStep, TimeTurn};
 use plain_log::Answer;
@@ -24,7 +24,7 @@ pub enum Dated {
 /// Looks for the first batch of a run whose greatest timestamp isn't below one. The run begins at or below an offset,
 /// and is made of batches that were checked.
 pub fn date_in(run: &[u8], ts: i64, start: u64, offset: u64) -> Dated
-    ensures { (batches : List (List ℕ)) → AreChecked batches → end_from offset batches < 2 ^ 64 → run.now ≡ joined batches
+    ensures { (batches : List (List ℕ)) → AreAllChecked batches → end_from offset batches < 2 ^ 64 → run.now ≡ joined batches
         → IsDated ts start offset batches result }
 {
     let mut rest = run;
@@ -51,7 +51,7 @@ pub fn date_in(run: &[u8], ts: i64, start: u64, offset: u64) -> Dated
 pub(crate) fn search_run(run: &[u8], asked: &Asked, offset: u64) -> TimeTurn
     requires { offset < asked.now.mark }
     ensures row { IsSearched asked.now offset run.now result }
-    ensures goes { GoesOn offset result }
+    ensures goes { SearchContinues offset result }
 {
     match date_in(run, asked.ts, asked.start, offset) {
         Dated::At(offset) => TimeTurn::Ends(Answer::Offset(offset)),

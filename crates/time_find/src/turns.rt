@@ -7,7 +7,7 @@ ghost use Rattle.plain_log.specs.declared.answer.Answer.TheVariants.{Damaged};
 ghost use Rattle.plain_log.specs.declared.answer.Place.TheVariants.{Key, Meta};
 ghost use Rattle.tier_fetch.specs.Turns.{spot_in};
 ghost use Rattle.time_find.specs.declared.turn.TimeTurn.TheVariants.{Ends};
-ghost use Rattle.time_find.specs.Turns.{IsSet, GoesOn, IsBelow, wanted_at, shown, Times, SeekRow, TimesRow, IndexRow, LogRow, TimeRow};
+ghost use Rattle.time_find.specs.Turns.{IsSet, SearchContinues, IsBelowLocal, wanted_at, shown, Times, SeekRow, TimesRow, SearchIndexRow, SearchLogRow, TimeRow};
 
 use crate::passing::seek;
 use crate::run::search_run;
@@ -40,12 +40,12 @@ pub fn time_turn<S: Store, M: MetaLog>(
     meta: &mut M,
 ) -> Result<TimeTurn, AllocError>
     requires below { cursor < asked.now.mark }
-    requires remote { IsBelow asked.now cursor next }
+    requires remote { IsBelowLocal asked.now cursor next }
     requires holds { IsSet cursor next }
     ensures row { TimeRow S.content S.control M.content M.control asked.now line.now cursor next result
         (record { view = view.old; cache = cache.old; store = store.old; meta = meta.old })
         (record { view = view.new; cache = cache.new; store = store.new; meta = meta.new }) }
-    ensures goes { IfOk result (GoesOn cursor) }
+    ensures goes { IfOk result (SearchContinues cursor) }
 {
     match next {
         SearchStep::Seek => refresh_and_seek(asked, cursor, line, view, meta),
@@ -70,7 +70,7 @@ fn refresh_and_seek<M: MetaLog>(
     requires mark { cursor < asked.now.mark }
     requires local { cursor < asked.now.local }
     ensures row { SeekRow M.content M.control asked.now line.now cursor result view.old view.new meta.old meta.new }
-    ensures goes { IfOk result (GoesOn cursor) }
+    ensures goes { IfOk result (SearchContinues cursor) }
 {
     match refresh(view, meta) {
         Ok(()) => Ok(seek(asked, line, view, cursor)),
@@ -129,7 +129,7 @@ fn times<S: Store>(
     ensures row { TimesRow S.content S.control asked.now cursor piece.now view.now
         (spot_in asked.now.partition piece.now.id part.TimeIndex (entry_of piece.now.id view.now.entries)) result
         store.old store.new }
-    ensures goes { IfOk result (GoesOn cursor) }
+    ensures goes { IfOk result (SearchContinues cursor) }
 {
     let Some((base, spot)) = spot_of(asked, piece, view) else {
         return Ok(lost(view));
@@ -156,7 +156,7 @@ fn read_times(
     requires mark { cursor < asked.now.mark }
     requires holds { cursor < piece.now.to }
     ensures row { Times asked.now cursor piece.now base spot.now (Ok given) result }
-    ensures goes { IfOk result (GoesOn cursor) }
+    ensures goes { IfOk result (SearchContinues cursor) }
 {
     let Some(bytes) = given else {
         return Ok(damaged(spot, 0));
@@ -184,7 +184,7 @@ fn shown(asked: &Asked, cursor: u64, piece: &Piece, from: u64) -> TimeTurn
     requires mark { cursor < asked.now.mark }
     requires holds { cursor < piece.now.to }
     ensures row { result ≡ shown asked.now cursor piece.now from }
-    ensures goes { GoesOn cursor result }
+    ensures goes { SearchContinues cursor result }
 {
     let top = piece.to.min(asked.mark);
     if from < top {
@@ -223,10 +223,10 @@ fn index<S: Store, M: MetaLog>(
     requires mark { cursor < asked.now.mark }
     requires low { cursor ≤ from }
     requires holds { from < piece.now.to }
-    ensures row { IndexRow S.content S.control M.content M.control asked.now line.now cursor piece.now from result
+    ensures row { SearchIndexRow S.content S.control M.content M.control asked.now line.now cursor piece.now from result
         (record { view = view.old; cache = cache.old; store = store.old; meta = meta.old })
         (record { view = view.new; cache = cache.new; store = store.new; meta = meta.new }) }
-    ensures goes { IfOk result (GoesOn cursor) }
+    ensures goes { IfOk result (SearchContinues cursor) }
 {
     if from >= asked.mark {
         return Ok(shown(asked, cursor, piece, from));
@@ -268,10 +268,10 @@ fn log<S: Store, M: MetaLog>(
     requires mark { cursor < asked.now.mark }
     requires low { cursor ≤ from }
     requires holds { from < piece.now.to }
-    ensures row { LogRow S.content S.control M.content M.control asked.now line.now piece.now from span result
+    ensures row { SearchLogRow S.content S.control M.content M.control asked.now line.now piece.now from span result
         (record { view = view.old; cache = cache.old; store = store.old; meta = meta.old })
         (record { view = view.new; cache = cache.new; store = store.new; meta = meta.new }) }
-    ensures goes { IfOk result (GoesOn cursor) }
+    ensures goes { IfOk result (SearchContinues cursor) }
 {
     if from >= asked.mark {
         return Ok(TimeTurn::Goes(piece.to.min(asked.mark), SearchStep::Seek));

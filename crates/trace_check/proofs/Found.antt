@@ -9,11 +9,11 @@ use Rattle.trace_text.specs.Read.{told, IsTrace}
 use Rattle.trace_check.specs.declared.pair.Pair.{Pair}
 use Rattle.trace_check.specs.declared.verdict.Flaw.{Flaw}
 use Rattle.trace_check.specs.declared.verdict.Flaw.TheVariants.{BadScript, BadTrace, Brokers, NoStep, Unfinished, Unasked}
-use Rattle.trace_check.specs.Whole.{IsRead}
-use Rattle.trace_check.specs.Verdicts.{IsFound, AreJudged, IsFlaw, IsPairJudged}
+use Rattle.trace_check.specs.Whole.{IsInputRead}
+use Rattle.trace_check.specs.Verdicts.{IsFlawFound, AreJudged, IsFlaw, IsPairJudged}
 
-as_flaw : (states : List State) (script trace : List ℕ) (flaw : Flaw) (said : Script) (js : List (ℕ × List JournalEntry)) → IsRead script trace said js
-    → IsFound said states js flaw → IsFlaw states script trace flaw
+as_flaw : (states : List State) (script trace : List ℕ) (flaw : Flaw) (said : Script) (js : List (ℕ × List JournalEntry)) → IsInputRead script trace said js
+    → IsFlawFound said states js flaw → IsFlaw states script trace flaw
 as_flaw states script trace (BadScript line why) said js read found = absurd found.its
 as_flaw states script trace (BadTrace line) said js read found = absurd found.its
 as_flaw states script trace (Brokers partition kept asked) said js read found = record { said = said; journals = js; read = read; found = found }
@@ -27,7 +27,7 @@ pub found_is : (states : List State) (pair : Pair) (after : List State) (said : 
 found_is states pair after said parts slice o said_is is same judged =
     found_as o (subst (λ (ps : List PartJournal). AreJudged said states (map told ps) after o) same judged)
   where
-    read : IsRead pair.script pair.trace said (map told parts)
+    read : IsInputRead pair.script pair.trace said (map told parts)
     read = record { script_is = said_is; are = is.are; spelled = is.text }
 
     found_as : (k : Option Flaw) → AreJudged said states (map told parts) after k → IsPairJudged states pair after k

@@ -13,8 +13,8 @@ use Rattle.plain_log.specs.declared.state.State.{State}
 use Rattle.plain_log.specs.Fresh.{fresh}
 use Rattle.plain_log.specs.Runs.{replay, IsComplete}
 use Rattle.cold_state.specs.Cold.{cold_of}
-use Rattle.plain_executor.specs.Fits.{IsFor, AreFor}
-use Rattle.plain_executor.specs.Traces.{Reaches}
+use Rattle.plain_executor.specs.Fits.{IsBuildableAppend, AreFor}
+use Rattle.plain_executor.specs.Traces.{JournalReaches}
 use Rattle.plain_executor.proofs.Fitting.{IsListFor as IsMachinesList, lists_for}
 use Rattle.script_lang.specs.declared.script.PartScript.{PartScript}
 use Rattle.script_lang.specs.declared.script.Script.{Script}
@@ -27,14 +27,14 @@ use Rattle.trace_check.proofs.Journals.{split_at}
 use Rattle.trace_check.proofs.Places.{partly, partly_there, partly_more}
 
 -- the machine takes what a world takes
-is_for : (command : Command) → IsInRange command → IsFor command
+is_for : (command : Command) → IsInRange command → IsBuildableAppend command
 is_for (Append recs) h = h
 is_for other h = tt
 
 pub fits : (config : Config) (lists : List ActorList) → AreListsFor config lists → AreFor lists
 fits config lists h =
     lists_for lists (All-weaker (IsListFor config) IsMachinesList
-    (λ l own. All-weaker (IsOrderFor config) (λ (order : Order). IsFor order.command) (λ order is. is_for order.command is.command) l.orders own.orders) lists h.each)
+    (λ l own. All-weaker (IsOrderFor config) (λ (order : Order). IsBuildableAppend order.command) (λ order is. is_for order.command is.command) l.orders own.orders) lists h.each)
 
 -- what a run leaves that has a last state
 pub left_by : (p q : State) (lists : List ActorList) (journal : List JournalEntry) → replay lists p journal ≡ Some q → cold_of q ≡ left_of p lists journal
@@ -42,18 +42,18 @@ left_by p q lists journal run = sym (ap (λ (o : _). unwrap_or (option_map cold_
 
 -- a run that leaves a command without an answer
 pub unfinished : (p q : State) (lists ls : List ActorList) (journal j : List JournalEntry) (o : Option ℕ) (whole : Bool) → ls ≡ lists → j ≡ journal → o ≡ None
-    → Reaches ls p j q o → whole ≡ false → IsTrue whole ↔ IsComplete ls j → IsUnfinished p lists journal
+    → JournalReaches ls p j q o → whole ≡ false → IsTrue whole ↔ IsComplete ls j → IsUnfinished p lists journal
 unfinished p q lists ls journal j o whole same own none reached lacks h =
-    let run : replay ls p j ≡ Some q = subst (λ (k : Option ℕ). Reaches ls p j q k) none reached in
+    let run : replay ls p j ≡ Some q = subst (λ (k : Option ℕ). JournalReaches ls p j q k) none reached in
     let is : IsUnfinished p ls j = record { plain = record { last = q; replays = run }; lacks = λ w. absurd (let t = h.1 w in cc (t, lacks)) } in
     subst (λ (l : List ActorList). IsUnfinished p l journal) same (subst (IsUnfinished p ls) own is)
 
 -- a whole run, and what is left when it is over
 pub finished : (config : Config) (js : List (ℕ × List JournalEntry)) (p q : State) (part : PartScript) (ls : List ActorList) (j : List JournalEntry) (o : Option ℕ) (whole : Bool)
-    → length p.brokers ≡ config.brokers → ls ≡ part.lists → j ≡ journal_of js part.partition.0 → o ≡ None → Reaches ls p j q o → whole ≡ true
+    → length p.brokers ≡ config.brokers → ls ≡ part.lists → j ≡ journal_of js part.partition.0 → o ≡ None → JournalReaches ls p j q o → whole ≡ true
     → IsTrue whole ↔ IsComplete ls j → HasRun config js p part × (cold_of q ≡ left_of p part.lists (journal_of js part.partition.0))
 finished config js p q part ls j o whole count same own none reached has h =
-    let run : replay ls p j ≡ Some q = subst (λ (k : Option ℕ). Reaches ls p j q k) none reached in
+    let run : replay ls p j ≡ Some q = subst (λ (k : Option ℕ). JournalReaches ls p j q k) none reached in
     let its : replay part.lists p (journal_of js part.partition.0) ≡ Some q =
     subst (λ (l : List ActorList). replay l p (journal_of js part.partition.0) ≡ Some q) same (subst (λ (k : List JournalEntry). replay ls p k ≡ Some q) own run) in
     let all : IsComplete part.lists (journal_of js part.partition.0) =

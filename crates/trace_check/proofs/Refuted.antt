@@ -10,7 +10,7 @@ use Rattle.plain_executor.proofs.Verdicts.{ends}
 use Rattle.script_lang.specs.declared.script.Script.{Script}
 use Rattle.trace_text.specs.declared.refusal.TraceRefusal.TheVariants.{Bad}
 use Rattle.trace_text.specs.Laws.{PrintIsRead, OneTextOneTrace}
-use Rattle.trace_text.specs.Read.{IsBad}
+use Rattle.trace_text.specs.Read.{IsBadLine}
 use Rattle.trace_check.specs.declared.pair.Pair.{Pair}
 use Rattle.trace_check.specs.declared.verdict.Flaw.{Flaw}
 use Rattle.trace_check.specs.declared.verdict.Flaw.TheVariants.{BadScript, BadTrace, Brokers, NoStep, Unfinished, Unasked}
@@ -18,7 +18,7 @@ use Rattle.trace_check.specs.declared.verdict.Verdict.{Verdict}
 use Rattle.trace_check.specs.declared.verdict.Verdict.TheVariants.{Whole, Flawed}
 use Rattle.trace_check.specs.Chain.{LeadTo, AreWholeTraces}
 use Rattle.trace_check.specs.Whole.{journal_of, opening, states_left, IsRunFrom, HasWholeRun, AreWholeRuns, IsWholeTrace}
-use Rattle.trace_check.specs.Verdicts.{HasPartFlaw, IsFound, HasFound, IsFlaw, IsFlawed, IsVerdict}
+use Rattle.trace_check.specs.Verdicts.{HasPartFlaw, IsFlawFound, HasFound, IsFlaw, IsFlawed, IsVerdict}
 use Rattle.trace_check.proofs.Journals.{all_in, split_at}
 
 -- a journal with an entry that is no step is no run
@@ -35,7 +35,7 @@ its_run script states js flaw h w =
     all_in (HasWholeRun script.config states js) h.before h.after h.part (subst (All (HasWholeRun script.config states js)) h.parts w.each)
 
 -- journals of which a cause is found are no whole runs
-not_whole : (script : Script) (states : List State) (js : List (ℕ × List JournalEntry)) (flaw : Flaw) → IsFound script states js flaw → AreWholeRuns script states js → ⊥
+not_whole : (script : Script) (states : List State) (js : List (ℕ × List JournalEntry)) (flaw : Flaw) → IsFlawFound script states js flaw → AreWholeRuns script states js → ⊥
 not_whole script states js (Brokers partition kept asked) h w =
     let run = its_run script states js (Brokers partition kept asked) h w in
     h.its.1.differ (h.its.1.kept_is ∙ run.brokers ∙ sym h.its.1.asked_is)
@@ -65,7 +65,7 @@ refuted : PrintIsRead → OneTextOneTrace → (states : List State) (script trac
     → IsWholeTrace states script trace after → ⊥
 refuted print one states script trace (BadScript line why) after h w = absurd (let ok = w.read.script_is in cc)
 refuted print one states script trace (BadTrace line) after h w =
-    print w.journals (Err (Bad line)) w.read.are (subst (λ (text : List ℕ). IsBad text line) w.read.spelled h.1)
+    print w.journals (Err (Bad line)) w.read.are (subst (λ (text : List ℕ). IsBadLine text line) w.read.spelled h.1)
 refuted print one states script trace (Brokers partition kept asked) after h w = not_found one states script trace (Brokers partition kept asked) after h w
 refuted print one states script trace (NoStep partition entry line) after h w = not_found one states script trace (NoStep partition entry line) after h w
 refuted print one states script trace (Unfinished partition) after h w = not_found one states script trace (Unfinished partition) after h w

@@ -11,10 +11,10 @@ use Rattle.script_lang.specs.declared.script.PartScript.{PartScript}
 use Rattle.script_lang.specs.declared.script.Script.{Script}
 use Rattle.script_lang.specs.Fit.{AreNumbered, IsFit}
 use Rattle.script_lang.specs.Script.{script_in}
-use Rattle.trace_text.specs.Read.{IsPart, AreRising}
+use Rattle.trace_text.specs.Read.{IsJournalPart, ArePartitionsRising}
 use Rattle.trace_text.specs.Trace.{journal_text, trace_of}
 use Rattle.trace_check.specs.Whole.{journal_of, opening, states_left, IsRunFrom, HasWholeRun, IsWholeTrace}
-use Rattle.trace_check.specs.Written.{IsRunOf, AreRunsOf}
+use Rattle.trace_check.specs.Written.{IsJournalFrom, AreRunsOf}
 
 -- those that have entries
 abbrev with_entries : List (ℕ × List JournalEntry) → List (ℕ × List JournalEntry)
@@ -30,12 +30,12 @@ same_text ((p, e ∷ es) ∷ runs) = ap (λ (t : List ℕ). journal_text p (e �
 
 -- runs of partitions from this one on, and below another
 pub record AreFrom (low high : ℕ) (runs : List (ℕ × List JournalEntry)) : Type 0 where
-  pub rising : AreRising runs
-  pub each : All IsPart runs
+  pub rising : ArePartitionsRising runs
+  pub each : All IsJournalPart runs
   pub first : All (λ (r : ℕ × List JournalEntry). low ≤ r.0) runs
   pub last : All (λ (r : ℕ × List JournalEntry). r.0 < high) runs
 
-rising_cons : (r : ℕ × List JournalEntry) (runs : List (ℕ × List JournalEntry)) → All (λ (k : ℕ × List JournalEntry). suc r.0 ≤ k.0) runs → AreRising runs → AreRising (r ∷ runs)
+rising_cons : (r : ℕ × List JournalEntry) (runs : List (ℕ × List JournalEntry)) → All (λ (k : ℕ × List JournalEntry). suc r.0 ≤ k.0) runs → ArePartitionsRising runs → ArePartitionsRising (r ∷ runs)
 rising_cons r [] h rising = tt
 rising_cons r (next ∷ runs) h rising = let first = h 0 next (omega arith) in (omega (arith, first), rising)
 
@@ -74,7 +74,7 @@ from_lower n high runs h = record {
 -- a run of each partition from this one on
 runs_from : (config : Config) (states : List State) (parts : List PartScript) (runs : List (ℕ × List JournalEntry)) (n high : ℕ) → high ≤ 64 → n + length parts ≡ high → AreNumbered n parts
     → AreRunsOf config states parts runs → AreFrom n high (with_entries runs)
-runs_from config states [] [] n high small count numbered are = record { rising = tt; each = All-nil IsPart; first = λ k d below. absurd (omega (arith, below)); last = λ k d below. absurd (omega (arith, below)) }
+runs_from config states [] [] n high small count numbered are = record { rising = tt; each = All-nil IsJournalPart; first = λ k d below. absurd (omega (arith, below)); last = λ k d below. absurd (omega (arith, below)) }
 runs_from config states [] (run ∷ runs) n high small count numbered are = absurd are
 runs_from config states (part ∷ parts) [] n high small count numbered are = absurd are
 runs_from config states (part ∷ parts) ((p, []) ∷ runs) n high small count numbered are =
@@ -84,10 +84,10 @@ runs_from config states (part ∷ parts) ((p, e ∷ es) ∷ runs) n high small c
     let next : AreNumbered (suc n) parts = let on : n + 1 ≡ suc n = omega arith in subst (λ (k : ℕ). AreNumbered k parts) on numbered.1 in
     let rest = runs_from config states parts runs (suc n) high small (omega (arith, count)) next are.1 in
     let own : p ≡ n = are.0.partition ∙ numbered.0 in
-    let is : IsPart (p, e ∷ es) = record { partition = omega (arith, own, count, small); some = omega arith; each = are.0.entries } in
+    let is : IsJournalPart (p, e ∷ es) = record { partition = omega (arith, own, count, small); some = omega arith; each = are.0.entries } in
     record {
       rising = rising_cons (p, e ∷ es) (with_entries runs) (λ k d below. let f = rest.first k d below in omega (arith, f, own)) rest.rising;
-      each = All-cons IsPart (p, e ∷ es) (with_entries runs) is rest.each;
+      each = All-cons IsJournalPart (p, e ∷ es) (with_entries runs) is rest.each;
       first = All-cons (λ (r : ℕ × List JournalEntry). n ≤ r.0) (p, e ∷ es) (with_entries runs) (omega (arith, own)) (λ k d below. let f = rest.first k d below in omega (arith, f));
       last = All-cons (λ (r : ℕ × List JournalEntry). r.0 < high) (p, e ∷ es) (with_entries runs) (omega (arith, own, count)) rest.last;
     }
@@ -99,7 +99,7 @@ not_below n (part ∷ parts) h =
     All-cons (λ (q : PartScript). n ≤ q.partition.0) part parts (let own = h.0 in omega (arith, own))
     (λ k d below. let f = not_below (n + 1) parts h.1 k d below in omega (arith, f))
 
-has_run : (config : Config) (states : List State) (js : List (ℕ × List JournalEntry)) (part : PartScript) (run : ℕ × List JournalEntry) → journal_of js part.partition.0 ≡ run.1 → IsRunOf config (opening config states part.partition.0) part run
+has_run : (config : Config) (states : List State) (js : List (ℕ × List JournalEntry)) (part : PartScript) (run : ℕ × List JournalEntry) → journal_of js part.partition.0 ≡ run.1 → IsJournalFrom config (opening config states part.partition.0) part run
     → HasWholeRun config states js part
 has_run config states js part run e is = record { brokers = is.brokers; plain = subst (IsRunFrom (opening config states part.partition.0) part.lists) (sym e) is.plain; complete = subst (IsComplete part.lists) (sym e) is.complete }
 

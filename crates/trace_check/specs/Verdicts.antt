@@ -12,14 +12,14 @@ use Rattle.plain_executor.specs.Traces.{IsRefusedAt}
 use Rattle.script_lang.specs.declared.script.PartScript.{PartScript}
 use Rattle.script_lang.specs.declared.script.Script.{Script}
 use Rattle.script_lang.specs.Script.{script_in}
-use Rattle.trace_text.specs.Read.{IsBad}
+use Rattle.trace_text.specs.Read.{IsBadLine}
 use Rattle.trace_check.specs.declared.pair.Pair.{Pair}
 use Rattle.trace_check.specs.declared.verdict.Flaw.{Flaw}
 use Rattle.trace_check.specs.declared.verdict.Flaw.TheVariants.{BadScript, BadTrace, Brokers, NoStep, Unfinished, Unasked}
 use Rattle.trace_check.specs.declared.verdict.Verdict.{Verdict}
 use Rattle.trace_check.specs.declared.verdict.Verdict.TheVariants.{Whole, Flawed}
 use Rattle.trace_check.specs.Chain.{LeadTo, AreWholeTraces}
-use Rattle.trace_check.specs.Whole.{journal_of, opening, left_of, states_left, IsRunFrom, HasRun, HasWholeRun, AreWholeRuns, IsRead, IsWholeTrace}
+use Rattle.trace_check.specs.Whole.{journal_of, opening, left_of, states_left, IsRunFrom, HasRun, HasWholeRun, AreWholeRuns, IsInputRead, IsWholeTrace}
 
 -- the line of a partition's entry, from 1 on: a trace has a line for each entry of each journal
 abbrev pub line_of : List (ℕ × List JournalEntry) → ℕ → ℕ → ℕ
@@ -33,7 +33,7 @@ pub record HasOthers (config : Config) (p : State) (kept asked : ℕ) : Type 0 w
   pub differ : kept ≢ asked
 
 -- the partition's entry at this place is the first that is no step from this state, and is in this line of the trace
-pub record IsRefused (journals : List (ℕ × List JournalEntry)) (p : State) (part : PartScript) (place line : ℕ) : Type 0 where
+pub record IsEntryRefused (journals : List (ℕ × List JournalEntry)) (p : State) (part : PartScript) (place line : ℕ) : Type 0 where
   pub state : State
   pub refused : IsRefusedAt part.lists p (journal_of journals part.partition.0) state place
   pub line_is : line ≡ line_of journals part.partition.0 place
@@ -46,7 +46,7 @@ pub record IsUnfinished (p : State) (lists : List ActorList) (journal : List Jou
 -- what is found of a partition's journal
 abbrev pub IsPartFlaw : Config → List (ℕ × List JournalEntry) → State → PartScript → Flaw → Type 0
 IsPartFlaw config journals p part (Brokers partition kept asked) = (partition ≡ part.partition) × HasOthers config p kept asked
-IsPartFlaw config journals p part (NoStep partition entry line) = (partition ≡ part.partition) × IsRefused journals p part entry line
+IsPartFlaw config journals p part (NoStep partition entry line) = (partition ≡ part.partition) × IsEntryRefused journals p part entry line
 IsPartFlaw config journals p part (Unfinished partition) =
     (partition ≡ part.partition) × IsUnfinished p part.lists (journal_of journals part.partition.0)
 IsPartFlaw config journals p part other = ⊥
@@ -92,26 +92,26 @@ pub record IsUnasked (script : Script) (states : List State) (journals : List (�
   pub first : IsBeyond (length script.parts) journals partition
 
 -- what is found of journals
-abbrev pub IsFound : Script → List State → List (ℕ × List JournalEntry) → Flaw → Type 0
-IsFound script states journals (Unasked partition) = IsUnasked script states journals partition.0
-IsFound script states journals flaw = HasPartFlaw script states journals flaw
+abbrev pub IsFlawFound : Script → List State → List (ℕ × List JournalEntry) → Flaw → Type 0
+IsFlawFound script states journals (Unasked partition) = IsUnasked script states journals partition.0
+IsFlawFound script states journals flaw = HasPartFlaw script states journals flaw
 
 -- the same, or that they are whole runs, and what these leave
 abbrev pub AreJudged : Script → List State → List (ℕ × List JournalEntry) → List State → Option Flaw → Type 0
 AreJudged script states journals after None = AreWholeRuns script states journals × (after ≡ states_left script states journals)
-AreJudged script states journals after (Some flaw) = IsFound script states journals flaw
+AreJudged script states journals after (Some flaw) = IsFlawFound script states journals flaw
 
 -- script and trace are read, and this is found of the journals
 pub record HasFound (states : List State) (script trace : List ℕ) (flaw : Flaw) : Type 0 where
   pub said : Script
   pub journals : List (ℕ × List JournalEntry)
-  pub read : IsRead script trace said journals
-  pub found : IsFound said states journals flaw
+  pub read : IsInputRead script trace said journals
+  pub found : IsFlawFound said states journals flaw
 
 -- the first cause why the trace is no whole run of the script from these states
 abbrev pub IsFlaw : List State → List ℕ → List ℕ → Flaw → Type 0
 IsFlaw states script trace (BadScript line why) = script_in script ≡ Err (line, why)
-IsFlaw states script trace (BadTrace line) = IsOk (script_in script) × IsBad trace line
+IsFlaw states script trace (BadTrace line) = IsOk (script_in script) × IsBadLine trace line
 IsFlaw states script trace flaw = HasFound states script trace flaw
 
 -- the same, or that it is one, and what it leaves

@@ -61,7 +61,7 @@ states_left script states journals =
     map (part_left script.config states journals) script.parts ++ drop (length script.parts) states
 
 -- this is what the script says, and these are the journals whose text the trace is
-pub record IsRead (script trace : List ℕ) (said : Script) (journals : List (ℕ × List JournalEntry)) : Type 0 where
+pub record IsInputRead (script trace : List ℕ) (said : Script) (journals : List (ℕ × List JournalEntry)) : Type 0 where
   pub script_is : script_in script ≡ Ok said
   pub are : AreParts journals
   pub spelled : trace ≡ trace_of journals
@@ -70,6 +70,6 @@ pub record IsRead (script trace : List ℕ) (said : Script) (journals : List (�
 pub record IsWholeTrace (states : List State) (script trace : List ℕ) (after : List State) : Type 0 where
   pub said : Script
   pub journals : List (ℕ × List JournalEntry)
-  pub read : IsRead script trace said journals
+  pub read : IsInputRead script trace said journals
   pub runs : AreWholeRuns said states journals
   pub left : after ≡ states_left said states journals

@@ -14,7 +14,7 @@ use Rattle.trace_check.specs.Whole.{opening, states_left, IsRunFrom, IsWholeTrac
 
 -- a partition's number and journal: a run of the plain log over the partition's lists, from this state of as many brokers,
 -- which answers every command of every list, and each of whose entries can be read back
-pub record IsRunOf (config : Config) (p : State) (part : PartScript) (run : ℕ × List JournalEntry) : Type 0 where
+pub record IsJournalFrom (config : Config) (p : State) (part : PartScript) (run : ℕ × List JournalEntry) : Type 0 where
   pub partition : run.0 ≡ part.partition.0
   pub brokers : length p.brokers ≡ config.brokers
   pub plain : IsRunFrom p part.lists run.1
@@ -25,7 +25,7 @@ pub record IsRunOf (config : Config) (p : State) (part : PartScript) (run : ℕ 
 abbrev pub AreRunsOf : Config → List State → List PartScript → List (ℕ × List JournalEntry) → Type 0
 AreRunsOf config states [] [] = Unit {0}
 AreRunsOf config states (part ∷ parts) (run ∷ runs) =
-    IsRunOf config (opening config states part.partition.0) part run × AreRunsOf config states parts runs
+    IsJournalFrom config (opening config states part.partition.0) part run × AreRunsOf config states parts runs
 AreRunsOf config states [] (run ∷ runs) = ⊥
 AreRunsOf config states (part ∷ parts) [] = ⊥
 

@@ -2,8 +2,8 @@
 //!
 //! `trace_check SCRIPT TRACE [SCRIPT TRACE ..]` reads the files and prints a line: that each trace is a run from where
 //! the one before it ended, or which is the first that isn't, and why. Its status is 0 if all are, 1 if one isn't, and
-//! 2 if nothing could be checked. `specs/Whole.antt` says what a complete run is, `specs/Chain.antt` how one follows
-//! another. It doesn't use the code that runs scripts.
+//! 2 if nothing could be checked. `specs/ClosedSegment.antt` says what a complete run is, `specs/Chain.antt` how one
+//! follows another. It doesn't use the code that runs scripts.
 #![tactic(auto)]
 
 ghost use Rattle.std.specs.Prelude.{◌≡◌, ◌↔◌, IfOk, IsTrue};

@@ -13,8 +13,8 @@ use Rattle.trace_text.specs.declared.line.PartJournal.{PartJournal}
 use Rattle.trace_text.specs.declared.parts.Parts.{Parts}
 use Rattle.trace_text.specs.Trace.{entry_line, journal_text, trace_of}
 use Rattle.trace_text.specs.Entries.{IsEntry}
-use Rattle.trace_text.specs.Read.{told, IsPart, MayFollow, AreRising, AreParts, lines_of}
-use Rattle.trace_text.specs.Steps.{parts_of, IsBegun, HasPut, added}
+use Rattle.trace_text.specs.Read.{told, IsJournalPart, MayFollow, ArePartitionsRising, AreParts, lines_of}
+use Rattle.trace_text.specs.Steps.{parts_of, HasParts, HasPutEntry, added}
 
 -- a journal of one entry more
 journal-more : (p : ℕ) (entries : List JournalEntry) (entry : JournalEntry) → journal_text p (entries ++ entry ∷ []) ≡ journal_text p entries ++ entry_line p entry
@@ -50,49 +50,49 @@ added-lines [] p entry = refl
 added-lines (part ∷ []) p entry = last-lines (part.0 == p) part p entry
 added-lines (part ∷ next ∷ parts) p entry = omega (arith, added-lines (next ∷ parts) p entry)
 
-entry-part : (p : ℕ) (entry : JournalEntry) → p < 2 ^ 16 → IsEntry entry → IsPart (p, entry ∷ [])
+entry-part : (p : ℕ) (entry : JournalEntry) → p < 2 ^ 16 → IsEntry entry → IsJournalPart (p, entry ∷ [])
 entry-part p entry small is = record { partition = small; some = omega arith; each = All-cons IsEntry entry [] is (All-nil IsEntry) }
 
-part-more : (part : ℕ × List JournalEntry) (entry : JournalEntry) → IsPart part → IsEntry entry → IsPart (part.0, part.1 ++ entry ∷ [])
+part-more : (part : ℕ × List JournalEntry) (entry : JournalEntry) → IsJournalPart part → IsEntry entry → IsJournalPart (part.0, part.1 ++ entry ∷ [])
 part-more part entry of_part is = record {
   partition = of_part.partition;
   some = omega (arith, length-append part.1 (entry ∷ []));
   each = All-append IsEntry part.1 (entry ∷ []) of_part.each (All-cons IsEntry entry [] is (All-nil IsEntry));
 }
 
-last-are : (t : Bool) (part : ℕ × List JournalEntry) (p : ℕ) (entry : JournalEntry) → (part.0 == p) ≡ t → IsPart part → part.0 ≤ p → p < 2 ^ 16 → IsEntry entry
+last-are : (t : Bool) (part : ℕ × List JournalEntry) (p : ℕ) (entry : JournalEntry) → (part.0 == p) ≡ t → IsJournalPart part → part.0 ≤ p → p < 2 ^ 16 → IsEntry entry
     → AreParts (cond t ((part.0, part.1 ++ entry ∷ []) ∷ []) (part ∷ (p, entry ∷ []) ∷ []))
 last-are true part p entry is of_part may small of_entry = record {
   rising = tt;
-  each = All-cons IsPart (part.0, part.1 ++ entry ∷ []) [] (part-more part entry of_part of_entry) (All-nil IsPart);
+  each = All-cons IsJournalPart (part.0, part.1 ++ entry ∷ []) [] (part-more part entry of_part of_entry) (All-nil IsJournalPart);
 }
 last-are false part p entry is of_part may small of_entry =
     let below : part.0 < p = grind (arith, nat_tests) in
     record {
       rising = (below, tt);
-      each = All-cons IsPart part ((p, entry ∷ []) ∷ []) of_part (All-cons IsPart (p, entry ∷ []) [] (entry-part p entry small of_entry) (All-nil IsPart));
+      each = All-cons IsJournalPart part ((p, entry ∷ []) ∷ []) of_part (All-cons IsJournalPart (p, entry ∷ []) [] (entry-part p entry small of_entry) (All-nil IsJournalPart));
     }
 
 -- what is below the first stays below it
 last-under : (t : Bool) (part next : ℕ × List JournalEntry) (p : ℕ) (entry : JournalEntry) → part.0 < next.0
-    → AreRising (cond t ((next.0, next.1 ++ entry ∷ []) ∷ []) (next ∷ (p, entry ∷ []) ∷ [])) → AreRising (part ∷ cond t ((next.0, next.1 ++ entry ∷ []) ∷ []) (next ∷ (p, entry ∷ []) ∷ []))
+    → ArePartitionsRising (cond t ((next.0, next.1 ++ entry ∷ []) ∷ []) (next ∷ (p, entry ∷ []) ∷ [])) → ArePartitionsRising (part ∷ cond t ((next.0, next.1 ++ entry ∷ []) ∷ []) (next ∷ (p, entry ∷ []) ∷ []))
 last-under true part next p entry below rising = (below, rising)
 last-under false part next p entry below rising = (below, rising)
 
-rising-under : (part next : ℕ × List JournalEntry) (parts : List (ℕ × List JournalEntry)) (p : ℕ) (entry : JournalEntry) → part.0 < next.0 → AreRising (added (next ∷ parts) p entry)
-    → AreRising (part ∷ added (next ∷ parts) p entry)
+rising-under : (part next : ℕ × List JournalEntry) (parts : List (ℕ × List JournalEntry)) (p : ℕ) (entry : JournalEntry) → part.0 < next.0 → ArePartitionsRising (added (next ∷ parts) p entry)
+    → ArePartitionsRising (part ∷ added (next ∷ parts) p entry)
 rising-under part next [] p entry below rising = last-under (next.0 == p) part next p entry below rising
 rising-under part next (more ∷ parts) p entry below rising = (below, rising)
 
 -- and they are parts
 pub added-are : (parts : List (ℕ × List JournalEntry)) (p : ℕ) (entry : JournalEntry) → AreParts parts → MayFollow parts p → p < 2 ^ 16 → IsEntry entry → AreParts (added parts p entry)
-added-are [] p entry are may small is = record { rising = tt; each = All-cons IsPart (p, entry ∷ []) [] (entry-part p entry small is) (All-nil IsPart) }
-added-are (part ∷ []) p entry are may small is = last-are (part.0 == p) part p entry refl (All-head IsPart part [] are.each) may small is
+added-are [] p entry are may small is = record { rising = tt; each = All-cons IsJournalPart (p, entry ∷ []) [] (entry-part p entry small is) (All-nil IsJournalPart) }
+added-are (part ∷ []) p entry are may small is = last-are (part.0 == p) part p entry refl (All-head IsJournalPart part [] are.each) may small is
 added-are (part ∷ next ∷ parts) p entry are may small is =
-    let later = added-are (next ∷ parts) p entry (record { rising = are.rising.1; each = All-tail IsPart part (next ∷ parts) are.each }) may small is in
+    let later = added-are (next ∷ parts) p entry (record { rising = are.rising.1; each = All-tail IsJournalPart part (next ∷ parts) are.each }) may small is in
     record {
       rising = rising-under part next parts p entry are.rising.0 later.rising;
-      each = All-cons IsPart part (added (next ∷ parts) p entry) (All-head IsPart part (next ∷ parts) are.each) later.each;
+      each = All-cons IsJournalPart part (added (next ∷ parts) p entry) (All-head IsJournalPart part (next ∷ parts) are.each) later.each;
     }
 
 -- the last part decides what may follow
@@ -122,12 +122,12 @@ added-new (a ∷ b ∷ front) part p entry h = ap (λ (t : List (ℕ × List Jou
 with-last : (parts : Parts) (last : PartitionId) → parts.last ≡ Some last → parts_of parts ≡ map told parts.done ++ (last.0, parts.journal.items) ∷ []
 with-last parts last is = rw is refl
 
-some-begun : (parts : Parts) (last : PartitionId) → parts.last ≡ Some last → IsBegun parts
+some-begun : (parts : Parts) (last : PartitionId) → parts.last ≡ Some last → HasParts parts
 some-begun parts last is none = let no : ◌≡◌ {A = Option PartitionId} None (Some last) = sym none ∙ is in cc no
 
 -- an entry of the last partition
 pub put-same : (old new : Parts) (line : Line) (last : PartitionId) → old.last ≡ Some last → line.partition.0 ≡ last.0 → new.done ≡ old.done → new.last ≡ old.last
-    → new.journal.items ≡ old.journal.items ++ line.entry ∷ [] → HasPut old new line
+    → new.journal.items ≡ old.journal.items ++ line.entry ∷ [] → HasPutEntry old new line
 put-same old new line last is equal done kept items =
     let same : (last.0 == line.partition.0) ≡ true = (Decides-eqb last.0 line.partition.0).1 (sym equal) in
     record {
@@ -138,7 +138,7 @@ put-same old new line last is equal done kept items =
 
 -- an entry of a later one
 pub put-new : (old new : Parts) (line : Line) (last : PartitionId) (moved : PartJournal) → old.last ≡ Some last → last.0 < line.partition.0 → told moved ≡ (last.0, old.journal.items)
-    → new.done ≡ old.done ++ moved ∷ [] → new.last ≡ Some line.partition → new.journal.items ≡ line.entry ∷ [] → HasPut old new line
+    → new.done ≡ old.done ++ moved ∷ [] → new.last ≡ Some line.partition → new.journal.items ≡ line.entry ∷ [] → HasPutEntry old new line
 put-new old new line last moved is above was done begun items =
     let other : (last.0 == line.partition.0) ≡ false = ne_eqb last.0 line.partition.0 (λ e. omega (arith, e, above)) in
     let front : map told new.done ≡ map told old.done ++ (last.0, old.journal.items) ∷ []

@@ -11,7 +11,7 @@ use Rattle.trace_text.specs.declared.refusal.TraceRefusal.{TraceRefusal}
 use Rattle.trace_text.specs.declared.refusal.TraceRefusal.TheVariants.{Bad, NoMemory}
 use Rattle.trace_text.specs.Trace.{entry_line, journal_text, trace_of}
 use Rattle.trace_text.specs.Entries.{IsEntry}
-use Rattle.trace_text.specs.Read.{told, IsPart, MayFollow, AreRising, AreParts, IsBad, Reads}
+use Rattle.trace_text.specs.Read.{told, IsJournalPart, MayFollow, ArePartitionsRising, AreParts, IsBadLine, ReadsTrace}
 use Rattle.trace_text.specs.Laws.{ReadsAs}
 use Rattle.trace_text.specs.Reading.{line_in}
 use Rattle.trace_text.proofs.Readings.{Each}
@@ -48,11 +48,11 @@ marked-each : (p : ℕ) (es : List JournalEntry) (later : List (ℕ × JournalEn
 marked-each p [] later small all each = each
 marked-each p (e ∷ es) later small all each = ((small, All-head IsEntry e es all), marked-each p es later small (All-tail IsEntry e es all) each)
 
-flat-each : (parts : List (ℕ × List JournalEntry)) → All IsPart parts → Each IsLine (flat parts)
+flat-each : (parts : List (ℕ × List JournalEntry)) → All IsJournalPart parts → Each IsLine (flat parts)
 flat-each [] all = tt
 flat-each (part ∷ parts) all =
-    let is = All-head IsPart part parts all in
-    marked-each part.0 part.1 (flat parts) is.partition is.each (flat-each parts (All-tail IsPart part parts all))
+    let is = All-head IsJournalPart part parts all in
+    marked-each part.0 part.1 (flat parts) is.partition is.each (flat-each parts (All-tail IsJournalPart part parts all))
 
 -- no line is empty
 some-line : (p : ℕ) (e : JournalEntry) (rest : List ℕ) → entry_line p e ++ rest ≡ [] → ⊥
@@ -104,11 +104,11 @@ abbrev IsAbove : ℕ → List (ℕ × List JournalEntry) → Type 0
 IsAbove p [] = Unit {0}
 IsAbove p (q ∷ qs) = p < q.0
 
-above : (part : ℕ × List JournalEntry) (parts : List (ℕ × List JournalEntry)) → AreRising (part ∷ parts) → IsAbove part.0 parts
+above : (part : ℕ × List JournalEntry) (parts : List (ℕ × List JournalEntry)) → ArePartitionsRising (part ∷ parts) → IsAbove part.0 parts
 above part [] rising = tt
 above part (next ∷ parts) rising = rising.0
 
-rising-tail : (part : ℕ × List JournalEntry) (parts : List (ℕ × List JournalEntry)) → AreRising (part ∷ parts) → AreRising parts
+rising-tail : (part : ℕ × List JournalEntry) (parts : List (ℕ × List JournalEntry)) → ArePartitionsRising (part ∷ parts) → ArePartitionsRising parts
 rising-tail part [] rising = tt
 rising-tail part (next ∷ parts) rising = rising.1
 
@@ -128,9 +128,9 @@ grouped-marked p (e ∷ f ∷ es) later parts some is h =
 grouped-flat : (parts : List (ℕ × List JournalEntry)) → AreParts parts → grouped (flat parts) ≡ parts
 grouped-flat [] are = refl
 grouped-flat (part ∷ parts) are =
-    let is = All-head IsPart part parts are.each in
+    let is = All-head IsJournalPart part parts are.each in
     grouped-marked part.0 part.1 (flat parts) parts is.some (above part parts are.rising)
-    (grouped-flat parts (record { rising = rising-tail part parts are.rising; each = All-tail IsPart part parts are.each }))
+    (grouped-flat parts (record { rising = rising-tail part parts are.rising; each = All-tail IsJournalPart part parts are.each }))
 
 no-text : (ls : List (ℕ × JournalEntry)) → text_of ls ≡ [] → ls ≡ []
 no-text [] h = refl
@@ -158,9 +158,9 @@ front-marked : (p q : ℕ) (es : List JournalEntry) (later : List (ℕ × Journa
 front-marked p q [] later h some = absurd (omega (arith, some))
 front-marked p q (e ∷ es) later h some = omega (arith, h)
 
-front-flat : (p : ℕ) (parts : List (ℕ × List JournalEntry)) → All IsPart parts → IsAbove p parts → FrontIs p (flat parts)
+front-flat : (p : ℕ) (parts : List (ℕ × List JournalEntry)) → All IsJournalPart parts → IsAbove p parts → FrontIs p (flat parts)
 front-flat p [] all is = tt
-front-flat p (q ∷ qs) all is = front-marked p q.0 q.1 (flat qs) is (All-head IsPart q qs all).some
+front-flat p (q ∷ qs) all is = front-marked p q.0 q.1 (flat qs) is (All-head IsJournalPart q qs all).some
 
 marked-sorted : (p : ℕ) (es : List JournalEntry) (later : List (ℕ × JournalEntry)) → FrontIs p later → AreSorted later → AreSorted (marked p es later)
 marked-sorted p [] later front sorted = sorted
@@ -171,7 +171,7 @@ marked-sorted p (e ∷ f ∷ es) later front sorted = (omega arith, marked-sorte
 flat-sorted : (parts : List (ℕ × List JournalEntry)) → AreParts parts → AreSorted (flat parts)
 flat-sorted [] are = tt
 flat-sorted (part ∷ parts) are =
-    let later = All-tail IsPart part parts are.each in
+    let later = All-tail IsJournalPart part parts are.each in
     marked-sorted part.0 part.1 (flat parts) (front-flat part.0 parts later (above part parts are.rising))
     (flat-sorted parts (record { rising = rising-tail part parts are.rising; each = later }))
 
@@ -188,30 +188,30 @@ marked-may p [] z zs some sorted = absurd (omega (arith, some))
 marked-may p (e ∷ []) z zs some sorted = sorted.0
 marked-may p (e ∷ f ∷ es) z zs some sorted = marked-may p (f ∷ es) z zs (omega arith) sorted.1
 
-flat-may : (parts : List (ℕ × List JournalEntry)) (z : ℕ × JournalEntry) (zs : List (ℕ × JournalEntry)) → All IsPart parts → AreSorted (flat parts ++ z ∷ zs) → MayFollow parts z.0
+flat-may : (parts : List (ℕ × List JournalEntry)) (z : ℕ × JournalEntry) (zs : List (ℕ × JournalEntry)) → All IsJournalPart parts → AreSorted (flat parts ++ z ∷ zs) → MayFollow parts z.0
 flat-may [] z zs all sorted = tt
-flat-may (part ∷ []) z zs all sorted = marked-may part.0 part.1 z zs (All-head IsPart part [] all).some sorted
+flat-may (part ∷ []) z zs all sorted = marked-may part.0 part.1 z zs (All-head IsJournalPart part [] all).some sorted
 flat-may (part ∷ next ∷ parts) z zs all sorted =
-    flat-may (next ∷ parts) z zs (All-tail IsPart part (next ∷ parts) all) (sorted-behind part.0 part.1 (flat (next ∷ parts)) (z ∷ zs) sorted)
+    flat-may (next ∷ parts) z zs (All-tail IsJournalPart part (next ∷ parts) all) (sorted-behind part.0 part.1 (flat (next ∷ parts)) (z ∷ zs) sorted)
 
 each-behind : (xs ys : List (ℕ × JournalEntry)) → Each IsLine (xs ++ ys) → Each IsLine ys
 each-behind [] ys each = each
 each-behind (x ∷ xs) ys each = each-behind xs ys each.1
 
-not-bad-more : (parts : List (ℕ × List JournalEntry)) (bytes : List ℕ) (line : ℕ) (bad : IsBad bytes line) (more : List (ℕ × JournalEntry)) → Each IsLine (flat bad.parts ++ more) → AreSorted (flat bad.parts ++ more) → text_of more ≡ bad.rest → ⊥
+not-bad-more : (parts : List (ℕ × List JournalEntry)) (bytes : List ℕ) (line : ℕ) (bad : IsBadLine bytes line) (more : List (ℕ × JournalEntry)) → Each IsLine (flat bad.parts ++ more) → AreSorted (flat bad.parts ++ more) → text_of more ≡ bad.rest → ⊥
 not-bad-more parts bytes line bad [] each sorted text = let size = ap (λ (t : List ℕ). length t) text in omega (arith, size, bad.some)
 not-bad-more parts bytes line bad (z ∷ zs) each sorted text =
     let is = (each-behind (flat bad.parts) (z ∷ zs) each).0 in
     bad.none z.0 z.1 (text_of zs) is.0 is.1 (flat-may bad.parts z zs bad.are.each sorted) (sym text)
 
-not-bad : (parts : List (ℕ × List JournalEntry)) (line : ℕ) → AreParts parts → IsBad (trace_of parts) line → ⊥
+not-bad : (parts : List (ℕ × List JournalEntry)) (line : ℕ) → AreParts parts → IsBadLine (trace_of parts) line → ⊥
 not-bad parts line are bad =
     let begin = begins (flat parts) (flat bad.parts) bad.rest (flat-each parts are.each) (flat-each bad.parts bad.are.each)
     (flat-text parts ∙ (bad.text ∙ ap (λ (t : List ℕ). t ++ bad.rest) (sym (flat-text bad.parts)))) in
     not-bad-more parts (trace_of parts) line bad begin.more (rw begin.lines at (flat-each parts are.each)) (rw begin.lines at (flat-sorted parts are)) begin.text
 
 -- what is read of the text of journals
-pub reads-as : (parts : List (ℕ × List JournalEntry)) (result : Result (List PartJournal) TraceRefusal) → AreParts parts → Reads (trace_of parts) result → ReadsAs parts result
+pub reads-as : (parts : List (ℕ × List JournalEntry)) (result : Result (List PartJournal) TraceRefusal) → AreParts parts → ReadsTrace (trace_of parts) result → ReadsAs parts result
 reads-as parts (Ok read) are reads = one-text (map told read) parts reads.are are (sym reads.text)
 reads-as parts (Err (Bad line)) are reads = not-bad parts line are reads
 reads-as parts (Err NoMemory) are reads = tt

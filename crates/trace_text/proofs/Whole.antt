@@ -8,8 +8,8 @@ use Rattle.trace_text.specs.declared.line.Line.{Line}
 use Rattle.trace_text.specs.declared.parts.Parts.{Parts}
 use Rattle.trace_text.specs.Trace.{entry_line, trace_of}
 use Rattle.trace_text.specs.Entries.{IsEntry}
-use Rattle.trace_text.specs.Read.{MayFollow, AreParts, lines_of, IsBad}
-use Rattle.trace_text.specs.Steps.{parts_of, HasPut, Puts}
+use Rattle.trace_text.specs.Read.{MayFollow, AreParts, lines_of, IsBadLine}
+use Rattle.trace_text.specs.Steps.{parts_of, HasPutEntry, PutsEntry}
 use Rattle.trace_text.specs.Reading.{line_in}
 use Rattle.trace_text.proofs.Places.{Lacks, no-match}
 use Rattle.trace_text.proofs.Lined.{body, body-lacks, line-complete, line-sound, line-behind, front-same}
@@ -31,7 +31,7 @@ no-end rest partition entry behind lacks small is e =
     omega (arith, size, length-slice_split (λ b. b == 10) behind)
 
 -- a line without an LF
-pub bad-unended : (bytes rest : List ℕ) (number : ℕ) (parts : List (ℕ × List JournalEntry)) → IsReadTo bytes rest number parts → 1 ≤ length rest → Lacks 10 rest → IsBad bytes number
+pub bad-unended : (bytes rest : List ℕ) (number : ℕ) (parts : List (ℕ × List JournalEntry)) → IsReadTo bytes rest number parts → 1 ≤ length rest → Lacks 10 rest → IsBadLine bytes number
 bad-unended bytes rest number parts to some lacks = record {
   parts = parts;
   rest = rest;
@@ -54,7 +54,7 @@ long-rest text behind rest is = let size = ap (λ (t : List ℕ). length t) is i
 
 -- an invalid line
 pub bad-unread : (bytes rest : List ℕ) (number : ℕ) (parts : List (ℕ × List JournalEntry)) (text behind : List ℕ) → IsReadTo bytes rest number parts → Lacks 10 text → rest ≡ text ++ 10 ∷ behind → line_in text ≡ None
-    → IsBad bytes number
+    → IsBadLine bytes number
 bad-unread bytes rest number parts text behind to lacks is unread = record {
   parts = parts;
   rest = rest;
@@ -70,7 +70,7 @@ same-line a b o ea eb = let both : ◌≡◌ {A = Option Line} (Some a) (Some b)
 
 -- a line that can't be there
 pub bad-early : (bytes rest : List ℕ) (number : ℕ) (parts : List (ℕ × List JournalEntry)) (text behind : List ℕ) (line : Line) → IsReadTo bytes rest number parts → Lacks 10 text → rest ≡ text ++ 10 ∷ behind
-    → line_in text ≡ Some line → (MayFollow parts line.partition.0 → ⊥) → IsBad bytes number
+    → line_in text ≡ Some line → (MayFollow parts line.partition.0 → ⊥) → IsBadLine bytes number
 bad-early bytes rest number parts text behind line to lacks is read early = record {
   parts = parts;
   rest = rest;
@@ -85,7 +85,7 @@ bad-early bytes rest number parts text behind line to lacks is read early = reco
 
 -- a line that goes to the others
 pub one-more : (bytes rest : List ℕ) (number next : ℕ) (old new : Parts) (text behind : List ℕ) (line : Line) → IsReadTo bytes rest number (parts_of old) → rest ≡ text ++ 10 ∷ behind
-    → line_in text ≡ Some line → HasPut old new line → next ≡ min (number + 1) (2 ^ 32 - 1) → IsReadTo bytes behind next (parts_of new)
+    → line_in text ≡ Some line → HasPutEntry old new line → next ≡ min (number + 1) (2 ^ 32 - 1) → IsReadTo bytes behind next (parts_of new)
 one-more bytes rest number next old new text behind line to is read put grows =
     let sound = line-sound text line read in
     let p = line.partition.0 in
@@ -105,10 +105,10 @@ some-rest [] h = cc h
 some-rest (b ∷ rest) h = omega arith
 
 -- what putting answered
-pub was-put : (old new : Parts) (line : Line) (t : Bool) → t ≡ true → Puts old new line (Ok t) → HasPut old new line
+pub was-put : (old new : Parts) (line : Line) (t : Bool) → t ≡ true → PutsEntry old new line (Ok t) → HasPutEntry old new line
 was-put old new line true is h = h
 was-put old new line false is h = cc is
 
-pub was-not-put : (old new : Parts) (line : Line) (t : Bool) → t ≡ false → Puts old new line (Ok t) → MayFollow (parts_of old) line.partition.0 → ⊥
+pub was-not-put : (old new : Parts) (line : Line) (t : Bool) → t ≡ false → PutsEntry old new line (Ok t) → MayFollow (parts_of old) line.partition.0 → ⊥
 was-not-put old new line false is h = h
 was-not-put old new line true is h = cc is

@@ -5,7 +5,7 @@ use Rattle.trace_text.specs.declared.line.PartJournal.{PartJournal}
 use Rattle.trace_text.specs.declared.refusal.TraceRefusal.{TraceRefusal}
 use Rattle.trace_text.specs.declared.refusal.TraceRefusal.TheVariants.{Bad, NoMemory}
 use Rattle.trace_text.specs.Trace.{trace_of}
-use Rattle.trace_text.specs.Read.{told, AreParts, Reads}
+use Rattle.trace_text.specs.Read.{told, AreParts, ReadsTrace}
 
 -- these journals were read, unless the reader was out of memory
 abbrev pub ReadsAs : List (ℕ × List JournalEntry) → Result (List PartJournal) TraceRefusal → Type 0
@@ -16,7 +16,7 @@ ReadsAs parts (Err NoMemory) = Unit {0}
 -- reading what was printed returns the journals that were printed
 abbrev pub PrintIsRead : Type 0
 PrintIsRead = (parts : List (ℕ × List JournalEntry)) (result : Result (List PartJournal) TraceRefusal)
-    → AreParts parts → Reads (trace_of parts) result → ReadsAs parts result
+    → AreParts parts → ReadsTrace (trace_of parts) result → ReadsAs parts result
 
 -- two traces with the same text are equal
 abbrev pub OneTextOneTrace : Type 0

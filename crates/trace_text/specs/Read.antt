@@ -16,7 +16,7 @@ abbrev pub told : PartJournal → ℕ × List JournalEntry
 told part = (part.partition.0, part.journal.items)
 
 -- a partition that has entries, each of which can be written and read back
-pub record IsPart (part : ℕ × List JournalEntry) : Type 0 where
+pub record IsJournalPart (part : ℕ × List JournalEntry) : Type 0 where
   pub partition : part.0 < 2 ^ 16
   pub some : 1 ≤ length part.1
   pub each : All IsEntry part.1
@@ -28,15 +28,15 @@ MayFollow (part ∷ []) partition = part.0 ≤ partition
 MayFollow (part ∷ next ∷ parts) partition = MayFollow (next ∷ parts) partition
 
 -- each partition is above the one before
-abbrev pub AreRising : List (ℕ × List JournalEntry) → Type 0
-AreRising [] = Unit {0}
-AreRising (part ∷ []) = Unit {0}
-AreRising (part ∷ next ∷ parts) = (part.0 < next.0) × AreRising (next ∷ parts)
+abbrev pub ArePartitionsRising : List (ℕ × List JournalEntry) → Type 0
+ArePartitionsRising [] = Unit {0}
+ArePartitionsRising (part ∷ []) = Unit {0}
+ArePartitionsRising (part ∷ next ∷ parts) = (part.0 < next.0) × ArePartitionsRising (next ∷ parts)
 
 -- the parts of a trace
 pub record AreParts (parts : List (ℕ × List JournalEntry)) : Type 0 where
-  pub rising : AreRising parts
-  pub each : All IsPart parts
+  pub rising : ArePartitionsRising parts
+  pub each : All IsJournalPart parts
 
 -- how many lines they have
 abbrev pub lines_of : List (ℕ × List JournalEntry) → ℕ
@@ -50,7 +50,7 @@ pub record IsTrace (bytes : List ℕ) (parts : List PartJournal) : Type 0 where
 
 -- the line of this number is the first that no entry has: the lines before it are a trace, and what follows is neither
 -- nothing nor the line of an entry that may be there, with more after it; a number past the type's end stays there
-pub record IsBad (bytes : List ℕ) (line : ℕ) : Type 0 where
+pub record IsBadLine (bytes : List ℕ) (line : ℕ) : Type 0 where
   pub parts : List (ℕ × List JournalEntry)
   pub rest : List ℕ
   pub are : AreParts parts
@@ -61,7 +61,7 @@ pub record IsBad (bytes : List ℕ) (line : ℕ) : Type 0 where
   pub number : line ≡ min (lines_of parts + 1) (2 ^ 32 - 1)
 
 -- what the reader of a trace returns; only being out of memory is unspecified
-abbrev pub Reads : List ℕ → Result (List PartJournal) TraceRefusal → Type 0
-Reads bytes (Ok parts) = IsTrace bytes parts
-Reads bytes (Err (Bad line)) = IsBad bytes line
-Reads bytes (Err NoMemory) = Unit {0}
+abbrev pub ReadsTrace : List ℕ → Result (List PartJournal) TraceRefusal → Type 0
+ReadsTrace bytes (Ok parts) = IsTrace bytes parts
+ReadsTrace bytes (Err (Bad line)) = IsBadLine bytes line
+ReadsTrace bytes (Err NoMemory) = Unit {0}

@@ -14,9 +14,9 @@ abbrev pub IsOneLine : List ℕ → Type 0
 IsOneLine text = All (λ b. (b == 10) ≡ false) text
 
 -- the first line and what follows its LF; or there is no LF
-abbrev pub ReadsFirst : List ℕ → Option (Bor (List ℕ) × Bor (List ℕ)) → Type 0
-ReadsFirst bytes None = IsOneLine bytes
-ReadsFirst bytes (Some found) = IsOneLine found.0.now × (bytes ≡ found.0.now ++ 10 ∷ found.1.now)
+abbrev pub ReadsFirstLine : List ℕ → Option (Bor (List ℕ) × Bor (List ℕ)) → Type 0
+ReadsFirstLine bytes None = IsOneLine bytes
+ReadsFirstLine bytes (Some found) = IsOneLine found.0.now × (bytes ≡ found.0.now ++ 10 ∷ found.1.now)
 
 -- the words left of a line
 abbrev pub words_left : Option (Bor (List ℕ)) → List (List ℕ)
@@ -53,8 +53,8 @@ abbrev pub parts_of : Parts → List (ℕ × List JournalEntry)
 parts_of parts = map told parts.done ++ last_part parts
 
 -- nothing was put before there is a last partition
-abbrev pub IsBegun : Parts → Type 0
-IsBegun parts = parts.last ≡ None → parts.done ≡ []
+abbrev pub HasParts : Parts → Type 0
+HasParts parts = parts.last ≡ None → parts.done ≡ []
 
 -- the last part is a new one, of this line
 pub record HasBegun (old new : Parts) (line : Line) : Type 0 where
@@ -70,13 +70,13 @@ added (part ∷ []) partition entry =
 added (part ∷ next ∷ parts) partition entry = part ∷ added (next ∷ parts) partition entry
 
 -- the entry was put
-pub record HasPut (old new : Parts) (line : Line) : Type 0 where
-  pub begun : IsBegun new
+pub record HasPutEntry (old new : Parts) (line : Line) : Type 0 where
+  pub begun : HasParts new
   pub may : MayFollow (parts_of old) line.partition.0
   pub parts : parts_of new ≡ added (parts_of old) line.partition.0 line.entry
 
 -- what putting an entry returns
-abbrev pub Puts : Parts → Parts → Line → Result Bool AllocError → Type 0
-Puts old new line (Ok true) = HasPut old new line
-Puts old new line (Ok false) = MayFollow (parts_of old) line.partition.0 → ⊥
-Puts old new line (Err refusal) = Unit {0}
+abbrev pub PutsEntry : Parts → Parts → Line → Result Bool AllocError → Type 0
+PutsEntry old new line (Ok true) = HasPutEntry old new line
+PutsEntry old new line (Ok false) = MayFollow (parts_of old) line.partition.0 → ⊥
+PutsEntry old new line (Err refusal) = Unit {0}

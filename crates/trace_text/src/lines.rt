@@ -1,8 +1,8 @@
 //! Reading a trace, line by line.
 
 ghost use Rattle.std.specs.Prelude.{◌≡◌};
-ghost use Rattle.trace_text.specs.Read.{Reads};
-ghost use Rattle.trace_text.specs.Steps.{ReadsFirst};
+ghost use Rattle.trace_text.specs.Read.{ReadsTrace};
+ghost use Rattle.trace_text.specs.Steps.{ReadsFirstLine};
 
 use crate::line::PartJournal;
 use crate::parts::Parts;
@@ -14,7 +14,7 @@ use tier_base::Row;
 
 /// Returns the first line and what follows its LF, or `None` if there is no LF.
 fn first_line(bytes: &[u8]) -> Option<(&[u8], &[u8])>
-    ensures { ReadsFirst bytes.now result }
+    ensures { ReadsFirstLine bytes.now result }
 {
     let end = front_len(bytes, b'\n');
     if end == bytes.len() {
@@ -26,7 +26,7 @@ fn first_line(bytes: &[u8]) -> Option<(&[u8], &[u8])>
 /// Reads a trace, and returns the partitions' journals in order. It goes over the bytes once and copies only the
 /// bytes of runs. Fails at the first invalid line, or if it is out of memory.
 pub fn read(alloc: Global, bytes: &[u8]) -> Result<Row<PartJournal>, TraceRefusal>
-    ensures { Reads bytes.now result }
+    ensures { ReadsTrace bytes.now result }
 {
     let mut parts = Parts::new(alloc);
     let mut rest = bytes;

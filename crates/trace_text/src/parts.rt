@@ -2,7 +2,7 @@
 
 ghost use Rattle.std.specs.Prelude.{◌≡◌, [], map, IfOk, OnOk};
 ghost use Rattle.trace_text.specs.Read.{told};
-ghost use Rattle.trace_text.specs.Steps.{parts_of, IsBegun, HasBegun, Puts};
+ghost use Rattle.trace_text.specs.Steps.{parts_of, HasParts, HasBegun, PutsEntry};
 
 use crate::line::{Line, PartJournal};
 use plain_log::Journal;
@@ -21,7 +21,7 @@ pub struct Parts {
 impl Parts {
     /// Returns no journal.
     pub fn new(alloc: Global) -> Parts
-        ensures begun { IsBegun result }
+        ensures begun { HasParts result }
         ensures none { parts_of result ≡ [] }
     {
         Parts {
@@ -44,8 +44,8 @@ impl Parts {
 
     /// Appends an entry, or returns `false` if its partition is below the last one.
     pub fn put(&mut self, alloc: Global, line: Line) -> Result<bool, AllocError>
-        requires { IsBegun self.old }
-        ensures { Puts self.old self.new line result }
+        requires { HasParts self.old }
+        ensures { PutsEntry self.old self.new line result }
     {
         let Some(last) = self.last else {
             self.begin(alloc, line)?;

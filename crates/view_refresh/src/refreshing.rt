@@ -2,7 +2,7 @@
 
 ghost use Rattle.std.specs.Prelude.{◌≡◌, ℕ, take, OnOk, OnErr};
 ghost use Rattle.meta_log.specs.Content.{AreNotes, Keeps};
-ghost use Rattle.view_refresh.specs.Refreshing.{fed_all, Takes, Leaves, Reads, ReadsOnce};
+ghost use Rattle.view_refresh.specs.Refreshing.{fed_all, RefreshMakes, RefreshLeaves, ReadsNotes, ReadsOnce};
 
 use meta_log::MetaLog;
 use remote_view::View;
@@ -14,11 +14,11 @@ use tier_base::{Row, Trouble};
 /// added some of them.
 #[tactic(auto, using(crate::proofs::Feeding::failed_takes))]
 pub fn refresh<M: MetaLog>(view: &mut View, meta: &mut M) -> Result<(), Trouble>
-    ensures view { Takes result (M.content meta.old) view.old view.new }
-    ensures control { Reads result (M.control meta.old) (M.control meta.new) }
+    ensures view { RefreshMakes result (M.content meta.old) view.old view.new }
+    ensures control { ReadsNotes result (M.control meta.old) (M.control meta.new) }
     ensures once { ReadsOnce result (M.control meta.old) (M.control meta.new) }
     ensures content { Keeps (M.content meta.old) (M.content meta.new) }
-    ensures left { Leaves result view.old view.new (M.content meta.old) (M.content meta.new) }
+    ensures left { RefreshLeaves result view.old view.new (M.content meta.old) (M.content meta.new) }
 {
     let notes = meta.read(view.seen())?;
     match feed_all(view, notes) {

@@ -10,7 +10,7 @@ use Rattle.device_yard.specs.YardContent.{YardContent}
 use Rattle.tier_audit.specs.declared.verdict.Verdict.{Verdict}
 use Rattle.yard_audit.specs.Lines.{verdict_text, line_of, lines_of, unsound_after, first_unsound_from, first_unsound}
 use Rattle.yard_audit.specs.Rounds.{partitions_of, AreAll, AreAudited, IsAudited}
-use Rattle.yard_audit.specs.Tiers.{AllRest, IsBack}
+use Rattle.yard_audit.specs.Tiers.{YardRests, StaysOut}
 use Rattle.yard_audit.proofs.Tiers.{rests_then, held_before, back_then}
 
 -- lists with one more at their end
@@ -43,12 +43,12 @@ module _ {D S M : Type 0} (files : D → disk.Content) (objects : S → store.Co
     pub right : IsTrue h0.is_observable → AllByRecursion (IsAudited objects notes h0) found
     pub text_is : text ≡ lines_of verdict_text found
     pub unsound_is : unsound ≡ first_unsound found
-    pub rests : IsTrue h0.is_observable → AllRest files objects notes h0 h
+    pub rests : IsTrue h0.is_observable → YardRests files objects notes h0 h
     pub is_observable : h.is_observable ≡ h0.is_observable
-    pub back : IsBack c0 c
+    pub back : StaysOut c0 c
 
   pub begins : (list rest : List PartitionId) (h0 h : YardContent D S M) (c0 c : Control) (text : List ℕ) → rest ≡ list → text ≡ [] → AreAll files objects notes h0 list
-      → (IsTrue h0.is_observable → AllRest files objects notes h0 h) → h.is_observable ≡ h0.is_observable → IsBack c0 c → SoFar rest h0 h c0 c text None
+      → (IsTrue h0.is_observable → YardRests files objects notes h0 h) → h.is_observable ≡ h0.is_observable → StaysOut c0 c → SoFar rest h0 h c0 c text None
   begins list rest h0 h c0 c text is empty all rests is_observable back = record {
     found = [];
     all = subst (AreAll files objects notes h0) (sym is) all;
@@ -71,7 +71,7 @@ module _ {D S M : Type 0} (files : D → disk.Content) (objects : S → store.Co
     }
 
     one_more : (text : List ℕ) (unsound : Option PartitionId) → SoFar (p ∷ rest) h0 h c0 c text unsound → (IsTrue h.is_observable → IsAudited objects notes h (p, verdict))
-        → (IsTrue h.is_observable → AllRest files objects notes h h') → h'.is_observable ≡ h.is_observable → IsBack c c'
+        → (IsTrue h.is_observable → YardRests files objects notes h h') → h'.is_observable ≡ h.is_observable → StaysOut c c'
         → SoFar rest h0 h' c0 c' (text ++ line_of p (verdict_text verdict)) (unsound_after unsound p verdict)
     one_more text unsound so audited rests is_observable back = record {
       found = so.found ++ (p, verdict) ∷ [];
@@ -87,7 +87,7 @@ module _ {D S M : Type 0} (files : D → disk.Content) (objects : S → store.Co
     pub goes_on : (before : List PartitionId) (text text' : List ℕ) (unsound unsound' : Option PartitionId) → before ≡ p ∷ rest
         → text' ≡ text ++ line_of p (verdict_text verdict) → unsound' ≡ unsound_after unsound p verdict
         → SoFar before h0 h c0 c text unsound → (IsTrue h.is_observable → IsAudited objects notes h (p, verdict))
-        → (IsTrue h.is_observable → AllRest files objects notes h h') → h'.is_observable ≡ h.is_observable → IsBack c c' → SoFar rest h0 h' c0 c' text' unsound'
+        → (IsTrue h.is_observable → YardRests files objects notes h h') → h'.is_observable ≡ h.is_observable → StaysOut c c' → SoFar rest h0 h' c0 c' text' unsound'
     goes_on before text text' unsound unsound' steps added recorded so audited rests is_observable back =
         subst (λ (t : List ℕ). SoFar rest h0 h' c0 c' t unsound') (sym added)
         (subst (λ (u : Option PartitionId). SoFar rest h0 h' c0 c' (text ++ line_of p (verdict_text verdict)) u) (sym recorded)

@@ -16,7 +16,7 @@ use Rattle.tier_sweep.specs.Sweeping.IsUnderSweep.{Starting}
 use Rattle.tier_sweep.proofs.Leaving.{swept_under}
 use Rattle.yard_audit.specs.Lines.{swept_text, line_of, lines_of}
 use Rattle.yard_audit.specs.Rounds.{partitions_of, AreAll, AreSwept, IsSweptIn, IsUnderSweepIn, LeavesUnderIn, HandedLeavesUnder}
-use Rattle.yard_audit.specs.Tiers.{object_on, notes_on, left_on, LeavesNoMore, AllRest, OthersRest, DisksRest, IsBack, HoldsTier, TierIs}
+use Rattle.yard_audit.specs.Tiers.{object_on, notes_on, left_on, LeavesNoMore, YardRests, OthersRest, DisksRest, StaysOut, HoldsTier, TierIs}
 use Rattle.yard_audit.proofs.Tiers.{is_or_not, below_is_other, held_still, held_before, back_then, disks_then, handed_objects, handed_left}
 use Rattle.yard_audit.proofs.Audits.{lines_snoc, partitions_snoc, all_snoc}
 
@@ -57,7 +57,7 @@ module _ {D S M : Type 0} (files : D → disk.Content) (objects : S → store.Co
   abbrev pub AreUnder : YardContent D S M → YardContent D S M → Type 0
   AreUnder h0 h = (q : PartitionId) → IsUnderSweepIn objects notes h0 h q
 
-  pub all_unbegun : (h0 h : YardContent D S M) → AllRest files objects notes h0 h → AreUnder h0 h
+  pub all_unbegun : (h0 h : YardContent D S M) → YardRests files objects notes h0 h → AreUnder h0 h
   all_unbegun h0 h rests q =
       let before : SweptTier = record { objects = object_on objects (h0.stores q); notes = notes_on notes (h0.logs q) } in
       let after : SweptTier = record { objects = object_on objects (h.stores q); notes = notes_on notes (h.logs q) } in record {
@@ -72,7 +72,7 @@ module _ {D S M : Type 0} (files : D → disk.Content) (objects : S → store.Co
   abbrev pub AreLeft : YardContent D S M → YardContent D S M → Type 0
   AreLeft h0 h = (q : PartitionId) → LeavesUnderIn objects notes h0 h q
 
-  pub all_left : (h0 h : YardContent D S M) → AllRest files objects notes h0 h → AreLeft h0 h
+  pub all_left : (h0 h : YardContent D S M) → YardRests files objects notes h0 h → AreLeft h0 h
   all_left h0 h rests q l at =
       let before : SweptTier = record { objects = object_on objects (h0.stores q); notes = l } in
       let after : SweptTier = record { objects = object_on objects (h.stores q); notes = l } in record {
@@ -164,10 +164,10 @@ module _ {D S M : Type 0} (files : D → disk.Content) (objects : S → store.Co
     pub disks : IsTrue h0.is_observable → DisksRest files h0 h
     pub text_is : text ≡ lines_of swept_text found
     pub is_observable : h.is_observable ≡ h0.is_observable
-    pub back : IsBack c0 c
+    pub back : StaysOut c0 c
 
   pub begins : (list rest : List PartitionId) (h0 h : YardContent D S M) (c0 c : Control) (text : List ℕ) → rest ≡ list → text ≡ [] → AreAll files objects notes h0 list
-      → (IsTrue h0.is_observable → AllRest files objects notes h0 h) → h.is_observable ≡ h0.is_observable → IsBack c0 c → SoFar rest h0 h c0 c text
+      → (IsTrue h0.is_observable → YardRests files objects notes h0 h) → h.is_observable ≡ h0.is_observable → StaysOut c0 c → SoFar rest h0 h c0 c text
   begins list rest h0 h c0 c text is empty all rests is_observable back = record {
     found = [];
     all = subst (AreAll files objects notes h0) (sym is) all;
@@ -249,7 +249,7 @@ module _ {D S M : Type 0} (files : D → disk.Content) (objects : S → store.Co
         under_more before text steps so (λ now. swept_is_under h h' p count (swept now)) others t
 
     one_more : (c' : Control) (text : List ℕ) (count : ℕ) → SoFar (p ∷ rest) h0 h c0 c text → (IsTrue h.is_observable → IsSweptIn objects notes h h' (p, count))
-        → (IsTrue h.is_observable → LeavesUnderIn objects notes h h' p) → (IsTrue h.is_observable → OthersRest files objects notes p h h') → h'.is_observable ≡ h.is_observable → IsBack c c' → SoFar rest h0 h' c0 c' (text ++ line_of p (swept_text count))
+        → (IsTrue h.is_observable → LeavesUnderIn objects notes h h' p) → (IsTrue h.is_observable → OthersRest files objects notes p h h') → h'.is_observable ≡ h.is_observable → StaysOut c c' → SoFar rest h0 h' c0 c' (text ++ line_of p (swept_text count))
     one_more c' text count so swept leaves others is_observable back = record {
       found = so.found ++ (p, count) ∷ [];
       all = subst (AreAll files objects notes h0) (sym (partitions_snoc so.found p count rest)) so.all;
@@ -277,7 +277,7 @@ module _ {D S M : Type 0} (files : D → disk.Content) (objects : S → store.Co
     pub goes_on : (c' : Control) (before : List PartitionId) (text text' : List ℕ) (count : ℕ) → before ≡ p ∷ rest → text' ≡ text ++ line_of p (swept_text count)
         → SoFar before h0 h c0 c text → (IsTrue h.is_observable → IsSweptIn objects notes h h' (p, count)) → (IsTrue h.is_observable → LeavesUnderIn objects notes h h' p)
         → (IsTrue h.is_observable → OthersRest files objects notes p h h')
-        → h'.is_observable ≡ h.is_observable → IsBack c c' → SoFar rest h0 h' c0 c' text'
+        → h'.is_observable ≡ h.is_observable → StaysOut c c' → SoFar rest h0 h' c0 c' text'
     goes_on c' before text text' count steps added so swept leaves others is_observable back =
         subst (λ (t : List ℕ). SoFar rest h0 h' c0 c' t) (sym added)
         (one_more c' text count (subst (λ (l : List PartitionId). SoFar l h0 h c0 c text) steps so) swept leaves others is_observable back)

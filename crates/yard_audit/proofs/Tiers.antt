@@ -14,7 +14,7 @@ use Rattle.object_store.specs.Content as store
 use Rattle.meta_log.specs.Content as log
 use Rattle.device_yard.specs.YardContent.{YardContent, Same, Both, HandsStore, HandsLog}
 use Rattle.tier_sweep.specs.Sweeping.{SweptTier, tier_of}
-use Rattle.yard_audit.specs.Tiers.{file_on, object_on, notes_on, left_on, LeavesNoMore, HoldsTier, AllRest, DisksRest, TierIs, IsBack}
+use Rattle.yard_audit.specs.Tiers.{file_on, object_on, notes_on, left_on, LeavesNoMore, HoldsTier, YardRests, DisksRest, TierIs, StaysOut}
 
 -- partitions of one number are one
 pub same_partition : (p q : PartitionId) → p.0 ≡ q.0 → p ≡ q
@@ -38,14 +38,14 @@ on_err (Ok x) P holds = record {}
 on_err (Err e) P holds = holds
 
 -- counts of an environment that continue
-pub back_then : (c0 c c' : Control) → IsBack c0 c → IsBack c c' → IsBack c0 c'
+pub back_then : (c0 c c' : Control) → StaysOut c0 c → StaysOut c c' → StaysOut c0 c'
 back_then c0 c c' a b = record {
   never_falls = (let f = a.never_falls in let g = b.never_falls in omega (arith, f, g));
   named = b.named ∙ a.named;
   out = b.out ∙ a.out;
 }
 
-pub rose_then : (c0 c c' : Control) → IsBack c0 c → Rose c.faults c'.faults → Rose c0.faults c'.faults
+pub rose_then : (c0 c c' : Control) → StaysOut c0 c → Rose c.faults c'.faults → Rose c0.faults c'.faults
 rose_then c0 c c' a rose = let f = a.never_falls in omega (arith, f, rose)
 
 module _ {S : Type 0} (objects : S → store.Content) where
@@ -90,7 +90,7 @@ module _ {D : Type 0} (files : D → disk.Content) where
 
 module _ {D S M : Type 0} (files : D → disk.Content) (objects : S → store.Content) (notes : M → log.Content) where
   -- a call that changes nothing
-  pub same_rests : (old new : YardContent D S M) → Same files objects notes old new → AllRest files objects notes old new
+  pub same_rests : (old new : YardContent D S M) → Same files objects notes old new → YardRests files objects notes old new
   same_rests old new same = record {
     objects_rest = λ p. same_objects objects (old.stores p) (new.stores p) (same.stores p);
     notes_rest = λ p. same_notes notes (old.logs p) (new.logs p) (same.logs p);
@@ -101,7 +101,7 @@ module _ {D S M : Type 0} (files : D → disk.Content) (objects : S → store.Co
     };
   }
 
-  pub rests_none : (h : YardContent D S M) → AllRest files objects notes h h
+  pub rests_none : (h : YardContent D S M) → YardRests files objects notes h h
   rests_none h = record { objects_rest = λ p key. refl; notes_rest = λ p. refl; left_rests = λ p l at. at; disks_rest = record { brokers = λ p b name. refl; registries = λ p name. refl } }
 
   pub disks_then : (h0 h h' : YardContent D S M) → DisksRest files h0 h → DisksRest files h h' → DisksRest files h0 h'
@@ -110,7 +110,7 @@ module _ {D S M : Type 0} (files : D → disk.Content) (objects : S → store.Co
     registries = λ p name. b.registries p name ∙ a.registries p name;
   }
 
-  pub rests_then : (h0 h h' : YardContent D S M) → AllRest files objects notes h0 h → AllRest files objects notes h h' → AllRest files objects notes h0 h'
+  pub rests_then : (h0 h h' : YardContent D S M) → YardRests files objects notes h0 h → YardRests files objects notes h h' → YardRests files objects notes h0 h'
   rests_then h0 h h' a b = record {
     objects_rest = λ p key. b.objects_rest p key ∙ a.objects_rest p key;
     notes_rest = λ p. b.notes_rest p ∙ a.notes_rest p;
@@ -154,7 +154,7 @@ module _ {D S M : Type 0} (files : D → disk.Content) (objects : S → store.Co
 
   -- what is provided and comes back with the content that it had rests
   pub handed_back : (h0 h1 h : YardContent D S M) (p : PartitionId) (s s' : S) (m m' : M) → HandsStore objects (h0.stores p) (objects s) → HandsLog notes (h0.logs p) (notes m)
-      → store.Keeps (objects s) (objects s') → log.Keeps (notes m) (notes m') → TierIs p None None h0 h1 → TierIs p (Some s') (Some m') h1 h → AllRest files objects notes h0 h
+      → store.Keeps (objects s) (objects s') → log.Keeps (notes m) (notes m') → TierIs p None None h0 h1 → TierIs p (Some s') (Some m') h1 h → YardRests files objects notes h0 h
   handed_back h0 h1 h p s s' m m' gives says kept told out back = record {
     objects_rest = λ q key. elim (is_or_not q p) [
       | inl same ↦ subst (λ (r : PartitionId). object_on objects (h.stores r) key ≡ object_on objects (h0.stores r) key) (sym same)

@@ -11,7 +11,7 @@ use Rattle.yard_audit.specs.Lines.{verdict_text, swept_text, lines_of, first_uns
 use Rattle.yard_audit.specs.Rounds.{AreAudited, AreSwept}
 
 -- these verdicts are what is reported
-pub record Tells (found : List (PartitionId × Verdict)) (told : Audited) : Type 0 where
+pub record ReportsVerdicts (found : List (PartitionId × Verdict)) (told : Audited) : Type 0 where
   pub text_is : told.text.items ≡ lines_of verdict_text found
   pub unsound_is : told.unsound ≡ first_unsound found
 
@@ -20,7 +20,7 @@ module _ {D S M : Type 0} (files : D → disk.Content) (objects : S → store.Co
   pub record TellsAudit (held : YardContent D S M) (told : Audited) : Type 0 where
     pub found : List (PartitionId × Verdict)
     pub are : AreAudited files objects notes held found
-    pub is_observable : Tells found told
+    pub is_observable : ReportsVerdicts found told
 
   -- what a sweep of each tier took away is reported
   pub record TellsSweep (old new : YardContent D S M) (text : List ℕ) : Type 0 where

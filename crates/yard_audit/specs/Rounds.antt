@@ -9,7 +9,7 @@ use Rattle.meta_log.specs.Content as log
 use Rattle.remote_view.specs.Fold.{fold}
 use Rattle.device_yard.specs.YardContent.{YardContent, AreUsed, Rise, HandsStore, HandsLog}
 use Rattle.tier_audit.specs.declared.verdict.Verdict.{Verdict}
-use Rattle.tier_audit.specs.Flaws.{IsVerdict}
+use Rattle.tier_audit.specs.Flaws.{IsAuditVerdict}
 use Rattle.tier_sweep.specs.Sweeping.{SweptTier, IsSwept, IsUnderSweep, LeavesUnder}
 use Rattle.yard_audit.specs.Tiers.{HoldsTier, MayLeave, left_on, DisksRest}
 
@@ -22,7 +22,7 @@ module _ {D S M : Type 0} (objects : S → store.Content) (notes : M → log.Con
   pub record IsAudited (held : YardContent D S M) (found : PartitionId × Verdict) : Type 0 where
     pub tier : SweptTier
     pub held_so : HoldsTier objects notes held found.0 tier
-    pub is : IsVerdict tier.objects (fold tier.notes) found.1
+    pub is : IsAuditVerdict tier.objects (fold tier.notes) found.1
 
   -- a sweep of the partition's tier took so many objects away
   pub record IsSweptIn (old new : YardContent D S M) (found : PartitionId × ℕ) : Type 0 where

@@ -3,7 +3,7 @@
 --   form                       says
 --   HoldsTier held p tier      the partition's store and metadata log hold this tier
 --   MayLeave held p tier       a power cut may leave this tier of them
---   AllRest old new            each partition's tier is as it was, and each disk
+--   YardRests old new            each partition's tier is as it was, and each disk
 --   TierIs p s m old new       the partition's store and metadata log are these now, or none, and the rest is as it was
 use Rattle.std.specs.Prelude.{◌≡◌, ◌≢◌, ℕ, ◌+◌, ◌≤◌, List, [], Option, Some, None}
 use Rattle.tier_base.specs.Counts.{counted}
@@ -62,7 +62,7 @@ module _ {D S M : Type 0} (files : D → disk.Content) where
 
 module _ {D S M : Type 0} (files : D → disk.Content) (objects : S → store.Content) (notes : M → log.Content) where
   -- each partition's tier is as it was, and each disk
-  pub record AllRest (old new : YardContent D S M) : Type 0 where
+  pub record YardRests (old new : YardContent D S M) : Type 0 where
     pub objects_rest : (p : PartitionId) (key : ObjectKey) → object_on objects (new.stores p) key ≡ object_on objects (old.stores p) key
     pub notes_rest : (p : PartitionId) → notes_on notes (new.logs p) ≡ notes_on notes (old.logs p)
     pub left_rests : (p : PartitionId) → LeavesNoMore notes (old.logs p) (new.logs p)
@@ -86,7 +86,7 @@ module _ {D S M : Type 0} where
     pub registries : (q : PartitionId) → new.registries q ≡ old.registries q
 
 -- as many devices are out as before; the count of faults, which stays at its type's greatest value, doesn't fall
-pub record IsBack (old new : Control) : Type 0 where
+pub record StaysOut (old new : Control) : Type 0 where
   pub never_falls : counted old.faults 0 ≤ new.faults
   pub named : new.named ≡ old.named
   pub out : new.out ≡ old.out

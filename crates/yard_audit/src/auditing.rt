@@ -6,7 +6,7 @@ ghost use Rattle.yard_audit.specs.declared.refusal.RoundRefusal.TheVariants.{Fau
 ghost use Rattle.yard_audit.specs.Rounds.{IsAudited};
 ghost use Rattle.yard_audit.specs.Lines.{unsound_after};
 ghost use Rattle.yard_audit.specs.Reports.{TellsAudit};
-ghost use Rattle.yard_audit.specs.Tiers.{AllRest, IsBack};
+ghost use Rattle.yard_audit.specs.Tiers.{YardRests, StaysOut};
 
 use crate::handing::{give_back, hand_out, list};
 use crate::lines::verdict_line;
@@ -33,9 +33,9 @@ fn audit_one<Y: Yard>(
     ensures right { IsTrue (Y.held yard.old).is_observable → IfOk result (λ verdict.
         IsAudited Y.S.content Y.M.content (Y.held yard.old) (partition, verdict)) }
     ensures rest { IsTrue (Y.held yard.old).is_observable
-        → AllRest Y.D.content Y.S.content Y.M.content (Y.held yard.old) (Y.held yard.new) }
+        → YardRests Y.D.content Y.S.content Y.M.content (Y.held yard.old) (Y.held yard.new) }
     ensures is_observable { (Y.held yard.new).is_observable ≡ (Y.held yard.old).is_observable }
-    ensures back { IsBack (Y.control yard.old) (Y.control yard.new) }
+    ensures back { StaysOut (Y.control yard.old) (Y.control yard.new) }
     ensures cause { IsErrOf result Fault → Rose (Y.control yard.old).faults (Y.control yard.new).faults }
 {
     let mut tools = hand_out(yard, partition)?;
@@ -63,9 +63,9 @@ fn note(unsound: &mut Option<PartitionId>, partition: PartitionId, verdict: &Ver
 pub fn audit_all<Y: Yard>(alloc: Global, yard: &mut Y) -> Result<Audited, RoundRefusal>
     ensures told { IfOk result (TellsAudit Y.D.content Y.S.content Y.M.content (Y.held yard.old)) }
     ensures rest { IsTrue (Y.held yard.old).is_observable
-        → AllRest Y.D.content Y.S.content Y.M.content (Y.held yard.old) (Y.held yard.new) }
+        → YardRests Y.D.content Y.S.content Y.M.content (Y.held yard.old) (Y.held yard.new) }
     ensures is_observable { (Y.held yard.new).is_observable ≡ (Y.held yard.old).is_observable }
-    ensures back { IsBack (Y.control yard.old) (Y.control yard.new) }
+    ensures back { StaysOut (Y.control yard.old) (Y.control yard.new) }
     ensures cause { IsErrOf result Fault → Rose (Y.control yard.old).faults (Y.control yard.new).faults }
 {
     let partitions = list(yard)?;

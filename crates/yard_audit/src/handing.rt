@@ -3,11 +3,11 @@
 
 ghost use Rattle.std.specs.Prelude.{◌≡◌, ◌≤◌, ◌<◌, None, Some, IfOk, OnOk, OnErr, IsErrOf, IsTrue, false};
 ghost use Rattle.tier_base.specs.Counts.{Rose};
-ghost use Rattle.tier_base.specs.Device.{IsFresh};
+ghost use Rattle.tier_base.specs.Device.{IsFreshDevice};
 ghost use Rattle.device_yard.specs.YardContent.{HandsStore, HandsLog};
 ghost use Rattle.yard_audit.specs.declared.refusal.RoundRefusal.TheVariants.{Fault};
 ghost use Rattle.yard_audit.specs.Rounds.{AreAll};
-ghost use Rattle.yard_audit.specs.Tiers.{AllRest, TierIs, IsBack, AreOut, CameBack};
+ghost use Rattle.yard_audit.specs.Tiers.{YardRests, TierIs, StaysOut, AreOut, CameBack};
 
 use crate::refusal::RoundRefusal;
 use device_yard::Yard;
@@ -26,9 +26,9 @@ pub(crate) struct Tools<S: Store, M: MetaLog> {
 pub(crate) fn list<Y: Yard>(yard: &mut Y) -> Result<Row<PartitionId>, RoundRefusal>
     ensures all { IfOk result (AreAll Y.D.content Y.S.content Y.M.content (Y.held yard.old)) }
     ensures rest { IsTrue (Y.held yard.old).is_observable
-        → AllRest Y.D.content Y.S.content Y.M.content (Y.held yard.old) (Y.held yard.new) }
+        → YardRests Y.D.content Y.S.content Y.M.content (Y.held yard.old) (Y.held yard.new) }
     ensures is_observable { (Y.held yard.new).is_observable ≡ (Y.held yard.old).is_observable }
-    ensures back { IsBack (Y.control yard.old) (Y.control yard.new) }
+    ensures back { StaysOut (Y.control yard.old) (Y.control yard.new) }
     ensures cause { IsErrOf result Fault → Rose (Y.control yard.old).faults (Y.control yard.new).faults }
 {
     match yard.partitions() {
@@ -42,8 +42,8 @@ pub(crate) fn hand_out<Y: Yard>(
     yard: &mut Y,
     partition: PartitionId,
 ) -> Result<Tools<Y::S, Y::M>, RoundRefusal>
-    ensures store { IfOk result (λ tools. IsFresh (Y.S.control tools.store)) }
-    ensures meta { IfOk result (λ tools. IsFresh (Y.M.control tools.meta)) }
+    ensures store { IfOk result (λ tools. IsFreshDevice (Y.S.control tools.store)) }
+    ensures meta { IfOk result (λ tools. IsFreshDevice (Y.M.control tools.meta)) }
     ensures objects_told { IfOk result
         (λ tools. (Y.S.content tools.store).is_observable ≡ (Y.held yard.old).is_observable) }
     ensures notes_told { IfOk result
@@ -57,8 +57,8 @@ pub(crate) fn hand_out<Y: Yard>(
     ensures control { OnOk result (AreOut (Y.control yard.old) (Y.control yard.new)) }
     ensures is_observable { (Y.held yard.new).is_observable ≡ (Y.held yard.old).is_observable }
     ensures rest { IsTrue (Y.held yard.old).is_observable → OnErr result
-        (AllRest Y.D.content Y.S.content Y.M.content (Y.held yard.old) (Y.held yard.new)) }
-    ensures back { OnErr result (IsBack (Y.control yard.old) (Y.control yard.new)) }
+        (YardRests Y.D.content Y.S.content Y.M.content (Y.held yard.old) (Y.held yard.new)) }
+    ensures back { OnErr result (StaysOut (Y.control yard.old) (Y.control yard.new)) }
     ensures cause { IsErrOf result Fault → Rose (Y.control yard.old).faults (Y.control yard.new).faults }
 {
     let store = match yard.store(partition) {

@@ -6,7 +6,7 @@ ghost use Rattle.tier_base.specs.declared.names.PartitionId.{PartitionId as Part
 ghost use Rattle.yard_audit.specs.declared.refusal.RoundRefusal.TheVariants.{Fault};
 ghost use Rattle.yard_audit.specs.Rounds.{IsSweptIn, IsUnderSweepIn, LeavesUnderIn};
 ghost use Rattle.yard_audit.specs.Reports.{TellsSweep};
-ghost use Rattle.yard_audit.specs.Tiers.{DisksRest, OthersRest, IsBack};
+ghost use Rattle.yard_audit.specs.Tiers.{DisksRest, OthersRest, StaysOut};
 
 use crate::handing::{give_back, hand_out, list};
 use crate::lines::swept_line;
@@ -31,7 +31,7 @@ fn sweep_one<Y: Yard>(
     ensures others { IsTrue (Y.held yard.old).is_observable
         → OthersRest Y.D.content Y.S.content Y.M.content partition (Y.held yard.old) (Y.held yard.new) }
     ensures is_observable { (Y.held yard.new).is_observable ≡ (Y.held yard.old).is_observable }
-    ensures back { IsBack (Y.control yard.old) (Y.control yard.new) }
+    ensures back { StaysOut (Y.control yard.old) (Y.control yard.new) }
     ensures cause { IsErrOf result Fault → Rose (Y.control yard.old).faults (Y.control yard.new).faults }
 {
     let mut tools = hand_out(yard, partition)?;
@@ -54,7 +54,7 @@ pub fn sweep_all<Y: Yard>(alloc: Global, yard: &mut Y) -> Result<Vec<u8>, RoundR
         → LeavesUnderIn Y.S.content Y.M.content (Y.held yard.old) (Y.held yard.new) p }
     ensures disks { IsTrue (Y.held yard.old).is_observable → DisksRest Y.D.content (Y.held yard.old) (Y.held yard.new) }
     ensures is_observable { (Y.held yard.new).is_observable ≡ (Y.held yard.old).is_observable }
-    ensures back { IsBack (Y.control yard.old) (Y.control yard.new) }
+    ensures back { StaysOut (Y.control yard.old) (Y.control yard.new) }
     ensures cause { IsErrOf result Fault → Rose (Y.control yard.old).faults (Y.control yard.new).faults }
 {
     let partitions = list(yard)?;

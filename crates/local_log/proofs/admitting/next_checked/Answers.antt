@@ -1,7 +1,7 @@
 use Rattle.std.proofs.Common.{◌≡◌, sym, subst, drop, arith, true}
 use Rattle.record_batch.specs.Check.{AreChecked}
 use Rattle.segment_file.proofs.Standing.{AreBytes}
-use Rattle.local_log.specs.Admitting.{GoesOn}
+use Rattle.local_log.specs.Admitting.{AdvancesTo}
 use Rattle.local_log.specs.declared.admitting.Spot.{Spot}
 use Rattle.local_log.proofs.Admitted.{meets_first, goes_on}
 use Rattle.local_log.proofs.CheckedBefore.{head_stands, checked_at}
@@ -23,7 +23,7 @@ returns-then-meets-clause-some c =
     let head = c.head_at-head.result in
     let clean : AreBytes run = λ i. let b = c.type_inv.run i in omega (arith, b) in
     let s = checked_at run c.args.spot.at c.requires.inside c.requires.checked head clean c.head_at-head.ensures in
-    subst (GoesOn run c.args.spot) (sym c.spot_after.ensures) (goes_on run c.args.spot head s.batch s.is s.parts s.is_observable s.inside (c.meets.ensures.0 c.if-meets.true))
+    subst (AdvancesTo run c.args.spot) (sym c.spot_after.ensures) (goes_on run c.args.spot head s.batch s.is s.parts s.is_observable s.inside (c.meets.ensures.0 c.if-meets.true))
 
 pub returns-then-meets-clause-rest : goal.returns-then-meets-clause-rest
 returns-then-meets-clause-rest c =

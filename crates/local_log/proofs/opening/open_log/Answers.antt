@@ -9,7 +9,7 @@ use Rattle.log_steps.proofs.Opening.{reopens_kept, leaves_all}
 use Rattle.log_steps.proofs.Reading.{opens_like}
 use Rattle.local_log.specs.Refusing.{IsSoundCause}
 use Rattle.local_log.specs.Opening.{ReadFailsIn}
-use Rattle.local_log.specs.Planning.{AreRead}
+use Rattle.local_log.specs.Planning.{AreSegmentsRead}
 use Rattle.local_log.proofs.RunsTold.{err_on}
 use Rattle.local_log.proofs.SegmentsRead.{segments_rise}
 use Rattle.local_log.proofs.Planned.{plan_kept, names_kept, rewrites_same, plan_rewritten, plan_reopens, plan_reads, plan_misses, fails_like, plan_read, plan_reopens_read, plan_written, plan_reopens_written}
@@ -249,7 +249,7 @@ returns-clause-reopens g c =
     let named = names_kept d0 d names k0 c.in_ok-plan.ensures.names in
     let sure = subst (λ (b : List ℕ). (f : Files) → Image d3 f → f file.Manifest ≡ Some b) c.as_slice-next.ensures.value c.in_ok-replace.ensures.durable in
     let parts = c.parts_of.result in
-    let read = subst (AreRead d1 plan.manifest.line c.args.interval plan.manifest.local_start plan.manifest.segments) (sym c.parts_of.ensures.segments) c.in_ok-segments.ensures.read in
+    let read = subst (AreSegmentsRead d1 plan.manifest.line c.args.interval plan.manifest.local_start plan.manifest.segments) (sym c.parts_of.ensures.segments) c.in_ok-segments.ensures.read in
     opened_again d plan p names named fate went d1 rewrites d2 k _ d3 laws3 change sure c.args.interval parts read c.parts_of.ensures.incarnation c.parts_of.ensures.start c.parts_of.ensures.line
 
 pub returns-clause-opened : goal.returns-clause-opened
@@ -273,6 +273,6 @@ returns-clause-opened g c =
     let named = names_kept d0 d names k0 c.in_ok-plan.ensures.names in
     let sure = subst (λ (b : List ℕ). (f : Files) → Image d3 f → f file.Manifest ≡ Some b) c.as_slice-next.ensures.value c.in_ok-replace.ensures.durable in
     let parts = c.parts_of.result in
-    let read = subst (AreRead d1 plan.manifest.line c.args.interval plan.manifest.local_start plan.manifest.segments) (sym c.parts_of.ensures.segments) c.in_ok-segments.ensures.read in
+    let read = subst (AreSegmentsRead d1 plan.manifest.line c.args.interval plan.manifest.local_start plan.manifest.segments) (sym c.parts_of.ensures.segments) c.in_ok-segments.ensures.read in
     opened_kept d0 d d3 c.args.interval parts k0
     (opened_log d plan p names named fate went d1 rewrites d2 k _ d3 laws3 change sure c.args.interval parts read c.parts_of.ensures.incarnation c.parts_of.ensures.start c.parts_of.ensures.line)

@@ -9,7 +9,7 @@ use Rattle.log_steps.proofs.Lasting.{lasts_then}
 use Rattle.log_steps.proofs.Lists.{each_right}
 use Rattle.local_log.specs.Stored.{chain_end}
 use Rattle.local_log.specs.Opening.{SegmentFails, ReadsTo}
-use Rattle.local_log.specs.Planning.{AreRead, IsRead}
+use Rattle.local_log.specs.Planning.{AreSegmentsRead, IsSegmentRead}
 use Rattle.local_log.proofs.Pieces.{chain_snoc}
 use Rattle.local_log.proofs.Keeping.{keeps_none, lasts_none, keeps_then}
 use Rattle.local_log.specs.Refusing.{IsSoundCause}
@@ -33,7 +33,7 @@ loop-extent-init g c =
     let manifest = c.args.manifest.now in
     record {
       keeps = keeps_none (content c.args.disk.now);
-      read = subst (AreRead (content c.args.disk.now) manifest.line c.args.interval manifest.local_start []) (sym c.new-segments.ensures.items)
+      read = subst (AreSegmentsRead (content c.args.disk.now) manifest.line c.args.interval manifest.local_start []) (sym c.new-segments.ensures.items)
           (none_read (content c.args.disk.now) manifest.line c.args.interval manifest.local_start (start_low manifest c.requires));
       end_is = ap (chain_end manifest.local_start) (sym c.new-segments.ensures.items);
       last = inl (refl, refl);
@@ -131,13 +131,13 @@ loop-extent-preserved g c =
     let inv = c.loop-extent.invariant in
     let segment = c.in_ok-segment.segment in
     let items : c.push_reserved.new.self.items ≡ c.loop-extent.segments.items ++ segment ∷ [] = c.push_reserved.ensures.items ∙ ap (λ (l : List Grown). l ++ segment ∷ []) c.in_ok-reserve.ensures.items in
-    let one : IsRead d manifest.line c.args.interval (chain_end manifest.local_start c.loop-extent.segments.items) (get_or es i none) segment =
-    subst (λ (n : ℕ). IsRead d manifest.line c.args.interval n (get_or es i none) segment) inv.end_is
+    let one : IsSegmentRead d manifest.line c.args.interval (chain_end manifest.local_start c.loop-extent.segments.items) (get_or es i none) segment =
+    subst (λ (n : ℕ). IsSegmentRead d manifest.line c.args.interval n (get_or es i none) segment) inv.end_is
     (read_back d m inv.keeps manifest.line c.args.interval c.loop-extent.end (get_or es i none) segment c.in_ok-segment.ensures.read) in
     record {
       keeps = keeps_then d m (content c.read_segment.new.disk) laws inv.keeps c.read_segment.ensures.content;
-      read = subst (AreRead d manifest.line c.args.interval manifest.local_start (take (i + 1) es)) (sym items)
-          (subst (λ (l : List Extent). AreRead d manifest.line c.args.interval manifest.local_start l (c.loop-extent.segments.items ++ segment ∷ [])) (sym (take_more es i none lt))
+      read = subst (AreSegmentsRead d manifest.line c.args.interval manifest.local_start (take (i + 1) es)) (sym items)
+          (subst (λ (l : List Extent). AreSegmentsRead d manifest.line c.args.interval manifest.local_start l (c.loop-extent.segments.items ++ segment ∷ [])) (sym (take_more es i none lt))
           (more_read d manifest.line c.args.interval manifest.local_start (take i es) c.loop-extent.segments.items inv.read (get_or es i none) segment one));
       end_is = c.end-end.ensures ∙ sym (ap (chain_end manifest.local_start) items ∙ chain_snoc manifest.local_start c.loop-extent.segments.items segment);
       last = inr (take i es, get_or es i none, take_more es i none lt, subst (ReadsTo manifest.line (get_or es i none) (g.D.Disk.control c.read_segment.new.disk).last_read) (sym c.end-end.ensures) c.in_ok-segment.ensures.last_read);

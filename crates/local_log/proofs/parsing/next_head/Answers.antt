@@ -1,7 +1,7 @@
 use Rattle.std.proofs.Common.{◌≡◌, ◌∙◌, sym, subst, drop, arith, true}
 use Rattle.record_batch.specs.Head.{head_of}
 use Rattle.segment_file.specs.Walk.{found_at}
-use Rattle.segment_file.specs.Gathering.{Tells}
+use Rattle.segment_file.specs.Gathering.{HeadDescribes}
 use Rattle.segment_file.specs.declared.walking.Found.TheVariants as found
 use Rattle.segment_file.proofs.Finding.{batch_found}
 use Rattle.segment_file.proofs.Standing.{AreBytes, standing, same_head, bytes_drop, front_bytes}
@@ -27,7 +27,7 @@ returns-then-may_stand-clause-some c =
     let s = standing at bytes head clean c.requires.inside (sym c.walk.ensures ∙ c.in-Batch.is) in
     let clean' : AreBytes s.batch = front_bytes s.batch _ (subst AreBytes s.parts (bytes_drop at bytes clean)) in
     stands_next c.args.line.now c.args.base c.args.end bytes at head s.batch s.is s.parts
-    (subst (Tells s.batch) (sym s.head_is) (is_observable s.batch clean' s.is)) s.inside (c.may_stand.ensures.0 c.if-may_stand.true)
+    (subst (HeadDescribes s.batch) (sym s.head_is) (is_observable s.batch clean' s.is)) s.inside (c.may_stand.ensures.0 c.if-may_stand.true)
 
 pub returns-else-may_stand-clause-none : goal.returns-else-may_stand-clause-none
 returns-else-may_stand-clause-none c =

@@ -1,7 +1,7 @@
 use Rattle.std.proofs.Common.{◌≡◌, ◌∙◌, ℕ, List, length, take, sym, ap, subst, arith, refl}
 use Rattle.std.proofs.lemmas.List.{length-take, take_min}
 use Rattle.local_log.specs.Stored.{size_of, end_of}
-use Rattle.local_log.specs.Parsing.{StandsNext, NothingNext, HasNoBatchAt, ParseFails}
+use Rattle.local_log.specs.Parsing.{StandsNext, NoBatchNext, HasNoBatchAt, ParseFails}
 use Rattle.local_log.proofs.Parsed.{parsing_inside, parsing_above, parsing_low, parsing_push, parsing_more, parsing_grows, parsed_all, parsed_not}
 use Rattle.local_log.proofs.parsing.parse.Goals as goal
 
@@ -27,9 +27,9 @@ returns-in_default-clause-err c =
     let bytes = c.args.bytes.now in
     let front_is : c.split_at.result.0.now ≡ take c.args.extent.len bytes = c.split_at.ensures.front ∙ ap (λ (n : ℕ). take n bytes) c.min.ensures ∙ take_min c.args.extent.len bytes in
     let none = c.next_head.ensures.none c.in_default.is in
-    let none' = subst (λ (l : List ℕ). NothingNext c.args.line.now c.args.extent.base l (size_of c.loop-front.segment) (end_of c.loop-front.segment)) front_is
-    (subst (λ (n : ℕ). NothingNext c.args.line.now c.args.extent.base c.split_at.result.0.now n (end_of c.loop-front.segment)) c.size-at.ensures
-    (subst (λ (n : ℕ). NothingNext c.args.line.now c.args.extent.base c.split_at.result.0.now c.size-at.result n) c.end.ensures none)) in
+    let none' = subst (λ (l : List ℕ). NoBatchNext c.args.line.now c.args.extent.base l (size_of c.loop-front.segment) (end_of c.loop-front.segment)) front_is
+    (subst (λ (n : ℕ). NoBatchNext c.args.line.now c.args.extent.base c.split_at.result.0.now n (end_of c.loop-front.segment)) c.size-at.ensures
+    (subst (λ (n : ℕ). NoBatchNext c.args.line.now c.args.extent.base c.split_at.result.0.now c.size-at.result n) c.end.ensures none)) in
     let miss = parsed_not c.args.line.now c.args.interval c.args.extent bytes c.loop-front.segment c.loop-front.invariant (omega (arith, c.loop-front-test.true, c.size.ensures)) none' in
     subst (ParseFails c.args.line.now c.args.extent bytes) (sym c.damaged.ensures)
     (refl, subst (HasNoBatchAt c.args.line.now c.args.extent bytes) (sym c.size-at.ensures) miss)

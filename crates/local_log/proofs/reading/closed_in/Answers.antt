@@ -2,7 +2,7 @@ use Rattle.std.proofs.Common.{◌≡◌, ◌∙◌, ◌-◌, ℕ, List, ap, subs
 use Rattle.std.specs.Prelude.{slice_range}
 use Rattle.segment_file.specs.Segment.{IsSegment}
 use Rattle.tier_base.specs.Told.{bytes_in}
-use Rattle.local_log.specs.Reading.{IsFront, HasNoSegment}
+use Rattle.local_log.specs.Reading.{IsSegmentFront, HasNoSegment}
 use Rattle.local_log.proofs.Strays.{segment_row}
 use Rattle.local_log.proofs.reading.closed_in.Goals as goal
 
@@ -37,7 +37,7 @@ returns-in-Ok-clause-ok c =
     let front : take size bytes ≡ slice_range bytes 0 size = ap (λ (n : ℕ). take n bytes) (sym all) in
     let row = segment_row c.in-Ok.closed.base c.as_slice.result.now w.batches w.is (c.as_slice.ensures ∙ c.bytes-in-Ok.ensures.bytes ∙ w.bytes_are) in
     let long = c.len-len.ensures.value in
-    subst (λ (b : List ℕ). IsFront c.args.line.now c.args.base size b c.in-Ok.closed) (sym (ap bytes_in c.in-Some.is)) (record {
+    subst (λ (b : List ℕ). IsSegmentFront c.args.line.now c.args.base size b c.in-Ok.closed) (sym (ap bytes_in c.in-Some.is)) (record {
       whole = w;
       epochs = c.in-None.ensures.none refl row;
       base_is = read.0;

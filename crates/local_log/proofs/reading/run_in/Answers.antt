@@ -1,7 +1,7 @@
 use Rattle.std.proofs.Common.{◌≡◌, ◌∙◌, ◌+◌, ℕ, List, ◌∷◌, ap, subst, sym, refl, arith, inl, inr, length}
 use Rattle.std.specs.Prelude.{slice_range}
 use Rattle.tier_base.specs.Told.{bytes_in}
-use Rattle.local_log.specs.Reading.{IsCut, HasNoRun}
+use Rattle.local_log.specs.Reading.{IsCutOut, HasNoLocalRun}
 use Rattle.local_log.proofs.CutOut.{no_run_in_nothing, run_row, run_within}
 use Rattle.local_log.proofs.Strays.{stray_inside}
 use Rattle.local_log.proofs.reading.run_in.Goals as goal
@@ -51,12 +51,12 @@ returns-in-Some-first_stray-clause-err c =
     let part : c.as_slice-2.result.now ≡ slice_range bytes cut.from cut.to = c.as_slice-2.ensures ∙ c.in_ok-run.ensures.ok ∙ ap (λ (l : List ℕ). slice_range l cut.from cut.to) (sym c.as_slice.ensures) in
     let row = run_row bytes c.args.offset c.args.limit c.args.mark c.args.piece.end cut r c.as_slice-2.result.now part in
     let at = c.in-Some-first_stray.at in
-    let none : HasNoRun c.args.line.now bytes c.args.offset c.args.limit c.args.mark c.args.piece.end c.args.piece.from (c.args.piece.from + (cut.from + at)) = record {
+    let none : HasNoLocalRun c.args.line.now bytes c.args.offset c.args.limit c.args.mark c.args.piece.end c.args.piece.from (c.args.piece.from + (cut.from + at)) = record {
       found = cut.from + at;
       bad = inr (record { cut = cut; is = r; behind = at; strays = c.in-Some-first_stray.ensures.some row; place = refl });
       place = inl refl;
     } in
-    (refl, subst (λ (b : List ℕ). HasNoRun c.args.line.now b c.args.offset c.args.limit c.args.mark c.args.piece.end c.args.piece.from (c.args.piece.from + (cut.from + at))) (c.as_slice.ensures ∙ sym (ap bytes_in c.in-Some.is)) none)
+    (refl, subst (λ (b : List ℕ). HasNoLocalRun c.args.line.now b c.args.offset c.args.limit c.args.mark c.args.piece.end c.args.piece.from (c.args.piece.from + (cut.from + at))) (c.as_slice.ensures ∙ sym (ap bytes_in c.in-Some.is)) none)
 
 pub returns-clause-ok : goal.returns-clause-ok
 returns-clause-ok c =
@@ -65,7 +65,7 @@ returns-clause-ok c =
     let r = c.in-Ok.ensures in
     let part : c.as_slice-2.result.now ≡ slice_range bytes cut.from cut.to = c.as_slice-2.ensures ∙ c.in_ok-run.ensures.ok ∙ ap (λ (l : List ℕ). slice_range l cut.from cut.to) (sym c.as_slice.ensures) in
     let row = run_row bytes c.args.offset c.args.limit c.args.mark c.args.piece.end cut r c.as_slice-2.result.now part in
-    subst (λ (b : List ℕ). IsCut c.args.line.now b c.args.offset c.args.limit c.args.mark c.args.piece.end (record { base = c.args.piece.base; bytes = c.in_ok-run.run'; next = cut.next; stop = cut.stop })) (c.as_slice.ensures ∙ sym (ap bytes_in c.in-Some.is))
+    subst (λ (b : List ℕ). IsCutOut c.args.line.now b c.args.offset c.args.limit c.args.mark c.args.piece.end (record { base = c.args.piece.base; bytes = c.in_ok-run.run'; next = cut.next; stop = cut.stop })) (c.as_slice.ensures ∙ sym (ap bytes_in c.in-Some.is))
     (record {
       cut = cut;
       is = r;

@@ -1,5 +1,5 @@
 use Rattle.std.proofs.Common.{ap, subst, arith, length, length-append}
-use Rattle.meta_log_file.specs.Reading.{ReadsFirst}
+use Rattle.meta_log_file.specs.Reading.{ReadsFirstNote}
 use Rattle.meta_log_file.specs.Notes.{framed}
 use Rattle.meta_log_file.proofs.Frames.{framed_len}
 use Rattle.meta_log_file.proofs.Walks.{ended_more}
@@ -7,7 +7,7 @@ use Rattle.meta_log_file.proofs.walking.ends_in.Goals as goal
 
 pub loop-end-smaller : goal.loop-end-smaller
 loop-end-smaller c =
-    let some = subst (ReadsFirst c.loop-end.rest.now) c.in-Some.is c.in_ok-behind.ensures in
+    let some = subst (ReadsFirstNote c.loop-end.rest.now) c.in-Some.is c.in_ok-behind.ensures in
     let long = ap length some.1 in
     let parts = length-append (framed c.in-Some.field-0-0) c.in-Some.behind.now in
     let size = framed_len c.in-Some.field-0-0 in
@@ -15,7 +15,7 @@ loop-end-smaller c =
 
 pub loop-end-preserved : goal.loop-end-preserved
 loop-end-preserved c =
-    let some = subst (ReadsFirst c.loop-end.rest.now) c.in-Some.is c.in_ok-behind.ensures in
+    let some = subst (ReadsFirstNote c.loop-end.rest.now) c.in-Some.is c.in_ok-behind.ensures in
     let note = c.in-Some.field-0-0 in
     let long = ap length some.1 in
     let parts = length-append (framed note) c.in-Some.behind.now in

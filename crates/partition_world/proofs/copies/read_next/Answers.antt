@@ -1,11 +1,11 @@
 use Rattle.std.proofs.Common.{◌≡◌, ◌∙◌, sym, refl, ap, subst, arith, Option, List, ℕ, ◌<◌, Some, []}
 use Rattle.std.specs.Prelude.{unwrap_or, IfSome, IsSomeAnd, ◌^◌, ◌-◌}
 use Rattle.std.specs.declared.result.Result.TheVariants.{Ok, Err}
-use Rattle.segment_file.specs.Closed.{Whole}
+use Rattle.segment_file.specs.Closed.{ClosedSegment}
 use Rattle.local_log.specs.Reading.{IsClosedFrom, ClosedFails, IsOfDevice}
 use Rattle.local_log.specs.declared.refusal.ReadRefusal.{ReadRefusal}
 use Rattle.local_log.specs.declared.refusal.ReadRefusal.TheVariants.{Damaged}
-use Rattle.broker_log.specs.Seen.{Seen, Shows, WhileUp, OnDisk}
+use Rattle.broker_log.specs.Seen.{LogSeen, ShowsSeen, WhileUp, OnDisk}
 use Rattle.broker_log.specs.Turns.{IsSegmentOf}
 use Rattle.tier_safe.specs.Views.{IsIdOf}
 use Rattle.partition_world.specs.Tier.{next_of, counted}
@@ -21,13 +21,13 @@ returns-in_ok-copying-in-Ok-Some-clause-row g c =
     let copy = c.in_ok-copying-in-Ok-Some.ensures in
     let copied = c.in_ok-copying-in-Ok-Some.copying in
     let i = c.in-Some.incarnation in
-    let read = subst (λ (o : Option Whole). WhileUp x.log (λ log. OnDisk kept (λ d. IsClosedFrom log c.args.offset (g.D.Disk.control d).last_read o))) c.in-Ok-Some.field-0-is c.in-Ok-Some.ensures.segment in
-    let part = subst (λ (o : Option Whole). (s : Seen) → Shows g.D.Disk.content x.log s → IfSome o (λ w. IsSegmentOf s w)) c.in-Ok-Some.field-0-is c.in-Ok-Some.ensures.part in (
+    let read = subst (λ (o : Option ClosedSegment). WhileUp x.log (λ log. OnDisk kept (λ d. IsClosedFrom log c.args.offset (g.D.Disk.control d).last_read o))) c.in-Ok-Some.field-0-is c.in-Ok-Some.ensures.segment in
+    let part = subst (λ (o : Option ClosedSegment). (s : LogSeen) → ShowsSeen g.D.Disk.content x.log s → IfSome o (λ w. IsSegmentOf s w)) c.in-Ok-Some.field-0-is c.in-Ok-Some.ensures.part in (
       record {
         reads = record { kept = kept; stays = c.closed_from.ensures.stays; lasts = c.closed_from.ensures.control; after = refl };
         ran = has_read g.D.Disk x.log kept c.args.offset c.closed_from.result (Ok c.in-Ok-Some.field-0) c.requires.next c.requires.up c.in-Ok-Some.is c.closed_from.ensures.ran;
-        last_read = subst (λ (w : Whole). WhileUp x.log (λ log. OnDisk kept (λ d. IsClosedFrom log c.args.offset (g.D.Disk.control d).last_read (Some w)))) (sym copy.segment) read;
-        part = λ s shows. subst (λ (w : Whole). IsSegmentOf s w) (sym copy.segment) (part s shows);
+        last_read = subst (λ (w : ClosedSegment). WhileUp x.log (λ log. OnDisk kept (λ d. IsClosedFrom log c.args.offset (g.D.Disk.control d).last_read (Some w)))) (sym copy.segment) read;
+        part = λ s shows. subst (λ (w : ClosedSegment). IsSegmentOf s w) (sym copy.segment) (part s shows);
         quiet = c.closed_from.ensures.quiet (never c.in-Ok-Some.is (λ no. cc));
       },
       record {
@@ -58,7 +58,7 @@ returns-in-Err-Damaged-clause-row g c =
     let e = c.in-Err-Damaged in
     let kept = c.closed_from.new.self in
     let bad = subst (λ (e : ReadRefusal). WhileUp x.log (λ log. OnDisk kept (λ d. ClosedFails log c.args.offset (g.D.Disk.control d).last_read e))) e.field-0-is e.ensures.err in
-    let whole = subst (λ (e : ReadRefusal). (s : Seen) → Shows g.D.Disk.content x.log s → IsOfDevice e) e.field-0-is e.ensures.whole in
+    let whole = subst (λ (e : ReadRefusal). (s : LogSeen) → ShowsSeen g.D.Disk.content x.log s → IsOfDevice e) e.field-0-is e.ensures.whole in
     let ran = has_read g.D.Disk x.log kept c.args.offset c.closed_from.result (Err (Damaged e.file e.at)) c.requires.next c.requires.up (e.is ∙ ap (λ (k : ReadRefusal). Err k) e.field-0-is) c.closed_from.ensures.ran in
     rw e.field-0-is (
       record { reads = record { kept = kept; stays = c.closed_from.ensures.stays; lasts = c.closed_from.ensures.control; after = refl }; ran = ran; bad = bad; unseen = whole; quiet = c.closed_from.ensures.quiet (never (e.is ∙ ap (λ (k : ReadRefusal). Err k) e.field-0-is) (λ no. cc)) },

@@ -1,7 +1,7 @@
 use Rattle.std.proofs.Common.{◌≡◌, ◌∙◌, sym, subst, drop, arith, true}
 use Rattle.record_batch.specs.Head.{head_of}
 use Rattle.segment_file.specs.Walk.{found_at}
-use Rattle.segment_file.specs.Gathering.{MayGoOn, Tells}
+use Rattle.segment_file.specs.Gathering.{MayComeNext, HeadDescribes}
 use Rattle.segment_file.specs.declared.walking.Found.TheVariants as found
 use Rattle.segment_file.proofs.Finding.{batch_found}
 use Rattle.segment_file.proofs.Standing.{AreBytes, standing, same_head, bytes_drop, front_bytes}
@@ -27,7 +27,7 @@ returns-then-may_go_on-clause-some c =
       batch = s.batch;
       is = s.is;
       parts = s.parts;
-      is_observable = subst (Tells s.batch) (sym s.head_is) (is_observable s.batch clean' s.is);
+      is_observable = subst (HeadDescribes s.batch) (sym s.head_is) (is_observable s.batch clean' s.is);
       may = c.may_go_on.ensures.0 c.if-may_go_on.true;
       inside = s.inside;
     }
@@ -37,5 +37,5 @@ returns-else-may_go_on-clause-none c =
     λ none batch more parts is may.
     let there : found_at c.args.front.now.at (drop c.args.front.now.at c.args.bytes.now) ≡ found.Batch (head_of batch) = rw parts (batch_found c.args.front.now.at batch more is) in
     let same : head_of batch ≡ c.in-Batch.head = same_head (head_of batch) c.in-Batch.head (sym there ∙ (sym c.walk.ensures ∙ c.in-Batch.is)) in
-    let sure : c.may_go_on.result ≡ true = c.may_go_on.ensures.1 (subst (MayGoOn c.args.base c.args.front.now.at c.args.front.now.end c.args.front.now.epoch) same may) in
+    let sure : c.may_go_on.result ≡ true = c.may_go_on.ensures.1 (subst (MayComeNext c.args.base c.args.front.now.at c.args.front.now.end c.args.front.now.epoch) same may) in
     cc (sure, c.if-may_go_on.false)

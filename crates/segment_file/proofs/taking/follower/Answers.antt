@@ -1,7 +1,7 @@
 use Rattle.std.proofs.Common.{◌≡◌, ◌+◌, ◌<◌, ◌≤◌, sym, ◌∙◌, refl, drop, arith}
 use Rattle.log_terms.specs.Batch.{base_of, last_offset_delta_of, last_of}
 use Rattle.record_batch.specs.Head.{head_of}
-use Rattle.segment_file.specs.Run.{Begins}
+use Rattle.segment_file.specs.Run.{MayBeginAt}
 use Rattle.segment_file.specs.Walk.{found_at}
 use Rattle.segment_file.specs.declared.walking.Found.TheVariants as found
 use Rattle.segment_file.proofs.Finding.{batch_found}
@@ -23,12 +23,12 @@ returns-then-not-begins-clause-none c =
     let clean : AreBytes c.args.bytes.now = λ i. let b = c.type_inv.bytes i in omega (arith, b) in
     let n = numbers c.args.at c.args.bytes.now c.in-Batch.head batch more clean (sym c.walk.ensures ∙ c.in-Batch.is) parts follows.is in
     let base : c.cast_unsigned-base.result ≡ base_of batch = c.cast_unsigned-base.ensures ∙ n.base in
-    let may : Begins c.args.last c.args.offset c.cast_unsigned-base.result = rw base follows.begins in
+    let may : MayBeginAt c.args.last c.args.offset c.cast_unsigned-base.result = rw base follows.begins in
     absurd (cc (c.begins.ensures.1 may, c.if-not-begins.true))
 
 pub overflow_sub-bound : goal.overflow_sub-bound
 overflow_sub-bound c =
-    let may : Begins c.args.last c.args.offset c.cast_unsigned-base.result = c.begins.ensures.0 (cc (c.if-not-begins.false)) in
+    let may : MayBeginAt c.args.last c.args.offset c.cast_unsigned-base.result = c.begins.ensures.0 (cc (c.if-not-begins.false)) in
     let low : c.cast_unsigned-base.result < c.args.bound = begins_low c.args.last c.args.offset c.args.bound _ c.requires.below c.requires.low may in
     omega (arith, low)
 
@@ -48,7 +48,7 @@ returns-clause-some c =
     let s = standing c.args.at c.args.bytes.now c.in-Batch.head clean c.requires.inside (sym c.walk.ensures ∙ c.in-Batch.is) in
     let base : c.cast_unsigned-base.result ≡ base_of s.batch = c.cast_unsigned-base.ensures ∙ s.base in
     let delta : c.cast_unsigned-delta.result ≡ last_offset_delta_of s.batch = c.cast_unsigned-delta.ensures ∙ s.delta in
-    let may : Begins c.args.last c.args.offset c.cast_unsigned-base.result = c.begins.ensures.0 (cc (c.if-not-begins.false)) in record {
+    let may : MayBeginAt c.args.last c.args.offset c.cast_unsigned-base.result = c.begins.ensures.0 (cc (c.if-not-begins.false)) in record {
       batch = s.batch;
       follows = record { is = s.is; begins = rw (← base) may; below = omega (arith, base, delta, c.if-bound-base.false) };
       parts = rw c.size_in.ensures s.parts;

@@ -1,5 +1,5 @@
 use Rattle.std.proofs.Common.{◌≡◌, sym, subst, rules, List, None}
-use Rattle.tier_base.specs.Told.{Names}
+use Rattle.tier_base.specs.Told.{NamesAllHeld}
 use Rattle.object_store.specs.Content.{Objects}
 use Rattle.segment_meta.specs.declared.note.Entry.{Entry}
 use Rattle.tier_audit.specs.Strays.{FindsStray}
@@ -7,7 +7,7 @@ use Rattle.tier_audit.specs.Copies.{FindsCopies, IsFirstUnreadable}
 use Rattle.tier_audit.proofs.Copying.{objects_same, tells_on}
 use Rattle.tier_audit.proofs.Deciding.{copy_is_first}
 use Rattle.tier_base.specs.Device.{Fate, Went, Dry, fate_of}
-use Rattle.tier_audit.specs.Asking.{Reads, Audits}
+use Rattle.tier_audit.specs.Asking.{ReadsObjects, Audits}
 use Rattle.tier_audit.proofs.Asked.{lists_then, reads_none, went_no_fault, dry_no_fault}
 use Rattle.tier_audit.proofs.auditing.audit_store.Goals as goal
 
@@ -17,7 +17,7 @@ returns-in-Some-2-clause-verdict g c =
     let entries = c.args.view.now.entries in
     let objects = (g.S.Store.content c.args.store.now).objects in
     let keys = c.as_slice.result.now in
-    let names : Names objects keys = subst (Names objects) (sym c.as_slice.ensures) (c.in_ok-keys.ensures.keys is_observable) in
+    let names : NamesAllHeld objects keys = subst (NamesAllHeld objects) (sym c.as_slice.ensures) (c.in_ok-keys.ensures.keys is_observable) in
     let none : FindsStray entries keys None = subst (FindsStray entries keys) c.in_default.is c.in_ok-flaw.ensures in
     let keeps = c.in_ok-keys.ensures.content in
     let same = objects_same (g.S.Store.content c.args.store.now) (g.S.Store.content c.keys.new.self) keeps in
@@ -37,7 +37,7 @@ returns-in-Some-clause-calls g c = lists_then Went _ _ _ c.in_ok-keys.ensures.co
 
 pub returns-in_err-flaw-2-clause-calls : goal.returns-in_err-flaw-2-clause-calls
 returns-in_err-flaw-2-clause-calls g c =
-    let reads : Reads (fate_of c.from_residual-in_err-flaw-2.result) (g.S.Store.control c.keys.new.self) (g.S.Store.control c.find_unreadable.new.store) = search rules in
+    let reads : ReadsObjects (fate_of c.from_residual-in_err-flaw-2.result) (g.S.Store.control c.keys.new.self) (g.S.Store.control c.find_unreadable.new.store) = search rules in
     lists_then _ _ _ _ c.in_ok-keys.ensures.control reads
 
 pub returns-in-Some-2-clause-calls : goal.returns-in-Some-2-clause-calls

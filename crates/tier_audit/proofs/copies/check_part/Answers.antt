@@ -8,7 +8,7 @@ use Rattle.tier_audit.specs.Copies.{ReadsSpot, from_rest, FindsPart}
 use Rattle.tier_audit.proofs.Copying.{part_told}
 use Rattle.tier_base.specs.Device.{Fate, Ran, Went, Dry, fate_of}
 use Rattle.object_store.specs.declared.call.StoreCall.TheVariants.{Get}
-use Rattle.tier_audit.specs.Asking.{Reads}
+use Rattle.tier_audit.specs.Asking.{ReadsObjects}
 use Rattle.tier_audit.proofs.Asked.{reads_one, reads_none, reads_ended, went_no_fault, dry_no_fault}
 use Rattle.tier_audit.proofs.copies.check_part.Goals as goal
 
@@ -44,7 +44,7 @@ pub returns-in_err-at-clause-reads : goal.returns-in_err-at-clause-reads
 returns-in_err-at-clause-reads g c =
     let read = reads_one Went (g.S.Store.control c.args.store.now) (g.S.Store.control c.get.new.self) c.in_ok-rest.ensures.control in
     let dry : fate_of c.from_residual-in_err-at.result ≡ Dry = search rules in
-    subst (λ (f : Fate). Reads f (g.S.Store.control c.args.store.now) (g.S.Store.control c.get.new.self)) (sym dry) (reads_ended Dry _ _ dry_no_fault read)
+    subst (λ (f : Fate). ReadsObjects f (g.S.Store.control c.args.store.now) (g.S.Store.control c.get.new.self)) (sym dry) (reads_ended Dry _ _ dry_no_fault read)
 
 pub returns-in-Some-3-clause-reads : goal.returns-in-Some-3-clause-reads
 returns-in-Some-3-clause-reads g c = reads_one Went _ _ c.in_ok-rest.ensures.control

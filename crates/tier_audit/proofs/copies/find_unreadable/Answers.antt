@@ -1,6 +1,6 @@
 use Rattle.std.proofs.Common.{subst, rules, Some}
 use Rattle.tier_base.specs.Device.{Went, fate_of}
-use Rattle.tier_audit.specs.Asking.{Reads}
+use Rattle.tier_audit.specs.Asking.{ReadsObjects}
 use Rattle.object_store.specs.Content.{Objects}
 use Rattle.tier_audit.specs.Whole.{IsReadable}
 use Rattle.tier_audit.specs.Copies.{FindsCopy}
@@ -43,7 +43,7 @@ loop-entry-init g c = record {
 
 pub returns-in_err-flaw-clause-reads : goal.returns-in_err-flaw-clause-reads
 returns-in_err-flaw-clause-reads g c =
-    let reads : Reads (fate_of c.from_residual.result) (g.S.Store.control c.loop-entry.store) (g.S.Store.control c.check_entry.new.store) = search rules in
+    let reads : ReadsObjects (fate_of c.from_residual.result) (g.S.Store.control c.loop-entry.store) (g.S.Store.control c.check_entry.new.store) = search rules in
     reads_then _ _ _ _ c.loop-entry.invariant.reads reads
 
 pub returns-in-Some-clause-reads : goal.returns-in-Some-clause-reads

@@ -4,7 +4,7 @@ use Rattle.log_terms.specs.Batch.{epoch_of}
 use Rattle.log_terms.specs.Line.{epoch_at}
 use Rattle.record_batch.specs.Head.{head_of}
 use Rattle.segment_file.specs.Walk.{found_at}
-use Rattle.segment_file.specs.Gathering.{Tells}
+use Rattle.segment_file.specs.Gathering.{HeadDescribes}
 use Rattle.segment_file.specs.declared.walking.Found.TheVariants as found
 use Rattle.segment_file.proofs.Finding.{batch_found}
 use Rattle.segment_file.proofs.Standing.{AreBytes, same_head, bytes_drop, front_bytes}
@@ -30,7 +30,7 @@ returns-then-not-is_near-clause-none c =
     let same : head_of batch ≡ c.in-Batch.head = same_head (head_of batch) c.in-Batch.head (sym there ∙ (sym c.walk.ensures ∙ c.in-Batch.is)) in
     let clean : AreBytes bytes = λ i. let b = c.type_inv.bytes i in omega (arith, b) in
     let clean' : AreBytes batch = front_bytes batch more (subst AreBytes parts (bytes_drop at bytes clean)) in
-    let near = near_by c.args.entry.now c.args.front.now batch c.in-Batch.head (subst (Tells batch) same (is_observable batch clean' is)) may in
+    let near = near_by c.args.entry.now c.args.front.now batch c.in-Batch.head (subst (HeadDescribes batch) same (is_observable batch clean' is)) may in
     let sure : c.is_near.result ≡ true = c.is_near.ensures.1 near in
     cc (sure, c.if-not-is_near.true)
 
@@ -60,7 +60,7 @@ returns-then-not-has_epoch-clause-none c =
     let same : head_of batch ≡ head = same_head (head_of batch) head (sym there ∙ (sym c.walk.ensures ∙ c.in-Batch.is)) in
     let clean : AreBytes bytes = λ i. let b = c.type_inv.bytes i in omega (arith, b) in
     let clean' : AreBytes batch = front_bytes batch more (subst AreBytes parts (bytes_drop at bytes clean)) in
-    let t : Tells batch head = subst (Tells batch) same (is_observable batch clean' is) in
+    let t : HeadDescribes batch head = subst (HeadDescribes batch) same (is_observable batch clean' is) in
     let epoch : c.cast_unsigned-epoch.result ≡ cast_unsigned w32 head.leader_epoch = search rules in
     let told : epoch_of batch ≡ c.cast_unsigned-epoch.result = sym t.epoch ∙ sym epoch in
     let own : epoch_at map c.args.front.now.end ≡ Some c.cast_unsigned-epoch.result = ap (epoch_at map) (sym may.begins) ∙ may.epochs ∙ ap (λ (n : ℕ). Some n) told in

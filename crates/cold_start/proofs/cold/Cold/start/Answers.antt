@@ -4,7 +4,7 @@ use Rattle.plain_log.specs.declared.command.Config.{Config}
 use Rattle.plain_log.specs.Fresh.{fresh as fresh_plain}
 use Rattle.partition_world.specs.Left.{IsCentralLeft}
 use Rattle.partition_world.specs.Whole.{Whole}
-use Rattle.cold_start.specs.Opening.{HasCause}
+use Rattle.cold_start.specs.Opening.{OpeningHasCause}
 use Rattle.cold_start.specs.declared.refusal.ColdRefusal.{ColdRefusal}
 use Rattle.cold_start.proofs.Causes.{if_ok_map, if_err_map, back_last, back_armed, registry_cause, world_cause, none_says}
 use Rattle.cold_start.proofs.Clearing.{last_same, last_long, last_back, failed_after}
@@ -42,7 +42,7 @@ returns-in-Ok-fresh-clause-begun g c =
 pub returns-in-Err-fresh-clause-cause : goal.returns-in-Err-fresh-clause-cause
 returns-in-Err-fresh-clause-cause g c =
     let d = c.in-Err-fresh.devices in
-    subst (λ (why : ColdRefusal). HasCause g.D.Disk g.M.MetaLog c.args.config c.args.devices.disks.items c.args.devices.meta c.args.reg d.disks.items d.meta c.args.reg why) (sym c.world_refusal.ensures)
+    subst (λ (why : ColdRefusal). OpeningHasCause g.D.Disk g.M.MetaLog c.args.config c.args.devices.disks.items c.args.devices.meta c.args.reg d.disks.items d.meta c.args.reg why) (sym c.world_refusal.ensures)
     (world_cause g.D.Disk g.M.MetaLog c.args.config c.args.devices.disks.items c.args.devices.meta c.args.reg d.disks.items d.meta c.args.reg c.in-Err-fresh.why
     (λ is. failed_after g.D.Disk.control c.args.devices.disks.items c.clear_all.new.disks.items d.disks.items c.clear_all.ensures.control (c.in-Err-fresh.ensures.err.cause is))
     (none_says g.D.Disk g.M.MetaLog c.args.config c.args.reg c.requires.none))

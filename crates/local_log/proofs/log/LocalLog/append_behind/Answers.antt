@@ -4,14 +4,14 @@ use Rattle.std.proofs.lemmas.Bool.{true≢false}
 use Rattle.tier_base.specs.declared.plain.FileName.TheVariants as file
 use Rattle.tier_base.specs.Device.{fate_of, fate_of_trouble, MayBeDone, Dry}
 use Rattle.disk_model.specs.declared.call.DiskCall.TheVariants as call
-use Rattle.disk_model.specs.Content.{Lawful, Files, Image, Begins, Changes, appended, Grown as MayGrow}
+use Rattle.disk_model.specs.Content.{Lawful, Files, Image, BeginsWith, Changes, appended, HasGrown as MayGrow}
 use Rattle.log_terms.specs.Log.{joined, end_from}
 use Rattle.segment_file.specs.Growing.{Grown}
 use Rattle.epoch_line.specs.Line.{IsLine}
 use Rattle.log_steps.specs.Fronts.{Each}
 use Rattle.local_log.specs.Log.{Log}
 use Rattle.local_log.specs.Listing.{IsLaidOut, AreSegmentsOf}
-use Rattle.local_log.specs.Inside.{HasLog}
+use Rattle.local_log.specs.Inside.{DiskHasLog}
 use Rattle.local_log.specs.Stored.{end_of, size_of, all_batches}
 use Rattle.local_log.specs.Run.{lined}
 use Rattle.local_log.specs.Taking.{IsTakenIn, grown_by}
@@ -60,7 +60,7 @@ invariant_of-self-in_err-reserve-2 g c =
       line = c.self.invariant.line;
       line_within = c.self.invariant.line_within;
       flushed_end_within = c.self.invariant.flushed_end_within;
-      has = λ whole. subst (λ (l : List Grown). HasLog m s.incarnation s.local_start l s.active s.line s.flushed_end) (sym c.reserve.ensures.items) has';
+      has = λ whole. subst (λ (l : List Grown). DiskHasLog m s.incarnation s.local_start l s.active s.line s.flushed_end) (sym c.reserve.ensures.items) has';
       reopens = has_reopens m laws-m s.incarnation s.local_start s.closed.items s.active s.line s.flushed_end has';
     }
 
@@ -132,7 +132,7 @@ invariant_of-self-in_err-len g c =
       line = c.self.invariant.line;
       line_within = c.self.invariant.line_within;
       flushed_end_within = c.self.invariant.flushed_end_within;
-      has = λ whole. subst (λ (l : List Grown). HasLog m2 s.incarnation s.local_start l s.active s.line s.flushed_end) (sym c.reserve.ensures.items) has';
+      has = λ whole. subst (λ (l : List Grown). DiskHasLog m2 s.incarnation s.local_start l s.active s.line s.flushed_end) (sym c.reserve.ensures.items) has';
       reopens = has_reopens m2 laws2 s.incarnation s.local_start s.closed.items s.active s.line s.flushed_end has';
     }
 
@@ -198,7 +198,7 @@ invariant_of-self-in-Ok-outcome g c =
     let are = c.self.invariant.segments in
     let some : 0 < size_of s.active = subst (λ (l : Log g.row.D.Denot). 0 < size_of l.active) (sym c.self.view_is) c.requires.some in
     let few : length s.closed.items + 1 < 4096 = (let h = subst (λ (l : Log g.row.D.Denot). length l.closed < 4095) (sym c.self.view_is) c.requires.few in omega (arith, h)) in
-    let synced = subst (λ (b : ℕ). (f : Files) → Image m2 f → Begins (m.files (file.Log b)) (f (file.Log b))) c.base.ensures c.in-Ok.ensures.durable in
+    let synced = subst (λ (b : ℕ). (f : Files) → Image m2 f → BeginsWith (m.files (file.Log b)) (f (file.Log b))) c.base.ensures c.in-Ok.ensures.durable in
     let nx : Grown = record { base = end_of s.active; interval = s.settings.index_interval; batches = [] } in
     let next_is : c.new-next.result ≡ nx = c.new-next.ensures ∙ ap (λ (n : ℕ). record { base = n; interval = s.settings.index_interval; batches = [] }) c.end-end.ensures in
     let t : IsTakenIn nx c.take_in.new.segment s.line c.args.run.now s.settings.segment_bytes (c.in_ok-len.len, c.in_ok-len.line) =
@@ -231,9 +231,9 @@ invariant_of-self-in-Ok-outcome g c =
       line_within = subst (λ (n : ℕ). Each (λ (e : ℕ × ℕ). e.1 ≤ n) c.replace_if.new.line) (sym end_is)
           (subst (λ (l : List (ℕ × ℕ)). Each (λ (e : ℕ × ℕ). e.1 ≤ end_from (end_of s.active) (taken nx c.take_in.new.segment s.line c.args.run.now s.settings.segment_bytes (c.in_ok-len.len, c.in_ok-len.line) t c.self.invariant.line c.self.invariant.line_within)) l) (sym line_is) (taken_lined nx c.take_in.new.segment s.line c.args.run.now s.settings.segment_bytes (c.in_ok-len.len, c.in_ok-len.line) t c.self.invariant.line c.self.invariant.line_within).within);
       flushed_end_within = (let up = taken_up nx c.take_in.new.segment s.line c.args.run.now s.settings.segment_bytes (c.in_ok-len.len, c.in_ok-len.line) t c.self.invariant.line c.self.invariant.line_within in let e = ap end_of c.replace-full.ensures.after in omega (arith, up, e, c.self.invariant.flushed_end_within));
-      has = λ whole. subst (λ (l : List (ℕ × ℕ)). HasLog d' s.incarnation s.local_start c.push_reserved.new.self.items c.replace-full.new.dest l s.flushed_end) (sym line_is)
-          (subst (λ (x : Grown). HasLog d' s.incarnation s.local_start c.push_reserved.new.self.items x (lined s.line (taken nx c.take_in.new.segment s.line c.args.run.now s.settings.segment_bytes (c.in_ok-len.len, c.in_ok-len.line) t c.self.invariant.line c.self.invariant.line_within)) s.flushed_end) (sym active_is)
-          (subst (λ (l : List Grown). HasLog d' s.incarnation s.local_start l (grown_by nx (taken nx c.take_in.new.segment s.line c.args.run.now s.settings.segment_bytes (c.in_ok-len.len, c.in_ok-len.line) t c.self.invariant.line c.self.invariant.line_within)) (lined s.line (taken nx c.take_in.new.segment s.line c.args.run.now s.settings.segment_bytes (c.in_ok-len.len, c.in_ok-len.line) t c.self.invariant.line c.self.invariant.line_within)) s.flushed_end) (sym items_are) has'));
+      has = λ whole. subst (λ (l : List (ℕ × ℕ)). DiskHasLog d' s.incarnation s.local_start c.push_reserved.new.self.items c.replace-full.new.dest l s.flushed_end) (sym line_is)
+          (subst (λ (x : Grown). DiskHasLog d' s.incarnation s.local_start c.push_reserved.new.self.items x (lined s.line (taken nx c.take_in.new.segment s.line c.args.run.now s.settings.segment_bytes (c.in_ok-len.len, c.in_ok-len.line) t c.self.invariant.line c.self.invariant.line_within)) s.flushed_end) (sym active_is)
+          (subst (λ (l : List Grown). DiskHasLog d' s.incarnation s.local_start l (grown_by nx (taken nx c.take_in.new.segment s.line c.args.run.now s.settings.segment_bytes (c.in_ok-len.len, c.in_ok-len.line) t c.self.invariant.line c.self.invariant.line_within)) (lined s.line (taken nx c.take_in.new.segment s.line c.args.run.now s.settings.segment_bytes (c.in_ok-len.len, c.in_ok-len.line) t c.self.invariant.line c.self.invariant.line_within)) s.flushed_end) (sym items_are) has'));
       reopens = behind_reopens d m m2 laws laws-m laws2 s.incarnation s.local_start s.closed.items s.active s.line s.flushed_end has k k2 s.settings.index_interval are some c.self.invariant.flushed_end_within synced d' laws' c.split_at.result.0.now M change;
     }
 
@@ -252,7 +252,7 @@ invariant_of-self-in-Err-outcome g c =
     let k2 = c.sync.ensures.content in
     let are = c.self.invariant.segments in
     let some : 0 < size_of s.active = subst (λ (l : Log g.row.D.Denot). 0 < size_of l.active) (sym c.self.view_is) c.requires.some in
-    let synced = subst (λ (b : ℕ). (f : Files) → Image m2 f → Begins (m.files (file.Log b)) (f (file.Log b))) c.base.ensures c.in-Ok.ensures.durable in
+    let synced = subst (λ (b : ℕ). (f : Files) → Image m2 f → BeginsWith (m.files (file.Log b)) (f (file.Log b))) c.base.ensures c.in-Ok.ensures.durable in
     let d' = g.D.Disk.content c.append-outcome.new.self in
     let laws' : Lawful d' = g.met.D.Disk.lawful c.append-outcome.new.self in
     let M = MayBeDone call.Append (fate_of c.append-outcome.result) (g.D.Disk.control c.sync.new.self) in
@@ -271,8 +271,8 @@ invariant_of-self-in-Err-outcome g c =
       has = λ whole. (
           let dry : fate_of c.append-outcome.result ≡ Dry = ap fate_of c.in-Err-outcome.is ∙ ap fate_of_trouble (not_broken c.in-Err-outcome.trouble c.refused.result c.refused.new.broken c.refused.ensures.fault whole) in
           let same = behind_dry d m m2 laws laws-m laws2 s.incarnation s.local_start s.closed.items s.active s.line s.flushed_end has k k2 s.settings.index_interval are some c.self.invariant.flushed_end_within synced d' laws' c.split_at.result.0.now M change (λ m. true≢false (m.dry dry)) in
-          subst (λ (l : List (ℕ × ℕ)). HasLog d' s.incarnation s.local_start c.reserve.new.self.items s.active l s.flushed_end) (sym line_is)
-          (subst (λ (l : List Grown). HasLog d' s.incarnation s.local_start l s.active s.line s.flushed_end) (sym items_are) same)
+          subst (λ (l : List (ℕ × ℕ)). DiskHasLog d' s.incarnation s.local_start c.reserve.new.self.items s.active l s.flushed_end) (sym line_is)
+          (subst (λ (l : List Grown). DiskHasLog d' s.incarnation s.local_start l s.active s.line s.flushed_end) (sym items_are) same)
           );
       reopens = behind_reopens d m m2 laws laws-m laws2 s.incarnation s.local_start s.closed.items s.active s.line s.flushed_end has k k2 s.settings.index_interval are some c.self.invariant.flushed_end_within synced d' laws' c.split_at.result.0.now M change;
     }
@@ -293,7 +293,7 @@ returns-in-Ok-outcome-clause-ok g c =
     let are = c.self.invariant.segments in
     let some : 0 < size_of s.active = subst (λ (l : Log g.row.D.Denot). 0 < size_of l.active) (sym c.self.view_is) c.requires.some in
     let few : length s.closed.items + 1 < 4096 = (let h = subst (λ (l : Log g.row.D.Denot). length l.closed < 4095) (sym c.self.view_is) c.requires.few in omega (arith, h)) in
-    let synced = subst (λ (b : ℕ). (f : Files) → Image m2 f → Begins (m.files (file.Log b)) (f (file.Log b))) c.base.ensures c.in-Ok.ensures.durable in
+    let synced = subst (λ (b : ℕ). (f : Files) → Image m2 f → BeginsWith (m.files (file.Log b)) (f (file.Log b))) c.base.ensures c.in-Ok.ensures.durable in
     let nx : Grown = record { base = end_of s.active; interval = s.settings.index_interval; batches = [] } in
     let next_is : c.new-next.result ≡ nx = c.new-next.ensures ∙ ap (λ (n : ℕ). record { base = n; interval = s.settings.index_interval; batches = [] }) c.end-end.ensures in
     let t : IsTakenIn nx c.take_in.new.segment s.line c.args.run.now s.settings.segment_bytes (c.in_ok-len.len, c.in_ok-len.line) =
@@ -344,7 +344,7 @@ returns-in-Ok-outcome-clause-any_moment g c =
     let k2 = c.sync.ensures.content in
     let are = c.self.invariant.segments in
     let some : 0 < size_of s.active = subst (λ (l : Log g.row.D.Denot). 0 < size_of l.active) (sym c.self.view_is) c.requires.some in
-    let synced = subst (λ (b : ℕ). (f : Files) → Image m2 f → Begins (m.files (file.Log b)) (f (file.Log b))) c.base.ensures c.in-Ok.ensures.durable in
+    let synced = subst (λ (b : ℕ). (f : Files) → Image m2 f → BeginsWith (m.files (file.Log b)) (f (file.Log b))) c.base.ensures c.in-Ok.ensures.durable in
     let d' = g.D.Disk.content c.append-outcome.new.self in
     let laws' : Lawful d' = g.met.D.Disk.lawful c.append-outcome.new.self in
     let M = MayBeDone call.Append (fate_of c.append-outcome.result) (g.D.Disk.control c.sync.new.self) in
@@ -366,7 +366,7 @@ returns-in-Ok-outcome-clause-opens g c =
     let k2 = c.sync.ensures.content in
     let are = c.self.invariant.segments in
     let some : 0 < size_of s.active = subst (λ (l : Log g.row.D.Denot). 0 < size_of l.active) (sym c.self.view_is) c.requires.some in
-    let synced = subst (λ (b : ℕ). (f : Files) → Image m2 f → Begins (m.files (file.Log b)) (f (file.Log b))) c.base.ensures c.in-Ok.ensures.durable in
+    let synced = subst (λ (b : ℕ). (f : Files) → Image m2 f → BeginsWith (m.files (file.Log b)) (f (file.Log b))) c.base.ensures c.in-Ok.ensures.durable in
     let d' = g.D.Disk.content c.append-outcome.new.self in
     let laws' : Lawful d' = g.met.D.Disk.lawful c.append-outcome.new.self in
     let M = MayBeDone call.Append (fate_of c.append-outcome.result) (g.D.Disk.control c.sync.new.self) in
@@ -388,7 +388,7 @@ returns-in-Err-outcome-clause-any_moment g c =
     let k2 = c.sync.ensures.content in
     let are = c.self.invariant.segments in
     let some : 0 < size_of s.active = subst (λ (l : Log g.row.D.Denot). 0 < size_of l.active) (sym c.self.view_is) c.requires.some in
-    let synced = subst (λ (b : ℕ). (f : Files) → Image m2 f → Begins (m.files (file.Log b)) (f (file.Log b))) c.base.ensures c.in-Ok.ensures.durable in
+    let synced = subst (λ (b : ℕ). (f : Files) → Image m2 f → BeginsWith (m.files (file.Log b)) (f (file.Log b))) c.base.ensures c.in-Ok.ensures.durable in
     let d' = g.D.Disk.content c.append-outcome.new.self in
     let laws' : Lawful d' = g.met.D.Disk.lawful c.append-outcome.new.self in
     let M = MayBeDone call.Append (fate_of c.append-outcome.result) (g.D.Disk.control c.sync.new.self) in
@@ -410,7 +410,7 @@ returns-in-Err-outcome-clause-opens g c =
     let k2 = c.sync.ensures.content in
     let are = c.self.invariant.segments in
     let some : 0 < size_of s.active = subst (λ (l : Log g.row.D.Denot). 0 < size_of l.active) (sym c.self.view_is) c.requires.some in
-    let synced = subst (λ (b : ℕ). (f : Files) → Image m2 f → Begins (m.files (file.Log b)) (f (file.Log b))) c.base.ensures c.in-Ok.ensures.durable in
+    let synced = subst (λ (b : ℕ). (f : Files) → Image m2 f → BeginsWith (m.files (file.Log b)) (f (file.Log b))) c.base.ensures c.in-Ok.ensures.durable in
     let d' = g.D.Disk.content c.append-outcome.new.self in
     let laws' : Lawful d' = g.met.D.Disk.lawful c.append-outcome.new.self in
     let M = MayBeDone call.Append (fate_of c.append-outcome.result) (g.D.Disk.control c.sync.new.self) in
@@ -432,7 +432,7 @@ returns-in-Err-outcome-clause-no_memory g c =
     let k2 = c.sync.ensures.content in
     let are = c.self.invariant.segments in
     let some : 0 < size_of s.active = subst (λ (l : Log g.row.D.Denot). 0 < size_of l.active) (sym c.self.view_is) c.requires.some in
-    let synced = subst (λ (b : ℕ). (f : Files) → Image m2 f → Begins (m.files (file.Log b)) (f (file.Log b))) c.base.ensures c.in-Ok.ensures.durable in
+    let synced = subst (λ (b : ℕ). (f : Files) → Image m2 f → BeginsWith (m.files (file.Log b)) (f (file.Log b))) c.base.ensures c.in-Ok.ensures.durable in
     let d' = g.D.Disk.content c.append-outcome.new.self in
     let laws' : Lawful d' = g.met.D.Disk.lawful c.append-outcome.new.self in
     let M = MayBeDone call.Append (fate_of c.append-outcome.result) (g.D.Disk.control c.sync.new.self) in
@@ -460,7 +460,7 @@ returns-in-Err-outcome-clause-broken g c =
     let k2 = c.sync.ensures.content in
     let are = c.self.invariant.segments in
     let some : 0 < size_of s.active = subst (λ (l : Log g.row.D.Denot). 0 < size_of l.active) (sym c.self.view_is) c.requires.some in
-    let synced = subst (λ (b : ℕ). (f : Files) → Image m2 f → Begins (m.files (file.Log b)) (f (file.Log b))) c.base.ensures c.in-Ok.ensures.durable in
+    let synced = subst (λ (b : ℕ). (f : Files) → Image m2 f → BeginsWith (m.files (file.Log b)) (f (file.Log b))) c.base.ensures c.in-Ok.ensures.durable in
     let d' = g.D.Disk.content c.append-outcome.new.self in
     let laws' : Lawful d' = g.met.D.Disk.lawful c.append-outcome.new.self in
     let M = MayBeDone call.Append (fate_of c.append-outcome.result) (g.D.Disk.control c.sync.new.self) in

@@ -4,14 +4,14 @@ use Rattle.std.specs.Prelude.{is_ok}
 use Rattle.tier_base.specs.declared.plain.FileName.TheVariants as file
 use Rattle.tier_base.specs.Device.{fate_of, fate_of_trouble, MayBeDone, Dry}
 use Rattle.disk_model.specs.declared.call.DiskCall.TheVariants as call
-use Rattle.disk_model.specs.Content.{Lawful, Changes, appended, Grown as MayGrow}
+use Rattle.disk_model.specs.Content.{Lawful, Changes, appended, HasGrown as MayGrow}
 use Rattle.log_terms.specs.Log.{joined}
 use Rattle.segment_file.specs.Growing.{Grown}
 use Rattle.epoch_line.specs.Line.{IsLine}
 use Rattle.log_steps.specs.Fronts.{Each}
 use Rattle.local_log.specs.Log.{Log}
 use Rattle.local_log.specs.Listing.{IsLaidOut, AreSegmentsOf}
-use Rattle.local_log.specs.Inside.{HasLog}
+use Rattle.local_log.specs.Inside.{DiskHasLog}
 use Rattle.local_log.specs.Stored.{end_of, all_batches}
 use Rattle.local_log.specs.Run.{lined, is_due}
 use Rattle.local_log.specs.Taking.{IsTakenIn, grown_by}
@@ -82,8 +82,8 @@ invariant_of-self-in-Ok g c =
       line_within = subst (λ (l : List (ℕ × ℕ)). Each (λ (e : ℕ × ℕ). e.1 ≤ end_of c.take_in.new.segment) l) (sym line_is)
           (subst (λ (n : ℕ). Each (λ (e : ℕ × ℕ). e.1 ≤ n) (lined s.line (taken s.active c.take_in.new.segment s.line c.args.run.now s.settings.segment_bytes (c.in_ok-len.len, c.in_ok-len.line) t c.self.invariant.line c.self.invariant.line_within))) (sym (taken_end s.active c.take_in.new.segment s.line c.args.run.now s.settings.segment_bytes (c.in_ok-len.len, c.in_ok-len.line) t c.self.invariant.line c.self.invariant.line_within)) (taken_lined s.active c.take_in.new.segment s.line c.args.run.now s.settings.segment_bytes (c.in_ok-len.len, c.in_ok-len.line) t c.self.invariant.line c.self.invariant.line_within).within);
       flushed_end_within = (let up = taken_up s.active c.take_in.new.segment s.line c.args.run.now s.settings.segment_bytes (c.in_ok-len.len, c.in_ok-len.line) t c.self.invariant.line c.self.invariant.line_within in omega (arith, up, c.self.invariant.flushed_end_within));
-      has = λ whole. subst (λ (l : List (ℕ × ℕ)). HasLog d' s.incarnation s.local_start s.closed.items c.take_in.new.segment l s.flushed_end) (sym line_is)
-          (subst (λ (x : Grown). HasLog d' s.incarnation s.local_start s.closed.items x (lined s.line (taken s.active c.take_in.new.segment s.line c.args.run.now s.settings.segment_bytes (c.in_ok-len.len, c.in_ok-len.line) t c.self.invariant.line c.self.invariant.line_within)) s.flushed_end) (sym t.segment_is) has');
+      has = λ whole. subst (λ (l : List (ℕ × ℕ)). DiskHasLog d' s.incarnation s.local_start s.closed.items c.take_in.new.segment l s.flushed_end) (sym line_is)
+          (subst (λ (x : Grown). DiskHasLog d' s.incarnation s.local_start s.closed.items x (lined s.line (taken s.active c.take_in.new.segment s.line c.args.run.now s.settings.segment_bytes (c.in_ok-len.len, c.in_ok-len.line) t c.self.invariant.line c.self.invariant.line_within)) s.flushed_end) (sym t.segment_is) has');
       reopens = appended_reopens d d' laws laws' s.incarnation s.local_start s.closed.items s.active s.line s.flushed_end has c.split_at.result.0.now M change;
     }
 
@@ -175,8 +175,8 @@ invariant_of-self-in-Err g c =
       has = λ whole. (
           let dry : fate_of c.append-outcome.result ≡ Dry = ap fate_of c.in-Err.is ∙ ap fate_of_trouble (not_broken c.in-Err.trouble c.refused.result c.refused.new.broken c.refused.ensures.fault whole) in
           let same = appended_dry d d' laws laws' s.incarnation s.local_start s.closed.items s.active s.line s.flushed_end has c.split_at.result.0.now M change (λ m. true≢false (m.dry dry)) in
-          subst (λ (l : List (ℕ × ℕ)). HasLog d' s.incarnation s.local_start s.closed.items c.cut_to.new.self l s.flushed_end) (sym line_is)
-          (subst (λ (x : Grown). HasLog d' s.incarnation s.local_start s.closed.items x s.line s.flushed_end) (sym cut_is) same)
+          subst (λ (l : List (ℕ × ℕ)). DiskHasLog d' s.incarnation s.local_start s.closed.items c.cut_to.new.self l s.flushed_end) (sym line_is)
+          (subst (λ (x : Grown). DiskHasLog d' s.incarnation s.local_start s.closed.items x s.line s.flushed_end) (sym cut_is) same)
           );
       reopens = appended_reopens d d' laws laws' s.incarnation s.local_start s.closed.items s.active s.line s.flushed_end has c.split_at.result.0.now M change;
     }

@@ -8,7 +8,7 @@ use Rattle.local_log.specs.Log.{Log}
 use Rattle.log_steps.proofs.Lists.{each_map}
 use Rattle.local_log.specs.Stored.{end_of}
 use Rattle.local_log.specs.Listing.{AreSegmentsOf, manifest_of}
-use Rattle.local_log.specs.Inside.{HasLog}
+use Rattle.local_log.specs.Inside.{DiskHasLog}
 use Rattle.local_log.specs.Cutting.{names_of}
 use Rattle.local_log.specs.Renewing.{Renews}
 use Rattle.local_log.proofs.Refused.{not_broken}
@@ -38,7 +38,7 @@ invariant_of-self g c =
     let none_is = c.clear.ensures.items in
     let empty = ap (λ (x : Grown). end_of x) interval_is in
     let are = subst (λ (x : Grown). AreSegmentsOf a.base [] x) (sym interval_is) (fresh_are a.base s.settings.index_interval c.requires.low) in
-    let log = subst (λ (x : Grown). HasLog d' s.incarnation a.base [] x L a.base) (sym interval_is) (restart_has d laws s.incarnation s.local_start s.closed.items s.active s.line s.flushed_end has c.self.invariant.opened c.self.invariant.fits a.base s.settings.index_interval c.requires.low L c.requires.line c.requires.within d' laws' (fate_of c.renew.result) change went) in
+    let log = subst (λ (x : Grown). DiskHasLog d' s.incarnation a.base [] x L a.base) (sym interval_is) (restart_has d laws s.incarnation s.local_start s.closed.items s.active s.line s.flushed_end has c.self.invariant.opened c.self.invariant.fits a.base s.settings.index_interval c.requires.low L c.requires.line c.requires.within d' laws' (fate_of c.renew.result) change went) in
     record {
       segments = subst (λ (n : ℕ). AreSegmentsOf n closed a) (sym start_is) (subst (λ (gs : List Grown). AreSegmentsOf a.base gs a) (sym none_is) are);
       settings = c.self.invariant.settings;
@@ -47,7 +47,7 @@ invariant_of-self g c =
       line = c.requires.line;
       line_within = each_map (λ e le. omega (arith, le, empty)) L c.requires.within;
       flushed_end_within = omega (arith, start_is, empty);
-      has = λ whole. subst (λ (n : ℕ). HasLog d' s.incarnation n closed a L n) (sym start_is) (subst (λ (gs : List Grown). HasLog d' s.incarnation a.base gs a L a.base) (sym none_is) log);
+      has = λ whole. subst (λ (n : ℕ). DiskHasLog d' s.incarnation n closed a L n) (sym start_is) (subst (λ (gs : List Grown). DiskHasLog d' s.incarnation a.base gs a L a.base) (sym none_is) log);
       reopens = restart_reopens d laws s.incarnation s.local_start s.closed.items s.active s.line s.flushed_end has c.self.invariant.opened c.self.invariant.fits a.base s.settings.index_interval c.requires.low L c.requires.line c.requires.within d' laws' (fate_of c.renew.result) change;
     }
 

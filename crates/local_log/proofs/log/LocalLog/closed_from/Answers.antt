@@ -5,7 +5,7 @@ use Rattle.disk_model.specs.Content.{Lawful, part_of}
 use Rattle.segment_file.specs.Growing.{Grown}
 use Rattle.local_log.specs.Log.{Log}
 use Rattle.local_log.specs.Stored.{bytes_of, size_of}
-use Rattle.local_log.specs.Reading.{first_past, IsFront, FrontFails, IsPartOf, IsOfDevice}
+use Rattle.local_log.specs.Reading.{first_past, IsSegmentFront, FrontFails, IsPartOf, IsOfDevice}
 use Rattle.local_log.proofs.Having.{start_since}
 use Rattle.local_log.proofs.RunsTold.{part_bytes, err_on}
 use Rattle.local_log.proofs.ClosedTold.{holder_low, found_some, found_holder, front_told, part_told}
@@ -78,8 +78,8 @@ returns-clause-part g c there =
     ∙ ap (λ (n : ℕ). take n (bytes_of (content s.disk).files c.in-Some.segment.now)) c.size-size.ensures in
     let line_is : c.self-2.inside.line ≡ s.line =
     ap (λ (l : Log g.row.D.Denot). l.line) (c.self-2.view_is ∙ c.read_part.ensures.log.fields) ∙ sym (ap (λ (l : Log g.row.D.Denot). l.line) c.self.view_is) in
-    let lined = subst (λ (l : List (ℕ × ℕ)). IsFront l c.base-base.result c.size-size.result (bytes_in c.in_ok-part.part) c.in_ok-closed.closed) line_is c.in_ok-closed.ensures.ok in
-    let front = subst (λ (n : ℕ). IsFront s.line n (size_of c.in-Some.segment.now) (bytes_in c.in_ok-part.part) c.in_ok-closed.closed) c.base-base.ensures
-    (subst (λ (n : ℕ). IsFront s.line c.base-base.result n (bytes_in c.in_ok-part.part) c.in_ok-closed.closed) c.size-size.ensures lined) in
+    let lined = subst (λ (l : List (ℕ × ℕ)). IsSegmentFront l c.base-base.result c.size-size.result (bytes_in c.in_ok-part.part) c.in_ok-closed.closed) line_is c.in_ok-closed.ensures.ok in
+    let front = subst (λ (n : ℕ). IsSegmentFront s.line n (size_of c.in-Some.segment.now) (bytes_in c.in_ok-part.part) c.in_ok-closed.closed) c.base-base.ensures
+    (subst (λ (n : ℕ). IsSegmentFront s.line c.base-base.result n (bytes_in c.in_ok-part.part) c.in_ok-closed.closed) c.size-size.ensures lined) in
     subst (λ (l : Log g.row.D.Denot). IsPartOf l c.in_ok-closed.closed) c.self.view_is
     (part_told content s c.self.invariant unbroken t c.args.offset c.in-Some.segment.now found (bytes_in c.in_ok-part.part) c.in_ok-closed.closed same front)

@@ -7,7 +7,7 @@ use Rattle.log_steps.specs.Publishes.{Publishes}
 use Rattle.epoch_line.specs.Line.{cut_end}
 use Rattle.segment_file.specs.Growing.{Grown}
 use Rattle.local_log.specs.Log.{Log}
-use Rattle.local_log.specs.Inside.{HasLog}
+use Rattle.local_log.specs.Inside.{DiskHasLog}
 use Rattle.log_steps.specs.Fronts.{Each}
 use Rattle.local_log.specs.Listing.{manifest_of}
 use Rattle.local_log.specs.Stored.{end_of}
@@ -121,7 +121,7 @@ invariant_of-self-in-Ok-1 g c =
       line = c.requires.line;
       line_within = subst (λ (n : ℕ). Each (λ (e : ℕ × ℕ). e.1 ≤ n) c.args.line) (sym end_is) c.requires.within;
       flushed_end_within = omega (arith, c.end-self-inside.ensures);
-      has = λ whole. subst (HasLog d' s.incarnation s.local_start s.closed.items s.active c.args.line) (sym c.end-self-inside.ensures) (commit_has d m laws laws-m s.incarnation s.local_start s.closed.items s.active s.line s.flushed_end has c.reserve.ensures.content d' laws' c.self.invariant.segments c.self.invariant.opened c.self.invariant.fits c.args.line c.self.invariant.line c.requires.line same_line (fate_of c.publish.result) change went);
+      has = λ whole. subst (DiskHasLog d' s.incarnation s.local_start s.closed.items s.active c.args.line) (sym c.end-self-inside.ensures) (commit_has d m laws laws-m s.incarnation s.local_start s.closed.items s.active s.line s.flushed_end has c.reserve.ensures.content d' laws' c.self.invariant.segments c.self.invariant.opened c.self.invariant.fits c.args.line c.self.invariant.line c.requires.line same_line (fate_of c.publish.result) change went);
       reopens = commit_reopens d m laws laws-m s.incarnation s.local_start s.closed.items s.active s.line s.flushed_end has c.reserve.ensures.content d' laws' c.self.invariant.segments c.self.invariant.opened c.self.invariant.fits c.args.line c.self.invariant.line c.requires.line same_line (fate_of c.publish.result) change;
     }
 

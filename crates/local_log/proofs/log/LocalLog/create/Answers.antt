@@ -10,7 +10,7 @@ use Rattle.segment_file.specs.Growing.{Grown}
 use Rattle.log_steps.specs.Fronts.{Each}
 use Rattle.local_log.specs.Stored.{end_of}
 use Rattle.local_log.specs.Listing.{AreSegmentsOf, manifest_of}
-use Rattle.local_log.specs.Inside.{HasLog}
+use Rattle.local_log.specs.Inside.{DiskHasLog}
 use Rattle.local_log.proofs.Having.{has_reopens}
 use Rattle.local_log.proofs.Created.{first, first_manifest, first_are, create_since, create_reopens, create_has, create_opens}
 use Rattle.local_log.proofs.log.LocalLog.create.Goals as goal
@@ -38,9 +38,9 @@ invariant_of-result g c =
       line = subst IsLine (sym c.new-line.ensures) tt;
       line_within = subst (Each (λ (e : ℕ × ℕ). e.1 ≤ end_of c.new-active.result)) (sym c.new-line.ensures) tt;
       flushed_end_within = omega arith;
-      has = λ whole. subst (λ (l : List Grown). HasLog d' 1 0 l c.new-active.result c.new-line.result 0) (sym c.new.ensures.items)
-          (subst (λ (x : Grown). HasLog d' 1 0 [] x c.new-line.result 0) (sym active_is)
-          (subst (λ (l : List (ℕ × ℕ)). HasLog d' 1 0 [] (first interval) l 0) (sym c.new-line.ensures) has));
+      has = λ whole. subst (λ (l : List Grown). DiskHasLog d' 1 0 l c.new-active.result c.new-line.result 0) (sym c.new.ensures.items)
+          (subst (λ (x : Grown). DiskHasLog d' 1 0 [] x c.new-line.result 0) (sym active_is)
+          (subst (λ (l : List (ℕ × ℕ)). DiskHasLog d' 1 0 [] (first interval) l 0) (sym c.new-line.ensures) has));
       reopens = has_reopens d' laws' 1 0 [] (first interval) [] 0 has;
     }
 

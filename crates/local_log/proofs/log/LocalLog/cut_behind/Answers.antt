@@ -3,7 +3,7 @@ use Rattle.std.proofs.lemmas.Result.{on_ok_weaker}
 use Rattle.log_terms.specs.Log.{up_to, end_from}
 use Rattle.segment_file.specs.Growing.{Grown}
 use Rattle.local_log.specs.Stored.{all_batches, end_of}
-use Rattle.local_log.specs.Log.{Log, Becomes}
+use Rattle.local_log.specs.Log.{Log, LogBecomes}
 use Rattle.local_log.specs.Cutting.{cut_point, cut, IsLeftUpTo}
 use Rattle.local_log.proofs.CutPoints.{point_is, point_again, told_end, told_batches}
 use Rattle.local_log.proofs.log.LocalLog.cut_behind.Goals as goal
@@ -66,7 +66,7 @@ returns-clause-told g c told =
     subst (λ (l : Log g.row.D.Denot). end_from l.local_start (up_to end l.batches) ≡ c.end_by-point.result) c.self.view_is (told_end f s.line s.local_start end s.closed.items s.active are.chained stored from ∙ sym is) in
     let batches : up_to c.end_by-point.result x.batches ≡ up_to end x.batches =
     subst (λ (l : Log g.row.D.Denot). up_to c.end_by-point.result l.batches ≡ up_to end l.batches) c.self.view_is (ap (λ (n : ℕ). up_to n (all_batches f (s.closed.items ++ s.active ∷ []))) is ∙ told_batches f s.line s.local_start end s.closed.items s.active are.chained stored from) in
-    on_ok_weaker {P = Becomes content (cut x c.end_by-point.result) z} {Q = IsLeftUpTo x end z} c.cut_within.result
+    on_ok_weaker {P = LogBecomes content (cut x c.end_by-point.result) z} {Q = IsLeftUpTo x end z} c.cut_within.result
     (λ h. record {
       batches_are = h.batches told ∙ batches;
       end_is = ap (λ (l : Log g.row.D.Denot). l.end) h.fields ∙ sym ends;

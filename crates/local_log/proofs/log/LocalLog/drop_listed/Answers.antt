@@ -6,7 +6,7 @@ use Rattle.segment_file.specs.Growing.{Grown}
 use Rattle.local_log.specs.Stored.{all_batches}
 use Rattle.local_log.specs.Log.{Log}
 use Rattle.local_log.specs.Listing.{AreSegmentsOf}
-use Rattle.local_log.specs.Inside.{HasLog, log_in}
+use Rattle.local_log.specs.Inside.{DiskHasLog, log_in}
 use Rattle.local_log.specs.Cutting.{names_of}
 use Rattle.local_log.specs.Renewing.{Renews}
 use Rattle.local_log.specs.Dropping.{first_of, rest_of, start_behind, IsFirstFlushed, SpansFirst}
@@ -51,7 +51,7 @@ invariant_of-self g c =
       line = c.self.invariant.line;
       line_within = c.self.invariant.line_within;
       flushed_end_within = c.self.invariant.flushed_end_within;
-      has = λ whole. subst (λ (n : ℕ). HasLog d' s.incarnation n left s.active s.line s.flushed_end) (sym end_is) (subst (λ (gs : List Grown). HasLog d' s.incarnation start gs s.active s.line s.flushed_end) (sym rest_is) (h.has went));
+      has = λ whole. subst (λ (n : ℕ). DiskHasLog d' s.incarnation n left s.active s.line s.flushed_end) (sym end_is) (subst (λ (gs : List Grown). DiskHasLog d' s.incarnation start gs s.active s.line s.flushed_end) (sym rest_is) (h.has went));
       reopens = h.reopens;
     }
 

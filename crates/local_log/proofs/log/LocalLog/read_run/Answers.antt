@@ -8,7 +8,7 @@ use Rattle.segment_file.specs.Reach.{reach_at}
 use Rattle.log_steps.proofs.Lists.{each_join}
 use Rattle.local_log.specs.Log.{Log}
 use Rattle.local_log.specs.Listing.{IsLaidOut}
-use Rattle.local_log.specs.Reading.{first_past, begin_of, position_of, piece_end, IsEdge, IsCut, IsRunOf, CutFails}
+use Rattle.local_log.specs.Reading.{first_past, begin_of, position_of, piece_end, IsEdge, IsCutOut, IsRunOf, CutFails}
 use Rattle.local_log.proofs.Having.{start_since}
 use Rattle.local_log.proofs.Edges.{holder, holder_each}
 use Rattle.local_log.proofs.RunsTold.{ok_more, err_more, part_bytes, piece_past, edge_told, fails_told, run_told}
@@ -96,8 +96,8 @@ returns-clause-run g c =
     let t : IsTrue (content s.disk).is_observable = subst (λ (l : Log g.row.D.Denot). IsTrue (content l.disk).is_observable) (sym c.self.view_is) there in
     let file_is = subst (λ (l : Log g.row.D.Denot). c.in_ok-part.part ≡ option_map (part_of from most) ((content l.disk).files (file.Log c.piece_at-piece.result.base))) (sym c.self.view_is) (c.in_ok-part.ensures.file there) in
     let bytes_are = ap bytes_in file_is ∙ part_bytes from most ((content s.disk).files (file.Log c.piece_at-piece.result.base)) ∙ ap (λ (b : ℕ). part_of from most (bytes_in ((content s.disk).files (file.Log b)))) (c.piece_at-piece.ensures.base ∙ ap (λ (x : Grown). x.base) seg_is) in
-    let whole = subst (λ (l : List (ℕ × ℕ)). IsCut l (bytes_in c.in_ok-part.part) c.args.offset c.args.limit c.args.mark c.piece_at-piece.result.end out) line_is cut in
-    let ended = subst (λ (n : ℕ). IsCut s.line (bytes_in c.in_ok-part.part) c.args.offset c.args.limit c.args.mark n out) end_is whole in
+    let whole = subst (λ (l : List (ℕ × ℕ)). IsCutOut l (bytes_in c.in_ok-part.part) c.args.offset c.args.limit c.args.mark c.piece_at-piece.result.end out) line_is cut in
+    let ended = subst (λ (n : ℕ). IsCutOut s.line (bytes_in c.in_ok-part.part) c.args.offset c.args.limit c.args.mark n out) end_is whole in
     subst (λ (l : Log g.row.D.Denot). IsRunOf l c.args.offset c.args.limit c.args.mark out) c.self.view_is
     (run_told content s c.self.invariant unbroken t c.args.offset c.args.limit c.args.mark from most start c.requires.below edge from_is reach_is (bytes_in c.in_ok-part.part) out bytes_are ended)
     )) c.run_in.ensures.ok

@@ -1,12 +1,12 @@
 use Rattle.std.proofs.Common.{◌≡◌, ◌∙◌, ◌<◌, ◌+◌, ℕ, List, [], ◌∷◌, ◌++◌, length, false, refl, sym, ap, subst, arith, ◌≤◌}
 use Rattle.tier_base.specs.declared.plain.FileName.TheVariants as file
-use Rattle.disk_model.specs.Content.{Lawful, Files, Image, Begins}
+use Rattle.disk_model.specs.Content.{Lawful, Files, Image, BeginsWith}
 use Rattle.segment_file.specs.Growing.{Grown}
 use Rattle.local_log.specs.Log.{Log}
 use Rattle.log_steps.specs.Fronts.{Each}
 use Rattle.local_log.specs.Stored.{size_of, end_of, all_batches}
 use Rattle.local_log.specs.Listing.{AreSegmentsOf}
-use Rattle.local_log.specs.Inside.{HasLog}
+use Rattle.local_log.specs.Inside.{DiskHasLog}
 use Rattle.local_log.proofs.Having.{start_since, kept_since, has_kept, has_reopens}
 use Rattle.local_log.proofs.Listed.{are_rolled}
 use Rattle.local_log.proofs.Becoming.{becomes_by}
@@ -73,7 +73,7 @@ invariant_of-self-in_err-reserve-2 g c =
       line = c.self.invariant.line;
       line_within = c.self.invariant.line_within;
       flushed_end_within = c.self.invariant.flushed_end_within;
-      has = λ whole. subst (λ (l : List Grown). HasLog m s.incarnation s.local_start l s.active s.line s.flushed_end) (sym c.reserve.ensures.items) has;
+      has = λ whole. subst (λ (l : List Grown). DiskHasLog m s.incarnation s.local_start l s.active s.line s.flushed_end) (sym c.reserve.ensures.items) has;
       reopens = has_reopens m laws-m s.incarnation s.local_start s.closed.items s.active s.line s.flushed_end has;
     }
 
@@ -114,7 +114,7 @@ invariant_of-self-in-Ok g c =
     ∙ ap (λ (x : Grown). s.closed.items ++ x ∷ []) c.replace-full.ensures.value in
     let active_is : c.replace-full.new.dest ≡ record { base = end_of s.active; interval = s.settings.index_interval; batches = [] } =
     c.replace-full.ensures.after ∙ c.new-next.ensures ∙ ap (λ (n : ℕ). record { base = n; interval = s.settings.index_interval; batches = [] }) c.end-end.ensures in
-    let synced = subst (λ (b : ℕ). (f : Files) → Image d' f → Begins (m.files (file.Log b)) (f (file.Log b))) base_is c.in-Ok.ensures.durable in
+    let synced = subst (λ (b : ℕ). (f : Files) → Image d' f → BeginsWith (m.files (file.Log b)) (f (file.Log b))) base_is c.in-Ok.ensures.durable in
     let has = roll_has d m d' laws laws-m laws' s.incarnation s.local_start s.closed.items s.active s.line s.flushed_end (c.self.invariant.has unbroken) c.reserve-2.ensures.content c.sync.ensures.content s.settings.index_interval are some c.self.invariant.flushed_end_within synced in
     let next : Grown = (record { base = end_of s.active; interval = s.settings.index_interval; batches = [] }) in
     let end_is : end_of c.replace-full.new.dest ≡ end_of s.active = ap (λ (x : Grown). end_of x) active_is in
@@ -126,7 +126,7 @@ invariant_of-self-in-Ok g c =
       line = c.self.invariant.line;
       line_within = subst (λ (n : ℕ). Each (λ (e : ℕ × ℕ). e.1 ≤ n) s.line) (sym end_is) c.self.invariant.line_within;
       flushed_end_within = omega (arith, end_is, c.self.invariant.flushed_end_within);
-      has = λ whole. subst (λ (x : Grown). HasLog d' s.incarnation s.local_start c.push_reserved.new.self.items x s.line s.flushed_end) (sym active_is) (subst (λ (l : List Grown). HasLog d' s.incarnation s.local_start l next s.line s.flushed_end) (sym items_are) has);
+      has = λ whole. subst (λ (x : Grown). DiskHasLog d' s.incarnation s.local_start c.push_reserved.new.self.items x s.line s.flushed_end) (sym active_is) (subst (λ (l : List Grown). DiskHasLog d' s.incarnation s.local_start l next s.line s.flushed_end) (sym items_are) has);
       reopens = has_reopens d' laws' s.incarnation s.local_start (s.closed.items ++ s.active ∷ []) next s.line s.flushed_end has;
     }
 
@@ -149,7 +149,7 @@ returns-in-Ok-clause-ok g c =
     ∙ ap (λ (x : Grown). s.closed.items ++ x ∷ []) c.replace-full.ensures.value in
     let active_is : c.replace-full.new.dest ≡ record { base = end_of s.active; interval = s.settings.index_interval; batches = [] } =
     c.replace-full.ensures.after ∙ c.new-next.ensures ∙ ap (λ (n : ℕ). record { base = n; interval = s.settings.index_interval; batches = [] }) c.end-end.ensures in
-    let synced = subst (λ (b : ℕ). (f : Files) → Image d' f → Begins (m.files (file.Log b)) (f (file.Log b))) base_is c.in-Ok.ensures.durable in
+    let synced = subst (λ (b : ℕ). (f : Files) → Image d' f → BeginsWith (m.files (file.Log b)) (f (file.Log b))) base_is c.in-Ok.ensures.durable in
     let next : Grown = (record { base = end_of s.active; interval = s.settings.index_interval; batches = [] }) in
     let end_is : end_of c.replace-full.new.dest ≡ end_of s.active = ap (λ (x : Grown). end_of x) active_is in
     let batches_are : all_batches d'.files (c.push_reserved.new.self.items ++ c.replace-full.new.dest ∷ []) ≡ all_batches d'.files ((s.closed.items ++ s.active ∷ []) ++ next ∷ []) =

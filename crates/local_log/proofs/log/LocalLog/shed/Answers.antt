@@ -8,7 +8,7 @@ use Rattle.log_steps.specs.Fronts.{Each}
 use Rattle.local_log.specs.Log.{Log}
 use Rattle.local_log.specs.Stored.{end_of, size_of, all_batches}
 use Rattle.local_log.specs.Listing.{front_to, AreSegmentsOf}
-use Rattle.local_log.specs.Inside.{HasLog}
+use Rattle.local_log.specs.Inside.{DiskHasLog}
 use Rattle.local_log.specs.Cutting.{closed_by, open_by, behind, names_of, cut_point, Trims}
 use Rattle.local_log.proofs.Becoming.{becomes_by}
 use Rattle.local_log.proofs.Lines.{below_cut}
@@ -52,9 +52,9 @@ invariant_of-self g c =
       line = subst IsLine (sym line_new) (short_line d s.incarnation s.local_start s.closed.items s.active s.line s.flushed_end has c.self.invariant.segments c.self.invariant.line n from exact within);
       line_within = subst (λ (k : ℕ). Each (λ (e : ℕ × ℕ). e.1 ≤ k) c.cut_end.new.self) (sym end_is) (subst (Each (λ (e : ℕ × ℕ). e.1 ≤ n)) (sym line_new) (below_cut s.line n));
       flushed_end_within = omega (arith, end_is, up);
-      has = λ whole. subst (λ (x : Grown). HasLog d' s.incarnation s.local_start c.cut_segments.new.closed.items x c.cut_end.new.self s.flushed_end) (sym active_new)
-          (subst (λ (l : List Grown). HasLog d' s.incarnation s.local_start l (front_to n (open_by n s.closed.items s.active)) c.cut_end.new.self s.flushed_end) (sym closed_new)
-          (subst (λ (l : List (ℕ × ℕ)). HasLog d' s.incarnation s.local_start (closed_by n s.closed.items) (front_to n (open_by n s.closed.items s.active)) l s.flushed_end) (sym line_new)
+      has = λ whole. subst (λ (x : Grown). DiskHasLog d' s.incarnation s.local_start c.cut_segments.new.closed.items x c.cut_end.new.self s.flushed_end) (sym active_new)
+          (subst (λ (l : List Grown). DiskHasLog d' s.incarnation s.local_start l (front_to n (open_by n s.closed.items s.active)) c.cut_end.new.self s.flushed_end) (sym closed_new)
+          (subst (λ (l : List (ℕ × ℕ)). DiskHasLog d' s.incarnation s.local_start (closed_by n s.closed.items) (front_to n (open_by n s.closed.items s.active)) l s.flushed_end) (sym line_new)
           (shed_has d laws s.incarnation s.local_start s.closed.items s.active s.line s.flushed_end has c.self.invariant.segments c.self.invariant.line n from exact within up d' laws' (failing c.trim.result) change went)));
       reopens = shed_reopens d laws s.incarnation s.local_start s.closed.items s.active s.line s.flushed_end has c.self.invariant.segments c.self.invariant.line n from exact within up d' laws' (failing c.trim.result) change;
     }

@@ -1,5 +1,5 @@
 use Rattle.std.proofs.Common.{◌∙◌, ap, refl, subst, ℕ, Err}
-use Rattle.broker_log.specs.Turns.{Reads, Misreads}
+use Rattle.broker_log.specs.Turns.{ReadsRun, Misreads}
 use Rattle.partition_commands.specs.TurnsOfFetch.{MayGive}
 use Rattle.partition_commands.proofs.Staying.{at_node, stays_at, has_read}
 use Rattle.partition_commands.proofs.Writes.{never}
@@ -13,7 +13,7 @@ returns-in-Ok-clause-row g c =
     at_node c.args.self.now c.args.b node _ c.at_mut-node.ensures.value (record {
       kept = c.read_run.new.self;
       out = c.in-Ok.run';
-      reads = subst (λ (known : ℕ). Reads g.D.Disk.content g.D.Disk.control node.log c.read_run.new.self c.args.offset c.args.limit known c.in-Ok.run') may.1 c.in-Ok.ensures.ok;
+      reads = subst (λ (known : ℕ). ReadsRun g.D.Disk.content g.D.Disk.control node.log c.read_run.new.self c.args.offset c.args.limit known c.in-Ok.run') may.1 c.in-Ok.ensures.ok;
       quiet = (c.read_run.ensures.control, c.read_run.ensures.quiet (never c.in-Ok.is (λ no. cc)));
       after = refl;
       tier_is = refl;

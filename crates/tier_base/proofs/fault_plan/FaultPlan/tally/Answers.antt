@@ -4,7 +4,7 @@ use Rattle.std.specs.Prelude.{if◌then◌else◌, ◌&&◌, ◌==◌, List}
 use Rattle.tier_base.specs.Counts.{counted}
 use Rattle.tier_base.specs.declared.planned.Planned.{Planned}
 use Rattle.tier_base.specs.Device.{Went, made_after}
-use Rattle.tier_base.specs.Faults.{Faults, AreKept, count_of, faults_of, shorter, goes_well}
+use Rattle.tier_base.specs.Faults.{Faults, AreFaultsSound, count_of, faults_of, shorter, goes_well}
 use Rattle.tier_base.specs.Nexts.{AreNext}
 use Rattle.tier_base.proofs.Keeping.{kept_after, faults_after}
 use Rattle.tier_base.proofs.fault_plan.FaultPlan.tally.Goals as goal
@@ -22,7 +22,7 @@ invariant_of-self g c =
       scripted = c.self.inside.scripted;
       faults = c.missed-self-inside.result;
     } in
-    let kept : AreKept code old = subst (λ (f : Faults K). AreKept code f) c.self.view_is c.self.invariant.1 in
+    let kept : AreFaultsSound code old = subst (λ (f : Faults K). AreFaultsSound code f) c.self.view_is c.self.invariant.1 in
     let made : (kind : K) → count_of code new kind ≡ made_after code c.args.call Went old.armed kind (count_of code old kind) =
     λ kind. c.count_if.ensures.made (code kind)
     ∙ ap (λ (call : ℕ). if c.self.inside.armed && (call == code kind)
@@ -50,7 +50,7 @@ returns-clause-faults g c =
       scripted = c.self.inside.scripted;
       faults = c.missed-self-inside.result;
     } in
-    let kept : AreKept code old = subst (λ (f : Faults K). AreKept code f) c.self.view_is c.self.invariant.1 in
+    let kept : AreFaultsSound code old = subst (λ (f : Faults K). AreFaultsSound code f) c.self.view_is c.self.invariant.1 in
     let made : (kind : K) → count_of code new kind ≡ made_after code c.args.call Went old.armed kind (count_of code old kind) =
     λ kind. c.count_if.ensures.made (code kind)
     ∙ ap (λ (call : ℕ). if c.self.inside.armed && (call == code kind)
@@ -64,7 +64,7 @@ returns-clause-faults g c =
     faults_after code old new c.args.call c.args.ending kept c.requires plan scripted fuse made faults
 
 pub returns-clause-alone : goal.returns-clause-alone
-returns-clause-alone g c = (subst (λ (f : Faults g.row.K.Denot). AreKept g.K.CallKind.code f) c.self.view_is c.self.invariant.1).alone
+returns-clause-alone g c = (subst (λ (f : Faults g.row.K.Denot). AreFaultsSound g.K.CallKind.code f) c.self.view_is c.self.invariant.1).alone
 
 pub returns-clause-later : goal.returns-clause-later
 returns-clause-later g c =
@@ -79,7 +79,7 @@ returns-clause-later g c =
       scripted = c.self.inside.scripted;
       faults = c.missed-self-inside.result;
     } in
-    let kept : AreKept code old = subst (λ (f : Faults K). AreKept code f) c.self.view_is c.self.invariant.1 in
+    let kept : AreFaultsSound code old = subst (λ (f : Faults K). AreFaultsSound code f) c.self.view_is c.self.invariant.1 in
     let made : (kind : K) → count_of code new kind ≡ made_after code c.args.call Went old.armed kind (count_of code old kind) =
     λ kind. c.count_if.ensures.made (code kind)
     ∙ ap (λ (call : ℕ). if c.self.inside.armed && (call == code kind)
@@ -90,7 +90,7 @@ returns-clause-later g c =
     c.missed-self-inside.ensures.is ∙ ap (λ (f : Faults K). if goes_well c.args.ending then f.faults else counted f.faults 1) c.self.view_is in
     let plan : new.plan ≡ old.plan = ap (λ (f : Faults K). f.plan) c.self.view_is in
     let scripted : new.scripted ≡ old.scripted = ap (λ (f : Faults K). f.scripted) c.self.view_is in
-    let after : AreKept code new = kept_after code old new c.args.call c.args.ending kept c.requires plan scripted fuse made faults in
+    let after : AreFaultsSound code new = kept_after code old new c.args.call c.args.ending kept c.requires plan scripted fuse made faults in
     let up : old.faults ≤ new.faults = subst (λ (f : Faults K). f.faults ≤ new.faults) c.self.view_is c.missed-self-inside.ensures.later in
     subst (λ (n : ℕ). n ≤ faults_of code new) kept.exact (subst (λ (n : ℕ). old.faults ≤ n) after.exact up)
 
