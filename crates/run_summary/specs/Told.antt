@@ -1,5 +1,5 @@
 -- What the journals of a run come to, as its summary reports it.
-use Rattle.std.specs.Prelude.{ℕ, List, [], ◌∷◌, map, flat_map, sum_by, Option, Some, option_map, unwrap_or, slice_get}
+use Rattle.std.specs.Prelude.{ℕ, List, [], ◌∷◌, map, flat_map, sum_by, Option, Some, None, option_map, unwrap_or, slice_get}
 use Rattle.log_terms.specs.Log.{end_of}
 use Rattle.load_gen.specs.Summary.{Answered, Ended, summary_of}
 use Rattle.plain_log.specs.declared.answer.Answer.TheVariants as answer
@@ -15,7 +15,7 @@ use Rattle.plain_log.specs.Fresh.{fresh}
 use Rattle.plain_log.specs.Runs.{order_of, replay}
 use Rattle.script_lang.specs.Spelling.{command_words}
 use Rattle.trace_text.specs.Trace.{name_of}
-use Rattle.run_summary.specs.declared.told.Told.{Told}
+use Rattle.run_summary.specs.Outcome.{Outcome}
 
 -- the first of a few words
 abbrev pub first_word : List (List ℕ) → List ℕ
@@ -44,6 +44,15 @@ size_in other = 0
 abbrev pub bytes_of : List JournalEntry → ℕ
 bytes_of journal = sum_by (λ (entry : JournalEntry). size_in entry.event) journal
 
+-- the size of an entry about an order
+abbrev pub ordered_size : Option Order → Event → ℕ
+ordered_size (Some order) event = size_in event
+ordered_size None event = 0
+
+-- the sizes of those entries that are about an order of the lists
+abbrev pub ordered_bytes : List ActorList → List JournalEntry → ℕ
+ordered_bytes lists journal = sum_by (λ (entry : JournalEntry). ordered_size (order_of lists entry) entry.event) journal
+
 -- the log end offset of broker 0
 abbrev pub first_end : State → ℕ
 first_end p = unwrap_or (option_map (λ x. end_of x.log) (slice_get p.brokers 0)) 0
@@ -58,11 +67,11 @@ ended partition p = record {
 }
 
 -- what a partition's journal comes to, or none where it is no run of the plain log
-abbrev pub told_of : Config → ℕ → List ActorList → List JournalEntry → Option Told
+abbrev pub told_of : Config → ℕ → List ActorList → List JournalEntry → Option Outcome
 told_of config partition lists journal = option_map
     (λ p. record { answers = answers_of lists journal; bytes = bytes_of journal; end = ended partition p })
     (replay lists (fresh config) journal)
 
 -- the summary of partitions
-abbrev pub summary_text : List Told → List ℕ
-summary_text parts = summary_of (flat_map (λ (t : Told). t.answers) parts) (sum_by (λ (t : Told). t.bytes) parts) (map (λ (t : Told). t.end) parts)
+abbrev pub summary_text : List Outcome → List ℕ
+summary_text parts = summary_of (flat_map (λ (t : Outcome). t.answers) parts) (sum_by (λ (t : Outcome). t.bytes) parts) (map (λ (t : Outcome). t.end) parts)

@@ -1,9 +1,9 @@
 //! The whole summary.
 
-ghost use Rattle.std.specs.Prelude.{◌≡◌, ◌≤◌, ◌*◌, ◌^◌, ◌++◌, length, flat_map, map, sum_by, IfOk, OnOk, string_bytes};
+ghost use Rattle.std.specs.Prelude.{◌≡◌, ◌<◌, ◌^◌, ◌++◌, length, flat_map, map, sum_by, IfOk, OnOk, string_bytes};
 ghost use Rattle.load_gen.specs.Summary.{Answered, answer_lines, commands, end_line};
 ghost use Rattle.run_summary.specs.Told.{summary_text};
-ghost use Rattle.run_summary.specs.declared.told.Told.{Told as ToldIs};
+ghost use Rattle.run_summary.specs.Outcome.{Outcome};
 
 use crate::given::Given;
 use crate::lines::{write_answers, write_end};
@@ -27,19 +27,19 @@ fn answers(alloc: Global, parts: &[Told]) -> Result<Vec<Given>, AllocError>
 {
     let mut answers = Vec::new(alloc);
     for part in parts {
-        push_all(&mut answers, part.answers.as_slice())?;
+        push_all(&mut answers, part.answers())?;
     }
     Ok(answers)
 }
 
-/// The bytes of all partitions' runs.
+/// The bytes of all partitions' runs, whose answers are in memory.
 fn bytes(parts: &[Told]) -> u128
-    ensures sum { result ≡ sum_by (λ t. t.bytes) parts.now }
-    ensures small { result ≤ length parts.now * 2 ^ 64 }
+    requires { length (flat_map (λ (t : Outcome). t.answers) parts.now) < 2 ^ 63 }
+    ensures { result ≡ sum_by (λ (t : Outcome). t.bytes) parts.now }
 {
     let mut sum: u128 = 0;
     for part in parts {
-        sum += u128::from(part.bytes);
+        sum += part.bytes();
     }
     sum
 }
@@ -68,7 +68,7 @@ fn write_ends(text: &mut String, parts: &[Told]) -> Result<(), AllocError>
         ≡ string_bytes text.old ++ flat_map end_line (map (λ t. t.end) parts.now)) }
 {
     for part in parts {
-        write_end(text, &part.end)?;
+        write_end(text, part.end())?;
     }
     Ok(())
 }

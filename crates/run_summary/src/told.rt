@@ -1,25 +1,87 @@
 //! What a summary says of a partition's journal.
 
-ghost use Rattle.std.specs.Prelude.{◌≡◌, ◌≤◌, IfOk};
+ghost use Rattle.std.specs.Prelude.{◌≡◌, ◌≤◌, ◌+◌, ◌*◌, ◌^◌, ◌++◌, ◌∷◌, [], length, IfOk, OnOk, OnErr};
 ghost use Rattle.std.specs.Option.{option_copied, option_to_list};
 ghost use Rattle.plain_executor.specs.Fits.{AreFor};
-ghost use Rattle.run_summary.specs.Told.{answer_in, answers_of, bytes_of, ended, first_end as end_is, size_in, told_of};
+ghost use Rattle.plain_log.specs.Runs.{order_of};
+ghost use Rattle.run_summary.specs.Told.{answer_in, answers_of, ended, first_end as end_is, ordered_bytes, ordered_size, size_in, told_of};
 
 use crate::given::{End, Given};
 use crate::names::command_name;
 use plain_executor::{Plain, find_order, replay};
 use plain_log::{ActorList, Answer, Config, Event, JournalEntry, Order};
 use std::alloc::{AllocError, Global};
+use std::marker::Model;
 use tier_base::{BrokerId, PartitionId, Row};
 use trace_text::answer_name;
 
 /// What a partition's journal comes to.
+///
+/// Only an answer has a size, of 64 bits. So the sizes of all answers that are in memory have a sum of 128 bits, also over
+/// several partitions.
 #[derive(Debug, Drop)]
 pub struct Told {
-    pub answers: Row<Given>,
-    /// The sizes of all runs that fetches were given, summed.
-    pub bytes: u64,
-    pub end: End,
+    answers: Row<Given>,
+    bytes: u128,
+    end: End,
+}
+
+impl Model for Told {
+    ghost use Rattle.std.specs.Prelude.{◌≤◌, ◌*◌, ◌^◌, length};
+    ghost use Rattle.run_summary.specs.Outcome.{Outcome};
+
+    ghost Value = { Outcome };
+
+    ghost view = { λ told. record { answers = told.answers; bytes = told.bytes; end = told.end } };
+
+    ghost invariant = { λ told. told.bytes ≤ length told.answers * 2 ^ 64 };
+}
+
+impl Told {
+    /// Of a partition that ended so: no answer yet.
+    pub fn new(alloc: Global, end: End) -> Told
+        ensures { result ≡ record { answers = []; bytes = 0; end = end } }
+    {
+        Told {
+            answers: Row::new(alloc),
+            bytes: 0,
+            end,
+        }
+    }
+
+    /// Adds an answer, and the size in bytes of the run that it returned: 0 where it returned none. Fails only if
+    /// memory runs out.
+    pub fn add(&mut self, given: Given, size: u64) -> Result<(), AllocError>
+        ensures ok { OnOk result (self.new ≡ record { answers = self.old.answers ++ given ∷ []; bytes = self.old.bytes + size; end = self.old.end }) }
+        ensures err { OnErr result (self.new ≡ self.old) }
+    {
+        self.answers.push(given)?;
+        let _count = self.answers.len();
+        self.bytes += u128::from(size);
+        Ok(())
+    }
+
+    /// Lends the answers, in their order.
+    pub fn answers(&self) -> &[Given]
+        ensures { result.now ≡ self.now.answers }
+    {
+        self.answers.as_slice()
+    }
+
+    /// The sizes of all runs that fetches returned, summed.
+    pub fn bytes(&self) -> u128
+        ensures is { result ≡ self.now.bytes }
+        ensures small { result ≤ length self.now.answers * 2 ^ 64 }
+    {
+        self.bytes
+    }
+
+    /// Lends where the partition ended.
+    pub fn end(&self) -> &End
+        ensures { result.now ≡ self.now.end }
+    {
+        &self.end
+    }
 }
 
 /// What an entry about an order reports.
@@ -35,23 +97,6 @@ fn answer_of(order: Option<&Order>, event: &Event) -> Option<Given>
     }
 }
 
-/// The answers of a journal.
-fn all_answers(
-    alloc: Global,
-    lists: &[ActorList],
-    journal: &[JournalEntry],
-) -> Result<Row<Given>, AllocError>
-    ensures { IfOk result (λ answers. answers ≡ answers_of lists.now journal.now) }
-{
-    let mut answers = Row::new(alloc);
-    for entry in journal {
-        if let Some(given) = answer_of(find_order(lists, entry), &entry.event) {
-            answers.push(given)?;
-        }
-    }
-    Ok(answers)
-}
-
 /// The size of the run that a fetch was given.
 fn size_of(event: &Event) -> u64
     ensures { result ≡ size_in event.now }
@@ -62,18 +107,41 @@ fn size_of(event: &Event) -> u64
     }
 }
 
-/// The sizes of all of them. Where their sum has no 64 bits, there is no memory for it.
-fn sum_of(journal: &[JournalEntry]) -> Result<u64, AllocError>
-    ensures { IfOk result (λ sum. sum ≡ bytes_of journal.now) }
+/// Adds what an entry gives.
+fn add_entry(told: &mut Told, lists: &[ActorList], entry: &JournalEntry) -> Result<(), AllocError>
+    ensures { OnOk result (told.new ≡ record {
+      answers = told.old.answers ++ answer_in (order_of lists.now entry.now) entry.now.event;
+      bytes = told.old.bytes + ordered_size (order_of lists.now entry.now) entry.now.event;
+      end = told.old.end;
+    }) }
 {
-    let mut sum: u64 = 0;
-    for entry in journal {
-        let Some(more) = sum.checked_add(size_of(&entry.event)) else {
-            return Err(AllocError);
-        };
-        sum = more;
+    match answer_of(find_order(lists, entry), &entry.event) {
+        Some(given) => told.add(given, size_of(&entry.event)),
+        None => Ok(()),
     }
-    Ok(sum)
+}
+
+/// What a journal says of a partition that ended so.
+fn told_in(
+    alloc: Global,
+    lists: &[ActorList],
+    journal: &[JournalEntry],
+    end: End,
+) -> Result<Told, AllocError>
+    ensures { IfOk result (λ told. told ≡ record {
+      answers = answers_of lists.now journal.now;
+      bytes = ordered_bytes lists.now journal.now;
+      end = end;
+    }) }
+{
+    let mut told = Told::new(alloc, end);
+    for entry in journal {
+        match add_entry(&mut told, lists, entry) {
+            Ok(()) => {}
+            Err(error) => return Err(error),
+        }
+    }
+    Ok(told)
 }
 
 /// The log end offset of broker 0.
@@ -115,11 +183,6 @@ pub fn tell(
     let Some(plain) = replay(alloc, config, lists, journal)? else {
         return Ok(None);
     };
-    let answers = all_answers(alloc, lists, journal)?;
-    let bytes = sum_of(journal)?;
-    Ok(Some(Told {
-        answers,
-        bytes,
-        end: end_of(&plain, partition),
-    }))
+    let told = told_in(alloc, lists, journal, end_of(&plain, partition))?;
+    Ok(Some(told))
 }

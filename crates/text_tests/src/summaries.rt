@@ -74,8 +74,8 @@ fn journal(alloc: Global, flushed: u64) -> Result<Row<JournalEntry>, AllocError>
 }
 
 /// How many answers, bytes, and the log end.
-fn counts(told: &Told) -> (usize, u64, u128) {
-    (told.answers.len(), told.bytes, told.end.log_end)
+fn counts(told: &Told) -> (usize, u128, u128) {
+    (told.answers().len(), told.bytes(), told.end().log_end)
 }
 
 /// What a journal of these lists comes to, or nothing where it is no run of them.
@@ -83,7 +83,7 @@ fn counts_of(
     alloc: Global,
     lists: &[ActorList],
     journal: &[JournalEntry],
-) -> Result<Option<(usize, u64, u128)>, AllocError>
+) -> Result<Option<(usize, u128, u128)>, AllocError>
     requires { AreFor lists.now }
 {
     match tell(alloc, &config(), PartitionId(3), lists, journal) {
@@ -94,7 +94,7 @@ fn counts_of(
 }
 
 /// What a fetch and a flush with this end come to.
-fn first_answers(alloc: Global, flushed: u64) -> Result<Option<(usize, u64, u128)>, AllocError> {
+fn first_answers(alloc: Global, flushed: u64) -> Result<Option<(usize, u128, u128)>, AllocError> {
     let lists = lists(alloc)?;
     match journal(alloc, flushed) {
         Ok(journal) => counts_of(alloc, lists.as_slice(), journal.as_slice()),
@@ -108,33 +108,28 @@ fn a_journal_is_told(rt: HostRuntime) {
     assert_eq!(rt; first_answers(rt.alloc(), 1), Ok(None), "no run");
 }
 
-/// Commands and their answers, in the order in which they came.
-static ANSWERS: [(&str, &str); 7] = [
-    ("fetch", "Run"),
-    ("append", "Ok"),
-    ("stop", "Ok"),
-    ("append", "Down"),
-    ("fetch", "Empty"),
-    ("append", "Ok"),
-    ("fetch", "Run"),
+/// Commands and their answers, in the order in which they came, with the sizes of runs.
+static ANSWERS: [(&str, &str, u64); 7] = [
+    ("fetch", "Run", 69),
+    ("append", "Ok", 0),
+    ("stop", "Ok", 0),
+    ("append", "Down", 0),
+    ("fetch", "Empty", 0),
+    ("append", "Ok", 0),
+    ("fetch", "Run", 138),
 ];
 
 /// A partition that was reported so.
 fn part(
     alloc: Global,
-    answers: &[(&'static str, &'static str)],
-    bytes: u64,
+    answers: &[(&'static str, &'static str, u64)],
     end: End,
 ) -> Result<Told, AllocError> {
-    let mut row = Row::new(alloc);
-    for (command, word) in answers {
-        row.push(Given { command, word })?;
+    let mut told = Told::new(alloc, end);
+    for (command, word, size) in answers {
+        told.add(Given { command, word }, *size)?;
     }
-    Ok(Told {
-        answers: row,
-        bytes,
-        end,
-    })
+    Ok(told)
 }
 
 const FIRST: End = End {
@@ -154,8 +149,8 @@ const SECOND: End = End {
 /// Two partitions.
 fn parts(alloc: Global) -> Result<Row<Told>, AllocError> {
     let mut parts = Row::new(alloc);
-    parts.push(part(alloc, &ANSWERS, 207, FIRST)?)?;
-    parts.push(part(alloc, &ANSWERS[5..], 138, SECOND)?)?;
+    parts.push(part(alloc, &ANSWERS, FIRST)?)?;
+    parts.push(part(alloc, &ANSWERS[5..], SECOND)?)?;
     Ok(parts)
 }
 
@@ -177,9 +172,9 @@ fn is_summed(alloc: Global, parts: &[Told], wanted: &str) -> bool {
     }
 }
 
-/// Whether this is the summary of the two.
-fn sums_up(alloc: Global, wanted: &str) -> bool {
-    match parts(alloc) {
+/// Whether this is the summary of these.
+fn sums_up(alloc: Global, parts: Result<Row<Told>, AllocError>, wanted: &str) -> bool {
+    match parts {
         Ok(parts) => is_summed(alloc, parts.as_slice(), wanted),
         Err(_) => false,
     }
@@ -187,5 +182,30 @@ fn sums_up(alloc: Global, wanted: &str) -> bool {
 
 #[test]
 fn a_summary_is_worked_out(rt: HostRuntime) {
-    assert!(rt; sums_up(rt.alloc(), TEXT));
+    let parts = parts(rt.alloc());
+    assert!(rt; sums_up(rt.alloc(), parts, TEXT));
+}
+
+/// Two runs of the largest size.
+static LARGEST: [(&str, &str, u64); 2] = [("fetch", "Run", u64::MAX), ("fetch", "Run", u64::MAX)];
+
+/// Two partitions that returned such runs.
+fn largest_parts(alloc: Global) -> Result<Row<Told>, AllocError> {
+    let mut parts = Row::new(alloc);
+    parts.push(part(alloc, &LARGEST, FIRST)?)?;
+    parts.push(part(alloc, &LARGEST, SECOND)?)?;
+    Ok(parts)
+}
+
+/// Their summary: 4 * (2^64 - 1).
+static LARGEST_TEXT: &str = "\
+    fetch Run 4\n\
+    bytes 73786976294838206460\n\
+    partition 0 end 3 mark 2 start 1\n\
+    partition 1 end 0 mark 0 start 0\n";
+
+#[test]
+fn a_sum_may_have_more_than_64_bits(rt: HostRuntime) {
+    let parts = largest_parts(rt.alloc());
+    assert!(rt; sums_up(rt.alloc(), parts, LARGEST_TEXT));
 }
