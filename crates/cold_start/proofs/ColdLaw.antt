@@ -1,5 +1,5 @@
 -- The tier that a power cut leaves is safe.
-use Rattle.std.proofs.Common.{◌≡◌, ◌∙◌, inl, inr, sym, subst, refl, List, []}
+use Rattle.std.proofs.Common.{◌∙◌, inl, inr, sym, subst, refl, List, []}
 use Rattle.std.proofs.lemmas.List.{length-map}
 use Rattle.plain_log.specs.declared.state.State.{State}
 use Rattle.remote_view.specs.Fold.{fold}

@@ -1,10 +1,10 @@
 -- Whatever moments of a step the devices' files are of, they represent what is left of the state before it, or of that
 -- after it.
-use Rattle.std.proofs.Common.{◌≡◌, ◌∙◌, ◌⊎◌, inl, inr, ⊎_elim, sym, ap, subst, refl, ℕ, zero, suc, ◌≤◌, List, [], ◌∷◌, length, slice_get, slice_set, Option, Some, arith}
+use Rattle.std.proofs.Common.{◌≡◌, ◌∙◌, ◌⊎◌, inl, inr, ⊎_elim, sym, ap, subst, refl, ℕ, zero, suc, ◌≤◌, List, [], ◌∷◌, length, slice_get, slice_set, Some, arith}
 use Rattle.std.specs.Prelude.{IsTrue}
 use Rattle.tier_base.specs.declared.names.PartitionId.{PartitionId}
 use Rattle.tier_base.specs.declared.plain.FileName.TheVariants.{Registry as RegistryName}
-use Rattle.disk_model.specs.Content.{Content, Files, Image, Lawful, LeavesOnly}
+use Rattle.disk_model.specs.Content.{Content, Image, Lawful, LeavesOnly}
 use Rattle.disk_model.specs.declared.disk.Disk.{Ghosts as DiskGhosts}
 use Rattle.object_store.specs.declared.store.Store.{Ghosts as StoreGhosts}
 use Rattle.meta_log.specs.declared.log.MetaLog.{Ghosts as MetaGhosts}

@@ -1,5 +1,5 @@
 -- A step of a world works on one device at most.
-use Rattle.std.proofs.Common.{◌≡◌, ◌∙◌, ◌⊎◌, inl, inr, sym, ap, subst, refl, ℕ, List, slice_get, Some, None, Option, Result, Bool, true, false, Ok as Granted, Err}
+use Rattle.std.proofs.Common.{◌≡◌, ◌⊎◌, inl, inr, sym, ap, subst, ℕ, List, slice_get, Some, None, Result, Bool, true, false, Ok as Granted, Err}
 use Rattle.std.specs.Prelude.{ℤ}
 use Rattle.std.specs.declared.alloc.AllocError.{AllocError}
 use Rattle.tier_base.specs.declared.names.PartitionId.{PartitionId}
@@ -7,7 +7,7 @@ use Rattle.tier_base.specs.declared.plain.Keep.{Keep}
 use Rattle.disk_model.specs.declared.disk.Disk.{Ghosts as DiskGhosts}
 use Rattle.object_store.specs.declared.store.Store.{Ghosts as StoreGhosts}
 use Rattle.meta_log.specs.declared.log.MetaLog.{Ghosts as MetaGhosts}
-use Rattle.broker_log.specs.Seen.{LogState, LeavesBetween, closed_in}
+use Rattle.broker_log.specs.Seen.{LeavesBetween, closed_in}
 use Rattle.copy_task.specs.Copying.{Copied}
 use Rattle.copy_task.specs.declared.turn.CopyTurn.{CopyTurn}
 use Rattle.copy_task.specs.declared.turn.CopyStep.{CopyStep}
@@ -23,7 +23,7 @@ use Rattle.time_find.specs.declared.turn.Asked.{Asked}
 use Rattle.time_find.specs.declared.turn.SearchStep.{SearchStep as Dating}
 use Rattle.time_find.specs.declared.turn.SearchStep.TheVariants.{Seek, Times as ReadsTimes, Index, Log}
 use Rattle.time_find.specs.Passing.{passed_over}
-use Rattle.time_find.specs.Turns.{TimeRow, SearchIndexRow, SearchLogRow, LocalSearchRow, ReadLocalRow as RunRow}
+use Rattle.time_find.specs.Turns.{TimeRow, LocalSearchRow, ReadLocalRow as RunRow}
 use Rattle.time_find.specs.declared.turn.TimeTurn.{TimeTurn}
 use Rattle.time_find.specs.declared.turn.TimeTurn.TheVariants as dating
 use Rattle.expiry_task.specs.declared.turn.ExpiredSegment.{ExpiredSegment}
@@ -53,18 +53,18 @@ use Rattle.partition_world.specs.declared.actor_state.Outcome.{Outcome}
 use Rattle.partition_world.specs.declared.actor_state.Outcome.TheVariants.{Answers, Begins, Chose, Seeks as Sought, Dates as Dated, Dooms, Rebuilds as Rebuilding}
 use Rattle.partition_world.specs.declared.actor_state.InProgress.{InProgress}
 use Rattle.partition_world.specs.declared.actor_state.InProgress.TheVariants.{Idle, Noted, Copies, Seeks, Dates, Expires, Rebuilds}
-use Rattle.partition_world.specs.Tier.{RefreshesBroker, FailsToRead, HaltsRefresh}
-use Rattle.partition_world.specs.TurnsOfCopy.{LeadersFirstRow, CopyFirstRow, ReadsLocalLog, ReadSegmentRow, ChooseRow, CopyOnRow, WantsForCopy, tiers_of, origin_of}
+use Rattle.partition_world.specs.Tier.{HaltsRefresh}
+use Rattle.partition_world.specs.TurnsOfCopy.{LeadersFirstRow, CopyFirstRow, ReadsLocalLog, ReadSegmentRow, ChooseRow, tiers_of, origin_of}
 use Rattle.partition_world.specs.TurnsOfDate.{SearchesOwn, SearchRow, SearchesOn, DateOnRow, WantsForDate, asked_of, is_own, resumed_at, resumed_with}
 use Rattle.partition_world.specs.TurnsOfFetch.{FetchOnRow, GoesOnFetch, WantsForFetch, fetch_tiers, wanted_of}
 use Rattle.partition_commands.specs.Partition.{local_of, put_node}
-use Rattle.partition_world.specs.TurnsOfExpiry.{ExpiryRaiseRow, ExpireOnRow, ExpiresBy, DeleteOnRow, WantsForDeletion, expiry_tiers}
-use Rattle.partition_world.specs.TurnsOfRebuild.{with_line, RefreshedRow, RefreshOnRow, EpochsOnRow, WantsForRebuild}
+use Rattle.partition_world.specs.TurnsOfExpiry.{ExpiryRaiseRow, ExpireOnRow, ExpiresBy, expiry_tiers}
+use Rattle.partition_world.specs.TurnsOfRebuild.{with_line, RefreshedRow}
 use Rattle.partition_world.specs.TurnsOfTrim.{TrimFirstRow, TrimOnRow}
 use Rattle.partition_world.specs.Turns.{OwnOnRow, BeginRow, ContinuedRow, CopyLaterRow, SeekingRow, DatingRow, DeletingRow, JoinSecondRow, RebuildingRow, Row, BeginHalts, ContinuedHalts, CopyingHalts, SeekingHalts, DatingHalts, DeletingHalts, RebuildingHalts, HaltsTier, StaysTier}
 use Rattle.partition_world.specs.Turn.{IsTurn, StaysWhole}
 use Rattle.partition_world.specs.Whole.{Whole}
-use Rattle.cold_start.specs.Moments.{ChangesLog, WorksOnOne, StepsWorkOnOne}
+use Rattle.cold_start.specs.Moments.{ChangesLog, StepsWorkOnOne}
 use Rattle.cold_start.specs.Stepping.{logs_of}
 use Rattle.cold_start.proofs.LogRows.{OneLog, none, one_put, same_put, leaves, row_log, trim_on_log}
 

@@ -1,21 +1,21 @@
 -- A disk that has the files of one moment of a call is seen as the log before the call was, or as the one after it is.
-use Rattle.std.proofs.Common.{◌≡◌, ◌∙◌, ◌⊎◌, inl, inr, ⊎_elim, sym, ap, subst, refl, ℕ, ◌≤◌, List, [], ◌∷◌, Option, Some, None, Result, Ok, Err, arith, IsTrue}
+use Rattle.std.proofs.Common.{◌≡◌, ◌∙◌, inl, inr, sym, subst, refl, ℕ, ◌≤◌, List, Option, Some, None, Result, Ok, Err, arith, IsTrue}
 use Rattle.std.specs.Prelude.{IsSomeAnd}
 use Rattle.tier_base.specs.declared.plain.FileName.{FileName}
 use Rattle.tier_base.specs.declared.plain.FileName.TheVariants as file
-use Rattle.disk_model.specs.Content.{Content, Files, Image, Lawful}
+use Rattle.disk_model.specs.Content.{Content, Files, Image}
 use Rattle.log_manifest.specs.declared.manifest.Extent.{Extent}
 use Rattle.log_manifest.specs.declared.manifest.Manifest.{Manifest}
 use Rattle.log_manifest.specs.declared.refusal.ManifestRefusal.{ManifestRefusal}
 use Rattle.log_manifest.specs.Reading.{manifest_in}
 use Rattle.log_steps.specs.Fronts.{Each, Agrees}
-use Rattle.log_steps.specs.Opens.{Opened, IsOpenedBy, OpensBy, OpensFrom, Opens}
-use Rattle.log_steps.specs.Reopens.{Reopens, Says}
+use Rattle.log_steps.specs.Opens.{Opened, OpensBy, OpensFrom, Opens}
+use Rattle.log_steps.specs.Reopens.{Reopens}
 use Rattle.log_steps.proofs.Lists.{each_map}
 use Rattle.log_steps.proofs.Reading.{segments_whole, read_moved}
 use Rattle.log_steps.proofs.Restored.{kept_same}
 use Rattle.local_log.specs.Log.{Log}
-use Rattle.broker_log.specs.Seen.{LogSeen, Back, LogState, Up, Down, Away, ShowsSeen, ShowsOpen, ShowsClosed, IsSeenSound, OnDisk, OpensLater, LeavesBetween, OpensAfterStop, back_of, returning, returns, is_up}
+use Rattle.broker_log.specs.Seen.{LogSeen, Back, LogState, Up, Down, Away, ShowsOpen, ShowsClosed, OnDisk, OpensLater, OpensAfterStop, returning, returns}
 use Rattle.broker_log.proofs.Local.{kept_stands}
 use Rattle.cold_start.specs.Moments.{IsCutSince}
 use Rattle.cold_start.proofs.StandLaw.{IsShownAs}

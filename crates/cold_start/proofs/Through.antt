@@ -1,5 +1,5 @@
 -- Steps one after the other, in the course of each of which a power cut leaves the state before or after it.
-use Rattle.std.proofs.Common.{◌≡◌, refl, subst, List, [], ◌∷◌}
+use Rattle.std.proofs.Common.{refl, subst, List, [], ◌∷◌}
 use Rattle.disk_model.specs.declared.disk.Disk.{Ghosts as DiskGhosts}
 use Rattle.object_store.specs.declared.store.Store.{Ghosts as StoreGhosts}
 use Rattle.meta_log.specs.declared.log.MetaLog.{Ghosts as MetaGhosts}

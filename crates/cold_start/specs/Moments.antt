@@ -5,7 +5,8 @@
 --   LeaveSince xs ys disks     so has each broker's
 --   IsLeftSince v r0 w r ..    a power cut of everything may leave these devices of a partition in the course of the step
 --   LeavesDuring opening ..    they represent what is left of the plain state before the step, or of that after it
---   GoesThrough us t t'        steps lead from t to t' through these, and in the course of each that holds
+--   GoesSafely t t'            a step of an actor, in the course of which that holds
+--   GoesThrough us t t'        such steps lead from t to t' through these
 --   RunsThrough t t'           so through some
 --   StepsWorkOnOne             a step works on one device at most
 --
@@ -21,6 +22,7 @@ use Rattle.broker_log.specs.Seen.{LogState, OnDisk, LeavesBetween}
 use Rattle.plain_log.specs.declared.state.State.{State}
 use Rattle.laws_partition.specs.declared.actor_progress.Stepped.{Stepped}
 use Rattle.partition_commands.specs.declared.partition_state.Node.{Node}
+use Rattle.partition_world.specs.Later.{IsLater}
 use Rattle.partition_world.specs.Left.{IsCentralLeft}
 use Rattle.partition_world.specs.Turn.{Steps}
 use Rattle.partition_world.specs.Whole.{Whole}
@@ -28,7 +30,8 @@ use Rattle.cold_state.specs.Cold.{cold_of}
 use Rattle.cold_start.specs.ColdWorld.{IsCutStore, IsCutLog, plain_in}
 use Rattle.cold_start.specs.Running.{Running}
 use Rattle.cold_start.specs.Stands.{StandsFor}
-use Rattle.cold_start.specs.Stepping.{logs_of}
+use Rattle.cold_start.specs.Stepping.{Ends, logs_of}
+use Rattle.cold_start.specs.declared.refusal.ColdRefusal.{ColdRefusal}
 
 -- a disk after a power cut at some moment since: it has the files that were left then, and a further cut leaves no others
 pub record IsCutSince (old now new : Content) : Type 0 where
@@ -82,9 +85,17 @@ module _ {D S M : Type 0} (disk : DiskGhosts D) (store : StoreGhosts S) (meta : 
       → StandsFor disk store meta w.partition disks s m r (cold_of (plain_in disk store meta opening v b))
       ⊎ StandsFor disk store meta w.partition disks s m r (cold_of (plain_in disk store meta opening w c))
 
-  -- a step in the course of which that holds, where the registry's disk reports
-  abbrev pub GoesSafely : Running D S M → Running D S M → Type 0
-  GoesSafely t t' = IsTrue (disk.content t.reg).is_observable → (opening : State) → LeavesDuring opening t.world t.reg t'.world t'.reg
+  -- a turn of an actor was taken, or one whose registry couldn't be kept
+  abbrev pub TakesTurn : Running D S M → Running D S M → Type 0
+  TakesTurn t t' =
+      ((a : ℕ) × (stepped : Stepped) × Steps disk store meta t.world a stepped t'.world)
+      ⊎ ((why : ColdRefusal) × Ends disk t.reg t.world t' why)
+
+  -- such a step, in the course of which that holds, where the registry's disk is observable
+  pub record GoesSafely (t t' : Running D S M) : Type 0 where
+    pub turn : TakesTurn t t'
+    pub later : IsLater disk store meta t.world t'.world
+    pub during : IsTrue (disk.content t.reg).is_observable → (opening : State) → LeavesDuring opening t.world t.reg t'.world t'.reg
 
   -- such steps, one after the other
   abbrev pub GoesThrough : List (Running D S M) → Running D S M → Running D S M → Type 0
