@@ -29,6 +29,7 @@ use Rattle.partition_world.specs.Fresh.{IsNewWorld}
 use Rattle.partition_world.proofs.LeftLaw.{left_is_central}
 use Rattle.cold_state.specs.Cold.{cold_of}
 use Rattle.cold_start.specs.ColdWorld.{plain_in}
+use Rattle.cold_start.specs.Moments.{RunsThrough}
 use Rattle.cold_start.specs.Opening.{IsPartitionOpened, OpeningHasCause, DevicesComeBack}
 use Rattle.cold_start.specs.Stepping.{HaltsSteps}
 use Rattle.cold_start.specs.declared.refusal.ColdRefusal.{ColdRefusal}
@@ -149,12 +150,12 @@ module _ {D S M : Type 0} (disk : DiskGhosts D) (store : StoreGhosts S) (meta : 
       → ((p : State) → StandsFor disk store meta part.partition devices.disks.items devices.store devices.meta reg p → IsCentralLeft disk store meta p t.world)
       → (DisksTell disk.content devices.disks.items → IsBlank disk store meta devices.store devices.meta reg → IsCentralLeft disk store meta (fresh config) t.world)
       → (disk.content t'.reg).is_observable ≡ (disk.content reg).is_observable
-      → Reaches disk store meta t.world part.schedule t'.world → AreDevicesOf disk store meta t'.world back.disks.items back.store back.meta → kept ≡ t'.reg → length back.disks.items ≡ config.brokers
+      → Reaches disk store meta t.world part.schedule t'.world → RunsThrough disk store meta t t' → AreDevicesOf disk store meta t'.world back.disks.items back.store back.meta → kept ≡ t'.reg → length back.disks.items ≡ config.brokers
       → (IsTrue (disk.content t'.reg).is_observable → (opening : State) (c : IsCentralLeft disk store meta opening t'.world)
       → StandsFor disk store meta t'.world.partition back.disks.items back.store back.meta kept (cold_of (plain_in disk store meta opening t'.world c)))
       → IsRunOver disk store meta config part devices reg t'.world.journal.items back kept
   unfolding log_of
-  is_run config part devices back reg kept t t' answers goes turns opens undamaged counted fit ends is new central blank is_observable reaches its kept_is many closing =
+  is_run config part devices back reg kept t t' answers goes turns opens undamaged counted fit ends is new central blank is_observable reaches through its kept_is many closing =
       let lists = part.lists in
       let w = t.world in
       let w' = t'.world in
@@ -168,6 +169,7 @@ module _ {D S M : Type 0} (disk : DiskGhosts D) (store : StoreGhosts S) (meta : 
         last = t';
         starts = is;
         reaches = reaches;
+        through = through;
         its = refl;
         orderly = record {
           complete = subst (λ (k : List ActorList). IsComplete k w'.journal.items) same (answers config lists w part.schedule w' fit new reaches (all_at_end config part w w' goes fit ends new reaches));

@@ -27,6 +27,7 @@ use Rattle.partition_world.specs.declared.tier.Devices.{Devices}
 use Rattle.script_lang.specs.declared.script.PartScript.{PartScript}
 use Rattle.cold_state.specs.Cold.{cold_of}
 use Rattle.cold_start.specs.ColdWorld.{IsCutDisk, IsCutStore, IsCutLog, ClosedAreLeft, plain_in}
+use Rattle.cold_start.specs.Moments.{RunsThrough}
 use Rattle.cold_start.specs.Opening.{IsPartitionOpened}
 use Rattle.cold_start.specs.Running.{Running}
 use Rattle.cold_start.specs.Stands.{StandsFor, IsBlank, MayBeLeft}
@@ -109,13 +110,21 @@ module _ {D S M : Type 0} (disk : DiskGhosts D) (store : StoreGhosts S) (meta : 
       → AreDisksOf t'.world.held.nodes back.disks.items → DisksReopen disk.content t'.world.held.nodes back.disks.items → back.store ≡ t'.world.tier.store → back.meta ≡ t'.world.tier.meta → kept ≡ t'.reg
       → (t'.ended ≡ false → IsTrue (disk.content t'.reg).is_observable → (opening : State) (c : IsCentralLeft disk store meta opening t'.world)
       → StandsFor disk store meta t'.world.partition back.disks.items back.store back.meta kept (cold_of (plain_in disk store meta opening t'.world c)))
-      → IfErr r (λ why. HaltsSteps disk store meta t t' why) → OnErr r (IsRunStopped disk store meta config part devices reg back kept)
-  stopped_run law config part devices back reg kept t t' (Ok x) is new central blank is_observable later are again stores notes same closing h = tt
-  stopped_run law config part devices back reg kept t t' (Err why) is new central blank is_observable later are again stores notes same closing h =
+      → RunsThrough disk store meta t t' → IfErr r (λ why. HaltsSteps disk store meta t t' why) → OnErr r (IsRunStopped disk store meta config part devices reg back kept)
+  stopped_run law config part devices back reg kept t t' (Ok x) is new central blank is_observable later are again stores notes same closing through h = tt
+  stopped_run law config part devices back reg kept t t' (Err why) is new central blank is_observable later are again stores notes same closing through h =
       let there = opened_there disk store meta part.partition config part.lists devices.disks.items devices.store devices.meta reg t is in
       record {
         from = λ p stands. inr (halted law config part back kept t t' why there new later are again stores notes same closing h (subst IsTrue (sym is_observable) stands.file_tells) p (central p stands));
         begun = λ tell empty. inr (halted law config part back kept t t' why there new later are again stores notes same closing h (subst IsTrue (sym is_observable) empty.file_tells) (fresh config) (blank tell empty));
+        ran = inr (record {
+          first = t;
+          last = t';
+          starts = is;
+          through = through;
+          its_devices = record { disks_are = are; store_is = stores; meta_is = notes };
+          its_registry = same;
+        });
       }
 
   -- or that wasn't opened
@@ -131,6 +140,7 @@ module _ {D S M : Type 0} (disk : DiskGhosts D) (store : StoreGhosts S) (meta : 
           | inl blank ↦ inl blank
           | inr stands ↦ inr (record { journal = []; last = fresh config; replays = refl; safe = safe config; stand = stands })
         ];
+    ran = inl stand;
   }
 
   -- a device that went out is back with what was held

@@ -21,6 +21,7 @@ use Rattle.partition_world.specs.InTurn.{IsInTurn}
 use Rattle.partition_world.specs.Reaches.{Reaches}
 use Rattle.partition_world.specs.Whole.{Whole}
 use Rattle.cold_state.specs.Cold.{cold_of}
+use Rattle.cold_start.specs.Moments.{RunsThrough}
 use Rattle.cold_start.specs.Opening.{IsPartitionOpened}
 use Rattle.cold_start.specs.Running.{Running}
 use Rattle.cold_start.specs.Stands.{StandsFor}
@@ -52,14 +53,16 @@ module _ {D S M : Type 0} (disk : DiskGhosts D) (store : StoreGhosts S) (meta : 
 
   -- The journal is that of a world which the partition's schedule reaches from the one that was opened over the
   -- devices, and the devices that come back are that world's, which have counted each fault that it reports and no
-  -- other. For each plain state in which a run may begin over the devices that were passed in, it is a run of the plain
-  -- log from there, and the devices that come back represent what is left of the state that it leads to.
+  -- other. A power cut at any moment of the run's steps leaves the state before or after the step that it comes in. For
+  -- each plain state in which a run may begin over the devices that were passed in, it is a run of the plain log from
+  -- there, and the devices that come back represent what is left of the state that it leads to.
   pub record IsRunOver (config : Config) (part : PartScript) (devices : Devices D S M) (registry : D) (journal : List JournalEntry)
       (back : Devices D S M) (kept : D) : Type 0 where
     pub first : Running D S M
     pub last : Running D S M
     pub starts : IsPartitionOpened disk store meta part.partition config part.lists devices.disks.items devices.store devices.meta registry first
     pub reaches : Reaches disk store meta first.world part.schedule last.world
+    pub through : RunsThrough disk store meta first last
     pub its : last.world.journal.items ≡ journal
     pub orderly : IsOrderly part.lists journal
     pub its_devices : AreDevicesOf last.world back.disks.items back.store back.meta

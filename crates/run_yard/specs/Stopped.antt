@@ -2,6 +2,7 @@
 --
 --   form                        says
 --   IsLedFrom .. p              devices represent what is left of a state to which commands lead from p
+--   WasStepped d r back kept    a partition was opened over these devices, and its steps led to those
 --   IsRunStopped d r back kept     a run over these devices stopped, and left those
 --   RestsIn p, AllTiersRest          what is held of a partition is as it was, and of all
 --   IsStoppedIn part was held   the partition's run was refused over its devices, which are held again
@@ -31,10 +32,14 @@ use Rattle.partition_commands.specs.Fresh.{DisksTell}
 use Rattle.partition_world.specs.declared.tier.Devices.{Devices}
 use Rattle.script_lang.specs.declared.script.PartScript.{PartScript}
 use Rattle.cold_state.specs.Cold.{cold_of}
+use Rattle.cold_start.specs.Moments.{RunsThrough}
+use Rattle.cold_start.specs.Opening.{IsPartitionOpened}
+use Rattle.cold_start.specs.Running.{Running}
 use Rattle.cold_start.specs.Stands.{StandsFor, IsBlank}
 use Rattle.run_yard.specs.Handed.{HandsDevices}
 use Rattle.run_yard.specs.Opens.{OpensFresh}
 use Rattle.run_yard.specs.Reading.{OnlyReads, file_in}
+use Rattle.run_yard.specs.Run.{AreDevicesOf}
 use Rattle.run_yard.specs.Runs.{AreRunsIn}
 use Rattle.run_yard.specs.Yard.{SameOf, OnlyOf, HoldsAll}
 
@@ -74,9 +79,21 @@ module _ {D S M : Type 0} (disk : DiskGhosts D) (store : StoreGhosts S) (meta : 
     pub safe : PlainSafe last
     pub stand : StandAs partition devices registry (cold_of last)
 
+  -- The partition was opened over these devices, and steps led to those: a power cut at any moment of a step leaves the state before
+  -- or after it.
+  pub record WasStepped (config : Config) (part : PartScript) (devices : Devices D S M) (registry : D)
+      (back : Devices D S M) (kept : D) : Type 0 where
+    pub first : Running D S M
+    pub last : Running D S M
+    pub starts : IsPartitionOpened disk store meta part.partition config part.lists devices.disks.items devices.store devices.meta registry first
+    pub through : RunsThrough disk store meta first last
+    pub its_devices : AreDevicesOf disk store meta last.world back.disks.items back.store back.meta
+    pub its_registry : kept ≡ last.reg
+
   -- A run over these devices stopped, before its first turn or after one, and left those. They represent each state
   -- that the devices represented, or what is left of one to which commands lead from there. Where the devices held
-  -- nothing, they still do, or the run began in the fresh state.
+  -- nothing, they still do, or the run began in the fresh state. Unless they represent all that the devices
+  -- represented, steps led to them.
   pub record IsRunStopped (config : Config) (part : PartScript) (devices : Devices D S M) (registry : D)
       (back : Devices D S M) (kept : D) : Type 0 where
     pub from : (p : State) → StandAs part.partition devices registry p
@@ -85,6 +102,8 @@ module _ {D S M : Type 0} (disk : DiskGhosts D) (store : StoreGhosts S) (meta : 
         → IsBlank disk store meta devices.store devices.meta registry
         → IsBlank disk store meta back.store back.meta kept
         ⊎ IsLedFrom part.partition part.lists back kept (fresh config)
+    pub ran : ((p : State) → StandAs part.partition devices registry p → StandAs part.partition back kept p)
+        ⊎ WasStepped config part devices registry back kept
 
   -- what is held of the partition is as it was
   pub record RestsIn (p : PartitionId) (old new : YardContent D S M) : Type 0 where

@@ -7,6 +7,7 @@ ghost use Rattle.script_lang.specs.Fit.{StepsToEnds};
 ghost use Rattle.partition_world.specs.Later.{IsLater};
 ghost use Rattle.partition_world.specs.Reaches.{Reaches};
 ghost use Rattle.trace_text.specs.Trace.{journal_text};
+ghost use Rattle.cold_start.specs.Moments.{RunsThrough};
 ghost use Rattle.cold_start.specs.Opening.{AreUnarmed};
 ghost use Rattle.cold_start.specs.Stepping.{HaltsSteps};
 ghost use Rattle.cold_start.specs.declared.refusal.ColdRefusal.TheVariants as refusal;
@@ -41,6 +42,7 @@ fn trace<D: Disk, S: Store, M: MetaLog>(
     ensures err { IfErr result (λ why. HaltsSteps D.Disk S.Store M.MetaLog cold.old cold.new why) }
     ensures control { Lasts (D.control cold.old.reg) (D.control cold.new.reg) }
     ensures told { (D.content cold.new.reg).is_observable ≡ (D.content cold.old.reg).is_observable }
+    ensures during { RunsThrough D.Disk S.Store M.MetaLog cold.old cold.new }
 {
     match run_cold(alloc, cold, schedule) {
         Ok(()) => {}
