@@ -73,6 +73,14 @@ def literal(text):
     return '"' + text.replace("\\", "\\\\").replace('"', '\\"').replace("\t", "\\t").replace("\n", "\\n") + '"'
 
 
+def over_lines(text):
+    """The literal of a text. Three lines and more are as many lines of source."""
+    lines = text.splitlines(True)
+    if len(lines) < 3:
+        return literal(text)
+    return '"' + "".join("\\\n        " + literal(line)[1:-1] for line in lines) + '"'
+
+
 def static(doc, name, kind, rows):
     return f"\n/// {doc}\npub(crate) static {name}: [{kind}; {len(rows)}] = [\n" + "".join(f"{row}\n" for row in rows) + "];\n"
 
@@ -116,13 +124,14 @@ def shell_text(row):
     """A row as it stands in the table."""
     words, texts, status, told, end = row
     texts = ", ".join(f"({many}, {literal(text)})" for many, text in texts)
-    return f"    (\n        &[{', '.join(map(literal, words))}],\n        &[{texts}],\n        {status},\n        {literal(told)},\n        {literal(end)},\n    ),"
+    return f"    (\n        &[{', '.join(map(literal, words))}],\n        &[{texts}],\n        {status},\n        {over_lines(told)},\n        {over_lines(end)},\n    ),"
 
 
 def table(refused, shell):
     """The tables of the gate."""
     text = "//! What the documents show as refused, and of a shell. Made by docs/snippets.py, which also reports a difference.\n"
-    text += static("Words, texts of the input, each with how often it comes, the status, what standard error has, and the end of what is written.",
+    text += static("Words, texts of the input, each with how often it comes, the status, what standard error has, and the end of what\n"
+                   "/// is written.",
                    "SHELL", "(&[&str], &[(u32, &str)], u8, &str, &str)", [shell_text(row) for row in shell])
     text += static("The lines of a script, each with how often it stands there, and what is told of it.", "REFUSED",
                    "(&[(u32, &str)], &str)",
@@ -150,7 +159,7 @@ def runs(cases):
     top = head.format("") + "\n" + "".join(f"mod {name};\n" for name in names)
     top += f"\n/// How many scripts there are.\npub(crate) static COUNT: u32 = {len(cases)};\n"
     top += f"\n/// How many parts they stand in.\npub(crate) static PARTS: usize = {len(parts)};\n"
-    top += "\n/// A part's text: a script, a grave accent, its trace, a grave accent, and so on. A script's first line says where it is shown.\n"
+    top += "\n/// A part's text: a script, a grave accent, its trace, a grave accent, and so on. A script's first line says where it\n/// is shown.\n"
     top += "pub(crate) fn text(part: usize) -> &'static str {\n    match part {\n"
     top += "".join(f"        {at} => {name}::RUNS,\n" for at, name in enumerate(names)) + "        _ => \"\",\n    }\n}\n"
     made = {RUNS + ".rt": top}

@@ -100,8 +100,8 @@ fn read(alloc: Global, bytes: &[u8]) -> Option<Script>
     parse(alloc, bytes).ok()
 }
 
-/// Runs the only partition of a script over devices of an earlier run. With a fuse each disk lets so many calls pass and fails
-/// every one after them.
+/// Runs the only partition of a script over devices of an earlier run. With a fuse each disk lets so many calls pass
+/// and fails every one after them.
 pub(crate) fn run(
     alloc: Global,
     bytes: &[u8],

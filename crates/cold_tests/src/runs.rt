@@ -28,12 +28,26 @@ fn has_all(text: &[u8], lines: &[&[u8]]) -> bool {
 
 /// Three batches that are appended, flushed and acknowledged.
 fn committed() -> &'static [u8] {
-    b"segment_bytes 200\n0 0 0 append 1000,-,:a\n0 0 0 append 1000,-,:b\n0 0 0 append 1000,-,:c\n0 0 0 flush\n0 0 0 ack\n"
+    b"\
+    segment_bytes 200\n\
+    0 0 0 append 1000,-,:a\n\
+    0 0 0 append 1000,-,:b\n\
+    0 0 0 append 1000,-,:c\n\
+    0 0 0 flush\n\
+    0 0 0 ack\n"
 }
 
 /// The leader starts again, leads another epoch, serves what is there and copies it.
 fn again() -> &'static [u8] {
-    b"segment_bytes 200\n0 0 0 elect\n0 0 0 up\n0 0 0 learn\n0 0 0 elect\n0 0 0 learn\n0 0 0 fetch 0 1000\n0 0 0 copy\n"
+    b"\
+    segment_bytes 200\n\
+    0 0 0 elect\n\
+    0 0 0 up\n\
+    0 0 0 learn\n\
+    0 0 0 elect\n\
+    0 0 0 learn\n\
+    0 0 0 fetch 0 1000\n\
+    0 0 0 copy\n"
 }
 
 /// The registry's file.
@@ -90,12 +104,30 @@ fn another_count_of_brokers_is_refused(rt: HostRuntime) {
 
 /// Copies and drops a segment, and fetches from both tiers.
 fn tiered() -> &'static [u8] {
-    b"segment_bytes 200\nlocal_retention_bytes 0\n0 0 0 append 1000,-,:a\n0 0 0 append 1000,-,:b\n0 0 0 append 1000,-,:c\n0 0 0 flush\n0 0 0 ack\n0 0 0 trim\n0 0 0 copy\n0 0 0 trim\n0 0 0 fetch 0 1000\n0 0 0 fetch 1 1000\n"
+    b"\
+    segment_bytes 200\n\
+    local_retention_bytes 0\n\
+    0 0 0 append 1000,-,:a\n\
+    0 0 0 append 1000,-,:b\n\
+    0 0 0 append 1000,-,:c\n\
+    0 0 0 flush\n\
+    0 0 0 ack\n\
+    0 0 0 trim\n\
+    0 0 0 copy\n\
+    0 0 0 trim\n\
+    0 0 0 fetch 0 1000\n\
+    0 0 0 fetch 1 1000\n"
 }
 
 /// The leader starts again and serves what is there.
 fn served() -> &'static [u8] {
-    b"segment_bytes 200\n0 0 0 up\n0 0 0 learn\n0 0 0 elect\n0 0 0 learn\n0 0 0 fetch 0 1000\n"
+    b"\
+    segment_bytes 200\n\
+    0 0 0 up\n\
+    0 0 0 learn\n\
+    0 0 0 elect\n\
+    0 0 0 learn\n\
+    0 0 0 fetch 0 1000\n"
 }
 
 /// Whether the registry's file says that three batches are committed.

@@ -32,17 +32,26 @@ static WORKED: [(u64, u32, &str); 5] = [
     (
         0,
         0,
-        "[Rec { ts: 5, key: Some(Blob { bytes: [107] }), value: None, headers: Row { items: [Header { key: Blob { bytes: [104] }, value: None }] } }]",
+        "\
+        [Rec { ts: 5, key: Some(Blob { bytes: [107] }), value: None, headers: Row { items: [Header { key: Blob { \
+        bytes: [104] }, value: None }] } }]",
     ),
     (
         0,
         0,
-        "[Rec { ts: 1000, key: None, value: Some(Blob { bytes: [97] }), headers: Row { items: [] } }, Rec { ts: 1000, key: None, value: Some(Blob { bytes: [98] }), headers: Row { items: [] } }, Rec { ts: 1000, key: None, value: Some(Blob { bytes: [99] }), headers: Row { items: [] } }]",
+        "\
+        [Rec { ts: 1000, key: None, value: Some(Blob { bytes: [97] }), headers: Row { items: [] } }, Rec { ts: 1000, \
+        key: None, value: Some(Blob { bytes: [98] }), headers: Row { items: [] } }, Rec { ts: 1000, key: None, \
+        value: Some(Blob { bytes: [99] }), headers: Row { items: [] } }]",
     ),
     (
         (1 << 40) + 1,
         7,
-        "[Rec { ts: -9223372036854775808, key: None, value: Some(Blob { bytes: [] }), headers: Row { items: [] } }, Rec { ts: 9223372036854775807, key: Some(Blob { bytes: [] }), value: Some(Blob { bytes: [120] }), headers: Row { items: [Header { key: Blob { bytes: [] }, value: Some(Blob { bytes: [] }) }, Header { key: Blob { bytes: [110] }, value: Some(Blob { bytes: [118, 119] }) }] } }]",
+        "\
+        [Rec { ts: -9223372036854775808, key: None, value: Some(Blob { bytes: [] }), headers: Row { items: [] } }, \
+        Rec { ts: 9223372036854775807, key: Some(Blob { bytes: [] }), value: Some(Blob { bytes: [120] }), headers: \
+        Row { items: [Header { key: Blob { bytes: [] }, value: Some(Blob { bytes: [] }) }, Header { key: Blob { \
+        bytes: [110] }, value: Some(Blob { bytes: [118, 119] }) }] } }]",
     ),
 ];
 

@@ -146,8 +146,8 @@ fn count(rt: HostRuntime, run: (&str, &[u8]), call: &str) -> Option<u32> {
     if undone == done { undone } else { None }
 }
 
-/// A script, how many kinds of calls its brokers' devices have, and how many calls its run makes, which were counted by hand
-/// from the language's page.
+/// A script, how many kinds of calls its brokers' devices have, and how many calls its run makes, which were counted by
+/// hand from the language's page.
 struct Case {
     name: &'static str,
     script: &'static str,
@@ -182,25 +182,85 @@ static KINDS: [&str; 19] = [
 static CASES: [Case; 4] = [
     Case {
         name: "a copy with its flush and its trim, and what a broker does that a fault has stopped",
-        script: "segment_bytes 100\nlocal_retention_bytes 0\n0 0 0 append 1000,-,:a\n0 0 0 append 1000,-,:b\n0 0 0 flush\n0 0 0 ack\n0 0 0 copy\n0 0 0 trim\n0 0 0 up\n0 0 0 learn\n0 0 0 elect\n0 0 0 learn\n0 0 0 ack\n0 0 0 copy\n0 0 0 trim\n",
+        script: "\
+            segment_bytes 100\n\
+            local_retention_bytes 0\n\
+            0 0 0 append 1000,-,:a\n\
+            0 0 0 append 1000,-,:b\n\
+            0 0 0 flush\n\
+            0 0 0 ack\n\
+            0 0 0 copy\n\
+            0 0 0 trim\n\
+            0 0 0 up\n\
+            0 0 0 learn\n\
+            0 0 0 elect\n\
+            0 0 0 learn\n\
+            0 0 0 ack\n\
+            0 0 0 copy\n\
+            0 0 0 trim\n",
         kinds: 12,
         calls: 2 + 3 + 1 + 3 + 1 + 4 + 2 + 5,
     },
     Case {
         name: "fetches of a packed segment after its trim, and its expiry",
-        script: "segment_bytes 100\nlocal_retention_bytes 0\n0 0 - pack 1\n0 0 0 append 1000,-,:a\n0 0 0 append 1000,-,:b\n0 0 0 flush\n0 0 0 ack\n0 0 0 copy\n0 0 0 trim\n0 0 0 fetch 0 1000\n0 0 0 fetch 0 1000\n0 0 0 fetch 1 1000\n0 0 0 raise 1\n0 0 0 expire\n",
+        script: "\
+            segment_bytes 100\n\
+            local_retention_bytes 0\n\
+            0 0 - pack 1\n\
+            0 0 0 append 1000,-,:a\n\
+            0 0 0 append 1000,-,:b\n\
+            0 0 0 flush\n\
+            0 0 0 ack\n\
+            0 0 0 copy\n\
+            0 0 0 trim\n\
+            0 0 0 fetch 0 1000\n\
+            0 0 0 fetch 0 1000\n\
+            0 0 0 fetch 1 1000\n\
+            0 0 0 raise 1\n\
+            0 0 0 expire\n",
         kinds: 12,
         calls: 2 + 2 + 2 + 2 + 1 + 1 + 3 + 1 + 4 + 6,
     },
     Case {
         name: "a follower is elected, and the leader that stopped comes up, joins and follows",
-        script: "brokers 2\n0 0 0 append 1000,-,:a\n1 0 1 follow 1000\n1 0 1 flush\n1 0 1 ack\n0 0 0 flush\n0 0 0 ack\n0 0 0 append 1000,-,:z\n0 0 0 stop\n1 0 1 elect\n1 0 1 learn\n1 0 1 append 1000,-,:b\n0 0 0 up\n0 0 0 learn\n0 0 0 join\n0 0 0 follow 1000\n0 0 0 flush\n0 0 0 ack\n1 0 1 flush\n1 0 1 ack\n1 0 1 fetch 1 1000\n",
+        script: "\
+            brokers 2\n\
+            0 0 0 append 1000,-,:a\n\
+            1 0 1 follow 1000\n\
+            1 0 1 flush\n\
+            1 0 1 ack\n\
+            0 0 0 flush\n\
+            0 0 0 ack\n\
+            0 0 0 append 1000,-,:z\n\
+            0 0 0 stop\n\
+            1 0 1 elect\n\
+            1 0 1 learn\n\
+            1 0 1 append 1000,-,:b\n\
+            0 0 0 up\n\
+            0 0 0 learn\n\
+            0 0 0 join\n\
+            0 0 0 follow 1000\n\
+            0 0 0 flush\n\
+            0 0 0 ack\n\
+            1 0 1 flush\n\
+            1 0 1 ack\n\
+            1 0 1 fetch 1 1000\n",
         kinds: 19,
         calls: 3 + 4 + 3 + 2 + 5 + 1 + 2 + 3 + 2 + 3,
     },
     Case {
         name: "searches by timestamp in the remote tier and in the local log",
-        script: "segment_bytes 100\nlocal_retention_bytes 0\n0 0 0 append 1000,-,:a\n0 0 0 append 3000,-,:b\n0 0 0 flush\n0 0 0 ack\n0 0 0 copy\n0 0 0 trim\n0 0 0 offset at 500\n0 0 0 offset at 1001\n",
+        script: "\
+            segment_bytes 100\n\
+            local_retention_bytes 0\n\
+            0 0 0 append 1000,-,:a\n\
+            0 0 0 append 3000,-,:b\n\
+            0 0 0 flush\n\
+            0 0 0 ack\n\
+            0 0 0 copy\n\
+            0 0 0 trim\n\
+            0 0 0 offset at 500\n\
+            0 0 0 offset at 1001\n",
         kinds: 12,
         calls: 2 + 2 + 2 + 2 + 1 + 4 + 3 + 2 + 7,
     },

@@ -20,6 +20,8 @@ mod resumed_tests;
 #[cfg(test)]
 mod round_tests;
 #[cfg(test)]
+mod script_cases;
+#[cfg(test)]
 mod shown;
 #[cfg(test)]
 mod shown_runs;

@@ -33,8 +33,10 @@ const COPIES: &str = "segment_bytes 200\nlocal_retention_bytes 0\n\
     0 0 0 trim\n0 0 0 copy\n0 0 0 trim\n0 0 0 fetch 0 1000\n0 0 0 fetch 1 1000\n";
 
 /// A batch, of which one bit is flipped.
-const FLIPPED: &str =
-    "0 0 0 raw 0000000000000000000000390000000002ebf1884b00000000000000000000000003e800000000000003e8ffffffffffffffffffffffffffff000000010e00000001026000\n";
+const FLIPPED: &str = "\
+    0 0 0 raw \
+    0000000000000000000000390000000002ebf1884b00000000000000000000000003e800000000000003e8fffffffffffffffffffffffffff\
+    f000000010e00000001026000\n";
 
 /// The batch without the flip.
 static RIGHT: [u8; 69] = [
@@ -225,7 +227,8 @@ fn a_copy_with_what_is_of_another_segment_puts_its_own(rt: HostRuntime) {
     assert!(rt; same_as_with_nothing(rt.alloc(), Handed::Check) == Some((true, 2)));
 }
 
-/// The journal of a flipped batch that is taken with the check of the right one, and whether the batch's check was wanted.
+/// The journal of a flipped batch that is taken with the check of the right one, and whether the batch's check was
+/// wanted.
 fn flipped(alloc: Global) -> Option<(Vec<u8>, bool)> {
     let mut world = world_of(alloc, FLIPPED)?;
     let wanted = world.wanted(alloc, ACTOR);

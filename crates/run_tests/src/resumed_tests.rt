@@ -1,7 +1,7 @@
 //! Runs over an environment in memory that earlier runs, or a power cut, left: each begins where the one before ended.
 //!
-//! The answers and the registry's bytes are worked by hand from the documents; the batches come from a writer of record batches
-//! that was made apart from this repository.
+//! The answers and the registry's bytes are worked by hand from the documents; the batches come from a writer of record
+//! batches that was made apart from this repository.
 
 use crate::tests::{sink_of, source_of, words_of};
 use device_yard::Yard;
@@ -12,21 +12,47 @@ use tier_base::{FileName, PartitionId};
 use tiered_call::{Status, tiered_in_order};
 
 /// Three batches that are appended, flushed and acknowledged.
-static COMMITTED: &str =
-    "segment_bytes 200\n0 0 0 append 1000,-,:a\n0 0 0 append 1000,-,:b\n0 0 0 append 1000,-,:c\n0 0 0 flush\n0 0 0 ack\n";
+static COMMITTED: &str = "\
+    segment_bytes 200\n\
+    0 0 0 append 1000,-,:a\n\
+    0 0 0 append 1000,-,:b\n\
+    0 0 0 append 1000,-,:c\n\
+    0 0 0 flush\n\
+    0 0 0 ack\n";
 
-static COMMITTED_TRACE: &str =
-    "0 0 0 = Ok 0 0 0\n0 0 1 = Ok 1 1 0\n0 0 2 = Ok 2 2 0\n0 0 3 = Ok 3\n0 0 4 = Ok 3\n";
+static COMMITTED_TRACE: &str = "\
+    0 0 0 = Ok 0 0 0\n\
+    0 0 1 = Ok 1 1 0\n\
+    0 0 2 = Ok 2 2 0\n\
+    0 0 3 = Ok 3\n\
+    0 0 4 = Ok 3\n";
 
 /// The broker starts, leads the next epoch, serves what was committed, and copies it.
-static AGAIN: &str =
-    "segment_bytes 200\n0 0 0 elect\n0 0 0 up\n0 0 0 learn\n0 0 0 elect\n0 0 0 learn\n0 0 0 fetch 0 1000\n0 0 0 copy\n";
+static AGAIN: &str = "\
+    segment_bytes 200\n\
+    0 0 0 elect\n\
+    0 0 0 up\n\
+    0 0 0 learn\n\
+    0 0 0 elect\n\
+    0 0 0 learn\n\
+    0 0 0 fetch 0 1000\n\
+    0 0 0 copy\n";
 
-static AGAIN_TRACE: &str =
-    "0 0 0 = DownBroker\n0 0 1 = Up 3\n0 0 2 = NeedsElection 0\n0 0 3 = Ok 1\n0 0 4 = Leads 1\n0 0 5 = Run local 0 138 Piece 0000000000000000000000390000000002ebf1884b00000000000000000000000003e800000000000003e8ffffffffffffffffffffffffffff000000010e000000010261000000000000000001000000390000000002df1620d200000000000000000000000003e800000000000003e8ffffffffffffffffffffffffffff000000010e00000001026200\n0 0 6 begin\n0 0 6 = Copied 00000000-0000-0002-0000-000000000000 0 1\n";
+static AGAIN_TRACE: &str = "\
+    0 0 0 = DownBroker\n\
+    0 0 1 = Up 3\n\
+    0 0 2 = NeedsElection 0\n\
+    0 0 3 = Ok 1\n\
+    0 0 4 = Leads 1\n\
+    0 0 5 = Run local 0 138 Piece \
+    0000000000000000000000390000000002ebf1884b00000000000000000000000003e800000000000003e8fffffffffffffffffffffffffff\
+    f000000010e000000010261000000000000000001000000390000000002df1620d200000000000000000000000003e800000000000003e8ff\
+    ffffffffffffffffffffffffff000000010e00000001026200\n\
+    0 0 6 begin\n\
+    0 0 6 = Copied 00000000-0000-0002-0000-000000000000 0 1\n";
 
-/// The registry's file after the first of them, a row for each byte: the byte, where its field begins, and where the first field is
-/// that no longer keeps its rule once the byte's bits are turned over, if there is one.
+/// The registry's file after the first of them, a row for each byte: the byte, where its field begins, and where the
+/// first field is that no longer keeps its rule once the byte's bits are turned over, if there is one.
 static FILE: [(u8, u32, Option<u32>); 37] = [
     (0x54, 0, Some(0)), // the magic bytes
     (0x4c, 0, Some(0)),
@@ -174,7 +200,12 @@ fn a_run_begins_where_the_last_one_ended(rt: HostRuntime) {
         &mut yard,
         "0 0 0 up\n0 0 0 elect\n0 0 0 learn\n0 0 0 trim\n",
     );
-    let third = "0 0 0 = Up 3\n0 0 1 = Ok 2\n0 0 2 = Leads 2\n0 0 3 begin\n0 0 3 = Kept\n";
+    let third = "\
+        0 0 0 = Up 3\n\
+        0 0 1 = Ok 2\n\
+        0 0 2 = Leads 2\n\
+        0 0 3 begin\n\
+        0 0 3 = Kept\n";
     assert!(rt; is_ran(&ran, 0, third), "the third run");
 }
 
@@ -265,7 +296,8 @@ fn a_registry_cut_at_each_length_is_told(rt: HostRuntime) {
     assert!(rt; is_told_at(rt, front.as_slice(), Some(37)), "a byte more");
 }
 
-/// What an earlier version left: objects and metadata events, and no registry. Nobody can say what the brokers' logs had.
+/// What an earlier version left: objects and metadata events, and no registry. Nobody can say what the brokers' logs
+/// had.
 #[test]
 fn a_tier_without_a_registry_is_refused(rt: HostRuntime) {
     let mut yard = snapshot(rt).expect(&rt, "a first run");
@@ -308,8 +340,18 @@ fn a_registry_without_its_store_is_told_by_answers(rt: HostRuntime) {
         is_ran(&run(rt, &mut yard, AGAIN), 0, AGAIN_TRACE),
         "a copy"
     );
-    let trimmed = "local_retention_bytes 0\n0 0 0 up\n0 0 0 elect\n0 0 0 learn\n0 0 0 trim\n";
-    let answers = "0 0 0 = Up 3\n0 0 1 = Ok 2\n0 0 2 = Leads 2\n0 0 3 begin\n0 0 3 = Dropped 0 1\n";
+    let trimmed = "\
+        local_retention_bytes 0\n\
+        0 0 0 up\n\
+        0 0 0 elect\n\
+        0 0 0 learn\n\
+        0 0 0 trim\n";
+    let answers = "\
+        0 0 0 = Up 3\n\
+        0 0 1 = Ok 2\n\
+        0 0 2 = Leads 2\n\
+        0 0 3 begin\n\
+        0 0 3 = Dropped 0 1\n";
     assert!(rt;
         is_ran(&run(rt, &mut yard, trimmed), 0, answers),
         "the local copy is dropped"
@@ -320,17 +362,37 @@ fn a_registry_without_its_store_is_told_by_answers(rt: HostRuntime) {
         &mut yard,
         "0 0 0 up\n0 0 0 elect\n0 0 0 learn\n0 0 0 fetch 0 1000\n",
     );
-    let lost =
-        "0 0 0 = Up 3\n0 0 1 = Ok 3\n0 0 2 = Leads 3\n0 0 3 begin\n0 0 3 = Damaged 0/00000000-0000-0002-0000-000000000000.index 0\n";
+    let lost = "\
+        0 0 0 = Up 3\n\
+        0 0 1 = Ok 3\n\
+        0 0 2 = Leads 3\n\
+        0 0 3 begin\n\
+        0 0 3 = Damaged 0/00000000-0000-0002-0000-000000000000.index 0\n";
     assert!(rt; is_ran(&fetched, 0, lost), "told");
 }
 
 /// Copies what is committed, and serves it from the remote tier.
-static TIERED: &str =
-    "segment_bytes 200\nlocal_retention_bytes 0\n0 0 0 append 1000,-,:a\n0 0 0 append 1000,-,:b\n0 0 0 append 1000,-,:c\n0 0 0 flush\n0 0 0 ack\n0 0 0 trim\n0 0 0 copy\n0 0 0 trim\n0 0 0 fetch 0 1000\n0 0 0 fetch 1 1000\n";
+static TIERED: &str = "\
+    segment_bytes 200\n\
+    local_retention_bytes 0\n\
+    0 0 0 append 1000,-,:a\n\
+    0 0 0 append 1000,-,:b\n\
+    0 0 0 append 1000,-,:c\n\
+    0 0 0 flush\n\
+    0 0 0 ack\n\
+    0 0 0 trim\n\
+    0 0 0 copy\n\
+    0 0 0 trim\n\
+    0 0 0 fetch 0 1000\n\
+    0 0 0 fetch 1 1000\n";
 
-static REST: &str =
-    "segment_bytes 200\n0 0 0 up\n0 0 0 learn\n0 0 0 elect\n0 0 0 learn\n0 0 0 fetch 0 1000\n";
+static REST: &str = "\
+    segment_bytes 200\n\
+    0 0 0 up\n\
+    0 0 0 learn\n\
+    0 0 0 elect\n\
+    0 0 0 learn\n\
+    0 0 0 fetch 0 1000\n";
 
 /// Whether this is somewhere in a text.
 fn has(text: &[u8], part: &[u8]) -> bool {

@@ -3,10 +3,26 @@
 use crate::tests::{Wanted, called, well};
 use std::fs;
 
-/// A leader stops while it copies a segment, with three of the four objects put; the other broker is elected, and copies the
-/// segment under an id of its own.
-static SCRIPT: &str =
-    "brokers 2\nsegment_bytes 200\n0 0 0 append 1000,-,:a\n0 0 0 append 1000,-,:b\n0 0 0 append 1000,-,:c\n1 0 1 follow 1000\n1 0 1 follow 1000\n1 0 1 flush\n1 0 1 ack\n0 0 0 flush\n0 0 0 ack\nlater 2 0 0 copy\nturn 2 6\n0 0 0 stop\n1 0 1 elect\n1 0 1 learn\n1 0 1 copy\n";
+/// A leader stops while it copies a segment, with three of the four objects put; the other broker is elected, and
+/// copies the segment under an id of its own.
+static SCRIPT: &str = "\
+    brokers 2\n\
+    segment_bytes 200\n\
+    0 0 0 append 1000,-,:a\n\
+    0 0 0 append 1000,-,:b\n\
+    0 0 0 append 1000,-,:c\n\
+    1 0 1 follow 1000\n\
+    1 0 1 follow 1000\n\
+    1 0 1 flush\n\
+    1 0 1 ack\n\
+    0 0 0 flush\n\
+    0 0 0 ack\n\
+    later 2 0 0 copy\n\
+    turn 2 6\n\
+    0 0 0 stop\n\
+    1 0 1 elect\n\
+    1 0 1 learn\n\
+    1 0 1 copy\n";
 
 /// What is done in the folder.
 #[derive(Clone, Copy)]

@@ -1,19 +1,26 @@
 //! What the documents show as refused, and of a shell. Made by docs/snippets.py, which also reports a difference.
 
-/// Words, texts of the input, each with how often it comes, the status, what standard error has, and the end of what is written.
+/// Words, texts of the input, each with how often it comes, the status, what standard error has, and the end of what
+/// is written.
 pub(crate) static SHELL: [(&[&str], &[(u32, &str)], u8, &str, &str); 6] = [
     (
         &[],
         &[],
         2,
-        "tiered: usage: tiered sim [--threads] or run DIR or gen N or audit DIR or sweep DIR\nfor example: tiered sim < examples/first.script\ntiered --help tells more\n",
+        "\
+        tiered: usage: tiered sim [--threads] or run DIR or gen N or audit DIR or sweep DIR\n\
+        for example: tiered sim < examples/first.script\n\
+        tiered --help tells more\n",
         "",
     ),
     (
         &["gen", "01"],
         &[],
         2,
-        "tiered: usage: tiered sim [--threads] or run DIR or gen N or audit DIR or sweep DIR\nfor example: tiered sim < examples/first.script\ntiered --help tells more\n",
+        "\
+        tiered: usage: tiered sim [--threads] or run DIR or gen N or audit DIR or sweep DIR\n\
+        for example: tiered sim < examples/first.script\n\
+        tiered --help tells more\n",
         "",
     ),
     (

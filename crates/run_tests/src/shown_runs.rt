@@ -12,7 +12,8 @@ pub(crate) static COUNT: u32 = 57;
 /// How many parts they stand in.
 pub(crate) static PARTS: usize = 5;
 
-/// A part's text: a script, a grave accent, its trace, a grave accent, and so on. A script's first line says where it is shown.
+/// A part's text: a script, a grave accent, its trace, a grave accent, and so on. A script's first line says where it
+/// is shown.
 pub(crate) fn text(part: usize) -> &'static str {
     match part {
         0 => part_1::RUNS,

@@ -72,7 +72,8 @@ fn counted(rt: HostRuntime, script: &[u8], trace: &[u8], (well, there): (u32, u3
     (well, there.wrapping_add(1))
 }
 
-/// Runs the scripts of a text, and goes on to count those at the front that give their traces, and those that are there.
+/// Runs the scripts of a text, and goes on to count those at the front that give their traces, and those that are
+/// there.
 fn run_all(rt: HostRuntime, text: &[u8], counts: (u32, u32)) -> (u32, u32) {
     let mut counts = counts;
     let mut from = 0usize;

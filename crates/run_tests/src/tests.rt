@@ -1,7 +1,6 @@
 //! Scripts and their traces, each status, and the faults of a source and a sink.
-//!
-//! The batches' bytes come from a writer of record batches that was made apart from this repository.
 
+use crate::script_cases::{RAW, REMOTE, SCRIPTS};
 use folder_yard::FolderYard;
 use std::alloc::{AllocError, Global};
 use std::fs;
@@ -170,170 +169,48 @@ pub(crate) fn simulated(rt: HostRuntime, script: &str, trace: &str) -> Option<(u
     )
 }
 
-/// A script with its name, and the trace that it gives.
-pub(crate) type Row = (&'static str, &'static str, &'static str);
-
-/// The name of the first script that doesn't give its trace.
-pub(crate) fn first_wrong(rt: HostRuntime, rows: &[Row]) -> Option<&'static str> {
-    for (name, script, trace) in rows {
-        if simulated(rt, script, trace) != well(0) {
-            return Some(*name);
-        }
+/// The name, the script and the trace of a case.
+fn parts(case: &str) -> Option<(&str, &str, &str)> {
+    match case.split_once('\n') {
+        Some((name, rest)) => match rest.split_once("---\n") {
+            Some((script, trace)) => Some((name, script, trace)),
+            None => None,
+        },
+        None => None,
     }
-    None
 }
 
-/// Scripts and the traces that they give.
-static ROWS: [Row; 6] = [
-    ("an empty script", "", ""),
-    (
-        "all three batches",
-        "0 0 0 append 1000,-,:a\n0 0 0 append 1000,-,:b\n0 0 0 append 1000,-,:c\n0 0 0 flush\n0 0 0 ack\n0 0 0 fetch 0 1000\n",
-        "0 0 0 = Ok 0 0 0\n0 0 1 = Ok 1 1 0\n0 0 2 = Ok 2 2 0\n0 0 3 = Ok 3\n0 0 4 = Ok 3\n0 0 5 = Run local 0 207 Mark 0000000000000000000000390000000002ebf1884b00000000000000000000000003e800000000000003e8ffffffffffffffffffffffffffff000000010e000000010261000000000000000001000000390000000002df1620d200000000000000000000000003e800000000000003e8ffffffffffffffffffffffffffff000000010e000000010262000000000000000002000000390000000002ccb4b8a500000000000000000000000003e800000000000003e8ffffffffffffffffffffffffffff000000010e00000001026300\n",
-    ),
-    (
-        "limits and ends",
-        "0 0 0 append 1000,-,:a\n0 0 0 append 1000,-,:b\n0 0 0 append 1000,-,:c\n0 0 0 flush\n0 0 0 ack\n0 0 0 fetch 0 1\n0 0 0 fetch 0 138\n0 0 0 fetch 3 1\n0 0 0 fetch 4 1\n",
-        "0 0 0 = Ok 0 0 0\n0 0 1 = Ok 1 1 0\n0 0 2 = Ok 2 2 0\n0 0 3 = Ok 3\n0 0 4 = Ok 3\n0 0 5 = Run local 0 69 Limit 0000000000000000000000390000000002ebf1884b00000000000000000000000003e800000000000003e8ffffffffffffffffffffffffffff000000010e00000001026100\n0 0 6 = Run local 0 138 Limit 0000000000000000000000390000000002ebf1884b00000000000000000000000003e800000000000003e8ffffffffffffffffffffffffffff000000010e000000010261000000000000000001000000390000000002df1620d200000000000000000000000003e800000000000003e8ffffffffffffffffffffffffffff000000010e00000001026200\n0 0 7 = Empty\n0 0 8 = OutOfRange 0 3\n",
-    ),
-    (
-        "nothing is acknowledged",
-        "0 0 0 append 1000,-,:a\n0 0 0 append 1000,-,:b\n0 0 0 append 1000,-,:c\n0 0 0 flush\n0 0 0 fetch 0 1000\n",
-        "0 0 0 = Ok 0 0 0\n0 0 1 = Ok 1 1 0\n0 0 2 = Ok 2 2 0\n0 0 3 = Ok 3\n0 0 4 = Empty\n",
-    ),
-    (
-        "an unflushed batch is not acknowledged",
-        "0 0 0 append 1000,-,:a\n0 0 0 flush\n0 0 0 append 1000,-,:b\n0 0 0 ack\n0 0 0 fetch 0 1000\n",
-        "0 0 0 = Ok 0 0 0\n0 0 1 = Ok 1\n0 0 2 = Ok 1 1 0\n0 0 3 = Ok 1\n0 0 4 = Run local 0 69 Mark 0000000000000000000000390000000002ebf1884b00000000000000000000000003e800000000000003e8ffffffffffffffffffffffffffff000000010e00000001026100\n",
-    ),
-    (
-        "a great limit of an empty log",
-        "0 0 0 fetch 0 268435456\n",
-        "0 0 0 = Empty\n",
-    ),
-];
-
-/// Scripts with batches from outside and records in full, and the traces that they give.
-static RAW_ROWS: [Row; 17] = [
-    (
-        "a batch from outside is placed, and else left as it was given",
-        "0 0 0 raw 000000000000006300000039000000050228835a5e00000000000000000000000003e800000000000003e80000000000000007ffffffffffff000000010e00000001026100\n0 0 0 flush\n0 0 0 ack\n0 0 0 fetch 0 1000\n",
-        "0 0 0 = Ok 0 0 0\n0 0 1 = Ok 1\n0 0 2 = Ok 1\n0 0 3 = Run local 0 69 Mark 000000000000000000000039000000000228835a5e00000000000000000000000003e800000000000003e80000000000000007ffffffffffff000000010e00000001026100\n",
-    ),
-    (
-        "one bit of the value is wrong",
-        "0 0 0 raw 0000000000000000000000390000000002ebf1884b00000000000000000000000003e800000000000003e8ffffffffffffffffffffffffffff000000010e00000001026000\n",
-        "0 0 0 = Refused BadCrc 3958474827 4166193212\n",
-    ),
-    (
-        "the checksum is tested before the compression",
-        "0 0 0 raw 0000000000000000000000390000000002ebf1884b00010000000000000000000003e800000000000003e8ffffffffffffffffffffffffffff000000010e00000001026100\n",
-        "0 0 0 = Refused BadCrc 3958474827 2767818519\n",
-    ),
-    (
-        "compressed records, with the right checksum",
-        "0 0 0 raw 0000000000000000000000390000000002a4f98f1700010000000000000000000003e800000000000003e8ffffffffffffffffffffffffffff000000010e00000001026100\n",
-        "0 0 0 = Refused Compressed\n",
-    ),
-    (
-        "a control batch of a transaction",
-        "0 0 0 raw 0000000000000000000000390000000002c74f0cb600300000000000000000000003e800000000000003e8ffffffffffffffffffffffffffff000000010e00000001026100\n",
-        "0 0 0 = Refused Transactional\n",
-    ),
-    (
-        "a control batch",
-        "0 0 0 raw 0000000000000000000000390000000002207ea2b200200000000000000000000003e800000000000003e8ffffffffffffffffffffffffffff000000010e00000001026100\n",
-        "0 0 0 = Refused Control\n",
-    ),
-    (
-        "the bytes end inside the head",
-        "0 0 0 raw 0000000000000000000000390000000002ebf1884b00000000000000000000000003e800000000000003e8ffffffffffffffffffffffffffff000000\n",
-        "0 0 0 = Refused Short\n",
-    ),
-    (
-        "an older magic",
-        "0 0 0 raw 0000000000000000000000390000000001ebf1884b00000000000000000000000003e800000000000003e8ffffffffffffffffffffffffffff000000010e00000001026100\n",
-        "0 0 0 = Refused BadMagic\n",
-    ),
-    (
-        "a length below that of a head",
-        "0 0 0 raw 0000000000000000000000300000000002ebf1884b00000000000000000000000003e800000000000003e8ffffffffffffffffffffffffffff000000010e00000001026100\n",
-        "0 0 0 = Refused BadLength\n",
-    ),
-    (
-        "a byte after the batch",
-        "0 0 0 raw 0000000000000000000000390000000002ebf1884b00000000000000000000000003e800000000000003e8ffffffffffffffffffffffffffff000000010e0000000102610000\n",
-        "0 0 0 = Refused BadLength\n",
-    ),
-    (
-        "no records",
-        "0 0 0 raw 00000000000000000000003900000000021fcf5e0300000000000000000000000003e800000000000003e8ffffffffffffffffffffffffffff000000000e00000001026100\n",
-        "0 0 0 = Refused BadRecords 57\n",
-    ),
-    (
-        "the last offset delta is not the count less 1",
-        "0 0 0 raw 000000000000000000000039000000000279aaa3da00000000000100000000000003e800000000000003e8ffffffffffffffffffffffffffff000000010e00000001026100\n",
-        "0 0 0 = Refused BadRecords 23\n",
-    ),
-    (
-        "a key, no value, and a header without a value",
-        "0 0 0 append 5,:k,-,:h=-\n0 0 0 flush\n0 0 0 ack\n0 0 0 fetch 0 100\n",
-        "0 0 0 = Ok 0 0 0\n0 0 1 = Ok 1\n0 0 2 = Ok 1\n0 0 3 = Run local 0 72 Mark 00000000000000000000003c0000000002bb6f0d3800000000000000000000000000050000000000000005ffffffffffffffffffffffffffff0000000114000000026b0102026801\n",
-    ),
-    (
-        "the first example of the language's page",
-        "# two records, made stable, committed, and read\n0 0 0 append 1000,:k,:v 1000,-,:w\n0 0 0 flush\n0 0 0 ack\n0 0 0 fetch 0 1000\n",
-        "0 0 0 = Ok 0 1 0\n0 0 1 = Ok 2\n0 0 2 = Ok 2\n0 0 3 = Run local 0 78 Mark 000000000000000000000042000000000254c6652100000000000100000000000003e800000000000003e8ffffffffffffffffffffffffffff0000000210000000026b0276000e00000201027700\n",
-    ),
-    (
-        "the example of its answers",
-        "0 0 0 append 1000,-,:a\n0 0 0 fetch 0 1000\n0 0 0 flush\n0 0 0 ack\n0 0 0 fetch 0 0\n0 0 0 fetch 1 1000\n0 0 0 fetch 2 1000\n0 0 0 raw 0000\n",
-        "0 0 0 = Ok 0 0 0\n0 0 1 = Empty\n0 0 2 = Ok 1\n0 0 3 = Ok 1\n0 0 4 = Run local 0 69 Mark 0000000000000000000000390000000002ebf1884b00000000000000000000000003e800000000000003e8ffffffffffffffffffffffffffff000000010e00000001026100\n0 0 5 = Empty\n0 0 6 = OutOfRange 0 1\n0 0 7 = Refused Short\n",
-    ),
-    (
-        "the example of batches from outside",
-        "# A batch from outside, with base offset 99, leader epoch 5 and producer 7. Its checksum covers neither of the first two:\n# the broker places the batch at its log's end, in its own epoch, and leaves all else as it was given.\n0 0 0 raw 000000000000006300000039000000050228835a5e00000000000000000000000003e800000000000003e80000000000000007ffffffffffff000000010e00000001026100\n\n# One bit of the value is wrong: refused, with the checksum that the batch has and the one that its bytes give.\n0 0 0 raw 0000000000000000000000390000000002ebf1884b00000000000000000000000003e800000000000003e8ffffffffffffffffffffffffffff000000010e00000001026000\n\n# The bytes end inside the head.\n0 0 0 raw 0000\n\n# Two records in one batch, the second with a key, no value, and a header of no value.\n0 0 0 append 5,-,:a 6,:k,-,:h=-\n\n0 0 0 flush\n0 0 0 ack\n0 0 0 fetch 0 1000\n",
-        "0 0 0 = Ok 0 0 0\n0 0 1 = Refused BadCrc 3958474827 4166193212\n0 0 2 = Refused Short\n0 0 3 = Ok 1 2 0\n0 0 4 = Ok 3\n0 0 5 = Ok 3\n0 0 6 = Run local 0 149 Mark 000000000000000000000039000000000228835a5e00000000000000000000000003e800000000000003e80000000000000007ffffffffffff000000010e00000001026100000000000000000100000044000000000267651f9b00000000000100000000000000050000000000000006ffffffffffffffffffffffffffff000000020e0000000102610014000202026b0102026801\n",
-    ),
-    (
-        "comments, blanks, tabs and line ends",
-        "# a comment\r\n\n \t\npartitions 1\n\t00  0\t0 flush \r\n0 0 0 ack",
-        "0 0 0 = Ok 0\n0 0 1 = Ok 0\n",
-    ),
-];
-
-/// The examples of the remote tier.
-static REMOTE_ROWS: [Row; 3] = [
-    (
-        "the example of copies",
-        "# A leader copies its closed log segments to the remote tier, the oldest first.\nsegment_bytes 200\n\n# A segment holds two of these batches. The seventh batch stands in the open segment.\n0 0 0 append 1000,-,:a\n0 0 0 append 1000,-,:b\n0 0 0 append 1000,-,:c\n0 0 0 append 1000,-,:d\n0 0 0 append 1000,-,:e\n0 0 0 append 1000,-,:f\n0 0 0 append 1000,-,:g\n\n# What isn't committed isn't copied.\n0 0 0 copy\n0 0 0 flush\n0 0 0 ack\n\n# Each copy takes the first closed segment that isn't copied yet, and tells its id, its first and\n# its last offset. The open segment isn't copied.\n0 0 0 copy\n0 0 0 copy\n0 0 0 copy\n0 0 0 copy\n\n# A roll closes it.\n0 0 0 roll\n0 0 0 copy\n\n# An id names the broker, how often its log was opened, and the copies that it began since then.\n0 0 0 append 1000,-,:h\n0 0 0 roll\n0 0 0 flush\n0 0 0 ack\n0 0 0 stop\n0 0 0 up\n0 0 0 learn\n0 0 0 elect\n0 0 0 learn\n0 0 0 ack\n0 0 0 copy\n0 0 0 copy\n",
-        "0 0 0 = Ok 0 0 0\n0 0 1 = Ok 1 1 0\n0 0 2 = Ok 2 2 0\n0 0 3 = Ok 3 3 0\n0 0 4 = Ok 4 4 0\n0 0 5 = Ok 5 5 0\n0 0 6 = Ok 6 6 0\n0 0 7 begin\n0 0 7 = Level\n0 0 8 = Ok 7\n0 0 9 = Ok 7\n0 0 10 begin\n0 0 10 = Copied 00000000-0000-0001-0000-000000000000 0 1\n0 0 11 begin\n0 0 11 = Copied 00000000-0000-0001-0000-000000000001 2 3\n0 0 12 begin\n0 0 12 = Copied 00000000-0000-0001-0000-000000000002 4 5\n0 0 13 begin\n0 0 13 = Level\n0 0 14 = Ok 7\n0 0 15 begin\n0 0 15 = Copied 00000000-0000-0001-0000-000000000003 6 6\n0 0 16 = Ok 7 7 0\n0 0 17 = Ok 8\n0 0 18 = Ok 8\n0 0 19 = Ok 8\n0 0 20 = Ok\n0 0 21 = Up 8\n0 0 22 = NeedsElection 0\n0 0 23 = Ok 1\n0 0 24 = Leads 1\n0 0 25 = Ok 8\n0 0 26 begin\n0 0 26 = Copied 00000000-0000-0002-0000-000000000000 7 7\n0 0 27 begin\n0 0 27 = Level\n",
-    ),
-    (
-        "the example of a store and a metadata log that fail",
-        "# A store and a metadata log that fail: a copy ends where its call fails, and the next one begins\n# anew, under another id.\nsegment_bytes 200\n\n# A copy appends a note that it starts, puts four objects, appends a note that it is whole, and reads\n# the notes at its first and its last turn. A call that fails before isn't done, and one that fails\n# after is done, but its broker isn't told so.\nfault 0 meta append 1 before\nfault 0 store put 2 before\nfault 0 store put 6 after\nfault 0 meta append 5 before\nfault 0 meta append 7 after\nfault 0 meta read 6 before\nfault 0 meta read 8 before\n\n# Two closed segments, of two batches each, and an open one.\n0 0 0 append 1000,-,:a\n0 0 0 append 1000,-,:b\n0 0 0 append 1000,-,:c\n0 0 0 append 1000,-,:d\n0 0 0 append 1000,-,:e\n0 0 0 flush\n0 0 0 ack\n\n# The note that it starts isn't taken.\n0 0 0 copy\n\n# The second object isn't put. The first one stands, under an id that is never finished.\n0 0 0 copy\n\n# The fourth object is put, which the broker doesn't know.\n0 0 0 copy\n\n# All four objects stand, but the note that the copy is whole isn't taken.\n0 0 0 copy\n\n# That note is taken, so the segment is copied, which the broker doesn't know.\n0 0 0 copy\n\n# The next copy can't read the notes, and doesn't begin. The one after it finds the first segment\n# copied, under the fifth id, and copies the second segment. Its last look at the notes fails.\n0 0 0 copy\n0 0 0 copy\n\n# Both segments are copied. Six copies have begun so far, so the next one has the seventh id.\n0 0 0 copy\n0 0 0 roll\n0 0 0 copy\n",
-        "0 0 0 = Ok 0 0 0\n0 0 1 = Ok 1 1 0\n0 0 2 = Ok 2 2 0\n0 0 3 = Ok 3 3 0\n0 0 4 = Ok 4 4 0\n0 0 5 = Ok 5\n0 0 6 = Ok 5\n0 0 7 begin\n0 0 7 = MetaFault\n0 0 8 begin\n0 0 8 = StoreFault\n0 0 9 begin\n0 0 9 = StoreFault\n0 0 10 begin\n0 0 10 = MetaFault\n0 0 11 begin\n0 0 11 = MetaFault\n0 0 12 = MetaFault\n0 0 13 begin\n0 0 13 = MetaFault\n0 0 14 begin\n0 0 14 = Level\n0 0 15 = Ok 5\n0 0 16 begin\n0 0 16 = Copied 00000000-0000-0001-0000-000000000006 4 4\n",
-    ),
-    (
-        "the example of a leader that was replaced",
-        "# A leader is replaced in the middle of a copy, and the new leader copies the segment again.\nbrokers 2\nsegment_bytes 200\n\n# Broker 0 leads, and broker 1 follows. All is stable on both, and committed.\n0 0 0 append 1000,-,:a\n0 0 0 append 1000,-,:b\n0 0 0 append 1000,-,:c\n1 0 1 follow 1000\n1 0 1 follow 1000\n1 0 1 flush\n1 0 1 ack\n0 0 0 flush\n0 0 0 ack\n\n# Broker 0 begins a copy, and has put three of the four objects when it stops.\nlater 2 0 0 copy\nturn 2 6\n0 0 0 stop\n\n# Broker 1 is elected, learns that it leads, and copies the segment under an id of its own.\n1 0 1 elect\n1 0 1 learn\n1 0 1 copy\n\n# Broker 0's copy ends at its next turn. Three objects stay, under an id that is never finished.\nturn 2 1\n\n# A leader that was replaced and doesn't know it goes on. Broker 1 begins to copy its next segment;\n# broker 0 has taken the batches by then, is elected, and copies the segment too.\n1 0 1 append 1000,-,:d\n1 0 1 append 1000,-,:e\n0 0 0 up\n0 0 0 learn\n0 0 0 join\n0 0 0 follow 1000\n0 0 0 follow 1000\n0 0 0 flush\n0 0 0 ack\n1 0 1 flush\n1 0 1 ack\n0 0 0 expand\nlater 3 0 1 copy\nturn 3 5\n0 0 0 elect\n0 0 0 learn\n0 0 0 copy\n\n# Both copies become whole. They hold the same batches.\nturn 3 4\n",
-        "0 0 0 = Ok 0 0 0\n0 0 1 = Ok 1 1 0\n0 0 2 = Ok 2 2 0\n0 1 0 begin\n0 1 0 = Copied 2\n0 1 1 begin\n0 1 1 = Copied 3\n0 1 2 = Ok 3\n0 1 3 = Ok 0\n0 0 3 = Ok 3\n0 0 4 = Ok 3\n0 2 0 begin\n0 0 5 = Ok\n0 1 4 = Ok 1\n0 1 5 = Leads 1\n0 1 6 begin\n0 1 6 = Copied 00000001-0000-0001-0000-000000000000 0 1\n0 2 0 = LostLead\n0 1 7 = Ok 3 3 1\n0 1 8 = Ok 4 4 1\n0 0 6 = Up 3\n0 0 7 = Follows 1\n0 0 8 = Cut 3\n0 0 9 begin\n0 0 9 = Copied 4\n0 0 10 begin\n0 0 10 = Copied 5\n0 0 11 = Ok 5\n0 0 12 = Ok 3\n0 1 9 = Ok 5\n0 1 10 = Ok 5\n0 0 13 = Ok\n0 3 0 begin\n0 0 14 = Ok 2\n0 0 15 = Leads 2\n0 0 16 begin\n0 0 16 = Copied 00000000-0000-0002-0000-000000000000 2 3\n0 3 0 = Copied 00000001-0000-0001-0000-000000000001 2 3\n",
-    ),
-];
+/// How many cases of a text give their traces, up to the first one that doesn't, and the name of that one. A case is a
+/// line `=== ` with its name, its script, a line `---` and its trace.
+///
+/// The cases are one text and no table: a proof pays for a table by its rows times its bytes, and for a text next to
+/// nothing.
+pub(crate) fn first_wrong(rt: HostRuntime, cases: &'static str) -> (u32, Option<&'static str>) {
+    let mut right: u32 = 0;
+    for case in cases.split("=== ") {
+        if let Some((name, script, trace)) = parts(case) {
+            if simulated(rt, script, trace) != well(0) {
+                return (right, Some(name));
+            }
+            right = right.wrapping_add(1);
+        }
+    }
+    (right, None)
+}
 
 #[test]
 fn scripts_give_their_traces(rt: HostRuntime) {
-    assert_eq!(rt; first_wrong(rt, ROWS.as_slice()), None);
+    assert_eq!(rt; first_wrong(rt, SCRIPTS), (6, None));
 }
 
 #[test]
 fn batches_from_outside_give_their_traces(rt: HostRuntime) {
-    assert_eq!(rt; first_wrong(rt, RAW_ROWS.as_slice()), None);
+    assert_eq!(rt; first_wrong(rt, RAW), (17, None));
 }
 
 #[test]
 fn examples_of_the_remote_tier_give_their_traces(rt: HostRuntime) {
-    assert_eq!(rt; first_wrong(rt, REMOTE_ROWS.as_slice()), None);
+    assert_eq!(rt; first_wrong(rt, REMOTE), (3, None));
 }
 
 /// Words, the input, its calls that fail, the status's line, what is written, and the status's number.
@@ -527,7 +404,13 @@ static EXPLAINED: [(u8, &str, &str); 4] = [
     (
         3,
         "# c\n0 0 0 flush x\n",
-        "    0 0 0 flush x\n                ^\none word too many\nexpected the end of the line\nsee docs/SCRIPT.md, \"flush\"\n",
+        concat!(
+            "    0 0 0 flush x\n",
+            "                ^\n",
+            "one word too many\n",
+            "expected the end of the line\n",
+            "see docs/SCRIPT.md, \"flush\"\n",
+        ),
     ),
     (3, "", ""),
     (
@@ -652,15 +535,40 @@ fn a_load_is_summed_up(rt: HostRuntime) {
 }
 
 /// A script over two brokers, a follower among them, and a copy to the remote tier.
-static FOLDER_SCRIPT: &str =
-    "brokers 2\nsegment_bytes 100\n0 0 0 append 1000,-,:a\n0 0 0 append 1000,-,:b\n0 0 0 flush\n1 0 1 follow 1000\n1 0 1 flush\n1 0 1 ack\n0 0 0 ack\n0 0 0 copy\n";
+static FOLDER_SCRIPT: &str = "\
+    brokers 2\n\
+    segment_bytes 100\n\
+    0 0 0 append 1000,-,:a\n\
+    0 0 0 append 1000,-,:b\n\
+    0 0 0 flush\n\
+    1 0 1 follow 1000\n\
+    1 0 1 flush\n\
+    1 0 1 ack\n\
+    0 0 0 ack\n\
+    0 0 0 copy\n";
 
-static FOLDER_TRACE: &str =
-    "0 0 0 = Ok 0 0 0\n0 0 1 = Ok 1 1 0\n0 0 2 = Ok 2\n0 1 0 begin\n0 1 0 = Copied 1\n0 1 1 = Ok 1\n0 1 2 = Ok 0\n0 0 3 = Ok 1\n0 0 4 begin\n0 0 4 = Copied 00000000-0000-0001-0000-000000000000 0 0\n";
+static FOLDER_TRACE: &str = "\
+    0 0 0 = Ok 0 0 0\n\
+    0 0 1 = Ok 1 1 0\n\
+    0 0 2 = Ok 2\n\
+    0 1 0 begin\n\
+    0 1 0 = Copied 1\n\
+    0 1 1 = Ok 1\n\
+    0 1 2 = Ok 0\n\
+    0 0 3 = Ok 1\n\
+    0 0 4 begin\n\
+    0 0 4 = Copied 00000000-0000-0001-0000-000000000000 0 0\n";
 
 /// The same script over what the first run left: every broker is down.
-static FOLDER_AGAIN: &str =
-    "0 0 0 = Down\n0 0 1 = Down\n0 0 2 = Down\n0 1 0 = Down\n0 1 1 = Down\n0 1 2 = Down\n0 0 3 = Down\n0 0 4 = Down\n";
+static FOLDER_AGAIN: &str = "\
+    0 0 0 = Down\n\
+    0 0 1 = Down\n\
+    0 0 2 = Down\n\
+    0 1 0 = Down\n\
+    0 1 1 = Down\n\
+    0 1 2 = Down\n\
+    0 0 3 = Down\n\
+    0 0 4 = Down\n";
 
 /// Runs the script over a folder.
 fn runs_over(rt: HostRuntime, dir: &str, wanted: Wanted) -> Option<(u8, bool, bool)> {
@@ -686,8 +594,8 @@ fn first_missing(rt: HostRuntime) -> Option<&'static str> {
     None
 }
 
-/// Two runs over a folder: what the first comes to, the file that it lacks then, what the second comes to, and whether the
-/// folder is removed at the end.
+/// Two runs over a folder: what the first comes to, the file that it lacks then, what the second comes to, and whether
+/// the folder is removed at the end.
 fn run_twice(
     rt: HostRuntime,
 ) -> (

@@ -1,5 +1,5 @@
-//! Runs of a script by threads, which a gate holds: that there is a thread for each actor, and that what is written are the
-//! journals of the worlds that the threads turned.
+//! Runs of a script by threads, which a gate holds: that there is a thread for each actor, and that what is written are
+//! the journals of the worlds that the threads turned.
 
 use crate::tests::{Wanted, is_wanted, sink_of, source_of, well, words_of};
 use memory_yard::MemoryYard;
@@ -125,8 +125,13 @@ impl Gate for Makers {
 const TWO: &str = "0 0 0 flush\n1 0 0 append 1000,-,:a\n";
 
 /// Two actors of one partition, each with a batch from outside.
-const RAW: &str =
-    "0 0 0 raw 0000000000000000000000390000000002ebf1884b00000000000000000000000003e800000000000003e8ffffffffffffffffffffffffffff000000010e00000001026100\n1 0 0 raw 0000000000000000000000390000000002ebf1884b00000000000000000000000003e800000000000003e8ffffffffffffffffffffffffffff000000010e00000001026100\n";
+const RAW: &str = "\
+    0 0 0 raw \
+    0000000000000000000000390000000002ebf1884b00000000000000000000000003e800000000000003e8fffffffffffffffffffffffffff\
+    f000000010e00000001026100\n\
+    1 0 0 raw \
+    0000000000000000000000390000000002ebf1884b00000000000000000000000003e800000000000003e8fffffffffffffffffffffffffff\
+    f000000010e00000001026100\n";
 
 /// Makes a call of the program that runs a script by threads, which pass this gate: the number of its status, and
 /// whether what is reported and written is as it should be.
@@ -212,11 +217,26 @@ fn a_flush_that_comes_first_has_nothing_to_flush(rt: HostRuntime) {
 /// Scripts whose commands all go to one actor of each partition, and the traces that they give in each order.
 static ROWS: [(&str, &str); 2] = [
     (
-        "0 0 0 append 1000,-,:a\n0 0 0 flush\n0 0 0 ack\n0 0 0 fetch 0 1000\n",
-        "0 0 0 = Ok 0 0 0\n0 0 1 = Ok 1\n0 0 2 = Ok 1\n0 0 3 = Run local 0 69 Mark 0000000000000000000000390000000002ebf1884b00000000000000000000000003e800000000000003e8ffffffffffffffffffffffffffff000000010e00000001026100\n",
+        "\
+        0 0 0 append 1000,-,:a\n\
+        0 0 0 flush\n\
+        0 0 0 ack\n\
+        0 0 0 fetch 0 1000\n",
+        "\
+        0 0 0 = Ok 0 0 0\n\
+        0 0 1 = Ok 1\n\
+        0 0 2 = Ok 1\n\
+        0 0 3 = Run local 0 69 Mark \
+        0000000000000000000000390000000002ebf1884b00000000000000000000000003e800000000000003e8fffffffffffffffffffffff\
+        fffff000000010e00000001026100\n",
     ),
     (
-        "brokers 2\npartitions 2\n0 0 0 append 1000,-,:a\n1 1 1 append 1000,-,:b\n1 1 0 append 1000,-,:c\n",
+        "\
+        brokers 2\n\
+        partitions 2\n\
+        0 0 0 append 1000,-,:a\n\
+        1 1 1 append 1000,-,:b\n\
+        1 1 0 append 1000,-,:c\n",
         "0 0 0 = Ok 0 0 0\n1 1 0 = NotLeader\n1 1 1 = Ok 0 0 0\n",
     ),
 ];

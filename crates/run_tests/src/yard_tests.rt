@@ -81,11 +81,25 @@ fn run(alloc: Global, script: &str, failing: &[u32], trace: &str) -> (End, u64, 
 
 /// Two partitions of two brokers. A follow continues when its actor's turn comes; the line of a fault is for other
 /// devices.
-static TWO: &str =
-    "brokers 2\npartitions 2\nfault 0 disk 0 append 1 before\n0 0 0 append 1000,-,:a\nlater 2 0 1 follow 1\nturn 2 1\n1 1 1 append 1000,-,:b\n0 0 0 flush\nturn 2 1\n1 1 0 append 1000,-,:c\n";
+static TWO: &str = "\
+    brokers 2\n\
+    partitions 2\n\
+    fault 0 disk 0 append 1 before\n\
+    0 0 0 append 1000,-,:a\n\
+    later 2 0 1 follow 1\n\
+    turn 2 1\n\
+    1 1 1 append 1000,-,:b\n\
+    0 0 0 flush\n\
+    turn 2 1\n\
+    1 1 0 append 1000,-,:c\n";
 
-static TRACE: &str =
-    "0 0 0 = Ok 0 0 0\n0 2 0 begin\n0 0 1 = Ok 1\n0 2 0 = Copied 1\n1 1 0 = NotLeader\n1 1 1 = Ok 0 0 0\n";
+static TRACE: &str = "\
+    0 0 0 = Ok 0 0 0\n\
+    0 2 0 begin\n\
+    0 0 1 = Ok 1\n\
+    0 2 0 = Copied 1\n\
+    1 1 0 = NotLeader\n\
+    1 1 1 = Ok 0 0 0\n";
 
 #[test]
 fn each_partition_is_run_by_its_schedule(rt: HostRuntime) {

@@ -30,23 +30,42 @@ static GOOD: [(&str, &str); 30] = [
         "a sum at its bound",
     ),
     (
-        "0 0 0 raw 000000000000006300000039000000050228835a5e00000000000000000000000003e800000000000003e80000000000000007ffffffffffff000000010e00000001026100\n0 0 0 flush\n0 0 0 ack\n0 0 0 fetch 0 1000\n",
+        "\
+        0 0 0 raw \
+        000000000000006300000039000000050228835a5e00000000000000000000000003e800000000000003e80000000000000007fffffff\
+        fffff000000010e00000001026100\n\
+        0 0 0 flush\n\
+        0 0 0 ack\n\
+        0 0 0 fetch 0 1000\n",
         "a batch of an idempotent producer, and its answers",
     ),
     (
-        "0 0 0 raw 0000000000000000000000390000000002a4f98f1700010000000000000000000003e800000000000003e8ffffffffffffffffffffffffffff000000010e00000001026100\n",
+        "\
+        0 0 0 raw \
+        0000000000000000000000390000000002a4f98f1700010000000000000000000003e800000000000003e8fffffffffffffffffffffff\
+        fffff000000010e00000001026100\n",
         "a compressed batch",
     ),
     (
-        "0 0 0 raw 0000000000000000000000390000000002ebf1884b00000000000000000000000003e800000000000003e8ffffffffffffffffffffffffffff000000\n",
+        "\
+        0 0 0 raw \
+        0000000000000000000000390000000002ebf1884b00000000000000000000000003e800000000000003e8fffffffffffffffffffffff\
+        fffff000000\n",
         "a batch that is cut short",
     ),
     (
-        "0 0 0 raw 0000000000000000000000390000000002ebf1884b00000000000000000000000003e800000000000003e8ffffffffffffffffffffffffffff000000010e0000000102610000\n",
+        "\
+        0 0 0 raw \
+        0000000000000000000000390000000002ebf1884b00000000000000000000000003e800000000000003e8fffffffffffffffffffffff\
+        fffff000000010e0000000102610000\n",
         "a batch and a byte behind it",
     ),
     (
-        "0 0 0 append 5,:k,-,:h=-\n0 0 0 flush\n0 0 0 ack\n0 0 0 fetch 0 100\n",
+        "\
+        0 0 0 append 5,:k,-,:h=-\n\
+        0 0 0 flush\n\
+        0 0 0 ack\n\
+        0 0 0 fetch 0 100\n",
         "a header without a value",
     ),
     (
@@ -58,11 +77,22 @@ static GOOD: [(&str, &str); 30] = [
         "the last actor, partition and broker",
     ),
     (
-        "brokers 2\n0 0 1 elect\n0 0 1 learn\n0 0 0 unclean\n0 0 1 join\n0 0 1 follow 2147483647\n",
+        "\
+        brokers 2\n\
+        0 0 1 elect\n\
+        0 0 1 learn\n\
+        0 0 0 unclean\n\
+        0 0 1 join\n\
+        0 0 1 follow 2147483647\n",
         "elections and followers",
     ),
     (
-        "0 0 0 shrink\n0 0 0 expand\n0 0 0 raise 4611686018427387904\n0 0 0 stop\n0 0 0 up\n",
+        "\
+        0 0 0 shrink\n\
+        0 0 0 expand\n\
+        0 0 0 raise 4611686018427387904\n\
+        0 0 0 stop\n\
+        0 0 0 up\n",
         "the registry, stop and up",
     ),
     ("0 0 - clock 9223372036854775807\n", "the last time"),
@@ -75,7 +105,10 @@ static GOOD: [(&str, &str); 30] = [
         "a copy in the last partition",
     ),
     (
-        "fault 0 store put 1 before\nfault 0 store get 1 after\nfault 0 store delete 1 after\n",
+        "\
+        fault 0 store put 1 before\n\
+        fault 0 store get 1 after\n\
+        fault 0 store delete 1 after\n",
         "faults of the store",
     ),
     (
@@ -83,11 +116,20 @@ static GOOD: [(&str, &str); 30] = [
         "faults of the metadata log",
     ),
     (
-        "retention_ms -1\nretention_bytes 9223372036854775807\nlocal_retention_ms -2\nlocal_retention_bytes -1\n",
+        "\
+        retention_ms -1\n\
+        retention_bytes 9223372036854775807\n\
+        local_retention_ms -2\n\
+        local_retention_bytes -1\n",
         "retention with no bound, the greatest, and the whole log's",
     ),
     (
-        "local_retention_bytes -2\nlocal_retention_ms 9223372036854775807\nretention_bytes -1\nretention_ms 0\n0 0 0 trim\n",
+        "\
+        local_retention_bytes -2\n\
+        local_retention_ms 9223372036854775807\n\
+        retention_bytes -1\n\
+        retention_ms 0\n\
+        0 0 0 trim\n",
         "retention in any order, and a trim",
     ),
     (
@@ -95,7 +137,11 @@ static GOOD: [(&str, &str); 30] = [
         "offsets of the first time and of the last",
     ),
     (
-        "brokers 8\n0 0 7 expire\n0 0 - pack 01\nlater 0 0 - pack 0\n",
+        "\
+        brokers 8\n\
+        0 0 7 expire\n\
+        0 0 - pack 01\n\
+        later 0 0 - pack 0\n",
         "segments that are packed, and no more",
     ),
 ];
@@ -246,7 +292,10 @@ static BAD: [(&str, &str); 145] = [
     ("partitions 1\n# c\npartitions 1\n", "line 3: Twice"),
     ("partitions 1\npartitions 64\n", "line 2: Twice"),
     (
-        "local_retention_ms -2\nretention_ms 1\nlocal_retention_ms -2\n",
+        "\
+        local_retention_ms -2\n\
+        retention_ms 1\n\
+        local_retention_ms -2\n",
         "line 3: Twice",
     ),
     // turns of an actor without commands
@@ -278,7 +327,12 @@ static BAD: [(&str, &str); 145] = [
     ("0 0 0 pack 1\n", "line 1: Word"),
     // actors of two partitions
     (
-        "partitions 2\n0 0 0 append 1000,-,:a\n1 1 0 append 1000,-,:b\n2 0 0 flush\n1 0 0 flush\n",
+        "\
+        partitions 2\n\
+        0 0 0 append 1000,-,:a\n\
+        1 1 0 append 1000,-,:b\n\
+        2 0 0 flush\n\
+        1 0 0 flush\n",
         "line 5: ActorPartition",
     ),
     (

@@ -85,11 +85,17 @@ static KEPT: [(&str, &str); 4] = [
         "Keep { ms: 5, bytes: 7 } Keep { ms: 5, bytes: 7 }",
     ),
     (
-        "retention_bytes 7\nlocal_retention_ms -1\nlocal_retention_bytes 0\n",
+        "\
+        retention_bytes 7\n\
+        local_retention_ms -1\n\
+        local_retention_bytes 0\n",
         "Keep { ms: 604800000, bytes: 7 } Keep { ms: -1, bytes: 0 }",
     ),
     (
-        "retention_ms -1\nlocal_retention_ms 9\nlocal_retention_bytes -2\n",
+        "\
+        retention_ms -1\n\
+        local_retention_ms 9\n\
+        local_retention_bytes -2\n",
         "Keep { ms: -1, bytes: -1 } Keep { ms: 9, bytes: -1 }",
     ),
 ];

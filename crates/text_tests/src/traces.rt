@@ -150,27 +150,39 @@ static LINES: [(&str, &str); 77] = [
     ),
     (
         "7 3 0 = Damaged 0/00000000-0000-0001-0000-000000000000.log 5",
-        "Answers(Damaged(Key(ObjectKey { partition: PartitionId(0), id: SegmentId(00000000-0000-0001-0000-000000000000), part: Log }), 5))",
+        "\
+        Answers(Damaged(Key(ObjectKey { partition: PartitionId(0), id: \
+        SegmentId(00000000-0000-0001-0000-000000000000), part: Log }), 5))",
     ),
     (
         "7 3 0 = Damaged 0/00000000-0000-0001-0000-000000000000.index 0",
-        "Answers(Damaged(Key(ObjectKey { partition: PartitionId(0), id: SegmentId(00000000-0000-0001-0000-000000000000), part: Index }), 0))",
+        "\
+        Answers(Damaged(Key(ObjectKey { partition: PartitionId(0), id: \
+        SegmentId(00000000-0000-0001-0000-000000000000), part: Index }), 0))",
     ),
     (
         "7 3 0 = Damaged 0/00000000-0000-0001-0000-000000000000.timeindex 0",
-        "Answers(Damaged(Key(ObjectKey { partition: PartitionId(0), id: SegmentId(00000000-0000-0001-0000-000000000000), part: TimeIndex }), 0))",
+        "\
+        Answers(Damaged(Key(ObjectKey { partition: PartitionId(0), id: \
+        SegmentId(00000000-0000-0001-0000-000000000000), part: TimeIndex }), 0))",
     ),
     (
         "7 3 0 = Damaged 0/00000000-0000-0001-0000-000000000000.epochs 0",
-        "Answers(Damaged(Key(ObjectKey { partition: PartitionId(0), id: SegmentId(00000000-0000-0001-0000-000000000000), part: Epochs }), 0))",
+        "\
+        Answers(Damaged(Key(ObjectKey { partition: PartitionId(0), id: \
+        SegmentId(00000000-0000-0001-0000-000000000000), part: Epochs }), 0))",
     ),
     (
         "7 3 0 = Damaged 0/00000000-0000-0001-0000-000000000000.pack 17",
-        "Answers(Damaged(Key(ObjectKey { partition: PartitionId(0), id: SegmentId(00000000-0000-0001-0000-000000000000), part: Pack }), 17))",
+        "\
+        Answers(Damaged(Key(ObjectKey { partition: PartitionId(0), id: \
+        SegmentId(00000000-0000-0001-0000-000000000000), part: Pack }), 17))",
     ),
     (
         "7 3 0 = Run remote 00000000-0000-0001-0000-000000000000 69 Piece 0fa0",
-        "Answers(Run { tier: Remote(SegmentId(00000000-0000-0001-0000-000000000000)), size: 69, stop: Piece, bytes: b\"\\x0f\\xa0\" })",
+        "\
+        Answers(Run { tier: Remote(SegmentId(00000000-0000-0001-0000-000000000000)), size: 69, stop: Piece, bytes: \
+        b\"\\x0f\\xa0\" })",
     ),
     (
         "7 3 0 = Run local 0 138 Limit 0061",
@@ -222,15 +234,31 @@ fn are_of(parts: &[PartJournal], wanted: &[(u16, usize)]) -> bool {
 static TEXTS: [(&str, &[(u16, usize)]); 4] = [
     ("", &[]),
     (
-        "0 0 0 = Ok 0 0 0\n0 0 1 = Ok 1 1 0\n0 0 2 = Ok 3\n0 0 3 = Ok 3\n0 0 4 = Run local 0 138 Limit 0000000000000000000000390000000002ebf1884b00000000000000000000000003e800000000000003e8ffffffffffffffffffffffffffff000000010e000000010261000000000000000001000000390000000002df1620d200000000000000000000000003e800000000000003e8ffffffffffffffffffffffffffff000000010e00000001026200\n",
+        "\
+        0 0 0 = Ok 0 0 0\n\
+        0 0 1 = Ok 1 1 0\n\
+        0 0 2 = Ok 3\n\
+        0 0 3 = Ok 3\n\
+        0 0 4 = Run local 0 138 Limit \
+        0000000000000000000000390000000002ebf1884b00000000000000000000000003e800000000000003e8fffffffffffffffffffffff\
+        fffff000000010e000000010261000000000000000001000000390000000002df1620d200000000000000000000000003e80000000000\
+        0003e8ffffffffffffffffffffffffffff000000010e00000001026200\n",
         &[(0, 5)],
     ),
     (
-        "65535 2 3 begin\n65535 2 4 begin cut 0\n65535 2 4 = Rebuilt 2\n",
+        "\
+        65535 2 3 begin\n\
+        65535 2 4 begin cut 0\n\
+        65535 2 4 = Rebuilt 2\n",
         &[(65535, 3)],
     ),
     (
-        "0 0 0 = Ok\n0 1 0 = Ok\n3 0 0 begin\n3 0 0 = Kept\n9 0 0 = Ok\n",
+        "\
+        0 0 0 = Ok\n\
+        0 1 0 = Ok\n\
+        3 0 0 begin\n\
+        3 0 0 = Kept\n\
+        9 0 0 = Ok\n",
         &[(0, 2), (3, 2), (9, 1)],
     ),
 ];

@@ -234,6 +234,9 @@ fault 0 disk 0 list 1 before
 0 0 5 = DiskFault
 0 0 6 = Up 1
 `# docs/SCRIPT.md, script 31
+0 0 - clock 86400000
+`0 0 0 = Ok
+`# docs/SCRIPT.md, script 32
 brokers 2
 segment_bytes 200
 fault 0 meta read 3 before
@@ -287,7 +290,7 @@ turn 2 1
 0 0 13 = Ok
 0 0 14 = Down
 0 2 0 = LostLead
-`# docs/SCRIPT.md, script 32
+`# docs/SCRIPT.md, script 33
 segment_bytes 200
 0 0 0 append 1000,-,:a
 0 0 0 append 1000,-,:b
@@ -315,7 +318,7 @@ turn 1 8
 0 0 8 = Ok
 0 0 9 begin
 0 0 9 = Level
-`# docs/SCRIPT.md, script 33
+`# docs/SCRIPT.md, script 34
 segment_bytes 200
 0 0 0 append 1000,-,:a
 0 0 0 append 1000,-,:b
@@ -341,7 +344,7 @@ segment_bytes 200
 0 0 9 = Ok
 0 0 10 begin
 0 0 10 = Copied 00000000-0000-0001-0000-000000000001 2 3
-`# docs/SCRIPT.md, script 34
+`# docs/SCRIPT.md, script 35
 segment_bytes 200
 local_retention_bytes 0
 fault 0 meta read 4 before
@@ -405,7 +408,7 @@ turn 1 1
 0 0 19 = Dropped 2 3
 0 0 20 begin
 0 0 20 = Run remote 00000000-0000-0001-0000-000000000001 138 Piece 0000000000000002000000390000000002ccb4b8a500000000000000000000000003e800000000000003e8ffffffffffffffffffffffffffff000000010e000000010263000000000000000003000000390000000002b6d971e000000000000000000000000003e800000000000003e8ffffffffffffffffffffffffffff000000010e00000001026400
-`# docs/SCRIPT.md, script 35
+`# docs/SCRIPT.md, script 36
 segment_bytes 200
 retention_ms -1
 0 0 0 append 1000,-,:a
@@ -428,7 +431,7 @@ retention_ms -1
 0 0 7 = Ok 2
 0 0 8 begin
 0 0 8 = Dropped 0 1
-`# docs/SCRIPT.md, script 36
+`# docs/SCRIPT.md, script 37
 segment_bytes 200
 retention_ms 1000
 fault 0 store delete 3 before
@@ -485,7 +488,7 @@ fault 0 store delete 3 before
 0 0 18 = Deleted 00000000-0000-0001-0000-000000000001
 0 0 19 begin
 0 0 19 = Kept
-`# docs/SCRIPT.md, script 37
+`# docs/SCRIPT.md, script 38
 segment_bytes 200
 retention_bytes 138
 retention_ms -1
@@ -518,7 +521,7 @@ retention_ms -1
 0 0 10 = Kept
 0 0 11 begin
 0 0 11 = Dropped 0 1
-`# docs/SCRIPT.md, script 38
+`# docs/SCRIPT.md, script 39
 brokers 2
 segment_bytes 200
 retention_bytes 100
@@ -567,7 +570,7 @@ turn 2 1
 0 2 0 begin
 0 1 6 = Ok
 0 2 0 = LostLead
-`# docs/SCRIPT.md, script 39
+`# docs/SCRIPT.md, script 40
 segment_bytes 200
 0 0 0 append 1000,-,:a
 0 0 0 append 1000,-,:b
@@ -592,9 +595,6 @@ turn 1 6
 0 0 6 = Deleted 00000000-0000-0001-0000-000000000000
 0 1 0 = Overtaken DeleteFinished
 0 0 7 = OutOfRange 2 3
-`# docs/SCRIPT.md, script 40
-0 0 - clock 86400000
-`0 0 0 = Ok
 `# examples/before-ack.script
 # Only what is acknowledged can be fetched, and only what is flushed can be acknowledged.
 0 0 0 append 1000,-,:a
