@@ -31,5 +31,6 @@ check docs/layers.py check
 check docs/decisions.py check
 check docs/snippets.py check ${program[@]+"${program[@]}"}
 check examples/view.py check ${program[@]+"${program[@]}"}
+check examples/pictures.py check
 check docs/prose.py check
 exit $bad
