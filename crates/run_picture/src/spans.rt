@@ -51,11 +51,7 @@ fn push_epoch(
 }
 
 /// Returns the leader epochs of a local log, in their order.
-pub fn spans(
-    alloc: Global,
-    epochs: &[EpochStart],
-    log: &LogState,
-) -> Result<Vec<Span>, AllocError>
+pub fn spans(alloc: Global, epochs: &[EpochStart], log: &LogState) -> Result<Vec<Span>, AllocError>
     ensures { IfOk result (λ spans. All (IsSpanOf log.now) spans.items) }
 {
     let mut spans = Vec::new(alloc);
