@@ -122,7 +122,7 @@ static ROWS: [(&str, usize, &[Step]); 4] = [
 ];
 
 #[test]
-fn the_index_used_least_recently_goes(rt: HostRuntime) {
+fn the_index_used_least_recently_is_dropped(rt: HostRuntime) {
     for (name, size, calls) in &ROWS {
         assert_eq!(rt; row(rt.alloc(), *size, calls), calls.len(), "{name}");
     }

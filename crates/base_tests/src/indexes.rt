@@ -66,7 +66,7 @@ fn timed(alloc: Global, timestamp: i64) -> (Option<(i64, u64)>, Option<(i64, u64
 }
 
 #[test]
-fn indexes_are_written_as_the_rows_say(rt: HostRuntime) {
+fn indexes_are_written_as_in_the_cases(rt: HostRuntime) {
     assert!(rt; is_written(rt.alloc()), "the offset index");
     assert!(rt; is_time_written(rt.alloc()), "the time index");
     assert_eq!(rt;
@@ -95,7 +95,7 @@ fn first_misfound(alloc: Global) -> Option<usize> {
 }
 
 #[test]
-fn indexes_answer_as_the_rows_say(rt: HostRuntime) {
+fn indexes_return_as_in_the_cases(rt: HostRuntime) {
     assert_eq!(rt; first_misfound(rt.alloc()), None);
 }
 
@@ -117,7 +117,7 @@ fn first_mistimed(alloc: Global) -> Option<i64> {
 }
 
 #[test]
-fn time_indexes_answer_as_the_rows_say(rt: HostRuntime) {
+fn time_indexes_return_as_in_the_cases(rt: HostRuntime) {
     assert_eq!(rt; first_mistimed(rt.alloc()), None);
 }
 
@@ -168,12 +168,12 @@ fn first_untold(alloc: Global) -> Option<usize> {
 }
 
 #[test]
-fn bytes_tell_their_first_bad_entry(rt: HostRuntime) {
+fn the_first_invalid_entry_is_reported(rt: HostRuntime) {
     assert_eq!(rt; first_untold(rt.alloc()), None);
 }
 
 #[test]
-fn a_negative_timestamp_is_told(rt: HostRuntime) {
+fn a_negative_timestamp_is_reported(rt: HostRuntime) {
     let told = time_refusal(rt.alloc(), NEGATIVE.as_slice());
     assert!(rt; told == Some(IndexRefusal::NotRising { at: 0 }));
 }

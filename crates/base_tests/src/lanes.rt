@@ -12,7 +12,7 @@ static UP_TO: [(&[u32], u32, usize); 3] = [
 ];
 
 #[test]
-fn counts_up_to_a_top_are_as_the_rows_say(rt: HostRuntime) {
+fn counts_up_to_a_top_are_right(rt: HostRuntime) {
     for (row, top, count) in &UP_TO {
         assert_eq!(rt; count_le_u32(row, *top), *count, "up to {top}");
     }
@@ -25,7 +25,7 @@ static BELOW: [(&[i64], i64, usize); 2] = [
 ];
 
 #[test]
-fn counts_below_a_top_are_as_the_rows_say(rt: HostRuntime) {
+fn counts_below_a_top_are_right(rt: HostRuntime) {
     for (row, top, count) in &BELOW {
         assert_eq!(rt; count_lt_i64(row, *top), *count, "below {top}");
     }

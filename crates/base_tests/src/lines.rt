@@ -136,7 +136,7 @@ static ANSWERS: [(&str, Call); 10] = [
 ];
 
 #[test]
-fn calls_answer_as_the_rows_say(rt: HostRuntime) {
+fn calls_return_as_in_the_cases(rt: HostRuntime) {
     for (name, call) in &ANSWERS {
         assert!(rt; is_answered(rt.alloc(), *call), "{name}");
     }
@@ -172,7 +172,7 @@ fn refusal(alloc: Global, text: &str) -> Option<TextRefusal> {
 }
 
 #[test]
-fn a_text_tells_its_first_bad_line(rt: HostRuntime) {
+fn the_first_invalid_line_is_reported(rt: HostRuntime) {
     for (text, line) in &BAD {
         let wanted = TextRefusal::BadText { line: *line };
         assert_eq!(rt; refusal(rt.alloc(), text), Some(wanted), "at line {line}");

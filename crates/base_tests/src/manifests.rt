@@ -84,7 +84,7 @@ fn field_of(starts: &[u32], len: u32) -> u32 {
 static STARTS: [u32; 13] = [0, 4, 8, 16, 20, 28, 32, 40, 44, 48, 52, 60, 64];
 
 #[test]
-fn a_cut_manifest_tells_the_cut_field(rt: HostRuntime) {
+fn a_cut_manifest_is_reported_at_the_cut_field(rt: HostRuntime) {
     for len in 0..TWO.len() {
         let refusal = decode(rt.alloc(), &TWO[..len]).err();
         let at = field_of(STARTS.as_slice(), len as u32);
@@ -122,7 +122,7 @@ static TOLD: [(usize, usize, Option<u32>); 14] = [
 ];
 
 #[test]
-fn each_byte_of_ff_is_told_at_its_field(rt: HostRuntime) -> Result<(), Fail> {
+fn each_byte_of_ff_is_reported_at_its_field(rt: HostRuntime) -> Result<(), Fail> {
     let alloc = rt.alloc();
     for (from, to, place) in &TOLD {
         for at in *from..*to {
@@ -157,7 +157,7 @@ static BAD: [(usize, &[u8], Option<u32>); 18] = [
 ];
 
 #[test]
-fn each_broken_rule_is_told_at_its_field(rt: HostRuntime) -> Result<(), Fail> {
+fn each_broken_rule_is_reported_at_its_field(rt: HostRuntime) -> Result<(), Fail> {
     let alloc = rt.alloc();
     for (at, field, place) in &BAD {
         let refusal = with(alloc, TWO.as_slice(), *at, field)?;
@@ -168,7 +168,7 @@ fn each_broken_rule_is_told_at_its_field(rt: HostRuntime) -> Result<(), Fail> {
 }
 
 #[test]
-fn a_byte_more_is_told(rt: HostRuntime) {
+fn a_trailing_byte_is_reported(rt: HostRuntime) {
     let told = with(rt.alloc(), FRESH.as_slice(), 48, [0].as_slice());
     assert_eq!(rt; told, Ok(Some(ManifestRefusal::Bad { at: 48 })));
 }

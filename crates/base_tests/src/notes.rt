@@ -311,7 +311,7 @@ static BAD: [(Row, usize, &[u8], Option<NoteRefusal>); 33] = [
 ];
 
 #[test]
-fn each_broken_rule_is_told_at_its_place(rt: HostRuntime) {
+fn each_broken_rule_is_reported_at_its_place(rt: HostRuntime) {
     for (row, at, field, refusal) in &BAD {
         let answer = told(rt.alloc(), *row, *at, field);
         assert_eq!(rt; answer, Ok(*refusal), "changed at {at}");
@@ -329,7 +329,7 @@ static FRONTS: [(&[u8], NoteRefusal); 6] = [
 ];
 
 #[test]
-fn a_front_is_told_by_its_bytes(rt: HostRuntime) {
+fn a_front_is_known_by_its_bytes(rt: HostRuntime) {
     for (bytes, refusal) in &FRONTS {
         let told = decode(rt.alloc(), bytes).err();
         assert_eq!(rt; told, Some(*refusal), "of {} bytes", bytes.len());

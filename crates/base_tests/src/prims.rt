@@ -26,7 +26,7 @@ static SUMS: [(&[u8], u32); 4] = [
 ];
 
 #[test]
-fn checksum_rows(rt: HostRuntime) {
+fn checksums_are_right(rt: HostRuntime) {
     for (bytes, sum) in &SUMS {
         assert_eq!(rt;
             sums(bytes),
@@ -99,7 +99,7 @@ fn first_misspelled(alloc: Global) -> Option<i32> {
 }
 
 #[test]
-fn spelling_rows(rt: HostRuntime) {
+fn spellings_are_right(rt: HostRuntime) {
     assert_eq!(rt; first_misspelled(rt.alloc()), None);
 }
 

@@ -208,7 +208,7 @@ static ROWS: [(&str, u16, &[Step]); 4] = [
 ];
 
 #[test]
-fn calls_are_answered_as_the_rows_say(rt: HostRuntime) {
+fn calls_return_as_in_the_cases(rt: HostRuntime) {
     for (name, brokers, calls) in &ROWS {
         assert_eq!(rt; row(rt.alloc(), *brokers, calls), calls.len(), "{name}");
     }

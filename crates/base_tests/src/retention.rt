@@ -35,7 +35,7 @@ fn first_wrong_size() -> Option<i64> {
 }
 
 #[test]
-fn segments_expire_by_size_as_the_rows_say(rt: HostRuntime) {
+fn segments_expire_by_size(rt: HostRuntime) {
     assert_eq!(rt; first_wrong_size(), None);
 }
 
@@ -69,6 +69,6 @@ fn first_wrong_time() -> Option<usize> {
 }
 
 #[test]
-fn segments_expire_by_time_and_start_as_the_rows_say(rt: HostRuntime) {
+fn segments_expire_by_time_and_start(rt: HostRuntime) {
     assert_eq!(rt; first_wrong_time(), None);
 }

@@ -91,7 +91,7 @@ static STEPS: [Step; 10] = [
 ];
 
 #[test]
-fn a_row_holds_what_it_is_given(rt: HostRuntime) {
+fn a_row_has_what_was_put_into_it(rt: HostRuntime) {
     assert_eq!(rt; run_new(rt.alloc(), &STEPS), (STEPS.len(), 2));
 }
 
@@ -296,7 +296,7 @@ static WRITES: [(&str, usize, &[u32], &[Piece]); 2] = [
 ];
 
 #[test]
-fn pieces_are_written_as_the_rows_say(rt: HostRuntime) {
+fn pieces_are_written_as_in_the_cases(rt: HostRuntime) {
     for (name, room, plan, pieces) in &WRITES {
         let well = given(rt.alloc(), *room, plan, pieces);
         assert_eq!(rt; well, pieces.len(), "{name}");
@@ -356,7 +356,7 @@ fn troubled(outside: bool) -> Result<(), Trouble> {
 }
 
 #[test]
-fn a_fault_and_want_of_memory_are_told_apart(rt: HostRuntime) {
+fn a_fault_is_not_out_of_memory(rt: HostRuntime) {
     assert_eq!(rt; troubled(true), Err(Trouble::Failed));
     assert_eq!(rt; troubled(false), Err(Trouble::NoMemory));
 }

@@ -9,7 +9,7 @@ use meta_log_file::DiskLog;
 use object_store::MemoryStore;
 
 #[test]
-fn devices_in_memory_stand_power_cuts() {
+fn devices_in_memory_survive_power_cuts() {
     a_power_cut_keeps_central::<MemoryDisk, MemoryStore, DiskLog<MemoryDisk>>();
     a_sweep_keeps_central::<MemoryDisk, MemoryStore, DiskLog<MemoryDisk>>();
     a_power_cut_leaves_cold::<MemoryDisk, MemoryStore, DiskLog<MemoryDisk>>();

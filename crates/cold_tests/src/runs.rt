@@ -56,7 +56,7 @@ fn kept_registry(kept: &mut Kept) -> Option<bytes::Bytes> {
 }
 
 #[test]
-fn a_run_goes_on_where_another_ended(rt: HostRuntime) {
+fn a_run_continues_where_another_ended(rt: HostRuntime) {
     let alloc: Global = rt.alloc();
     let kept = Kept::new(alloc);
     let (mut kept, ran) = run(alloc, committed(), kept, None).expect(&rt, "a script");

@@ -52,6 +52,6 @@ fn is_answered(alloc: Global, name: &[u8]) -> bool {
 }
 
 #[test]
-fn a_name_is_answered_as_it_was_found(rt: HostRuntime) {
+fn a_name_is_returned_as_it_was_found(rt: HostRuntime) {
     assert!(rt; is_answered(rt.alloc(), b"p0"));
 }

@@ -88,7 +88,7 @@ fn opened(damaged: Option<u64>) -> Result<(), NotesRefusal> {
 }
 
 #[test]
-fn each_spoilt_byte_is_told_where_it_stands(rt: HostRuntime) {
+fn each_spoilt_byte_is_reported_at_its_place(rt: HostRuntime) {
     for (name, file, from, to, damaged) in &SPOILT {
         for at in *from..*to {
             let came = open_spoilt(rt.alloc(), *file, at);

@@ -330,7 +330,7 @@ fn damage_of(alloc: Global, bytes: usize, gate: &[u8]) -> Option<u64> {
 }
 
 #[test]
-fn damage_is_found_where_it_stands(rt: HostRuntime) {
+fn damage_is_found_at_its_place(rt: HostRuntime) {
     for (name, bytes, gate, at) in &GATES {
         assert_eq!(rt; damage_of(rt.alloc(), *bytes, gate), *at, "{name}");
     }

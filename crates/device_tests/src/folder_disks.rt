@@ -160,7 +160,7 @@ static KEPT: [&str; 2] = [
 ];
 
 #[test]
-fn files_stand_when_a_folder_is_opened_again(rt: HostRuntime) {
+fn files_are_there_when_a_folder_is_opened_again(rt: HostRuntime) {
     clear(rt, "yard_again");
     let made = live_in(rt, "yard_again/p0/b1/", &MADE);
     let added = add_strays(rt).is_ok();

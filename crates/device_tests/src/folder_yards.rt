@@ -210,7 +210,7 @@ static SIZES: [(&str, u64); 5] = [
 ];
 
 #[test]
-fn devices_stand_under_the_yards_folder(rt: HostRuntime) {
+fn devices_are_below_the_yards_folder(rt: HostRuntime) {
     let _ = fs::remove_dir_all(&rt, "yard_whole");
     assert_eq!(rt; yard_in(rt, "yard_whole", Ask::Calls), Ok((true, 8, 0)));
     for (path, size) in &SIZES {

@@ -203,7 +203,7 @@ static USED: [Step<'static>; 6] = [
 static PLANNED: [Step<'static>; 3] = [Step::Empty(0, 0), Step::Fails, Step::Log(0, 0)];
 
 #[test]
-fn devices_come_back_and_go_out_again(rt: HostRuntime) {
+fn devices_are_returned_and_handed_out_again(rt: HostRuntime) {
     assert_eq!(rt; came_of(rt.alloc(), &[], &[], &BACK), Ok((13, 0, 8)));
 }
 

@@ -465,7 +465,7 @@ fn is_at(spot: Option<Spot>, place: Option<(u64, u64)>) -> bool {
 }
 
 #[test]
-fn a_layout_tells_where_the_parts_of_a_packed_segment_stand(rt: HostRuntime) {
+fn a_layout_has_the_places_of_a_packed_segments_parts(rt: HostRuntime) {
     for (message, custom, part, place) in &PLACES {
         let Ok(spot) = packed_spot(rt.alloc(), *custom, *part) else {
             panic!(rt; "no memory");

@@ -84,7 +84,7 @@ fn openings(alloc: Global) -> (Opened, Opened, Opened, Opened) {
 }
 
 #[test]
-fn openings_tell_their_causes(rt: HostRuntime) {
+fn openings_report_their_causes(rt: HostRuntime) {
     let wanted = (
         Ok(2),
         damaged(LOG, 0),
@@ -147,7 +147,7 @@ fn first_unplaced(alloc: Global) -> Option<usize> {
 }
 
 #[test]
-fn each_spoilt_byte_of_a_segment_is_told_where_its_batch_begins(rt: HostRuntime) {
+fn each_spoilt_byte_of_a_segment_is_reported_where_its_batch_begins(rt: HostRuntime) {
     assert_eq!(rt; first_unplaced(rt.alloc()), None);
 }
 
@@ -179,12 +179,12 @@ fn first_cut_segment(alloc: Global) -> Option<usize> {
 }
 
 #[test]
-fn each_cut_manifest_is_told(rt: HostRuntime) {
+fn each_cut_manifest_is_reported(rt: HostRuntime) {
     assert_eq!(rt; first_cut_manifest(rt.alloc()), None);
 }
 
 #[test]
-fn each_cut_segment_is_told(rt: HostRuntime) {
+fn each_cut_segment_is_reported(rt: HostRuntime) {
     assert_eq!(rt; first_cut_segment(rt.alloc()), None);
 }
 
@@ -206,7 +206,7 @@ fn leaves_of_stray(alloc: Global, names: &[FileName]) -> bool {
 }
 
 #[test]
-fn a_stray_segment_goes_at_the_opening(rt: HostRuntime) {
+fn a_stray_segment_is_removed_at_the_opening(rt: HostRuntime) {
     let names = [FileName::Manifest, LOG];
     assert!(rt; leaves_of_stray(rt.alloc(), names.as_slice()));
 }
@@ -268,7 +268,7 @@ fn first_untold_epoch(alloc: Global) -> Option<usize> {
 }
 
 #[test]
-fn each_changed_epoch_byte_is_told(rt: HostRuntime) {
+fn each_changed_epoch_byte_is_reported(rt: HostRuntime) {
     assert_eq!(rt; first_untold_epoch(rt.alloc()), None);
 }
 

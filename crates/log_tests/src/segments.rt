@@ -433,7 +433,7 @@ fn of_alike(alloc: Global) -> bool {
 }
 
 #[test]
-fn a_closed_segment_tells_its_batches(rt: HostRuntime) {
+fn a_closed_segment_finds_its_batches(rt: HostRuntime) {
     let wanted = Some(((5, 8, 50, 272), true, true));
     assert!(rt; of_epochs(rt.alloc()) == wanted);
 }
@@ -497,6 +497,6 @@ fn first_untold(alloc: Global) -> Option<usize> {
 }
 
 #[test]
-fn the_first_bad_place_is_told(rt: HostRuntime) {
+fn the_first_invalid_place_is_reported(rt: HostRuntime) {
     assert_eq!(rt; first_untold(rt.alloc()), None);
 }

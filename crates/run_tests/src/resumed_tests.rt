@@ -150,7 +150,7 @@ fn is_refused(alloc: Global, ran: &Option<Ran>, number: u8, told: &str) -> bool 
 }
 
 /// An environment in which the first run has ended.
-fn snapshot(rt: HostRuntime) -> Option<MemoryYard> {
+fn first_run(rt: HostRuntime) -> Option<MemoryYard> {
     let mut yard = new_yard(rt.alloc());
     let ran = run(rt, &mut yard, COMMITTED);
     if is_ran(&ran, 0, COMMITTED_TRACE) {
@@ -191,7 +191,7 @@ fn last_read(yard: &MemoryYard) -> &[u8] {
 
 #[test]
 fn a_run_begins_where_the_last_one_ended(rt: HostRuntime) {
-    let mut yard = snapshot(rt).expect(&rt, "a first run");
+    let mut yard = first_run(rt).expect(&rt, "a first run");
     let ran = run(rt, &mut yard, AGAIN);
     assert!(rt; is_ran(&ran, 0, AGAIN_TRACE), "the second run");
     assert!(rt; is_file(last_read(&yard)), "the registry that it read");
@@ -211,7 +211,7 @@ fn a_run_begins_where_the_last_one_ended(rt: HostRuntime) {
 
 #[test]
 fn another_count_of_brokers_is_refused(rt: HostRuntime) {
-    let mut yard = snapshot(rt).expect(&rt, "a first run");
+    let mut yard = first_run(rt).expect(&rt, "a first run");
     let told = "tiered: partition 0 has 1 brokers, not 2\n";
     for script in ["brokers 2\n", "brokers 2\npartitions 2\n0 0 1 up\n"] {
         let ran = run(rt, &mut yard, script);
@@ -256,7 +256,7 @@ fn registries_are_read_before_anything_runs(rt: HostRuntime) {
 /// Whether a run over an environment whose registry has this file is refused at this place, or isn't refused for it,
 /// and leaves the file.
 fn is_told_at(rt: HostRuntime, file: &[u8], at: Option<u32>) -> bool {
-    let Some(mut yard) = snapshot(rt) else {
+    let Some(mut yard) = first_run(rt) else {
         return false;
     };
     if !put_registry(&mut yard, PartitionId(0), Some(file)) {
@@ -275,7 +275,7 @@ fn is_told_at(rt: HostRuntime, file: &[u8], at: Option<u32>) -> bool {
 }
 
 #[test]
-fn each_spoilt_byte_of_a_registry_is_told(rt: HostRuntime) {
+fn each_spoilt_byte_of_a_registry_is_reported(rt: HostRuntime) {
     for (i, (_, _, at)) in FILE.iter().enumerate() {
         let file = turned_at(rt.alloc(), i).expect(&rt, "a file");
         assert!(rt; is_told_at(rt, file.as_slice(), *at), "byte {i}");
@@ -283,7 +283,7 @@ fn each_spoilt_byte_of_a_registry_is_told(rt: HostRuntime) {
 }
 
 #[test]
-fn a_registry_cut_at_each_length_is_told(rt: HostRuntime) {
+fn a_registry_cut_at_each_length_is_reported(rt: HostRuntime) {
     let mut front = Vec::new(rt.alloc());
     for (byte, field, _) in FILE.iter() {
         assert!(rt;
@@ -300,7 +300,7 @@ fn a_registry_cut_at_each_length_is_told(rt: HostRuntime) {
 /// had.
 #[test]
 fn a_tier_without_a_registry_is_refused(rt: HostRuntime) {
-    let mut yard = snapshot(rt).expect(&rt, "a first run");
+    let mut yard = first_run(rt).expect(&rt, "a first run");
     assert!(rt;
         is_ran(&run(rt, &mut yard, AGAIN), 0, AGAIN_TRACE),
         "a copy"
@@ -321,7 +321,7 @@ fn a_tier_without_a_registry_is_refused(rt: HostRuntime) {
 /// Brokers' files alone are of a run that was cut off before its first registry was written: it answered nothing.
 #[test]
 fn files_without_a_registry_are_begun_anew(rt: HostRuntime) {
-    let mut yard = snapshot(rt).expect(&rt, "a first run");
+    let mut yard = first_run(rt).expect(&rt, "a first run");
     assert!(rt;
         put_registry(&mut yard, PartitionId(0), None),
         "the registry is lost"
@@ -334,8 +334,8 @@ fn files_without_a_registry_are_begun_anew(rt: HostRuntime) {
 
 /// A registry whose store was lost: the run continues, and reports that what was copied is damaged.
 #[test]
-fn a_registry_without_its_store_is_told_by_answers(rt: HostRuntime) {
-    let mut yard = snapshot(rt).expect(&rt, "a first run");
+fn a_lost_store_is_reported_by_answers(rt: HostRuntime) {
+    let mut yard = first_run(rt).expect(&rt, "a first run");
     assert!(rt;
         is_ran(&run(rt, &mut yard, AGAIN), 0, AGAIN_TRACE),
         "a copy"

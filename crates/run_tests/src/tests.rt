@@ -279,7 +279,7 @@ fn first_wrong_status(rt: HostRuntime) -> Option<usize> {
 }
 
 #[test]
-fn statuses_tell_their_causes(rt: HostRuntime) {
+fn statuses_report_their_causes(rt: HostRuntime) {
     assert_eq!(rt; first_wrong_status(rt), None);
 }
 
@@ -490,7 +490,7 @@ fn first_wrong_form(alloc: Global) -> Option<usize> {
 }
 
 #[test]
-fn form_rows(rt: HostRuntime) {
+fn words_have_their_forms(rt: HostRuntime) {
     assert_eq!(rt; first_wrong_form(rt.alloc()), None);
 }
 

@@ -112,7 +112,7 @@ fn each_partition_is_run_by_its_schedule(rt: HostRuntime) {
 /// Both registries are provided first. Then, for each partition, two disks are, a store, a metadata log and the
 /// registry.
 #[test]
-fn what_was_handed_out_is_back_after_a_fault(rt: HostRuntime) {
+fn devices_are_returned_after_a_fault(rt: HostRuntime) {
     for before in 0..12u32 {
         let ran = run(rt.alloc(), TWO, &[before + 1], TRACE);
         assert_eq!(rt;

@@ -498,7 +498,7 @@ fn passes(alloc: Global) -> Result<(usize, bool), AllocError> {
 }
 
 #[test]
-fn what_is_given_is_kept(rt: HostRuntime) {
+fn bytes_that_are_read_are_kept(rt: HostRuntime) {
     let came = keeps(rt.alloc(), b"0 0 0 ".as_slice());
     assert_eq!(rt; came, Ok((3, 9, true)));
 }

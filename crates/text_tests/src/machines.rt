@@ -275,7 +275,7 @@ fn verdict_of(
 }
 
 #[test]
-fn a_complete_run_is_told(rt: HostRuntime) {
+fn a_complete_run_is_reported(rt: HostRuntime) {
     for case in &JOURNALS {
         let both = case.is_run & case.is_complete;
         let wanted = (case.is_run, case.is_complete, both);
@@ -289,7 +289,7 @@ fn steps_are_taken_in_order(rt: HostRuntime) {
 }
 
 #[test]
-fn a_fresh_state_is_told(rt: HostRuntime) {
+fn a_fresh_state_is_reported(rt: HostRuntime) {
     let told = told_fresh(rt.alloc());
     assert_eq!(rt; told, Some((Some((0, 0)), (0, 0, 0, 2))));
 }

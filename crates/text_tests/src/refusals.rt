@@ -358,14 +358,14 @@ static BYTES: [(&[u8], &str); 2] = [
 ];
 
 #[test]
-fn scripts_with_a_reading_are_read(rt: HostRuntime) {
+fn valid_scripts_are_read(rt: HostRuntime) {
     for (text, what) in &GOOD {
         assert!(rt; is_told(rt.alloc(), text.as_bytes(), ""), "{what}");
     }
 }
 
 #[test]
-fn the_first_bad_line_is_told(rt: HostRuntime) {
+fn the_first_invalid_line_is_reported(rt: HostRuntime) {
     for (text, told) in &BAD {
         assert!(rt;
             is_told(rt.alloc(), text.as_bytes(), told),
@@ -375,7 +375,7 @@ fn the_first_bad_line_is_told(rt: HostRuntime) {
 }
 
 #[test]
-fn bytes_that_are_no_text_are_told(rt: HostRuntime) {
+fn bytes_that_are_not_text_are_reported(rt: HostRuntime) {
     for (bytes, told) in &BYTES {
         assert!(rt; is_told(rt.alloc(), bytes, told), "{told}");
     }

@@ -103,7 +103,7 @@ fn first_answers(alloc: Global, flushed: u64) -> Result<Option<(usize, u128, u12
 }
 
 #[test]
-fn a_journal_is_told(rt: HostRuntime) {
+fn a_journal_is_summed_up(rt: HostRuntime) {
     assert_eq!(rt; first_answers(rt.alloc(), 0), Ok(Some((2, 0, 0))));
     assert_eq!(rt; first_answers(rt.alloc(), 1), Ok(None), "no run");
 }

@@ -202,7 +202,7 @@ fn goes(alloc: Global, line: &str, wanted: &str) -> Result<bool, AllocError> {
 }
 
 #[test]
-fn each_line_goes_both_ways(rt: HostRuntime) {
+fn each_line_is_written_and_read_back(rt: HostRuntime) {
     for (line, wanted) in &LINES {
         assert_eq!(rt; goes(rt.alloc(), line, wanted), Ok(true), "{line}");
     }
@@ -264,7 +264,7 @@ static TEXTS: [(&str, &[(u16, usize)]); 4] = [
 ];
 
 #[test]
-fn whole_journals_go_both_ways(rt: HostRuntime) {
+fn whole_journals_are_written_and_read_back(rt: HostRuntime) {
     for (text, parts) in &TEXTS {
         assert_eq!(rt; has_parts(rt.alloc(), text, parts), Ok(true), "{text}");
     }
@@ -343,7 +343,7 @@ fn is_bad(alloc: Global, text: &str, line: u32) -> bool {
 }
 
 #[test]
-fn what_has_no_reading_is_refused(rt: HostRuntime) {
+fn invalid_texts_are_refused(rt: HostRuntime) {
     for (text, line) in &BAD {
         assert!(rt; is_bad(rt.alloc(), text, *line), "{text}");
     }

@@ -489,7 +489,7 @@ fn a_batch_without_its_epoch_is_the_place(rt: HostRuntime) {
 }
 
 #[test]
-fn faults_are_told(rt: HostRuntime) {
+fn faults_are_reported(rt: HostRuntime) {
     let alloc = rt.alloc();
     assert_eq!(rt; failing(alloc, None, None), Came::Sound(1, 4));
     assert_eq!(rt;

@@ -499,7 +499,7 @@ static STORIES: [(&str, bool, &[Step]); 7] = [
 ];
 
 #[test]
-fn copies_go_as_they_are_told(rt: HostRuntime) {
+fn copies_run_as_in_the_cases(rt: HostRuntime) {
     for (story, packed, steps) in &STORIES {
         assert_eq!(rt;
             told(rt.alloc(), *packed, None, None, false, steps),
@@ -592,7 +592,7 @@ static CHOSEN: [(Option<(u64, u64)>, u64, Option<u64>); 8] = [
 ];
 
 #[test]
-fn the_first_segment_past_the_copied_mark_is_copied(rt: HostRuntime) {
+fn the_first_segment_past_the_copied_end_is_copied(rt: HostRuntime) {
     for (i, (past, known, base)) in CHOSEN.iter().enumerate() {
         assert_eq!(rt; chosen(rt.alloc(), *past, *known), *base, "row {i}");
     }

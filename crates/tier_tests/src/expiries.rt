@@ -247,7 +247,7 @@ fn expired(
 }
 
 #[test]
-fn an_expiry_takes_all_objects_away_between_two_notes(rt: HostRuntime) {
+fn an_expiry_deletes_all_objects_between_two_notes(rt: HostRuntime) {
     let four = expired(rt.alloc(), false, None, None, false);
     assert!(rt; four == Ok((Came::Deleted, 6, true, true)));
     let one = expired(rt.alloc(), true, None, None, false);
@@ -432,7 +432,7 @@ static RESTS: [(u64, u64, u64, u64, &str); 3] = [
 ];
 
 #[test]
-fn what_is_not_copied_counts_behind_the_pieces(rt: HostRuntime) {
+fn what_is_not_copied_counts_after_the_pieces(rt: HostRuntime) {
     for (known, size, end, bytes, why) in &RESTS {
         assert_eq!(rt;
             rest(rt.alloc(), *known, *size, *end),

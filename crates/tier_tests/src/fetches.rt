@@ -358,7 +358,7 @@ static STORIES: [(
 ];
 
 #[test]
-fn fetches_go_as_they_are_told(rt: HostRuntime) {
+fn fetches_run_as_in_the_cases(rt: HostRuntime) {
     for (story, get, read, steps) in &STORIES {
         assert_eq!(rt;
             told(rt.alloc(), *get, *read, steps),
@@ -468,7 +468,7 @@ static DAMAGED: [(Log, Option<&[u8]>, Part, u64); 5] = [
 ];
 
 #[test]
-fn objects_without_a_reading_are_damaged(rt: HostRuntime) {
+fn invalid_objects_are_damaged(rt: HostRuntime) {
     for (i, (log, index, part, at)) in DAMAGED.iter().enumerate() {
         let came = damage(rt.alloc(), *log, *index);
         assert!(rt; came == Ok(Came::Damaged(*part, *at)), "row {i}");

@@ -213,7 +213,7 @@ static ROWS: [(u64, &str, Option<&str>, &str, Came); 10] = [
 ];
 
 #[test]
-fn a_line_is_read_up_to_the_wanted_offset(rt: HostRuntime) {
+fn epochs_are_read_up_to_the_offset(rt: HostRuntime) {
     for (offset, leaders, epochs, text, came) in &ROWS {
         let told = row(rt.alloc(), *offset, leaders, *epochs, text);
         assert_eq!(rt; told, Ok(*came), "offset {offset}");

@@ -112,7 +112,7 @@ static ROUNDS: [Step; 9] = [
 ];
 
 #[test]
-fn rounds_tell_a_line_for_each_partition(rt: HostRuntime) {
+fn rounds_print_a_line_for_each_partition(rt: HostRuntime) {
     assert_eq!(rt; went(rt.alloc(), &[], &ROUNDS), Some(ROUNDS.len()));
 }
 
