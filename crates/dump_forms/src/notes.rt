@@ -1,11 +1,27 @@
 //! The metadata log of a partition: its events, and the gate up to which they count.
 
+ghost use Rattle.std.specs.Prelude.{◌≡◌, ◌≢◌, None, length, IfSome};
+ghost use Rattle.std.specs.Int.{w64, to_be_bytes};
+
 use crate::files::{bytes_of, exists};
 use crate::output::{complain, finish, print_line};
 use dump_lines::{Field, LineText, Name, NextNote, Style, Value, next_note, put_note};
 use remote_view::View;
 use segment_meta::Note;
 use std::io::{self, Write};
+
+/// The number of eight bytes, big endian.
+fn number(bytes: &[u8]) -> Option<u64>
+    ensures is { IfSome result (λ n. to_be_bytes w64 n ≡ bytes.now) }
+    ensures none { result ≡ None → length bytes.now ≢ 8 }
+{
+    if bytes.len() != 8 {
+        return None;
+    }
+    Some(u64::from_be_bytes([
+        bytes[0], bytes[1], bytes[2], bytes[3], bytes[4], bytes[5], bytes[6], bytes[7],
+    ]))
+}
 
 /// The length up to which a metadata log counts, if its folder has a valid gate.
 pub fn gate_of(rt: &HostRuntime, folder: &str) -> io::Result<Option<u64>> {
@@ -16,13 +32,11 @@ pub fn gate_of(rt: &HostRuntime, folder: &str) -> io::Result<Option<u64>> {
     let Some(bytes) = bytes_of(rt, name.as_str())? else {
         return Ok(None);
     };
-    match bytes.as_slice() {
-        [a, b, c, d, e, f, g, h] => Ok(Some(u64::from_be_bytes([*a, *b, *c, *d, *e, *f, *g, *h]))),
-        _ => {
-            complain(rt, name.as_str(), "a gate has 8 bytes")?;
-            Ok(None)
-        }
+    let gate = number(bytes.as_slice());
+    if gate.is_none() {
+        complain(rt, name.as_str(), "a gate has 8 bytes")?;
     }
+    Ok(gate)
 }
 
 /// An event's place: where it begins, and whether it counts.
