@@ -1,8 +1,8 @@
 //! The state of the plain log.
 
 use crate::command::Order;
-use bytes::Bytes;
 use registry::Registry;
+use shared_log::Batches;
 use tier_base::Row;
 
 /// What a broker does, and in which leader epoch.
@@ -27,7 +27,7 @@ pub struct Broker {
     pub stops: u64,
     pub role: Role,
     /// Its record batches from offset 0 on.
-    pub log: Row<Bytes>,
+    pub log: Batches,
     /// The offset up to which the log survives a stop.
     pub flushed_end: u64,
     /// It stopped in the middle of a write, so more than what is flushed may come back.
@@ -40,7 +40,7 @@ pub struct Broker {
 #[derive(Debug, Drop)]
 pub struct Path {
     pub epoch: u32,
-    pub log: Row<Bytes>,
+    pub log: Batches,
 }
 
 /// What was recorded where a command of several turns began.
@@ -72,7 +72,7 @@ pub struct Actor {
 pub struct State {
     pub registry: Registry,
     /// What is committed: the batches below the high watermark.
-    pub committed: Row<Bytes>,
+    pub committed: Batches,
     /// The paths of the epochs whose lead was taken.
     pub paths: Row<Path>,
     /// The epochs in which taking the lead broke off.

@@ -1,0 +1,4 @@
+pub mod FrontFalls
+pub mod Rests
+pub mod TreeFalls
+pub mod Trees
