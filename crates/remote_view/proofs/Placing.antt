@@ -3,17 +3,32 @@ use Rattle.std.proofs.Common.{zero, suc, ◌≡◌, ◌∙◌, refl, sym, ap, �
 use Rattle.std.specs.Prelude.{slice_get, option_map}
 use Rattle.std.specs.Str.{bytes_eq}
 use Rattle.std.specs.BTreeMap.{BTreeMap, get, is_at, Updates}
+use Rattle.std.specs.Cmp.{Equal-is, both_ways as same_tests}
+use Rattle.std.specs.Ordering.{nat_cmp}
 use Rattle.std.proofs.lemmas.Bool.{both_ways}
-use Rattle.std.proofs.lemmas.Map.Text.{is_eq-slice_cmp}
+use Rattle.std.proofs.lemmas.Map.Lookups.{exact_unsigned}
+use Rattle.tier_base.specs.Key.{IsId}
 use Rattle.tier_base.specs.declared.names.SegmentId.{SegmentId}
 use Rattle.segment_meta.specs.declared.note.Entry.{Entry}
 use Rattle.remote_view.specs.Fold.{entry_of, changed}
-use Rattle.remote_view.specs.Places.{id_cmp, place_of}
-use Rattle.remote_view.proofs.Ids.{same_id, bytes_self}
+use Rattle.remote_view.specs.Lookup.{id_number}
+use Rattle.remote_view.specs.Places.{place_of}
+use Rattle.remote_view.proofs.Ids.{same_id, same_number, bytes_self}
 
--- the order of ids distinguishes them by their bytes
-at_is : (a b : SegmentId) → is_at (id_cmp a) b ≡ bytes_eq a.0 b.0
-at_is a b = is_eq-slice_cmp a.0 b.0
+at_itself : (number : ℕ) → is_at (nat_cmp number) number ≡ true
+at_itself number = grind (arith)
+
+-- the numbers of ids distinguish them as their bytes do
+at_is : (a b : SegmentId) → IsId a → IsId b → is_at (nat_cmp (id_number a)) (id_number b) ≡ bytes_eq a.0 b.0
+at_is a b is is' =
+    same_tests (is_at (nat_cmp (id_number a)) (id_number b)) (bytes_eq a.0 b.0)
+    (λ at.
+    (let one : id_number a ≡ id_number b = exact_unsigned (id_number a) (id_number b) ((Equal-is (nat_cmp (id_number a) (id_number b))).0 at) in
+    let same : a ≡ b = same_number a b is is' one in
+    rw same (bytes_self b.0)))
+    (λ bytes.
+    (let same : a ≡ b = same_id a b bytes in
+    rw same (at_itself (id_number b))))
 
 -- where the place is, and what is there
 place-step : (t : Bool) (e : Entry) (es : List Entry) (p : Option ℕ) (rest : Option Entry) (k : ℕ) → cond t (Some zero) (option_map suc p) ≡ Some k
@@ -98,12 +113,12 @@ place_push q (x ∷ es) e none =
     push-step (bytes_eq x.id.0 q.0) (bytes_eq e.id.0 q.0) (place_of q es) (place_of q (es ++ e ∷ [])) (length es) (place_push q es e parts.1) (both-same x.id e.id q parts.0)
 
 -- the places after a map took in the new one
-pub places_push : (places new : BTreeMap SegmentId ℕ) (es : List Entry) (e : Entry) (n : ℕ) → n ≡ length es → entry_of e.id es ≡ None
-    → ((id : SegmentId) → get id_cmp places id ≡ place_of id es) → Updates id_cmp places new e.id (Some n)
-    → (id : SegmentId) → get id_cmp new id ≡ place_of id (es ++ e ∷ [])
-places_push places new es e n at none right u id =
-    u.0 id
-    ∙ (ap (λ (t : Bool). cond t (Some n) (get id_cmp places id)) (at_is e.id id)
-    ∙ (ap (λ (old : Option ℕ). cond (bytes_eq e.id.0 id.0) (Some n) old) (right id)
+pub places_push : (places new : BTreeMap ℕ ℕ) (es : List Entry) (e : Entry) (n : ℕ) → n ≡ length es → IsId e.id → entry_of e.id es ≡ None
+    → ((id : SegmentId) → IsId id → get nat_cmp places (id_number id) ≡ place_of id es) → Updates nat_cmp places new (id_number e.id) (Some n)
+    → (id : SegmentId) → IsId id → get nat_cmp new (id_number id) ≡ place_of id (es ++ e ∷ [])
+places_push places new es e n at kept none right u id is =
+    u.0 (id_number id)
+    ∙ (ap (λ (t : Bool). cond t (Some n) (get nat_cmp places (id_number id))) (at_is e.id id kept is)
+    ∙ (ap (λ (old : Option ℕ). cond (bytes_eq e.id.0 id.0) (Some n) old) (right id is)
     ∙ (ap (λ (k : ℕ). cond (bytes_eq e.id.0 id.0) (Some k) (place_of id es)) at
     ∙ sym (place_push id es e (no_entry e.id es none)))))

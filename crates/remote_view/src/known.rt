@@ -1,12 +1,13 @@
-//! Entries in the order of their first events, each found by its id.
+//! Entries in the order of their first events, each found by its id's number.
 //!
 //! Deletions mostly come in that order too. So a count of entries in front, whose objects are all gone, spares the
 //! search for what is due a walk over them.
 
 ghost use Rattle.std.specs.Prelude.{◌≡◌, [], ◌∷◌, ◌++◌, false, None, OnOk, OnErr, IfSome};
 ghost use Rattle.std.specs.Option.{option_map};
+ghost use Rattle.tier_base.specs.Key.{IsId};
 ghost use Rattle.remote_view.specs.Fold.{entry_of, changed, updated};
-ghost use Rattle.remote_view.specs.Lookup.{is_gone, due};
+ghost use Rattle.remote_view.specs.Lookup.{id_number, is_gone, due};
 
 use crate::changing::update;
 use crate::lookup::{due_in, gone_from};
@@ -20,7 +21,7 @@ use tier_base::{Blob, BrokerId, SegmentId, State};
 #[derive(Drop)]
 pub(crate) struct Known {
     entries: Vec<Entry>,
-    places: BTreeMap<SegmentId, usize>,
+    places: BTreeMap<u128, usize>,
     gone: usize,
 }
 
@@ -34,6 +35,15 @@ impl Model for Known {
     ghost view = { λ k. k.entries.items };
 
     ghost invariant = { λ k. IsOrdered k.places k.gone k.entries.items };
+}
+
+/// An id as a number, which no other id has.
+fn number_of(id: &SegmentId) -> u128
+    ensures value { result ≡ id_number id.now }
+    ensures kept { IsId id.now }
+{
+    id.as_bytes();
+    id.0.as_u128()
 }
 
 impl Known {
@@ -59,7 +69,7 @@ impl Known {
     pub fn get(&self, id: &SegmentId) -> Option<&Entry>
         ensures { option_map (λ e. e.now) result ≡ entry_of id.now self.now }
     {
-        match self.places.get(id) {
+        match self.places.get(&number_of(id)) {
             Some(place) => Some(&self.entries[*place]),
             None => None,
         }
@@ -79,7 +89,8 @@ impl Known {
         ensures err { OnErr result (self.new ≡ self.old) }
     {
         self.entries.reserve(1)?;
-        self.places.insert(entry.id, self.entries.len())?;
+        self.places
+            .insert(number_of(&entry.id), self.entries.len())?;
         self.entries.push_reserved(entry);
         Ok(())
     }
@@ -96,7 +107,7 @@ impl Known {
         requires { IfSome (entry_of id.now self.old) (λ e. is_gone e.state ≡ false) }
         ensures { self.new ≡ changed id.now (updated broker event_ts state custom) self.old }
     {
-        if let Some(place) = self.places.get(id).copied() {
+        if let Some(place) = self.places.get(&number_of(id)).copied() {
             update(&mut self.entries[place], broker, event_ts, state, custom);
             self.gone = gone_from(self.entries.as_slice(), self.gone);
         }
