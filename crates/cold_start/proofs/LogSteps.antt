@@ -9,14 +9,12 @@ use Rattle.object_store.specs.declared.store.Store.{Ghosts as StoreGhosts}
 use Rattle.meta_log.specs.declared.log.MetaLog.{Ghosts as MetaGhosts}
 use Rattle.broker_log.specs.Seen.{LeavesBetween, closed_in}
 use Rattle.copy_task.specs.Copying.{Copied}
-use Rattle.copy_task.specs.declared.turn.CopyTurn.{CopyTurn}
 use Rattle.copy_task.specs.declared.turn.CopyStep.{CopyStep}
 use Rattle.copy_task.specs.declared.turn.CopyStep.TheVariants as copying
 use Rattle.copy_task.specs.Turns.{CopyTurnRow, Tiers as CopyTiers}
 use Rattle.meta_log.specs.declared.event_origin.EventOrigin.{EventOrigin}
 use Rattle.tier_fetch.specs.declared.turn.FetchStep.{FetchStep as Search}
 use Rattle.tier_fetch.specs.declared.turn.FetchStep.TheVariants as fetching
-use Rattle.tier_fetch.specs.declared.turn.FetchTurn.{FetchTurn}
 use Rattle.tier_fetch.specs.declared.turn.FetchRequest.{FetchRequest}
 use Rattle.tier_fetch.specs.Turns.{RemoteFetchRow, Tiers as FetchTiers}
 use Rattle.time_find.specs.declared.turn.Asked.{Asked}
@@ -24,12 +22,11 @@ use Rattle.time_find.specs.declared.turn.SearchStep.{SearchStep as Dating}
 use Rattle.time_find.specs.declared.turn.SearchStep.TheVariants.{Seek, Times as ReadsTimes, Index, Log}
 use Rattle.time_find.specs.Passing.{passed_over}
 use Rattle.time_find.specs.Turns.{TimeRow, LocalSearchRow, ReadLocalRow as RunRow}
-use Rattle.time_find.specs.declared.turn.TimeTurn.{TimeTurn}
-use Rattle.time_find.specs.declared.turn.TimeTurn.TheVariants as dating
+use Rattle.plain_log.specs.declared.turn.Turn.{Turn}
+use Rattle.plain_log.specs.declared.turn.Turn.TheVariants as dating
 use Rattle.expiry_task.specs.declared.turn.ExpiredSegment.{ExpiredSegment}
 use Rattle.expiry_task.specs.declared.turn.DeletionStep.{DeletionStep as Deletion}
 use Rattle.expiry_task.specs.declared.turn.DeletionStep.TheVariants as deleting
-use Rattle.expiry_task.specs.declared.turn.ExpiryTurn.{ExpiryTurn}
 use Rattle.expiry_task.specs.Turns.{ExpiryRow, Tiers as ExpiryTiers}
 use Rattle.rebuild_task.specs.declared.turn.RebuildStep.{RebuildStep as Rebuild}
 use Rattle.rebuild_task.specs.declared.turn.RebuildStep.TheVariants.{Epochs, Restart}
@@ -77,7 +74,7 @@ module _ {S M : Type 0} where
   tier_same t t' e = inl (ap (λ (k : RemoteTier S M). k.store) e)
 
 module _ {S M : Type 0} (store : StoreGhosts S) (meta : MetaGhosts M) where
-  copy_one : (copy : Copied) (origin : EventOrigin) (next : CopyStep) (result : Result CopyTurn AllocError) (old new : CopyTiers S M) → CopyTurnRow store.content store.control meta.content meta.control copy origin next result old new
+  copy_one : (copy : Copied) (origin : EventOrigin) (next : CopyStep) (result : Result (Turn CopyStep) AllocError) (old new : CopyTiers S M) → CopyTurnRow store.content store.control meta.content meta.control copy origin next result old new
       → (new.store ≡ old.store) ⊎ (new.meta ≡ old.meta)
   copy_one copy origin copying.Start result old new w = inl (ap (λ (k : CopyTiers S M). k.store) w.0)
   copy_one copy origin (copying.Put n) result old new w = inr (ap (λ (k : CopyTiers S M). k.meta) w.0)
@@ -86,20 +83,20 @@ module _ {S M : Type 0} (store : StoreGhosts S) (meta : MetaGhosts M) where
   copy_one copy origin (copying.Delete n) (Granted turn) old new w = inr (ap (λ (k : CopyTiers S M). k.meta) w.0)
   copy_one copy origin (copying.Delete n) (Err e) old new w = absurd w
 
-  fetch_one : (wanted : FetchRequest) (line : List (ℕ × ℕ)) (next : Search) (result : Result FetchTurn AllocError) (old new : FetchTiers S M) → RemoteFetchRow store.content store.control meta.content meta.control wanted line next result old new
+  fetch_one : (wanted : FetchRequest) (line : List (ℕ × ℕ)) (next : Search) (result : Result (Turn Search) AllocError) (old new : FetchTiers S M) → RemoteFetchRow store.content store.control meta.content meta.control wanted line next result old new
       → (new.store ≡ old.store) ⊎ (new.meta ≡ old.meta)
   fetch_one wanted line fetching.Refresh result old new w = inl (ap (λ (k : FetchTiers S M). k.store) w.0)
   fetch_one wanted line (fetching.Index piece) result old new w = inr (ap (λ (k : FetchTiers S M). k.meta) w.0)
   fetch_one wanted line (fetching.Log piece span) result old new w = inr (ap (λ (k : FetchTiers S M). k.meta) w.0)
 
-  expiry_one : (segment : ExpiredSegment) (origin : EventOrigin) (next : Deletion) (result : Result ExpiryTurn AllocError) (old new : ExpiryTiers S M) → ExpiryRow store.content store.control meta.content meta.control segment origin next result old new
+  expiry_one : (segment : ExpiredSegment) (origin : EventOrigin) (next : Deletion) (result : Result (Turn Deletion) AllocError) (old new : ExpiryTiers S M) → ExpiryRow store.content store.control meta.content meta.control segment origin next result old new
       → (new.store ≡ old.store) ⊎ (new.meta ≡ old.meta)
   expiry_one segment origin deleting.Start result old new w = inl (ap (λ (k : ExpiryTiers S M). k.store) w.0)
   expiry_one segment origin (deleting.Delete n) (Granted turn) old new w = inr (ap (λ (k : ExpiryTiers S M). k.meta) w.0)
   expiry_one segment origin (deleting.Delete n) (Err e) old new w = absurd w
   expiry_one segment origin deleting.Finish result old new w = inl (ap (λ (k : ExpiryTiers S M). k.store) w.0)
 
-  time_one : (asked : Asked) (line : List (ℕ × ℕ)) (cursor : ℕ) (next : Dating) (result : Result TimeTurn AllocError) (old new : FetchTiers S M) → TimeRow store.content store.control meta.content meta.control asked line cursor next result old new
+  time_one : (asked : Asked) (line : List (ℕ × ℕ)) (cursor : ℕ) (next : Dating) (result : Result (Turn (ℕ × Dating)) AllocError) (old new : FetchTiers S M) → TimeRow store.content store.control meta.content meta.control asked line cursor next result old new
       → (new.store ≡ old.store) ⊎ (new.meta ≡ old.meta)
   time_one asked line cursor Seek result old new w = inl (ap (λ (k : FetchTiers S M). k.store) w.0)
   time_one asked line cursor (ReadsTimes piece) result old new w = inr (ap (λ (k : FetchTiers S M). k.meta) w.0)
@@ -133,7 +130,7 @@ module _ {S M : Type 0} (store : StoreGhosts S) (meta : MetaGhosts M) where
   refreshed_one t b broker_tier (Rebuilding Epochs) t' w = inl (ap (λ (k : RemoteTier S M). k.store) w.after)
   refreshed_one t b broker_tier other t' w = elim w [ ]
 
-  goes_one : {D : Type 0} (p : PartitionId) (t : RemoteTier S M) (b : ℕ) (x : Node D) (broker_tier : BrokerTierState) (offset limit : ℕ) (next : Search) (turn : FetchTurn) (t' : RemoteTier S M) → GoesOnFetch store meta p t b x broker_tier offset limit next turn t' → OneOf t t'
+  goes_one : {D : Type 0} (p : PartitionId) (t : RemoteTier S M) (b : ℕ) (x : Node D) (broker_tier : BrokerTierState) (offset limit : ℕ) (next : Search) (turn : Turn Search) (t' : RemoteTier S M) → GoesOnFetch store meta p t b x broker_tier offset limit next turn t' → OneOf t t'
   goes_one p t b x broker_tier offset limit next turn t' g = fetch_one (wanted_of p x offset limit) (line_of x) next (Granted turn) (fetch_tiers broker_tier.view broker_tier.cache t) (fetch_tiers g.view g.cache t') g.row
 
   seek_one : {D : Type 0} (p : PartitionId) (h : PartitionState D) (t : RemoteTier S M) (b : ℕ) (x : Node D) (broker_tier : BrokerTierState) (g : StartSnapshot) (offset limit : ℕ) (next : Search) (outcome : Outcome) (t' : RemoteTier S M)
@@ -278,13 +275,13 @@ module _ {D S M : Type 0} (disk : DiskGhosts D) (store : StoreGhosts S) (meta : 
   join_works h t b x broker_tier g outcome h' t' at (inr (high, inr (may, row), e)) = rest h t h' t' e (refreshed_one store meta t b broker_tier outcome t' row)
 
   -- a search in the local log, and among the remote segments
-  own_search : (h : PartitionState D) (b : ℕ) (x : Node D) (asked : Asked) (cursor : ℕ) (turn : TimeTurn) (h' : PartitionState D) → slice_get h.nodes b ≡ Some x → SearchesOwn disk h b x asked cursor turn h' → OneLog disk.content h h'
+  own_search : (h : PartitionState D) (b : ℕ) (x : Node D) (asked : Asked) (cursor : ℕ) (turn : Turn (ℕ × Dating)) (h' : PartitionState D) → slice_get h.nodes b ≡ Some x → SearchesOwn disk h b x asked cursor turn h' → OneLog disk.content h h'
   own_search h b x asked cursor turn h' at w = by w.row
     where
       y : Node D
       y = record x { log = w.kept }
 
-      reads : (to : TimeTurn) → RunRow disk.content disk.control x.log asked (passed_over asked.ts cursor (closed_in x.log)) to w.kept → OneLog disk.content h h'
+      reads : (to : Turn (ℕ × Dating)) → RunRow disk.content disk.control x.log asked (passed_over asked.ts cursor (closed_in x.log)) to w.kept → OneLog disk.content h h'
       reads (dating.Ends DiskFault) row = one_put disk.content h b x y h' at row.0.between w.after
       reads (dating.Ends (Damaged (File name) place)) row = one_put disk.content h b x y h' at row.misreads.stays.between w.after
       reads to row = one_put disk.content h b x y h' at row.reads.stays.between w.after
@@ -293,13 +290,13 @@ module _ {D S M : Type 0} (disk : DiskGhosts D) (store : StoreGhosts S) (meta : 
       by (inl (past, is, same)) = same_put disk.content h b x y h' at same w.after
       by (inr (below, row)) = reads turn row
 
-  search_works : (h : PartitionState D) (t : RemoteTier S M) (b : ℕ) (x : Node D) (broker_tier : BrokerTierState) (asked : Asked) (cursor : ℕ) (next : Dating) (alone : Bool) (turn : TimeTurn) (h' : PartitionState D) (t' : RemoteTier S M) → slice_get h.nodes b ≡ Some x
+  search_works : (h : PartitionState D) (t : RemoteTier S M) (b : ℕ) (x : Node D) (broker_tier : BrokerTierState) (asked : Asked) (cursor : ℕ) (next : Dating) (alone : Bool) (turn : Turn (ℕ × Dating)) (h' : PartitionState D) (t' : RemoteTier S M) → slice_get h.nodes b ≡ Some x
       → SearchRow disk store meta h t b x broker_tier asked cursor next alone turn h' t' → Works h t h' t'
   search_works h t b x broker_tier asked cursor next true turn h' t' at w = own_same h t h' t' w.1 (own_search h b x asked cursor turn h' at w.0)
   search_works h t b x broker_tier asked cursor next false turn h' t' at w =
       rest h t h' t' w.1 (time_one store meta asked (line_of x) cursor next (Granted turn) (fetch_tiers broker_tier.view broker_tier.cache t) (fetch_tiers w.0.view w.0.cache t') w.0.row)
 
-  searches_works : (p : PartitionId) (h : PartitionState D) (t : RemoteTier S M) (b : ℕ) (x : Node D) (broker_tier : BrokerTierState) (g : StartSnapshot) (ts : ℤ) (cursor : ℕ) (next : Dating) (turn : TimeTurn) (h' : PartitionState D) (t' : RemoteTier S M) → slice_get h.nodes b ≡ Some x
+  searches_works : (p : PartitionId) (h : PartitionState D) (t : RemoteTier S M) (b : ℕ) (x : Node D) (broker_tier : BrokerTierState) (g : StartSnapshot) (ts : ℤ) (cursor : ℕ) (next : Dating) (turn : Turn (ℕ × Dating)) (h' : PartitionState D) (t' : RemoteTier S M) → slice_get h.nodes b ≡ Some x
       → SearchesOn disk store meta p h t b x broker_tier g ts cursor next turn h' t' → Works h t h' t'
   searches_works p h t b x broker_tier g ts cursor next turn h' t' at w =
       let on = resumed_at h.registry.start cursor in
@@ -312,7 +309,7 @@ module _ {D S M : Type 0} (disk : DiskGhosts D) (store : StoreGhosts S) (meta : 
   date_works p h t b x broker_tier g ts cursor next (Answers NotLeader) h' t' at w = both h t h' t' w.3 w.4
   date_works p h t b x broker_tier g ts cursor next (Answers NoOffset) h' t' at w = both h t h' t' w.2 w.3
   date_works p h t b x broker_tier g ts cursor next (Answers answer) h' t' at w = searches_works p h t b x broker_tier g ts cursor next (dating.Ends answer) h' t' at w
-  date_works p h t b x broker_tier g ts cursor next (Dated to later) h' t' at w = searches_works p h t b x broker_tier g ts cursor next (dating.Goes to later) h' t' at w.0
+  date_works p h t b x broker_tier g ts cursor next (Dated to later) h' t' at w = searches_works p h t b x broker_tier g ts cursor next (dating.Goes (to, later)) h' t' at w.0
   date_works p h t b x broker_tier g ts cursor next other h' t' at w = elim w [ ]
 
   recorded_works : (p : PartitionId) (config : Config) (h : PartitionState D) (t : RemoteTier S M) (b : ℕ) (x : Node D) (broker_tier : BrokerTierState) (g : StartSnapshot) (command : Command) (outcome : Outcome) (h' : PartitionState D) (t' : RemoteTier S M) → slice_get h.nodes b ≡ Some x

@@ -12,8 +12,8 @@ use Rattle.tier_fetch.specs.declared.turn.FetchStep.{FetchStep as Search}
 use Rattle.time_find.specs.declared.turn.Asked.{Asked}
 use Rattle.time_find.specs.declared.turn.SearchStep.{SearchStep as Dating}
 use Rattle.time_find.specs.declared.turn.SearchStep.TheVariants.{Seek}
-use Rattle.time_find.specs.declared.turn.TimeTurn.{TimeTurn}
-use Rattle.time_find.specs.declared.turn.TimeTurn.TheVariants as dating
+use Rattle.plain_log.specs.declared.turn.Turn.{Turn}
+use Rattle.plain_log.specs.declared.turn.Turn.TheVariants as dating
 use Rattle.expiry_task.specs.declared.turn.ExpiredSegment.{ExpiredSegment}
 use Rattle.expiry_task.specs.declared.turn.DeletionStep.{DeletionStep as Deletion}
 use Rattle.rebuild_task.specs.declared.turn.RebuildStep.{RebuildStep as Rebuild}
@@ -105,12 +105,12 @@ module _ {D S M : Type 0} (disk : DiskGhosts D) (store : StoreGhosts S) (meta : 
   join_either h t b x broker_tier g outcome h' t' at (inl (low, row)) = own_on h t b x g Join outcome h' t' at row
   join_either h t b x broker_tier g outcome h' t' at (inr (high, row, e)) = same h t h' t' e
 
-  search_either : (h : PartitionState D) (t : RemoteTier S M) (b : ℕ) (x : Node D) (broker_tier : BrokerTierState) (asked : Asked) (cursor : ℕ) (next : Dating) (alone : Bool) (turn : TimeTurn) (h' : PartitionState D) (t' : RemoteTier S M)
+  search_either : (h : PartitionState D) (t : RemoteTier S M) (b : ℕ) (x : Node D) (broker_tier : BrokerTierState) (asked : Asked) (cursor : ℕ) (next : Dating) (alone : Bool) (turn : Turn (ℕ × Dating)) (h' : PartitionState D) (t' : RemoteTier S M)
       → SearchRow disk store meta h t b x broker_tier asked cursor next alone turn h' t' → ChangesEither h t h' t'
   search_either h t b x broker_tier asked cursor next true turn h' t' w = inl (ap (λ (k : PartitionState D). k.registry) w.0.after)
   search_either h t b x broker_tier asked cursor next false turn h' t' w = same h t h' t' w.1
 
-  searches_either : (p : PartitionId) (h : PartitionState D) (t : RemoteTier S M) (b : ℕ) (x : Node D) (broker_tier : BrokerTierState) (g : StartSnapshot) (ts : ℤ) (cursor : ℕ) (next : Dating) (turn : TimeTurn) (h' : PartitionState D) (t' : RemoteTier S M)
+  searches_either : (p : PartitionId) (h : PartitionState D) (t : RemoteTier S M) (b : ℕ) (x : Node D) (broker_tier : BrokerTierState) (g : StartSnapshot) (ts : ℤ) (cursor : ℕ) (next : Dating) (turn : Turn (ℕ × Dating)) (h' : PartitionState D) (t' : RemoteTier S M)
       → SearchesOn disk store meta p h t b x broker_tier g ts cursor next turn h' t' → ChangesEither h t h' t'
   searches_either p h t b x broker_tier g ts cursor next turn h' t' w =
       let on = resumed_at h.registry.start cursor in
@@ -123,7 +123,7 @@ module _ {D S M : Type 0} (disk : DiskGhosts D) (store : StoreGhosts S) (meta : 
   date_either p h t b x broker_tier g ts cursor next (Answers NotLeader) h' t' w = same h t h' t' w.3
   date_either p h t b x broker_tier g ts cursor next (Answers NoOffset) h' t' w = same h t h' t' w.2
   date_either p h t b x broker_tier g ts cursor next (Answers answer) h' t' w = searches_either p h t b x broker_tier g ts cursor next (dating.Ends answer) h' t' w
-  date_either p h t b x broker_tier g ts cursor next (Dated to later) h' t' w = searches_either p h t b x broker_tier g ts cursor next (dating.Goes to later) h' t' w.0
+  date_either p h t b x broker_tier g ts cursor next (Dated to later) h' t' w = searches_either p h t b x broker_tier g ts cursor next (dating.Goes (to, later)) h' t' w.0
   date_either p h t b x broker_tier g ts cursor next other h' t' w = elim w [ ]
 
   recorded_either : (p : PartitionId) (config : Config) (h : PartitionState D) (t : RemoteTier S M) (b : ℕ) (x : Node D) (broker_tier : BrokerTierState) (g : StartSnapshot) (command : Command) (outcome : Outcome) (h' : PartitionState D) (t' : RemoteTier S M) → slice_get h.nodes b ≡ Some x

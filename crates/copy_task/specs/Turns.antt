@@ -35,8 +35,8 @@ use Rattle.plain_log.specs.declared.answer.Answer.{Answer}
 use Rattle.plain_log.specs.declared.answer.Answer.TheVariants.{MetaFault, StoreFault, Damaged, CopiedSegment, Overtaken}
 use Rattle.plain_log.specs.declared.answer.Place.TheVariants.{Meta}
 use Rattle.copy_task.specs.Copying.{Copied, keys, start_note, finish_note}
-use Rattle.copy_task.specs.declared.turn.CopyTurn.{CopyTurn}
-use Rattle.copy_task.specs.declared.turn.CopyTurn.TheVariants.{Goes, Ends}
+use Rattle.plain_log.specs.declared.turn.Turn.{Turn}
+use Rattle.plain_log.specs.declared.turn.Turn.TheVariants.{Goes, Ends}
 use Rattle.meta_log.specs.declared.event_origin.EventOrigin.{EventOrigin}
 use Rattle.copy_task.specs.declared.turn.CopyStep.{CopyStep}
 use Rattle.copy_task.specs.declared.turn.CopyStep.TheVariants.{Start, Put, Finish, Check, Delete}
@@ -53,13 +53,13 @@ overtaken notes None = Damaged Meta notes
 overtaken notes (Some state) = Overtaken state
 
 -- the turn that takes the object of a number away, where it has a key, or the answer after the last
-abbrev pub delete_at : Copied → EntriesSeen → ℕ → Option ObjectKey → CopyTurn
+abbrev pub delete_at : Copied → EntriesSeen → ℕ → Option ObjectKey → Turn CopyStep
 delete_at copy view n None = Ends (overtaken view.notes (state_of copy.id view.entries))
 delete_at copy view n (Some key) = Goes (Delete n)
 
 -- what a refreshed view of so many events says of a copy, by the state of its entry: an entry that is missing, or that
 -- isn't finished yet, is damage of the metadata log
-abbrev pub checked : Copied → ℕ → Option State → CopyTurn
+abbrev pub checked : Copied → ℕ → Option State → Turn CopyStep
 checked copy notes (Some CopyFinished) = Ends (CopiedSegment copy.id copy.segment.base copy.segment.last)
 checked copy notes (Some DeleteStarted) = Goes (Delete 0)
 checked copy notes (Some DeleteFinished) = Goes (Delete 0)
@@ -68,14 +68,14 @@ checked copy notes None = Ends (Damaged Meta notes)
 
 module _ {M : Type 0} (notes : M → meta.Content) (calls : M → Control meta_call.call_code) where
   -- the copy starts
-  abbrev pub StartRow : Copied → EventOrigin → Result CopyTurn AllocError → M → M → Type 0
+  abbrev pub StartRow : Copied → EventOrigin → Result (Turn CopyStep) AllocError → M → M → Type 0
   StartRow copy origin (Ok (Ends MetaFault)) old new =
       AppendsToMetaLog notes calls (start_note copy origin) Fault old new
   StartRow copy origin (Ok turn) old new = (turn ≡ Goes (Put 0)) × AppendsToMetaLog notes calls (start_note copy origin) Went old new
   StartRow copy origin (Err e) old new = (new ≡ old) ⊎ AppendsToMetaLog notes calls (start_note copy origin) Dry old new
 
   -- it is whole
-  abbrev pub FinishRow : Copied → EventOrigin → Result CopyTurn AllocError → M → M → Type 0
+  abbrev pub FinishRow : Copied → EventOrigin → Result (Turn CopyStep) AllocError → M → M → Type 0
   FinishRow copy origin (Ok (Ends MetaFault)) old new =
       AppendsToMetaLog notes calls (finish_note copy origin) Fault old new
   FinishRow copy origin (Ok turn) old new = (turn ≡ Goes Check) × AppendsToMetaLog notes calls (finish_note copy origin) Went old new
@@ -83,7 +83,7 @@ module _ {M : Type 0} (notes : M → meta.Content) (calls : M → Control meta_c
       (new ≡ old) ⊎ AppendsToMetaLog notes calls (finish_note copy origin) Dry old new
 
   -- the state of its entry
-  abbrev pub CheckRow : Copied → Result CopyTurn AllocError → EntriesSeen → EntriesSeen → M → M → Type 0
+  abbrev pub CheckRow : Copied → Result (Turn CopyStep) AllocError → EntriesSeen → EntriesSeen → M → M → Type 0
   CheckRow copy (Ok (Ends MetaFault)) before after old new = Unread notes calls before after old new
   CheckRow copy (Ok turn) before after old new =
       (turn ≡ checked copy after.notes (state_of copy.id after.entries)) × Refreshed notes calls before after old new
@@ -97,7 +97,7 @@ module _ {S : Type 0} (objects : S → store.Content) (calls : S → Control sto
     pub puts : PutsObject objects calls key (part_in copy.parts part) fate old new
 
   -- the object of a number is put, where it has a key
-  abbrev pub PutObjectRow : Copied → ℕ → Option ObjectKey → Result CopyTurn AllocError → S → S → Type 0
+  abbrev pub PutObjectRow : Copied → ℕ → Option ObjectKey → Result (Turn CopyStep) AllocError → S → S → Type 0
   PutObjectRow copy n None result old new = (result ≡ Ok (Goes Finish)) × (new ≡ old)
   PutObjectRow copy n (Some key) (Ok (Ends StoreFault)) old new = PutsUnder copy key Fault old new
   PutObjectRow copy n (Some key) (Ok turn) old new =
@@ -105,7 +105,7 @@ module _ {S : Type 0} (objects : S → store.Content) (calls : S → Control sto
   PutObjectRow copy n (Some key) (Err e) old new = (new ≡ old) ⊎ PutsUnder copy key Dry old new
 
   -- the object of a number is taken away, where it has a key
-  abbrev pub DeleteRow : Copied → EntriesSeen → ℕ → Option ObjectKey → CopyTurn → S → S → Type 0
+  abbrev pub DeleteRow : Copied → EntriesSeen → ℕ → Option ObjectKey → Turn CopyStep → S → S → Type 0
   DeleteRow copy view n None turn old new = (turn ≡ delete_at copy view n None) × (new ≡ old)
   DeleteRow copy view n (Some key) (Ends StoreFault) old new = DeletesObject objects calls key Fault old new
   DeleteRow copy view n (Some key) turn old new =
@@ -121,7 +121,7 @@ pub record Tiers (S M : Type 0) : Type 0 where
 module _ {S M : Type 0} (objects : S → store.Content) (calls : S → Control store_call.call_code)
     (notes : M → meta.Content) (notings : M → Control meta_call.call_code) where
   -- a turn of a copy, by what was next: what it came to, or that it ran out of memory
-  abbrev pub CopyTurnRow : Copied → EventOrigin → CopyStep → Result CopyTurn AllocError → Tiers S M → Tiers S M → Type 0
+  abbrev pub CopyTurnRow : Copied → EventOrigin → CopyStep → Result (Turn CopyStep) AllocError → Tiers S M → Tiers S M → Type 0
   CopyTurnRow copy origin Start result old new =
       (new ≡ record old { meta = new.meta }) × StartRow notes notings copy origin result old.meta new.meta
   CopyTurnRow copy origin (Put n) result old new =

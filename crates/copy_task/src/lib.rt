@@ -13,5 +13,5 @@ mod turns;
 
 pub use choosing::candidate;
 pub use copying::Copying;
-pub use turn::{CopyStep, CopyTurn};
+pub use turn::CopyStep;
 pub use turns::copy_turn;

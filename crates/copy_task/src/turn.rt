@@ -16,12 +16,3 @@ pub enum CopyStep {
     /// Delete the object whose key has this number, since an expiry has overtaken the copy.
     Delete(u8),
 }
-
-/// The result of a turn of a copy.
-#[derive(Debug, Drop)]
-pub enum CopyTurn {
-    /// The copy continues with this turn.
-    Goes(CopyStep),
-    /// The copy has ended with this answer.
-    Ends(Answer),
-}

@@ -6,10 +6,10 @@ ghost use Rattle.copy_task.specs.Copying.{keys};
 ghost use Rattle.copy_task.specs.Turns.{Tiers, put_at, delete_at, overtaken, checked, StartRow, PutObjectRow, FinishRow, CheckRow, DeleteRow, CopyTurnRow};
 
 use crate::copying::Copying;
-use crate::turn::{CopyStep, CopyTurn};
+use crate::turn::CopyStep;
 use meta_log::{EventOrigin, MetaLog};
 use object_store::Store;
-use plain_log::{Answer, Place};
+use plain_log::{Answer, Place, Turn};
 use remote_view::View;
 use std::alloc::{AllocError, Global};
 use tier_base::{State, Trouble};
@@ -24,7 +24,7 @@ pub fn copy_turn<S: Store, M: MetaLog>(
     view: &mut View,
     store: &mut S,
     meta: &mut M,
-) -> Result<CopyTurn, AllocError>
+) -> Result<Turn<CopyStep>, AllocError>
     ensures row { CopyTurnRow S.content S.control M.content M.control copying.old origin next result
         (record { view = view.old; store = store.old; meta = meta.old })
         (record { view = view.new; store = store.new; meta = meta.new }) }
@@ -45,13 +45,13 @@ fn start<M: MetaLog>(
     copying: &Copying,
     origin: EventOrigin,
     meta: &mut M,
-) -> Result<CopyTurn, AllocError>
+) -> Result<Turn<CopyStep>, AllocError>
     ensures { StartRow M.content M.control copying.now origin result meta.old meta.new }
 {
     let note = copying.start_note(alloc, origin)?;
     match meta.append(&note) {
-        Ok(_) => Ok(CopyTurn::Goes(CopyStep::Put(0))),
-        Err(Trouble::Failed) => Ok(CopyTurn::Ends(Answer::MetaFault)),
+        Ok(_) => Ok(Turn::Goes(CopyStep::Put(0))),
+        Err(Trouble::Failed) => Ok(Turn::Ends(Answer::MetaFault)),
         Err(Trouble::NoMemory) => Err(AllocError),
     }
 }
@@ -62,18 +62,18 @@ fn put<S: Store>(
     copying: &mut Copying,
     n: u8,
     store: &mut S,
-) -> Result<CopyTurn, AllocError>
+) -> Result<Turn<CopyStep>, AllocError>
     ensures row { PutObjectRow S.content S.control copying.old n (slice_get (keys copying.old) n) result
         store.old store.new }
     ensures same { copying.new ≡ copying.old }
 {
     let Some(key) = copying.key(n) else {
-        return Ok(CopyTurn::Goes(CopyStep::Finish));
+        return Ok(Turn::Goes(CopyStep::Finish));
     };
     let bytes = copying.part(alloc, key.part)?;
     match store.put(&key, &bytes) {
-        Ok(()) => Ok(CopyTurn::Goes(put_at(copying, n + 1))),
-        Err(Trouble::Failed) => Ok(CopyTurn::Ends(Answer::StoreFault)),
+        Ok(()) => Ok(Turn::Goes(put_at(copying, n + 1))),
+        Err(Trouble::Failed) => Ok(Turn::Ends(Answer::StoreFault)),
         Err(Trouble::NoMemory) => Err(AllocError),
     }
 }
@@ -94,14 +94,14 @@ fn finish<M: MetaLog>(
     copying: &mut Copying,
     origin: EventOrigin,
     meta: &mut M,
-) -> Result<CopyTurn, AllocError>
+) -> Result<Turn<CopyStep>, AllocError>
     ensures row { FinishRow M.content M.control copying.old origin result meta.old meta.new }
     ensures same { copying.new ≡ copying.old }
 {
     let note = copying.finish_note(alloc, origin)?;
     match meta.append(&note) {
-        Ok(_) => Ok(CopyTurn::Goes(CopyStep::Check)),
-        Err(Trouble::Failed) => Ok(CopyTurn::Ends(Answer::MetaFault)),
+        Ok(_) => Ok(Turn::Goes(CopyStep::Check)),
+        Err(Trouble::Failed) => Ok(Turn::Ends(Answer::MetaFault)),
         Err(Trouble::NoMemory) => Err(AllocError),
     }
 }
@@ -111,55 +111,52 @@ fn check<M: MetaLog>(
     copying: &Copying,
     view: &mut View,
     meta: &mut M,
-) -> Result<CopyTurn, AllocError>
+) -> Result<Turn<CopyStep>, AllocError>
     ensures { CheckRow M.content M.control copying.now result view.old view.new meta.old meta.new }
 {
     match refresh(view, meta) {
         Ok(()) => Ok(found(copying, view)),
-        Err(Trouble::Failed) => Ok(CopyTurn::Ends(Answer::MetaFault)),
+        Err(Trouble::Failed) => Ok(Turn::Ends(Answer::MetaFault)),
         Err(Trouble::NoMemory) => Err(AllocError),
     }
 }
 
 /// What a refreshed view says of a copy.
-fn found(copying: &Copying, view: &View) -> CopyTurn
+fn found(copying: &Copying, view: &View) -> Turn<CopyStep>
     ensures { result ≡ checked copying.now view.now.notes (state_of copying.now.id view.now.entries) }
 {
     match view.state(copying.id()) {
-        Some(State::CopyFinished) => CopyTurn::Ends(Answer::CopiedSegment(
+        Some(State::CopyFinished) => Turn::Ends(Answer::CopiedSegment(
             copying.id(),
             copying.base(),
             copying.last(),
         )),
-        Some(State::DeleteStarted | State::DeleteFinished) => CopyTurn::Goes(CopyStep::Delete(0)),
-        Some(State::CopyStarted) | None => CopyTurn::Ends(Answer::Damaged(
-            Place::Meta,
-            view.seen(),
-        )),
+        Some(State::DeleteStarted | State::DeleteFinished) => Turn::Goes(CopyStep::Delete(0)),
+        Some(State::CopyStarted) | None => Turn::Ends(Answer::Damaged(Place::Meta, view.seen())),
     }
 }
 
 /// Takes an object away, where one has this number.
-fn delete<S: Store>(copying: &Copying, n: u8, view: &View, store: &mut S) -> CopyTurn
+fn delete<S: Store>(copying: &Copying, n: u8, view: &View, store: &mut S) -> Turn<CopyStep>
     ensures { DeleteRow S.content S.control copying.now view.now n (slice_get (keys copying.now) n)
         result store.old store.new }
 {
     let Some(key) = copying.key(n) else {
-        return CopyTurn::Ends(overtaken(copying, view));
+        return Turn::Ends(overtaken(copying, view));
     };
     match store.delete(&key) {
         Ok(()) => delete_at(copying, n + 1, view),
-        Err(_) => CopyTurn::Ends(Answer::StoreFault),
+        Err(_) => Turn::Ends(Answer::StoreFault),
     }
 }
 
 /// The turn that takes the object of this number away, or the answer after the last.
-fn delete_at(copying: &Copying, n: u8, view: &View) -> CopyTurn
+fn delete_at(copying: &Copying, n: u8, view: &View) -> Turn<CopyStep>
     ensures { result ≡ delete_at copying.now view.now n (slice_get (keys copying.now) n) }
 {
     match copying.key(n) {
-        Some(_) => CopyTurn::Goes(CopyStep::Delete(n)),
-        None => CopyTurn::Ends(overtaken(copying, view)),
+        Some(_) => Turn::Goes(CopyStep::Delete(n)),
+        None => Turn::Ends(overtaken(copying, view)),
     }
 }
 

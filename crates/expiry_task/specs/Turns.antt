@@ -30,8 +30,8 @@ use Rattle.meta_log.specs.Calls.{AppendsToMetaLog}
 use Rattle.meta_log.specs.Content as meta
 use Rattle.plain_log.specs.declared.answer.Answer.TheVariants.{MetaFault, StoreFault, Deleted}
 use Rattle.expiry_task.specs.declared.turn.ExpiredSegment.{ExpiredSegment}
-use Rattle.expiry_task.specs.declared.turn.ExpiryTurn.{ExpiryTurn}
-use Rattle.expiry_task.specs.declared.turn.ExpiryTurn.TheVariants.{Goes, Ends}
+use Rattle.plain_log.specs.declared.turn.Turn.{Turn}
+use Rattle.plain_log.specs.declared.turn.Turn.TheVariants.{Goes, Ends}
 use Rattle.expiry_task.specs.declared.turn.DeletionStep.{DeletionStep}
 use Rattle.expiry_task.specs.declared.turn.DeletionStep.TheVariants.{Start, Delete, Finish}
 
@@ -51,7 +51,7 @@ delete_at n (Some key) = Delete n
 
 module _ {M : Type 0} (notes : M → meta.Content) (calls : M → Control meta_call.call_code) where
   -- the deletion starts
-  abbrev pub StartRow : ExpiredSegment → EventOrigin → Result ExpiryTurn AllocError → M → M → Type 0
+  abbrev pub StartRow : ExpiredSegment → EventOrigin → Result (Turn DeletionStep) AllocError → M → M → Type 0
   StartRow expired_segment origin (Ok (Ends MetaFault)) old new = AppendsToMetaLog notes calls (note_of expired_segment origin DeleteStarted) Fault old new
   StartRow expired_segment origin (Ok turn) old new =
       (turn ≡ Goes (Delete 0)) × AppendsToMetaLog notes calls
@@ -60,7 +60,7 @@ module _ {M : Type 0} (notes : M → meta.Content) (calls : M → Control meta_c
       AppendsToMetaLog notes calls (note_of expired_segment origin DeleteStarted) Dry old new
 
   -- no object exists any more
-  abbrev pub FinishRow : ExpiredSegment → EventOrigin → Result ExpiryTurn AllocError → M → M → Type 0
+  abbrev pub FinishRow : ExpiredSegment → EventOrigin → Result (Turn DeletionStep) AllocError → M → M → Type 0
   FinishRow expired_segment origin (Ok (Ends MetaFault)) old new = AppendsToMetaLog notes calls (note_of expired_segment origin DeleteFinished) Fault old new
   FinishRow expired_segment origin (Ok turn) old new =
       (turn ≡ Ends (Deleted expired_segment.id))
@@ -70,7 +70,7 @@ module _ {M : Type 0} (notes : M → meta.Content) (calls : M → Control meta_c
 
 module _ {S : Type 0} (objects : S → store.Content) (calls : S → Control store_call.call_code) where
   -- the object of a number is taken away, where it has a key
-  abbrev pub DeleteRow : ExpiredSegment → ℕ → Option ObjectKey → ExpiryTurn → S → S → Type 0
+  abbrev pub DeleteRow : ExpiredSegment → ℕ → Option ObjectKey → Turn DeletionStep → S → S → Type 0
   DeleteRow expired_segment n None turn old new = (turn ≡ Goes Finish) × (new ≡ old)
   DeleteRow expired_segment n (Some key) (Ends StoreFault) old new = DeletesObject objects calls key Fault old new
   DeleteRow expired_segment n (Some key) turn old new =
@@ -85,7 +85,7 @@ pub record Tiers (S M : Type 0) : Type 0 where
 module _ {S M : Type 0} (objects : S → store.Content) (calls : S → Control store_call.call_code)
     (notes : M → meta.Content) (notings : M → Control meta_call.call_code) where
   -- a turn of an expiry, by what was next: what it came to, or that it ran out of memory
-  abbrev pub ExpiryRow : ExpiredSegment → EventOrigin → DeletionStep → Result ExpiryTurn AllocError → Tiers S M
+  abbrev pub ExpiryRow : ExpiredSegment → EventOrigin → DeletionStep → Result (Turn DeletionStep) AllocError → Tiers S M
       → Tiers S M → Type 0
   ExpiryRow expired_segment origin Start result old new =
       (new ≡ record old { meta = new.meta }) × StartRow notes notings expired_segment origin result old.meta new.meta

@@ -13,5 +13,5 @@ mod turns;
 
 pub use laws::{a_log_start_rises_up_to_the_known_mark, only_what_is_copied_goes};
 pub use rule::{Uncopied, end_behind, end_from, find_uncopied, raised_to, rest_behind};
-pub use turn::{DeletionStep, ExpiredSegment, ExpiryTurn};
+pub use turn::{DeletionStep, ExpiredSegment};
 pub use turns::expiry_turn;

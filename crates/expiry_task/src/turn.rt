@@ -22,12 +22,3 @@ pub enum DeletionStep {
     /// Append the event that the deletion is finished.
     Finish,
 }
-
-/// The result of a turn of an expiry.
-#[derive(Debug, Drop)]
-pub enum ExpiryTurn {
-    /// The expiry continues with this turn.
-    Goes(DeletionStep),
-    /// The expiry has ended with this answer.
-    Ends(Answer),
-}

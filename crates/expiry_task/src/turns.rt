@@ -3,10 +3,10 @@
 ghost use Rattle.std.specs.Prelude.{◌≡◌, slice_get};
 ghost use Rattle.expiry_task.specs.Turns.{Tiers, keys, note_of, delete_at, StartRow, FinishRow, DeleteRow, ExpiryRow};
 
-use crate::turn::{DeletionStep, ExpiredSegment, ExpiryTurn};
+use crate::turn::{DeletionStep, ExpiredSegment};
 use meta_log::{EventOrigin, MetaLog};
 use object_store::{ObjectKey, Store, keys_of};
-use plain_log::Answer;
+use plain_log::{Answer, Turn};
 use segment_meta::{Note, bare_custom};
 use std::alloc::{AllocError, Global};
 use tier_base::{State, Trouble};
@@ -19,7 +19,7 @@ pub fn expiry_turn<S: Store, M: MetaLog>(
     origin: EventOrigin,
     store: &mut S,
     meta: &mut M,
-) -> Result<ExpiryTurn, AllocError>
+) -> Result<Turn<DeletionStep>, AllocError>
     ensures { ExpiryRow S.content S.control M.content M.control expired_segment origin next result
         (record { store = store.old; meta = meta.old }) (record { store = store.new; meta = meta.new }) }
 {
@@ -36,27 +36,27 @@ fn start<M: MetaLog>(
     expired_segment: ExpiredSegment,
     origin: EventOrigin,
     meta: &mut M,
-) -> Result<ExpiryTurn, AllocError>
+) -> Result<Turn<DeletionStep>, AllocError>
     ensures { StartRow M.content M.control expired_segment origin result meta.old meta.new }
 {
     match meta.append(&note_of(alloc, expired_segment, origin, State::DeleteStarted)) {
-        Ok(_) => Ok(ExpiryTurn::Goes(DeletionStep::Delete(0))),
-        Err(Trouble::Failed) => Ok(ExpiryTurn::Ends(Answer::MetaFault)),
+        Ok(_) => Ok(Turn::Goes(DeletionStep::Delete(0))),
+        Err(Trouble::Failed) => Ok(Turn::Ends(Answer::MetaFault)),
         Err(Trouble::NoMemory) => Err(AllocError),
     }
 }
 
 /// Takes an object away, where one has this number.
-fn delete<S: Store>(expired_segment: ExpiredSegment, n: u8, store: &mut S) -> ExpiryTurn
+fn delete<S: Store>(expired_segment: ExpiredSegment, n: u8, store: &mut S) -> Turn<DeletionStep>
     ensures { DeleteRow S.content S.control expired_segment n (slice_get (keys expired_segment) n) result
         store.old store.new }
 {
     let Some(key) = key_at(&expired_segment, n) else {
-        return ExpiryTurn::Goes(DeletionStep::Finish);
+        return Turn::Goes(DeletionStep::Finish);
     };
     match store.delete(&key) {
-        Ok(()) => ExpiryTurn::Goes(delete_at(&expired_segment, n + 1)),
-        Err(_) => ExpiryTurn::Ends(Answer::StoreFault),
+        Ok(()) => Turn::Goes(delete_at(&expired_segment, n + 1)),
+        Err(_) => Turn::Ends(Answer::StoreFault),
     }
 }
 
@@ -92,13 +92,13 @@ fn finish<M: MetaLog>(
     expired_segment: ExpiredSegment,
     origin: EventOrigin,
     meta: &mut M,
-) -> Result<ExpiryTurn, AllocError>
+) -> Result<Turn<DeletionStep>, AllocError>
     ensures { FinishRow M.content M.control expired_segment origin result meta.old meta.new }
 {
     let id = expired_segment.id;
     match meta.append(&note_of(alloc, expired_segment, origin, State::DeleteFinished)) {
-        Ok(_) => Ok(ExpiryTurn::Ends(Answer::Deleted(id))),
-        Err(Trouble::Failed) => Ok(ExpiryTurn::Ends(Answer::MetaFault)),
+        Ok(_) => Ok(Turn::Ends(Answer::Deleted(id))),
+        Err(Trouble::Failed) => Ok(Turn::Ends(Answer::MetaFault)),
         Err(Trouble::NoMemory) => Err(AllocError),
     }
 }

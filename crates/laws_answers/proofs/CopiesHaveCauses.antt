@@ -14,8 +14,8 @@ use Rattle.segment_meta.specs.declared.note.Note.{Note}
 use Rattle.remote_view.specs.Fold.{EntriesSeen as View, state_of, entry_of, fold}
 use Rattle.copy_task.specs.Copying.{Copied, keys}
 use Rattle.copy_task.specs.Turns.{StartRow, FinishRow, CheckRow, PutObjectRow, DeleteRow, CopyTurnRow, checked, delete_at, overtaken}
-use Rattle.copy_task.specs.declared.turn.CopyTurn.{CopyTurn}
-use Rattle.copy_task.specs.declared.turn.CopyTurn.TheVariants.{Goes as GoesOn, Ends}
+use Rattle.plain_log.specs.declared.turn.Turn.{Turn}
+use Rattle.plain_log.specs.declared.turn.Turn.TheVariants.{Goes as GoesOn, Ends}
 use Rattle.copy_task.specs.declared.turn.CopyStep.{CopyStep}
 use Rattle.copy_task.specs.declared.turn.CopyStep.TheVariants.{Start, Put, Finish, Check, Delete}
 use Rattle.plain_log.specs.declared.answer.Answer.{Answer}
@@ -176,7 +176,7 @@ module _ {D S M : Type 0} (disk : DiskGhosts D) (store : StoreGhosts S) (meta : 
     later g copy next works (inl lost) = let is : LostLead ≡ answer = cc (lost.1) in subst (Later g copy) is lost.0
     later g copy next works (inr (keeps, (turn, is, goes))) = by turn is goes
       where
-        by : (turn : CopyTurn) → Answers answer ≡ copy_outcome turn → GoesOnCopy store meta w.held w.tier b z.broker_tier copy next turn w'.tier → Later g copy answer
+        by : (turn : Turn CopyStep) → Answers answer ≡ copy_outcome turn → GoesOnCopy store meta w.held w.tier b z.broker_tier copy next turn w'.tier → Later g copy answer
         by (GoesOn further) is goes = absurd (cc (is))
         by (Ends k) is goes = let same : k ≡ answer = cc (is) in subst (Later g copy) same (ended g copy next works k goes.view goes.row)
 

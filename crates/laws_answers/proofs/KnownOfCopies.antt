@@ -17,8 +17,8 @@ use Rattle.remote_view.specs.Fold.{EntriesSeen as View, entry_of, state_of, fold
 use Rattle.view_refresh.specs.Refreshing.{fed_all}
 use Rattle.copy_task.specs.Copying.{Copied, keys}
 use Rattle.copy_task.specs.Turns.{CopyTurnRow, PutObjectRow, put_at, checked}
-use Rattle.copy_task.specs.declared.turn.CopyTurn.{CopyTurn}
-use Rattle.copy_task.specs.declared.turn.CopyTurn.TheVariants.{Goes as GoesOn, Ends}
+use Rattle.plain_log.specs.declared.turn.Turn.{Turn}
+use Rattle.plain_log.specs.declared.turn.Turn.TheVariants.{Goes as GoesOn, Ends}
 use Rattle.copy_task.specs.declared.turn.CopyStep.{CopyStep}
 use Rattle.copy_task.specs.declared.turn.CopyStep.TheVariants.{Start, Put, Finish, Check, Delete}
 use Rattle.expiry_task.specs.declared.turn.ExpiredSegment.{ExpiredSegment}
@@ -250,7 +250,7 @@ module _ {D S M : Type 0} (disk : DiskGhosts D) (store : StoreGhosts S) (meta : 
         (λ m e. before_shown g copy m (works ∙ ap (λ (k : CopyStep). Copies g copy k) e) now there) in
         subst (λ (k : BrokerTierState). ShowsDeleted k.view.entries copy.id) (one_some (slice_get w'.tier.broker_tiers b) now new there at) shown
 
-    turn_shown : (g : StartSnapshot) (copy : Copied) (before : CopyStep) → t.actor_state.work ≡ Copies g copy before → (next : CopyStep) (n : ℕ) → next ≡ Delete n → (turn : CopyTurn) → Goes next ≡ copy_outcome turn
+    turn_shown : (g : StartSnapshot) (copy : Copied) (before : CopyStep) → t.actor_state.work ≡ Copies g copy before → (next : CopyStep) (n : ℕ) → next ≡ Delete n → (turn : Turn CopyStep) → Goes next ≡ copy_outcome turn
         → GoesOnCopy store meta w.held w.tier b broker_tier copy before turn w'.tier → (new : BrokerTierState) → slice_get w'.tier.broker_tiers b ≡ Some new → ShowsDeleted new.view.entries copy.id
     turn_shown g copy before works next n is (GoesOn further) one on new at = let same : further ≡ next = cc (one) in moved_shown g copy before works further n (same ∙ is) on new at
     turn_shown g copy before works next n is (Ends answer) one on new at = absurd (cc (one))

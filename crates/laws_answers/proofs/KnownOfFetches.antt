@@ -6,7 +6,7 @@ use Rattle.object_store.specs.declared.store.Store.{Ghosts as StoreGhosts}
 use Rattle.meta_log.specs.declared.log.MetaLog.{Ghosts as MetaGhosts}
 use Rattle.index_cache.specs.Cache.{found}
 use Rattle.segment_meta.specs.declared.note.Note.{Note}
-use Rattle.tier_fetch.specs.declared.turn.FetchTurn.TheVariants as fetch
+use Rattle.plain_log.specs.declared.turn.Turn.TheVariants as fetch
 use Rattle.tier_fetch.specs.declared.turn.FetchStep.{FetchStep}
 use Rattle.tier_fetch.specs.declared.turn.FetchStep.TheVariants.{Refresh, Index, Log}
 use Rattle.plain_log.specs.declared.command.ActorList.{ActorList}

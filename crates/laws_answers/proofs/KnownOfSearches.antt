@@ -9,7 +9,7 @@ use Rattle.segment_meta.specs.declared.note.Note.{Note}
 use Rattle.time_find.specs.declared.turn.Asked.{Asked}
 use Rattle.time_find.specs.declared.turn.SearchStep.{SearchStep}
 use Rattle.time_find.specs.declared.turn.SearchStep.TheVariants.{Seek, Times, Index, Log}
-use Rattle.time_find.specs.declared.turn.TimeTurn.TheVariants.{Goes}
+use Rattle.plain_log.specs.declared.turn.Turn.TheVariants.{Goes}
 use Rattle.time_find.specs.Passing.{passed_over}
 use Rattle.time_find.specs.Turns.{LocalSearchRow}
 use Rattle.plain_log.specs.declared.command.ActorList.{ActorList}
@@ -72,7 +72,7 @@ number_kept actor_state other g cursor next is = refl
 
 -- a turn in the local log continues without a piece
 own_seeks : {D : Type 0} (disk : DiskGhosts D) (old : LogState D) (asked : Asked) (cursor at : ℕ) (later : SearchStep) (new : LogState D)
-    → LocalSearchRow disk.content disk.control old asked cursor (Goes at later) new → later ≡ Seek
+    → LocalSearchRow disk.content disk.control old asked cursor (Goes (at, later)) new → later ≡ Seek
 own_seeks disk old asked cursor at later new (inl (past, is, same)) = cc (is)
 own_seeks disk old asked cursor at later new (inr (below, row)) = searched_on asked (passed_over asked.ts cursor (closed_in old))
     row.out.bytes at later row.searched
@@ -110,7 +110,7 @@ module _ {D S M : Type 0} (disk : DiskGhosts D) (store : StoreGhosts S) (meta : 
       asked = asked_for disk store meta opening w c t.place t.list t.actor_state t.order z ts asks g cursor next k
 
       finds : (to : ℕ) (later : SearchStep) → KeepsLead z.x g → at < z.x.known_high_watermark → Found g next → (own : Bool)
-          → SearchRow disk store meta w.held w.tier b z.x z.broker_tier asked at on own (Goes to later) w'.held w'.tier → Found g later
+          → SearchRow disk store meta w.held w.tier b z.x z.broker_tier asked at on own (Goes (to, later)) w'.held w'.tier → Found g later
       finds to later keeps below f true row = subst (Found g) (sym (own_seeks disk z.x.log asked at to later row.0.kept row.0.row)) tt
       finds to later keeps below f false row =
           let r = row.0 in

@@ -17,21 +17,17 @@ use Rattle.segment_meta.specs.declared.note.Note.{Note}
 use Rattle.remote_view.specs.Fold.{EntriesSeen as View}
 use Rattle.copy_task.specs.Copying.{Copied, start_note, finish_note}
 use Rattle.copy_task.specs.Turns.{Tiers, StartRow, FinishRow, CheckRow, CopyTurnRow}
-use Rattle.copy_task.specs.declared.turn.CopyTurn.{CopyTurn}
-use Rattle.copy_task.specs.declared.turn.CopyTurn.TheVariants.{Ends}
 use Rattle.copy_task.specs.declared.turn.CopyStep.{CopyStep}
 use Rattle.copy_task.specs.declared.turn.CopyStep.TheVariants.{Start, Put, Finish, Check, Delete}
 use Rattle.expiry_task.specs.Turns as expiring
 use Rattle.expiry_task.specs.declared.turn.ExpiredSegment.{ExpiredSegment}
-use Rattle.expiry_task.specs.declared.turn.ExpiryTurn.{ExpiryTurn}
-use Rattle.expiry_task.specs.declared.turn.ExpiryTurn.TheVariants as expiry
 use Rattle.expiry_task.specs.declared.turn.DeletionStep.{DeletionStep as Deletion}
 use Rattle.expiry_task.specs.declared.turn.DeletionStep.TheVariants as deletion
 use Rattle.rebuild_task.specs.declared.turn.RebuildStep.{RebuildStep as Rebuild}
 use Rattle.rebuild_task.specs.declared.turn.RebuildStep.TheVariants.{Epochs, Restart}
 use Rattle.tier_fetch.specs.Turns.{Tiers as FetchTiers, RefreshRow, RemoteFetchRow}
-use Rattle.tier_fetch.specs.declared.turn.FetchTurn.{FetchTurn}
-use Rattle.tier_fetch.specs.declared.turn.FetchTurn.TheVariants as fetch
+use Rattle.plain_log.specs.declared.turn.Turn.{Turn}
+use Rattle.plain_log.specs.declared.turn.Turn.TheVariants.{Ends}
 use Rattle.tier_fetch.specs.declared.turn.FetchStep.{FetchStep as Search}
 use Rattle.tier_fetch.specs.declared.turn.FetchStep.TheVariants.{Refresh, Index, Log}
 use Rattle.tier_fetch.specs.declared.turn.Span.{Span}
@@ -41,8 +37,6 @@ use Rattle.tier_fetch.specs.declared.turn.FetchStep.TheVariants as fetching
 use Rattle.time_find.specs.declared.turn.Asked.{Asked}
 use Rattle.time_find.specs.declared.turn.SearchStep.{SearchStep as Dating}
 use Rattle.time_find.specs.declared.turn.SearchStep.TheVariants as dating
-use Rattle.time_find.specs.declared.turn.TimeTurn.{TimeTurn}
-use Rattle.time_find.specs.declared.turn.TimeTurn.TheVariants as time
 use Rattle.time_find.specs.Turns.{Indexes, SearchTakes as SearchesLog, SeekRow, TimeRow, wanted_at}
 use Rattle.plain_log.specs.declared.answer.Answer.TheVariants.{Down, NotLeader, CopyOff, MetaFault, Stopped, OutOfRange, Empty, NoOffset}
 use Rattle.plain_log.specs.declared.command.Command.{Command}
@@ -86,38 +80,38 @@ module _ {M : Type 0} (meta : MetaGhosts M) where
   same_log : (old new : M) → new ≡ old → Begin old new
   same_log old new is = same_notes (meta.content old).notes (meta.content new).notes (ap (λ (m : M). (meta.content m).notes) is)
 
-  start_notes : (copy : Copied) (origin : EventOrigin) (turn : CopyTurn) (old new : M) → IsTrue (meta.content old).is_observable → StartRow meta.content meta.control copy origin (Ok turn) old new → Begin old new
+  start_notes : (copy : Copied) (origin : EventOrigin) (turn : Turn CopyStep) (old new : M) → IsTrue (meta.content old).is_observable → StartRow meta.content meta.control copy origin (Ok turn) old new → Begin old new
   start_notes copy origin (Ends MetaFault) old new is_observable row = appends (start_note copy origin) _ old new row is_observable
   start_notes copy origin turn old new is_observable row = appends (start_note copy origin) _ old new row.1 is_observable
 
-  finish_notes : (copy : Copied) (origin : EventOrigin) (turn : CopyTurn) (old new : M) → IsTrue (meta.content old).is_observable → FinishRow meta.content meta.control copy origin (Ok turn) old new → Begin old new
+  finish_notes : (copy : Copied) (origin : EventOrigin) (turn : Turn CopyStep) (old new : M) → IsTrue (meta.content old).is_observable → FinishRow meta.content meta.control copy origin (Ok turn) old new → Begin old new
   finish_notes copy origin (Ends MetaFault) old new is_observable row = appends (finish_note copy origin) _ old new row is_observable
   finish_notes copy origin turn old new is_observable row = appends (finish_note copy origin) _ old new row.1 is_observable
 
-  check_notes : (copy : Copied) (turn : CopyTurn) (before after : View) (old new : M) → CheckRow meta.content meta.control copy (Ok turn) before after old new → Begin old new
+  check_notes : (copy : Copied) (turn : Turn CopyStep) (before after : View) (old new : M) → CheckRow meta.content meta.control copy (Ok turn) before after old new → Begin old new
   check_notes copy (Ends MetaFault) before after old new row = same_notes _ _ row.content.notes
   check_notes copy turn before after old new row = same_notes _ _ row.1.content.notes
 
-  refresh_notes : (wanted : FetchRequest) (line : List (ℕ × ℕ)) (turn : FetchTurn) (before after : View) (old new : M) → RefreshRow meta.content meta.control wanted line (Ok turn) before after old new → Begin old new
-  refresh_notes wanted line (fetch.Ends MetaFault) before after old new row = same_notes _ _ row.content.notes
+  refresh_notes : (wanted : FetchRequest) (line : List (ℕ × ℕ)) (turn : Turn Search) (before after : View) (old new : M) → RefreshRow meta.content meta.control wanted line (Ok turn) before after old new → Begin old new
+  refresh_notes wanted line (Ends MetaFault) before after old new row = same_notes _ _ row.content.notes
   refresh_notes wanted line turn before after old new row = same_notes _ _ row.1.content.notes
 
-  seek_notes : (asked : Asked) (line : List (ℕ × ℕ)) (cursor : ℕ) (turn : TimeTurn) (before after : View) (old new : M)
+  seek_notes : (asked : Asked) (line : List (ℕ × ℕ)) (cursor : ℕ) (turn : Turn (ℕ × Dating)) (before after : View) (old new : M)
       → SeekRow meta.content meta.control asked line cursor (Ok turn) before after old new
       → Begin old new
-  seek_notes asked line cursor (time.Ends MetaFault) before after old new row = same_notes _ _ row.content.notes
+  seek_notes asked line cursor (Ends MetaFault) before after old new row = same_notes _ _ row.content.notes
   seek_notes asked line cursor turn before after old new row = same_notes _ _ row.1.content.notes
 
-  begin_notes : (segment : ExpiredSegment) (origin : EventOrigin) (turn : ExpiryTurn) (old new : M) → IsTrue (meta.content old).is_observable → expiring.StartRow meta.content meta.control segment origin (Ok turn) old new → Begin old new
-  begin_notes segment origin (expiry.Ends MetaFault) old new is_observable row = appends _ _ old new row is_observable
+  begin_notes : (segment : ExpiredSegment) (origin : EventOrigin) (turn : Turn Deletion) (old new : M) → IsTrue (meta.content old).is_observable → expiring.StartRow meta.content meta.control segment origin (Ok turn) old new → Begin old new
+  begin_notes segment origin (Ends MetaFault) old new is_observable row = appends _ _ old new row is_observable
   begin_notes segment origin turn old new is_observable row = appends _ _ old new row.1 is_observable
 
-  end_notes : (segment : ExpiredSegment) (origin : EventOrigin) (turn : ExpiryTurn) (old new : M) → IsTrue (meta.content old).is_observable → expiring.FinishRow meta.content meta.control segment origin (Ok turn) old new → Begin old new
-  end_notes segment origin (expiry.Ends MetaFault) old new is_observable row = appends _ _ old new row is_observable
+  end_notes : (segment : ExpiredSegment) (origin : EventOrigin) (turn : Turn Deletion) (old new : M) → IsTrue (meta.content old).is_observable → expiring.FinishRow meta.content meta.control segment origin (Ok turn) old new → Begin old new
+  end_notes segment origin (Ends MetaFault) old new is_observable row = appends _ _ old new row is_observable
   end_notes segment origin turn old new is_observable row = appends _ _ old new row.1 is_observable
 
 module _ {S M : Type 0} (store : StoreGhosts S) (meta : MetaGhosts M) where
-  copy_notes : (copy : Copied) (origin : EventOrigin) (next : CopyStep) (turn : CopyTurn) (old new : Tiers S M) → IsTrue (meta.content old.meta).is_observable
+  copy_notes : (copy : Copied) (origin : EventOrigin) (next : CopyStep) (turn : Turn CopyStep) (old new : Tiers S M) → IsTrue (meta.content old.meta).is_observable
       → CopyTurnRow store.content store.control meta.content meta.control copy origin next (Ok turn) old new → Begin meta old.meta new.meta
   copy_notes copy origin Start turn old new is_observable row = start_notes meta copy origin turn old.meta new.meta is_observable row.1
   copy_notes copy origin (Put n) turn old new is_observable row = same_log meta old.meta new.meta (ap (λ (t : Tiers S M). t.meta) row.0)
@@ -125,15 +119,15 @@ module _ {S M : Type 0} (store : StoreGhosts S) (meta : MetaGhosts M) where
   copy_notes copy origin Check turn old new is_observable row = check_notes meta copy turn old.view new.view old.meta new.meta row.1
   copy_notes copy origin (Delete n) turn old new is_observable row = same_log meta old.meta new.meta (ap (λ (t : Tiers S M). t.meta) row.0)
 
-  fetch_notes : (wanted : FetchRequest) (line : List (ℕ × ℕ)) (next : Search) (turn : FetchTurn) (old new : FetchTiers S M)
+  fetch_notes : (wanted : FetchRequest) (line : List (ℕ × ℕ)) (next : Search) (turn : Turn Search) (old new : FetchTiers S M)
       → RemoteFetchRow store.content store.control meta.content meta.control wanted line next (Ok turn) old new → Begin meta old.meta new.meta
   fetch_notes wanted line Refresh turn old new row = refresh_notes meta wanted line turn old.view new.view old.meta new.meta row.1
   fetch_notes wanted line (Index piece) turn old new row = same_log meta old.meta new.meta (ap (λ (t : FetchTiers S M). t.meta) row.0)
   fetch_notes wanted line (Log piece span) turn old new row = same_log meta old.meta new.meta (ap (λ (t : FetchTiers S M). t.meta) row.0)
 
   -- where a search continues as a fetch does
-  indexes_notes : (asked : Asked) (line : List (ℕ × ℕ)) (cursor from : ℕ) (piece : Piece) (found : Result FetchTurn AllocError)
-      (turn : TimeTurn) (old new : FetchTiers S M)
+  indexes_notes : (asked : Asked) (line : List (ℕ × ℕ)) (cursor from : ℕ) (piece : Piece) (found : Result (Turn Search) AllocError)
+      (turn : Turn (ℕ × Dating)) (old new : FetchTiers S M)
       → RemoteFetchRow store.content store.control meta.content meta.control (wanted_at asked from) line (fetching.Index piece) found old new
       → Indexes cursor piece from found (Ok turn)
       → Begin meta old.meta new.meta
@@ -141,8 +135,8 @@ module _ {S M : Type 0} (store : StoreGhosts S) (meta : MetaGhosts M) where
       found old new row
   indexes_notes asked line cursor from piece (Err e) turn old new row k = absurd (let no : false ≡ true = k in cc)
 
-  searches_notes : (asked : Asked) (line : List (ℕ × ℕ)) (from : ℕ) (piece : Piece) (span : Span) (found : Result FetchTurn AllocError)
-      (turn : TimeTurn) (old new : FetchTiers S M)
+  searches_notes : (asked : Asked) (line : List (ℕ × ℕ)) (from : ℕ) (piece : Piece) (span : Span) (found : Result (Turn Search) AllocError)
+      (turn : Turn (ℕ × Dating)) (old new : FetchTiers S M)
       → RemoteFetchRow store.content store.control meta.content meta.control (wanted_at asked from) line (fetching.Log piece span) found old new
       → SearchesLog asked from found (Ok turn)
       → Begin meta old.meta new.meta
@@ -150,7 +144,7 @@ module _ {S M : Type 0} (store : StoreGhosts S) (meta : MetaGhosts M) where
       (fetching.Log piece span) found old new row
   searches_notes asked line from piece span (Err e) turn old new row k = absurd (let no : false ≡ true = k in cc)
 
-  time_notes : (asked : Asked) (line : List (ℕ × ℕ)) (cursor : ℕ) (next : Dating) (turn : TimeTurn) (old new : FetchTiers S M)
+  time_notes : (asked : Asked) (line : List (ℕ × ℕ)) (cursor : ℕ) (next : Dating) (turn : Turn (ℕ × Dating)) (old new : FetchTiers S M)
       → TimeRow store.content store.control meta.content meta.control asked line cursor next (Ok turn) old new
       → Begin meta old.meta new.meta
   time_notes asked line cursor dating.Seek turn old new row = seek_notes meta asked line cursor turn old.view new.view old.meta new.meta
@@ -166,7 +160,7 @@ module _ {S M : Type 0} (store : StoreGhosts S) (meta : MetaGhosts M) where
   time_notes asked line cursor (dating.Log piece from span) turn old new (inr row) = searches_notes asked line from piece span row.1.0 turn
       old new row.1.1 row.1.2
 
-  expiry_notes : (segment : ExpiredSegment) (origin : EventOrigin) (next : Deletion) (turn : ExpiryTurn) (old new : expiring.Tiers S M) → IsTrue (meta.content old.meta).is_observable
+  expiry_notes : (segment : ExpiredSegment) (origin : EventOrigin) (next : Deletion) (turn : Turn Deletion) (old new : expiring.Tiers S M) → IsTrue (meta.content old.meta).is_observable
       → expiring.ExpiryRow store.content store.control meta.content meta.control segment origin next (Ok turn) old new → Begin meta old.meta new.meta
   expiry_notes segment origin deletion.Start turn old new is_observable row = begin_notes meta segment origin turn old.meta new.meta is_observable row.1
   expiry_notes segment origin (deletion.Delete n) turn old new is_observable row = same_log meta old.meta new.meta (ap (λ (t : expiring.Tiers S M). t.meta) row.0)
@@ -218,7 +212,7 @@ module _ {D S M : Type 0} (disk : DiskGhosts D) (store : StoreGhosts S) (meta : 
   choose_row p h t b x broker_tier g outcome h' t' (inr (keeps, inl level)) = same_tier store meta t t' level.3
   choose_row p h t b x broker_tier g outcome h' t' (inr (keeps, inr n)) = same_log meta t.meta t'.meta (ap (λ (k : RemoteTier S M). k.meta) n.tier)
 
-  seeks_row : (p : PartitionId) (t : RemoteTier S M) (b : ℕ) (x : Node D) (broker_tier : BrokerTierState) (offset limit : ℕ) (next : Search) (turn : FetchTurn) (t' : RemoteTier S M)
+  seeks_row : (p : PartitionId) (t : RemoteTier S M) (b : ℕ) (x : Node D) (broker_tier : BrokerTierState) (offset limit : ℕ) (next : Search) (turn : Turn Search) (t' : RemoteTier S M)
       → GoesOnFetch store meta p t b x broker_tier offset limit next turn t' → Goes t t'
   seeks_row p t b x broker_tier offset limit next turn t' goes =
       fetch_notes store meta (wanted_of p x offset limit) (line_of x) next turn (fetch_tiers broker_tier.view broker_tier.cache t) (fetch_tiers goes.view goes.cache t') goes.row
@@ -234,7 +228,7 @@ module _ {D S M : Type 0} (disk : DiskGhosts D) (store : StoreGhosts S) (meta : 
   fetch_row p h t b x broker_tier g offset limit next other t' row = elim row [ ]
 
   search_row : (h : PartitionState D) (t : RemoteTier S M) (b : ℕ) (x : Node D) (broker_tier : BrokerTierState) (asked : Asked) (cursor : ℕ) (next : Dating) (own : Bool)
-      (turn : TimeTurn) (h' : PartitionState D) (t' : RemoteTier S M)
+      (turn : Turn (ℕ × Dating)) (h' : PartitionState D) (t' : RemoteTier S M)
       → SearchRow disk store meta h t b x broker_tier asked cursor next own turn h' t' → Goes t t'
   search_row h t b x broker_tier asked cursor next true turn h' t' row = same_tier store meta t t' row.1
   search_row h t b x broker_tier asked cursor next false turn h' t' row =
@@ -242,7 +236,7 @@ module _ {D S M : Type 0} (disk : DiskGhosts D) (store : StoreGhosts S) (meta : 
       row.0.row
 
   dates_row : (p : PartitionId) (h : PartitionState D) (t : RemoteTier S M) (b : ℕ) (x : Node D) (broker_tier : BrokerTierState) (g : StartSnapshot) (ts : ℤ) (cursor : ℕ)
-      (next : Dating) (turn : TimeTurn) (h' : PartitionState D) (t' : RemoteTier S M)
+      (next : Dating) (turn : Turn (ℕ × Dating)) (h' : PartitionState D) (t' : RemoteTier S M)
       → SearchesOn disk store meta p h t b x broker_tier g ts cursor next turn h' t' → Goes t t'
   dates_row p h t b x broker_tier g ts cursor next turn h' t' row =
       let on = resumed_at h.registry.start cursor in

@@ -7,8 +7,8 @@ use Rattle.meta_log.specs.declared.log.MetaLog.{Ghosts as MetaGhosts}
 use Rattle.time_find.specs.declared.turn.Asked.{Asked}
 use Rattle.time_find.specs.declared.turn.SearchStep.{SearchStep}
 use Rattle.time_find.specs.declared.turn.SearchStep.TheVariants.{Seek}
-use Rattle.time_find.specs.declared.turn.TimeTurn.{TimeTurn}
-use Rattle.time_find.specs.declared.turn.TimeTurn.TheVariants.{Ends}
+use Rattle.plain_log.specs.declared.turn.Turn.{Turn}
+use Rattle.plain_log.specs.declared.turn.Turn.TheVariants.{Ends}
 use Rattle.time_find.specs.Passing.{passed_over}
 use Rattle.time_find.specs.Turns.{LocalSearchRow, ReadLocalRow}
 use Rattle.plain_log.specs.declared.answer.Answer.{Answer}
@@ -89,11 +89,11 @@ module _ {D S M : Type 0} (disk : DiskGhosts D) (store : StoreGhosts S) (meta : 
     second g other row = elim row.1 [ ]
 
     -- a later turn of a search: what it says of where it returns a fault
-    abbrev Tells : TimeTurn → Type 0
+    abbrev Tells : Turn (ℕ × SearchStep) → Type 0
     Tells turn = TurnTold (DiskFailed disk b w w') (Unit {0}) (StoreFailed store w w') (MetaFailed meta w w') (date_outcome turn)
 
     -- in the local log
-    module _ (at : slice_get w.held.nodes b ≡ Some x) (asked : Asked) (from : ℕ) (turn : TimeTurn)
+    module _ (at : slice_get w.held.nodes b ≡ Some x) (asked : Asked) (from : ℕ) (turn : Turn (ℕ × SearchStep))
         (s : SearchesOwn disk w.held b x asked from turn w'.held) where
       failed : Faulted disk.control x.log s.kept → DiskFailed disk b w w'
       failed fault =
@@ -103,7 +103,7 @@ module _ {D S M : Type 0} (disk : DiskGhosts D) (store : StoreGhosts S) (meta : 
           some_at (λ (x : Node D). AtNode w'.held b (λ y. Faulted disk.control x.log y.log)) (slice_get w.held.nodes b) x at
           (some_at (λ (y : Node D). Faulted disk.control x.log y.log) (slice_get w'.held.nodes b) y there fault)
 
-      reads : (to : TimeTurn) → ReadLocalRow disk.content disk.control x.log asked (passed_over asked.ts from (closed_in x.log)) to s.kept
+      reads : (to : Turn (ℕ × SearchStep)) → ReadLocalRow disk.content disk.control x.log asked (passed_over asked.ts from (closed_in x.log)) to s.kept
           → Tells to
       reads (Ends DiskFault) row = failed (one_faulted disk.control x.log s.kept row.1 row.2)
       reads (Ends (Damaged (File name) place)) row = tt

@@ -7,8 +7,8 @@ use Rattle.meta_log.specs.declared.log.MetaLog.{Ghosts as MetaGhosts}
 use Rattle.time_find.specs.declared.turn.Asked.{Asked}
 use Rattle.time_find.specs.declared.turn.SearchStep.{SearchStep}
 use Rattle.time_find.specs.declared.turn.SearchStep.TheVariants.{Seek}
-use Rattle.time_find.specs.declared.turn.TimeTurn.{TimeTurn}
 use Rattle.time_find.specs.Turns.{IsSet}
+use Rattle.plain_log.specs.declared.turn.Turn.{Turn}
 use Rattle.plain_log.specs.declared.command.ActorList.{ActorList}
 use Rattle.plain_log.specs.declared.command.Command.{Command}
 use Rattle.plain_log.specs.declared.command.Command.TheVariants.{Offset}
@@ -133,7 +133,7 @@ module _ {D S M : Type 0} (disk : DiskGhosts D) (store : StoreGhosts S) (meta : 
           go n m = omega arith
 
       -- a turn in the local log
-      pub own_at : (turn : TimeTurn) (h' : PartitionState D) → KeepsLead z.x g → SearchesOwn disk w.held order.broker.0 z.x asked at turn h'
+      pub own_at : (turn : Turn (ℕ × SearchStep)) (h' : PartitionState D) → KeepsLead z.x g → SearchesOwn disk w.held order.broker.0 z.x asked at turn h'
           → OwnComes asked z.s.batches turn
       own_at turn h' lead r =
           let whole = sound disk store meta opening w c place l actor_state order z in

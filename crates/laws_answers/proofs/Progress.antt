@@ -14,26 +14,21 @@ use Rattle.meta_log.specs.declared.event_origin.EventOrigin.{EventOrigin}
 use Rattle.remote_view.specs.Fold.{EntriesSeen as View, state_of}
 use Rattle.copy_task.specs.Copying.{Copied, keys}
 use Rattle.copy_task.specs.Turns.{Tiers, PutObjectRow, DeleteRow, CopyTurnRow, put_at, delete_at, checked}
-use Rattle.copy_task.specs.declared.turn.CopyTurn.{CopyTurn}
-use Rattle.copy_task.specs.declared.turn.CopyTurn.TheVariants.{Goes as GoesOn, Ends}
 use Rattle.copy_task.specs.declared.turn.CopyStep.{CopyStep}
 use Rattle.copy_task.specs.declared.turn.CopyStep.TheVariants.{Start, Put, Finish, Check, Delete}
 use Rattle.expiry_task.specs.Turns as expiring
 use Rattle.expiry_task.specs.declared.turn.ExpiredSegment.{ExpiredSegment}
-use Rattle.expiry_task.specs.declared.turn.ExpiryTurn.{ExpiryTurn}
-use Rattle.expiry_task.specs.declared.turn.ExpiryTurn.TheVariants as expiry
 use Rattle.expiry_task.specs.declared.turn.DeletionStep.{DeletionStep as Deletion}
 use Rattle.expiry_task.specs.declared.turn.DeletionStep.TheVariants as deletion
 use Rattle.rebuild_task.specs.declared.turn.RebuildStep.{RebuildStep as Rebuild}
 use Rattle.rebuild_task.specs.declared.turn.RebuildStep.TheVariants.{Epochs, Restart}
-use Rattle.rebuild_task.specs.declared.turn.RebuildTurn.TheVariants as rebuild
-use Rattle.tier_fetch.specs.declared.turn.FetchTurn.TheVariants as fetch
+use Rattle.plain_log.specs.declared.turn.Turn.{Turn}
+use Rattle.plain_log.specs.declared.turn.Turn.TheVariants.{Goes as GoesOn, Ends}
 use Rattle.tier_fetch.specs.declared.turn.FetchStep.{FetchStep as Search}
 use Rattle.tier_fetch.specs.declared.turn.FetchStep.TheVariants.{Refresh, Index, Log}
 use Rattle.time_find.specs.declared.turn.Asked.{Asked}
 use Rattle.time_find.specs.declared.turn.SearchStep.{SearchStep as Dating}
 use Rattle.time_find.specs.declared.turn.SearchStep.TheVariants as dating
-use Rattle.time_find.specs.declared.turn.TimeTurn.TheVariants as time
 use Rattle.time_find.specs.Turns.{SearchContinues as GoesOnFrom}
 use Rattle.plain_log.specs.declared.answer.Answer.TheVariants.{MetaFault}
 use Rattle.plain_log.specs.declared.command.Command.{Command}
@@ -131,22 +126,22 @@ module _ {S M : Type 0} (store : StoreGhosts S) (meta : MetaGhosts M) where
   copy_less copy origin (Delete n) next old new w = delete_row copy old.view n (slice_get (keys copy) n) next old.store new.store w.1
 
 -- an expiry continues with this turn
-dto : (before next after : Deletion) → expiry.Goes next ≡ expiry.Goes after → deleting_left after < deleting_left before → deleting_left next < deleting_left before
+dto : (before next after : Deletion) → GoesOn next ≡ GoesOn after → deleting_left after < deleting_left before → deleting_left next < deleting_left before
 dto before next after is lt = let e : next ≡ after = cc in rw e lt
 
-taken_less : (segment : ExpiredSegment) (n : ℕ) (key : Option ObjectKey) (next : Deletion) → slice_get (expiring.keys segment) (n + 1) ≡ key → expiry.Goes next ≡ expiry.Goes (expiring.delete_at (n + 1) key)
+taken_less : (segment : ExpiredSegment) (n : ℕ) (key : Option ObjectKey) (next : Deletion) → slice_get (expiring.keys segment) (n + 1) ≡ key → GoesOn next ≡ GoesOn (expiring.delete_at (n + 1) key)
     → deleting_left next < deleting_left (deletion.Delete n)
 taken_less segment n None next at is = dto (deletion.Delete n) next deletion.Finish is (omega arith)
 taken_less segment n (Some key) next at is = let low = key_low segment.partition segment.id segment.packed (n + 1) key at in dto (deletion.Delete n) next (deletion.Delete (n + 1)) is (omega (arith, low))
 
 module _ {S M : Type 0} (store : StoreGhosts S) (meta : MetaGhosts M) where
-  take_row : (segment : ExpiredSegment) (n : ℕ) (key : Option ObjectKey) (next : Deletion) (old new : S) → expiring.DeleteRow store.content store.control segment n key (expiry.Goes next) old new
+  take_row : (segment : ExpiredSegment) (n : ℕ) (key : Option ObjectKey) (next : Deletion) (old new : S) → expiring.DeleteRow store.content store.control segment n key (GoesOn next) old new
       → deleting_left next < deleting_left (deletion.Delete n)
   take_row segment n None next old new w = dto (deletion.Delete n) next deletion.Finish w.0 (omega arith)
   take_row segment n (Some key) next old new w = taken_less segment n (slice_get (expiring.keys segment) (n + 1)) next refl w.0
 
   expiry_less : (segment : ExpiredSegment) (origin : EventOrigin) (before next : Deletion) (old new : expiring.Tiers S M)
-      → expiring.ExpiryRow store.content store.control meta.content meta.control segment origin before (Ok (expiry.Goes next)) old new → deleting_left next < deleting_left before
+      → expiring.ExpiryRow store.content store.control meta.content meta.control segment origin before (Ok (GoesOn next)) old new → deleting_left next < deleting_left before
   expiry_less segment origin deletion.Start next old new w = dto deletion.Start next (deletion.Delete 0) w.1.0 (omega arith)
   expiry_less segment origin (deletion.Delete n) next old new w = take_row segment n (slice_get (expiring.keys segment) n) next old.store new.store w.1
   expiry_less segment origin deletion.Finish next old new w = let e = w.1.0 in absurd (cc (e))
@@ -192,7 +187,7 @@ piece_less limit start cursor at before m fits far up few = by (nat_lt cursor st
         past_less limit cursor at (dated_here before) m low (omega (arith, past, far)) (few_here before)
     by false is up = here_less limit cursor at (dated_here before) m low (omega (arith, far)) (subst (λ (n : ℕ). n < m) (same_here before) up) few
 
-resumed_less : (limit start cursor at : ℕ) (before later : Dating) → max start cursor < limit → GoesOnFrom (max start cursor) (time.Goes at later)
+resumed_less : (limit start cursor at : ℕ) (before later : Dating) → max start cursor < limit → GoesOnFrom (max start cursor) (GoesOn (at, later))
     → Rises (if nat_lt cursor start then dating.Seek else before) later → dating_left_to limit at later < dating_left_to limit cursor before
 resumed_less limit start cursor at before dating.Seek fits goes up =
     let far : cursor < at = omega (arith, goes) in
@@ -207,7 +202,7 @@ pub first_left : (limit at : ℕ) (later : Dating) → dating_left_to limit at l
 first_left limit at later less = omega (arith, less)
 
 -- after the leader epochs that were read the log is restarted
-read_less : (next : Rebuild) → MayTurn (rebuild.Goes next) → rebuilding_left next < rebuilding_left Epochs
+read_less : (next : Rebuild) → MayTurn (GoesOn next) → rebuilding_left next < rebuilding_left Epochs
 read_less (Restart line) may = omega arith
 read_less Epochs may = absurd may
 
@@ -269,7 +264,7 @@ module _ {D S M : Type 0} (disk : DiskGhosts D) (store : StoreGhosts S) (meta : 
   choose_less p h t b x broker_tier g outcome h' t' (inr (keeps, inl level)) = subst (Less Copy (Noted g)) (sym level.1) tt
   choose_less p h t b x broker_tier g outcome h' t' (inr (keeps, inr n)) = choice_less p b x n.node broker_tier n.broker_tier_after (copied_to x broker_tier h.registry.start) g outcome n.row
 
-  turn_less : (h : PartitionState D) (t : RemoteTier S M) (b : ℕ) (broker_tier : BrokerTierState) (g : StartSnapshot) (copy : Copied) (next : CopyStep) (turn : CopyTurn) (t' : RemoteTier S M) → GoesOnCopy store meta h t b broker_tier copy next turn t'
+  turn_less : (h : PartitionState D) (t : RemoteTier S M) (b : ℕ) (broker_tier : BrokerTierState) (g : StartSnapshot) (copy : Copied) (next : CopyStep) (turn : Turn CopyStep) (t' : RemoteTier S M) → GoesOnCopy store meta h t b broker_tier copy next turn t'
       → Less Copy (Copies g copy next) (copy_outcome turn)
   turn_less h t b broker_tier g copy next (GoesOn further) t' goes = copy_less store meta copy (origin_of h b) next further (tiers_of broker_tier.view t) (tiers_of goes.view t') goes.row
   turn_less h t b broker_tier g copy next (Ends answer) t' goes = tt
@@ -289,10 +284,10 @@ module _ {D S M : Type 0} (disk : DiskGhosts D) (store : StoreGhosts S) (meta : 
   expire_less p config h x broker_tier g outcome h' (inl lost) = subst (Less Expire (Noted g)) (sym lost.1) tt
   expire_less p config h x broker_tier g outcome h' (inr (keeps, row)) = expires_less p config h x broker_tier g outcome h' row
 
-  deletes_less : (h : PartitionState D) (t : RemoteTier S M) (b : ℕ) (g : StartSnapshot) (segment : ExpiredSegment) (next : Deletion) (turn : ExpiryTurn) (t' : RemoteTier S M) → GoesOnDeletion store meta h t b segment next turn t'
+  deletes_less : (h : PartitionState D) (t : RemoteTier S M) (b : ℕ) (g : StartSnapshot) (segment : ExpiredSegment) (next : Deletion) (turn : Turn Deletion) (t' : RemoteTier S M) → GoesOnDeletion store meta h t b segment next turn t'
       → Less Expire (Expires g segment next) (expiry_outcome turn)
-  deletes_less h t b g segment next (expiry.Goes further) t' goes = expiry_less store meta segment (origin_of h b) next further (expiry_tiers t) (expiry_tiers t') goes.row
-  deletes_less h t b g segment next (expiry.Ends answer) t' goes = tt
+  deletes_less h t b g segment next (GoesOn further) t' goes = expiry_less store meta segment (origin_of h b) next further (expiry_tiers t) (expiry_tiers t') goes.row
+  deletes_less h t b g segment next (Ends answer) t' goes = tt
 
   deletion_less : (h : PartitionState D) (t : RemoteTier S M) (b : ℕ) (x : Node D) (g : StartSnapshot) (segment : ExpiredSegment) (next : Deletion) (outcome : Outcome) (t' : RemoteTier S M)
       → DeleteOnRow store meta h t b x g segment next outcome t' → Less Expire (Expires g segment next) outcome
@@ -301,7 +296,7 @@ module _ {D S M : Type 0} (disk : DiskGhosts D) (store : StoreGhosts S) (meta : 
 
   -- a fetch's
   goes_less : (p : PartitionId) (t : RemoteTier S M) (b : ℕ) (x : Node D) (broker_tier : BrokerTierState) (offset limit : ℕ) (before later : Search) (t' : RemoteTier S M)
-      → GoesOnFetch store meta p t b x broker_tier offset limit before (fetch.Goes later) t' → seeking_left later < seeking_left before
+      → GoesOnFetch store meta p t b x broker_tier offset limit before (GoesOn later) t' → seeking_left later < seeking_left before
   goes_less p t b x broker_tier offset limit before later t' goes =
       let up = fetch_advances store meta (wanted_of p x offset limit) (line_of x) before later (fetch_tiers broker_tier.view broker_tier.cache t) (fetch_tiers goes.view goes.cache t') goes.row in
       let one = all_turns before in
@@ -322,7 +317,7 @@ module _ {D S M : Type 0} (disk : DiskGhosts D) (store : StoreGhosts S) (meta : 
 
   -- a search's by timestamp
   rises_on : (h : PartitionState D) (t : RemoteTier S M) (b : ℕ) (x : Node D) (broker_tier : BrokerTierState) (asked : Asked) (cursor : ℕ) (before : Dating) (own : Bool) (at : ℕ) (later : Dating) (h' : PartitionState D) (t' : RemoteTier S M)
-      → SearchRow disk store meta h t b x broker_tier asked cursor before own (time.Goes at later) h' t' → Rises before later
+      → SearchRow disk store meta h t b x broker_tier asked cursor before own (GoesOn (at, later)) h' t' → Rises before later
   rises_on h t b x broker_tier asked cursor before true at later h' t' w = own_rises disk x.log asked cursor before later at w.0.kept w.0.row
   rises_on h t b x broker_tier asked cursor before false at later h' t' w =
       time_rises store meta asked (line_of x) cursor before later at (fetch_tiers broker_tier.view broker_tier.cache t) (fetch_tiers w.0.view w.0.cache t') w.0.row
@@ -363,9 +358,9 @@ module _ {D S M : Type 0} (disk : DiskGhosts D) (store : StoreGhosts S) (meta : 
   reads_less : (p : PartitionId) (h : PartitionState D) (t : RemoteTier S M) (b : ℕ) (x : Node D) (broker_tier : BrokerTierState) (g : StartSnapshot) (outcome : Outcome) (t' : RemoteTier S M) → EpochsOnRow store p h t x broker_tier g outcome t'
       → Less Join (Rebuilds g Epochs) outcome
   reads_less p h t b x broker_tier g outcome t' (inl (answer, is, once, tier)) = subst (Less Join (Rebuilds g Epochs)) (sym is) tt
-  reads_less p h t b x broker_tier g outcome t' (inr (may, (rebuild.Ends answer, is, goes))) = subst (Less Join (Rebuilds g Epochs)) (sym is) tt
-  reads_less p h t b x broker_tier g outcome t' (inr (may, (rebuild.Goes next, is, goes))) =
-      subst (Less Join (Rebuilds g Epochs)) (sym is) (read_less next (rebuild_may_turn store (rebuilt_to p g) g.line broker_tier.view (rebuild.Goes next) t.store t'.store goes.row))
+  reads_less p h t b x broker_tier g outcome t' (inr (may, (Ends answer, is, goes))) = subst (Less Join (Rebuilds g Epochs)) (sym is) tt
+  reads_less p h t b x broker_tier g outcome t' (inr (may, (GoesOn next, is, goes))) =
+      subst (Less Join (Rebuilds g Epochs)) (sym is) (read_less next (rebuild_may_turn store (rebuilt_to p g) g.line broker_tier.view (GoesOn next) t.store t'.store goes.row))
 
   -- a trim's
   trim_less : (h : PartitionState D) (b : ℕ) (x : Node D) (broker_tier : BrokerTierState) (g : StartSnapshot) (config : Config) (outcome : Outcome) (h' : PartitionState D) → TrimOnRow disk h b x broker_tier g config.local_keep outcome h' → Less Trim (Noted g) outcome

@@ -31,8 +31,9 @@ use Rattle.remote_view.specs.Fold.{EntriesSeen, entry_of, fold}
 use Rattle.remote_find.specs.declared.piece.Piece.{Piece}
 use Rattle.remote_find.specs.Pieces.{piece_at}
 use Rattle.tier_fetch.specs.declared.turn.Span.{Span}
-use Rattle.tier_fetch.specs.declared.turn.FetchTurn.{FetchTurn}
-use Rattle.tier_fetch.specs.declared.turn.FetchTurn.TheVariants as fetch
+use Rattle.tier_fetch.specs.declared.turn.FetchStep.{FetchStep}
+use Rattle.plain_log.specs.declared.turn.Turn.{Turn}
+use Rattle.plain_log.specs.declared.turn.Turn.TheVariants.{Goes, Ends}
 use Rattle.tier_fetch.specs.declared.turn.FetchStep.TheVariants as fetching
 use Rattle.tier_fetch.specs.Turns.{Tiers, RemoteFetchRow, spot_in}
 use Rattle.tier_safe.specs.Scene.{BrokerTierView, Free, Scene}
@@ -43,8 +44,6 @@ use Rattle.laws_tier_fetch.proofs.Turning.{shown}
 use Rattle.time_find.specs.declared.turn.Asked.{Asked}
 use Rattle.time_find.specs.declared.turn.SearchStep.{SearchStep}
 use Rattle.time_find.specs.declared.turn.SearchStep.TheVariants.{Seek, Times, Index, Log}
-use Rattle.time_find.specs.declared.turn.TimeTurn.{TimeTurn}
-use Rattle.time_find.specs.declared.turn.TimeTurn.TheVariants.{Goes, Ends}
 use Rattle.time_find.specs.Passing.{SeeksPiece, top_of}
 use Rattle.time_find.specs.Turns.{IsBelowLocal, IsSet, IsSearched, TimesBytes, Times as Timed, Indexes, SearchTakes, SeekRow, TimesRow, SearchIndexRow, SearchLogRow, TimeRow, wanted_at}
 use Rattle.laws_time_find.specs.Searching.{IsAtSearch}
@@ -56,7 +55,7 @@ use Rattle.laws_answers.proofs.EndsOfPieces.{piece_ends}
 use Rattle.laws_answers.proofs.ReadingOfFetches.{index_found, not_damaged}
 
 -- where a run was searched, and the search continues, it has no piece
-pub searched_on : (asked : Asked) (offset : ℕ) (run : List ℕ) (at : ℕ) (later : SearchStep) → IsSearched asked offset run (Goes at later)
+pub searched_on : (asked : Asked) (offset : ℕ) (run : List ℕ) (at : ℕ) (later : SearchStep) → IsSearched asked offset run (Goes (at, later))
     → later ≡ Seek
 searched_on asked offset run at Seek w = refl
 searched_on asked offset run at (Times piece) w = elim w [ ]
@@ -65,13 +64,13 @@ searched_on asked offset run at (Log piece from span) w = elim w [ ]
 
 module _ (paths : List Path) (notes : List Note) (epoch : ℕ) where
   -- of what it continues with
-  none_found : (later : SearchStep) (at to : ℕ) → ◌≡◌ {A = Result TimeTurn AllocError} (Ok (Goes at later)) (Ok (Goes to Seek))
+  none_found : (later : SearchStep) (at to : ℕ) → ◌≡◌ {A = Result (Turn (ℕ × SearchStep)) AllocError} (Ok (Goes (at, later))) (Ok (Goes (to, Seek)))
       → IsFoundByTime paths notes epoch later
   none_found later at to is = let same : later ≡ Seek = cc (is) in subst (IsFoundByTime paths notes epoch) (sym same) tt
 
   -- the piece stays, as its time index shows
   shown_found : (more : Bool) (piece : Piece) (from cursor top at : ℕ) (later : SearchStep)
-      → Goes at later ≡ (if more then Goes cursor (Index piece from) else Goes top Seek)
+      → Goes (at, later) ≡ (if more then Goes (cursor, Index piece from) else Goes (top, Seek))
       → PieceEnds paths epoch piece → IsFoundByTime paths notes epoch later
   shown_found true piece from cursor top at later is ends = let same : Index piece from ≡ later = cc (is) in subst
       (IsFoundByTime paths notes epoch) same ends
@@ -80,20 +79,20 @@ module _ (paths : List Path) (notes : List Note) (epoch : ℕ) where
 
   timed_found : (asked : Asked) (cursor : ℕ) (piece : Piece) (base : ℕ) (spot : Spot) (answer : Result (Option (List ℕ)) Trouble) (at : ℕ)
       (later : SearchStep)
-      → Timed asked cursor piece base spot answer (Ok (Goes at later)) → PieceEnds paths epoch piece → IsFoundByTime paths notes epoch later
+      → Timed asked cursor piece base spot answer (Ok (Goes (at, later))) → PieceEnds paths epoch piece → IsFoundByTime paths notes epoch later
   timed_found asked cursor piece base spot (Err Failed) at later w ends = absurd (cc (w))
   timed_found asked cursor piece base spot (Err NoMemory) at later w ends = absurd (let no : false ≡ true = w in cc)
   timed_found asked cursor piece base spot (Ok None) at later w ends = absurd (cc (w))
   timed_found asked cursor piece base spot (Ok (Some bytes)) at later w ends = by (short_of spot bytes) w
     where
-      by : (end : Option ℕ) → TimesBytes end asked cursor piece base spot bytes (Ok (Goes at later)) → IsFoundByTime paths notes epoch later
+      by : (end : Option ℕ) → TimesBytes end asked cursor piece base spot bytes (Ok (Goes (at, later))) → IsFoundByTime paths notes epoch later
       by (Some end) w = absurd (cc (w))
       by None w = shown_found (nat_lt _ (top_of asked piece)) piece _ cursor (top_of asked piece) at later w.turn_is ends
 
   module _ {S : Type 0} (objects : S → store.Content) (calls : S → Control store_call.call_code) where
     times_found : (asked : Asked) (cursor : ℕ) (piece : Piece) (view : EntriesSeen) (place : Option (ℕ × Spot)) (at : ℕ) (later : SearchStep)
         (old new : S)
-        → TimesRow objects calls asked cursor piece view place (Ok (Goes at later)) old new → PieceEnds paths epoch piece
+        → TimesRow objects calls asked cursor piece view place (Ok (Goes (at, later))) old new → PieceEnds paths epoch piece
         → IsFoundByTime paths notes epoch later
     times_found asked cursor piece view None at later old new w ends = let e = w.0 in absurd (cc (e))
     times_found asked cursor piece view (Some place) at later old new w ends = timed_found asked cursor piece place.0 place.1 w.answer at
@@ -121,7 +120,7 @@ module _ (c : Scene) (p : Plain) (a b : ℕ) (tier_view : BrokerTierView) (x : B
       -- what a refresh finds ends where a batch does
       piece_found : (s : store.Content) (cache : Cache) (view after : EntriesSeen) (old new : M) (at : ℕ) (piece : Piece)
           → At Seek s (notes old) view cache
-          → SeekRow notes notings asked line cursor (Ok (Goes at (Times piece))) view after old new → PieceEnds p.paths epoch piece
+          → SeekRow notes notings asked line cursor (Ok (Goes (at, Times piece))) view after old new → PieceEnds p.paths epoch piece
       piece_found s cache view after old new at piece h row =
           let r : Refreshes (notes old) tier_view.view after = subst (λ (v : EntriesSeen). Refreshes (notes old) v after) (sym h.shows.view_is)
           row.1.view in
@@ -139,7 +138,7 @@ module _ (c : Scene) (p : Plain) (a b : ℕ) (tier_view : BrokerTierView) (x : B
 
       seek_found : (s : store.Content) (cache : Cache) (view after : EntriesSeen) (old new : M) (at : ℕ) (later : SearchStep)
           → At Seek s (notes old) view cache
-          → SeekRow notes notings asked line cursor (Ok (Goes at later)) view after old new → IsFoundByTime p.paths c.notes epoch later
+          → SeekRow notes notings asked line cursor (Ok (Goes (at, later))) view after old new → IsFoundByTime p.paths c.notes epoch later
       seek_found s cache view after old new at Seek h row = tt
       seek_found s cache view after old new at (Times piece) h row = piece_found s cache view after old new at piece h row
       seek_found s cache view after old new at (Index piece from) h row = absurd row.0
@@ -151,43 +150,43 @@ module _ (c : Scene) (p : Plain) (a b : ℕ) (tier_view : BrokerTierView) (x : B
           → IsFoundByTime p.paths c.notes epoch (Log piece from span)
       log_found found piece from span same f = subst (λ (q : Piece). IsFoundByTime p.paths c.notes epoch (Log q from span)) same f
 
-      indexed : (from : ℕ) (piece : Piece) (turn : Result FetchTurn AllocError) (at : ℕ) (later : SearchStep) (old new : Tiers S M)
+      indexed : (from : ℕ) (piece : Piece) (turn : Result (Turn FetchStep) AllocError) (at : ℕ) (later : SearchStep) (old new : Tiers S M)
           → IsAtTurn c p a b tier_view x stops epoch (wanted_at asked from) line (fetching.Index piece) (objects old.store) (notes old.meta)
           old.view old.cache
           → RemoteFetchRow objects calls notes notings (wanted_at asked from) line (fetching.Index piece) turn old new
-          → Indexes cursor piece from turn (Ok (Goes at later)) → PieceEnds p.paths epoch piece
+          → Indexes cursor piece from turn (Ok (Goes (at, later))) → PieceEnds p.paths epoch piece
           → IsFoundByTime p.paths c.notes epoch later
-      indexed from piece (Ok (fetch.Goes (fetching.Log found span))) at later old new h row k ends =
+      indexed from piece (Ok (Goes (fetching.Log found span))) at later old new h row k ends =
           let f = index_found c p a b tier_view x stops epoch (wanted_at asked from) line objects calls notes notings (notes old.meta) old.view
           old.cache new.cache old.store new.store piece
           (in_cache piece.id.0 old.cache.pairs) (fetching.Log found span) h refl row.1 ends in
           let is = k.1 in
           let same : Log piece from span ≡ later = cc (is) in
           subst (IsFoundByTime p.paths c.notes epoch) same (log_found found piece from span k.0 f)
-      indexed from piece (Ok (fetch.Goes fetching.Refresh)) at later old new h row k ends = absurd k
-      indexed from piece (Ok (fetch.Goes (fetching.Index found))) at later old new h row k ends = absurd k
-      indexed from piece (Ok (fetch.Ends answer)) at later old new h row k ends = absurd (cc (k))
+      indexed from piece (Ok (Goes fetching.Refresh)) at later old new h row k ends = absurd k
+      indexed from piece (Ok (Goes (fetching.Index found))) at later old new h row k ends = absurd k
+      indexed from piece (Ok (Ends answer)) at later old new h row k ends = absurd (cc (k))
       indexed from piece (Err e) at later old new h row k ends = absurd (let no : false ≡ true = k in cc)
 
       index_on : (from : ℕ) (piece : Piece) (at : ℕ) (later : SearchStep) (old new : Tiers S M)
           → IsAtTurn c p a b tier_view x stops epoch (wanted_at asked from) line (fetching.Index piece) (objects old.store) (notes old.meta)
           old.view old.cache
-          → SearchIndexRow objects calls notes notings asked line cursor piece from (Ok (Goes at later)) old new → PieceEnds p.paths epoch piece
+          → SearchIndexRow objects calls notes notings asked line cursor piece from (Ok (Goes (at, later))) old new → PieceEnds p.paths epoch piece
           → IsFoundByTime p.paths c.notes epoch later
       index_on from piece at later old new h (inl w) ends = none_found p.paths c.notes epoch later at (top_of asked piece) w.1
       index_on from piece at later old new h (inr w) ends = indexed from piece w.1.0 at later old new h w.1.1 w.1.2 ends
 
       -- after the log there is no piece
-      searched_found : (from : ℕ) (turn : Result FetchTurn AllocError) (at : ℕ) (later : SearchStep)
-          → SearchTakes asked from turn (Ok (Goes at later)) → IsFoundByTime p.paths c.notes epoch later
-      searched_found from (Ok (fetch.Ends (Run tier size stop bytes))) at later k =
+      searched_found : (from : ℕ) (turn : Result (Turn FetchStep) AllocError) (at : ℕ) (later : SearchStep)
+          → SearchTakes asked from turn (Ok (Goes (at, later))) → IsFoundByTime p.paths c.notes epoch later
+      searched_found from (Ok (Ends (Run tier size stop bytes))) at later k =
           subst (IsFoundByTime p.paths c.notes epoch) (sym (searched_on asked from bytes at later k)) tt
-      searched_found from (Ok (fetch.Ends answer)) at later k = absurd (cc (k))
-      searched_found from (Ok (fetch.Goes next)) at later k = absurd k
+      searched_found from (Ok (Ends answer)) at later k = absurd (cc (k))
+      searched_found from (Ok (Goes next)) at later k = absurd k
       searched_found from (Err e) at later k = absurd (let no : false ≡ true = k in cc)
 
       log_on : (from : ℕ) (piece : Piece) (span : Span) (at : ℕ) (later : SearchStep) (old new : Tiers S M)
-          → SearchLogRow objects calls notes notings asked line piece from span (Ok (Goes at later)) old new
+          → SearchLogRow objects calls notes notings asked line piece from span (Ok (Goes (at, later))) old new
           → IsFoundByTime p.paths c.notes epoch later
       log_on from piece span at later old new (inl w) = none_found p.paths c.notes epoch later at (top_of asked piece) w.1
       log_on from piece span at later old new (inr w) = searched_found from w.1.0 at later w.1.2
@@ -195,7 +194,7 @@ module _ (c : Scene) (p : Plain) (a b : ℕ) (tier_view : BrokerTierView) (x : B
       -- a turn finds what is there
       pub time_found : (next : SearchStep) (at : ℕ) (later : SearchStep) (old new : Tiers S M)
           → At next (objects old.store) (notes old.meta) old.view old.cache → IsSet cursor next
-          → TimeRow objects calls notes notings asked line cursor next (Ok (Goes at later)) old new
+          → TimeRow objects calls notes notings asked line cursor next (Ok (Goes (at, later))) old new
           → IsFoundByTime p.paths c.notes epoch next → IsFoundByTime p.paths c.notes epoch later
       time_found Seek at later old new h set row f = seek_found (objects old.store) old.cache old.view new.view old.meta new.meta at later h
           row.1
@@ -209,23 +208,23 @@ module _ (c : Scene) (p : Plain) (a b : ℕ) (tier_view : BrokerTierView) (x : B
       time_found (Log piece from span) at later old new h set row f = log_on from piece span at later old new row
 
       -- and meets no damage
-      searched_whole : (from : ℕ) (piece : Piece) (span : Span) (turn : Result FetchTurn AllocError) (place : Place) (at : ℕ)
+      searched_whole : (from : ℕ) (piece : Piece) (span : Span) (turn : Result (Turn FetchStep) AllocError) (place : Place) (at : ℕ)
           (old new : Tiers S M)
           → IsAtTurn c p a b tier_view x stops epoch (wanted_at asked from) line (fetching.Log piece span) (objects old.store) (notes old.meta)
           old.view old.cache
           → RemoteFetchRow objects calls notes notings (wanted_at asked from) line (fetching.Log piece span) turn old new
           → SearchTakes asked from turn (Ok (Ends (Damaged place at)))
           → IsFoundByTime p.paths c.notes epoch (Log piece from span) → from < asked.mark → EndsAt asked.mark x.log → ⊥
-      searched_whole from piece span (Ok (fetch.Ends (Run tier size stop bytes))) place at old new h row k f below ends = k
-      searched_whole from piece span (Ok (fetch.Ends answer)) place at old new h row k f below ends =
+      searched_whole from piece span (Ok (Ends (Run tier size stop bytes))) place at old new h row k f below ends = k
+      searched_whole from piece span (Ok (Ends answer)) place at old new h row k f below ends =
           let same : answer ≡ Damaged place at = cc (k) in
           let told : RemoteFetchRow objects calls notes notings (wanted_at asked from) line (fetching.Log piece span)
-          (Ok (fetch.Ends (Damaged place at))) old new =
+          (Ok (Ends (Damaged place at))) old new =
           subst (λ (w : Answer). RemoteFetchRow objects calls notes notings (wanted_at asked from) line (fetching.Log piece span)
-          (Ok (fetch.Ends w)) old new) same row in
+          (Ok (Ends w)) old new) same row in
           not_damaged c p a b tier_view x stops epoch (wanted_at asked from) line objects calls notes notings (fetching.Log piece span) place at
           old new h told f below ends
-      searched_whole from piece span (Ok (fetch.Goes next)) place at old new h row k f below ends = k
+      searched_whole from piece span (Ok (Goes next)) place at old new h row k f below ends = k
       searched_whole from piece span (Err e) place at old new h row k f below ends = (let no : false ≡ true = k in cc)
 
       log_whole : (from : ℕ) (piece : Piece) (span : Span) (place : Place) (at : ℕ) (old new : Tiers S M)

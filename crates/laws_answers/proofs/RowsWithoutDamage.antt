@@ -6,12 +6,11 @@ use Rattle.meta_log.specs.declared.log.MetaLog.{Ghosts as MetaGhosts}
 use Rattle.log_terms.specs.Log.{EndsAt}
 use Rattle.log_terms.proofs.Logs.{ends_at_end}
 use Rattle.log_terms.proofs.Lists.{and_then_some}
-use Rattle.expiry_task.specs.declared.turn.ExpiryTurn.TheVariants as expiry
 use Rattle.expiry_task.specs.declared.turn.ExpiredSegment.{ExpiredSegment}
 use Rattle.expiry_task.specs.declared.turn.DeletionStep.{DeletionStep as Deletion}
 use Rattle.rebuild_task.specs.declared.turn.RebuildStep.TheVariants.{Epochs, Restart}
 use Rattle.rebuild_task.specs.Turns.{RebuildRow}
-use Rattle.rebuild_task.specs.declared.turn.RebuildTurn.TheVariants as rebuild
+use Rattle.plain_log.specs.declared.turn.Turn.TheVariants as turns
 use Rattle.plain_log.specs.declared.answer.Answer.{Answer}
 use Rattle.plain_log.specs.declared.answer.Answer.TheVariants.{Damaged}
 use Rattle.plain_log.specs.declared.answer.Place.{Place as Spoiled}
@@ -158,10 +157,10 @@ module _ {D S M : Type 0} (disk : DiskGhosts D) (store : StoreGhosts S) (meta : 
 
     delete_never : (g : StartSnapshot) (expired_segment : ExpiredSegment) (next : Deletion) → DeleteOnRow store meta w.held w.tier b z.x g expired_segment next (Answers (Damaged place at)) w'.tier → ⊥
     delete_never g expired_segment next (inl lost) = let is = lost.1 in absurd (cc (is))
-    delete_never g expired_segment next (inr (keeps, (expiry.Ends k, is, goes))) =
+    delete_never g expired_segment next (inr (keeps, (turns.Ends k, is, goes))) =
         let e : Damaged place at ≡ k = cc (is) in
         deletion_never place at k e (expiry_ends store meta expired_segment (origin_of w.held b) next k (expiry_tiers w.tier) (expiry_tiers w'.tier) goes.row)
-    delete_never g expired_segment next (inr (keeps, (expiry.Goes further, is, goes))) = absurd (cc (is))
+    delete_never g expired_segment next (inr (keeps, (turns.Goes further, is, goes))) = absurd (cc (is))
 
     -- a join that continues in the tier
     join_never : (g : StartSnapshot) → JoinSecondRow disk meta w.held w.tier b z.x z.broker_tier g (Answers (Damaged place at)) w'.held w'.tier → ⊥
@@ -171,12 +170,12 @@ module _ {D S M : Type 0} (disk : DiskGhosts D) (store : StoreGhosts S) (meta : 
 
     read_never : (joins : t.order.command ≡ Join) (g : StartSnapshot) → t.actor_state.work ≡ Rebuilds g Epochs → EpochsOnRow store w.partition w.held w.tier z.x z.broker_tier g (Answers (Damaged place at)) w'.tier → ⊥
     read_never joins g works (inl (k, is, once, same)) = let e : Damaged place at ≡ k = cc (is) in once_never w.held z.x g k place at e once
-    read_never joins g works (inr (may, (rebuild.Goes next, is, goes))) = absurd (cc (is))
-    read_never joins g works (inr (may, (rebuild.Ends k, is, goes))) =
+    read_never joins g works (inr (may, (turns.Goes next, is, goes))) = absurd (cc (is))
+    read_never joins g works (inr (may, (turns.Ends k, is, goes))) =
         let e : Damaged place at ≡ k = cc (is) in
         nothing_is_damaged store.content store.control (wanted_of w.partition g) g.line z.broker_tier.view place at w.tier.store w'.tier.store c.scene c.central.plain t.place (seen_all (rebuild_of b g))
         (here disk store meta opening w a (Answers (Damaged place at)) w' t c z Join joins)
-        (subst (λ (j : Answer). RebuildRow store.content store.control (wanted_of w.partition g) g.line z.broker_tier.view (Ok (rebuild.Ends j)) w.tier.store w'.tier.store) (sym e) goes.row)
+        (subst (λ (j : Answer). RebuildRow store.content store.control (wanted_of w.partition g) g.line z.broker_tier.view (Ok (turns.Ends j)) w.tier.store w'.tier.store) (sym e) goes.row)
         (to_read disk store meta opening w a (Answers (Damaged place at)) w' t c z joins g works may)
 
     module _ (known : DeletionsKnown meta w) (spans : SpansKnown meta opening w) (searches : SearchesKnown meta opening w) where

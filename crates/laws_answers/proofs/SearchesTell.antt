@@ -9,7 +9,7 @@ use Rattle.registry.specs.declared.registry.Registry.{Registry}
 use Rattle.segment_meta.specs.declared.note.Note.{Note}
 use Rattle.time_find.specs.declared.turn.SearchStep.{SearchStep}
 use Rattle.time_find.specs.declared.turn.SearchStep.TheVariants.{Seek}
-use Rattle.time_find.specs.declared.turn.TimeTurn.TheVariants.{Ends}
+use Rattle.plain_log.specs.declared.turn.Turn.TheVariants.{Ends}
 use Rattle.plain_log.specs.declared.answer.Answer.{Answer}
 use Rattle.plain_log.specs.declared.answer.Answer.TheVariants.{Damaged, Offset as OffsetAnswer, NoOffset}
 use Rattle.plain_log.specs.declared.answer.Place.{Place as Spoiled}

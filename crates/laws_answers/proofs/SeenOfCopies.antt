@@ -18,19 +18,15 @@ use Rattle.remote_view.specs.Fold.{EntriesSeen as View, fold}
 use Rattle.view_refresh.specs.Refreshing.{fed_all}
 use Rattle.copy_task.specs.Copying.{Copied, start_note, finish_note}
 use Rattle.copy_task.specs.Turns.{Tiers, StartRow, FinishRow, CheckRow, CopyTurnRow}
-use Rattle.copy_task.specs.declared.turn.CopyTurn.{CopyTurn}
-use Rattle.copy_task.specs.declared.turn.CopyTurn.TheVariants.{Ends}
 use Rattle.copy_task.specs.declared.turn.CopyStep.{CopyStep}
 use Rattle.copy_task.specs.declared.turn.CopyStep.TheVariants.{Start, Put, Finish, Check, Delete}
 use Rattle.expiry_task.specs.Turns.{note_of, ExpiryRow}
 use Rattle.expiry_task.specs.Turns as expiry
 use Rattle.expiry_task.specs.declared.turn.ExpiredSegment.{ExpiredSegment}
-use Rattle.expiry_task.specs.declared.turn.ExpiryTurn.{ExpiryTurn}
-use Rattle.expiry_task.specs.declared.turn.ExpiryTurn.TheVariants as expiring
 use Rattle.expiry_task.specs.declared.turn.DeletionStep.{DeletionStep as Deletion}
 use Rattle.expiry_task.specs.declared.turn.DeletionStep.TheVariants as deletion
-use Rattle.tier_fetch.specs.declared.turn.FetchTurn.{FetchTurn}
-use Rattle.tier_fetch.specs.declared.turn.FetchTurn.TheVariants as fetch
+use Rattle.plain_log.specs.declared.turn.Turn.{Turn}
+use Rattle.plain_log.specs.declared.turn.Turn.TheVariants.{Ends}
 use Rattle.tier_fetch.specs.declared.turn.FetchStep.{FetchStep as Search}
 use Rattle.tier_fetch.specs.declared.turn.FetchStep.TheVariants.{Refresh, Index, Log}
 use Rattle.tier_fetch.specs.declared.turn.FetchRequest.{FetchRequest}
@@ -43,8 +39,6 @@ use Rattle.remote_find.specs.declared.piece.Piece.{Piece}
 use Rattle.time_find.specs.declared.turn.Asked.{Asked}
 use Rattle.time_find.specs.declared.turn.SearchStep.{SearchStep as Dating}
 use Rattle.time_find.specs.declared.turn.SearchStep.TheVariants as dating
-use Rattle.time_find.specs.declared.turn.TimeTurn.{TimeTurn}
-use Rattle.time_find.specs.declared.turn.TimeTurn.TheVariants as time
 use Rattle.time_find.specs.Turns.{Indexes, SearchTakes as SearchesLog, SeekRow, TimeRow, wanted_at}
 use Rattle.plain_log.specs.declared.answer.Answer.TheVariants.{Down, NotLeader, CopyOff, MetaFault, DiskFault, Damaged, Stopped, OutOfRange, Empty, NoOffset}
 use Rattle.plain_log.specs.declared.answer.Place.TheVariants.{File}
@@ -92,24 +86,24 @@ DoomsBelow es start (Expires g expired_segment next) = EndsBelow es start expire
 DoomsBelow es start other = Unit {0}
 
 module _ {M : Type 0} (meta : MetaGhosts M) (start : ℕ) where
-  start_notes : (copy : Copied) (origin : EventOrigin) (turn : CopyTurn) (old new : M) → IsTrue (meta.content old).is_observable → StartRow meta.content meta.control copy origin (Ok turn) old new
+  start_notes : (copy : Copied) (origin : EventOrigin) (turn : Turn CopyStep) (old new : M) → IsTrue (meta.content old).is_observable → StartRow meta.content meta.control copy origin (Ok turn) old new
       → GoesNotes start (meta.content old).notes (meta.content new).notes
   start_notes copy origin (Ends MetaFault) old new is_observable row = grown start (start_note copy origin) _ (meta.content old) (meta.content new) row.content refl is_observable
   start_notes copy origin turn old new is_observable row = grown start (start_note copy origin) _ (meta.content old) (meta.content new) row.1.content refl is_observable
 
-  finish_notes : (copy : Copied) (origin : EventOrigin) (turn : CopyTurn) (old new : M) → IsTrue (meta.content old).is_observable → FinishRow meta.content meta.control copy origin (Ok turn) old new
+  finish_notes : (copy : Copied) (origin : EventOrigin) (turn : Turn CopyStep) (old new : M) → IsTrue (meta.content old).is_observable → FinishRow meta.content meta.control copy origin (Ok turn) old new
       → GoesNotes start (meta.content old).notes (meta.content new).notes
   finish_notes copy origin (Ends MetaFault) old new is_observable row = grown start (finish_note copy origin) _ (meta.content old) (meta.content new) row.content (inl refl) is_observable
   finish_notes copy origin turn old new is_observable row = grown start (finish_note copy origin) _ (meta.content old) (meta.content new) row.1.content (inl refl) is_observable
 
-  deletion_starts : (expired_segment : ExpiredSegment) (origin : EventOrigin) (turn : ExpiryTurn) (old new : M) → IsTrue (meta.content old).is_observable → EndsBelow (fold (meta.content old).notes) start expired_segment.id
+  deletion_starts : (expired_segment : ExpiredSegment) (origin : EventOrigin) (turn : Turn Deletion) (old new : M) → IsTrue (meta.content old).is_observable → EndsBelow (fold (meta.content old).notes) start expired_segment.id
       → expiry.StartRow meta.content meta.control expired_segment origin (Ok turn) old new → GoesNotes start (meta.content old).notes (meta.content new).notes
-  deletion_starts expired_segment origin (expiring.Ends MetaFault) old new is_observable low row = grown start (note_of expired_segment origin DeleteStarted) _ (meta.content old) (meta.content new) row.content (inr low) is_observable
+  deletion_starts expired_segment origin (Ends MetaFault) old new is_observable low row = grown start (note_of expired_segment origin DeleteStarted) _ (meta.content old) (meta.content new) row.content (inr low) is_observable
   deletion_starts expired_segment origin turn old new is_observable low row = grown start (note_of expired_segment origin DeleteStarted) _ (meta.content old) (meta.content new) row.1.content (inr low) is_observable
 
-  deletion_ends : (expired_segment : ExpiredSegment) (origin : EventOrigin) (turn : ExpiryTurn) (old new : M) → IsTrue (meta.content old).is_observable → EndsBelow (fold (meta.content old).notes) start expired_segment.id
+  deletion_ends : (expired_segment : ExpiredSegment) (origin : EventOrigin) (turn : Turn Deletion) (old new : M) → IsTrue (meta.content old).is_observable → EndsBelow (fold (meta.content old).notes) start expired_segment.id
       → expiry.FinishRow meta.content meta.control expired_segment origin (Ok turn) old new → GoesNotes start (meta.content old).notes (meta.content new).notes
-  deletion_ends expired_segment origin (expiring.Ends MetaFault) old new is_observable low row = grown start (note_of expired_segment origin DeleteFinished) _ (meta.content old) (meta.content new) row.content (inr low) is_observable
+  deletion_ends expired_segment origin (Ends MetaFault) old new is_observable low row = grown start (note_of expired_segment origin DeleteFinished) _ (meta.content old) (meta.content new) row.content (inr low) is_observable
   deletion_ends expired_segment origin turn old new is_observable low row = grown start (note_of expired_segment origin DeleteFinished) _ (meta.content old) (meta.content new) row.1.content (inr low) is_observable
 
 module _ {S M : Type 0} (meta : MetaGhosts M) (start : ℕ) where
@@ -184,12 +178,12 @@ module _ {S M : Type 0} (meta : MetaGhosts M) (start : ℕ) where
     pub fed : List Note
     pub view_is : view ≡ fed_all broker_tier.view fed
 
-  check_goes : (copy : Copied) (turn : CopyTurn) (t : RemoteTier S M) (broker_tier : BrokerTierState) (view : View) (t' : RemoteTier S M) → CheckRow meta.content meta.control copy (Ok turn) broker_tier.view view t.meta t'.meta
+  check_goes : (copy : Copied) (turn : Turn CopyStep) (t : RemoteTier S M) (broker_tier : BrokerTierState) (view : View) (t' : RemoteTier S M) → CheckRow meta.content meta.control copy (Ok turn) broker_tier.view view t.meta t'.meta
       → ViewGoes t broker_tier view t'
   check_goes copy (Ends MetaFault) t broker_tier view t' row = record { notes = inl row.content.notes; fed = []; view_is = row.view }
   check_goes copy turn t broker_tier view t' row = record { notes = inl row.1.content.notes; fed = row.1.view.notes; view_is = row.1.view.view }
 
-  copy_goes : (store : StoreGhosts S) (copy : Copied) (origin : EventOrigin) (next : CopyStep) (turn : CopyTurn) (t : RemoteTier S M) (broker_tier : BrokerTierState) (view : View) (t' : RemoteTier S M) → IsTrue (meta.content t.meta).is_observable
+  copy_goes : (store : StoreGhosts S) (copy : Copied) (origin : EventOrigin) (next : CopyStep) (turn : Turn CopyStep) (t : RemoteTier S M) (broker_tier : BrokerTierState) (view : View) (t' : RemoteTier S M) → IsTrue (meta.content t.meta).is_observable
       → CopyTurnRow store.content store.control meta.content meta.control copy origin next (Ok turn) (tiers_of broker_tier.view t) (tiers_of view t') → ViewGoes t broker_tier view t'
   copy_goes store copy origin Start turn t broker_tier view t' is_observable row =
       record { notes = start_notes meta start copy origin turn t.meta t'.meta is_observable row.1; fed = []; view_is = ap (λ (k : Tiers S M). k.view) row.0 }
@@ -202,12 +196,12 @@ module _ {S M : Type 0} (meta : MetaGhosts M) (start : ℕ) where
       record { notes = inl (ap (λ (k : Tiers S M). (meta.content k.meta).notes) row.0); fed = []; view_is = ap (λ (k : Tiers S M). k.view) row.0 }
 
   -- a fetch's first turn in the remote tier is a refresh; the others leave the metadata log and the view
-  refresh_goes : (wanted : FetchRequest) (line : List (ℕ × ℕ)) (turn : FetchTurn) (t : RemoteTier S M) (broker_tier : BrokerTierState) (view : View) (t' : RemoteTier S M)
+  refresh_goes : (wanted : FetchRequest) (line : List (ℕ × ℕ)) (turn : Turn Search) (t : RemoteTier S M) (broker_tier : BrokerTierState) (view : View) (t' : RemoteTier S M)
       → RefreshRow meta.content meta.control wanted line (Ok turn) broker_tier.view view t.meta t'.meta → ViewGoes t broker_tier view t'
-  refresh_goes wanted line (fetch.Ends MetaFault) t broker_tier view t' row = record { notes = inl row.content.notes; fed = []; view_is = row.view }
+  refresh_goes wanted line (Ends MetaFault) t broker_tier view t' row = record { notes = inl row.content.notes; fed = []; view_is = row.view }
   refresh_goes wanted line turn t broker_tier view t' row = record { notes = inl row.1.content.notes; fed = row.1.view.notes; view_is = row.1.view.view }
 
-  fetch_goes : (store : StoreGhosts S) (wanted : FetchRequest) (line : List (ℕ × ℕ)) (next : Search) (turn : FetchTurn) (t : RemoteTier S M) (broker_tier : BrokerTierState) (view : View) (cache : Cache) (t' : RemoteTier S M)
+  fetch_goes : (store : StoreGhosts S) (wanted : FetchRequest) (line : List (ℕ × ℕ)) (next : Search) (turn : Turn Search) (t : RemoteTier S M) (broker_tier : BrokerTierState) (view : View) (cache : Cache) (t' : RemoteTier S M)
       → RemoteFetchRow store.content store.control meta.content meta.control wanted line next (Ok turn) (fetch_tiers broker_tier.view broker_tier.cache t) (fetch_tiers view cache t') → ViewGoes t broker_tier view t'
   fetch_goes store wanted line Refresh turn t broker_tier view cache t' row = refresh_goes wanted line turn t broker_tier view t' row.1
   fetch_goes store wanted line (Index piece) turn t broker_tier view cache t' row =
@@ -226,10 +220,10 @@ module _ {S M : Type 0} (meta : MetaGhosts M) (start : ℕ) where
       }
 
   -- a timestamp lookup refreshes it too, where it looks for a piece; its other turns leave both
-  seek_goes : (asked : Asked) (line : List (ℕ × ℕ)) (cursor : ℕ) (turn : TimeTurn) (t : RemoteTier S M) (broker_tier : BrokerTierState) (view : View)
+  seek_goes : (asked : Asked) (line : List (ℕ × ℕ)) (cursor : ℕ) (turn : Turn (ℕ × Dating)) (t : RemoteTier S M) (broker_tier : BrokerTierState) (view : View)
       (t' : RemoteTier S M)
       → SeekRow meta.content meta.control asked line cursor (Ok turn) broker_tier.view view t.meta t'.meta → ViewGoes t broker_tier view t'
-  seek_goes asked line cursor (time.Ends MetaFault) t broker_tier view t' row = record
+  seek_goes asked line cursor (Ends MetaFault) t broker_tier view t' row = record
       { notes = inl row.content.notes; fed = []; view_is = row.view }
   seek_goes asked line cursor turn t broker_tier view t' row = record
       { notes = inl row.1.content.notes; fed = row.1.view.notes; view_is = row.1.view.view }
@@ -245,7 +239,7 @@ module _ {S M : Type 0} (meta : MetaGhosts M) (start : ℕ) where
       }
 
   indexes_goes : (store : StoreGhosts S) (asked : Asked) (line : List (ℕ × ℕ)) (cursor from : ℕ) (piece : Piece)
-      (found : Result FetchTurn AllocError) (turn : TimeTurn) (t : RemoteTier S M) (broker_tier : BrokerTierState)
+      (found : Result (Turn Search) AllocError) (turn : Turn (ℕ × Dating)) (t : RemoteTier S M) (broker_tier : BrokerTierState)
       (view : View) (cache : Cache) (t' : RemoteTier S M)
       → RemoteFetchRow store.content store.control meta.content meta.control (wanted_at asked from) line (fetching.Index piece) found
       (fetch_tiers broker_tier.view broker_tier.cache t) (fetch_tiers view cache t')
@@ -255,7 +249,7 @@ module _ {S M : Type 0} (meta : MetaGhosts M) (start : ℕ) where
   indexes_goes store asked line cursor from piece (Err e) turn t broker_tier view cache t' row k = absurd (let no : false ≡ true = k in cc)
 
   searches_goes : (store : StoreGhosts S) (asked : Asked) (line : List (ℕ × ℕ)) (from : ℕ) (piece : Piece) (span : Span)
-      (found : Result FetchTurn AllocError) (turn : TimeTurn) (t : RemoteTier S M) (broker_tier : BrokerTierState)
+      (found : Result (Turn Search) AllocError) (turn : Turn (ℕ × Dating)) (t : RemoteTier S M) (broker_tier : BrokerTierState)
       (view : View) (cache : Cache) (t' : RemoteTier S M)
       → RemoteFetchRow store.content store.control meta.content meta.control (wanted_at asked from) line (fetching.Log piece span) found
       (fetch_tiers broker_tier.view broker_tier.cache t) (fetch_tiers view cache t')
@@ -264,7 +258,7 @@ module _ {S M : Type 0} (meta : MetaGhosts M) (start : ℕ) where
       (fetching.Log piece span) found t broker_tier view cache t' row
   searches_goes store asked line from piece span (Err e) turn t broker_tier view cache t' row k = absurd (let no : false ≡ true = k in cc)
 
-  time_goes : (store : StoreGhosts S) (asked : Asked) (line : List (ℕ × ℕ)) (cursor : ℕ) (next : Dating) (turn : TimeTurn) (t : RemoteTier S M)
+  time_goes : (store : StoreGhosts S) (asked : Asked) (line : List (ℕ × ℕ)) (cursor : ℕ) (next : Dating) (turn : Turn (ℕ × Dating)) (t : RemoteTier S M)
       (broker_tier : BrokerTierState) (view : View) (cache : Cache) (t' : RemoteTier S M)
       → TimeRow store.content store.control meta.content meta.control asked line cursor next (Ok turn) (fetch_tiers broker_tier.view broker_tier.cache t)
       (fetch_tiers view cache t') → ViewGoes t broker_tier view t'
@@ -284,7 +278,7 @@ module _ {S M : Type 0} (meta : MetaGhosts M) (start : ℕ) where
       searches_goes store asked line from piece span row.1.0 turn t broker_tier view cache t' row.1.1 row.1.2
 
   -- an expiry's later turns leave the views
-  deletion_goes : (store : StoreGhosts S) (expired_segment : ExpiredSegment) (origin : EventOrigin) (next : Deletion) (turn : ExpiryTurn) (t t' : RemoteTier S M) → IsTrue (meta.content t.meta).is_observable
+  deletion_goes : (store : StoreGhosts S) (expired_segment : ExpiredSegment) (origin : EventOrigin) (next : Deletion) (turn : Turn Deletion) (t t' : RemoteTier S M) → IsTrue (meta.content t.meta).is_observable
       → EndsBelow (fold (meta.content t.meta).notes) start expired_segment.id
       → ExpiryRow store.content store.control meta.content meta.control expired_segment origin next (Ok turn) (expiry_tiers t) (expiry_tiers t')
       → GoesNotes start (meta.content t.meta).notes (meta.content t'.meta).notes
@@ -329,7 +323,7 @@ module _ {D S M : Type 0} (disk : DiskGhosts D) (store : StoreGhosts S) (meta : 
   begin_goes h t b x broker_tier (Offset (At ts)) outcome h' t' at row = leaders_goes meta start h t b x broker_tier outcome t' at row.0
   begin_goes h t b x broker_tier other outcome h' t' at row = same_tier meta start b broker_tier t t' at row.1
 
-  seeks_goes : (p : PartitionId) (t : RemoteTier S M) (b : ℕ) (x : Node D) (broker_tier : BrokerTierState) (offset limit : ℕ) (next : Search) (turn : FetchTurn) (t' : RemoteTier S M)
+  seeks_goes : (p : PartitionId) (t : RemoteTier S M) (b : ℕ) (x : Node D) (broker_tier : BrokerTierState) (offset limit : ℕ) (next : Search) (turn : Turn Search) (t' : RemoteTier S M)
       → GoesOnFetch store meta p t b x broker_tier offset limit next turn t' → TierGoes meta start b broker_tier t t'
   seeks_goes p t b x broker_tier offset limit next turn t' goes =
       let k = fetch_goes meta start store (wanted_of p x offset limit) (line_of x) next turn t broker_tier goes.view goes.cache t' goes.row in
@@ -346,7 +340,7 @@ module _ {D S M : Type 0} (disk : DiskGhosts D) (store : StoreGhosts S) (meta : 
   fetch_on_goes p h t b x broker_tier g offset limit next other t' at row = elim row [ ]
 
   search_goes : (h : PartitionState D) (t : RemoteTier S M) (b : ℕ) (x : Node D) (broker_tier : BrokerTierState) (asked : Asked) (cursor : ℕ) (next : Dating) (own : Bool)
-      (turn : TimeTurn) (h' : PartitionState D) (t' : RemoteTier S M)
+      (turn : Turn (ℕ × Dating)) (h' : PartitionState D) (t' : RemoteTier S M)
       → slice_get t.broker_tiers b ≡ Some broker_tier → SearchRow disk store meta h t b x broker_tier asked cursor next own turn h' t'
       → TierGoes meta start b broker_tier t t'
   search_goes h t b x broker_tier asked cursor next true turn h' t' at row = same_tier meta start b broker_tier t t' at row.1
@@ -362,7 +356,7 @@ module _ {D S M : Type 0} (disk : DiskGhosts D) (store : StoreGhosts S) (meta : 
       }
 
   dates_goes : (p : PartitionId) (h : PartitionState D) (t : RemoteTier S M) (b : ℕ) (x : Node D) (broker_tier : BrokerTierState) (g : StartSnapshot) (ts : ℤ) (cursor : ℕ)
-      (next : Dating) (turn : TimeTurn) (h' : PartitionState D) (t' : RemoteTier S M)
+      (next : Dating) (turn : Turn (ℕ × Dating)) (h' : PartitionState D) (t' : RemoteTier S M)
       → slice_get t.broker_tiers b ≡ Some broker_tier → SearchesOn disk store meta p h t b x broker_tier g ts cursor next turn h' t'
       → TierGoes meta start b broker_tier t t'
   dates_goes p h t b x broker_tier g ts cursor next turn h' t' at row =

@@ -38,8 +38,9 @@ use Rattle.remote_find.specs.Pieces.{piece_at}
 use Rattle.remote_find.proofs.Clipping.{piece_lies}
 use Rattle.rebuild_task.specs.declared.turn.RebuildRequest.{RebuildRequest}
 use Rattle.rebuild_task.specs.declared.turn.RebuildStep.TheVariants.{Restart}
-use Rattle.rebuild_task.specs.declared.turn.RebuildTurn.{RebuildTurn}
-use Rattle.rebuild_task.specs.declared.turn.RebuildTurn.TheVariants.{Goes, Ends}
+use Rattle.rebuild_task.specs.declared.turn.RebuildStep.{RebuildStep}
+use Rattle.plain_log.specs.declared.turn.Turn.{Turn}
+use Rattle.plain_log.specs.declared.turn.Turn.TheVariants.{Goes, Ends}
 use Rattle.rebuild_task.specs.Turns.{spot_in, epochs_of, TakesBytes, TakesEpochs, ReadsEpochs, EpochsRow, RebuildRow}
 use Rattle.tier_safe.specs.Scene.{BrokerTierView, Rebuild, Rebuilds, Scene}
 use Rattle.tier_safe.specs.Safe.{TierSafe}
@@ -175,7 +176,7 @@ none_lacks objects spot text bytes is k = ap (short_of spot) is ∙ not_short sp
 
 module _ {S : Type 0} (objects : S → store.Content) (calls : S → Control store_call.call_code) where
   -- the row, of the place where they are
-  at_place : (c : Scene) (p : Plain) (rebuild : Rebuild) (wanted : RebuildRequest) (line : List (ℕ × ℕ)) (view : EntriesSeen) (front : List (List ℕ)) (turn : RebuildTurn) (old new : S)
+  at_place : (c : Scene) (p : Plain) (rebuild : Rebuild) (wanted : RebuildRequest) (line : List (ℕ × ℕ)) (view : EntriesSeen) (front : List (List ℕ)) (turn : Turn RebuildStep) (old new : S)
       → (f : Found c p rebuild wanted line view front) → RebuildRow objects calls wanted line view (Ok turn) old new → ReadsEpochs objects calls wanted.offset f.spot (Ok turn) old new
   at_place c p rebuild wanted line view front turn old new f row =
       subst (λ (o : Option Spot). EpochsRow objects calls wanted.offset view o (Ok turn) old new) (ap (epochs_of wanted.partition view.entries) f.there ∙ f.place) row
@@ -189,7 +190,7 @@ module _ {S : Type 0} (objects : S → store.Content) (calls : S → Control sto
       given_text (objects old).objects f.spot text given (gets.bytes h.is_observable) (subst (λ (o : store.Objects). IsPlaced o f.spot text) h.objects_are f.placed)
 
   -- of bytes that are given none are lacking
-  taken : (c : Scene) (p : Plain) (rebuild : Rebuild) (wanted : RebuildRequest) (line : List (ℕ × ℕ)) (view : EntriesSeen) (front : List (List ℕ)) (given : List ℕ) (result : Result RebuildTurn AllocError)
+  taken : (c : Scene) (p : Plain) (rebuild : Rebuild) (wanted : RebuildRequest) (line : List (ℕ × ℕ)) (view : EntriesSeen) (front : List (List ℕ)) (given : List ℕ) (result : Result (Turn RebuildStep) AllocError)
       → (f : Found c p rebuild wanted line view front) → given ≡ text_of (line_of (whole_of f.reads.held)) → TakesEpochs wanted.offset f.spot (Ok (Some given)) result
       → TakesBytes None wanted.offset f.spot given result
   taken c p rebuild wanted line view front given result f is k =

@@ -11,7 +11,7 @@ use Rattle.plain_log.specs.declared.answer.Place.{Place}
 use Rattle.remote_view.specs.Fold.{EntriesSeen}
 use Rattle.rebuild_task.specs.declared.turn.RebuildRequest.{RebuildRequest}
 use Rattle.rebuild_task.specs.declared.turn.RebuildStep.TheVariants.{Restart}
-use Rattle.rebuild_task.specs.declared.turn.RebuildTurn.TheVariants.{Goes, Ends}
+use Rattle.plain_log.specs.declared.turn.Turn.TheVariants.{Goes, Ends}
 use Rattle.rebuild_task.specs.Turns.{RebuildRow}
 use Rattle.tier_safe.specs.Scene.{BrokerTierView, Rebuild, Rebuilds, Scene}
 use Rattle.tier_safe.specs.May.{IsChanged}

@@ -30,7 +30,7 @@ use Rattle.remote_find.specs.Pieces.{piece_at}
 use Rattle.tier_fetch.specs.declared.turn.FetchRequest.{FetchRequest}
 use Rattle.tier_fetch.specs.declared.turn.Span.{Span}
 use Rattle.tier_fetch.specs.declared.turn.FetchStep.TheVariants.{Refresh, Index, Log}
-use Rattle.tier_fetch.specs.declared.turn.FetchTurn.TheVariants.{Ends}
+use Rattle.plain_log.specs.declared.turn.Turn.TheVariants.{Ends}
 use Rattle.tier_fetch.specs.Turns.{spot_in, chosen, LoadsBytes, Loads, CutsBytes, CutsRunOut, RefreshRow, LoadRow, IndexRow, LogRow}
 use Rattle.tier_safe.specs.Scene.{BrokerTierView, Seeks, Scene}
 use Rattle.tier_safe.specs.Safe.{BothSafe}

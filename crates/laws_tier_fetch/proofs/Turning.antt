@@ -33,8 +33,8 @@ use Rattle.tier_fetch.specs.declared.turn.FetchRequest.{FetchRequest}
 use Rattle.tier_fetch.specs.declared.turn.Span.{Span}
 use Rattle.tier_fetch.specs.declared.turn.FetchStep.{FetchStep}
 use Rattle.tier_fetch.specs.declared.turn.FetchStep.TheVariants.{Refresh, Index, Log}
-use Rattle.tier_fetch.specs.declared.turn.FetchTurn.{FetchTurn}
-use Rattle.tier_fetch.specs.declared.turn.FetchTurn.TheVariants.{Goes, Ends}
+use Rattle.plain_log.specs.declared.turn.Turn.{Turn}
+use Rattle.plain_log.specs.declared.turn.Turn.TheVariants.{Goes, Ends}
 use Rattle.tier_fetch.specs.Turns.{chosen, spot_in, reads_by, IsLoaded, LoadsBytes, Loads, CutsBytes, CutsRunOut, RefreshRow, LoadRow, IndexRow, LogRow, Tiers}
 use Rattle.tier_safe.specs.Scene.{BrokerTierView, TierTask, Free, Seeks, Scene}
 use Rattle.tier_safe.specs.Changes.{Moves, Finds, Reads, Caches, effect}
@@ -179,7 +179,7 @@ module _ {S M : Type 0} (objects : S → store.Content) (calls : S → Control s
     (notes : M → meta.Content) (notings : M → Control meta_call.call_code) where
   -- refreshes
 
-  refresh_turn : (c : Scene) (p : Plain) (a b : ℕ) (tier_view : BrokerTierView) (x : Broker) (stops epoch : ℕ) (wanted : FetchRequest) (line : List (ℕ × ℕ)) (result : Result FetchTurn AllocError) (s : store.Content)
+  refresh_turn : (c : Scene) (p : Plain) (a b : ℕ) (tier_view : BrokerTierView) (x : Broker) (stops epoch : ℕ) (wanted : FetchRequest) (line : List (ℕ × ℕ)) (result : Result (Turn FetchStep) AllocError) (s : store.Content)
       (cache : Cache) (view after : EntriesSeen) (old new : M) → IsAtTurn c p a b tier_view x stops epoch wanted line Refresh s (notes old) view cache
       → RefreshRow notes notings wanted line result view after old new
       → IsChanged c p (after_fetch c a b tier_view (fetch_after b stops epoch wanted.offset Refresh result) s.objects (notes new).notes after cache)
@@ -218,7 +218,7 @@ module _ {S M : Type 0} (objects : S → store.Content) (calls : S → Control s
 
   -- a turn with the index continues
   went : (c : Scene) (p : Plain) (a b : ℕ) (tier_view : BrokerTierView) (x : Broker) (stops epoch : ℕ) (wanted : FetchRequest) (line : List (ℕ × ℕ)) (piece : Piece) (ns : meta.Content) (view : EntriesSeen) (cache cache' : Cache)
-      (old new : S) (turn : FetchTurn) (index : OffsetTable) → IsAtTurn c p a b tier_view x stops epoch wanted line (Index piece) (objects old) ns view cache → (objects new).objects ≡ (objects old).objects
+      (old new : S) (turn : Turn FetchStep) (index : OffsetTable) → IsAtTurn c p a b tier_view x stops epoch wanted line (Index piece) (objects old) ns view cache → (objects new).objects ≡ (objects old).objects
       → turn ≡ reads_by wanted piece index
       → ((id : SegmentId) (t : OffsetTable) → In (id, t) (indexes_in cache') → In (id, t) tier_view.cache ⊎ CachedStands p.paths c.notes id t)
       → IndexStands p.paths (fold c.notes) piece.id index
@@ -229,7 +229,7 @@ module _ {S M : Type 0} (objects : S → store.Content) (calls : S → Control s
       (reads_on c p a b tier_view stops epoch wanted piece index cache' h.shows.tier_view_is h.shows.actor_state are stand)
 
   -- it was in the cache
-  cached_turn : (c : Scene) (p : Plain) (a b : ℕ) (tier_view : BrokerTierView) (x : Broker) (stops epoch : ℕ) (wanted : FetchRequest) (line : List (ℕ × ℕ)) (piece : Piece) (result : Result FetchTurn AllocError)
+  cached_turn : (c : Scene) (p : Plain) (a b : ℕ) (tier_view : BrokerTierView) (x : Broker) (stops epoch : ℕ) (wanted : FetchRequest) (line : List (ℕ × ℕ)) (piece : Piece) (result : Result (Turn FetchStep) AllocError)
       (ns : meta.Content) (view : EntriesSeen) (cache cache' : Cache) (old new : S) (index : OffsetTable) → IsAtTurn c p a b tier_view x stops epoch wanted line (Index piece) (objects old) ns view cache
       → found piece.id.0 cache.pairs ≡ Some index → IndexRow objects calls wanted piece view result (Some index) cache cache' old new
       → IsChanged c p (after_fetch c a b tier_view (fetch_after b stops epoch wanted.offset (Index piece) result) (objects new).objects ns.notes view cache')
@@ -260,7 +260,7 @@ module _ {S M : Type 0} (objects : S → store.Content) (calls : S → Control s
 
   -- by where bytes are lacking
   bytes_turn : (end : Option ℕ) (c : Scene) (p : Plain) (a b : ℕ) (tier_view : BrokerTierView) (x : Broker) (stops epoch : ℕ) (wanted : FetchRequest) (line : List (ℕ × ℕ)) (piece : Piece)
-      (result : Result FetchTurn AllocError) (ns : meta.Content) (view : EntriesSeen) (cache cache' : Cache) (old new : S) (place : ℕ × Spot) (bytes : List ℕ)
+      (result : Result (Turn FetchStep) AllocError) (ns : meta.Content) (view : EntriesSeen) (cache cache' : Cache) (old new : S) (place : ℕ × Spot) (bytes : List ℕ)
       → IsAtTurn c p a b tier_view x stops epoch wanted line (Index piece) (objects old) ns view cache
       → spot_in wanted.partition piece.id part.Index (entry_of piece.id view.entries) ≡ Some place → Gets objects calls place.1.key (all_of place.1) (Ok (Some bytes)) old new
       → LoadsBytes end wanted piece place.0 place.1 bytes result cache cache'
@@ -275,7 +275,7 @@ module _ {S M : Type 0} (objects : S → store.Content) (calls : S → Control s
   bytes_turn None c p a b tier_view x stops epoch wanted line piece (Err e) ns view cache cache' old new place bytes h at gets k =
       halted c p a b tier_view x stops epoch wanted line (Index piece) ns view cache cache' old new h (fun_ext gets.content.objects) k
 
-  read_turn : (c : Scene) (p : Plain) (a b : ℕ) (tier_view : BrokerTierView) (x : Broker) (stops epoch : ℕ) (wanted : FetchRequest) (line : List (ℕ × ℕ)) (piece : Piece) (result : Result FetchTurn AllocError) (ns : meta.Content)
+  read_turn : (c : Scene) (p : Plain) (a b : ℕ) (tier_view : BrokerTierView) (x : Broker) (stops epoch : ℕ) (wanted : FetchRequest) (line : List (ℕ × ℕ)) (piece : Piece) (result : Result (Turn FetchStep) AllocError) (ns : meta.Content)
       (view : EntriesSeen) (cache cache' : Cache) (old new : S) (place : ℕ × Spot) (answer : Result (Option (List ℕ)) Trouble)
       → IsAtTurn c p a b tier_view x stops epoch wanted line (Index piece) (objects old) ns view cache
       → spot_in wanted.partition piece.id part.Index (entry_of piece.id view.entries) ≡ Some place → Gets objects calls place.1.key (all_of place.1) answer old new
@@ -293,7 +293,7 @@ module _ {S M : Type 0} (objects : S → store.Content) (calls : S → Control s
   read_turn c p a b tier_view x stops epoch wanted line piece result ns view cache cache' old new place (Ok (Some bytes)) h at gets k =
       bytes_turn (short_of place.1 bytes) c p a b tier_view x stops epoch wanted line piece result ns view cache cache' old new place bytes h at gets k
 
-  load_turn : (c : Scene) (p : Plain) (a b : ℕ) (tier_view : BrokerTierView) (x : Broker) (stops epoch : ℕ) (wanted : FetchRequest) (line : List (ℕ × ℕ)) (piece : Piece) (result : Result FetchTurn AllocError) (ns : meta.Content)
+  load_turn : (c : Scene) (p : Plain) (a b : ℕ) (tier_view : BrokerTierView) (x : Broker) (stops epoch : ℕ) (wanted : FetchRequest) (line : List (ℕ × ℕ)) (piece : Piece) (result : Result (Turn FetchStep) AllocError) (ns : meta.Content)
       (view : EntriesSeen) (cache cache' : Cache) (old new : S) (place : Option (ℕ × Spot)) → IsAtTurn c p a b tier_view x stops epoch wanted line (Index piece) (objects old) ns view cache
       → spot_in wanted.partition piece.id part.Index (entry_of piece.id view.entries) ≡ place → LoadRow objects calls wanted piece view place result cache cache' old new
       → IsChanged c p (after_fetch c a b tier_view (fetch_after b stops epoch wanted.offset (Index piece) result) (objects new).objects ns.notes view cache')
@@ -303,7 +303,7 @@ module _ {S M : Type 0} (objects : S → store.Content) (calls : S → Control s
   load_turn c p a b tier_view x stops epoch wanted line piece result ns view cache cache' old new (Some place) h at row =
       read_turn c p a b tier_view x stops epoch wanted line piece result ns view cache cache' old new place row.answer h at row.gets row.loads
 
-  index_turn : (c : Scene) (p : Plain) (a b : ℕ) (tier_view : BrokerTierView) (x : Broker) (stops epoch : ℕ) (wanted : FetchRequest) (line : List (ℕ × ℕ)) (piece : Piece) (result : Result FetchTurn AllocError) (ns : meta.Content)
+  index_turn : (c : Scene) (p : Plain) (a b : ℕ) (tier_view : BrokerTierView) (x : Broker) (stops epoch : ℕ) (wanted : FetchRequest) (line : List (ℕ × ℕ)) (piece : Piece) (result : Result (Turn FetchStep) AllocError) (ns : meta.Content)
       (view : EntriesSeen) (cache cache' : Cache) (old new : S) (there : Option OffsetTable) → IsAtTurn c p a b tier_view x stops epoch wanted line (Index piece) (objects old) ns view cache
       → found piece.id.0 cache.pairs ≡ there → IndexRow objects calls wanted piece view result there cache cache' old new
       → IsChanged c p (after_fetch c a b tier_view (fetch_after b stops epoch wanted.offset (Index piece) result) (objects new).objects ns.notes view cache')
@@ -314,7 +314,7 @@ module _ {S M : Type 0} (objects : S → store.Content) (calls : S → Control s
 
   -- the last turn changes nothing, and goes no further
 
-  log_keeps : (wanted : FetchRequest) (piece : Piece) (span : Span) (view : EntriesSeen) (place : Option (ℕ × Spot)) (result : Result FetchTurn AllocError) (old new : S)
+  log_keeps : (wanted : FetchRequest) (piece : Piece) (span : Span) (view : EntriesSeen) (place : Option (ℕ × Spot)) (result : Result (Turn FetchStep) AllocError) (old new : S)
       → LogRow objects calls wanted piece span view place result old new → (objects new).objects ≡ (objects old).objects
   log_keeps wanted piece span view None result old new row = ap (λ (t : S). (objects t).objects) row.1
   log_keeps wanted piece span view (Some place) result old new row = fun_ext row.gets.content.objects
@@ -334,7 +334,7 @@ module _ {S M : Type 0} (objects : S → store.Content) (calls : S → Control s
   log_ends wanted piece span view None next old new row = cc (row.0)
   log_ends wanted piece span view (Some place) next old new row = cuts_end wanted piece place.1 span row.answer next row.cuts
 
-  log_turn : (c : Scene) (p : Plain) (a b : ℕ) (tier_view : BrokerTierView) (x : Broker) (stops epoch : ℕ) (wanted : FetchRequest) (line : List (ℕ × ℕ)) (piece : Piece) (span : Span) (result : Result FetchTurn AllocError)
+  log_turn : (c : Scene) (p : Plain) (a b : ℕ) (tier_view : BrokerTierView) (x : Broker) (stops epoch : ℕ) (wanted : FetchRequest) (line : List (ℕ × ℕ)) (piece : Piece) (span : Span) (result : Result (Turn FetchStep) AllocError)
       (ns : meta.Content) (view : EntriesSeen) (cache : Cache) (old new : S) (place : Option (ℕ × Spot)) → IsAtTurn c p a b tier_view x stops epoch wanted line (Log piece span) (objects old) ns view cache
       → LogRow objects calls wanted piece span view place result old new
       → IsChanged c p (after_fetch c a b tier_view (fetch_after b stops epoch wanted.offset (Log piece span) result) (objects new).objects ns.notes view cache)

@@ -21,7 +21,7 @@ use Rattle.tier_fetch.specs.declared.turn.FetchRequest.{FetchRequest}
 use Rattle.tier_fetch.specs.declared.turn.Span.{Span}
 use Rattle.tier_fetch.specs.declared.turn.FetchStep.{FetchStep}
 use Rattle.tier_fetch.specs.declared.turn.FetchStep.TheVariants.{Log}
-use Rattle.tier_fetch.specs.declared.turn.FetchTurn.TheVariants.{Ends}
+use Rattle.plain_log.specs.declared.turn.Turn.TheVariants.{Ends}
 use Rattle.tier_fetch.specs.Turns.{Tiers, RemoteFetchRow}
 use Rattle.tier_safe.specs.Scene.{BrokerTierView, Scene}
 use Rattle.laws_tier_fetch.specs.Seeking.{IsAtTurn}

@@ -20,8 +20,8 @@ use Rattle.remote_find.specs.declared.piece.Piece.{Piece}
 use Rattle.tier_fetch.specs.declared.turn.FetchRequest.{FetchRequest}
 use Rattle.tier_fetch.specs.declared.turn.FetchStep.{FetchStep}
 use Rattle.tier_fetch.specs.declared.turn.FetchStep.TheVariants.{Refresh, Index, Log}
-use Rattle.tier_fetch.specs.declared.turn.FetchTurn.{FetchTurn}
-use Rattle.tier_fetch.specs.declared.turn.FetchTurn.TheVariants.{Goes, Ends}
+use Rattle.plain_log.specs.declared.turn.Turn.{Turn}
+use Rattle.plain_log.specs.declared.turn.Turn.TheVariants.{Goes, Ends}
 use Rattle.tier_safe.specs.Scene.{BrokerTierView, Sought, TierTask, Free, Seeks, Scene}
 use Rattle.tier_safe.specs.Fetches.{StillLeads}
 use Rattle.tier_safe.specs.Safe.{BothSafe}
@@ -54,12 +54,12 @@ sought_of broker stops epoch offset next = record {
 }
 
 -- what its actor's state has after a turn
-abbrev pub fetch_work : ℕ → ℕ → ℕ → ℕ → FetchTurn → TierTask
+abbrev pub fetch_work : ℕ → ℕ → ℕ → ℕ → Turn FetchStep → TierTask
 fetch_work broker stops epoch offset (Goes next) = Seeks (sought_of broker stops epoch offset next)
 fetch_work broker stops epoch offset (Ends answer) = Free
 
 -- after one that may have run out of memory, and then is taken again
-abbrev pub fetch_after : ℕ → ℕ → ℕ → ℕ → FetchStep → Result FetchTurn AllocError → TierTask
+abbrev pub fetch_after : ℕ → ℕ → ℕ → ℕ → FetchStep → Result (Turn FetchStep) AllocError → TierTask
 fetch_after broker stops epoch offset next (Ok turn) = fetch_work broker stops epoch offset turn
 fetch_after broker stops epoch offset next (Err e) = Seeks (sought_of broker stops epoch offset next)
 

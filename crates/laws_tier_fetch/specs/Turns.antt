@@ -16,13 +16,13 @@ use Rattle.object_store.specs.Call as store_call
 use Rattle.object_store.specs.Content as store
 use Rattle.meta_log.specs.Call as meta_call
 use Rattle.meta_log.specs.Content as meta
+use Rattle.plain_log.specs.declared.turn.Turn.{Turn}
 use Rattle.plain_log.specs.declared.state.State.{State as Plain}
 use Rattle.plain_log.specs.declared.state.Broker.{Broker}
 use Rattle.plain_log.specs.Safe.{PlainSafe}
 use Rattle.tier_fetch.specs.declared.turn.FetchRequest.{FetchRequest}
 use Rattle.tier_fetch.specs.declared.turn.FetchStep.{FetchStep}
 use Rattle.tier_fetch.specs.declared.turn.FetchStep.TheVariants.{Refresh}
-use Rattle.tier_fetch.specs.declared.turn.FetchTurn.{FetchTurn}
 use Rattle.tier_fetch.specs.Turns.{Tiers, RemoteFetchRow}
 use Rattle.tier_safe.specs.Scene.{BrokerTierView, Free, Seeks, Scene}
 use Rattle.tier_safe.specs.Fetches.{StillLeads}
@@ -43,7 +43,7 @@ module _ {S M : Type 0} (objects : S → store.Content) (calls : S → Control s
   abbrev pub FetchTurnsChange : Type 0
   FetchTurnsChange =
       (wanted : FetchRequest) (line : List (ℕ
-      × ℕ)) (next : FetchStep) (result : Result FetchTurn AllocError) (old new : Tiers S M)
+      × ℕ)) (next : FetchStep) (result : Result (Turn FetchStep) AllocError) (old new : Tiers S M)
       (c : Scene) (p : Plain) (a b : ℕ) (tier_view : BrokerTierView) (x : Broker) (stops epoch : ℕ)
       → RemoteFetchRow objects calls notes notings wanted line next result old new
       → IsAtTurn c p a b tier_view x stops epoch wanted line next (objects old.store)

@@ -34,8 +34,9 @@ use Rattle.remote_find.specs.Pieces.{piece_at}
 use Rattle.remote_find.proofs.Clipping.{piece_lies}
 use Rattle.tier_fetch.specs.declared.turn.Span.{Span}
 use Rattle.tier_fetch.specs.declared.turn.FetchStep.TheVariants as fetch
-use Rattle.tier_fetch.specs.declared.turn.FetchTurn.{FetchTurn}
-use Rattle.tier_fetch.specs.declared.turn.FetchTurn.TheVariants as fetching
+use Rattle.tier_fetch.specs.declared.turn.FetchStep.{FetchStep}
+use Rattle.plain_log.specs.declared.turn.Turn.{Turn}
+use Rattle.plain_log.specs.declared.turn.Turn.TheVariants.{Goes, Ends}
 use Rattle.tier_fetch.specs.Turns.{spot_in, Tiers, RemoteFetchRow}
 use Rattle.tier_safe.specs.Scene.{BrokerTierView, Free, Scene}
 use Rattle.tier_safe.specs.May.{IsChanged}
@@ -51,7 +52,6 @@ use Rattle.laws_tier_fetch.proofs.Reading.{copy_of, at_spot, gives, first_is}
 use Rattle.laws_tier_fetch.proofs.Turning.{shown}
 use Rattle.time_find.specs.declared.turn.Asked.{Asked}
 use Rattle.time_find.specs.declared.turn.SearchStep.TheVariants.{Seek, Times, Index, Log}
-use Rattle.time_find.specs.declared.turn.TimeTurn.TheVariants.{Ends}
 use Rattle.time_find.specs.Passing.{Passes, Stays, Over, SeeksNothing, Seeks}
 use Rattle.time_find.specs.Turns.{TimesBytes, Times as Timed, wanted_at, Indexes, SearchTakes, SeekRow, TimesRow, SearchIndexRow, SearchLogRow}
 use Rattle.laws_time_find.specs.Searching.{IsAtSearch}
@@ -144,33 +144,33 @@ module _ {S M : Type 0} (objects : S → store.Content) (calls : S → Control s
 
   -- what a fetch's turn says of
 
-  indexes_damage : (asked : Asked) (line : List (ℕ × ℕ)) (cursor from : ℕ) (piece : Piece) (place : Place) (at : ℕ) (turn : Result FetchTurn AllocError) (old new : Tiers S M)
+  indexes_damage : (asked : Asked) (line : List (ℕ × ℕ)) (cursor from : ℕ) (piece : Piece) (place : Place) (at : ℕ) (turn : Result (Turn FetchStep) AllocError) (old new : Tiers S M)
       (c : Scene) (p : Plain) (a b : ℕ) (tier_view : BrokerTierView) (x : Broker) (stops epoch : ℕ) → RemoteFetchRow objects calls notes notings (wanted_at asked from) line (fetch.Index piece) turn old new
       → Indexes cursor piece from turn (Ok (Ends (Damaged place at)))
       → IsAtTurn c p a b tier_view x stops epoch (wanted_at asked from) line (fetch.Index piece) (objects old.store) (notes old.meta) old.view old.cache → ⊥
-  indexes_damage asked line cursor from piece place at (Ok (fetching.Goes (fetch.Log found span))) old new c p a b tier_view x stops epoch row k h = (let is = k.1 in cc (is))
-  indexes_damage asked line cursor from piece place at (Ok (fetching.Goes fetch.Refresh)) old new c p a b tier_view x stops epoch row k h = k
-  indexes_damage asked line cursor from piece place at (Ok (fetching.Goes (fetch.Index found))) old new c p a b tier_view x stops epoch row k h = k
-  indexes_damage asked line cursor from piece place at (Ok (fetching.Ends answer)) old new c p a b tier_view x stops epoch row k h =
+  indexes_damage asked line cursor from piece place at (Ok (Goes (fetch.Log found span))) old new c p a b tier_view x stops epoch row k h = (let is = k.1 in cc (is))
+  indexes_damage asked line cursor from piece place at (Ok (Goes fetch.Refresh)) old new c p a b tier_view x stops epoch row k h = k
+  indexes_damage asked line cursor from piece place at (Ok (Goes (fetch.Index found))) old new c p a b tier_view x stops epoch row k h = k
+  indexes_damage asked line cursor from piece place at (Ok (Ends answer)) old new c p a b tier_view x stops epoch row k h =
       let same : answer ≡ Damaged place at = cc (k) in
-      let told : RemoteFetchRow objects calls notes notings (wanted_at asked from) line (fetch.Index piece) (Ok (fetching.Ends (Damaged place at))) old new =
-      subst (λ (w : Answer). RemoteFetchRow objects calls notes notings (wanted_at asked from) line (fetch.Index piece) (Ok (fetching.Ends w)) old new) same row in
+      let told : RemoteFetchRow objects calls notes notings (wanted_at asked from) line (fetch.Index piece) (Ok (Ends (Damaged place at))) old new =
+      subst (λ (w : Answer). RemoteFetchRow objects calls notes notings (wanted_at asked from) line (fetch.Index piece) (Ok (Ends w)) old new) same row in
       let is = (damage_is_of_logs objects calls notes notings (wanted_at asked from) line (fetch.Index piece) place at old new c p a b tier_view x stops epoch told h).next_is in
       cc (is)
   indexes_damage asked line cursor from piece place at (Err e) old new c p a b tier_view x stops epoch row k h = cc (k)
 
-  searches_damage : (asked : Asked) (line : List (ℕ × ℕ)) (from : ℕ) (piece : Piece) (span : Span) (place : Place) (at : ℕ) (turn : Result FetchTurn AllocError) (old new : Tiers S M)
+  searches_damage : (asked : Asked) (line : List (ℕ × ℕ)) (from : ℕ) (piece : Piece) (span : Span) (place : Place) (at : ℕ) (turn : Result (Turn FetchStep) AllocError) (old new : Tiers S M)
       (c : Scene) (p : Plain) (a b : ℕ) (tier_view : BrokerTierView) (x : Broker) (stops epoch : ℕ) → RemoteFetchRow objects calls notes notings (wanted_at asked from) line (fetch.Log piece span) turn old new
       → SearchTakes asked from turn (Ok (Ends (Damaged place at)))
       → IsAtTurn c p a b tier_view x stops epoch (wanted_at asked from) line (fetch.Log piece span) (objects old.store) (notes old.meta) old.view old.cache
       → IsOfFetched (wanted_at asked from) (fetch.Log piece span) place
-  searches_damage asked line from piece span place at (Ok (fetching.Ends (Run tier size stop bytes))) old new c p a b tier_view x stops epoch row k h = absurd k
-  searches_damage asked line from piece span place at (Ok (fetching.Ends answer)) old new c p a b tier_view x stops epoch row k h =
+  searches_damage asked line from piece span place at (Ok (Ends (Run tier size stop bytes))) old new c p a b tier_view x stops epoch row k h = absurd k
+  searches_damage asked line from piece span place at (Ok (Ends answer)) old new c p a b tier_view x stops epoch row k h =
       let same : answer ≡ Damaged place at = cc (k) in
-      let told : RemoteFetchRow objects calls notes notings (wanted_at asked from) line (fetch.Log piece span) (Ok (fetching.Ends (Damaged place at))) old new =
-      subst (λ (w : Answer). RemoteFetchRow objects calls notes notings (wanted_at asked from) line (fetch.Log piece span) (Ok (fetching.Ends w)) old new) same row in
+      let told : RemoteFetchRow objects calls notes notings (wanted_at asked from) line (fetch.Log piece span) (Ok (Ends (Damaged place at))) old new =
+      subst (λ (w : Answer). RemoteFetchRow objects calls notes notings (wanted_at asked from) line (fetch.Log piece span) (Ok (Ends w)) old new) same row in
       damage_is_of_logs objects calls notes notings (wanted_at asked from) line (fetch.Log piece span) place at old new c p a b tier_view x stops epoch told h
-  searches_damage asked line from piece span place at (Ok (fetching.Goes next)) old new c p a b tier_view x stops epoch row k h = absurd k
+  searches_damage asked line from piece span place at (Ok (Goes next)) old new c p a b tier_view x stops epoch row k h = absurd k
   searches_damage asked line from piece span place at (Err e) old new c p a b tier_view x stops epoch row k h = absurd (cc (k))
 
   index_damage : (asked : Asked) (line : List (ℕ × ℕ)) (cursor from : ℕ) (piece : Piece) (place : Place) (at : ℕ) (old new : Tiers S M) (c : Scene) (p : Plain) (a b : ℕ) (tier_view : BrokerTierView)

@@ -36,8 +36,8 @@ use Rattle.remote_view.specs.Fold.{EntriesSeen, entry_of, view_of}
 use Rattle.remote_find.specs.declared.piece.Piece.{Piece}
 use Rattle.tier_fetch.specs.declared.turn.FetchRequest.{FetchRequest}
 use Rattle.tier_fetch.specs.declared.turn.Span.{Span}
-use Rattle.tier_fetch.specs.declared.turn.FetchTurn.{FetchTurn}
-use Rattle.tier_fetch.specs.declared.turn.FetchTurn.TheVariants as fetch
+use Rattle.plain_log.specs.declared.turn.Turn.{Turn}
+use Rattle.plain_log.specs.declared.turn.Turn.TheVariants.{Goes, Ends}
 use Rattle.tier_fetch.specs.declared.turn.FetchStep.{FetchStep as FetchNext}
 use Rattle.tier_fetch.specs.declared.turn.FetchStep.TheVariants as fetching
 use Rattle.tier_fetch.specs.Turns.{Tiers, RemoteFetchRow, spot_in, LoadsBytes, Loads, LoadRow, CutsBytes, CutsRunOut}
@@ -57,7 +57,6 @@ use Rattle.laws_tier_fetch.proofs.Turning.{shown as own_view}
 use Rattle.time_find.specs.declared.turn.Asked.{Asked}
 use Rattle.time_find.specs.declared.turn.SearchStep.{SearchStep}
 use Rattle.time_find.specs.declared.turn.SearchStep.TheVariants.{Seek, Times as ReadsTimes, Index, Log}
-use Rattle.time_find.specs.declared.turn.TimeTurn.TheVariants.{Goes, Ends}
 use Rattle.time_find.specs.Passing.{top_of, Passes, Seeks as SeeksIn}
 use Rattle.time_find.specs.Turns.{IsSet, IsSearched, from_of, shown, IsTimeIndexRead, TimesBytes, Times, wanted_at, Indexes, SearchTakes, TimesRow, SearchIndexRow, SearchLogRow}
 use Rattle.laws_time_find.specs.Passed.{HasPassed, IsDatedTo, read_from}
@@ -124,7 +123,7 @@ cursor_below cursor (Some moment) = go cursor (moment.1 + 1)
 timed : (c : Scene) (p : Plain) (a b : ℕ) (tier_view : BrokerTierView) (x : Broker) (stops epoch : ℕ) (asked : Asked) (line : List (ℕ × ℕ)) (cursor at : ℕ) (piece : Piece) (then : SearchStep) (s : store.Content)
     (n : meta.Content) (view : EntriesSeen) (cache : Cache) (index : TimeTable) → IsAtSearch c p a b tier_view x stops epoch asked line cursor (ReadsTimes piece) s n view cache → cursor < piece.to
     → (r : FetchReads c p x piece) → piece.from ≤ cursor → index ≡ time_index_of r.entry.start r.held.interval (placed_from 0 r.held.batches)
-    → Goes at then ≡ shown asked cursor piece (from_of cursor (below_time index asked.ts)) → Dated p x asked cursor at then
+    → Goes (at, then) ≡ shown asked cursor piece (from_of cursor (below_time index asked.ts)) → Dated p x asked cursor at then
 timed c p a b tier_view x stops epoch asked line cursor at piece then s n view cache index h set r first is turn = by (nat_lt from top) refl turn
   where
     from : ℕ
@@ -143,7 +142,7 @@ timed c p a b tier_view x stops epoch asked line cursor at piece then s n view c
         shown_early asked.ts r.entry.start r.held.interval r.held.batches k.0 r.held.describes.is found batch
         (of_piece c p b x piece h.safe.plain h.broker_is r batch there (omega (arith, first, behind)) (omega (arith, before, within))) k.2))
 
-    by : (t : Bool) → nat_lt from top ≡ t → Goes at then ≡ cond t (Goes cursor (Index piece from)) (Goes top Seek) → Dated p x asked cursor at then
+    by : (t : Bool) → nat_lt from top ≡ t → Goes (at, then) ≡ cond t (Goes (cursor, Index piece from)) (Goes (top, Seek)) → Dated p x asked cursor at then
     by true low turn =
         let at_is : at ≡ cursor = cc (turn) in
         let then_is : then ≡ Index piece from = cc (turn) in
@@ -167,7 +166,7 @@ timed c p a b tier_view x stops epoch asked line cursor at piece then s n view c
 -- a piece of which nothing is below the known high watermark any more
 topped : (c : Scene) (p : Plain) (a b : ℕ) (tier_view : BrokerTierView) (x : Broker) (stops epoch : ℕ) (asked : Asked) (line : List (ℕ × ℕ)) (cursor at : ℕ) (next then : SearchStep) (piece : Piece) (from : ℕ)
     (s : store.Content) (n : meta.Content) (view : EntriesSeen) (cache : Cache) → IsAtSearch c p a b tier_view x stops epoch asked line cursor next s n view cache → read_from cursor next ≡ from
-    → cursor < piece.to → asked.mark ≤ from → Goes at then ≡ Goes (top_of asked piece) Seek → Dated p x asked cursor at then
+    → cursor < piece.to → asked.mark ≤ from → Goes (at, then) ≡ Goes (top_of asked piece, Seek) → Dated p x asked cursor at then
 topped c p a b tier_view x stops epoch asked line cursor at next then piece from s n view cache h reads set marked is =
     let at_is : at ≡ top_of asked piece = cc (is) in
     let then_is : then ≡ Seek = cc (is) in
@@ -184,7 +183,7 @@ topped c p a b tier_view x stops epoch asked line cursor at next then piece from
 searched_on : (c : Scene) (p : Plain) (a b : ℕ) (tier_view : BrokerTierView) (x : Broker) (stops epoch : ℕ) (asked : Asked) (line : List (ℕ × ℕ)) (cursor from at size : ℕ) (next then : SearchStep) (turn : FetchNext)
     (stop : Stop) (bytes : List ℕ) (s : store.Content) (n : meta.Content) (view : EntriesSeen) (cache : Cache) (tier : Tier)
     → IsAtSearch c p a b tier_view x stops epoch asked line cursor next s n view cache → read_from cursor next ≡ from → cursor ≤ from
-    → ServesChecked x.log (wanted_at asked from) turn tier size stop bytes → IsSearched asked from bytes (Goes at then) → Dated p x asked cursor at then
+    → ServesChecked x.log (wanted_at asked from) turn tier size stop bytes → IsSearched asked from bytes (Goes (at, then)) → Dated p x asked cursor at then
 searched_on c p a b tier_view x stops epoch asked line cursor from at size next Seek turn stop bytes s n view cache tier h reads low served searched =
     let run = served.0.run in
     let read : HasPassed asked.ts p.registry.start x.log from = subst (HasPassed asked.ts p.registry.start x.log) reads h.dated.read in
@@ -192,7 +191,7 @@ searched_on c p a b tier_view x stops epoch asked line cursor from at size next 
     let past = h.past in
     let start = h.start_is in
     let k = (runs_are_searched asked from at (wanted_at asked from).limit x.log run.run stop (h.safe.plain.brokers b x h.broker_is).log.consecutive own (omega (arith, past, start, low)) run.is served.1).1
-    (subst (λ (l : List ℕ). IsSearched asked from l (Goes at Seek)) run.spelled searched) in
+    (subst (λ (l : List ℕ). IsSearched asked from l (Goes (at, Seek))) run.spelled searched) in
     let up = k.1 in
     let all : HasPassed asked.ts p.registry.start x.log at = subst (λ (m : ℕ). HasPassed asked.ts m x.log at) h.start_is k.0 in
     (record { cursor = all; read = all }, omega (arith, up, low), λ yes. omega (arith, up, low))
@@ -221,7 +220,7 @@ module _ {S M : Type 0} (objects : S → store.Content) (calls : S → Control s
 
   seek_on : (c : Scene) (p : Plain) (a b : ℕ) (tier_view : BrokerTierView) (x : Broker) (stops epoch : ℕ) (asked : Asked) (line : List (ℕ × ℕ)) (cursor at : ℕ) (then : SearchStep) (s : store.Content) (cache : Cache)
       (before after : EntriesSeen) (old new : M) → IsAtSearch c p a b tier_view x stops epoch asked line cursor Seek s (notes old) before cache → cursor < asked.local
-      → SeeksIn asked line after cursor (Goes at then) → Refreshed notes notings before after old new → Dated p x asked cursor at then
+      → SeeksIn asked line after cursor (Goes (at, then)) → Refreshed notes notings before after old new → Dated p x asked cursor at then
   seek_on c p a b tier_view x stops epoch asked line cursor at then s cache before after old new h local seeks fresh = by then seeks
     where
       all : after ≡ view_of c.notes
@@ -236,7 +235,7 @@ module _ {S M : Type 0} (objects : S → store.Content) (calls : S → Control s
           let of : IsViewOf c.notes after = record { before = c.notes; begins = prefix_self c.notes; is = all } in
           over_all c p b x after asked line h.safe.plain h.safe.tier h.broker_is of (subst IsRightView (sym all) right) h.is_observable h.end_is cursor at passes h.past h.dated.cursor
 
-      by : (then : SearchStep) → SeeksIn asked line after cursor (Goes at then) → Dated p x asked cursor at then
+      by : (then : SearchStep) → SeeksIn asked line after cursor (Goes (at, then)) → Dated p x asked cursor at then
       by Seek seeks =
           let k = over seeks.passes in
           let known = h.below in
@@ -254,19 +253,19 @@ module _ {S M : Type 0} (objects : S → store.Content) (calls : S → Control s
 
   -- where a search continues, none of the bytes are lacking
   none_lack : (end : Option ℕ) (asked : Asked) (cursor at : ℕ) (piece : Piece) (base : ℕ) (spot : Spot) (bytes : List ℕ) (then : SearchStep)
-      → TimesBytes end asked cursor piece base spot bytes (Ok (Goes at then)) → IsTimeIndexRead asked cursor piece base bytes (Goes at then)
+      → TimesBytes end asked cursor piece base spot bytes (Ok (Goes (at, then))) → IsTimeIndexRead asked cursor piece base bytes (Goes (at, then))
   none_lack (Some end) asked cursor at piece base spot bytes then k = absurd (cc (k))
   none_lack None asked cursor at piece base spot bytes then k = k
 
   times_on : (c : Scene) (p : Plain) (a b : ℕ) (tier_view : BrokerTierView) (x : Broker) (stops epoch : ℕ) (asked : Asked) (line : List (ℕ × ℕ)) (cursor at : ℕ) (piece : Piece) (then : SearchStep) (ns : meta.Content)
       (view : EntriesSeen) (cache : Cache) (old new : S) (place : Option (ℕ × Spot)) → IsAtSearch c p a b tier_view x stops epoch asked line cursor (ReadsTimes piece) (objects old) ns view cache
       → cursor < piece.to → spot_in asked.partition piece.id part.TimeIndex (entry_of piece.id view.entries) ≡ place
-      → TimesRow objects calls asked cursor piece view place (Ok (Goes at then)) old new → Dated p x asked cursor at then
+      → TimesRow objects calls asked cursor piece view place (Ok (Goes (at, then))) old new → Dated p x asked cursor at then
   times_on c p a b tier_view x stops epoch asked line cursor at piece then ns view cache old new None h set there row = absurd (cc (row.0))
   times_on c p a b tier_view x stops epoch asked line cursor at piece then ns view cache old new (Some place) h set there row = by row.answer row.gets row.times
     where
       by : (answer : Result (Option (List ℕ)) Trouble) → Gets objects calls place.1.key (all_of place.1) answer old new
-          → Times asked cursor piece place.0 place.1 answer (Ok (Goes at then)) → Dated p x asked cursor at then
+          → Times asked cursor piece place.0 place.1 answer (Ok (Goes (at, then))) → Dated p x asked cursor at then
       by (Err Failed) gets k = absurd (cc (k))
       by (Err NoMemory) gets k = absurd (cc (k))
       by (Ok None) gets k = absurd (cc (k))
@@ -289,43 +288,43 @@ module _ {S M : Type 0} (objects : S → store.Content) (calls : S → Control s
 
   index_on : (c : Scene) (p : Plain) (a b : ℕ) (tier_view : BrokerTierView) (x : Broker) (stops epoch : ℕ) (asked : Asked) (line : List (ℕ × ℕ)) (cursor at : ℕ) (piece : Piece) (from : ℕ) (then : SearchStep)
       (old new : Tiers S M) → IsAtSearch c p a b tier_view x stops epoch asked line cursor (Index piece from) (objects old.store) (notes old.meta) old.view old.cache
-      → IsSet cursor (Index piece from) → SearchIndexRow objects calls notes notings asked line cursor piece from (Ok (Goes at then)) old new → Dated p x asked cursor at then
+      → IsSet cursor (Index piece from) → SearchIndexRow objects calls notes notings asked line cursor piece from (Ok (Goes (at, then))) old new → Dated p x asked cursor at then
   index_on c p a b tier_view x stops epoch asked line cursor at piece from then old new h set (inl k) =
       let low = set.0 in
       let high = set.1 in
       topped c p a b tier_view x stops epoch asked line cursor at (Index piece from) then piece from (objects old.store) (notes old.meta) old.view old.cache h refl (omega (arith, low, high)) k.0 (cc (k.1))
   index_on c p a b tier_view x stops epoch asked line cursor at piece from then old new h set (inr k) = by k.1.0 k.1.2
     where
-      by : (turn : Result FetchTurn AllocError) → Indexes cursor piece from turn (Ok (Goes at then)) → Dated p x asked cursor at then
-      by (Ok (fetch.Goes (fetching.Log found span))) k =
+      by : (turn : Result (Turn FetchNext) AllocError) → Indexes cursor piece from turn (Ok (Goes (at, then))) → Dated p x asked cursor at then
+      by (Ok (Goes (fetching.Log found span))) k =
           let at_is : at ≡ cursor = cc (k.1) in
           let then_is : then ≡ Log piece from span = cc (k.1) in
           subst (λ (m : ℕ). Dated p x asked cursor m then) (sym at_is) (subst (λ (m : SearchStep). Dated p x asked cursor cursor m) (sym then_is)
           (record { cursor = h.dated.cursor; read = h.dated.read }, omega arith, λ no. absurd (cc (no))))
-      by (Ok (fetch.Goes fetching.Refresh)) k = absurd k
-      by (Ok (fetch.Goes (fetching.Index found))) k = absurd k
-      by (Ok (fetch.Ends answer)) k = absurd (cc (k))
+      by (Ok (Goes fetching.Refresh)) k = absurd k
+      by (Ok (Goes (fetching.Index found))) k = absurd k
+      by (Ok (Ends answer)) k = absurd (cc (k))
       by (Err e) k = absurd (cc (k))
 
   -- logs
 
   log_on : (c : Scene) (p : Plain) (a b : ℕ) (tier_view : BrokerTierView) (x : Broker) (stops epoch : ℕ) (asked : Asked) (line : List (ℕ × ℕ)) (cursor at : ℕ) (piece : Piece) (from : ℕ) (span : Span) (then : SearchStep)
       (old new : Tiers S M) → IsAtSearch c p a b tier_view x stops epoch asked line cursor (Log piece from span) (objects old.store) (notes old.meta) old.view old.cache
-      → IsSet cursor (Log piece from span) → SearchLogRow objects calls notes notings asked line piece from span (Ok (Goes at then)) old new → Dated p x asked cursor at then
+      → IsSet cursor (Log piece from span) → SearchLogRow objects calls notes notings asked line piece from span (Ok (Goes (at, then))) old new → Dated p x asked cursor at then
   log_on c p a b tier_view x stops epoch asked line cursor at piece from span then old new h set (inl k) =
       let low = set.0 in
       let high = set.1 in
       topped c p a b tier_view x stops epoch asked line cursor at (Log piece from span) then piece from (objects old.store) (notes old.meta) old.view old.cache h refl (omega (arith, low, high)) k.0 (cc (k.1))
   log_on c p a b tier_view x stops epoch asked line cursor at piece from span then old new h set (inr k) = by k.1.0 k.1.1 k.1.2
     where
-      by : (turn : Result FetchTurn AllocError) → RemoteFetchRow objects calls notes notings (wanted_at asked from) line (fetching.Log piece span) turn old new → SearchTakes asked from turn (Ok (Goes at then))
+      by : (turn : Result (Turn FetchNext) AllocError) → RemoteFetchRow objects calls notes notings (wanted_at asked from) line (fetching.Log piece span) turn old new → SearchTakes asked from turn (Ok (Goes (at, then)))
           → Dated p x asked cursor at then
-      by (Ok (fetch.Ends (Run tier size stop bytes))) row k =
+      by (Ok (Ends (Run tier size stop bytes))) row k =
           let turn = at_turn c p a b tier_view x stops epoch asked line cursor (Log piece from span) (objects old.store) (notes old.meta) old.view old.cache from (fetching.Log piece span) h h.shows set.0 in
           searched_on c p a b tier_view x stops epoch asked line cursor from at size (Log piece from span) then (fetching.Log piece span) stop bytes (objects old.store) (notes old.meta) old.view old.cache tier h refl set.0
           (runs_are_checked objects calls notes notings (wanted_at asked from) line (fetching.Log piece span) tier size stop bytes old new c p a b tier_view x stops epoch row turn) k
-      by (Ok (fetch.Ends other)) row k = absurd (cc (k))
-      by (Ok (fetch.Goes next)) row k = absurd k
+      by (Ok (Ends other)) row k = absurd (cc (k))
+      by (Ok (Goes next)) row k = absurd k
       by (Err e) row k = absurd (cc (k))
 
   -- where a search continues, all before its cursor is too early
@@ -345,39 +344,39 @@ module _ {S M : Type 0} (objects : S → store.Content) (calls : S → Control s
   -- no turn of a fetch answers one
 
   no_offset_loaded : (wanted : FetchRequest) (piece : Piece) (base n : ℕ) (spot : Spot) (answer : Result (Option (List ℕ)) Trouble) (cache cache' : Cache)
-      → Loads wanted piece base spot answer (Ok (fetch.Ends (Offset n))) cache cache' → ⊥
+      → Loads wanted piece base spot answer (Ok (Ends (Offset n))) cache cache' → ⊥
   no_offset_loaded wanted piece base n spot (Err Failed) cache cache' k = cc (k.0)
   no_offset_loaded wanted piece base n spot (Err NoMemory) cache cache' k = cc (k.0)
   no_offset_loaded wanted piece base n spot (Ok None) cache cache' k = cc (k.0)
   no_offset_loaded wanted piece base n spot (Ok (Some given)) cache cache' k = by (short_of spot given) k
     where
-      by : (end : Option ℕ) → LoadsBytes end wanted piece base spot given (Ok (fetch.Ends (Offset n))) cache cache' → ⊥
+      by : (end : Option ℕ) → LoadsBytes end wanted piece base spot given (Ok (Ends (Offset n))) cache cache' → ⊥
       by (Some end) k = cc (k.0)
       by None k = cc (k.0)
 
   no_offset_read : (wanted : FetchRequest) (piece : Piece) (n : ℕ) (view : EntriesSeen) (place : Option (ℕ × Spot)) (cache cache' : Cache) (old new : S)
-      → LoadRow objects calls wanted piece view place (Ok (fetch.Ends (Offset n))) cache cache' old new → ⊥
+      → LoadRow objects calls wanted piece view place (Ok (Ends (Offset n))) cache cache' old new → ⊥
   no_offset_read wanted piece n view None cache cache' old new row = cc (row.0)
   no_offset_read wanted piece n view (Some place) cache cache' old new row = no_offset_loaded wanted piece place.0 n place.1 row.answer cache cache' row.loads
 
   no_offset_found : (wanted : FetchRequest) (piece : Piece) (n : ℕ) (view : EntriesSeen) (there : Option OffsetTable) (cache cache' : Cache) (old new : S)
-      → rows.IndexRow objects calls wanted piece view (Ok (fetch.Ends (Offset n))) there cache cache' old new → ⊥
+      → rows.IndexRow objects calls wanted piece view (Ok (Ends (Offset n))) there cache cache' old new → ⊥
   no_offset_found wanted piece n view (Some index) cache cache' old new row = cc (row.0)
   no_offset_found wanted piece n view None cache cache' old new row =
       no_offset_read wanted piece n view (spot_in wanted.partition piece.id part.Index (entry_of piece.id view.entries)) cache cache' old new row
 
-  no_offset_cut : (wanted : FetchRequest) (piece : Piece) (n : ℕ) (spot : Spot) (span : Span) (answer : Result (Option (List ℕ)) Trouble) → CutsRunOut wanted piece spot span answer (Ok (fetch.Ends (Offset n))) → ⊥
+  no_offset_cut : (wanted : FetchRequest) (piece : Piece) (n : ℕ) (spot : Spot) (span : Span) (answer : Result (Option (List ℕ)) Trouble) → CutsRunOut wanted piece spot span answer (Ok (Ends (Offset n))) → ⊥
   no_offset_cut wanted piece n spot span (Err Failed) k = cc (k)
   no_offset_cut wanted piece n spot span (Err NoMemory) k = cc (k)
   no_offset_cut wanted piece n spot span (Ok None) k = cc (k)
   no_offset_cut wanted piece n spot span (Ok (Some given)) k = by (short_in spot span.from span.most given) k
     where
-      by : (end : Option ℕ) → CutsBytes end wanted piece spot span given (Ok (fetch.Ends (Offset n))) → ⊥
+      by : (end : Option ℕ) → CutsBytes end wanted piece spot span given (Ok (Ends (Offset n))) → ⊥
       by (Some end) k = cc (k)
       by None k = k
 
   no_offset_run : (wanted : FetchRequest) (piece : Piece) (n : ℕ) (span : Span) (view : EntriesSeen) (place : Option (ℕ × Spot)) (old new : S)
-      → rows.LogRow objects calls wanted piece span view place (Ok (fetch.Ends (Offset n))) old new → ⊥
+      → rows.LogRow objects calls wanted piece span view place (Ok (Ends (Offset n))) old new → ⊥
   no_offset_run wanted piece n span view None old new row = cc (row.0)
   no_offset_run wanted piece n span view (Some place) old new row = no_offset_cut wanted piece n place.1 span row.answer row.cuts
 
@@ -401,14 +400,14 @@ module _ {S M : Type 0} (objects : S → store.Content) (calls : S → Control s
   index_at asked line cursor at piece from old new (inl k) = cc (k.1)
   index_at asked line cursor at piece from old new (inr k) = by k.1.0 k.1.1 k.1.2
     where
-      by : (turn : Result FetchTurn AllocError) → RemoteFetchRow objects calls notes notings (wanted_at asked from) line (fetching.Index piece) turn old new → Indexes cursor piece from turn (Ok (Ends (Offset at))) → ⊥
-      by (Ok (fetch.Goes (fetching.Log found span))) row k = cc (k.1)
-      by (Ok (fetch.Goes fetching.Refresh)) row k = k
-      by (Ok (fetch.Goes (fetching.Index found))) row k = k
-      by (Ok (fetch.Ends answer)) row k =
+      by : (turn : Result (Turn FetchNext) AllocError) → RemoteFetchRow objects calls notes notings (wanted_at asked from) line (fetching.Index piece) turn old new → Indexes cursor piece from turn (Ok (Ends (Offset at))) → ⊥
+      by (Ok (Goes (fetching.Log found span))) row k = cc (k.1)
+      by (Ok (Goes fetching.Refresh)) row k = k
+      by (Ok (Goes (fetching.Index found))) row k = k
+      by (Ok (Ends answer)) row k =
           let same : answer ≡ Offset at = cc (k) in
           no_offset_found (wanted_at asked from) piece at old.view (found piece.id.0 old.cache.pairs) old.cache new.cache old.store new.store
-          (subst (λ (o : Answer). rows.IndexRow objects calls (wanted_at asked from) piece old.view (Ok (fetch.Ends o)) (found piece.id.0 old.cache.pairs) old.cache new.cache old.store new.store) same row.1)
+          (subst (λ (o : Answer). rows.IndexRow objects calls (wanted_at asked from) piece old.view (Ok (Ends o)) (found piece.id.0 old.cache.pairs) old.cache new.cache old.store new.store) same row.1)
       by (Err e) row k = cc (k)
 
   log_at : (c : Scene) (p : Plain) (a b : ℕ) (tier_view : BrokerTierView) (x : Broker) (stops epoch : ℕ) (asked : Asked) (line : List (ℕ × ℕ)) (cursor at : ℕ) (piece : Piece) (from : ℕ) (span : Span)
@@ -417,19 +416,19 @@ module _ {S M : Type 0} (objects : S → store.Content) (calls : S → Control s
   log_at c p a b tier_view x stops epoch asked line cursor at piece from span old new h set (inl k) = absurd (cc (k.1))
   log_at c p a b tier_view x stops epoch asked line cursor at piece from span old new h set (inr k) = by k.1.0 k.1.1 k.1.2
     where
-      none : (answer : Answer) → RemoteFetchRow objects calls notes notings (wanted_at asked from) line (fetching.Log piece span) (Ok (fetch.Ends answer)) old new → answer ≡ Offset at → ⊥
+      none : (answer : Answer) → RemoteFetchRow objects calls notes notings (wanted_at asked from) line (fetching.Log piece span) (Ok (Ends answer)) old new → answer ≡ Offset at → ⊥
       none answer row same =
           no_offset_run (wanted_at asked from) piece at span old.view (spot_in asked.partition piece.id part.Log (entry_of piece.id old.view.entries)) old.store new.store
-          (subst (λ (o : Answer). rows.LogRow objects calls (wanted_at asked from) piece span old.view (spot_in asked.partition piece.id part.Log (entry_of piece.id old.view.entries)) (Ok (fetch.Ends o)) old.store new.store) same row.1)
+          (subst (λ (o : Answer). rows.LogRow objects calls (wanted_at asked from) piece span old.view (spot_in asked.partition piece.id part.Log (entry_of piece.id old.view.entries)) (Ok (Ends o)) old.store new.store) same row.1)
 
-      by : (turn : Result FetchTurn AllocError) → RemoteFetchRow objects calls notes notings (wanted_at asked from) line (fetching.Log piece span) turn old new → SearchTakes asked from turn (Ok (Ends (Offset at)))
+      by : (turn : Result (Turn FetchNext) AllocError) → RemoteFetchRow objects calls notes notings (wanted_at asked from) line (fetching.Log piece span) turn old new → SearchTakes asked from turn (Ok (Ends (Offset at)))
           → offset_at p x asked.ts ≡ Some at
-      by (Ok (fetch.Ends (Run tier size stop bytes))) row k =
+      by (Ok (Ends (Run tier size stop bytes))) row k =
           let turn = at_turn c p a b tier_view x stops epoch asked line cursor (Log piece from span) (objects old.store) (notes old.meta) old.view old.cache from (fetching.Log piece span) h h.shows set.0 in
           searched_at c p a b tier_view x stops epoch asked line cursor from at size (Log piece from span) (fetching.Log piece span) stop bytes (objects old.store) (notes old.meta) old.view old.cache tier h refl set.0
           (runs_are_checked objects calls notes notings (wanted_at asked from) line (fetching.Log piece span) tier size stop bytes old new c p a b tier_view x stops epoch row turn) k
-      by (Ok (fetch.Ends other)) row k = absurd (none other row (cc (k)))
-      by (Ok (fetch.Goes next)) row k = absurd k
+      by (Ok (Ends other)) row k = absurd (none other row (cc (k)))
+      by (Ok (Goes next)) row k = absurd k
       by (Err e) row k = absurd (cc (k))
 
   -- an offset that is answered is the log's

@@ -29,8 +29,8 @@ use Rattle.remote_find.specs.declared.piece.Piece.{Piece}
 use Rattle.tier_fetch.specs.declared.turn.Span.{Span}
 use Rattle.tier_fetch.specs.declared.turn.FetchStep.{FetchStep as Fetch}
 use Rattle.tier_fetch.specs.declared.turn.FetchStep.TheVariants as fetch
-use Rattle.tier_fetch.specs.declared.turn.FetchTurn.{FetchTurn}
-use Rattle.tier_fetch.specs.declared.turn.FetchTurn.TheVariants as fetching
+use Rattle.plain_log.specs.declared.turn.Turn.{Turn}
+use Rattle.plain_log.specs.declared.turn.Turn.TheVariants.{Goes, Ends}
 use Rattle.tier_fetch.specs.Turns.{Tiers, RemoteFetchRow}
 use Rattle.tier_safe.specs.Scene.{BrokerTierView, TierTask, Free, Seeks as Fetches, Scene}
 use Rattle.tier_safe.specs.Changes.{Moves, Asks, Skips, effect}
@@ -45,8 +45,6 @@ use Rattle.laws_tier_fetch.proofs.Turning.{as_fetch, named, quiet, shown as show
 use Rattle.time_find.specs.declared.turn.Asked.{Asked}
 use Rattle.time_find.specs.declared.turn.SearchStep.{SearchStep}
 use Rattle.time_find.specs.declared.turn.SearchStep.TheVariants.{Seek, Times, Index, Log}
-use Rattle.time_find.specs.declared.turn.TimeTurn.{TimeTurn}
-use Rattle.time_find.specs.declared.turn.TimeTurn.TheVariants.{Goes, Ends}
 use Rattle.time_find.specs.Passing.{top_in, top_of, SeeksPiece, Seeks}
 use Rattle.time_find.specs.Turns.{from_of, shown, TimesBytes, Times as Timed, wanted_at, Indexes, SearchTakes, SeekRow, TimesRow, SearchIndexRow, SearchLogRow}
 use Rattle.laws_time_find.specs.Searching.{search_of, search_work, search_after, IsAtSearch}
@@ -112,14 +110,14 @@ takes c p a b tier_view x stops epoch asked line cursor s n view cache after at 
 
 -- what a refreshed view shows
 seeks : (c : Scene) (p : Plain) (a b : ℕ) (tier_view : BrokerTierView) (x : Broker) (stops epoch : ℕ) (asked : Asked) (line : List (ℕ × ℕ)) (cursor : ℕ) (s : store.Content) (n : meta.Content) (view : EntriesSeen)
-    (cache : Cache) (after : EntriesSeen) (turn : TimeTurn) → IsAtSearch c p a b tier_view x stops epoch asked line cursor Seek s n view cache → after ≡ view_of c.notes
+    (cache : Cache) (after : EntriesSeen) (turn : Turn (ℕ × SearchStep)) → IsAtSearch c p a b tier_view x stops epoch asked line cursor Seek s n view cache → after ≡ view_of c.notes
     → Seeks asked line after cursor turn → IsChanged c p (after_turn c a b tier_view Free c.objects c.notes after)
     → IsChanged c p (after_turn c a b tier_view (search_work b stops epoch turn) c.objects c.notes after)
-seeks c p a b tier_view x stops epoch asked line cursor s n view cache after (Goes at Seek) h all k base = base
-seeks c p a b tier_view x stops epoch asked line cursor s n view cache after (Goes at (Times piece)) h all k base =
+seeks c p a b tier_view x stops epoch asked line cursor s n view cache after (Goes (at, Seek)) h all k base = base
+seeks c p a b tier_view x stops epoch asked line cursor s n view cache after (Goes (at, Times piece)) h all k base =
     takes c p a b tier_view x stops epoch asked line cursor s n view cache after at piece h all k base
-seeks c p a b tier_view x stops epoch asked line cursor s n view cache after (Goes at (Index piece from)) h all k base = absurd k
-seeks c p a b tier_view x stops epoch asked line cursor s n view cache after (Goes at (Log piece from span)) h all k base = absurd k
+seeks c p a b tier_view x stops epoch asked line cursor s n view cache after (Goes (at, Index piece from)) h all k base = absurd k
+seeks c p a b tier_view x stops epoch asked line cursor s n view cache after (Goes (at, Log piece from span)) h all k base = absurd k
 seeks c p a b tier_view x stops epoch asked line cursor s n view cache after (Ends answer) h all k base = base
 
 -- a later offset of the piece
@@ -174,7 +172,7 @@ shows_on : (c : Scene) (p : Plain) (a b : ℕ) (tier_view : BrokerTierView) (x :
 shows_on c p a b tier_view x stops epoch asked line cursor piece s n view cache from h up = by (nat_lt from (top_of asked piece)) refl
   where
     by : (t : Bool) → nat_lt from (top_of asked piece) ≡ t
-        → IsChanged c p (after_turn c a b tier_view (search_work b stops epoch (cond t (Goes cursor (Index piece from)) (Goes (top_of asked piece) Seek))) c.objects c.notes tier_view.view)
+        → IsChanged c p (after_turn c a b tier_view (search_work b stops epoch (cond t (Goes (cursor, Index piece from)) (Goes (top_of asked piece, Seek)))) c.objects c.notes tier_view.view)
     by true is =
         let low : from < top_of asked piece = ltb-true from (top_of asked piece) is in
         skips c p a b tier_view x stops epoch asked line cursor piece s n view cache from h up (omega (arith, low))
@@ -183,24 +181,24 @@ shows_on c p a b tier_view x stops epoch asked line cursor piece s n view cache 
 -- what a fetch's turn came to
 
 -- the actor's state has of the search what it keeps of the fetch
-indexes_same : (b stops epoch cursor from : ℕ) (piece : Piece) (turn : Result FetchTurn AllocError) (result : Result TimeTurn AllocError) → Indexes cursor piece from turn result
+indexes_same : (b stops epoch cursor from : ℕ) (piece : Piece) (turn : Result (Turn Fetch) AllocError) (result : Result (Turn (ℕ × SearchStep)) AllocError) → Indexes cursor piece from turn result
     → fetch_after b stops epoch from (fetch.Index piece) turn ≡ search_after b stops epoch cursor (Index piece from) result
-indexes_same b stops epoch cursor from piece (Ok (fetching.Goes (fetch.Log found span))) result k =
+indexes_same b stops epoch cursor from piece (Ok (Goes (fetch.Log found span))) result k =
     ap (λ (q : Piece). Fetches (sought_of b stops epoch from (fetch.Log q span))) k.0 ∙ ap (search_after b stops epoch cursor (Index piece from)) (sym k.1)
-indexes_same b stops epoch cursor from piece (Ok (fetching.Goes fetch.Refresh)) result k = absurd k
-indexes_same b stops epoch cursor from piece (Ok (fetching.Goes (fetch.Index found))) result k = absurd k
-indexes_same b stops epoch cursor from piece (Ok (fetching.Ends answer)) result k = ap (search_after b stops epoch cursor (Index piece from)) (sym k)
+indexes_same b stops epoch cursor from piece (Ok (Goes fetch.Refresh)) result k = absurd k
+indexes_same b stops epoch cursor from piece (Ok (Goes (fetch.Index found))) result k = absurd k
+indexes_same b stops epoch cursor from piece (Ok (Ends answer)) result k = ap (search_after b stops epoch cursor (Index piece from)) (sym k)
 indexes_same b stops epoch cursor from piece (Err e) (Ok turn) k = absurd (cc (k))
 indexes_same b stops epoch cursor from piece (Err e) (Err f) k = refl
 
-searched_same : (b stops epoch cursor from : ℕ) (piece : Piece) (span : Span) (asked : Asked) (turn : Result FetchTurn AllocError) (result : Result TimeTurn AllocError) → SearchTakes asked from turn result
+searched_same : (b stops epoch cursor from : ℕ) (piece : Piece) (span : Span) (asked : Asked) (turn : Result (Turn Fetch) AllocError) (result : Result (Turn (ℕ × SearchStep)) AllocError) → SearchTakes asked from turn result
     → fetch_after b stops epoch from (fetch.Log piece span) turn ≡ search_after b stops epoch cursor (Log piece from span) result
-searched_same b stops epoch cursor from piece span asked (Ok (fetching.Ends (Run tier size stop bytes))) (Ok (Ends answer)) k = refl
-searched_same b stops epoch cursor from piece span asked (Ok (fetching.Ends (Run tier size stop bytes))) (Ok (Goes at Seek)) k = refl
-searched_same b stops epoch cursor from piece span asked (Ok (fetching.Ends (Run tier size stop bytes))) (Ok (Goes at next)) k = absurd k
-searched_same b stops epoch cursor from piece span asked (Ok (fetching.Ends (Run tier size stop bytes))) (Err e) k = absurd k
-searched_same b stops epoch cursor from piece span asked (Ok (fetching.Ends answer)) result k = ap (search_after b stops epoch cursor (Log piece from span)) (sym k)
-searched_same b stops epoch cursor from piece span asked (Ok (fetching.Goes next)) result k = absurd k
+searched_same b stops epoch cursor from piece span asked (Ok (Ends (Run tier size stop bytes))) (Ok (Ends answer)) k = refl
+searched_same b stops epoch cursor from piece span asked (Ok (Ends (Run tier size stop bytes))) (Ok (Goes (at, Seek))) k = refl
+searched_same b stops epoch cursor from piece span asked (Ok (Ends (Run tier size stop bytes))) (Ok (Goes (at, next))) k = absurd k
+searched_same b stops epoch cursor from piece span asked (Ok (Ends (Run tier size stop bytes))) (Err e) k = absurd k
+searched_same b stops epoch cursor from piece span asked (Ok (Ends answer)) result k = ap (search_after b stops epoch cursor (Log piece from span)) (sym k)
+searched_same b stops epoch cursor from piece span asked (Ok (Goes next)) result k = absurd k
 searched_same b stops epoch cursor from piece span asked (Err e) (Ok turn) k = absurd (cc (k))
 searched_same b stops epoch cursor from piece span asked (Err e) (Err f) k = refl
 
@@ -208,7 +206,7 @@ module _ {S M : Type 0} (objects : S → store.Content) (calls : S → Control s
     (notes : M → meta.Content) (notings : M → Control meta_call.call_code) where
   -- refreshes
 
-  seek_turn : (c : Scene) (p : Plain) (a b : ℕ) (tier_view : BrokerTierView) (x : Broker) (stops epoch : ℕ) (asked : Asked) (line : List (ℕ × ℕ)) (cursor : ℕ) (result : Result TimeTurn AllocError) (s : store.Content)
+  seek_turn : (c : Scene) (p : Plain) (a b : ℕ) (tier_view : BrokerTierView) (x : Broker) (stops epoch : ℕ) (asked : Asked) (line : List (ℕ × ℕ)) (cursor : ℕ) (result : Result (Turn (ℕ × SearchStep)) AllocError) (s : store.Content)
       (cache : Cache) (view after : EntriesSeen) (old new : M) → IsAtSearch c p a b tier_view x stops epoch asked line cursor Seek s (notes old) view cache
       → SeekRow notes notings asked line cursor result view after old new
       → IsChanged c p (after_fetch c a b tier_view (search_after b stops epoch cursor Seek result) s.objects (notes new).notes after cache)
@@ -244,8 +242,8 @@ module _ {S M : Type 0} (objects : S → store.Content) (calls : S → Control s
       halted objects calls notes notings c p a b tier_view x stops epoch (wanted_at asked cursor) line (fetch.Index piece) ns view cache cache old new t same refl
 
   -- one whose answer is reported
-  ends_as : (c : Scene) (p : Plain) (a b : ℕ) (tier_view : BrokerTierView) (x : Broker) (stops epoch : ℕ) (asked : Asked) (line : List (ℕ × ℕ)) (cursor : ℕ) (piece : Piece) (result : Result TimeTurn AllocError)
-      (turn : TimeTurn) (ns : meta.Content) (view : EntriesSeen) (cache : Cache) (old new : S) → IsAtSearch c p a b tier_view x stops epoch asked line cursor (Times piece) (objects old) ns view cache
+  ends_as : (c : Scene) (p : Plain) (a b : ℕ) (tier_view : BrokerTierView) (x : Broker) (stops epoch : ℕ) (asked : Asked) (line : List (ℕ × ℕ)) (cursor : ℕ) (piece : Piece) (result : Result (Turn (ℕ × SearchStep)) AllocError)
+      (turn : Turn (ℕ × SearchStep)) (ns : meta.Content) (view : EntriesSeen) (cache : Cache) (old new : S) → IsAtSearch c p a b tier_view x stops epoch asked line cursor (Times piece) (objects old) ns view cache
       → (objects new).objects ≡ (objects old).objects → search_work b stops epoch turn ≡ Free → result ≡ Ok turn
       → IsChanged c p (after_fetch c a b tier_view (search_after b stops epoch cursor (Times piece) result) (objects new).objects ns.notes view cache)
   ends_as c p a b tier_view x stops epoch asked line cursor piece result turn ns view cache old new h same free is =
@@ -255,17 +253,17 @@ module _ {S M : Type 0} (objects : S → store.Content) (calls : S → Control s
 
   -- by where bytes are lacking
   bytes_turn : (end : Option ℕ) (c : Scene) (p : Plain) (a b : ℕ) (tier_view : BrokerTierView) (x : Broker) (stops epoch : ℕ) (asked : Asked) (line : List (ℕ × ℕ)) (cursor : ℕ) (piece : Piece)
-      (result : Result TimeTurn AllocError) (ns : meta.Content) (view : EntriesSeen) (cache : Cache) (old new : S) (base : ℕ) (spot : Spot) (bytes : List ℕ)
+      (result : Result (Turn (ℕ × SearchStep)) AllocError) (ns : meta.Content) (view : EntriesSeen) (cache : Cache) (old new : S) (base : ℕ) (spot : Spot) (bytes : List ℕ)
       → IsAtSearch c p a b tier_view x stops epoch asked line cursor (Times piece) (objects old) ns view cache → (objects new).objects ≡ (objects old).objects
       → TimesBytes end asked cursor piece base spot bytes result
       → IsChanged c p (after_fetch c a b tier_view (search_after b stops epoch cursor (Times piece) result) (objects new).objects ns.notes view cache)
   bytes_turn (Some end) c p a b tier_view x stops epoch asked line cursor piece result ns view cache old new base spot bytes h same k =
       ends_as c p a b tier_view x stops epoch asked line cursor piece result (Ends (Damaged (Key spot.key) end)) ns view cache old new h same refl k
-  bytes_turn None c p a b tier_view x stops epoch asked line cursor piece (Ok (Goes at next)) ns view cache old new base spot bytes h same k =
+  bytes_turn None c p a b tier_view x stops epoch asked line cursor piece (Ok (Goes (at, next))) ns view cache old new base spot bytes h same k =
       let from = from_of cursor (below_time k.index asked.ts) in
-      quiet c p a b tier_view (Fetches (sought_of b stops epoch cursor (fetch.Index piece))) (search_work b stops epoch (Goes at next)) (objects old) ns view cache (objects new).objects ns.notes view cache
+      quiet c p a b tier_view (Fetches (sought_of b stops epoch cursor (fetch.Index piece))) (search_work b stops epoch (Goes (at, next))) (objects old) ns view cache (objects new).objects ns.notes view cache
       h.shows h.cache_is
-      (subst (λ (turn : TimeTurn). IsChanged c p (after_turn c a b tier_view (search_work b stops epoch turn) c.objects c.notes tier_view.view)) (sym k.turn_is)
+      (subst (λ (turn : Turn (ℕ × SearchStep)). IsChanged c p (after_turn c a b tier_view (search_work b stops epoch turn) c.objects c.notes tier_view.view)) (sym k.turn_is)
       (shows_on c p a b tier_view x stops epoch asked line cursor piece (objects old) ns view cache from h (from_up cursor (below_time k.index asked.ts))))
       same refl refl refl
   bytes_turn None c p a b tier_view x stops epoch asked line cursor piece (Ok (Ends answer)) ns view cache old new base spot bytes h same k =
@@ -273,7 +271,7 @@ module _ {S M : Type 0} (objects : S → store.Content) (calls : S → Control s
   bytes_turn None c p a b tier_view x stops epoch asked line cursor piece (Err e) ns view cache old new base spot bytes h same k =
       halts c p a b tier_view x stops epoch asked line cursor piece ns view cache old new h same
 
-  read_turn : (c : Scene) (p : Plain) (a b : ℕ) (tier_view : BrokerTierView) (x : Broker) (stops epoch : ℕ) (asked : Asked) (line : List (ℕ × ℕ)) (cursor : ℕ) (piece : Piece) (result : Result TimeTurn AllocError)
+  read_turn : (c : Scene) (p : Plain) (a b : ℕ) (tier_view : BrokerTierView) (x : Broker) (stops epoch : ℕ) (asked : Asked) (line : List (ℕ × ℕ)) (cursor : ℕ) (piece : Piece) (result : Result (Turn (ℕ × SearchStep)) AllocError)
       (ns : meta.Content) (view : EntriesSeen) (cache : Cache) (old new : S) (base : ℕ) (spot : Spot) (answer : Result (Option (List ℕ)) Trouble)
       → IsAtSearch c p a b tier_view x stops epoch asked line cursor (Times piece) (objects old) ns view cache → (objects new).objects ≡ (objects old).objects
       → Timed asked cursor piece base spot answer result
@@ -288,7 +286,7 @@ module _ {S M : Type 0} (objects : S → store.Content) (calls : S → Control s
   read_turn c p a b tier_view x stops epoch asked line cursor piece result ns view cache old new base spot (Ok (Some bytes)) h same k =
       bytes_turn (short_of spot bytes) c p a b tier_view x stops epoch asked line cursor piece result ns view cache old new base spot bytes h same k
 
-  times_turn : (c : Scene) (p : Plain) (a b : ℕ) (tier_view : BrokerTierView) (x : Broker) (stops epoch : ℕ) (asked : Asked) (line : List (ℕ × ℕ)) (cursor : ℕ) (piece : Piece) (result : Result TimeTurn AllocError)
+  times_turn : (c : Scene) (p : Plain) (a b : ℕ) (tier_view : BrokerTierView) (x : Broker) (stops epoch : ℕ) (asked : Asked) (line : List (ℕ × ℕ)) (cursor : ℕ) (piece : Piece) (result : Result (Turn (ℕ × SearchStep)) AllocError)
       (ns : meta.Content) (view : EntriesSeen) (cache : Cache) (old new : S) (place : Option (ℕ × Spot))
       → IsAtSearch c p a b tier_view x stops epoch asked line cursor (Times piece) (objects old) ns view cache → TimesRow objects calls asked cursor piece view place result old new
       → IsChanged c p (after_fetch c a b tier_view (search_after b stops epoch cursor (Times piece) result) (objects new).objects ns.notes view cache)
@@ -300,17 +298,17 @@ module _ {S M : Type 0} (objects : S → store.Content) (calls : S → Control s
   -- what a fetch reads
 
   -- nothing is read where the known high watermark isn't past the offset
-  turns_back : (c : Scene) (p : Plain) (a b : ℕ) (tier_view : BrokerTierView) (x : Broker) (stops epoch : ℕ) (asked : Asked) (line : List (ℕ × ℕ)) (cursor at : ℕ) (next : SearchStep) (result : Result TimeTurn AllocError)
-      (old new : Tiers S M) → IsAtSearch c p a b tier_view x stops epoch asked line cursor next (objects old.store) (notes old.meta) old.view old.cache → result ≡ Ok (Goes at Seek) → new ≡ old
+  turns_back : (c : Scene) (p : Plain) (a b : ℕ) (tier_view : BrokerTierView) (x : Broker) (stops epoch : ℕ) (asked : Asked) (line : List (ℕ × ℕ)) (cursor at : ℕ) (next : SearchStep) (result : Result (Turn (ℕ × SearchStep)) AllocError)
+      (old new : Tiers S M) → IsAtSearch c p a b tier_view x stops epoch asked line cursor next (objects old.store) (notes old.meta) old.view old.cache → result ≡ Ok (Goes (at, Seek)) → new ≡ old
       → IsChanged c p (after_fetch c a b tier_view (search_after b stops epoch cursor next result) (objects new.store).objects (notes new.meta).notes new.view new.cache)
   turns_back c p a b tier_view x stops epoch asked line cursor at next result old new h is same =
       quiet c p a b tier_view _ _ (objects old.store) (notes old.meta) old.view old.cache (objects new.store).objects (notes new.meta).notes new.view new.cache h.shows h.cache_is
-      (subst (λ (r : Result TimeTurn AllocError). IsChanged c p (after_turn c a b tier_view (search_after b stops epoch cursor next r) c.objects c.notes tier_view.view)) (sym is) (left c p a b tier_view h.shows.tier_view_is))
+      (subst (λ (r : Result (Turn (ℕ × SearchStep)) AllocError). IsChanged c p (after_turn c a b tier_view (search_after b stops epoch cursor next r) c.objects c.notes tier_view.view)) (sym is) (left c p a b tier_view h.shows.tier_view_is))
       (ap (λ (t : Tiers S M). (objects t.store).objects) same) (ap (λ (t : Tiers S M). (notes t.meta).notes) same) (ap (λ (t : Tiers S M). t.view) same) (ap (λ (t : Tiers S M). t.cache) same)
 
   -- else the turn is that fetch's
   fetches : (c : Scene) (p : Plain) (a b : ℕ) (tier_view : BrokerTierView) (x : Broker) (stops epoch : ℕ) (asked : Asked) (line : List (ℕ × ℕ)) (cursor from : ℕ) (next : SearchStep) (turn : Fetch)
-      (found : Result FetchTurn AllocError) (result : Result TimeTurn AllocError) (old new : Tiers S M)
+      (found : Result (Turn Fetch) AllocError) (result : Result (Turn (ℕ × SearchStep)) AllocError) (old new : Tiers S M)
       → IsAtSearch c p a b tier_view x stops epoch asked line cursor next (objects old.store) (notes old.meta) old.view old.cache
       → search_of b stops epoch cursor next ≡ Fetches (sought_of b stops epoch from turn) → cursor ≤ from
       → RemoteFetchRow objects calls notes notings (wanted_at asked from) line turn found old new
@@ -322,7 +320,7 @@ module _ {S M : Type 0} (objects : S → store.Content) (calls : S → Control s
       (fetch_turns objects calls notes notings (wanted_at asked from) line turn found old new c p a b tier_view x stops epoch row t)
 
   index_turn : (c : Scene) (p : Plain) (a b : ℕ) (tier_view : BrokerTierView) (x : Broker) (stops epoch : ℕ) (asked : Asked) (line : List (ℕ × ℕ)) (cursor from : ℕ) (piece : Piece)
-      (result : Result TimeTurn AllocError) (old new : Tiers S M)
+      (result : Result (Turn (ℕ × SearchStep)) AllocError) (old new : Tiers S M)
       → IsAtSearch c p a b tier_view x stops epoch asked line cursor (Index piece from) (objects old.store) (notes old.meta) old.view old.cache → cursor ≤ from
       → SearchIndexRow objects calls notes notings asked line cursor piece from result old new
       → IsChanged c p (after_fetch c a b tier_view (search_after b stops epoch cursor (Index piece from) result) (objects new.store).objects (notes new.meta).notes new.view new.cache)
@@ -333,7 +331,7 @@ module _ {S M : Type 0} (objects : S → store.Content) (calls : S → Control s
       (indexes_same b stops epoch cursor from piece row.1.0 result row.1.2)
 
   log_turn : (c : Scene) (p : Plain) (a b : ℕ) (tier_view : BrokerTierView) (x : Broker) (stops epoch : ℕ) (asked : Asked) (line : List (ℕ × ℕ)) (cursor from : ℕ) (piece : Piece) (span : Span)
-      (result : Result TimeTurn AllocError) (old new : Tiers S M)
+      (result : Result (Turn (ℕ × SearchStep)) AllocError) (old new : Tiers S M)
       → IsAtSearch c p a b tier_view x stops epoch asked line cursor (Log piece from span) (objects old.store) (notes old.meta) old.view old.cache → cursor ≤ from
       → SearchLogRow objects calls notes notings asked line piece from span result old new
       → IsChanged c p (after_fetch c a b tier_view (search_after b stops epoch cursor (Log piece from span) result) (objects new.store).objects (notes new.meta).notes new.view new.cache)

@@ -27,7 +27,7 @@ use Rattle.tier_safe.specs.Scene.{BrokerTierView, Scene}
 use Rattle.time_find.specs.declared.turn.Asked.{Asked}
 use Rattle.time_find.specs.declared.turn.SearchStep.{SearchStep}
 use Rattle.time_find.specs.declared.turn.SearchStep.TheVariants.{Seek, Log}
-use Rattle.time_find.specs.declared.turn.TimeTurn.TheVariants.{Goes, Ends}
+use Rattle.plain_log.specs.declared.turn.Turn.TheVariants.{Goes, Ends}
 use Rattle.time_find.specs.Dates.{AreAllChecked}
 use Rattle.time_find.specs.Turns.{IsBelowLocal, IsSet, IsSearched, TimeRow}
 use Rattle.laws_partition.specs.Log.{IsRunOf}
@@ -41,7 +41,7 @@ abbrev pub RunsAreSearched : Type 0
 RunsAreSearched = (asked : Asked) (offset at limit : ℕ) (log run : List (List ℕ)) (stop : Stop) → IsConsecutive 0 log
     → HasPassed asked.ts asked.start log offset → asked.start ≤ offset → IsRunOf log offset limit asked.mark stop run → AreAllChecked run
     → (IsSearched asked offset (joined run) (Ends (Offset at)) → first_at asked.ts asked.start (from_offset asked.start (up_to asked.mark log)) ≡ Some at)
-    × (IsSearched asked offset (joined run) (Goes at Seek) → HasPassed asked.ts asked.start log at × (offset < at))
+    × (IsSearched asked offset (joined run) (Goes (at, Seek)) → HasPassed asked.ts asked.start log at × (offset < at))
 
 -- damage of the log of the segment that was to be read: it is reported of the object that has it
 pub record IsOfLog (asked : Asked) (next : SearchStep) (place : Place) : Type 0 where
@@ -61,7 +61,7 @@ module _ {S M : Type 0} (objects : S → store.Content) (calls : S → Control s
   SearchesGoOn =
       (asked : Asked) (line : List (ℕ × ℕ)) (cursor at : ℕ) (next then : SearchStep) (old new : Tiers S M)
       (c : Scene) (p : Plain) (a b : ℕ) (tier_view : BrokerTierView) (x : Broker) (stops epoch : ℕ)
-      → TimeRow objects calls notes notings asked line cursor next (Ok (Goes at then)) old new → IsBelowLocal asked cursor next → IsSet cursor next
+      → TimeRow objects calls notes notings asked line cursor next (Ok (Goes (at, then))) old new → IsBelowLocal asked cursor next → IsSet cursor next
       → IsAtSearch c p a b tier_view x stops epoch asked line cursor next (objects old.store) (notes old.meta) old.view old.cache
       → IsDatedTo asked.ts p.registry.start x.log at then × (cursor ≤ at) × (then ≡ Seek → cursor < at)
 

@@ -24,8 +24,8 @@ use Rattle.laws_tier_fetch.specs.Seeking.{sought_of, indexes_in}
 use Rattle.time_find.specs.declared.turn.Asked.{Asked}
 use Rattle.time_find.specs.declared.turn.SearchStep.{SearchStep}
 use Rattle.time_find.specs.declared.turn.SearchStep.TheVariants.{Seek, Times, Index, Log}
-use Rattle.time_find.specs.declared.turn.TimeTurn.{TimeTurn}
-use Rattle.time_find.specs.declared.turn.TimeTurn.TheVariants.{Goes, Ends}
+use Rattle.plain_log.specs.declared.turn.Turn.{Turn}
+use Rattle.plain_log.specs.declared.turn.Turn.TheVariants.{Goes, Ends}
 use Rattle.laws_time_find.specs.Passed.{IsDatedTo}
 
 -- what the state of a search keeps, whose broker has stopped so often and leads this epoch
@@ -36,12 +36,12 @@ search_of broker stops epoch cursor (Index piece from) = Seeks (sought_of broker
 search_of broker stops epoch cursor (Log piece from span) = Seeks (sought_of broker stops epoch from (fetch.Log piece span))
 
 -- after a turn
-abbrev pub search_work : ℕ → ℕ → ℕ → TimeTurn → TierTask
-search_work broker stops epoch (Goes cursor next) = search_of broker stops epoch cursor next
+abbrev pub search_work : ℕ → ℕ → ℕ → Turn (ℕ × SearchStep) → TierTask
+search_work broker stops epoch (Goes (cursor, next)) = search_of broker stops epoch cursor next
 search_work broker stops epoch (Ends answer) = Free
 
 -- after one that may have run out of memory, and then is taken again
-abbrev pub search_after : ℕ → ℕ → ℕ → ℕ → SearchStep → Result TimeTurn AllocError → TierTask
+abbrev pub search_after : ℕ → ℕ → ℕ → ℕ → SearchStep → Result (Turn (ℕ × SearchStep)) AllocError → TierTask
 search_after broker stops epoch cursor next (Ok turn) = search_work broker stops epoch turn
 search_after broker stops epoch cursor next (Err e) = search_of broker stops epoch cursor next
 

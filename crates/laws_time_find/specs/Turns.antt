@@ -16,6 +16,7 @@ use Rattle.object_store.specs.Call as store_call
 use Rattle.object_store.specs.Content as store
 use Rattle.meta_log.specs.Call as meta_call
 use Rattle.meta_log.specs.Content as meta
+use Rattle.plain_log.specs.declared.turn.Turn.{Turn}
 use Rattle.plain_log.specs.declared.state.State.{State as Plain}
 use Rattle.plain_log.specs.declared.state.Broker.{Broker}
 use Rattle.tier_fetch.specs.Turns.{Tiers}
@@ -24,7 +25,6 @@ use Rattle.tier_safe.specs.May.{IsChanged}
 use Rattle.laws_tier_fetch.specs.Seeking.{after_fetch}
 use Rattle.time_find.specs.declared.turn.Asked.{Asked}
 use Rattle.time_find.specs.declared.turn.SearchStep.{SearchStep}
-use Rattle.time_find.specs.declared.turn.TimeTurn.{TimeTurn}
 use Rattle.time_find.specs.Turns.{IsBelowLocal, IsSet, TimeRow}
 use Rattle.laws_time_find.specs.Searching.{search_after, IsAtSearch}
 
@@ -33,7 +33,7 @@ module _ {S M : Type 0} (objects : S → store.Content) (calls : S → Control s
   -- each turn of it is changes
   abbrev pub SearchTurnsChange : Type 0
   SearchTurnsChange =
-      (asked : Asked) (line : List (ℕ × ℕ)) (cursor : ℕ) (next : SearchStep) (result : Result TimeTurn AllocError) (old new : Tiers S M)
+      (asked : Asked) (line : List (ℕ × ℕ)) (cursor : ℕ) (next : SearchStep) (result : Result (Turn (ℕ × SearchStep)) AllocError) (old new : Tiers S M)
       (c : Scene) (p : Plain) (a b : ℕ) (tier_view : BrokerTierView) (x : Broker) (stops epoch : ℕ)
       → TimeRow objects calls notes notings asked line cursor next result old new → IsBelowLocal asked cursor next → IsSet cursor next
       → IsAtSearch c p a b tier_view x stops epoch asked line cursor next (objects old.store) (notes old.meta) old.view old.cache

@@ -13,23 +13,18 @@ use Rattle.meta_log.specs.declared.event_origin.EventOrigin.{EventOrigin}
 use Rattle.remote_view.specs.Fold.{EntriesSeen, state_of}
 use Rattle.copy_task.specs.Copying.{Copied, keys}
 use Rattle.copy_task.specs.Turns.{Tiers, PutObjectRow, DeleteRow, CopyTurnRow, put_at, delete_at, checked}
-use Rattle.copy_task.specs.declared.turn.CopyTurn.{CopyTurn}
-use Rattle.copy_task.specs.declared.turn.CopyTurn.TheVariants.{Goes as GoesOn, Ends}
+use Rattle.plain_log.specs.declared.turn.Turn.{Turn}
+use Rattle.plain_log.specs.declared.turn.Turn.TheVariants.{Goes as GoesOn, Ends}
 use Rattle.copy_task.specs.declared.turn.CopyStep.{CopyStep}
 use Rattle.copy_task.specs.declared.turn.CopyStep.TheVariants.{Start, Put, Finish, Check, Delete}
 use Rattle.expiry_task.specs.declared.turn.ExpiredSegment.{ExpiredSegment}
-use Rattle.expiry_task.specs.declared.turn.ExpiryTurn.{ExpiryTurn}
-use Rattle.expiry_task.specs.declared.turn.ExpiryTurn.TheVariants as expiry
 use Rattle.expiry_task.specs.declared.turn.DeletionStep.{DeletionStep as Deletion}
 use Rattle.rebuild_task.specs.declared.turn.RebuildStep.{RebuildStep as Rebuild}
 use Rattle.rebuild_task.specs.declared.turn.RebuildStep.TheVariants.{Epochs, Restart}
-use Rattle.rebuild_task.specs.declared.turn.RebuildTurn.{RebuildTurn}
-use Rattle.rebuild_task.specs.declared.turn.RebuildTurn.TheVariants as rebuild
 use Rattle.tier_fetch.specs.declared.turn.FetchStep.{FetchStep as Search}
 use Rattle.tier_fetch.specs.declared.turn.FetchStep.TheVariants.{Refresh}
 use Rattle.time_find.specs.declared.turn.Asked.{Asked}
 use Rattle.time_find.specs.declared.turn.SearchStep.{SearchStep as Dating}
-use Rattle.time_find.specs.declared.turn.TimeTurn.TheVariants as dating
 use Rattle.plain_log.specs.declared.command.ActorList.{ActorList}
 use Rattle.plain_log.specs.declared.command.Command.{Command}
 use Rattle.plain_log.specs.declared.command.Command.TheVariants.{Copy, Trim, Expire, Fetch, Join, Offset}
@@ -166,20 +161,20 @@ module _ {S M : Type 0} (store : StoreGhosts S) (meta : MetaGhosts M) where
   copy_advances copy origin Check next old new w = checked_advances copy new.view.notes (state_of copy.id new.view.entries) next w.1.0
   copy_advances copy origin (Delete n) next old new w = delete_row copy old.view n (slice_get (keys copy) n) next old.store new.store w.1
 
-copy_goes : (turn : CopyTurn) (next : CopyStep) → Goes next ≡ copy_outcome turn → turn ≡ GoesOn next
+copy_goes : (turn : Turn CopyStep) (next : CopyStep) → Goes next ≡ copy_outcome turn → turn ≡ GoesOn next
 copy_goes (GoesOn n) next is = cc
 copy_goes (Ends answer) next is = absurd cc
 
-expiry_goes : (turn : ExpiryTurn) (next : Deletion) → Deletes next ≡ expiry_outcome turn → turn ≡ expiry.Goes next
-expiry_goes (expiry.Goes n) next is = cc
-expiry_goes (expiry.Ends answer) next is = absurd cc
+expiry_goes : (turn : Turn Deletion) (next : Deletion) → Deletes next ≡ expiry_outcome turn → turn ≡ GoesOn next
+expiry_goes (GoesOn n) next is = cc
+expiry_goes (Ends answer) next is = absurd cc
 
-rebuild_goes : (turn : RebuildTurn) (next : Rebuild) → Rebuilding next ≡ rebuild_outcome turn → turn ≡ rebuild.Goes next
-rebuild_goes (rebuild.Goes n) next is = cc
-rebuild_goes (rebuild.Ends answer) next is = absurd cc
+rebuild_goes : (turn : Turn Rebuild) (next : Rebuild) → Rebuilding next ≡ rebuild_outcome turn → turn ≡ GoesOn next
+rebuild_goes (GoesOn n) next is = cc
+rebuild_goes (Ends answer) next is = absurd cc
 
 -- after the leader epochs that were read the log is restarted
-read_advances : (next : Rebuild) → MayTurn (rebuild.Goes next) → 2 < rebuilding_before next
+read_advances : (next : Rebuild) → MayTurn (GoesOn next) → 2 < rebuilding_before next
 read_advances (Restart line) may = omega arith
 read_advances Epochs may = absurd may
 
@@ -212,7 +207,7 @@ module _ {D S M : Type 0} (disk : DiskGhosts D) (store : StoreGhosts S) (meta : 
 
   search_rises : (h : PartitionState D) (t : RemoteTier S M) (b : ℕ) (x : Node D) (broker_tier : BrokerTierState) (asked : Asked) (cursor : ℕ) (before : Dating) (own : Bool)
       (at : ℕ) (next : Dating) (h' : PartitionState D) (t' : RemoteTier S M)
-      → SearchRow disk store meta h t b x broker_tier asked cursor before own (dating.Goes at next) h' t' → Rises before next
+      → SearchRow disk store meta h t b x broker_tier asked cursor before own (GoesOn (at, next)) h' t' → Rises before next
   search_rises h t b x broker_tier asked cursor before true at next h' t' w = own_rises disk x.log asked cursor before next at w.0.kept w.0.row
   search_rises h t b x broker_tier asked cursor before false at next h' t' w =
       let old = fetch_tiers broker_tier.view broker_tier.cache t in

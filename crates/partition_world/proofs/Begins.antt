@@ -5,17 +5,13 @@ use Rattle.object_store.specs.declared.store.Store.{Ghosts as StoreGhosts}
 use Rattle.meta_log.specs.declared.log.MetaLog.{Ghosts as MetaGhosts}
 use Rattle.tier_base.specs.declared.names.PartitionId.{PartitionId}
 use Rattle.copy_task.specs.Copying.{Copied}
-use Rattle.copy_task.specs.declared.turn.CopyTurn.{CopyTurn}
-use Rattle.copy_task.specs.declared.turn.CopyTurn.TheVariants.{Goes as GoesOn, Ends}
+use Rattle.plain_log.specs.declared.turn.Turn.{Turn}
+use Rattle.plain_log.specs.declared.turn.Turn.TheVariants.{Goes as GoesOn, Ends}
 use Rattle.copy_task.specs.declared.turn.CopyStep.{CopyStep}
 use Rattle.expiry_task.specs.declared.turn.ExpiredSegment.{ExpiredSegment}
-use Rattle.expiry_task.specs.declared.turn.ExpiryTurn.{ExpiryTurn}
-use Rattle.expiry_task.specs.declared.turn.ExpiryTurn.TheVariants as expiry
 use Rattle.expiry_task.specs.declared.turn.DeletionStep.{DeletionStep as Deletion}
 use Rattle.rebuild_task.specs.declared.turn.RebuildStep.{RebuildStep as Rebuild}
 use Rattle.rebuild_task.specs.declared.turn.RebuildStep.TheVariants.{Epochs, Restart}
-use Rattle.rebuild_task.specs.declared.turn.RebuildTurn.{RebuildTurn}
-use Rattle.rebuild_task.specs.declared.turn.RebuildTurn.TheVariants as rebuild
 use Rattle.tier_fetch.specs.declared.turn.FetchStep.{FetchStep as Search}
 use Rattle.time_find.specs.declared.turn.SearchStep.{SearchStep as Dating}
 use Rattle.plain_log.specs.declared.command.Command.{Command}
@@ -58,17 +54,17 @@ own_may : (turn : Turned) (outcome : Outcome) → outcome ≡ outcome_of turn �
 own_may (turned.Answers answer) outcome is = rw is tt
 own_may (turned.Begins g) outcome is = rw is tt
 
-copy_may : (g : StartSnapshot) (copy : Copied) (next : CopyStep) (turn : CopyTurn) (outcome : Outcome) → outcome ≡ copy_outcome turn → MayComeTo (Copies g copy next) outcome
+copy_may : (g : StartSnapshot) (copy : Copied) (next : CopyStep) (turn : Turn CopyStep) (outcome : Outcome) → outcome ≡ copy_outcome turn → MayComeTo (Copies g copy next) outcome
 copy_may g copy next (GoesOn further) outcome is = rw is tt
 copy_may g copy next (Ends answer) outcome is = rw is tt
 
-expiry_may : (g : StartSnapshot) (segment : ExpiredSegment) (next : Deletion) (turn : ExpiryTurn) (outcome : Outcome) → outcome ≡ expiry_outcome turn → MayComeTo (Expires g segment next) outcome
-expiry_may g segment next (expiry.Goes further) outcome is = rw is tt
-expiry_may g segment next (expiry.Ends answer) outcome is = rw is tt
+expiry_may : (g : StartSnapshot) (segment : ExpiredSegment) (next : Deletion) (turn : Turn Deletion) (outcome : Outcome) → outcome ≡ expiry_outcome turn → MayComeTo (Expires g segment next) outcome
+expiry_may g segment next (GoesOn further) outcome is = rw is tt
+expiry_may g segment next (Ends answer) outcome is = rw is tt
 
-rebuild_may : (g : StartSnapshot) (next : Rebuild) (turn : RebuildTurn) (outcome : Outcome) → outcome ≡ rebuild_outcome turn → MayComeTo (Rebuilds g next) outcome
-rebuild_may g next (rebuild.Goes further) outcome is = rw is tt
-rebuild_may g next (rebuild.Ends answer) outcome is = rw is tt
+rebuild_may : (g : StartSnapshot) (next : Rebuild) (turn : Turn Rebuild) (outcome : Outcome) → outcome ≡ rebuild_outcome turn → MayComeTo (Rebuilds g next) outcome
+rebuild_may g next (GoesOn further) outcome is = rw is tt
+rebuild_may g next (Ends answer) outcome is = rw is tt
 
 module _ {D S M : Type 0} (disk : DiskGhosts D) (store : StoreGhosts S) (meta : MetaGhosts M) where
   -- there are a broker and a tier state of a turn

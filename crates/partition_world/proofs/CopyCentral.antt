@@ -7,8 +7,8 @@ use Rattle.meta_log.specs.declared.log.MetaLog.{Ghosts as MetaGhosts}
 use Rattle.segment_meta.specs.declared.note.Note.{Note}
 use Rattle.remote_view.specs.Fold.{EntriesSeen as View}
 use Rattle.copy_task.specs.Copying.{Copied}
-use Rattle.copy_task.specs.declared.turn.CopyTurn.{CopyTurn}
-use Rattle.copy_task.specs.declared.turn.CopyTurn.TheVariants.{Goes as GoesOn, Ends}
+use Rattle.plain_log.specs.declared.turn.Turn.{Turn}
+use Rattle.plain_log.specs.declared.turn.Turn.TheVariants.{Goes as GoesOn, Ends}
 use Rattle.copy_task.specs.declared.turn.CopyStep.{CopyStep}
 use Rattle.plain_log.specs.declared.answer.Answer.TheVariants.{CopyOff, MetaFault, LostLead, Level, DiskFault, Damaged}
 use Rattle.plain_log.specs.declared.answer.Place.TheVariants.{File}
@@ -117,7 +117,7 @@ module _ {D S M : Type 0} (disk : DiskGhosts D) (store : StoreGhosts S) (meta : 
     second g recorded (inr (keeps, inr n)) = reads g recorded keeps n outcome refl n.row
 
     -- a later turn
-    copies_on : (g : StartSnapshot) (copy : Copied) (next : CopyStep) → t.actor_state.work ≡ Copies g copy next → KeepsLead z.x g → (turn : CopyTurn) → outcome ≡ copy_outcome turn
+    copies_on : (g : StartSnapshot) (copy : Copied) (next : CopyStep) → t.actor_state.work ≡ Copies g copy next → KeepsLead z.x g → (turn : Turn CopyStep) → outcome ≡ copy_outcome turn
         → GoesOnCopy store meta w.held w.tier t.order.broker.0 z.broker_tier copy next turn w'.tier → w'.held ≡ w.held → IsCentral disk store meta opening w'
     copies_on g copy next works keeps turn is goes same = by turn is goes changed
       where
@@ -129,7 +129,7 @@ module _ {D S M : Type 0} (disk : DiskGhosts D) (store : StoreGhosts S) (meta : 
         changed = copy_turns store.content store.control meta.content meta.control copy (origin_of w.held t.order.broker.0) next (Ok turn) (tiers_of z.broker_tier.view w.tier) (tiers_of goes.view w'.tier)
             c.scene c.central.plain t.place t.order.broker.0 its goes.row at (few_now disk store meta opening w c) c.tier
 
-        by : (turn : CopyTurn) → outcome ≡ copy_outcome turn → (goes : GoesOnCopy store meta w.held w.tier t.order.broker.0 z.broker_tier copy next turn w'.tier)
+        by : (turn : Turn CopyStep) → outcome ≡ copy_outcome turn → (goes : GoesOnCopy store meta w.held w.tier t.order.broker.0 z.broker_tier copy next turn w'.tier)
             → IsChanged c.scene c.central.plain (then (copy_work copy turn) (store.content w'.tier.store).objects (meta.content w'.tier.meta).notes goes.view) → IsCentral disk store meta opening w'
         by (Ends answer) is goes k =
             entered disk store meta opening w a outcome w' t c z Copy copies (Copies g copy next) works (turned.Answers answer) (then Free (store.content w'.tier.store).objects (meta.content w'.tier.meta).notes goes.view) is refl (same_held same)

@@ -10,8 +10,8 @@ use Rattle.meta_log.specs.declared.event_origin.EventOrigin.{EventOrigin}
 use Rattle.remote_view.specs.Fold.{EntriesSeen as View, state_of}
 use Rattle.copy_task.specs.Copying.{Copied, keys}
 use Rattle.copy_task.specs.Turns.{Tiers, StartRow, FinishRow, CheckRow, PutObjectRow, DeleteRow, CopyTurnRow, checked, delete_at, overtaken}
-use Rattle.copy_task.specs.declared.turn.CopyTurn.{CopyTurn}
-use Rattle.copy_task.specs.declared.turn.CopyTurn.TheVariants.{Ends}
+use Rattle.plain_log.specs.declared.turn.Turn.{Turn}
+use Rattle.plain_log.specs.declared.turn.Turn.TheVariants.{Ends}
 use Rattle.copy_task.specs.declared.turn.CopyStep.{CopyStep}
 use Rattle.copy_task.specs.declared.turn.CopyStep.TheVariants.{Start, Put, Finish, Check, Delete}
 use Rattle.plain_log.specs.declared.answer.Answer.{Answer}
@@ -86,30 +86,30 @@ module _ {S M : Type 0} (store : StoreGhosts S) (meta : MetaGhosts M) where
   abbrev pub TellsOn : S → M → S → M → Type 0
   TellsOn s m s' m' = ((store.content s').is_observable ≡ (store.content s).is_observable) × ((meta.content m').is_observable ≡ (meta.content m).is_observable)
 
-  start_tells : (copy : Copied) (origin : EventOrigin) (result : CopyTurn) (old new : M) → StartRow meta.content meta.control copy origin (Ok result) old new → (meta.content new).is_observable ≡ (meta.content old).is_observable
+  start_tells : (copy : Copied) (origin : EventOrigin) (result : Turn CopyStep) (old new : M) → StartRow meta.content meta.control copy origin (Ok result) old new → (meta.content new).is_observable ≡ (meta.content old).is_observable
   start_tells copy origin (Ends MetaFault) old new w = w.content.is_observable
   start_tells copy origin turn old new w = w.1.content.is_observable
 
-  finish_tells : (copy : Copied) (origin : EventOrigin) (result : CopyTurn) (old new : M) → FinishRow meta.content meta.control copy origin (Ok result) old new → (meta.content new).is_observable ≡ (meta.content old).is_observable
+  finish_tells : (copy : Copied) (origin : EventOrigin) (result : Turn CopyStep) (old new : M) → FinishRow meta.content meta.control copy origin (Ok result) old new → (meta.content new).is_observable ≡ (meta.content old).is_observable
   finish_tells copy origin (Ends MetaFault) old new w = w.content.is_observable
   finish_tells copy origin turn old new w = w.1.content.is_observable
 
-  check_tells : (copy : Copied) (result : CopyTurn) (before after : View) (old new : M) → CheckRow meta.content meta.control copy (Ok result) before after old new → (meta.content new).is_observable ≡ (meta.content old).is_observable
+  check_tells : (copy : Copied) (result : Turn CopyStep) (before after : View) (old new : M) → CheckRow meta.content meta.control copy (Ok result) before after old new → (meta.content new).is_observable ≡ (meta.content old).is_observable
   check_tells copy (Ends MetaFault) before after old new w = w.content.is_observable
   check_tells copy turn before after old new w = w.1.content.is_observable
 
-  put_tells : (copy : Copied) (n : ℕ) (key : Option ObjectKey) (result : CopyTurn) (old new : S) → PutObjectRow store.content store.control copy n key (Ok result) old new → (store.content new).is_observable ≡ (store.content old).is_observable
+  put_tells : (copy : Copied) (n : ℕ) (key : Option ObjectKey) (result : Turn CopyStep) (old new : S) → PutObjectRow store.content store.control copy n key (Ok result) old new → (store.content new).is_observable ≡ (store.content old).is_observable
   put_tells copy n None turn old new w = ap (λ (s : S). (store.content s).is_observable) w.1
   put_tells copy n (Some key) (Ends StoreFault) old new w = w.puts.content.is_observable
   put_tells copy n (Some key) turn old new w = w.1.puts.content.is_observable
 
-  delete_tells : (copy : Copied) (view : View) (n : ℕ) (key : Option ObjectKey) (turn : CopyTurn) (old new : S) → DeleteRow store.content store.control copy view n key turn old new
+  delete_tells : (copy : Copied) (view : View) (n : ℕ) (key : Option ObjectKey) (turn : Turn CopyStep) (old new : S) → DeleteRow store.content store.control copy view n key turn old new
       → (store.content new).is_observable ≡ (store.content old).is_observable
   delete_tells copy view n None turn old new w = ap (λ (s : S). (store.content s).is_observable) w.1
   delete_tells copy view n (Some key) (Ends StoreFault) old new w = w.content.is_observable
   delete_tells copy view n (Some key) turn old new w = w.1.content.is_observable
 
-  pub copy_tells : (copy : Copied) (origin : EventOrigin) (next : CopyStep) (turn : CopyTurn) (old new : Tiers S M) → CopyTurnRow store.content store.control meta.content meta.control copy origin next (Ok turn) old new
+  pub copy_tells : (copy : Copied) (origin : EventOrigin) (next : CopyStep) (turn : Turn CopyStep) (old new : Tiers S M) → CopyTurnRow store.content store.control meta.content meta.control copy origin next (Ok turn) old new
       → TellsOn old.store old.meta new.store new.meta
   copy_tells copy origin Start turn old new w = (ap (λ (t : Tiers S M). (store.content t.store).is_observable) w.0, start_tells copy origin turn old.meta new.meta w.1)
   copy_tells copy origin (Put n) turn old new w = (put_tells copy n (slice_get (keys copy) n) turn old.store new.store w.1, ap (λ (t : Tiers S M). (meta.content t.meta).is_observable) w.0)

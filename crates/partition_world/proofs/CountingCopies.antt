@@ -9,8 +9,8 @@ use Rattle.meta_log.specs.declared.event_origin.EventOrigin.{EventOrigin}
 use Rattle.remote_view.specs.Fold.{EntriesSeen as View, state_of}
 use Rattle.copy_task.specs.Copying.{Copied, keys}
 use Rattle.copy_task.specs.Turns.{Tiers, StartRow, FinishRow, CheckRow, PutObjectRow, DeleteRow, CopyTurnRow, checked, delete_at, overtaken, put_at}
-use Rattle.copy_task.specs.declared.turn.CopyTurn.{CopyTurn}
-use Rattle.copy_task.specs.declared.turn.CopyTurn.TheVariants.{Goes as GoesOn, Ends}
+use Rattle.plain_log.specs.declared.turn.Turn.{Turn}
+use Rattle.plain_log.specs.declared.turn.Turn.TheVariants.{Goes as GoesOn, Ends}
 use Rattle.copy_task.specs.declared.turn.CopyStep.{CopyStep}
 use Rattle.copy_task.specs.declared.turn.CopyStep.TheVariants.{Start, Put, Finish, Check, Delete}
 use Rattle.plain_log.specs.declared.answer.Answer.TheVariants.{MetaFault, StoreFault}
@@ -35,29 +35,29 @@ deleted_clear copy view n (Some key) = (refl, refl, refl)
 
 module _ {S M : Type 0} (store : StoreGhosts S) (meta : MetaGhosts M) where
   -- for a turn of the copy that is the same
-  counts_as : (turn after : CopyTurn) (s s' : S) (m m' : M) → turn ≡ after → Counted store meta (copy_outcome after) s s' m m' → Counted store meta (copy_outcome turn) s s' m m'
-  counts_as turn after s s' m m' is k = subst (λ (t : CopyTurn). Counted store meta (copy_outcome t) s s' m m') (sym is) k
+  counts_as : (turn after : Turn CopyStep) (s s' : S) (m m' : M) → turn ≡ after → Counted store meta (copy_outcome after) s s' m m' → Counted store meta (copy_outcome turn) s s' m m'
+  counts_as turn after s s' m m' is k = subst (λ (t : Turn CopyStep). Counted store meta (copy_outcome t) s s' m m') (sym is) k
 
-  start_counts : (copy : Copied) (origin : EventOrigin) (turn : CopyTurn) (s s' : S) (m m' : M) → s' ≡ s → StartRow meta.content meta.control copy origin (Ok turn) m m'
+  start_counts : (copy : Copied) (origin : EventOrigin) (turn : Turn CopyStep) (s s' : S) (m m' : M) → s' ≡ s → StartRow meta.content meta.control copy origin (Ok turn) m m'
       → Counted store meta (copy_outcome turn) s s' m m'
   start_counts copy origin (Ends MetaFault) s s' m m' one w = meta_failed store meta s s' m m' _ w.control.ran one
   start_counts copy origin turn s s' m m' one w =
       counts_as turn (GoesOn (Put 0)) s s' m m' w.0 (meta_went store meta (copy_outcome (GoesOn (Put 0))) s s' m m' _ (refl, refl, refl) w.1.control.ran one)
 
-  finish_counts : (copy : Copied) (origin : EventOrigin) (turn : CopyTurn) (s s' : S) (m m' : M) → s' ≡ s → FinishRow meta.content meta.control copy origin (Ok turn) m m'
+  finish_counts : (copy : Copied) (origin : EventOrigin) (turn : Turn CopyStep) (s s' : S) (m m' : M) → s' ≡ s → FinishRow meta.content meta.control copy origin (Ok turn) m m'
       → Counted store meta (copy_outcome turn) s s' m m'
   finish_counts copy origin (Ends MetaFault) s s' m m' one w = meta_failed store meta s s' m m' _ w.control.ran one
   finish_counts copy origin turn s s' m m' one w =
       counts_as turn (GoesOn Check) s s' m m' w.0 (meta_went store meta (copy_outcome (GoesOn Check)) s s' m m' _ (refl, refl, refl) w.1.control.ran one)
 
-  check_counts : (copy : Copied) (turn : CopyTurn) (before after : View) (s s' : S) (m m' : M) → s' ≡ s → CheckRow meta.content meta.control copy (Ok turn) before after m m'
+  check_counts : (copy : Copied) (turn : Turn CopyStep) (before after : View) (s s' : S) (m m' : M) → s' ≡ s → CheckRow meta.content meta.control copy (Ok turn) before after m m'
       → Counted store meta (copy_outcome turn) s s' m m'
   check_counts copy (Ends MetaFault) before after s s' m m' one w = meta_failed store meta s s' m m' _ w.control.ran one
   check_counts copy turn before after s s' m m' one w =
       counts_as turn (checked copy after.notes (state_of copy.id after.entries)) s s' m m' w.0
       (meta_went store meta (copy_outcome (checked copy after.notes (state_of copy.id after.entries))) s s' m m' _ (checked_clear copy after.notes (state_of copy.id after.entries)) w.1.control.ran one)
 
-  put_counts : (copy : Copied) (n : ℕ) (key : Option ObjectKey) (turn : CopyTurn) (s s' : S) (m m' : M) → m' ≡ m → PutObjectRow store.content store.control copy n key (Ok turn) s s'
+  put_counts : (copy : Copied) (n : ℕ) (key : Option ObjectKey) (turn : Turn CopyStep) (s s' : S) (m m' : M) → m' ≡ m → PutObjectRow store.content store.control copy n key (Ok turn) s s'
       → Counted store meta (copy_outcome turn) s s' m m'
   put_counts copy n None turn s s' m m' two w =
       let is : turn ≡ GoesOn Finish = cc (w.0) in
@@ -67,7 +67,7 @@ module _ {S M : Type 0} (store : StoreGhosts S) (meta : MetaGhosts M) where
       counts_as turn (GoesOn (put_at (n + 1) (slice_get (keys copy) (n + 1)))) s s' m m' w.0
       (store_went store meta (copy_outcome (GoesOn (put_at (n + 1) (slice_get (keys copy) (n + 1))))) s s' m m' _ (refl, refl, refl) w.1.puts.control.ran two)
 
-  delete_counts : (copy : Copied) (view : View) (n : ℕ) (key : Option ObjectKey) (turn : CopyTurn) (s s' : S) (m m' : M) → m' ≡ m
+  delete_counts : (copy : Copied) (view : View) (n : ℕ) (key : Option ObjectKey) (turn : Turn CopyStep) (s s' : S) (m m' : M) → m' ≡ m
       → DeleteRow store.content store.control copy view n key turn s s' → Counted store meta (copy_outcome turn) s s' m m'
   delete_counts copy view n None turn s s' m m' two w =
       counts_as turn (delete_at copy view n None) s s' m m' w.0
@@ -78,7 +78,7 @@ module _ {S M : Type 0} (store : StoreGhosts S) (meta : MetaGhosts M) where
       counts_as turn (delete_at copy view (n + 1) next) s s' m m' w.0
       (store_went store meta (copy_outcome (delete_at copy view (n + 1) next)) s s' m m' _ (deleted_clear copy view (n + 1) next) w.1.control.ran two)
 
-  pub copy_counts : (copy : Copied) (origin : EventOrigin) (next : CopyStep) (turn : CopyTurn) (old new : Tiers S M)
+  pub copy_counts : (copy : Copied) (origin : EventOrigin) (next : CopyStep) (turn : Turn CopyStep) (old new : Tiers S M)
       → CopyTurnRow store.content store.control meta.content meta.control copy origin next (Ok turn) old new
       → Counted store meta (copy_outcome turn) old.store new.store old.meta new.meta
   copy_counts copy origin Start turn old new w =

@@ -13,16 +13,15 @@ use Rattle.object_store.specs.Place.{short_of}
 use Rattle.meta_log.specs.declared.log.MetaLog.{Ghosts as MetaGhosts}
 use Rattle.remote_view.specs.Fold.{EntriesSeen as View, entry_of}
 use Rattle.remote_find.specs.declared.piece.Piece.{Piece}
-use Rattle.tier_fetch.specs.declared.turn.FetchTurn.{FetchTurn}
-use Rattle.tier_fetch.specs.declared.turn.FetchTurn.TheVariants as fetch
+use Rattle.tier_fetch.specs.declared.turn.FetchStep.{FetchStep}
+use Rattle.plain_log.specs.declared.turn.Turn.{Turn}
+use Rattle.plain_log.specs.declared.turn.Turn.TheVariants.{Goes, Ends}
 use Rattle.tier_fetch.specs.declared.turn.FetchStep.TheVariants as fetching
 use Rattle.tier_fetch.specs.declared.turn.Span.{Span}
 use Rattle.tier_fetch.specs.Turns.{Tiers, RemoteFetchRow, spot_in}
 use Rattle.time_find.specs.declared.turn.Asked.{Asked}
 use Rattle.time_find.specs.declared.turn.SearchStep.{SearchStep}
 use Rattle.time_find.specs.declared.turn.SearchStep.TheVariants.{Seek, Times as ReadsTimes, Index, Log}
-use Rattle.time_find.specs.declared.turn.TimeTurn.{TimeTurn}
-use Rattle.time_find.specs.declared.turn.TimeTurn.TheVariants.{Goes, Ends}
 use Rattle.time_find.specs.Passing.{Seeks}
 use Rattle.time_find.specs.Turns.{IsSearched, TimesBytes, Times, Indexes, SearchTakes, SeekRow, TimesRow, TimeRow, wanted_at}
 use Rattle.plain_log.specs.declared.answer.Answer.{Answer}
@@ -33,46 +32,46 @@ use Rattle.partition_world.specs.declared.actor_state.Outcome.TheVariants.{Answe
 use Rattle.partition_world.proofs.CountingCalls.{Clear, Counted, clear, still, store_went, meta_went, store_failed, meta_failed}
 use Rattle.partition_world.proofs.CountingSearches.{fetch_counts}
 
-date_clear : (turn after : TimeTurn) → ◌≡◌ {A = Result TimeTurn AllocError} (Ok turn) (Ok after) → Clear (date_outcome after) → Clear (date_outcome turn)
-date_clear turn after is none = let same : turn ≡ after = cc (is) in subst (λ (t : TimeTurn). Clear (date_outcome t)) (sym same) none
+date_clear : (turn after : Turn (ℕ × SearchStep)) → ◌≡◌ {A = Result (Turn (ℕ × SearchStep)) AllocError} (Ok turn) (Ok after) → Clear (date_outcome after) → Clear (date_outcome turn)
+date_clear turn after is none = let same : turn ≡ after = cc (is) in subst (λ (t : Turn (ℕ × SearchStep)). Clear (date_outcome t)) (sym same) none
 
-seeks_clear : (asked : Asked) (line : List (ℕ × ℕ)) (view : View) (cursor : ℕ) (turn : TimeTurn) → Seeks asked line view cursor turn → Clear (date_outcome turn)
-seeks_clear asked line view cursor (Goes at next) w = (refl, refl, refl)
+seeks_clear : (asked : Asked) (line : List (ℕ × ℕ)) (view : View) (cursor : ℕ) (turn : Turn (ℕ × SearchStep)) → Seeks asked line view cursor turn → Clear (date_outcome turn)
+seeks_clear asked line view cursor (Goes (at, next)) w = (refl, refl, refl)
 seeks_clear asked line view cursor (Ends (Damaged Meta n)) w = (refl, refl, refl)
 seeks_clear asked line view cursor (Ends answer) w = elim w [ ]
 
 -- a run that was searched
-pub searched_clear : (asked : Asked) (offset : ℕ) (run : List ℕ) (turn : TimeTurn) → IsSearched asked offset run turn → Clear (date_outcome turn)
-searched_clear asked offset run (Goes at next) w = (refl, refl, refl)
+pub searched_clear : (asked : Asked) (offset : ℕ) (run : List ℕ) (turn : Turn (ℕ × SearchStep)) → IsSearched asked offset run turn → Clear (date_outcome turn)
+searched_clear asked offset run (Goes (at, next)) w = (refl, refl, refl)
 searched_clear asked offset run (Ends (Offset n)) w = (refl, refl, refl)
 searched_clear asked offset run (Ends answer) w = elim w [ ]
 
 module _ {S M : Type 0} (store : StoreGhosts S) (meta : MetaGhosts M) where
-  date_as : (turn after : TimeTurn) (s s' : S) (m m' : M) → ◌≡◌ {A = Result TimeTurn AllocError} (Ok turn) (Ok after) → Counted store meta (date_outcome after) s s' m m'
+  date_as : (turn after : Turn (ℕ × SearchStep)) (s s' : S) (m m' : M) → ◌≡◌ {A = Result (Turn (ℕ × SearchStep)) AllocError} (Ok turn) (Ok after) → Counted store meta (date_outcome after) s s' m m'
       → Counted store meta (date_outcome turn) s s' m m'
-  date_as turn after s s' m m' is k = let same : turn ≡ after = cc (is) in subst (λ (t : TimeTurn). Counted store meta (date_outcome t) s s' m m') (sym same) k
+  date_as turn after s s' m m' is k = let same : turn ≡ after = cc (is) in subst (λ (t : Turn (ℕ × SearchStep)). Counted store meta (date_outcome t) s s' m m') (sym same) k
 
   -- what a fetch's turn came to
-  indexes_counts : (cursor from : ℕ) (piece : Piece) (found : FetchTurn) (turn : TimeTurn) (s s' : S) (m m' : M) → Indexes cursor piece from (Ok found) (Ok turn)
+  indexes_counts : (cursor from : ℕ) (piece : Piece) (found : Turn FetchStep) (turn : Turn (ℕ × SearchStep)) (s s' : S) (m m' : M) → Indexes cursor piece from (Ok found) (Ok turn)
       → Counted store meta (fetch_outcome found) s s' m m' → Counted store meta (date_outcome turn) s s' m m'
-  indexes_counts cursor from piece (fetch.Goes (fetching.Log same span)) turn s s' m m' w k = date_as turn (Goes cursor (Log piece from span)) s s' m m' w.1 k
-  indexes_counts cursor from piece (fetch.Goes next) turn s s' m m' w k = elim w [ ]
-  indexes_counts cursor from piece (fetch.Ends answer) turn s s' m m' w k = date_as turn (Ends answer) s s' m m' w k
+  indexes_counts cursor from piece (Goes (fetching.Log same span)) turn s s' m m' w k = date_as turn (Goes (cursor, Log piece from span)) s s' m m' w.1 k
+  indexes_counts cursor from piece (Goes next) turn s s' m m' w k = elim w [ ]
+  indexes_counts cursor from piece (Ends answer) turn s s' m m' w k = date_as turn (Ends answer) s s' m m' w k
 
-  searches_counts : (asked : Asked) (from : ℕ) (found : FetchTurn) (turn : TimeTurn) (s s' : S) (m m' : M) → SearchTakes asked from (Ok found) (Ok turn)
+  searches_counts : (asked : Asked) (from : ℕ) (found : Turn FetchStep) (turn : Turn (ℕ × SearchStep)) (s s' : S) (m m' : M) → SearchTakes asked from (Ok found) (Ok turn)
       → Counted store meta (fetch_outcome found) s s' m m' → Counted store meta (date_outcome turn) s s' m m'
-  searches_counts asked from (fetch.Ends (Run tier size stop bytes)) turn s s' m m' w k =
+  searches_counts asked from (Ends (Run tier size stop bytes)) turn s s' m m' w k =
       clear store meta (date_outcome turn) s s' m m' (searched_clear asked from bytes turn w) k.1 k.2
-  searches_counts asked from (fetch.Ends answer) turn s s' m m' w k = date_as turn (Ends answer) s s' m m' w k
-  searches_counts asked from (fetch.Goes next) turn s s' m m' w k = elim w [ ]
+  searches_counts asked from (Ends answer) turn s s' m m' w k = date_as turn (Ends answer) s s' m m' w k
+  searches_counts asked from (Goes next) turn s s' m m' w k = elim w [ ]
 
-  seek_counts : (asked : Asked) (line : List (ℕ × ℕ)) (cursor : ℕ) (turn : TimeTurn) (before after : View) (s s' : S) (m m' : M) → s' ≡ s
+  seek_counts : (asked : Asked) (line : List (ℕ × ℕ)) (cursor : ℕ) (turn : Turn (ℕ × SearchStep)) (before after : View) (s s' : S) (m m' : M) → s' ≡ s
       → SeekRow meta.content meta.control asked line cursor (Ok turn) before after m m' → Counted store meta (date_outcome turn) s s' m m'
   seek_counts asked line cursor (Ends MetaFault) before after s s' m m' one w = meta_failed store meta s s' m m' _ w.control.ran one
   seek_counts asked line cursor turn before after s s' m m' one w =
       meta_went store meta (date_outcome turn) s s' m m' _ (seeks_clear asked line after cursor turn w.0) w.1.control.ran one
 
-  read_counts : (asked : Asked) (cursor : ℕ) (piece : Piece) (base : ℕ) (spot : Spot) (answer : Result (Option (List ℕ)) Trouble) (turn : TimeTurn) (s s' : S) (m m' : M) → m' ≡ m
+  read_counts : (asked : Asked) (cursor : ℕ) (piece : Piece) (base : ℕ) (spot : Spot) (answer : Result (Option (List ℕ)) Trouble) (turn : Turn (ℕ × SearchStep)) (s s' : S) (m m' : M) → m' ≡ m
       → Ran Get (fate_of answer) (store.control s) (store.control s') → Times asked cursor piece base spot answer (Ok turn) → Counted store meta (date_outcome turn) s s' m m'
   read_counts asked cursor piece base spot (Err Failed) turn s s' m m' two r w =
       date_as turn (Ends StoreFault) s s' m m' w (store_failed store meta s s' m m' Get r two)
@@ -82,12 +81,12 @@ module _ {S M : Type 0} (store : StoreGhosts S) (meta : MetaGhosts M) where
   read_counts asked cursor piece base spot (Ok (Some bytes)) turn s s' m m' two r w =
       store_went store meta (date_outcome turn) s s' m m' Get (by (short_of spot bytes) turn w) r two
     where
-      by : (end : Option ℕ) (turn : TimeTurn) → TimesBytes end asked cursor piece base spot bytes (Ok turn) → Clear (date_outcome turn)
+      by : (end : Option ℕ) (turn : Turn (ℕ × SearchStep)) → TimesBytes end asked cursor piece base spot bytes (Ok turn) → Clear (date_outcome turn)
       by (Some end) turn w = date_clear turn _ w (refl, refl, refl)
-      by None (Goes at next) w = (refl, refl, refl)
+      by None (Goes (at, next)) w = (refl, refl, refl)
       by None (Ends answer) w = subst (λ (a : Answer). Clear (Answers a)) (sym w.0) (refl, refl, refl)
 
-  times_counts : (asked : Asked) (cursor : ℕ) (piece : Piece) (view : View) (place : Option (ℕ × Spot)) (turn : TimeTurn) (s s' : S) (m m' : M) → m' ≡ m
+  times_counts : (asked : Asked) (cursor : ℕ) (piece : Piece) (view : View) (place : Option (ℕ × Spot)) (turn : Turn (ℕ × SearchStep)) (s s' : S) (m m' : M) → m' ≡ m
       → TimesRow store.content store.control asked cursor piece view place (Ok turn) s s' → Counted store meta (date_outcome turn) s s' m m'
   times_counts asked cursor piece view None turn s s' m m' two w =
       still store meta (date_outcome turn) s s' m m' (date_clear turn _ w.0 (refl, refl, refl)) w.1 two
@@ -95,23 +94,23 @@ module _ {S M : Type 0} (store : StoreGhosts S) (meta : MetaGhosts M) where
       read_counts asked cursor piece place.0 place.1 w.answer turn s s' m m' two w.gets.control w.times
 
   -- what a turn among the remote segments counts
-  abbrev Counts : Tiers S M → Tiers S M → TimeTurn → Type 0
+  abbrev Counts : Tiers S M → Tiers S M → Turn (ℕ × SearchStep) → Type 0
   Counts old new turn = Counted store meta (date_outcome turn) old.store new.store old.meta new.meta
 
   -- no call was made
-  goes_counts : (old new : Tiers S M) (turn : TimeTurn) (at : ℕ) (next : SearchStep) → ◌≡◌ {A = Result TimeTurn AllocError} (Ok turn) (Ok (Goes at next)) → new ≡ old → Counts old new turn
+  goes_counts : (old new : Tiers S M) (turn : Turn (ℕ × SearchStep)) (at : ℕ) (next : SearchStep) → ◌≡◌ {A = Result (Turn (ℕ × SearchStep)) AllocError} (Ok turn) (Ok (Goes (at, next))) → new ≡ old → Counts old new turn
   goes_counts old new turn at next is same =
-      still store meta (date_outcome turn) old.store new.store old.meta new.meta (date_clear turn (Goes at next) is (refl, refl, refl))
+      still store meta (date_outcome turn) old.store new.store old.meta new.meta (date_clear turn (Goes (at, next)) is (refl, refl, refl))
       (ap (λ (t : Tiers S M). t.store) same) (ap (λ (t : Tiers S M). t.meta) same)
 
-  index_counts : (asked : Asked) (line : List (ℕ × ℕ)) (cursor from : ℕ) (piece : Piece) (found : Result FetchTurn AllocError) (turn : TimeTurn) (old new : Tiers S M)
+  index_counts : (asked : Asked) (line : List (ℕ × ℕ)) (cursor from : ℕ) (piece : Piece) (found : Result (Turn FetchStep) AllocError) (turn : Turn (ℕ × SearchStep)) (old new : Tiers S M)
       → RemoteFetchRow store.content store.control meta.content meta.control (wanted_at asked from) line (fetching.Index piece) found old new
       → Indexes cursor piece from found (Ok turn) → Counts old new turn
   index_counts asked line cursor from piece (Ok found) turn old new row w =
       indexes_counts cursor from piece found turn old.store new.store old.meta new.meta w (fetch_counts store meta (wanted_at asked from) line (fetching.Index piece) found old new row)
   index_counts asked line cursor from piece (Err e) turn old new row w = absurd (let no : false ≡ true = w in cc)
 
-  log_counts : (asked : Asked) (line : List (ℕ × ℕ)) (from : ℕ) (piece : Piece) (span : Span) (found : Result FetchTurn AllocError) (turn : TimeTurn) (old new : Tiers S M)
+  log_counts : (asked : Asked) (line : List (ℕ × ℕ)) (from : ℕ) (piece : Piece) (span : Span) (found : Result (Turn FetchStep) AllocError) (turn : Turn (ℕ × SearchStep)) (old new : Tiers S M)
       → RemoteFetchRow store.content store.control meta.content meta.control (wanted_at asked from) line (fetching.Log piece span) found old new
       → SearchTakes asked from found (Ok turn) → Counts old new turn
   log_counts asked line from piece span (Ok found) turn old new row w =
@@ -119,7 +118,7 @@ module _ {S M : Type 0} (store : StoreGhosts S) (meta : MetaGhosts M) where
   log_counts asked line from piece span (Err e) turn old new row w = absurd (let no : false ≡ true = w in cc)
 
   -- among the remote segments
-  pub time_counts : (asked : Asked) (line : List (ℕ × ℕ)) (cursor : ℕ) (next : SearchStep) (turn : TimeTurn) (old new : Tiers S M)
+  pub time_counts : (asked : Asked) (line : List (ℕ × ℕ)) (cursor : ℕ) (next : SearchStep) (turn : Turn (ℕ × SearchStep)) (old new : Tiers S M)
       → TimeRow store.content store.control meta.content meta.control asked line cursor next (Ok turn) old new → Counted store meta (date_outcome turn) old.store new.store old.meta new.meta
   time_counts asked line cursor Seek turn old new w =
       seek_counts asked line cursor turn old.view new.view old.store new.store old.meta new.meta (ap (λ (t : Tiers S M). t.store) w.0) w.1

@@ -8,15 +8,13 @@ use Rattle.object_store.specs.declared.store.Store.{Ghosts as StoreGhosts}
 use Rattle.meta_log.specs.declared.log.MetaLog.{Ghosts as MetaGhosts}
 use Rattle.copy_task.specs.Copying.{Copied}
 use Rattle.copy_task.specs.declared.turn.CopyStep.{CopyStep}
-use Rattle.tier_fetch.specs.declared.turn.FetchTurn.{FetchTurn}
-use Rattle.tier_fetch.specs.declared.turn.FetchTurn.TheVariants as fetch
+use Rattle.plain_log.specs.declared.turn.Turn.{Turn}
+use Rattle.plain_log.specs.declared.turn.Turn.TheVariants as turns
 use Rattle.tier_fetch.specs.declared.turn.FetchStep.{FetchStep as Search}
 use Rattle.tier_fetch.specs.declared.turn.FetchStep.TheVariants.{Refresh}
 use Rattle.time_find.specs.declared.turn.Asked.{Asked}
 use Rattle.time_find.specs.declared.turn.SearchStep.{SearchStep as Dating}
 use Rattle.time_find.specs.declared.turn.SearchStep.TheVariants.{Seek}
-use Rattle.time_find.specs.declared.turn.TimeTurn.{TimeTurn}
-use Rattle.time_find.specs.declared.turn.TimeTurn.TheVariants as dating
 use Rattle.time_find.specs.Passing.{passed_over}
 use Rattle.time_find.specs.Turns.{LocalSearchRow, ReadLocalRow as RunRow}
 use Rattle.expiry_task.specs.declared.turn.ExpiredSegment.{ExpiredSegment}
@@ -212,7 +210,7 @@ module _ {D S M : Type 0} (disk : DiskGhosts D) (store : StoreGhosts S) (meta : 
   trims_counts h t b x broker_tier g keep (Answers answer) h' t' at w same = own_row Trim h b x (Some g) t (turned.Answers answer) h' t' at w.0 same
   trims_counts h t b x broker_tier g keep other h' t' at w same = elim w [ ]
 
-  goes_counts : (A : Type 0) (p : PartitionId) (h : PartitionState D) (t : RemoteTier S M) (b : ℕ) (x : Node D) (broker_tier : BrokerTierState) (offset limit : ℕ) (next : Search) (turn : FetchTurn) (h' : PartitionState D) (t' : RemoteTier S M) → h' ≡ h
+  goes_counts : (A : Type 0) (p : PartitionId) (h : PartitionState D) (t : RemoteTier S M) (b : ℕ) (x : Node D) (broker_tier : BrokerTierState) (offset limit : ℕ) (next : Search) (turn : Turn Search) (h' : PartitionState D) (t' : RemoteTier S M) → h' ≡ h
       → GoesOnFetch store meta p t b x broker_tier offset limit next turn t' → Leaving A h t (fetch_outcome turn) h' t'
   goes_counts A p h t b x broker_tier offset limit next turn h' t' same w =
       of_tier A h t (fetch_outcome turn) h' t' same
@@ -224,8 +222,8 @@ module _ {D S M : Type 0} (disk : DiskGhosts D) (store : StoreGhosts S) (meta : 
   seek_counts A p h t b x broker_tier g offset limit next (Answers NotLeader) h' t' same w = all_still h t h' t' same w.3
   seek_counts A p h t b x broker_tier g offset limit next (Answers (OutOfRange start end)) h' t' same w = all_still h t h' t' same w.4
   seek_counts A p h t b x broker_tier g offset limit next (Answers Empty) h' t' same w = all_still h t h' t' same w.3
-  seek_counts A p h t b x broker_tier g offset limit next (Answers answer) h' t' same w = goes_counts A p h t b x broker_tier offset limit next (fetch.Ends answer) h' t' same w.1
-  seek_counts A p h t b x broker_tier g offset limit next (Sought later) h' t' same w = goes_counts A p h t b x broker_tier offset limit next (fetch.Goes later) h' t' same w.1
+  seek_counts A p h t b x broker_tier g offset limit next (Answers answer) h' t' same w = goes_counts A p h t b x broker_tier offset limit next (turns.Ends answer) h' t' same w.1
+  seek_counts A p h t b x broker_tier g offset limit next (Sought later) h' t' same w = goes_counts A p h t b x broker_tier offset limit next (turns.Goes later) h' t' same w.1
   seek_counts A p h t b x broker_tier g offset limit next other h' t' same w = elim w [ ]
 
   -- and of an expiry, which raises the log start offset as the command does
@@ -290,7 +288,7 @@ module _ {D S M : Type 0} (disk : DiskGhosts D) (store : StoreGhosts S) (meta : 
 
   -- and of a timestamp lookup, which reads the broker's log, or is among the remote segments
 
-  own_search_counts : (h : PartitionState D) (t : RemoteTier S M) (b : ℕ) (x : Node D) (asked : Asked) (cursor : ℕ) (turn : TimeTurn) (h' : PartitionState D)
+  own_search_counts : (h : PartitionState D) (t : RemoteTier S M) (b : ℕ) (x : Node D) (asked : Asked) (cursor : ℕ) (turn : Turn (ℕ × Dating)) (h' : PartitionState D)
       (t' : RemoteTier S M) → slice_get h.nodes b ≡ Some x → t' ≡ t
       → SearchesOwn disk h b x asked cursor turn h' → Leaving (Once disk.control h b h') h t (date_outcome turn) h' t'
   own_search_counts h t b x asked cursor turn h' t' at tier w = by w.row
@@ -310,22 +308,22 @@ module _ {D S M : Type 0} (disk : DiskGhosts D) (store : StoreGhosts S) (meta : 
           let c = clear store meta o t.store t'.store t.meta t'.meta none stores metas in
           (none_by (Once disk.control h b h') (Quietly disk.control h h') (is_answered is_of_disk o) c.0 k, c.1, c.2)
 
-      reads : (to : TimeTurn) → RunRow disk.content disk.control x.log asked (passed_over asked.ts cursor (closed_in x.log)) to w.kept
+      reads : (to : Turn (ℕ × Dating)) → RunRow disk.content disk.control x.log asked (passed_over asked.ts cursor (closed_in x.log)) to w.kept
           → Leaving (Once disk.control h b h') h t (date_outcome to) h' t'
-      reads (dating.Ends DiskFault) row = (once_put disk.control h b x y h' at row.2 w.after, stores, metas)
-      reads (dating.Ends (Damaged (File name) place)) row = (quiet_put disk.control h b x y h' at row.quiet.1 w.after, stores, metas)
+      reads (turns.Ends DiskFault) row = (once_put disk.control h b x y h' at row.2 w.after, stores, metas)
+      reads (turns.Ends (Damaged (File name) place)) row = (quiet_put disk.control h b x y h' at row.quiet.1 w.after, stores, metas)
       reads to row =
           quiet (date_outcome to) (searched_clear asked (passed_over asked.ts cursor (closed_in x.log)) row.out.bytes to row.searched)
           (quiet_put disk.control h b x y h' at row.quiet.1 w.after)
 
       by : LocalSearchRow disk.content disk.control x.log asked cursor turn w.kept → Leaving (Once disk.control h b h') h t (date_outcome turn) h' t'
       by (inl (past, is, same)) =
-          subst (λ (u : TimeTurn). Leaving (Once disk.control h b h') h t (date_outcome u) h' t') (sym is)
+          subst (λ (u : Turn (ℕ × Dating)). Leaving (Once disk.control h b h') h t (date_outcome u) h' t') (sym is)
           (tier_still h t h' t' (quiet_log disk.control h b x y h' at same w.after) tier)
       by (inr (below, row)) = reads turn row
 
   search_counts : (h : PartitionState D) (t : RemoteTier S M) (b : ℕ) (x : Node D) (broker_tier : BrokerTierState) (asked : Asked) (cursor : ℕ) (next : Dating) (own : Bool)
-      (turn : TimeTurn) (h' : PartitionState D) (t' : RemoteTier S M)
+      (turn : Turn (ℕ × Dating)) (h' : PartitionState D) (t' : RemoteTier S M)
       → slice_get h.nodes b ≡ Some x → SearchRow disk store meta h t b x broker_tier asked cursor next own turn h' t'
       → Leaving (Once disk.control h b h') h t (date_outcome turn) h' t'
   search_counts h t b x broker_tier asked cursor next true turn h' t' at w = own_search_counts h t b x asked cursor turn h' t' at w.1 w.0
@@ -334,7 +332,7 @@ module _ {D S M : Type 0} (disk : DiskGhosts D) (store : StoreGhosts S) (meta : 
       (time_counts store meta asked (line_of x) cursor next turn (fetch_tiers broker_tier.view broker_tier.cache t) (fetch_tiers w.0.view w.0.cache t') w.0.row)
 
   searches_counts : (p : PartitionId) (h : PartitionState D) (t : RemoteTier S M) (b : ℕ) (x : Node D) (broker_tier : BrokerTierState) (g : StartSnapshot) (ts : ℤ) (cursor : ℕ)
-      (next : Dating) (turn : TimeTurn) (h' : PartitionState D) (t' : RemoteTier S M)
+      (next : Dating) (turn : Turn (ℕ × Dating)) (h' : PartitionState D) (t' : RemoteTier S M)
       → slice_get h.nodes b ≡ Some x → SearchesOn disk store meta p h t b x broker_tier g ts cursor next turn h' t'
       → Leaving (Once disk.control h b h') h t (date_outcome turn) h' t'
   searches_counts p h t b x broker_tier g ts cursor next turn h' t' at w =
@@ -348,8 +346,8 @@ module _ {D S M : Type 0} (disk : DiskGhosts D) (store : StoreGhosts S) (meta : 
   date_counts p h t b x broker_tier g ts cursor next (Answers Stopped) h' t' at w = all_still h t h' t' w.1 w.2
   date_counts p h t b x broker_tier g ts cursor next (Answers NotLeader) h' t' at w = all_still h t h' t' w.3 w.4
   date_counts p h t b x broker_tier g ts cursor next (Answers NoOffset) h' t' at w = all_still h t h' t' w.2 w.3
-  date_counts p h t b x broker_tier g ts cursor next (Answers answer) h' t' at w = searches_counts p h t b x broker_tier g ts cursor next (dating.Ends answer) h' t' at w
-  date_counts p h t b x broker_tier g ts cursor next (Dated to later) h' t' at w = searches_counts p h t b x broker_tier g ts cursor next (dating.Goes to later) h' t' at w.0
+  date_counts p h t b x broker_tier g ts cursor next (Answers answer) h' t' at w = searches_counts p h t b x broker_tier g ts cursor next (turns.Ends answer) h' t' at w
+  date_counts p h t b x broker_tier g ts cursor next (Dated to later) h' t' at w = searches_counts p h t b x broker_tier g ts cursor next (turns.Goes (to, later)) h' t' at w.0
   date_counts p h t b x broker_tier g ts cursor next other h' t' at w = elim w [ ]
 
   recorded_counts : (p : PartitionId) (config : Config) (h : PartitionState D) (t : RemoteTier S M) (b : ℕ) (x : Node D) (broker_tier : BrokerTierState) (g : StartSnapshot) (command : Command) (o : Outcome) (h' : PartitionState D) (t' : RemoteTier S M)

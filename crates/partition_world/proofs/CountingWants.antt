@@ -27,8 +27,8 @@ use Rattle.copy_task.specs.Turns.{Tiers, PutObjectRow, CopyTurnRow}
 use Rattle.copy_task.specs.declared.turn.CopyStep.{CopyStep}
 use Rattle.copy_task.specs.declared.turn.CopyStep.TheVariants.{Start, Put, Finish, Check, Delete}
 use Rattle.tier_fetch.specs.Turns.{Tiers as Fetched, RemoteFetchRow, IndexRow, LoadRow, LogRow, Loads, CutsRunOut, spot_in}
-use Rattle.tier_fetch.specs.declared.turn.FetchTurn.{FetchTurn}
-use Rattle.tier_fetch.specs.declared.turn.FetchTurn.TheVariants as fetch
+use Rattle.plain_log.specs.declared.turn.Turn.{Turn}
+use Rattle.plain_log.specs.declared.turn.Turn.TheVariants as fetch
 use Rattle.tier_fetch.specs.declared.turn.FetchStep.{FetchStep as Search}
 use Rattle.tier_fetch.specs.declared.turn.FetchStep.TheVariants as fetching
 use Rattle.tier_fetch.specs.declared.turn.Span.{Span}
@@ -65,13 +65,13 @@ use Rattle.partition_world.proofs.CountingCalls.{StoreStill, MetaStill, store_st
 use Rattle.partition_world.proofs.Halting.{HaltsSome, StaysSome, stays_some}
 
 -- no offset index is read in vain where the fetch's turn came to something
-no_index : (cursor from : ℕ) (piece : Piece) (turn : FetchTurn) (e : AllocError) → Indexes cursor piece from (Ok turn) (Err e) → ⊥
+no_index : (cursor from : ℕ) (piece : Piece) (turn : Turn Search) (e : AllocError) → Indexes cursor piece from (Ok turn) (Err e) → ⊥
 no_index cursor from piece (fetch.Goes (fetching.Log same span)) e w = let is = w.1 in cc (is)
 no_index cursor from piece (fetch.Goes next) e w = elim w [ ]
 no_index cursor from piece (fetch.Ends answer) e w = cc (w)
 
 -- nor a log
-no_search : (asked : Asked) (from : ℕ) (turn : FetchTurn) (e : AllocError) → SearchTakes asked from (Ok turn) (Err e) → ⊥
+no_search : (asked : Asked) (from : ℕ) (turn : Turn Search) (e : AllocError) → SearchTakes asked from (Ok turn) (Err e) → ⊥
 no_search asked from (fetch.Ends (Run tier size stop bytes)) e w = w
 no_search asked from (fetch.Ends answer) e w = cc (w)
 no_search asked from (fetch.Goes next) e w = w
@@ -186,13 +186,13 @@ module _ {S M : Type 0} (store : StoreGhosts S) (meta : MetaGhosts M) where
   fetch_meta wanted line (fetching.Index piece) e old new w = meta_still store meta old.meta new.meta (ap (λ (t : Fetched S M). t.meta) w.0)
   fetch_meta wanted line (fetching.Log piece span) e old new w = meta_still store meta old.meta new.meta (ap (λ (t : Fetched S M). t.meta) w.0)
 
-  index_store : (asked : Asked) (line : List (ℕ × ℕ)) (cursor : ℕ) (piece : Piece) (from : ℕ) (turn : Result FetchTurn AllocError) (e : AllocError) (old new : Fetched S M)
+  index_store : (asked : Asked) (line : List (ℕ × ℕ)) (cursor : ℕ) (piece : Piece) (from : ℕ) (turn : Result (Turn Search) AllocError) (e : AllocError) (old new : Fetched S M)
       → RemoteFetchRow store.content store.control meta.content meta.control (wanted_at asked from) line (fetching.Index piece) turn old new
       → Indexes cursor piece from turn (Err e) → StoreStill store meta old.store new.store
   index_store asked line cursor piece from (Ok turn) e old new row w = absurd (no_index cursor from piece turn e w)
   index_store asked line cursor piece from (Err k) e old new row w = fetch_store (wanted_at asked from) line (fetching.Index piece) k old new row
 
-  log_store : (asked : Asked) (line : List (ℕ × ℕ)) (piece : Piece) (from : ℕ) (span : Span) (turn : Result FetchTurn AllocError) (e : AllocError) (old new : Fetched S M)
+  log_store : (asked : Asked) (line : List (ℕ × ℕ)) (piece : Piece) (from : ℕ) (span : Span) (turn : Result (Turn Search) AllocError) (e : AllocError) (old new : Fetched S M)
       → RemoteFetchRow store.content store.control meta.content meta.control (wanted_at asked from) line (fetching.Log piece span) turn old new
       → SearchTakes asked from turn (Err e) → StoreStill store meta old.store new.store
   log_store asked line piece from span (Ok turn) e old new row w = absurd (no_search asked from turn e w)
@@ -208,13 +208,13 @@ module _ {S M : Type 0} (store : StoreGhosts S) (meta : MetaGhosts M) where
   time_store asked line cursor (dating.Log piece from span) e old new (inl w) = let is = w.1 in absurd (cc (is))
   time_store asked line cursor (dating.Log piece from span) e old new (inr w) = log_store asked line piece from span w.1.0 e old new w.1.1 w.1.2
 
-  index_meta : (asked : Asked) (line : List (ℕ × ℕ)) (cursor : ℕ) (piece : Piece) (from : ℕ) (turn : Result FetchTurn AllocError) (e : AllocError) (old new : Fetched S M)
+  index_meta : (asked : Asked) (line : List (ℕ × ℕ)) (cursor : ℕ) (piece : Piece) (from : ℕ) (turn : Result (Turn Search) AllocError) (e : AllocError) (old new : Fetched S M)
       → RemoteFetchRow store.content store.control meta.content meta.control (wanted_at asked from) line (fetching.Index piece) turn old new
       → Indexes cursor piece from turn (Err e) → MetaStill store meta old.meta new.meta
   index_meta asked line cursor piece from (Ok turn) e old new row w = absurd (no_index cursor from piece turn e w)
   index_meta asked line cursor piece from (Err k) e old new row w = fetch_meta (wanted_at asked from) line (fetching.Index piece) k old new row
 
-  log_meta : (asked : Asked) (line : List (ℕ × ℕ)) (piece : Piece) (from : ℕ) (span : Span) (turn : Result FetchTurn AllocError) (e : AllocError) (old new : Fetched S M)
+  log_meta : (asked : Asked) (line : List (ℕ × ℕ)) (piece : Piece) (from : ℕ) (span : Span) (turn : Result (Turn Search) AllocError) (e : AllocError) (old new : Fetched S M)
       → RemoteFetchRow store.content store.control meta.content meta.control (wanted_at asked from) line (fetching.Log piece span) turn old new
       → SearchTakes asked from turn (Err e) → MetaStill store meta old.meta new.meta
   log_meta asked line piece from span (Ok turn) e old new row w = absurd (no_search asked from turn e w)

@@ -16,13 +16,12 @@ use Rattle.rebuild_task.specs.declared.turn.RebuildStep.{RebuildStep as Rebuild}
 use Rattle.rebuild_task.specs.declared.turn.RebuildStep.TheVariants.{Epochs, Restart}
 use Rattle.tier_fetch.specs.declared.turn.FetchStep.{FetchStep as Search}
 use Rattle.tier_fetch.specs.declared.turn.FetchStep.TheVariants.{Refresh}
-use Rattle.tier_fetch.specs.declared.turn.FetchTurn.{FetchTurn}
 use Rattle.time_find.specs.Turns.{LocalSearchRow as OwnSearchRow, ReadLocalRow as SearchReadRow}
 use Rattle.time_find.specs.declared.turn.Asked.{Asked}
 use Rattle.time_find.specs.declared.turn.SearchStep.{SearchStep as Dating}
 use Rattle.time_find.specs.declared.turn.SearchStep.TheVariants.{Seek}
-use Rattle.time_find.specs.declared.turn.TimeTurn.{TimeTurn}
-use Rattle.time_find.specs.declared.turn.TimeTurn.TheVariants as dating
+use Rattle.plain_log.specs.declared.turn.Turn.{Turn}
+use Rattle.plain_log.specs.declared.turn.Turn.TheVariants as dating
 use Rattle.plain_log.specs.declared.answer.Answer.{Answer}
 use Rattle.plain_log.specs.declared.answer.Answer.TheVariants.{Down, NotLeader, CopyOff, MetaFault, DiskFault, Damaged, Stopped, OutOfRange, Empty, Kept, StaleEpoch, Raised, OkAt, NoOffset}
 use Rattle.plain_log.specs.declared.answer.Place.TheVariants.{File}
@@ -243,14 +242,14 @@ module _ {D S M : Type 0} (disk : DiskGhosts D) (store : StoreGhosts S) (meta : 
 
   -- a timestamp lookup reads its broker's log at most
   search_to : (o : Outcome) (h : PartitionState D) (t : RemoteTier S M) (b : ℕ) (x : Node D) (broker_tier : BrokerTierState) (asked : Asked) (cursor : ℕ) (next : Dating)
-      (own : Bool) (turn : TimeTurn) (h' : PartitionState D) (t' : RemoteTier S M) → slice_get h.nodes b ≡ Some x
+      (own : Bool) (turn : Turn (ℕ × Dating)) (h' : PartitionState D) (t' : RemoteTier S M) → slice_get h.nodes b ≡ Some x
       → SearchRow disk store meta h t b x broker_tier asked cursor next own turn h' t' → StopsTo o h h'
   search_to o h t b x broker_tier asked cursor next true turn h' t' at w =
       to_put o h b x (record x { log = w.0.kept }) h' at refl w.0.after
   search_to o h t b x broker_tier asked cursor next false turn h' t' at w = to_same o h h' w.1
 
   searches_to : (o : Outcome) (p : PartitionId) (h : PartitionState D) (t : RemoteTier S M) (b : ℕ) (x : Node D) (broker_tier : BrokerTierState) (g : StartSnapshot) (ts : ℤ)
-      (cursor : ℕ) (next : Dating) (turn : TimeTurn) (h' : PartitionState D) (t' : RemoteTier S M) → slice_get h.nodes b ≡ Some x
+      (cursor : ℕ) (next : Dating) (turn : Turn (ℕ × Dating)) (h' : PartitionState D) (t' : RemoteTier S M) → slice_get h.nodes b ≡ Some x
       → SearchesOn disk store meta p h t b x broker_tier g ts cursor next turn h' t' → StopsTo o h h'
   searches_to o p h t b x broker_tier g ts cursor next turn h' t' at w =
       let on = resumed_at h.registry.start cursor in
@@ -266,7 +265,7 @@ module _ {D S M : Type 0} (disk : DiskGhosts D) (store : StoreGhosts S) (meta : 
   date_to p h t b x broker_tier g ts cursor next (Answers answer) h' t' at w =
       searches_to (Answers answer) p h t b x broker_tier g ts cursor next (dating.Ends answer) h' t' at w
   date_to p h t b x broker_tier g ts cursor next (Dated later after) h' t' at w =
-      searches_to (Dated later after) p h t b x broker_tier g ts cursor next (dating.Goes later after) h' t' at w.0
+      searches_to (Dated later after) p h t b x broker_tier g ts cursor next (dating.Goes (later, after)) h' t' at w.0
   date_to p h t b x broker_tier g ts cursor next other h' t' at w = elim w [ ]
 
   recorded_to : (p : PartitionId) (config : Config) (h : PartitionState D) (t : RemoteTier S M) (b : ℕ) (x : Node D) (broker_tier : BrokerTierState) (g : StartSnapshot) (command : Command) (outcome : Outcome) (h' : PartitionState D) (t' : RemoteTier S M)
@@ -337,7 +336,7 @@ module _ {D S M : Type 0} (disk : DiskGhosts D) (store : StoreGhosts S) (meta : 
   choose_tries p h t b x broker_tier g outcome h' t' (inr (keeps, inr reads)) =
       put_by outcome b broker_tier reads.broker_tier_after t t' (next_tries disk p b x broker_tier _ outcome reads.node reads.broker_tier_after reads.row) (ap (λ (k : RemoteTier S M). k.broker_tiers) reads.tier)
 
-  goes_tries : (p : PartitionId) (t : RemoteTier S M) (b : ℕ) (x : Node D) (broker_tier : BrokerTierState) (offset limit : ℕ) (next : Search) (turn : FetchTurn) (t' : RemoteTier S M)
+  goes_tries : (p : PartitionId) (t : RemoteTier S M) (b : ℕ) (x : Node D) (broker_tier : BrokerTierState) (offset limit : ℕ) (next : Search) (turn : Turn Search) (t' : RemoteTier S M)
       → GoesOnFetch store meta p t b x broker_tier offset limit next turn t' → Tries broker_tier t t'
   goes_tries p t b x broker_tier offset limit next turn t' k = tries_put b broker_tier (record broker_tier { view = k.view; cache = k.cache }) t t' (omega arith) (ap (λ (k : RemoteTier S M). k.broker_tiers) k.after)
 
@@ -352,14 +351,14 @@ module _ {D S M : Type 0} (disk : DiskGhosts D) (store : StoreGhosts S) (meta : 
   fetch_tries p h t b x broker_tier g offset limit next other t' w = elim w [ ]
 
   search_tries : (h : PartitionState D) (t : RemoteTier S M) (b : ℕ) (x : Node D) (broker_tier : BrokerTierState) (asked : Asked) (cursor : ℕ) (next : Dating) (own : Bool)
-      (turn : TimeTurn) (h' : PartitionState D) (t' : RemoteTier S M) → SearchRow disk store meta h t b x broker_tier asked cursor next own turn h' t'
+      (turn : Turn (ℕ × Dating)) (h' : PartitionState D) (t' : RemoteTier S M) → SearchRow disk store meta h t b x broker_tier asked cursor next own turn h' t'
       → Tries broker_tier t t'
   search_tries h t b x broker_tier asked cursor next true turn h' t' w = tries_same broker_tier t t' (ap (λ (k : RemoteTier S M). k.broker_tiers) w.1)
   search_tries h t b x broker_tier asked cursor next false turn h' t' w =
       tries_put b broker_tier (record broker_tier { view = w.0.view; cache = w.0.cache }) t t' (omega arith) (ap (λ (k : RemoteTier S M). k.broker_tiers) w.0.after)
 
   searches_tries : (p : PartitionId) (h : PartitionState D) (t : RemoteTier S M) (b : ℕ) (x : Node D) (broker_tier : BrokerTierState) (g : StartSnapshot) (ts : ℤ) (cursor : ℕ)
-      (next : Dating) (turn : TimeTurn) (h' : PartitionState D) (t' : RemoteTier S M)
+      (next : Dating) (turn : Turn (ℕ × Dating)) (h' : PartitionState D) (t' : RemoteTier S M)
       → SearchesOn disk store meta p h t b x broker_tier g ts cursor next turn h' t' → Tries broker_tier t t'
   searches_tries p h t b x broker_tier g ts cursor next turn h' t' w =
       let on = resumed_at h.registry.start cursor in
@@ -375,7 +374,7 @@ module _ {D S M : Type 0} (disk : DiskGhosts D) (store : StoreGhosts S) (meta : 
   date_tries p h t b x broker_tier g ts cursor next (Answers answer) h' t' w =
       searches_tries p h t b x broker_tier g ts cursor next (dating.Ends answer) h' t' w
   date_tries p h t b x broker_tier g ts cursor next (Dated later after) h' t' w =
-      searches_tries p h t b x broker_tier g ts cursor next (dating.Goes later after) h' t' w.0
+      searches_tries p h t b x broker_tier g ts cursor next (dating.Goes (later, after)) h' t' w.0
   date_tries p h t b x broker_tier g ts cursor next other h' t' w = elim w [ ]
 
   refresh_tries : (t : RemoteTier S M) (b : ℕ) (broker_tier : BrokerTierState) (outcome : Outcome) (t' : RemoteTier S M) → RefreshedRow meta t b broker_tier outcome t' → Tries broker_tier t t'

@@ -16,8 +16,9 @@ use Rattle.broker_log.specs.Seen.{LogState}
 use Rattle.remote_view.specs.Fold.{EntriesSeen as View, entry_of}
 use Rattle.remote_find.specs.declared.piece.Piece.{Piece}
 use Rattle.tier_fetch.specs.Turns.{Tiers as Fetched, spot_in}
-use Rattle.tier_fetch.specs.declared.turn.FetchTurn.{FetchTurn}
-use Rattle.tier_fetch.specs.declared.turn.FetchTurn.TheVariants as fetch
+use Rattle.tier_fetch.specs.declared.turn.FetchStep.{FetchStep}
+use Rattle.plain_log.specs.declared.turn.Turn.{Turn}
+use Rattle.plain_log.specs.declared.turn.Turn.TheVariants.{Goes, Ends}
 use Rattle.tier_fetch.specs.declared.turn.FetchStep.TheVariants as fetching
 use Rattle.plain_log.specs.declared.answer.Answer.TheVariants.{Run}
 use Rattle.time_find.specs.Passing.{Seeks, top_of}
@@ -25,8 +26,6 @@ use Rattle.time_find.specs.Turns.{SearchContinues, IsSearched, TimesBytes, Times
 use Rattle.time_find.specs.declared.turn.Asked.{Asked}
 use Rattle.time_find.specs.declared.turn.SearchStep.{SearchStep}
 use Rattle.time_find.specs.declared.turn.SearchStep.TheVariants as search
-use Rattle.time_find.specs.declared.turn.TimeTurn.{TimeTurn}
-use Rattle.time_find.specs.declared.turn.TimeTurn.TheVariants.{Goes}
 
 -- how many turns a search has taken at most for the piece that it has
 abbrev pub dated_before : SearchStep → ℕ
@@ -46,12 +45,12 @@ abbrev pub Rises : SearchStep → SearchStep → Type 0
 Rises before search.Seek = Unit {0}
 Rises before next = dated_before before < dated_before next
 
-rises_to : (before next after : SearchStep) (at to : ℕ) → ◌≡◌ {A = Result TimeTurn AllocError} (Ok (Goes at next)) (Ok (Goes to after))
+rises_to : (before next after : SearchStep) (at to : ℕ) → ◌≡◌ {A = Result (Turn (ℕ × SearchStep)) AllocError} (Ok (Goes (at, next))) (Ok (Goes (to, after)))
     → Rises before after → Rises before next
 rises_to before next after at to is up = let same : after ≡ next = cc (is) in subst (Rises before) same up
 
 seeks_rises : (asked : Asked) (line : List (ℕ × ℕ)) (view : View) (cursor at : ℕ) (next : SearchStep)
-    → Seeks asked line view cursor (Goes at next) → Rises search.Seek next
+    → Seeks asked line view cursor (Goes (at, next)) → Rises search.Seek next
 seeks_rises asked line view cursor at search.Seek w = tt
 seeks_rises asked line view cursor at (search.Times piece) w = omega arith
 seeks_rises asked line view cursor at (search.Index piece from) w = elim w [ ]
@@ -59,55 +58,55 @@ seeks_rises asked line view cursor at (search.Log piece from span) w = elim w [ 
 
 -- after a run that was searched there is no piece
 searched_rises : (before next : SearchStep) (asked : Asked) (offset : ℕ) (run : List ℕ) (at : ℕ)
-    → IsSearched asked offset run (Goes at next) → Rises before next
+    → IsSearched asked offset run (Goes (at, next)) → Rises before next
 searched_rises before search.Seek asked offset run at w = tt
 searched_rises before (search.Times piece) asked offset run at w = elim w [ ]
 searched_rises before (search.Index piece from) asked offset run at w = elim w [ ]
 searched_rises before (search.Log piece from span) asked offset run at w = elim w [ ]
 
 shown_rises : (more : Bool) (piece : Piece) (from cursor top at : ℕ) (next : SearchStep)
-    → Goes at next ≡ (if more then Goes cursor (search.Index piece from) else Goes top search.Seek) → Rises (search.Times piece) next
+    → Goes (at, next) ≡ (if more then Goes (cursor, search.Index piece from) else Goes (top, search.Seek)) → Rises (search.Times piece) next
 shown_rises true piece from cursor top at next is =
     let same : search.Index piece from ≡ next = cc (is) in subst (Rises (search.Times piece)) same (omega arith)
 shown_rises false piece from cursor top at next is = let same : search.Seek ≡ next = cc (is) in subst (Rises (search.Times piece)) same tt
 
 times_rises : (asked : Asked) (cursor : ℕ) (piece : Piece) (base : ℕ) (spot : Spot) (answer : Result (Option (List ℕ)) Trouble)
-    (at : ℕ) (next : SearchStep) → Times asked cursor piece base spot answer (Ok (Goes at next)) → Rises (search.Times piece) next
+    (at : ℕ) (next : SearchStep) → Times asked cursor piece base spot answer (Ok (Goes (at, next))) → Rises (search.Times piece) next
 times_rises asked cursor piece base spot (Err Failed) at next w = absurd (cc (w))
 times_rises asked cursor piece base spot (Err NoMemory) at next w = absurd (let no : false ≡ true = w in cc)
 times_rises asked cursor piece base spot (Ok None) at next w = absurd (cc (w))
 times_rises asked cursor piece base spot (Ok (Some bytes)) at next w = by (short_of spot bytes) w
   where
-    by : (end : Option ℕ) → TimesBytes end asked cursor piece base spot bytes (Ok (Goes at next)) → Rises (search.Times piece) next
+    by : (end : Option ℕ) → TimesBytes end asked cursor piece base spot bytes (Ok (Goes (at, next))) → Rises (search.Times piece) next
     by (Some end) w = absurd (cc (w))
     by None w = shown_rises (nat_lt _ (top_of asked piece)) piece _ cursor (top_of asked piece) at next w.turn_is
 
-indexes_rises : (cursor : ℕ) (piece : Piece) (from : ℕ) (found : Result FetchTurn AllocError) (at : ℕ) (next : SearchStep)
-    → Indexes cursor piece from found (Ok (Goes at next)) → Rises (search.Index piece from) next
-indexes_rises cursor piece from (Ok (fetch.Goes (fetching.Log same span))) at next w =
+indexes_rises : (cursor : ℕ) (piece : Piece) (from : ℕ) (found : Result (Turn FetchStep) AllocError) (at : ℕ) (next : SearchStep)
+    → Indexes cursor piece from found (Ok (Goes (at, next))) → Rises (search.Index piece from) next
+indexes_rises cursor piece from (Ok (Goes (fetching.Log same span))) at next w =
     rises_to (search.Index piece from) next (search.Log piece from span) at cursor w.1 (omega arith)
-indexes_rises cursor piece from (Ok (fetch.Goes other)) at next w = elim w [ ]
-indexes_rises cursor piece from (Ok (fetch.Ends answer)) at next w = absurd (cc (w))
+indexes_rises cursor piece from (Ok (Goes other)) at next w = elim w [ ]
+indexes_rises cursor piece from (Ok (Ends answer)) at next w = absurd (cc (w))
 indexes_rises cursor piece from (Err e) at next w = absurd (let no : false ≡ true = w in cc)
 
-searches_rises : (before next : SearchStep) (asked : Asked) (from : ℕ) (found : Result FetchTurn AllocError) (at : ℕ)
-    → SearchTakes asked from found (Ok (Goes at next)) → Rises before next
-searches_rises before next asked from (Ok (fetch.Ends (Run tier size stop bytes))) at w = searched_rises before next asked from bytes at w
-searches_rises before next asked from (Ok (fetch.Ends answer)) at w = absurd (cc (w))
-searches_rises before next asked from (Ok (fetch.Goes other)) at w = elim w [ ]
+searches_rises : (before next : SearchStep) (asked : Asked) (from : ℕ) (found : Result (Turn FetchStep) AllocError) (at : ℕ)
+    → SearchTakes asked from found (Ok (Goes (at, next))) → Rises before next
+searches_rises before next asked from (Ok (Ends (Run tier size stop bytes))) at w = searched_rises before next asked from bytes at w
+searches_rises before next asked from (Ok (Ends answer)) at w = absurd (cc (w))
+searches_rises before next asked from (Ok (Goes other)) at w = elim w [ ]
 searches_rises before next asked from (Err e) at w = absurd (let no : false ≡ true = w in cc)
 
 module _ {D : Type 0} (disk : DiskGhosts D) where
   -- a turn in the local log
   pub own_rises : (old : LogState D) (asked : Asked) (cursor : ℕ) (before next : SearchStep) (at : ℕ) (new : LogState D)
-      → LocalSearchRow disk.content disk.control old asked cursor (Goes at next) new → Rises before next
+      → LocalSearchRow disk.content disk.control old asked cursor (Goes (at, next)) new → Rises before next
   own_rises old asked cursor before next at new (inl (past, is, same)) =
       let one : search.Seek ≡ next = cc (is) in subst (Rises before) one tt
   own_rises old asked cursor before next at new (inr (below, row)) = searched_rises before next asked _ row.out.bytes at row.searched
 
 module _ {S M : Type 0} (store : StoreGhosts S) (meta : MetaGhosts M) where
   times_row_rises : (asked : Asked) (cursor : ℕ) (piece : Piece) (view : View) (place : Option (ℕ × Spot)) (at : ℕ) (next : SearchStep)
-      (old new : S) → TimesRow store.content store.control asked cursor piece view place (Ok (Goes at next)) old new
+      (old new : S) → TimesRow store.content store.control asked cursor piece view place (Ok (Goes (at, next))) old new
       → Rises (search.Times piece) next
   times_row_rises asked cursor piece view None at next old new w = let e = w.0 in absurd (cc (e))
   times_row_rises asked cursor piece view (Some place) at next old new w =
@@ -115,7 +114,7 @@ module _ {S M : Type 0} (store : StoreGhosts S) (meta : MetaGhosts M) where
 
   -- a turn among the remote segments
   pub time_rises : (asked : Asked) (line : List (ℕ × ℕ)) (cursor : ℕ) (before next : SearchStep) (at : ℕ) (old new : Fetched S M)
-      → TimeRow store.content store.control meta.content meta.control asked line cursor before (Ok (Goes at next)) old new
+      → TimeRow store.content store.control meta.content meta.control asked line cursor before (Ok (Goes (at, next))) old new
       → Rises before next
   time_rises asked line cursor search.Seek next at old new w = seeks_rises asked line new.view cursor at next w.1.0
   time_rises asked line cursor (search.Times piece) next at old new w =
@@ -149,7 +148,7 @@ further start cursor at before turn fits from up = go (nat_lt cursor start) refl
         omega (arith, fits, from, low, few)
     go false t more = omega (arith, fits, from, more)
 
-pub goes_further : (start cursor at : ℕ) (before next : SearchStep) → max start cursor < 2 ^ 64 → SearchContinues (max start cursor) (Goes at next)
+pub goes_further : (start cursor at : ℕ) (before next : SearchStep) → max start cursor < 2 ^ 64 → SearchContinues (max start cursor) (Goes (at, next))
     → Rises (if nat_lt cursor start then search.Seek else before) next → taken_to cursor before < taken_to at next
 goes_further start cursor at before search.Seek fits goes up = let few = few_dated before in omega (arith, fits, goes, few)
 goes_further start cursor at before (search.Times piece) fits goes up = further start cursor at before 1 fits goes.0 up

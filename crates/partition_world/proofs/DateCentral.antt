@@ -11,8 +11,8 @@ use Rattle.registry.specs.declared.registry.Registry.{Registry}
 use Rattle.time_find.specs.declared.turn.Asked.{Asked}
 use Rattle.time_find.specs.declared.turn.SearchStep.{SearchStep}
 use Rattle.time_find.specs.declared.turn.SearchStep.TheVariants.{Seek}
-use Rattle.time_find.specs.declared.turn.TimeTurn.{TimeTurn}
-use Rattle.time_find.specs.declared.turn.TimeTurn.TheVariants.{Goes, Ends}
+use Rattle.plain_log.specs.declared.turn.Turn.{Turn}
+use Rattle.plain_log.specs.declared.turn.Turn.TheVariants.{Goes, Ends}
 use Rattle.time_find.specs.Turns.{IsSet, IsBelowLocal, SearchContinues, TimeRow}
 use Rattle.plain_log.specs.declared.answer.Answer.{Answer}
 use Rattle.plain_log.specs.declared.answer.Answer.TheVariants.{MetaFault, StoreFault, Damaged, Stopped, NotLeader, Offset as OffsetAnswer, NoOffset}
@@ -121,7 +121,7 @@ below_local asked cursor Seek is = grind (arith, nat_tests, is)
 below_local asked cursor other is = tt
 
 -- a search that continues is set where it goes
-goes_set : (cursor at : ℕ) (later : SearchStep) → SearchContinues cursor (Goes at later) → IsSet at later
+goes_set : (cursor at : ℕ) (later : SearchStep) → SearchContinues cursor (Goes (at, later)) → IsSet at later
 goes_set cursor at Seek k = tt
 goes_set cursor at other k = k.1
 
@@ -259,7 +259,7 @@ module _ {D S M : Type 0} (disk : DiskGhosts D) (store : StoreGhosts S) (meta : 
 
       -- a turn in the local log
 
-      own_held : (turn : TimeTurn) → SearchesOwn disk w.held t.order.broker.0 z.x asked at turn w'.held → ShowsPartition disk.content w'.held c.partition
+      own_held : (turn : Turn (ℕ × SearchStep)) → SearchesOwn disk w.held t.order.broker.0 z.x asked at turn w'.held → ShowsPartition disk.content w'.held c.partition
       own_held turn r = by (own_rests disk.content disk.control z.x.log r.kept asked at turn r.row)
         where
           by : (r.kept ≡ z.x.log) ⊎ log.LogStays disk.content z.x.log r.kept → ShowsPartition disk.content w'.held c.partition
@@ -270,7 +270,7 @@ module _ {D S M : Type 0} (disk : DiskGhosts D) (store : StoreGhosts S) (meta : 
           by (inr stays) =
               held_looks disk.content disk.control w.held c.partition t.order.broker.0 z.x r.kept w'.held c.shows z.at stays r.after
 
-      comes : (turn : TimeTurn) → KeepsLead z.x g → SearchesOwn disk w.held t.order.broker.0 z.x asked at turn w'.held → OwnComes asked z.s.batches turn
+      comes : (turn : Turn (ℕ × SearchStep)) → KeepsLead z.x g → SearchesOwn disk w.held t.order.broker.0 z.x asked at turn w'.held → OwnComes asked z.s.batches turn
       comes turn k r =
           own_comes disk.content disk.control asked z.x.log r.kept z.s k.up z.sees.shows sound.log.consecutive sound.log.line_is sound.known_high_watermark at turn start_low (gone_at k).cursor r.row
 
@@ -281,15 +281,15 @@ module _ {D S M : Type 0} (disk : DiskGhosts D) (store : StoreGhosts S) (meta : 
         | inr (n, offset, right) ↦ answers answer is (subst SeenOn (sym offset) (found (Some n) right, (keeps_seen z.x z.s g k, refl))) tier (own_held (Ends answer) r)
       ]
 
-      own_goes : (to : ℕ) (later : SearchStep) → outcome ≡ Dates to later → KeepsLead z.x g → SearchesOwn disk w.held t.order.broker.0 z.x asked at (Goes to later) w'.held → w'.tier ≡ w.tier
+      own_goes : (to : ℕ) (later : SearchStep) → outcome ≡ Dates to later → KeepsLead z.x g → SearchesOwn disk w.held t.order.broker.0 z.x asked at (Goes (to, later)) w'.held → w'.tier ≡ w.tier
           → IsCentral disk store meta opening w'
       own_goes to later is k r tier =
-          let to_there = (comes (Goes to later) k r).goes to later refl in
+          let to_there = (comes (Goes (to, later)) k r).goes to later refl in
           let passed = subst (λ (n : ℕ). HasPassed ts n z.s.batches to) (sym start_plain) to_there.1 in
           let seek = to_there.0 in
           silent_dated disk store meta opening w a outcome w' t c z (Offset (At ts)) asks (goes_recorded to later is)
           (goes_dated to later is (subst (IsSet to) (sym seek) tt) (subst (IsDatedTo ts plain.registry.start z.s.batches to) (sym seek) (record { cursor = passed; read = passed })))
-          (goes_unseen to later is) (goes_untold to later is) (own_held (Goes to later) r)
+          (goes_unseen to later is) (goes_untold to later is) (own_held (Goes (to, later)) r)
           (after disk store meta opening w a outcome w' t c z (Offset (At ts)) asks Free c.scene.objects c.scene.notes z.broker_tier.view)
           (left_changed disk store meta opening w c t.place t.list t.actor_state t.order z)
           (shown disk store meta opening w a outcome w' t c z (Offset (At ts)) asks Free c.scene.objects c.scene.notes z.broker_tier.view
@@ -326,13 +326,13 @@ module _ {D S M : Type 0} (disk : DiskGhosts D) (store : StoreGhosts S) (meta : 
       }
 
       -- what its turn comes to in such a scene
-      record Comes (turn : TimeTurn) (r : SearchesRemote store meta w.tier t.order.broker.0 z.broker_tier (line_of z.x) asked at on turn w'.tier) : Type 0 where
+      record Comes (turn : Turn (ℕ × SearchStep)) (r : SearchesRemote store meta w.tier t.order.broker.0 z.broker_tier (line_of z.x) asked at on turn w'.tier) : Type 0 where
         pub changed : IsChanged c.scene plain (after_fetch c.scene t.place t.order.broker.0 here (search_work t.order.broker.0 g.stops epoch turn) (store.content w'.tier.store).objects
             (meta.content w'.tier.meta).notes r.view r.cache)
-        pub goes : (to : ℕ) (later : SearchStep) → turn ≡ Goes to later → IsDatedTo ts plain.registry.start z.s.batches to later
+        pub goes : (to : ℕ) (later : SearchStep) → turn ≡ Goes (to, later) → IsDatedTo ts plain.registry.start z.s.batches to later
         pub right : (n : ℕ) → turn ≡ Ends (OffsetAnswer n) → offset_at plain (broker_of y) ts ≡ Some n
 
-      comes_in : (d : Scene) (turn : TimeTurn) (r : SearchesRemote store meta w.tier t.order.broker.0 z.broker_tier (line_of z.x) asked at on turn w'.tier) → is_own (local_of z.x) at on ≡ false
+      comes_in : (d : Scene) (turn : Turn (ℕ × SearchStep)) (r : SearchesRemote store meta w.tier t.order.broker.0 z.broker_tier (line_of z.x) asked at on turn w'.tier) → is_own (local_of z.x) at on ≡ false
           → IsAtSearch d plain t.place t.order.broker.0 here (broker_of y) g.stops epoch asked (line_of z.x) at on (store.content w.tier.store) (meta.content w.tier.meta) z.broker_tier.view z.broker_tier.cache
           → (IsChanged d plain (after_fetch d t.place t.order.broker.0 here (search_work t.order.broker.0 g.stops epoch turn) (store.content w'.tier.store).objects
           (meta.content w'.tier.meta).notes r.view r.cache)
@@ -349,16 +349,16 @@ module _ {D S M : Type 0} (disk : DiskGhosts D) (store : StoreGhosts S) (meta : 
                 r.row is_below is_set h);
             goes = λ to later is.
                 (searches_go_on store.content store.control meta.content meta.control asked (line_of z.x) at to on later old new d plain t.place t.order.broker.0 here (broker_of y) g.stops epoch
-                (subst (λ (u : TimeTurn). TimeRow store.content store.control meta.content meta.control asked (line_of z.x) at on (Ok u) old new) is r.row) is_below is_set h).0;
+                (subst (λ (u : Turn (ℕ × SearchStep)). TimeRow store.content store.control meta.content meta.control asked (line_of z.x) at on (Ok u) old new) is r.row) is_below is_set h).0;
             right = λ n is.
                 searches_are_right store.content store.control meta.content meta.control asked (line_of z.x) at n on old new d plain t.place t.order.broker.0 here (broker_of y) g.stops epoch
-                (subst (λ (u : TimeTurn). TimeRow store.content store.control meta.content meta.control asked (line_of z.x) at on (Ok u) old new) is r.row) is_below is_set h;
+                (subst (λ (u : Turn (ℕ × SearchStep)). TimeRow store.content store.control meta.content meta.control asked (line_of z.x) at on (Ok u) old new) is r.row) is_below is_set h;
           }
 
       actor_state_now : t.actor_state.work ≡ work → work_of (Some t.order) t.actor_state.work ≡ search_of t.order.broker.0 g.stops epoch cursor next
       actor_state_now is = ap (work_of (Some t.order)) is ∙ (seeks ∙ ap (dates_of t.order.broker.0 g cursor next) asks)
 
-      remote : (turn : TimeTurn) (r : SearchesRemote store meta w.tier t.order.broker.0 z.broker_tier (line_of z.x) asked at on turn w'.tier) → is_own (local_of z.x) at on ≡ false → KeepsLead z.x g
+      remote : (turn : Turn (ℕ × SearchStep)) (r : SearchesRemote store meta w.tier t.order.broker.0 z.broker_tier (line_of z.x) asked at on turn w'.tier) → is_own (local_of z.x) at on ≡ false → KeepsLead z.x g
           → at < z.x.known_high_watermark → Comes turn r
       remote turn r own k below = by (nat_lt cursor start) refl
         where
@@ -393,7 +393,7 @@ module _ {D S M : Type 0} (disk : DiskGhosts D) (store : StoreGhosts S) (meta : 
               (λ e. first_change c.scene _ plain (Moves t.place Leaves) (refl, tt)
               (as_scene left _ _ plain (scene_same _ _ refl refl refl refl (set_set c.scene.desk t.place Free (search_work t.order.broker.0 g.stops epoch turn))) e))
 
-      shows_then : (turn : TimeTurn) (r : SearchesRemote store meta w.tier t.order.broker.0 z.broker_tier (line_of z.x) asked at on turn w'.tier) (shows : InProgressIsSeen)
+      shows_then : (turn : Turn (ℕ × SearchStep)) (r : SearchesRemote store meta w.tier t.order.broker.0 z.broker_tier (line_of z.x) asked at on turn w'.tier) (shows : InProgressIsSeen)
           → work_after disk store meta opening w c t.place t.list t.actor_state t.order z outcome ≡ shows
           → ShowsTier store meta w' c.partition (scene_with disk store meta opening w c t.place t.list t.actor_state t.order z shows (store.content w'.tier.store).objects (meta.content w'.tier.meta).notes
           (record z.broker_tier { view = r.view; cache = r.cache }))
@@ -420,13 +420,13 @@ module _ {D S M : Type 0} (disk : DiskGhosts D) (store : StoreGhosts S) (meta : 
           (shows_then (Ends answer) r Free (answered_free disk store meta opening w c t.place t.list t.actor_state t.order z outcome answer is))
 
       remote_goes : (to : ℕ) (later : SearchStep) → outcome ≡ Dates to later → KeepsLead z.x g → at < z.x.known_high_watermark → is_own (local_of z.x) at on ≡ false
-          → (r : SearchesRemote store meta w.tier t.order.broker.0 z.broker_tier (line_of z.x) asked at on (Goes to later) w'.tier) → w'.held ≡ w.held → SearchContinues at (Goes to later)
+          → (r : SearchesRemote store meta w.tier t.order.broker.0 z.broker_tier (line_of z.x) asked at on (Goes (to, later)) w'.tier) → w'.held ≡ w.held → SearchContinues at (Goes (to, later))
           → IsCentral disk store meta opening w'
       remote_goes to later is k below own r held goes =
-          let come = remote (Goes to later) r own k below in
+          let come = remote (Goes (to, later)) r own k below in
           silent_dated disk store meta opening w a outcome w' t c z (Offset (At ts)) asks (goes_recorded to later is)
           (goes_dated to later is (goes_set at to later goes) (come.goes to later refl)) (goes_unseen to later is) (goes_untold to later is) (same_held held) _ come.changed
-          (shows_then (Goes to later) r (search_of t.order.broker.0 g.stops epoch to later) (goes_shown to later is))
+          (shows_then (Goes (to, later)) r (search_of t.order.broker.0 g.stops epoch to later) (goes_shown to later is))
 
       -- a turn in either
 
@@ -440,12 +440,12 @@ module _ {D S M : Type 0} (disk : DiskGhosts D) (store : StoreGhosts S) (meta : 
           by false own row = remote_ends answer is s.keeps s.below own row.0 row.1
 
       goes : (to : ℕ) (later : SearchStep) → outcome ≡ Dates to later
-          → SearchesOn disk store meta w.partition w.held w.tier t.order.broker.0 z.x z.broker_tier g ts cursor next (Goes to later) w'.held w'.tier → SearchContinues at (Goes to later)
+          → SearchesOn disk store meta w.partition w.held w.tier t.order.broker.0 z.x z.broker_tier g ts cursor next (Goes (to, later)) w'.held w'.tier → SearchContinues at (Goes (to, later))
           → IsCentral disk store meta opening w'
       goes to later is s on_far = by (is_own (local_of z.x) at on) refl s.row
         where
           by : (own : Bool) → is_own (local_of z.x) at on ≡ own
-              → SearchRow disk store meta w.held w.tier t.order.broker.0 z.x z.broker_tier asked at on own (Goes to later) w'.held w'.tier → IsCentral disk store meta opening w'
+              → SearchRow disk store meta w.held w.tier t.order.broker.0 z.x z.broker_tier asked at on own (Goes (to, later)) w'.held w'.tier → IsCentral disk store meta opening w'
           by true own row = own_goes to later is s.keeps row.0 row.1
           by false own row = remote_goes to later is s.keeps s.below own row.0 row.1 on_far
 

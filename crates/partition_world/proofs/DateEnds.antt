@@ -19,8 +19,9 @@ use Rattle.remote_find.specs.declared.piece.Piece.{Piece}
 use Rattle.plain_log.specs.declared.answer.Answer.{Answer}
 use Rattle.plain_log.specs.declared.answer.Place.TheVariants.{Key, Meta, File}
 use Rattle.plain_log.specs.declared.answer.Answer.TheVariants.{MetaFault, StoreFault, DiskFault, Damaged, Run, Offset}
-use Rattle.tier_fetch.specs.declared.turn.FetchTurn.{FetchTurn}
-use Rattle.tier_fetch.specs.declared.turn.FetchTurn.TheVariants as fetch
+use Rattle.tier_fetch.specs.declared.turn.FetchStep.{FetchStep}
+use Rattle.plain_log.specs.declared.turn.Turn.{Turn}
+use Rattle.plain_log.specs.declared.turn.Turn.TheVariants.{Goes, Ends}
 use Rattle.tier_fetch.specs.declared.turn.FetchStep.TheVariants as fetching
 use Rattle.tier_fetch.specs.declared.turn.Span.{Span}
 use Rattle.tier_fetch.specs.declared.turn.FetchRequest.{FetchRequest}
@@ -29,8 +30,6 @@ use Rattle.tier_fetch.specs.Turns as rows
 use Rattle.time_find.specs.declared.turn.Asked.{Asked}
 use Rattle.time_find.specs.declared.turn.SearchStep.{SearchStep}
 use Rattle.time_find.specs.declared.turn.SearchStep.TheVariants.{Seek, Times as ReadsTimes, Index, Log}
-use Rattle.time_find.specs.declared.turn.TimeTurn.{TimeTurn}
-use Rattle.time_find.specs.declared.turn.TimeTurn.TheVariants.{Ends}
 use Rattle.time_find.specs.Passing.{Seeks, passed_over}
 use Rattle.time_find.specs.Turns.{
   IsSearched,
@@ -87,20 +86,20 @@ times_ends asked cursor piece base spot (Ok (Some bytes)) answer w = by (short_o
     by None w = subst MayEnd (sym w.0) tt
 
 loads_ends : (wanted : FetchRequest) (piece : Piece) (base : ℕ) (spot : Spot) (given : Result (Option (List ℕ)) Trouble) (answer : Answer)
-    (old new : Cache) → Loads wanted piece base spot given (Ok (fetch.Ends answer)) old new → MayEnd answer
+    (old new : Cache) → Loads wanted piece base spot given (Ok (Ends answer)) old new → MayEnd answer
 loads_ends wanted piece base spot (Err Failed) answer old new w = let e : answer ≡ StoreFault = cc (w.0) in subst MayEnd (sym e) tt
 loads_ends wanted piece base spot (Err NoMemory) answer old new w = let no = w.0 in absurd (cc (no))
 loads_ends wanted piece base spot (Ok None) answer old new w =
     let e : answer ≡ Damaged (Key spot.key) 0 = cc (w.0) in subst MayEnd (sym e) tt
 loads_ends wanted piece base spot (Ok (Some bytes)) answer old new w = by (short_of spot bytes) w
   where
-    by : (end : Option ℕ) → LoadsBytes end wanted piece base spot bytes (Ok (fetch.Ends answer)) old new → MayEnd answer
+    by : (end : Option ℕ) → LoadsBytes end wanted piece base spot bytes (Ok (Ends answer)) old new → MayEnd answer
     by (Some end) w = let e : answer ≡ Damaged (Key spot.key) end = cc (w.0) in subst MayEnd (sym e) tt
     by None w = subst MayEnd (sym w.0) tt
 
 -- by what a fetch's turn came to, of the segment's log
 searches_ends : (asked : Asked) (from : ℕ) (told answer : Answer) → fetches.MayEnd told
-    → SearchTakes asked from (Ok (fetch.Ends told)) (Ok (Ends answer)) → MayEnd answer
+    → SearchTakes asked from (Ok (Ends told)) (Ok (Ends answer)) → MayEnd answer
 searches_ends asked from MetaFault answer may w = let e : answer ≡ MetaFault = cc (w) in subst MayEnd (sym e) tt
 searches_ends asked from StoreFault answer may w = let e : answer ≡ StoreFault = cc (w) in subst MayEnd (sym e) tt
 searches_ends asked from (Damaged place at) answer may w = let e : answer ≡ Damaged place at = cc (w) in subst MayEnd (sym e) tt
@@ -120,7 +119,7 @@ module _ {S M : Type 0} (store : StoreGhosts S) (meta : MetaGhosts M) (asked : A
 
   load_ends : (wanted : FetchRequest) (piece : Piece) (view : View) (place : Option (ℕ × Spot)) (answer : Answer) (cache cache' : Cache)
       (old new : S)
-      → LoadRow store.content store.control wanted piece view place (Ok (fetch.Ends answer)) cache cache' old new → MayEnd answer
+      → LoadRow store.content store.control wanted piece view place (Ok (Ends answer)) cache cache' old new → MayEnd answer
   load_ends wanted piece view None answer cache cache' old new w =
       let e : answer ≡ Damaged Meta view.notes = cc (w.0) in subst MayEnd (sym e) tt
   load_ends wanted piece view (Some place) answer cache cache' old new w =
@@ -128,28 +127,28 @@ module _ {S M : Type 0} (store : StoreGhosts S) (meta : MetaGhosts M) (asked : A
 
   cached_ends : (wanted : FetchRequest) (piece : Piece) (view : View) (answer : Answer) (held : Option OffsetTable) (cache cache' : Cache)
       (old new : S)
-      → rows.IndexRow store.content store.control wanted piece view (Ok (fetch.Ends answer)) held cache cache' old new → MayEnd answer
+      → rows.IndexRow store.content store.control wanted piece view (Ok (Ends answer)) held cache cache' old new → MayEnd answer
   cached_ends wanted piece view answer (Some index) cache cache' old new w = let e = w.0 in absurd (cc (e))
   cached_ends wanted piece view answer None cache cache' old new w =
       load_ends wanted piece view (spot_in wanted.partition piece.id part.Index (entry_of piece.id view.entries)) answer cache cache' old
       new w
 
-  indexes_ends : (cursor from : ℕ) (piece : Piece) (answer : Answer) (turn : Result FetchTurn AllocError) (old new : Tiers S M)
+  indexes_ends : (cursor from : ℕ) (piece : Piece) (answer : Answer) (turn : Result (Turn FetchStep) AllocError) (old new : Tiers S M)
       → RemoteFetchRow store.content store.control meta.content meta.control (wanted_at asked from) line (fetching.Index piece) turn old new
       → Indexes cursor piece from turn (Ok (Ends answer)) → MayEnd answer
-  indexes_ends cursor from piece answer (Ok (fetch.Goes (fetching.Log p span))) old new row k = let e = k.1 in absurd (cc (e))
-  indexes_ends cursor from piece answer (Ok (fetch.Goes next)) old new row k = absurd k
-  indexes_ends cursor from piece answer (Ok (fetch.Ends told)) old new row k =
+  indexes_ends cursor from piece answer (Ok (Goes (fetching.Log p span))) old new row k = let e = k.1 in absurd (cc (e))
+  indexes_ends cursor from piece answer (Ok (Goes next)) old new row k = absurd k
+  indexes_ends cursor from piece answer (Ok (Ends told)) old new row k =
       let e : answer ≡ told = cc (k) in
       subst MayEnd (sym e) (cached_ends (wanted_at asked from) piece old.view told (found piece.id.0 old.cache.pairs) old.cache new.cache
       old.store new.store row.1)
   indexes_ends cursor from piece answer (Err e) old new row k = absurd (let no : false ≡ true = k in cc)
 
-  logs_ends : (from : ℕ) (piece : Piece) (span : Span) (answer : Answer) (turn : Result FetchTurn AllocError) (old new : Tiers S M)
+  logs_ends : (from : ℕ) (piece : Piece) (span : Span) (answer : Answer) (turn : Result (Turn FetchStep) AllocError) (old new : Tiers S M)
       → RemoteFetchRow store.content store.control meta.content meta.control (wanted_at asked from) line (fetching.Log piece span) turn old new
       → SearchTakes asked from turn (Ok (Ends answer)) → MayEnd answer
-  logs_ends from piece span answer (Ok (fetch.Goes next)) old new row k = absurd k
-  logs_ends from piece span answer (Ok (fetch.Ends told)) old new row k =
+  logs_ends from piece span answer (Ok (Goes next)) old new row k = absurd k
+  logs_ends from piece span answer (Ok (Ends told)) old new row k =
       searches_ends asked from told answer (fetch_ends store meta (wanted_at asked from) line (fetching.Log piece span) told old new row) k
   logs_ends from piece span answer (Err e) old new row k = absurd (let no : false ≡ true = k in cc)
 
@@ -180,7 +179,7 @@ module _ {S M : Type 0} (store : StoreGhosts S) (meta : MetaGhosts M) (asked : A
     objects = ap (λ (s : S). (store.content s).objects) is;
   }
 
-  times_stays : (cursor : ℕ) (piece : Piece) (view : View) (place : Option (ℕ × Spot)) (result : Result TimeTurn AllocError) (old new : S)
+  times_stays : (cursor : ℕ) (piece : Piece) (view : View) (place : Option (ℕ × Spot)) (result : Result (Turn (ℕ × SearchStep)) AllocError) (old new : S)
       → TimesRow store.content store.control asked cursor piece view place result old new → StoreStays store meta old new
   times_stays cursor piece view None result old new w = same_store old new w.1
   times_stays cursor piece view (Some place) result old new w = record {
@@ -188,7 +187,7 @@ module _ {S M : Type 0} (store : StoreGhosts S) (meta : MetaGhosts M) (asked : A
     objects = fun_ext (λ k. w.gets.content.objects k);
   }
 
-  seek_tells : (cursor : ℕ) (turn : TimeTurn) (before after : View) (old new : M)
+  seek_tells : (cursor : ℕ) (turn : Turn (ℕ × SearchStep)) (before after : View) (old new : M)
       → SeekRow meta.content meta.control asked line cursor (Ok turn) before after old new
       → (meta.content new).is_observable ≡ (meta.content old).is_observable
   seek_tells cursor (Ends MetaFault) before after old new w = w.content.is_observable
@@ -197,34 +196,34 @@ module _ {S M : Type 0} (store : StoreGhosts S) (meta : MetaGhosts M) (asked : A
   same_tells : (old new : Tiers S M) → new ≡ old → TellsOn store meta old.store old.meta new.store new.meta
   same_tells old new is = (ap (λ (t : Tiers S M). (store.content t.store).is_observable) is, ap (λ (t : Tiers S M). (meta.content t.meta).is_observable) is)
 
-  indexes_tell : (cursor from : ℕ) (piece : Piece) (turn : TimeTurn) (came : Result FetchTurn AllocError) (old new : Tiers S M)
+  indexes_tell : (cursor from : ℕ) (piece : Piece) (turn : Turn (ℕ × SearchStep)) (came : Result (Turn FetchStep) AllocError) (old new : Tiers S M)
       → RemoteFetchRow store.content store.control meta.content meta.control (wanted_at asked from) line (fetching.Index piece) came old new
       → Indexes cursor piece from came (Ok turn) → TellsOn store meta old.store old.meta new.store new.meta
   indexes_tell cursor from piece turn (Ok came) old new row k =
       fetch_tells store meta (wanted_at asked from) line (fetching.Index piece) came old new row
   indexes_tell cursor from piece turn (Err e) old new row k = absurd (let no : false ≡ true = k in cc)
 
-  logs_tell : (from : ℕ) (piece : Piece) (span : Span) (turn : TimeTurn) (came : Result FetchTurn AllocError) (old new : Tiers S M)
+  logs_tell : (from : ℕ) (piece : Piece) (span : Span) (turn : Turn (ℕ × SearchStep)) (came : Result (Turn FetchStep) AllocError) (old new : Tiers S M)
       → RemoteFetchRow store.content store.control meta.content meta.control (wanted_at asked from) line (fetching.Log piece span) came old new
       → SearchTakes asked from came (Ok turn) → TellsOn store meta old.store old.meta new.store new.meta
   logs_tell from piece span turn (Ok came) old new row k =
       fetch_tells store meta (wanted_at asked from) line (fetching.Log piece span) came old new row
   logs_tell from piece span turn (Err e) old new row k = absurd (let no : false ≡ true = k in cc)
 
-  index_tells : (cursor from : ℕ) (piece : Piece) (turn : TimeTurn) (old new : Tiers S M)
+  index_tells : (cursor from : ℕ) (piece : Piece) (turn : Turn (ℕ × SearchStep)) (old new : Tiers S M)
       → SearchIndexRow store.content store.control meta.content meta.control asked line cursor piece from (Ok turn) old new
       → TellsOn store meta old.store old.meta new.store new.meta
   index_tells cursor from piece turn old new (inl (low, is, same)) = same_tells old new same
   index_tells cursor from piece turn old new (inr (high, (came, row, k))) = indexes_tell cursor from piece turn came old new row k
 
-  log_tells : (from : ℕ) (piece : Piece) (span : Span) (turn : TimeTurn) (old new : Tiers S M)
+  log_tells : (from : ℕ) (piece : Piece) (span : Span) (turn : Turn (ℕ × SearchStep)) (old new : Tiers S M)
       → SearchLogRow store.content store.control meta.content meta.control asked line piece from span (Ok turn) old new
       → TellsOn store meta old.store old.meta new.store new.meta
   log_tells from piece span turn old new (inl (low, is, same)) = same_tells old new same
   log_tells from piece span turn old new (inr (high, (came, row, k))) = logs_tell from piece span turn came old new row k
 
   -- the devices report as they did
-  pub date_tells : (cursor : ℕ) (next : SearchStep) (turn : TimeTurn) (old new : Tiers S M)
+  pub date_tells : (cursor : ℕ) (next : SearchStep) (turn : Turn (ℕ × SearchStep)) (old new : Tiers S M)
       → TimeRow store.content store.control meta.content meta.control asked line cursor next (Ok turn) old new
       → TellsOn store meta old.store old.meta new.store new.meta
   date_tells cursor Seek turn old new w =
@@ -236,21 +235,21 @@ module _ {S M : Type 0} (store : StoreGhosts S) (meta : MetaGhosts M) (asked : A
   date_tells cursor (Index piece from) turn old new w = index_tells cursor from piece turn old new w
   date_tells cursor (Log piece from span) turn old new w = log_tells from piece span turn old new w
 
-  indexes_dry : (cursor from : ℕ) (piece : Piece) (e : AllocError) (came : Result FetchTurn AllocError) (old new : Tiers S M)
+  indexes_dry : (cursor from : ℕ) (piece : Piece) (e : AllocError) (came : Result (Turn FetchStep) AllocError) (old new : Tiers S M)
       → RemoteFetchRow store.content store.control meta.content meta.control (wanted_at asked from) line (fetching.Index piece) came old new
       → Indexes cursor piece from came (Err e) → Dries store meta old new
-  indexes_dry cursor from piece e (Ok (fetch.Goes (fetching.Log p span))) old new row k = let is = k.1 in absurd (cc (is))
-  indexes_dry cursor from piece e (Ok (fetch.Goes next)) old new row k = absurd k
-  indexes_dry cursor from piece e (Ok (fetch.Ends told)) old new row k = absurd (cc (k))
+  indexes_dry cursor from piece e (Ok (Goes (fetching.Log p span))) old new row k = let is = k.1 in absurd (cc (is))
+  indexes_dry cursor from piece e (Ok (Goes next)) old new row k = absurd k
+  indexes_dry cursor from piece e (Ok (Ends told)) old new row k = absurd (cc (k))
   indexes_dry cursor from piece e (Err why) old new row k =
       fetch_dry store meta (wanted_at asked from) line (fetching.Index piece) why old new row
 
-  logs_dry : (from : ℕ) (piece : Piece) (span : Span) (e : AllocError) (came : Result FetchTurn AllocError) (old new : Tiers S M)
+  logs_dry : (from : ℕ) (piece : Piece) (span : Span) (e : AllocError) (came : Result (Turn FetchStep) AllocError) (old new : Tiers S M)
       → RemoteFetchRow store.content store.control meta.content meta.control (wanted_at asked from) line (fetching.Log piece span) came old new
       → SearchTakes asked from came (Err e) → Dries store meta old new
-  logs_dry from piece span e (Ok (fetch.Goes next)) old new row k = absurd k
-  logs_dry from piece span e (Ok (fetch.Ends (Run tier size stop bytes))) old new row k = absurd k
-  logs_dry from piece span e (Ok (fetch.Ends told)) old new row k = absurd (cc (k))
+  logs_dry from piece span e (Ok (Goes next)) old new row k = absurd k
+  logs_dry from piece span e (Ok (Ends (Run tier size stop bytes))) old new row k = absurd k
+  logs_dry from piece span e (Ok (Ends told)) old new row k = absurd (cc (k))
   logs_dry from piece span e (Err why) old new row k =
       fetch_dry store meta (wanted_at asked from) line (fetching.Log piece span) why old new row
 

@@ -10,7 +10,6 @@ use Rattle.broker_log.specs.Seen.{LogState, line_in, LogStays, Quiet}
 use Rattle.time_find.specs.declared.turn.Asked.{Asked}
 use Rattle.time_find.specs.declared.turn.SearchStep.{SearchStep}
 use Rattle.time_find.specs.declared.turn.SearchStep.TheVariants.{Seek}
-use Rattle.time_find.specs.declared.turn.TimeTurn.{TimeTurn}
 use Rattle.time_find.specs.Turns.{IsSet}
 use Rattle.partition_commands.specs.declared.partition_state.Node.{Node}
 use Rattle.partition_commands.specs.declared.partition_state.PartitionState.{PartitionState}
@@ -20,6 +19,7 @@ use Rattle.partition_world.specs.Tier.{AtBrokerTier}
 use Rattle.partition_world.specs.TurnsOfDate.{resumed_at, resumed_with, SearchesOwn, SearchesRemote, WantsForDate, SearchRow}
 use Rattle.partition_world.specs.Turns.{StaysOr}
 use Rattle.partition_world.proofs.Dispatch.{some_more, there}
+use Rattle.plain_log.specs.declared.turn.Turn.{Turn}
 
 -- where a search is resumed, its piece still ends past the cursor
 pub set_at : (start cursor : ℕ) (next : SearchStep) → IsSet cursor next → IsSet (resumed_at start cursor) (resumed_with start cursor next)
@@ -47,7 +47,7 @@ log_stays {D} disk h b x kept at stays quiet =
 module _ {D S M : Type 0} (disk : DiskGhosts D) (store : StoreGhosts S) (meta : MetaGhosts M) (h : PartitionState D) (t : RemoteTier S M) (b : ℕ)
     (asked : Asked) (cursor : ℕ) (next : SearchStep) where
   -- the row of a turn in the local log
-  pub own_row : (own : Bool) (turn : TimeTurn) (h' : PartitionState D) → own ≡ true → b < length t.broker_tiers
+  pub own_row : (own : Bool) (turn : Turn (ℕ × SearchStep)) (h' : PartitionState D) → own ≡ true → b < length t.broker_tiers
       → AtNode h b (λ x. SearchesOwn disk h b x asked cursor turn h')
       → AtNode h b (λ x. AtBrokerTier t b (λ broker_tier. SearchRow disk store meta h t b x broker_tier asked cursor next own turn h' t))
   own_row own turn h' is lt row =
@@ -57,7 +57,7 @@ module _ {D S M : Type 0} (disk : DiskGhosts D) (store : StoreGhosts S) (meta : 
       (λ x w. there (λ broker_tier. SearchRow disk store meta h t b x broker_tier asked cursor next true turn h' t) t.broker_tiers b lt (λ broker_tier. (w, refl))) row)
 
   -- and of one among the remote segments, with the line of the broker's log
-  pub remote_row : (x : Node D) (line : List (ℕ × ℕ)) (own : Bool) (turn : TimeTurn) (t' : RemoteTier S M) → own ≡ false
+  pub remote_row : (x : Node D) (line : List (ℕ × ℕ)) (own : Bool) (turn : Turn (ℕ × SearchStep)) (t' : RemoteTier S M) → own ≡ false
       → slice_get h.nodes b ≡ Some x → Some line ≡ line_in x.log
       → AtBrokerTier t b (λ broker_tier. SearchesRemote store meta t b broker_tier line asked cursor next turn t')
       → AtNode h b (λ y. AtBrokerTier t b (λ broker_tier. SearchRow disk store meta h t b y broker_tier asked cursor next own turn h t'))

@@ -7,8 +7,8 @@ use Rattle.object_store.specs.declared.store.Store.{Ghosts as StoreGhosts}
 use Rattle.meta_log.specs.declared.log.MetaLog.{Ghosts as MetaGhosts}
 use Rattle.time_find.specs.declared.turn.Asked.{Asked}
 use Rattle.time_find.specs.declared.turn.SearchStep.{SearchStep}
-use Rattle.time_find.specs.declared.turn.TimeTurn.{TimeTurn}
-use Rattle.time_find.specs.declared.turn.TimeTurn.TheVariants.{Goes, Ends}
+use Rattle.plain_log.specs.declared.turn.Turn.{Turn}
+use Rattle.plain_log.specs.declared.turn.Turn.TheVariants.{Goes, Ends}
 use Rattle.time_find.specs.Turns.{SearchContinues}
 use Rattle.plain_log.specs.declared.answer.Answer.{Answer}
 use Rattle.plain_log.specs.declared.answer.Place.TheVariants.{File}
@@ -60,10 +60,10 @@ module _ {D S M : Type 0} (disk : DiskGhosts D) (store : StoreGhosts S) (meta : 
   either_row answer (inl may) w = ends_row answer may w
   either_row answer (inr may) w = own_row answer may w
 
-  goes_row : (turn : TimeTurn) → SearchesOn disk store meta p h t b x broker_tier g ts cursor next turn h' t'
+  goes_row : (turn : Turn (ℕ × SearchStep)) → SearchesOn disk store meta p h t b x broker_tier g ts cursor next turn h' t'
       → SearchContinues (resumed_at h.registry.start cursor) turn
       → DateOnRow disk store meta p h t b x broker_tier g ts cursor next (date_outcome turn) h' t'
-  goes_row (Goes at later) w goes = (w, goes)
+  goes_row (Goes (at, later)) w goes = (w, goes)
   goes_row (Ends answer) w goes =
       let start = h.registry.start in
       let own = is_own (local_of x) (resumed_at start cursor) (resumed_with start cursor next) in
@@ -73,11 +73,11 @@ module _ {D S M : Type 0} (disk : DiskGhosts D) (store : StoreGhosts S) (meta : 
 module _ {D S M : Type 0} (disk : DiskGhosts D) (store : StoreGhosts S) (meta : MetaGhosts M) (p : PartitionId) (h : PartitionState D)
     (t : RemoteTier S M) (b : ℕ) (x : Node D) (g : StartSnapshot) (ts : ℤ) (cursor : ℕ) (next : SearchStep) (h' : PartitionState D) (t' : RemoteTier S M) where
   -- the row of a turn that searches, of the broker that is read
-  abbrev pub RowAt : Asked → ℕ → SearchStep → TimeTurn → Type 0
+  abbrev pub RowAt : Asked → ℕ → SearchStep → Turn (ℕ × SearchStep) → Type 0
   RowAt asked at with_next turn = AtNode h b (λ y. AtBrokerTier t b (λ broker_tier.
       SearchRow disk store meta h t b y broker_tier asked at with_next (is_own asked.local at with_next) turn h' t'))
 
-  searched : (turn : TimeTurn) → KeepsLead x g → resumed_at h.registry.start cursor < x.known_high_watermark → resumed_at h.registry.start cursor < 2 ^ 64
+  searched : (turn : Turn (ℕ × SearchStep)) → KeepsLead x g → resumed_at h.registry.start cursor < x.known_high_watermark → resumed_at h.registry.start cursor < 2 ^ 64
       → SearchContinues (resumed_at h.registry.start cursor) turn
       → AtBrokerTier t b (λ broker_tier. SearchRow disk store meta h t b x broker_tier (asked_of p h x ts) (resumed_at h.registry.start cursor)
       (resumed_with h.registry.start cursor next)
@@ -89,7 +89,7 @@ module _ {D S M : Type 0} (disk : DiskGhosts D) (store : StoreGhosts S) (meta : 
       goes_row disk store meta p h t b x broker_tier g ts cursor next h' t' turn (record { keeps = keeps; below = below; fits = fits; row = w }) goes) row
 
   -- of one that searches
-  pub date_row : (asked : Asked) (at : ℕ) (with_next : SearchStep) (turn : TimeTurn) → slice_get h.nodes b ≡ Some x → KeepsLead x g
+  pub date_row : (asked : Asked) (at : ℕ) (with_next : SearchStep) (turn : Turn (ℕ × SearchStep)) → slice_get h.nodes b ≡ Some x → KeepsLead x g
       → at ≡ resumed_at h.registry.start cursor → with_next ≡ resumed_with h.registry.start cursor next → asked ≡ asked_of p h x ts
       → at < x.known_high_watermark → at < 2 ^ 64 → SearchContinues at turn → RowAt asked at with_next turn
       → AtNode h b (λ y. AtBrokerTier t b (λ broker_tier. DateOnRow disk store meta p h t b y broker_tier g ts cursor next (date_outcome turn) h' t'))

@@ -7,7 +7,7 @@ use Rattle.meta_log.specs.declared.log.MetaLog.{Ghosts as MetaGhosts}
 use Rattle.meta_log.specs.declared.event_origin.EventOrigin.{EventOrigin}
 use Rattle.expiry_task.specs.Turns.{Tiers, DeleteRow, ExpiryRow, keys, delete_at}
 use Rattle.expiry_task.specs.declared.turn.ExpiredSegment.{ExpiredSegment}
-use Rattle.expiry_task.specs.declared.turn.ExpiryTurn.TheVariants.{Goes as GoesOn}
+use Rattle.plain_log.specs.declared.turn.Turn.TheVariants.{Goes as GoesOn}
 use Rattle.expiry_task.specs.declared.turn.DeletionStep.{DeletionStep}
 use Rattle.expiry_task.specs.declared.turn.DeletionStep.TheVariants.{Start, Delete, Finish}
 use Rattle.tier_safe.proofs.Basics.{key_low}

@@ -16,8 +16,8 @@ use Rattle.remote_view.specs.Fold.{EntriesSeen as View, entry_of, fold}
 use Rattle.remote_view.specs.Lookup.{is_due, due}
 use Rattle.remote_view.proofs.Best.{Among, entry_found}
 use Rattle.expiry_task.specs.declared.turn.ExpiredSegment.{ExpiredSegment}
-use Rattle.expiry_task.specs.declared.turn.ExpiryTurn.{ExpiryTurn}
-use Rattle.expiry_task.specs.declared.turn.ExpiryTurn.TheVariants.{Goes as GoesOn, Ends}
+use Rattle.plain_log.specs.declared.turn.Turn.{Turn}
+use Rattle.plain_log.specs.declared.turn.Turn.TheVariants.{Goes as GoesOn, Ends}
 use Rattle.expiry_task.specs.declared.turn.DeletionStep.{DeletionStep}
 use Rattle.expiry_task.specs.declared.turn.DeletionStep.TheVariants.{Start}
 use Rattle.plain_log.specs.declared.answer.Answer.TheVariants.{LostLead, Kept, StaleEpoch, Raised}
@@ -205,7 +205,7 @@ module _ {D S M : Type 0} (disk : DiskGhosts D) (store : StoreGhosts S) (meta : 
         ∙ (ap (λ (u : InProgress). work_of (slice_get t.list.orders t.actor_state.number) (expired_segment u segment)) recorded ∙ ap (λ (o : Option Order). work_of o (Expires g segment Start)) z.next)))
 
     -- a later turn
-    deletes_on : (g : StartSnapshot) (segment : ExpiredSegment) (next : DeletionStep) → t.actor_state.work ≡ Expires g segment next → KeepsLead z.x g → (turn : ExpiryTurn) → outcome ≡ expiry_outcome turn
+    deletes_on : (g : StartSnapshot) (segment : ExpiredSegment) (next : DeletionStep) → t.actor_state.work ≡ Expires g segment next → KeepsLead z.x g → (turn : Turn DeletionStep) → outcome ≡ expiry_outcome turn
         → GoesOnDeletion store meta w.held w.tier t.order.broker.0 segment next turn w'.tier → w'.held ≡ w.held → IsCentral disk store meta opening w'
     deletes_on g segment next works keeps turn is goes same = by turn is goes changed
       where
@@ -220,7 +220,7 @@ module _ {D S M : Type 0} (disk : DiskGhosts D) (store : StoreGhosts S) (meta : 
         changed = expiry_turns store.content store.control meta.content meta.control segment (origin_of w.held t.order.broker.0) next (Ok turn) (expiry_tiers w.tier) (expiry_tiers w'.tier)
             c.scene c.central.plain t.place t.order.broker.0 its goes.row at c.tier
 
-        by : (turn : ExpiryTurn) → outcome ≡ expiry_outcome turn → (goes : GoesOnDeletion store meta w.held w.tier t.order.broker.0 segment next turn w'.tier)
+        by : (turn : Turn DeletionStep) → outcome ≡ expiry_outcome turn → (goes : GoesOnDeletion store meta w.held w.tier t.order.broker.0 segment next turn w'.tier)
             → IsChanged c.scene c.central.plain (next_scene (expiry_work segment turn) (store.content w'.tier.store).objects (meta.content w'.tier.meta).notes z.broker_tier.view) → IsCentral disk store meta opening w'
         by (Ends answer) is goes k =
             entered disk store meta opening w a outcome w' t c z Expire expires (Expires g segment next) works (turned.Answers answer) (next_scene Free (store.content w'.tier.store).objects (meta.content w'.tier.meta).notes z.broker_tier.view) is refl (same_held same)

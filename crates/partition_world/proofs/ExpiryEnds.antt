@@ -12,8 +12,8 @@ use Rattle.meta_log.specs.Calls.{AppendsToMetaLog}
 use Rattle.meta_log.specs.Content.{appended_if}
 use Rattle.expiry_task.specs.Turns.{Tiers, StartRow, FinishRow, DeleteRow, ExpiryRow, keys}
 use Rattle.expiry_task.specs.declared.turn.ExpiredSegment.{ExpiredSegment}
-use Rattle.expiry_task.specs.declared.turn.ExpiryTurn.{ExpiryTurn}
-use Rattle.expiry_task.specs.declared.turn.ExpiryTurn.TheVariants.{Ends}
+use Rattle.plain_log.specs.declared.turn.Turn.{Turn}
+use Rattle.plain_log.specs.declared.turn.Turn.TheVariants.{Ends}
 use Rattle.expiry_task.specs.declared.turn.DeletionStep.{DeletionStep}
 use Rattle.expiry_task.specs.declared.turn.DeletionStep.TheVariants.{Start, Delete, Finish}
 use Rattle.plain_log.specs.declared.answer.Answer.{Answer}
@@ -52,21 +52,21 @@ module _ {S M : Type 0} (store : StoreGhosts S) (meta : MetaGhosts M) where
   expiry_ends expired_segment origin (Delete n) answer old new w = delete_ends expired_segment n (slice_get (keys expired_segment) n) answer old.store new.store w.1
   expiry_ends expired_segment origin Finish answer old new w = finish_ends expired_segment origin answer old.meta new.meta w.1
 
-  start_tells : (expired_segment : ExpiredSegment) (origin : EventOrigin) (turn : ExpiryTurn) (old new : M) → StartRow meta.content meta.control expired_segment origin (Ok turn) old new → (meta.content new).is_observable ≡ (meta.content old).is_observable
+  start_tells : (expired_segment : ExpiredSegment) (origin : EventOrigin) (turn : Turn DeletionStep) (old new : M) → StartRow meta.content meta.control expired_segment origin (Ok turn) old new → (meta.content new).is_observable ≡ (meta.content old).is_observable
   start_tells expired_segment origin (Ends MetaFault) old new w = w.content.is_observable
   start_tells expired_segment origin turn old new w = w.1.content.is_observable
 
-  finish_tells : (expired_segment : ExpiredSegment) (origin : EventOrigin) (turn : ExpiryTurn) (old new : M) → FinishRow meta.content meta.control expired_segment origin (Ok turn) old new → (meta.content new).is_observable ≡ (meta.content old).is_observable
+  finish_tells : (expired_segment : ExpiredSegment) (origin : EventOrigin) (turn : Turn DeletionStep) (old new : M) → FinishRow meta.content meta.control expired_segment origin (Ok turn) old new → (meta.content new).is_observable ≡ (meta.content old).is_observable
   finish_tells expired_segment origin (Ends MetaFault) old new w = w.content.is_observable
   finish_tells expired_segment origin turn old new w = w.1.content.is_observable
 
-  delete_tells : (expired_segment : ExpiredSegment) (n : ℕ) (key : Option ObjectKey) (turn : ExpiryTurn) (old new : S) → DeleteRow store.content store.control expired_segment n key turn old new
+  delete_tells : (expired_segment : ExpiredSegment) (n : ℕ) (key : Option ObjectKey) (turn : Turn DeletionStep) (old new : S) → DeleteRow store.content store.control expired_segment n key turn old new
       → (store.content new).is_observable ≡ (store.content old).is_observable
   delete_tells expired_segment n None turn old new w = ap (λ (s : S). (store.content s).is_observable) w.1
   delete_tells expired_segment n (Some key) (Ends StoreFault) old new w = w.content.is_observable
   delete_tells expired_segment n (Some key) turn old new w = w.1.content.is_observable
 
-  pub expiry_tells : (expired_segment : ExpiredSegment) (origin : EventOrigin) (next : DeletionStep) (turn : ExpiryTurn) (old new : Tiers S M)
+  pub expiry_tells : (expired_segment : ExpiredSegment) (origin : EventOrigin) (next : DeletionStep) (turn : Turn DeletionStep) (old new : Tiers S M)
       → ExpiryRow store.content store.control meta.content meta.control expired_segment origin next (Ok turn) old new → TellsOn store meta old.store old.meta new.store new.meta
   expiry_tells expired_segment origin Start turn old new w = (ap (λ (t : Tiers S M). (store.content t.store).is_observable) w.0, start_tells expired_segment origin turn old.meta new.meta w.1)
   expiry_tells expired_segment origin (Delete n) turn old new w =

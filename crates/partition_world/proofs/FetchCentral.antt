@@ -7,8 +7,8 @@ use Rattle.object_store.specs.declared.store.Store.{Ghosts as StoreGhosts}
 use Rattle.meta_log.specs.declared.log.MetaLog.{Ghosts as MetaGhosts}
 use Rattle.log_terms.specs.Log.{end_of}
 use Rattle.registry.specs.declared.registry.Registry.{Registry}
-use Rattle.tier_fetch.specs.declared.turn.FetchTurn.{FetchTurn}
-use Rattle.tier_fetch.specs.declared.turn.FetchTurn.TheVariants.{Goes as GoesOn, Ends}
+use Rattle.plain_log.specs.declared.turn.Turn.{Turn}
+use Rattle.plain_log.specs.declared.turn.Turn.TheVariants.{Goes as GoesOn, Ends}
 use Rattle.tier_fetch.specs.declared.turn.FetchStep.{FetchStep}
 use Rattle.tier_fetch.specs.declared.turn.FetchStep.TheVariants.{Refresh}
 use Rattle.plain_log.specs.declared.answer.Answer.{Answer}
@@ -229,14 +229,14 @@ module _ {D S M : Type 0} (disk : DiskGhosts D) (store : StoreGhosts S) (meta : 
           (serves_seen k, record { run = r.run.run; is = r.run.is; spelled = r.run.spelled; size_is = r.run.size_is }, refl)
       ends_row other goes may k = elim may [ ]
 
-      changed : (turn : FetchTurn) (goes : GoesOnFetch store meta w.partition w.tier t.order.broker.0 z.x z.broker_tier offset limit next turn w'.tier) → MayServe w.held z.x g offset
+      changed : (turn : Turn FetchStep) (goes : GoesOnFetch store meta w.partition w.tier t.order.broker.0 z.x z.broker_tier offset limit next turn w'.tier) → MayServe w.held z.x g offset
           → IsChanged c.scene plain (after_fetch c.scene t.place t.order.broker.0 here (fetch_work t.order.broker.0 g.stops epoch offset turn) (store.content w'.tier.store).objects (meta.content w'.tier.meta).notes
           goes.view goes.cache)
       changed turn goes k =
           fetch_turns store.content store.control meta.content meta.control (wanted_of w.partition z.x offset limit) (line_of z.x) next (Ok turn) (fetch_tiers z.broker_tier.view z.broker_tier.cache w.tier)
           (fetch_tiers goes.view goes.cache w'.tier) c.scene plain t.place t.order.broker.0 here (broker_of y) g.stops epoch goes.row (turn_at k)
 
-      shows_then : (turn : FetchTurn) (goes : GoesOnFetch store meta w.partition w.tier t.order.broker.0 z.x z.broker_tier offset limit next turn w'.tier) (shows : InProgressIsSeen)
+      shows_then : (turn : Turn FetchStep) (goes : GoesOnFetch store meta w.partition w.tier t.order.broker.0 z.x z.broker_tier offset limit next turn w'.tier) (shows : InProgressIsSeen)
           → work_after disk store meta opening w c t.place t.list t.actor_state t.order z outcome ≡ shows
           → ShowsTier store meta w' c.partition (scene_with disk store meta opening w c t.place t.list t.actor_state t.order z shows (store.content w'.tier.store).objects (meta.content w'.tier.meta).notes
           (record z.broker_tier { view = goes.view; cache = goes.cache }))

@@ -17,8 +17,8 @@ use Rattle.view_refresh.specs.Refreshing.{Halted}
 use Rattle.plain_log.specs.declared.answer.Answer.{Answer}
 use Rattle.plain_log.specs.declared.answer.Place.TheVariants.{Key, Meta}
 use Rattle.plain_log.specs.declared.answer.Answer.TheVariants.{MetaFault, StoreFault, Damaged, Run}
-use Rattle.tier_fetch.specs.declared.turn.FetchTurn.{FetchTurn}
-use Rattle.tier_fetch.specs.declared.turn.FetchTurn.TheVariants.{Ends}
+use Rattle.plain_log.specs.declared.turn.Turn.{Turn}
+use Rattle.plain_log.specs.declared.turn.Turn.TheVariants.{Ends}
 use Rattle.tier_fetch.specs.declared.turn.FetchStep.{FetchStep}
 use Rattle.tier_fetch.specs.declared.turn.FetchStep.TheVariants.{Refresh, Index, Log}
 use Rattle.tier_fetch.specs.declared.turn.Span.{Span}
@@ -114,13 +114,13 @@ module _ {S M : Type 0} (store : StoreGhosts S) (meta : MetaGhosts M) where
   log_stays wanted piece span view None result old new w = same_store old new w.1
   log_stays wanted piece span view (Some place) result old new w = record { is_observable = w.gets.content.is_observable; objects = fun_ext (λ k. w.gets.content.objects k) }
 
-  refresh_tells : (wanted : FetchRequest) (line : List (ℕ × ℕ)) (turn : FetchTurn) (before after : View) (old new : M) → RefreshRow meta.content meta.control wanted line (Ok turn) before after old new
+  refresh_tells : (wanted : FetchRequest) (line : List (ℕ × ℕ)) (turn : Turn FetchStep) (before after : View) (old new : M) → RefreshRow meta.content meta.control wanted line (Ok turn) before after old new
       → (meta.content new).is_observable ≡ (meta.content old).is_observable
   refresh_tells wanted line (Ends MetaFault) before after old new w = w.content.is_observable
   refresh_tells wanted line turn before after old new w = w.1.content.is_observable
 
   -- the devices report as they did
-  pub fetch_tells : (wanted : FetchRequest) (line : List (ℕ × ℕ)) (next : FetchStep) (turn : FetchTurn) (old new : Tiers S M)
+  pub fetch_tells : (wanted : FetchRequest) (line : List (ℕ × ℕ)) (next : FetchStep) (turn : Turn FetchStep) (old new : Tiers S M)
       → RemoteFetchRow store.content store.control meta.content meta.control wanted line next (Ok turn) old new → TellsOn store meta old.store old.meta new.store new.meta
   fetch_tells wanted line Refresh turn old new w =
       (ap (λ (t : Tiers S M). (store.content t.store).is_observable) w.0, refresh_tells wanted line turn old.view new.view old.meta new.meta w.1)

@@ -13,16 +13,15 @@ use Rattle.object_store.specs.Place.{short_of}
 use Rattle.meta_log.specs.declared.log.MetaLog.{Ghosts as MetaGhosts}
 use Rattle.remote_view.specs.Fold.{EntriesSeen as View, entry_of}
 use Rattle.remote_find.specs.declared.piece.Piece.{Piece}
-use Rattle.tier_fetch.specs.declared.turn.FetchTurn.{FetchTurn}
-use Rattle.tier_fetch.specs.declared.turn.FetchTurn.TheVariants as fetch
+use Rattle.tier_fetch.specs.declared.turn.FetchStep.{FetchStep}
+use Rattle.plain_log.specs.declared.turn.Turn.{Turn}
+use Rattle.plain_log.specs.declared.turn.Turn.TheVariants.{Goes, Ends}
 use Rattle.tier_fetch.specs.declared.turn.FetchStep.TheVariants as fetching
 use Rattle.tier_fetch.specs.declared.turn.Span.{Span}
 use Rattle.tier_fetch.specs.Turns.{Tiers, RemoteFetchRow, spot_in}
 use Rattle.time_find.specs.declared.turn.Asked.{Asked}
 use Rattle.time_find.specs.declared.turn.SearchStep.{SearchStep}
 use Rattle.time_find.specs.declared.turn.SearchStep.TheVariants.{Seek, Times as ReadsTimes, Index, Log}
-use Rattle.time_find.specs.declared.turn.TimeTurn.{TimeTurn}
-use Rattle.time_find.specs.declared.turn.TimeTurn.TheVariants.{Goes, Ends}
 use Rattle.time_find.specs.Passing.{Seeks}
 use Rattle.time_find.specs.Turns.{IsSearched, TimesBytes, Times, Indexes, SearchTakes, SeekRow, TimesRow, TimeRow, wanted_at}
 use Rattle.plain_log.specs.declared.answer.Answer.{Answer}
@@ -34,39 +33,39 @@ use Rattle.partition_world.proofs.TurnsTold.{TurnTold, StoreLasts, StoreRose, Me
 use Rattle.partition_world.proofs.LastingSearches.{fetch_lasts}
 
 module _ (A B : Type 0) where
-  as_told : (C E : Type 0) (turn after : TimeTurn) → ◌≡◌ {A = Result TimeTurn AllocError} (Ok turn) (Ok after)
+  as_told : (C E : Type 0) (turn after : Turn (ℕ × SearchStep)) → ◌≡◌ {A = Result (Turn (ℕ × SearchStep)) AllocError} (Ok turn) (Ok after)
       → TurnTold A B C E (date_outcome after) → TurnTold A B C E (date_outcome turn)
-  as_told C E turn after is told = let same : turn ≡ after = cc (is) in subst (λ (t : TimeTurn). TurnTold A B C E (date_outcome t))
+  as_told C E turn after is told = let same : turn ≡ after = cc (is) in subst (λ (t : Turn (ℕ × SearchStep)). TurnTold A B C E (date_outcome t))
       (sym same) told
 
-  seeks_told : (C E : Type 0) (asked : Asked) (line : List (ℕ × ℕ)) (view : View) (cursor : ℕ) (turn : TimeTurn)
+  seeks_told : (C E : Type 0) (asked : Asked) (line : List (ℕ × ℕ)) (view : View) (cursor : ℕ) (turn : Turn (ℕ × SearchStep))
       → Seeks asked line view cursor turn → TurnTold A B C E (date_outcome turn)
-  seeks_told C E asked line view cursor (Goes at next) w = tt
+  seeks_told C E asked line view cursor (Goes (at, next)) w = tt
   seeks_told C E asked line view cursor (Ends (Damaged Meta n)) w = tt
   seeks_told C E asked line view cursor (Ends answer) w = elim w [ ]
 
   -- a run that was searched
-  pub searched_told : (C E : Type 0) (asked : Asked) (offset : ℕ) (run : List ℕ) (turn : TimeTurn) → IsSearched asked offset run turn
+  pub searched_told : (C E : Type 0) (asked : Asked) (offset : ℕ) (run : List ℕ) (turn : Turn (ℕ × SearchStep)) → IsSearched asked offset run turn
       → TurnTold A B C E (date_outcome turn)
-  searched_told C E asked offset run (Goes at next) w = tt
+  searched_told C E asked offset run (Goes (at, next)) w = tt
   searched_told C E asked offset run (Ends (Offset n)) w = tt
   searched_told C E asked offset run (Ends answer) w = elim w [ ]
 
   -- what a fetch's turn came to
-  indexes_told : (C E : Type 0) (cursor from : ℕ) (piece : Piece) (found : FetchTurn) (turn : TimeTurn)
+  indexes_told : (C E : Type 0) (cursor from : ℕ) (piece : Piece) (found : Turn FetchStep) (turn : Turn (ℕ × SearchStep))
       → Indexes cursor piece from (Ok found) (Ok turn)
       → TurnTold A B C E (fetch_outcome found) → TurnTold A B C E (date_outcome turn)
-  indexes_told C E cursor from piece (fetch.Goes (fetching.Log same span)) turn w told = as_told C E turn _ w.1 tt
-  indexes_told C E cursor from piece (fetch.Goes next) turn w told = elim w [ ]
-  indexes_told C E cursor from piece (fetch.Ends answer) turn w told = as_told C E turn (Ends answer) w told
+  indexes_told C E cursor from piece (Goes (fetching.Log same span)) turn w told = as_told C E turn _ w.1 tt
+  indexes_told C E cursor from piece (Goes next) turn w told = elim w [ ]
+  indexes_told C E cursor from piece (Ends answer) turn w told = as_told C E turn (Ends answer) w told
 
-  searches_told : (C E : Type 0) (asked : Asked) (from : ℕ) (found : FetchTurn) (turn : TimeTurn) → SearchTakes asked from (Ok found) (Ok turn)
+  searches_told : (C E : Type 0) (asked : Asked) (from : ℕ) (found : Turn FetchStep) (turn : Turn (ℕ × SearchStep)) → SearchTakes asked from (Ok found) (Ok turn)
       → TurnTold A B C E (fetch_outcome found) → TurnTold A B C E (date_outcome turn)
-  searches_told C E asked from (fetch.Ends (Run tier size stop bytes)) turn w told = searched_told C E asked from bytes turn w
-  searches_told C E asked from (fetch.Ends answer) turn w told = as_told C E turn (Ends answer) w told
-  searches_told C E asked from (fetch.Goes next) turn w told = elim w [ ]
+  searches_told C E asked from (Ends (Run tier size stop bytes)) turn w told = searched_told C E asked from bytes turn w
+  searches_told C E asked from (Ends answer) turn w told = as_told C E turn (Ends answer) w told
+  searches_told C E asked from (Goes next) turn w told = elim w [ ]
 
-  seek_lasts : (C : Type 0) {M : Type 0} (meta : MetaGhosts M) (asked : Asked) (line : List (ℕ × ℕ)) (cursor : ℕ) (turn : TimeTurn)
+  seek_lasts : (C : Type 0) {M : Type 0} (meta : MetaGhosts M) (asked : Asked) (line : List (ℕ × ℕ)) (cursor : ℕ) (turn : Turn (ℕ × SearchStep))
       (before after : View) (old new : M)
       → SeekRow meta.content meta.control asked line cursor (Ok turn) before after old new → MetaLasts meta old new
       × TurnTold A B C (MetaRose meta old new) (date_outcome turn)
@@ -76,7 +75,7 @@ module _ (A B : Type 0) where
 
   module _ (E : Type 0) {S : Type 0} (store : StoreGhosts S) where
     times_told : (asked : Asked) (cursor : ℕ) (piece : Piece) (base : ℕ) (spot : Spot) (answer : Result (Option (List ℕ)) Trouble)
-        (turn : TimeTurn) (old new : S)
+        (turn : Turn (ℕ × SearchStep)) (old new : S)
         → Ran Get (fate_of answer) (store.control old) (store.control new) → Times asked cursor piece base spot answer (Ok turn)
         → TurnTold A B (StoreRose store old new) E (date_outcome turn)
     times_told asked cursor piece base spot (Err Failed) turn old new r w = as_told (StoreRose store old new) E turn _ w (r.cause refl)
@@ -84,13 +83,13 @@ module _ (A B : Type 0) where
     times_told asked cursor piece base spot (Ok None) turn old new r w = as_told (StoreRose store old new) E turn _ w tt
     times_told asked cursor piece base spot (Ok (Some bytes)) turn old new r w = by (short_of spot bytes) turn w
       where
-        by : (end : Option ℕ) (turn : TimeTurn) → TimesBytes end asked cursor piece base spot bytes (Ok turn)
+        by : (end : Option ℕ) (turn : Turn (ℕ × SearchStep)) → TimesBytes end asked cursor piece base spot bytes (Ok turn)
             → TurnTold A B (StoreRose store old new) E (date_outcome turn)
         by (Some end) turn w = as_told (StoreRose store old new) E turn _ w tt
-        by None (Goes at next) w = tt
+        by None (Goes (at, next)) w = tt
         by None (Ends answer) w = subst (λ (a : Answer). Told A B (StoreRose store old new) E a) (sym w.0) tt
 
-    times_lasts : (asked : Asked) (cursor : ℕ) (piece : Piece) (view : View) (place : Option (ℕ × Spot)) (turn : TimeTurn) (old new : S)
+    times_lasts : (asked : Asked) (cursor : ℕ) (piece : Piece) (view : View) (place : Option (ℕ × Spot)) (turn : Turn (ℕ × SearchStep)) (old new : S)
         → TimesRow store.content store.control asked cursor piece view place (Ok turn) old new → StoreLasts store old new
         × TurnTold A B (StoreRose store old new) E (date_outcome turn)
     times_lasts asked cursor piece view None turn old new w = (
@@ -102,22 +101,22 @@ module _ (A B : Type 0) where
         (store_ran store _ _ old new w.gets.control, times_told asked cursor piece place.0 place.1 w.answer turn old new w.gets.control w.times)
 
   module _ {S M : Type 0} (store : StoreGhosts S) (meta : MetaGhosts M) where
-    abbrev Lasted : Tiers S M → Tiers S M → TimeTurn → Type 0
+    abbrev Lasted : Tiers S M → Tiers S M → Turn (ℕ × SearchStep) → Type 0
     Lasted old new turn =
         StoreLasts store old.store new.store × MetaLasts meta old.meta new.meta
         × TurnTold A B (StoreRose store old.store new.store) (MetaRose meta old.meta new.meta) (date_outcome turn)
 
     -- no call was made
-    goes_lasted : (old new : Tiers S M) (turn : TimeTurn) (at : ℕ) (next : SearchStep)
-        → ◌≡◌ {A = Result TimeTurn AllocError} (Ok turn) (Ok (Goes at next)) → new ≡ old → Lasted old new turn
+    goes_lasted : (old new : Tiers S M) (turn : Turn (ℕ × SearchStep)) (at : ℕ) (next : SearchStep)
+        → ◌≡◌ {A = Result (Turn (ℕ × SearchStep)) AllocError} (Ok turn) (Ok (Goes (at, next))) → new ≡ old → Lasted old new turn
     goes_lasted old new turn at next is same = (
       store_same store old.store new.store (ap (λ (t : Tiers S M). t.store) same),
       meta_same meta old.meta new.meta (ap (λ (t : Tiers S M). t.meta) same),
-      as_told (StoreRose store old.store new.store) (MetaRose meta old.meta new.meta) turn (Goes at next) is tt,
+      as_told (StoreRose store old.store new.store) (MetaRose meta old.meta new.meta) turn (Goes (at, next)) is tt,
     )
 
-    index_lasts : (asked : Asked) (line : List (ℕ × ℕ)) (cursor from : ℕ) (piece : Piece) (found : Result FetchTurn AllocError)
-        (turn : TimeTurn) (old new : Tiers S M)
+    index_lasts : (asked : Asked) (line : List (ℕ × ℕ)) (cursor from : ℕ) (piece : Piece) (found : Result (Turn FetchStep) AllocError)
+        (turn : Turn (ℕ × SearchStep)) (old new : Tiers S M)
         → RemoteFetchRow store.content store.control meta.content meta.control (wanted_at asked from) line (fetching.Index piece) found old new
         → Indexes cursor piece from found (Ok turn) → Lasted old new turn
     index_lasts asked line cursor from piece (Ok found) turn old new row w =
@@ -125,8 +124,8 @@ module _ (A B : Type 0) where
         (k.0, k.1, indexes_told (StoreRose store old.store new.store) (MetaRose meta old.meta new.meta) cursor from piece found turn w k.2)
     index_lasts asked line cursor from piece (Err e) turn old new row w = absurd (let no : false ≡ true = w in cc)
 
-    log_lasts : (asked : Asked) (line : List (ℕ × ℕ)) (from : ℕ) (piece : Piece) (span : Span) (found : Result FetchTurn AllocError)
-        (turn : TimeTurn) (old new : Tiers S M)
+    log_lasts : (asked : Asked) (line : List (ℕ × ℕ)) (from : ℕ) (piece : Piece) (span : Span) (found : Result (Turn FetchStep) AllocError)
+        (turn : Turn (ℕ × SearchStep)) (old new : Tiers S M)
         → RemoteFetchRow store.content store.control meta.content meta.control (wanted_at asked from) line (fetching.Log piece span) found old new
         → SearchTakes asked from found (Ok turn) → Lasted old new turn
     log_lasts asked line from piece span (Ok found) turn old new row w =
@@ -135,7 +134,7 @@ module _ (A B : Type 0) where
     log_lasts asked line from piece span (Err e) turn old new row w = absurd (let no : false ≡ true = w in cc)
 
     -- among the remote segments
-    pub time_lasts : (asked : Asked) (line : List (ℕ × ℕ)) (cursor : ℕ) (next : SearchStep) (turn : TimeTurn) (old new : Tiers S M)
+    pub time_lasts : (asked : Asked) (line : List (ℕ × ℕ)) (cursor : ℕ) (next : SearchStep) (turn : Turn (ℕ × SearchStep)) (old new : Tiers S M)
         → TimeRow store.content store.control meta.content meta.control asked line cursor next (Ok turn) old new
         → StoreLasts store old.store new.store × MetaLasts meta old.meta new.meta
         × TurnTold A B (StoreRose store old.store new.store) (MetaRose meta old.meta new.meta) (date_outcome turn)

@@ -8,15 +8,13 @@ use Rattle.object_store.specs.declared.store.Store.{Ghosts as StoreGhosts}
 use Rattle.meta_log.specs.declared.log.MetaLog.{Ghosts as MetaGhosts}
 use Rattle.copy_task.specs.Copying.{Copied}
 use Rattle.copy_task.specs.declared.turn.CopyStep.{CopyStep}
-use Rattle.tier_fetch.specs.declared.turn.FetchTurn.{FetchTurn}
-use Rattle.tier_fetch.specs.declared.turn.FetchTurn.TheVariants as fetch
+use Rattle.plain_log.specs.declared.turn.Turn.{Turn}
+use Rattle.plain_log.specs.declared.turn.Turn.TheVariants as turns
 use Rattle.tier_fetch.specs.declared.turn.FetchStep.{FetchStep as Search}
 use Rattle.tier_fetch.specs.declared.turn.FetchStep.TheVariants.{Refresh}
 use Rattle.time_find.specs.declared.turn.Asked.{Asked}
 use Rattle.time_find.specs.declared.turn.SearchStep.{SearchStep as Dating}
 use Rattle.time_find.specs.declared.turn.SearchStep.TheVariants.{Seek}
-use Rattle.time_find.specs.declared.turn.TimeTurn.{TimeTurn}
-use Rattle.time_find.specs.declared.turn.TimeTurn.TheVariants as dating
 use Rattle.time_find.specs.Passing.{passed_over}
 use Rattle.time_find.specs.Turns.{LocalSearchRow, ReadLocalRow as RunRow}
 use Rattle.expiry_task.specs.declared.turn.ExpiredSegment.{ExpiredSegment}
@@ -185,7 +183,7 @@ module _ {D S M : Type 0} (disk : DiskGhosts D) (store : StoreGhosts S) (meta : 
       own_lasts Trim h b t (turned.Answers answer) h' t' (row_lasts disk.content disk.control h b x (Some g) Trim (turned.Answers answer) h' at w.0) same
   trims_lasts h t b x broker_tier g keep other h' t' at w same = elim w [ ]
 
-  goes_lasts : (A : Type 0) (p : PartitionId) (h : PartitionState D) (t : RemoteTier S M) (b : ℕ) (x : Node D) (broker_tier : BrokerTierState) (offset limit : ℕ) (next : Search) (turn : FetchTurn) (h' : PartitionState D) (t' : RemoteTier S M) → h' ≡ h
+  goes_lasts : (A : Type 0) (p : PartitionId) (h : PartitionState D) (t : RemoteTier S M) (b : ℕ) (x : Node D) (broker_tier : BrokerTierState) (offset limit : ℕ) (next : Search) (turn : Turn Search) (h' : PartitionState D) (t' : RemoteTier S M) → h' ≡ h
       → GoesOnFetch store meta p t b x broker_tier offset limit next turn t' → Leaving A h b t (fetch_outcome turn) h' t'
   goes_lasts A p h t b x broker_tier offset limit next turn h' t' same w =
       let k = fetch_lasts A (DiskFails disk.control b h h') store meta (wanted_of p x offset limit) (line_of x) next turn (fetch_tiers broker_tier.view broker_tier.cache t) (fetch_tiers w.view w.cache t') w.row in
@@ -197,8 +195,8 @@ module _ {D S M : Type 0} (disk : DiskGhosts D) (store : StoreGhosts S) (meta : 
   seek_lasts A p h t b x broker_tier g offset limit next (Answers NotLeader) h' t' same w = (all_same h t h' t' same w.3, tt)
   seek_lasts A p h t b x broker_tier g offset limit next (Answers (OutOfRange start end)) h' t' same w = (all_same h t h' t' same w.4, tt)
   seek_lasts A p h t b x broker_tier g offset limit next (Answers Empty) h' t' same w = (all_same h t h' t' same w.3, tt)
-  seek_lasts A p h t b x broker_tier g offset limit next (Answers answer) h' t' same w = goes_lasts A p h t b x broker_tier offset limit next (fetch.Ends answer) h' t' same w.1
-  seek_lasts A p h t b x broker_tier g offset limit next (Sought later) h' t' same w = goes_lasts A p h t b x broker_tier offset limit next (fetch.Goes later) h' t' same w.1
+  seek_lasts A p h t b x broker_tier g offset limit next (Answers answer) h' t' same w = goes_lasts A p h t b x broker_tier offset limit next (turns.Ends answer) h' t' same w.1
+  seek_lasts A p h t b x broker_tier g offset limit next (Sought later) h' t' same w = goes_lasts A p h t b x broker_tier offset limit next (turns.Goes later) h' t' same w.1
   seek_lasts A p h t b x broker_tier g offset limit next other h' t' same w = elim w [ ]
 
   -- and of an expiry, which raises the log start offset as the command does
@@ -264,7 +262,7 @@ module _ {D S M : Type 0} (disk : DiskGhosts D) (store : StoreGhosts S) (meta : 
 
   -- and of a timestamp lookup, which reads the broker's log, or is among the remote segments
 
-  own_search_lasts : (h : PartitionState D) (t : RemoteTier S M) (b : ℕ) (x : Node D) (asked : Asked) (cursor : ℕ) (turn : TimeTurn) (h' : PartitionState D)
+  own_search_lasts : (h : PartitionState D) (t : RemoteTier S M) (b : ℕ) (x : Node D) (asked : Asked) (cursor : ℕ) (turn : Turn (ℕ × Dating)) (h' : PartitionState D)
       (t' : RemoteTier S M) → slice_get h.nodes b ≡ Some x → t' ≡ t
       → SearchesOwn disk h b x asked cursor turn h' → Leaving (DiskFails disk.control b h h') h b t (date_outcome turn) h' t'
   own_search_lasts h t b x asked cursor turn h' t' at tier w = by w.row
@@ -275,10 +273,10 @@ module _ {D S M : Type 0} (disk : DiskGhosts D) (store : StoreGhosts S) (meta : 
       lasting : Lasting disk.control x.log w.kept → AllLast h t h' t'
       lasting lasts = same_tier h t h' t' (keeps_put disk.control h b x y h' at lasts w.after) tier
 
-      reads : (to : TimeTurn) → RunRow disk.content disk.control x.log asked (passed_over asked.ts cursor (closed_in x.log)) to w.kept
+      reads : (to : Turn (ℕ × Dating)) → RunRow disk.content disk.control x.log asked (passed_over asked.ts cursor (closed_in x.log)) to w.kept
           → Leaving (DiskFails disk.control b h h') h b t (date_outcome to) h' t'
-      reads (dating.Ends DiskFault) row = (lasting row.1, (fails_put disk.control h b x y h' at row.1 (one_faulted disk.control x.log w.kept row.1 row.2) w.after).1)
-      reads (dating.Ends (Damaged (File name) place)) row = (lasting row.quiet.0, tt)
+      reads (turns.Ends DiskFault) row = (lasting row.1, (fails_put disk.control h b x y h' at row.1 (one_faulted disk.control x.log w.kept row.1 row.2) w.after).1)
+      reads (turns.Ends (Damaged (File name) place)) row = (lasting row.quiet.0, tt)
       reads to row = (
         lasting row.quiet.0,
         searched_told (DiskFails disk.control b h h') (DiskFails disk.control b h h') (StoreRose store t.store t'.store)
@@ -290,13 +288,13 @@ module _ {D S M : Type 0} (disk : DiskGhosts D) (store : StoreGhosts S) (meta : 
           → Leaving (DiskFails disk.control b h h') h b t (date_outcome turn) h' t'
       by (inl (past, is, same)) = (
         same_tier h t h' t' (keeps_log disk.control h b x y h' at same w.after) tier,
-        subst (λ (u : TimeTurn). TurnTold (DiskFails disk.control b h h') (DiskFails disk.control b h h') (StoreRose store t.store t'.store)
+        subst (λ (u : Turn (ℕ × Dating)). TurnTold (DiskFails disk.control b h h') (DiskFails disk.control b h h') (StoreRose store t.store t'.store)
             (MetaRose meta t.meta t'.meta) (date_outcome u)) (sym is) tt,
       )
       by (inr (below, row)) = reads turn row
 
   search_lasts : (h : PartitionState D) (t : RemoteTier S M) (b : ℕ) (x : Node D) (broker_tier : BrokerTierState) (asked : Asked) (cursor : ℕ) (next : Dating) (own : Bool)
-      (turn : TimeTurn) (h' : PartitionState D) (t' : RemoteTier S M)
+      (turn : Turn (ℕ × Dating)) (h' : PartitionState D) (t' : RemoteTier S M)
       → slice_get h.nodes b ≡ Some x → SearchRow disk store meta h t b x broker_tier asked cursor next own turn h' t'
       → Leaving (DiskFails disk.control b h h') h b t (date_outcome turn) h' t'
   search_lasts h t b x broker_tier asked cursor next true turn h' t' at w = own_search_lasts h t b x asked cursor turn h' t' at w.1 w.0
@@ -306,7 +304,7 @@ module _ {D S M : Type 0} (disk : DiskGhosts D) (store : StoreGhosts S) (meta : 
       (record { held = keeps_same disk.control h h' w.1; stores = k.0; metas = k.1 }, k.2)
 
   searches_lasts : (p : PartitionId) (h : PartitionState D) (t : RemoteTier S M) (b : ℕ) (x : Node D) (broker_tier : BrokerTierState) (g : StartSnapshot) (ts : ℤ) (cursor : ℕ)
-      (next : Dating) (turn : TimeTurn) (h' : PartitionState D) (t' : RemoteTier S M)
+      (next : Dating) (turn : Turn (ℕ × Dating)) (h' : PartitionState D) (t' : RemoteTier S M)
       → slice_get h.nodes b ≡ Some x → SearchesOn disk store meta p h t b x broker_tier g ts cursor next turn h' t'
       → Leaving (DiskFails disk.control b h h') h b t (date_outcome turn) h' t'
   searches_lasts p h t b x broker_tier g ts cursor next turn h' t' at w =
@@ -322,9 +320,9 @@ module _ {D S M : Type 0} (disk : DiskGhosts D) (store : StoreGhosts S) (meta : 
   date_lasts p h t b x broker_tier g ts cursor next (Answers NotLeader) h' t' at w = (all_same h t h' t' w.3 w.4, tt)
   date_lasts p h t b x broker_tier g ts cursor next (Answers NoOffset) h' t' at w = (all_same h t h' t' w.2 w.3, tt)
   date_lasts p h t b x broker_tier g ts cursor next (Answers answer) h' t' at w = searches_lasts p h t b x broker_tier g ts cursor next
-      (dating.Ends answer) h' t' at w
+      (turns.Ends answer) h' t' at w
   date_lasts p h t b x broker_tier g ts cursor next (Dated to later) h' t' at w = searches_lasts p h t b x broker_tier g ts cursor next
-      (dating.Goes to later) h' t' at w.0
+      (turns.Goes (to, later)) h' t' at w.0
   date_lasts p h t b x broker_tier g ts cursor next other h' t' at w = elim w [ ]
 
   recorded_lasts : (p : PartitionId) (config : Config) (h : PartitionState D) (t : RemoteTier S M) (b : ℕ) (x : Node D) (broker_tier : BrokerTierState) (g : StartSnapshot) (command : Command) (outcome : Outcome) (h' : PartitionState D) (t' : RemoteTier S M)

@@ -11,14 +11,13 @@ use Rattle.expiry_task.specs.declared.turn.ExpiredSegment.{ExpiredSegment}
 use Rattle.expiry_task.specs.declared.turn.DeletionStep.{DeletionStep as Deletion}
 use Rattle.rebuild_task.specs.declared.turn.RebuildStep.{RebuildStep as Rebuild}
 use Rattle.rebuild_task.specs.declared.turn.RebuildStep.TheVariants.{Epochs, Restart}
-use Rattle.tier_fetch.specs.declared.turn.FetchTurn.{FetchTurn}
 use Rattle.tier_fetch.specs.declared.turn.FetchStep.{FetchStep as Search}
 use Rattle.tier_fetch.specs.declared.turn.FetchStep.TheVariants.{Refresh}
 use Rattle.time_find.specs.declared.turn.Asked.{Asked}
 use Rattle.time_find.specs.declared.turn.SearchStep.{SearchStep as Dating}
 use Rattle.time_find.specs.declared.turn.SearchStep.TheVariants.{Seek}
-use Rattle.time_find.specs.declared.turn.TimeTurn.{TimeTurn}
-use Rattle.time_find.specs.declared.turn.TimeTurn.TheVariants as dating
+use Rattle.plain_log.specs.declared.turn.Turn.{Turn}
+use Rattle.plain_log.specs.declared.turn.Turn.TheVariants as dating
 use Rattle.plain_log.specs.declared.answer.Answer.TheVariants.{Down, NotLeader, CopyOff, MetaFault, Stopped, OutOfRange, Empty, NoOffset}
 use Rattle.plain_log.specs.declared.command.ActorList.{ActorList}
 use Rattle.plain_log.specs.declared.command.Command.{Command}
@@ -88,7 +87,7 @@ module _ {D S M : Type 0} (disk : DiskGhosts D) (store : StoreGhosts S) (meta : 
   choose_count p h t b x broker_tier g outcome h' t' (inr (keeps, inl level)) = same_count meta t.meta t'.meta (ap (λ (k : RemoteTier S M). k.meta) level.3)
   choose_count p h t b x broker_tier g outcome h' t' (inr (keeps, inr r)) = same_count meta t.meta t'.meta (ap (λ (k : RemoteTier S M). k.meta) r.tier)
 
-  goes_count : (p : PartitionId) (t : RemoteTier S M) (b : ℕ) (x : Node D) (broker_tier : BrokerTierState) (offset limit : ℕ) (next : Search) (turn : FetchTurn) (t' : RemoteTier S M)
+  goes_count : (p : PartitionId) (t : RemoteTier S M) (b : ℕ) (x : Node D) (broker_tier : BrokerTierState) (offset limit : ℕ) (next : Search) (turn : Turn Search) (t' : RemoteTier S M)
       → GoesOnFetch store meta p t b x broker_tier offset limit next turn t' → count meta t'.meta ≤ count meta t.meta
   goes_count p t b x broker_tier offset limit next turn t' k =
       fetch_count store meta (wanted_of p x offset limit) (line_of x) next turn (fetch_tiers broker_tier.view broker_tier.cache t) (fetch_tiers k.view k.cache t') k.row
@@ -104,7 +103,7 @@ module _ {D S M : Type 0} (disk : DiskGhosts D) (store : StoreGhosts S) (meta : 
   seek_count p h t b x broker_tier g offset limit next other t' w = elim w [ ]
 
   search_count : (h : PartitionState D) (t : RemoteTier S M) (b : ℕ) (x : Node D) (broker_tier : BrokerTierState) (asked : Asked) (cursor : ℕ) (next : Dating) (own : Bool)
-      (turn : TimeTurn) (h' : PartitionState D) (t' : RemoteTier S M) → SearchRow disk store meta h t b x broker_tier asked cursor next own turn h' t'
+      (turn : Turn (ℕ × Dating)) (h' : PartitionState D) (t' : RemoteTier S M) → SearchRow disk store meta h t b x broker_tier asked cursor next own turn h' t'
       → count meta t'.meta ≤ count meta t.meta
   search_count h t b x broker_tier asked cursor next true turn h' t' w = same_count meta t.meta t'.meta (ap (λ (k : RemoteTier S M). k.meta) w.1)
   search_count h t b x broker_tier asked cursor next false turn h' t' w =
@@ -113,7 +112,7 @@ module _ {D S M : Type 0} (disk : DiskGhosts D) (store : StoreGhosts S) (meta : 
       time_count store meta asked (line_of x) cursor next turn old new w.0.row
 
   searches_count : (p : PartitionId) (h : PartitionState D) (t : RemoteTier S M) (b : ℕ) (x : Node D) (broker_tier : BrokerTierState) (g : StartSnapshot) (ts : ℤ) (cursor : ℕ)
-      (next : Dating) (turn : TimeTurn) (h' : PartitionState D) (t' : RemoteTier S M)
+      (next : Dating) (turn : Turn (ℕ × Dating)) (h' : PartitionState D) (t' : RemoteTier S M)
       → SearchesOn disk store meta p h t b x broker_tier g ts cursor next turn h' t' → count meta t'.meta ≤ count meta t.meta
   searches_count p h t b x broker_tier g ts cursor next turn h' t' w =
       let on = resumed_at h.registry.start cursor in
@@ -132,7 +131,7 @@ module _ {D S M : Type 0} (disk : DiskGhosts D) (store : StoreGhosts S) (meta : 
   date_count p h t b x broker_tier g ts cursor next (Answers answer) h' t' w =
       searches_count p h t b x broker_tier g ts cursor next (dating.Ends answer) h' t' w
   date_count p h t b x broker_tier g ts cursor next (Dated later after) h' t' w =
-      searches_count p h t b x broker_tier g ts cursor next (dating.Goes later after) h' t' w.0
+      searches_count p h t b x broker_tier g ts cursor next (dating.Goes (later, after)) h' t' w.0
   date_count p h t b x broker_tier g ts cursor next other h' t' w = elim w [ ]
 
   refresh_count : (t : RemoteTier S M) (b : ℕ) (broker_tier : BrokerTierState) (outcome : Outcome) (t' : RemoteTier S M) → RefreshedRow meta t b broker_tier outcome t' → count meta t'.meta ≤ count meta t.meta

@@ -15,21 +15,17 @@ use Rattle.meta_log.specs.declared.event_origin.EventOrigin.{EventOrigin}
 use Rattle.remote_view.specs.Fold.{EntriesSeen, state_of}
 use Rattle.copy_task.specs.Copying.{Copied, keys}
 use Rattle.copy_task.specs.Turns.{Tiers, StartRow, FinishRow, CheckRow, PutObjectRow, DeleteRow, CopyTurnRow, checked, put_at, delete_at}
-use Rattle.copy_task.specs.declared.turn.CopyTurn.{CopyTurn}
-use Rattle.copy_task.specs.declared.turn.CopyTurn.TheVariants.{Goes as GoesOn, Ends}
 use Rattle.copy_task.specs.declared.turn.CopyStep.{CopyStep}
 use Rattle.copy_task.specs.declared.turn.CopyStep.TheVariants.{Start, Put, Finish, Check, Delete}
 use Rattle.expiry_task.specs.Turns as expiring
 use Rattle.expiry_task.specs.declared.turn.ExpiredSegment.{ExpiredSegment}
-use Rattle.expiry_task.specs.declared.turn.ExpiryTurn.{ExpiryTurn}
-use Rattle.expiry_task.specs.declared.turn.ExpiryTurn.TheVariants as expiry
 use Rattle.expiry_task.specs.declared.turn.DeletionStep.{DeletionStep as Deletion}
 use Rattle.expiry_task.specs.declared.turn.DeletionStep.TheVariants as deletion
 use Rattle.remote_find.specs.declared.piece.Piece.{Piece}
 use Rattle.tier_fetch.specs.declared.turn.Span.{Span}
 use Rattle.tier_fetch.specs.Turns.{Tiers as Fetched, RemoteFetchRow, RefreshRow}
-use Rattle.tier_fetch.specs.declared.turn.FetchTurn.{FetchTurn}
-use Rattle.tier_fetch.specs.declared.turn.FetchTurn.TheVariants as fetch
+use Rattle.plain_log.specs.declared.turn.Turn.{Turn}
+use Rattle.plain_log.specs.declared.turn.Turn.TheVariants.{Goes as GoesOn, Ends}
 use Rattle.tier_fetch.specs.declared.turn.FetchStep.{FetchStep as Search}
 use Rattle.tier_fetch.specs.declared.turn.FetchStep.TheVariants.{Refresh, Index, Log}
 use Rattle.tier_fetch.specs.declared.turn.FetchRequest.{FetchRequest}
@@ -37,8 +33,6 @@ use Rattle.time_find.specs.Turns.{SeekRow, SearchIndexRow, SearchLogRow, TimeRow
 use Rattle.time_find.specs.declared.turn.Asked.{Asked}
 use Rattle.time_find.specs.declared.turn.SearchStep.{SearchStep as Dating}
 use Rattle.time_find.specs.declared.turn.SearchStep.TheVariants as search
-use Rattle.time_find.specs.declared.turn.TimeTurn.{TimeTurn}
-use Rattle.time_find.specs.declared.turn.TimeTurn.TheVariants as dating
 use Rattle.plain_log.specs.declared.answer.Answer.TheVariants.{MetaFault, StoreFault}
 use Rattle.laws_partition.specs.declared.start_snapshot.StartSnapshot.{StartSnapshot}
 use Rattle.partition_commands.proofs.FreshNodes.{length_more}
@@ -77,16 +71,16 @@ few_told (Expires g segment deletion.Finish) = omega arith
 few_told (Rebuilds g next) = omega arith
 
 -- how many metadata events a copy has appended at most after a turn
-abbrev told_turn : StartSnapshot → Copied → CopyTurn → ℕ
+abbrev told_turn : StartSnapshot → Copied → Turn CopyStep → ℕ
 told_turn g copy (GoesOn next) = told_by (Copies g copy next)
 told_turn g copy (Ends answer) = 2
 
 -- how many an expiry has
-abbrev deleted_turn : StartSnapshot → ExpiredSegment → ExpiryTurn → ℕ
-deleted_turn g segment (expiry.Goes next) = told_by (Expires g segment next)
-deleted_turn g segment (expiry.Ends answer) = 2
+abbrev deleted_turn : StartSnapshot → ExpiredSegment → Turn Deletion → ℕ
+deleted_turn g segment (GoesOn next) = told_by (Expires g segment next)
+deleted_turn g segment (Ends answer) = 2
 
-next_told : (g : StartSnapshot) (segment : ExpiredSegment) (n : ℕ) (key : Option ObjectKey) → deleted_turn g segment (expiry.Goes (expiring.delete_at n key)) ≡ 1
+next_told : (g : StartSnapshot) (segment : ExpiredSegment) (n : ℕ) (key : Option ObjectKey) → deleted_turn g segment (GoesOn (expiring.delete_at n key)) ≡ 1
 next_told g segment n None = refl
 next_told g segment n (Some key) = refl
 
@@ -133,7 +127,7 @@ module _ {M : Type 0} (meta : MetaGhosts M) where
   pub same_count : (old new : M) → new ≡ old → count new ≤ count old
   same_count old new is = omega (arith, ap count is)
 
-  start_told : (g : StartSnapshot) (copy : Copied) (origin : EventOrigin) (turn : CopyTurn) (old new : M) → StartRow meta.content meta.control copy origin (Ok turn) old new → IsTrue (meta.content old).is_observable
+  start_told : (g : StartSnapshot) (copy : Copied) (origin : EventOrigin) (turn : Turn CopyStep) (old new : M) → StartRow meta.content meta.control copy origin (Ok turn) old new → IsTrue (meta.content old).is_observable
       → count new + told_by (Copies g copy Start) ≤ count old + told_turn g copy turn
   start_told g copy origin (Ends MetaFault) old new w is_observable = let most = appends_most _ _ old new w is_observable in omega (arith, most)
   start_told g copy origin turn old new w is_observable =
@@ -141,7 +135,7 @@ module _ {M : Type 0} (meta : MetaGhosts M) where
       let told : told_turn g copy turn ≡ 1 = ap (told_turn g copy) w.0 in
       omega (arith, most, told)
 
-  finish_told : (g : StartSnapshot) (copy : Copied) (origin : EventOrigin) (turn : CopyTurn) (old new : M) → FinishRow meta.content meta.control copy origin (Ok turn) old new → IsTrue (meta.content old).is_observable
+  finish_told : (g : StartSnapshot) (copy : Copied) (origin : EventOrigin) (turn : Turn CopyStep) (old new : M) → FinishRow meta.content meta.control copy origin (Ok turn) old new → IsTrue (meta.content old).is_observable
       → count new + told_by (Copies g copy Finish) ≤ count old + told_turn g copy turn
   finish_told g copy origin (Ends MetaFault) old new w is_observable = let most = appends_most _ _ old new w is_observable in omega (arith, most)
   finish_told g copy origin turn old new w is_observable =
@@ -149,7 +143,7 @@ module _ {M : Type 0} (meta : MetaGhosts M) where
       let told : told_turn g copy turn ≡ 2 = ap (told_turn g copy) w.0 in
       omega (arith, most, told)
 
-  check_told : (g : StartSnapshot) (copy : Copied) (turn : CopyTurn) (before after : EntriesSeen) (old new : M) → CheckRow meta.content meta.control copy (Ok turn) before after old new
+  check_told : (g : StartSnapshot) (copy : Copied) (turn : Turn CopyStep) (before after : EntriesSeen) (old new : M) → CheckRow meta.content meta.control copy (Ok turn) before after old new
       → count new + told_by (Copies g copy Check) ≤ count old + told_turn g copy turn
   check_told g copy (Ends MetaFault) before after old new w = let most = keeps_count old new w.content in omega (arith, most)
   check_told g copy turn before after old new w =
@@ -158,12 +152,12 @@ module _ {M : Type 0} (meta : MetaGhosts M) where
       omega (arith, most, told)
 
 module _ {S M : Type 0} (store : StoreGhosts S) (meta : MetaGhosts M) where
-  put_most : (g : StartSnapshot) (copy : Copied) (n : ℕ) (key : Option ObjectKey) (turn : CopyTurn) (old new : S) → PutObjectRow store.content store.control copy n key (Ok turn) old new → 1 ≤ told_turn g copy turn
+  put_most : (g : StartSnapshot) (copy : Copied) (n : ℕ) (key : Option ObjectKey) (turn : Turn CopyStep) (old new : S) → PutObjectRow store.content store.control copy n key (Ok turn) old new → 1 ≤ told_turn g copy turn
   put_most g copy n None turn old new w = let is : turn ≡ GoesOn Finish = cc (w.0) in omega (arith, ap (told_turn g copy) is)
   put_most g copy n (Some key) (Ends StoreFault) old new w = omega arith
   put_most g copy n (Some key) turn old new w = let told = ap (told_turn g copy) w.0 ∙ put_told g copy (n + 1) (slice_get (keys copy) (n + 1)) in omega (arith, told)
 
-  delete_most : (g : StartSnapshot) (copy : Copied) (view : EntriesSeen) (n : ℕ) (key : Option ObjectKey) (turn : CopyTurn) (old new : S) → DeleteRow store.content store.control copy view n key turn old new
+  delete_most : (g : StartSnapshot) (copy : Copied) (view : EntriesSeen) (n : ℕ) (key : Option ObjectKey) (turn : Turn CopyStep) (old new : S) → DeleteRow store.content store.control copy view n key turn old new
       → 2 ≤ told_turn g copy turn
   delete_most g copy view n None turn old new w = let told = ap (told_turn g copy) w.0 ∙ deleted_told g copy view n None in omega (arith, told)
   delete_most g copy view n (Some key) (Ends StoreFault) old new w = omega arith
@@ -171,7 +165,7 @@ module _ {S M : Type 0} (store : StoreGhosts S) (meta : MetaGhosts M) where
       let told = ap (told_turn g copy) w.0 ∙ deleted_told g copy view (n + 1) (slice_get (keys copy) (n + 1)) in omega (arith, told)
 
   -- a turn of a copy
-  pub copy_told : (g : StartSnapshot) (copy : Copied) (origin : EventOrigin) (next : CopyStep) (turn : CopyTurn) (old new : Tiers S M)
+  pub copy_told : (g : StartSnapshot) (copy : Copied) (origin : EventOrigin) (next : CopyStep) (turn : Turn CopyStep) (old new : Tiers S M)
       → CopyTurnRow store.content store.control meta.content meta.control copy origin next (Ok turn) old new → IsTrue (meta.content old.meta).is_observable
       → count meta new.meta + told_by (Copies g copy next) ≤ count meta old.meta + told_turn g copy turn
   copy_told g copy origin Start turn old new w is_observable = start_told meta g copy origin turn old.meta new.meta w.1 is_observable
@@ -188,12 +182,12 @@ module _ {S M : Type 0} (store : StoreGhosts S) (meta : MetaGhosts M) where
 
   -- a turn of a fetch appends none
 
-  refresh_count : (wanted : FetchRequest) (line : List (ℕ × ℕ)) (turn : FetchTurn) (before after : EntriesSeen) (old new : M) → RefreshRow meta.content meta.control wanted line (Ok turn) before after old new
+  refresh_count : (wanted : FetchRequest) (line : List (ℕ × ℕ)) (turn : Turn Search) (before after : EntriesSeen) (old new : M) → RefreshRow meta.content meta.control wanted line (Ok turn) before after old new
       → count meta new ≤ count meta old
-  refresh_count wanted line (fetch.Ends MetaFault) before after old new w = keeps_count meta old new w.content
+  refresh_count wanted line (Ends MetaFault) before after old new w = keeps_count meta old new w.content
   refresh_count wanted line turn before after old new w = keeps_count meta old new w.1.content
 
-  pub fetch_count : (wanted : FetchRequest) (line : List (ℕ × ℕ)) (next : Search) (turn : FetchTurn) (old new : Fetched S M)
+  pub fetch_count : (wanted : FetchRequest) (line : List (ℕ × ℕ)) (next : Search) (turn : Turn Search) (old new : Fetched S M)
       → RemoteFetchRow store.content store.control meta.content meta.control wanted line next (Ok turn) old new → count meta new.meta ≤ count meta old.meta
   fetch_count wanted line Refresh turn old new w = refresh_count wanted line turn old.view new.view old.meta new.meta w.1
   fetch_count wanted line (Index piece) turn old new w = same_count meta old.meta new.meta (ap (λ (t : Fetched S M). t.meta) w.0)
@@ -207,18 +201,18 @@ module _ {S M : Type 0} (store : StoreGhosts S) (meta : MetaGhosts M) where
 
   -- nor does one of a timestamp lookup
 
-  seeking_count : (asked : Asked) (line : List (ℕ × ℕ)) (cursor : ℕ) (turn : TimeTurn) (before after : EntriesSeen) (old new : M)
+  seeking_count : (asked : Asked) (line : List (ℕ × ℕ)) (cursor : ℕ) (turn : Turn (ℕ × Dating)) (before after : EntriesSeen) (old new : M)
       → SeekRow meta.content meta.control asked line cursor (Ok turn) before after old new → count meta new ≤ count meta old
-  seeking_count asked line cursor (dating.Ends MetaFault) before after old new w = keeps_count meta old new w.content
+  seeking_count asked line cursor (Ends MetaFault) before after old new w = keeps_count meta old new w.content
   seeking_count asked line cursor turn before after old new w = keeps_count meta old new w.1.content
 
-  fetched_count : (wanted : FetchRequest) (line : List (ℕ × ℕ)) (next : Search) (result : Result FetchTurn AllocError) (old new : Fetched S M)
+  fetched_count : (wanted : FetchRequest) (line : List (ℕ × ℕ)) (next : Search) (result : Result (Turn Search) AllocError) (old new : Fetched S M)
       → RemoteFetchRow store.content store.control meta.content meta.control wanted line next result old new
       → count meta new.meta ≤ count meta old.meta
   fetched_count wanted line next (Ok turn) old new w = fetch_count wanted line next turn old new w
   fetched_count wanted line next (Err e) old new w = fetch_wants wanted line next e old new w
 
-  index_count : (asked : Asked) (line : List (ℕ × ℕ)) (cursor : ℕ) (piece : Piece) (from : ℕ) (result : Result TimeTurn AllocError)
+  index_count : (asked : Asked) (line : List (ℕ × ℕ)) (cursor : ℕ) (piece : Piece) (from : ℕ) (result : Result (Turn (ℕ × Dating)) AllocError)
       (old new : Fetched S M) → SearchIndexRow store.content store.control meta.content meta.control asked line cursor piece from result old new
       → count meta new.meta ≤ count meta old.meta
   index_count asked line cursor piece from result old new (inl w) =
@@ -226,14 +220,14 @@ module _ {S M : Type 0} (store : StoreGhosts S) (meta : MetaGhosts M) where
   index_count asked line cursor piece from result old new (inr w) =
       fetched_count (wanted_at asked from) line (Index piece) w.1.0 old new w.1.1
 
-  log_count : (asked : Asked) (line : List (ℕ × ℕ)) (piece : Piece) (from : ℕ) (span : Span) (result : Result TimeTurn AllocError)
+  log_count : (asked : Asked) (line : List (ℕ × ℕ)) (piece : Piece) (from : ℕ) (span : Span) (result : Result (Turn (ℕ × Dating)) AllocError)
       (old new : Fetched S M) → SearchLogRow store.content store.control meta.content meta.control asked line piece from span result old new
       → count meta new.meta ≤ count meta old.meta
   log_count asked line piece from span result old new (inl w) = same_count meta old.meta new.meta (ap (λ (t : Fetched S M). t.meta) w.2)
   log_count asked line piece from span result old new (inr w) =
       fetched_count (wanted_at asked from) line (Log piece span) w.1.0 old new w.1.1
 
-  pub time_count : (asked : Asked) (line : List (ℕ × ℕ)) (cursor : ℕ) (next : Dating) (turn : TimeTurn) (old new : Fetched S M)
+  pub time_count : (asked : Asked) (line : List (ℕ × ℕ)) (cursor : ℕ) (next : Dating) (turn : Turn (ℕ × Dating)) (old new : Fetched S M)
       → TimeRow store.content store.control meta.content meta.control asked line cursor next (Ok turn) old new
       → count meta new.meta ≤ count meta old.meta
   time_count asked line cursor search.Seek turn old new w = seeking_count asked line cursor turn old.view new.view old.meta new.meta w.1
@@ -253,30 +247,30 @@ module _ {S M : Type 0} (store : StoreGhosts S) (meta : MetaGhosts M) where
 
   -- a turn of an expiry
 
-  begin_told : (g : StartSnapshot) (segment : ExpiredSegment) (origin : EventOrigin) (turn : ExpiryTurn) (old new : M) → expiring.StartRow meta.content meta.control segment origin (Ok turn) old new → IsTrue (meta.content old).is_observable
+  begin_told : (g : StartSnapshot) (segment : ExpiredSegment) (origin : EventOrigin) (turn : Turn Deletion) (old new : M) → expiring.StartRow meta.content meta.control segment origin (Ok turn) old new → IsTrue (meta.content old).is_observable
       → count meta new + told_by (Expires g segment deletion.Start) ≤ count meta old + deleted_turn g segment turn
-  begin_told g segment origin (expiry.Ends MetaFault) old new w is_observable = let most = appends_most meta _ _ old new w is_observable in omega (arith, most)
+  begin_told g segment origin (Ends MetaFault) old new w is_observable = let most = appends_most meta _ _ old new w is_observable in omega (arith, most)
   begin_told g segment origin turn old new w is_observable =
       let most = appends_most meta _ _ old new w.1 is_observable in
       let told : deleted_turn g segment turn ≡ 1 = ap (deleted_turn g segment) w.0 in
       omega (arith, most, told)
 
-  end_told : (g : StartSnapshot) (segment : ExpiredSegment) (origin : EventOrigin) (turn : ExpiryTurn) (old new : M) → expiring.FinishRow meta.content meta.control segment origin (Ok turn) old new → IsTrue (meta.content old).is_observable
+  end_told : (g : StartSnapshot) (segment : ExpiredSegment) (origin : EventOrigin) (turn : Turn Deletion) (old new : M) → expiring.FinishRow meta.content meta.control segment origin (Ok turn) old new → IsTrue (meta.content old).is_observable
       → count meta new + told_by (Expires g segment deletion.Finish) ≤ count meta old + deleted_turn g segment turn
-  end_told g segment origin (expiry.Ends MetaFault) old new w is_observable = let most = appends_most meta _ _ old new w is_observable in omega (arith, most)
+  end_told g segment origin (Ends MetaFault) old new w is_observable = let most = appends_most meta _ _ old new w is_observable in omega (arith, most)
   end_told g segment origin turn old new w is_observable =
       let most = appends_most meta _ _ old new w.1 is_observable in
       let told : deleted_turn g segment turn ≡ 2 = ap (deleted_turn g segment) w.0 in
       omega (arith, most, told)
 
-  object_most : (g : StartSnapshot) (segment : ExpiredSegment) (n : ℕ) (key : Option ObjectKey) (turn : ExpiryTurn) (old new : S) → expiring.DeleteRow store.content store.control segment n key turn old new
+  object_most : (g : StartSnapshot) (segment : ExpiredSegment) (n : ℕ) (key : Option ObjectKey) (turn : Turn Deletion) (old new : S) → expiring.DeleteRow store.content store.control segment n key turn old new
       → 1 ≤ deleted_turn g segment turn
   object_most g segment n None turn old new w = let told : deleted_turn g segment turn ≡ 1 = ap (deleted_turn g segment) w.0 in omega (arith, told)
-  object_most g segment n (Some key) (expiry.Ends StoreFault) old new w = omega arith
+  object_most g segment n (Some key) (Ends StoreFault) old new w = omega arith
   object_most g segment n (Some key) turn old new w =
       let told = ap (deleted_turn g segment) w.0 ∙ next_told g segment (n + 1) (slice_get (expiring.keys segment) (n + 1)) in omega (arith, told)
 
-  pub expiry_told : (g : StartSnapshot) (segment : ExpiredSegment) (origin : EventOrigin) (next : Deletion) (turn : ExpiryTurn) (old new : expiring.Tiers S M)
+  pub expiry_told : (g : StartSnapshot) (segment : ExpiredSegment) (origin : EventOrigin) (next : Deletion) (turn : Turn Deletion) (old new : expiring.Tiers S M)
       → expiring.ExpiryRow store.content store.control meta.content meta.control segment origin next (Ok turn) old new → IsTrue (meta.content old.meta).is_observable
       → count meta new.meta + told_by (Expires g segment next) ≤ count meta old.meta + deleted_turn g segment turn
   expiry_told g segment origin deletion.Start turn old new w is_observable = begin_told g segment origin turn old.meta new.meta w.1 is_observable
@@ -292,10 +286,10 @@ module _ {S M : Type 0} (store : StoreGhosts S) (meta : MetaGhosts M) where
   expiry_wants segment origin (deletion.Delete n) e old new w is_observable = absurd w
   expiry_wants segment origin deletion.Finish e old new w is_observable = appends_none meta _ old.meta new.meta w.1 is_observable
 
-  pub deletes_told : (g : StartSnapshot) (segment : ExpiredSegment) (next : Deletion) (turn : ExpiryTurn) (outcome : Outcome) → outcome ≡ expiry_outcome turn
+  pub deletes_told : (g : StartSnapshot) (segment : ExpiredSegment) (next : Deletion) (turn : Turn Deletion) (outcome : Outcome) → outcome ≡ expiry_outcome turn
       → told_after (Expires g segment next) outcome ≡ deleted_turn g segment turn
-  deletes_told g segment next (expiry.Goes then) outcome is = ap (told_after (Expires g segment next)) is
-  deletes_told g segment next (expiry.Ends answer) outcome is = ap (told_after (Expires g segment next)) is
+  deletes_told g segment next (GoesOn then) outcome is = ap (told_after (Expires g segment next)) is
+  deletes_told g segment next (Ends answer) outcome is = ap (told_after (Expires g segment next)) is
 
   -- one that ran out of memory
   pub copy_wants : (copy : Copied) (origin : EventOrigin) (next : CopyStep) (e : AllocError) (old new : Tiers S M)
@@ -308,6 +302,6 @@ module _ {S M : Type 0} (store : StoreGhosts S) (meta : MetaGhosts M) where
   copy_wants copy origin Check e old new w is_observable = keeps_count meta old.meta new.meta w.1.content
   copy_wants copy origin (Delete n) e old new w is_observable = absurd w
 
-  pub turn_told : (g : StartSnapshot) (copy : Copied) (next : CopyStep) (turn : CopyTurn) (outcome : Outcome) → outcome ≡ copy_outcome turn → told_after (Copies g copy next) outcome ≡ told_turn g copy turn
+  pub turn_told : (g : StartSnapshot) (copy : Copied) (next : CopyStep) (turn : Turn CopyStep) (outcome : Outcome) → outcome ≡ copy_outcome turn → told_after (Copies g copy next) outcome ≡ told_turn g copy turn
   turn_told g copy next (GoesOn then) outcome is = ap (told_after (Copies g copy next)) is
   turn_told g copy next (Ends answer) outcome is = ap (told_after (Copies g copy next)) is

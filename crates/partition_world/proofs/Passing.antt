@@ -29,8 +29,8 @@ use Rattle.partition_commands.proofs.RunsShown.{run_shown}
 use Rattle.time_find.specs.declared.turn.Asked.{Asked}
 use Rattle.time_find.specs.declared.turn.SearchStep.{SearchStep}
 use Rattle.time_find.specs.declared.turn.SearchStep.TheVariants.{Seek}
-use Rattle.time_find.specs.declared.turn.TimeTurn.{TimeTurn}
-use Rattle.time_find.specs.declared.turn.TimeTurn.TheVariants.{Goes, Ends}
+use Rattle.plain_log.specs.declared.turn.Turn.{Turn}
+use Rattle.plain_log.specs.declared.turn.Turn.TheVariants.{Goes, Ends}
 use Rattle.time_find.specs.Dates.{AreAllChecked}
 use Rattle.time_find.specs.Passing.{is_passed, passed_over}
 use Rattle.time_find.specs.Turns.{IsSearched, SearchesRun, ReadLocalRow, LocalSearchRow}
@@ -172,12 +172,12 @@ are_checked (batch ∷ run) each = (each.0, are_checked run each.1)
 
 -- what a turn came to, of a log that is seen so: where it continues, all before it is too early; an offset that it
 -- answers is that of the timestamp
-pub record OwnComes (asked : Asked) (log : List (List ℕ)) (turn : TimeTurn) : Type 0 where
-  pub goes : (at : ℕ) (later : SearchStep) → turn ≡ Goes at later → (later ≡ Seek) × HasPassed asked.ts asked.start log at
+pub record OwnComes (asked : Asked) (log : List (List ℕ)) (turn : Turn (ℕ × SearchStep)) : Type 0 where
+  pub goes : (at : ℕ) (later : SearchStep) → turn ≡ Goes (at, later) → (later ≡ Seek) × HasPassed asked.ts asked.start log at
   pub ends : (answer : Answer) → turn ≡ Ends answer → (answer ≡ DiskFault)
       ⊎ ((n : ℕ) × (answer ≡ Offset n) × (first_at asked.ts asked.start (from_offset asked.start (up_to asked.mark log)) ≡ Some n))
 
-goes_to : (asked : Asked) (log : List (List ℕ)) (n : ℕ) → HasPassed asked.ts asked.start log n → OwnComes asked log (Goes n Seek)
+goes_to : (asked : Asked) (log : List (List ℕ)) (n : ℕ) → HasPassed asked.ts asked.start log n → OwnComes asked log (Goes (n, Seek))
 goes_to asked log n h = record {
   goes = λ at later e.
       (let there : n ≡ at = cc (e) in
@@ -190,7 +190,7 @@ module _ {D : Type 0} (content : D → Content) (control : D → Control call_co
   module _ (asked : Asked) (old new : LogState D) (s : LogSeen) (up : is_up old ≡ true) (shows : ShowsSeen content old s) (c : IsConsecutive 0 s.batches) (line : IsLineFor s.line s.batches)
       (known : EndsAt asked.mark s.batches) where
     -- a run that is searched at an offset
-    searched : (at : ℕ) (turn : TimeTurn) → asked.start ≤ at → HasPassed asked.ts asked.start s.batches at → SearchesRun content control old asked at turn new → OwnComes asked s.batches turn
+    searched : (at : ℕ) (turn : Turn (ℕ × SearchStep)) → asked.start ≤ at → HasPassed asked.ts asked.start s.batches at → SearchesRun content control old asked at turn new → OwnComes asked s.batches turn
     searched at turn low h r = comes turn (subst (λ (bytes : List ℕ). IsSearched asked at bytes turn) run.bytes r.searched)
       where
         run : IsRunInLog old s at (2 ^ 64 - 1) asked.mark r.out
@@ -199,11 +199,11 @@ module _ {D : Type 0} (content : D → Content) (control : D → Control call_co
         read : IsRunOf s.batches at (2 ^ 64 - 1) asked.mark r.out.stop run.run
         read = run_shown old s at (2 ^ 64 - 1) asked.mark r.out c line run
 
-        comes : (u : TimeTurn) → IsSearched asked at (joined run.run) u → OwnComes asked s.batches u
-        comes (Goes n Seek) k =
+        comes : (u : Turn (ℕ × SearchStep)) → IsSearched asked at (joined run.run) u → OwnComes asked s.batches u
+        comes (Goes (n, Seek)) k =
             goes_to asked s.batches n
             ((runs_are_searched asked at n (2 ^ 64 - 1) s.batches run.run r.out.stop c h low read (are_checked run.run run.are)).1 k).0
-        comes (Goes n other) k = absurd k
+        comes (Goes (n, other)) k = absurd k
         comes (Ends (Offset n)) k = record {
           goes = λ to later e. absurd (cc (e));
           ends = λ answer e.
@@ -212,7 +212,7 @@ module _ {D : Type 0} (content : D → Content) (control : D → Control call_co
         }
         comes (Ends other) k = absurd k
 
-    read_comes : (at : ℕ) (turn : TimeTurn) → asked.start ≤ at → HasPassed asked.ts asked.start s.batches at → ReadLocalRow content control old asked at turn new → OwnComes asked s.batches turn
+    read_comes : (at : ℕ) (turn : Turn (ℕ × SearchStep)) → asked.start ≤ at → HasPassed asked.ts asked.start s.batches at → ReadLocalRow content control old asked at turn new → OwnComes asked s.batches turn
     read_comes at (Ends DiskFault) low h row = record {
       goes = λ to later e. absurd (cc (e));
       ends = λ answer e. (let is : DiskFault ≡ answer = cc (e) in inl (sym is));
@@ -220,7 +220,7 @@ module _ {D : Type 0} (content : D → Content) (control : D → Control call_co
     read_comes at (Ends (Damaged (File name) place)) low h row = absurd (row.misreads.unmarked s shows known)
     read_comes at turn low h row = searched at turn low h row
 
-    pub own_comes : (cursor : ℕ) (turn : TimeTurn) → asked.start ≤ cursor → HasPassed asked.ts asked.start s.batches cursor → LocalSearchRow content control old asked cursor turn new
+    pub own_comes : (cursor : ℕ) (turn : Turn (ℕ × SearchStep)) → asked.start ≤ cursor → HasPassed asked.ts asked.start s.batches cursor → LocalSearchRow content control old asked cursor turn new
         → OwnComes asked s.batches turn
     own_comes cursor turn low h (inl (far, is, same)) =
         subst (OwnComes asked s.batches) (sym is)
@@ -231,15 +231,15 @@ module _ {D : Type 0} (content : D → Content) (control : D → Control call_co
         (closed_passed content old s asked.ts asked.start cursor up shows h) row
 
   -- a turn leaves the log as it was
-  run_rests : (old new : LogState D) (asked : Asked) (at : ℕ) (turn : TimeTurn) → SearchesRun content control old asked at turn new → LogStays content old new
+  run_rests : (old new : LogState D) (asked : Asked) (at : ℕ) (turn : Turn (ℕ × SearchStep)) → SearchesRun content control old asked at turn new → LogStays content old new
   run_rests old new asked at turn r = r.reads.stays
 
-  read_rests : (old new : LogState D) (asked : Asked) (at : ℕ) (turn : TimeTurn) → ReadLocalRow content control old asked at turn new → LogStays content old new
+  read_rests : (old new : LogState D) (asked : Asked) (at : ℕ) (turn : Turn (ℕ × SearchStep)) → ReadLocalRow content control old asked at turn new → LogStays content old new
   read_rests old new asked at (Ends DiskFault) row = row.0
   read_rests old new asked at (Ends (Damaged (File name) place)) row = row.misreads.stays
   read_rests old new asked at turn row = run_rests old new asked at turn row
 
-  pub own_rests : (old new : LogState D) (asked : Asked) (cursor : ℕ) (turn : TimeTurn) → LocalSearchRow content control old asked cursor turn new
+  pub own_rests : (old new : LogState D) (asked : Asked) (cursor : ℕ) (turn : Turn (ℕ × SearchStep)) → LocalSearchRow content control old asked cursor turn new
       → (new ≡ old) ⊎ LogStays content old new
   own_rests old new asked cursor turn (inl (far, is, same)) = inl same
   own_rests old new asked cursor turn (inr (near, row)) = inr (read_rests old new asked (passed_over asked.ts cursor (closed_in old)) turn row)

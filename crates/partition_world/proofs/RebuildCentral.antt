@@ -11,8 +11,9 @@ use Rattle.segment_meta.specs.declared.note.Note.{Note}
 use Rattle.remote_view.specs.Fold.{EntriesSeen as View}
 use Rattle.registry.specs.declared.registry.Registry.{Registry}
 use Rattle.rebuild_task.specs.declared.turn.RebuildStep.TheVariants.{Epochs, Restart}
-use Rattle.rebuild_task.specs.declared.turn.RebuildTurn.{RebuildTurn}
-use Rattle.rebuild_task.specs.declared.turn.RebuildTurn.TheVariants.{Goes, Ends}
+use Rattle.rebuild_task.specs.declared.turn.RebuildStep.{RebuildStep}
+use Rattle.plain_log.specs.declared.turn.Turn.{Turn}
+use Rattle.plain_log.specs.declared.turn.Turn.TheVariants.{Goes, Ends}
 use Rattle.plain_log.specs.declared.answer.Answer.{Answer}
 use Rattle.plain_log.specs.declared.answer.Answer.TheVariants.{MetaFault, StoreFault, Damaged, Stopped, StaleEpoch, Passed, BelowStart, DiskFaultAt, Rebuilt}
 use Rattle.plain_log.specs.declared.command.Command.{Command}
@@ -180,7 +181,7 @@ module _ {D S M : Type 0} (disk : DiskGhosts D) (store : StoreGhosts S) (meta : 
       }
 
       -- what it answers
-      ends : (answer : Answer) → outcome ≡ Answers answer → MayTurn (Ends answer) → (turn : RebuildTurn) → GoesOnRebuild store w.partition w.tier z.broker_tier g turn w'.tier → w'.held ≡ w.held → IsCentral disk store meta opening w'
+      ends : (answer : Answer) → outcome ≡ Answers answer → MayTurn (Ends answer) → (turn : Turn RebuildStep) → GoesOnRebuild store w.partition w.tier z.broker_tier g turn w'.tier → w'.held ≡ w.held → IsCentral disk store meta opening w'
       ends StoreFault is may turn goes same =
           let kept = rebuild_kept store (wanted_of w.partition g) g.line z.broker_tier.view (Ok turn) w.tier.store w'.tier.store goes.row in
           rests disk store meta opening w a outcome w' t c z Join joins (Rebuilds g Epochs) works StoreFault is refl (ap (λ (u : RemoteTier S M). u.broker_tiers) goes.after)
@@ -213,10 +214,10 @@ module _ {D S M : Type 0} (disk : DiskGhosts D) (store : StoreGhosts S) (meta : 
           ∙ (ap (λ (u : InProgress). work_of (slice_get t.list.orders t.actor_state.number) (rebuilding u (Restart line))) works
           ∙ (ap (λ (o : Option Order). work_of o (Rebuilds g (Restart line))) z.next ∙ sym (ap (work_of (Some t.order)) works)))))
 
-      pub join_reads : (turn : RebuildTurn) → outcome ≡ rebuild_outcome turn → GoesOnRebuild store w.partition w.tier z.broker_tier g turn w'.tier → w'.held ≡ w.held → IsCentral disk store meta opening w'
+      pub join_reads : (turn : Turn RebuildStep) → outcome ≡ rebuild_outcome turn → GoesOnRebuild store w.partition w.tier z.broker_tier g turn w'.tier → w'.held ≡ w.held → IsCentral disk store meta opening w'
       join_reads turn is goes same = by turn is goes (rebuild_may_turn store (wanted_of w.partition g) g.line z.broker_tier.view turn w.tier.store w'.tier.store goes.row)
         where
-          by : (turn : RebuildTurn) → outcome ≡ rebuild_outcome turn → GoesOnRebuild store w.partition w.tier z.broker_tier g turn w'.tier → MayTurn turn → IsCentral disk store meta opening w'
+          by : (turn : Turn RebuildStep) → outcome ≡ rebuild_outcome turn → GoesOnRebuild store w.partition w.tier z.broker_tier g turn w'.tier → MayTurn turn → IsCentral disk store meta opening w'
           by (Ends answer) is goes may = ends answer is may (Ends answer) goes same
           by (Goes (Restart line)) is goes may = reads line is goes same
           by (Goes next) is goes may = elim may [ ]

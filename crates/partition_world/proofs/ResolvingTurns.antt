@@ -12,14 +12,13 @@ use Rattle.expiry_task.specs.declared.turn.ExpiredSegment.{ExpiredSegment}
 use Rattle.expiry_task.specs.declared.turn.DeletionStep.{DeletionStep as Deletion}
 use Rattle.rebuild_task.specs.declared.turn.RebuildStep.{RebuildStep as Rebuild}
 use Rattle.rebuild_task.specs.declared.turn.RebuildStep.TheVariants.{Epochs, Restart}
-use Rattle.tier_fetch.specs.declared.turn.FetchTurn.{FetchTurn}
 use Rattle.tier_fetch.specs.declared.turn.FetchStep.{FetchStep as Search}
 use Rattle.tier_fetch.specs.declared.turn.FetchStep.TheVariants.{Refresh}
 use Rattle.time_find.specs.declared.turn.Asked.{Asked}
 use Rattle.time_find.specs.declared.turn.SearchStep.{SearchStep as Dating}
 use Rattle.time_find.specs.declared.turn.SearchStep.TheVariants.{Seek}
-use Rattle.time_find.specs.declared.turn.TimeTurn.{TimeTurn}
-use Rattle.time_find.specs.declared.turn.TimeTurn.TheVariants as dating
+use Rattle.plain_log.specs.declared.turn.Turn.{Turn}
+use Rattle.plain_log.specs.declared.turn.Turn.TheVariants as dating
 use Rattle.plain_log.specs.declared.answer.Answer.TheVariants.{Down, NotLeader, CopyOff, MetaFault, Stopped, OutOfRange, Empty, NoOffset}
 use Rattle.plain_log.specs.declared.command.ActorList.{ActorList}
 use Rattle.plain_log.specs.declared.command.Command.{Command}
@@ -152,7 +151,7 @@ module _ {D S M : Type 0} (disk : DiskGhosts D) (store : StoreGhosts S) (meta : 
       let a = copies_on h t b broker_tier copy next turn t' goes is_observable l' left in (a.0, a.1, (inr (keeps, (turn, is, a.2)), same))
   copying h t b x broker_tier g copy next command outcome h' t' w is_observable l' left = elim w [ ]
 
-  fetches_on : (p : PartitionId) (t : RemoteTier S M) (b : ℕ) (x : Node D) (broker_tier : BrokerTierState) (offset limit : ℕ) (next : Search) (turn : FetchTurn) (t' : RemoteTier S M)
+  fetches_on : (p : PartitionId) (t : RemoteTier S M) (b : ℕ) (x : Node D) (broker_tier : BrokerTierState) (offset limit : ℕ) (next : Search) (turn : Turn Search) (t' : RemoteTier S M)
       → GoesOnFetch store meta p t b x broker_tier offset limit next turn t' → Tells meta t.meta → (l' : List Note) → Left (meta.content t'.meta) l'
       → Before meta t.meta (λ l. GoesOnFetch store (resolved meta) p (tier_with t l) b x broker_tier offset limit next turn (tier_with t' l'))
   fetches_on p t b x broker_tier offset limit next turn t' k is_observable l' left =
@@ -173,21 +172,21 @@ module _ {D S M : Type 0} (disk : DiskGhosts D) (store : StoreGhosts S) (meta : 
       let a = fetches_on p t b x broker_tier offset limit next _ t' w.1 is_observable l' left in (a.0, a.1, (w.0, a.2, w.2))
   fetching p h t b x broker_tier g offset limit next other t' w is_observable l' left = elim w [ ]
 
-  searches_remote : (t : RemoteTier S M) (b : ℕ) (broker_tier : BrokerTierState) (line : List (ℕ × ℕ)) (asked : Asked) (cursor : ℕ) (next : Dating) (turn : TimeTurn) (t' : RemoteTier S M)
+  searches_remote : (t : RemoteTier S M) (b : ℕ) (broker_tier : BrokerTierState) (line : List (ℕ × ℕ)) (asked : Asked) (cursor : ℕ) (next : Dating) (turn : Turn (ℕ × Dating)) (t' : RemoteTier S M)
       → SearchesRemote store meta t b broker_tier line asked cursor next turn t' → Tells meta t.meta → (l' : List Note) → Left (meta.content t'.meta) l'
       → Before meta t.meta (λ l. SearchesRemote store (resolved meta) (tier_with t l) b broker_tier line asked cursor next turn (tier_with t' l'))
   searches_remote t b broker_tier line asked cursor next turn t' k is_observable l' left =
       let a = time_row store meta asked line cursor next _ (fetch_tiers broker_tier.view broker_tier.cache t) (fetch_tiers k.view k.cache t') k.row is_observable l' left in
       (a.0, a.1, record { view = k.view; cache = k.cache; row = a.2; after = ap (λ (u : RemoteTier S M). tier_with u l') k.after })
 
-  search_row : (own : Bool) (h : PartitionState D) (t : RemoteTier S M) (b : ℕ) (x : Node D) (broker_tier : BrokerTierState) (asked : Asked) (cursor : ℕ) (next : Dating) (turn : TimeTurn) (h' : PartitionState D) (t' : RemoteTier S M)
+  search_row : (own : Bool) (h : PartitionState D) (t : RemoteTier S M) (b : ℕ) (x : Node D) (broker_tier : BrokerTierState) (asked : Asked) (cursor : ℕ) (next : Dating) (turn : Turn (ℕ × Dating)) (h' : PartitionState D) (t' : RemoteTier S M)
       → SearchRow disk store meta h t b x broker_tier asked cursor next own turn h' t' → Tells meta t.meta → (l' : List Note) → Left (meta.content t'.meta) l'
       → Before meta t.meta (λ l. SearchRow disk store (resolved meta) h (tier_with t l) b x broker_tier asked cursor next own turn h' (tier_with t' l'))
   search_row true h t b x broker_tier asked cursor next turn h' t' w is_observable l' left = let a = tier_same t t' w.1 l' left in (a.0, a.1, (w.0, a.2))
   search_row false h t b x broker_tier asked cursor next turn h' t' w is_observable l' left =
       let a = searches_remote t b broker_tier (line_of x) asked cursor next turn t' w.0 is_observable l' left in (a.0, a.1, (a.2, w.1))
 
-  searching : (p : PartitionId) (h : PartitionState D) (t : RemoteTier S M) (b : ℕ) (x : Node D) (broker_tier : BrokerTierState) (g : StartSnapshot) (ts : ℤ) (cursor : ℕ) (next : Dating) (turn : TimeTurn) (h' : PartitionState D) (t' : RemoteTier S M)
+  searching : (p : PartitionId) (h : PartitionState D) (t : RemoteTier S M) (b : ℕ) (x : Node D) (broker_tier : BrokerTierState) (g : StartSnapshot) (ts : ℤ) (cursor : ℕ) (next : Dating) (turn : Turn (ℕ × Dating)) (h' : PartitionState D) (t' : RemoteTier S M)
       → SearchesOn disk store meta p h t b x broker_tier g ts cursor next turn h' t' → Tells meta t.meta → (l' : List Note) → Left (meta.content t'.meta) l'
       → Before meta t.meta (λ l. SearchesOn disk store (resolved meta) p h (tier_with t l) b x broker_tier g ts cursor next turn h' (tier_with t' l'))
   searching p h t b x broker_tier g ts cursor next turn h' t' k is_observable l' left =
@@ -205,7 +204,7 @@ module _ {D S M : Type 0} (disk : DiskGhosts D) (store : StoreGhosts S) (meta : 
   dated p h t b x broker_tier g ts cursor next (Answers answer) h' t' w is_observable l' left =
       searching p h t b x broker_tier g ts cursor next (dating.Ends answer) h' t' w is_observable l' left
   dated p h t b x broker_tier g ts cursor next (Dated later after) h' t' w is_observable l' left =
-      let a = searching p h t b x broker_tier g ts cursor next (dating.Goes later after) h' t' w.0 is_observable l' left in (a.0, a.1, (a.2, w.1))
+      let a = searching p h t b x broker_tier g ts cursor next (dating.Goes (later, after)) h' t' w.0 is_observable l' left in (a.0, a.1, (a.2, w.1))
   dated p h t b x broker_tier g ts cursor next other h' t' w is_observable l' left = elim w [ ]
 
   refreshed_row : (t : RemoteTier S M) (b : ℕ) (broker_tier : BrokerTierState) (outcome : Outcome) (t' : RemoteTier S M) → RefreshedRow meta t b broker_tier outcome t' → Tells meta t.meta → (l' : List Note) → Left (meta.content t'.meta) l'

@@ -16,13 +16,12 @@ use Rattle.rebuild_task.specs.declared.turn.RebuildStep.{RebuildStep as Rebuild}
 use Rattle.rebuild_task.specs.declared.turn.RebuildStep.TheVariants.{Epochs, Restart}
 use Rattle.tier_fetch.specs.declared.turn.FetchStep.{FetchStep as Search}
 use Rattle.tier_fetch.specs.declared.turn.FetchStep.TheVariants.{Refresh}
-use Rattle.tier_fetch.specs.declared.turn.FetchTurn.{FetchTurn}
 use Rattle.time_find.specs.Turns.{LocalSearchRow as OwnSearchRow, ReadLocalRow as SearchReadRow}
 use Rattle.time_find.specs.declared.turn.Asked.{Asked}
 use Rattle.time_find.specs.declared.turn.SearchStep.{SearchStep as Dating}
 use Rattle.time_find.specs.declared.turn.SearchStep.TheVariants.{Seek}
-use Rattle.time_find.specs.declared.turn.TimeTurn.{TimeTurn}
-use Rattle.time_find.specs.declared.turn.TimeTurn.TheVariants as dating
+use Rattle.plain_log.specs.declared.turn.Turn.{Turn}
+use Rattle.plain_log.specs.declared.turn.Turn.TheVariants as dating
 use Rattle.plain_log.specs.declared.answer.Answer.{Answer}
 use Rattle.plain_log.specs.declared.answer.Answer.TheVariants.{Down, NotLeader, CopyOff, MetaFault, DiskFault, Damaged, Stopped, OutOfRange, Empty, Kept, StaleEpoch, Raised, OkAt, NoOffset}
 use Rattle.plain_log.specs.declared.answer.Place.TheVariants.{File}
@@ -92,13 +91,13 @@ module _ {D : Type 0} (disk : DiskGhosts D) where
   next_alike p b x broker_tier offset other x' broker_tier' w = elim w [ ]
 
   -- a node whose log a search read
-  search_stays : (old : KeptLog D) (asked : Asked) (at : ℕ) (turn : TimeTurn) (new : KeptLog D)
+  search_stays : (old : KeptLog D) (asked : Asked) (at : ℕ) (turn : Turn (ℕ × Dating)) (new : KeptLog D)
       → SearchReadRow disk.content disk.control old asked at turn new → LogStays disk.content old new
   search_stays old asked at (dating.Ends DiskFault) new w = w.0
   search_stays old asked at (dating.Ends (Damaged (File name) place)) new w = w.misreads.stays
   search_stays old asked at turn new w = w.reads.stays
 
-  search_alike : (x : Node D) (asked : Asked) (cursor : ℕ) (turn : TimeTurn) (kept : KeptLog D)
+  search_alike : (x : Node D) (asked : Asked) (cursor : ℕ) (turn : Turn (ℕ × Dating)) (kept : KeptLog D)
       → OwnSearchRow disk.content disk.control x.log asked cursor turn kept → Alike x (record x { log = kept })
   search_alike x asked cursor turn kept (inl (past, is, same)) =
       subst (λ (k : KeptLog D). Alike x (record x { log = k })) (sym same) (record { role = refl; known_high_watermark = refl; up = refl; line = refl })
@@ -140,7 +139,7 @@ module _ {D S M : Type 0} (disk : DiskGhosts D) (store : StoreGhosts S) (meta : 
 
   -- a timestamp lookup reads its broker's log at most
   search_sound : (n : ℕ) (h : PartitionState D) (t : RemoteTier S M) (b : ℕ) (x : Node D) (broker_tier : BrokerTierState) (asked : Asked) (cursor : ℕ) (next : Dating)
-      (own : Bool) (turn : TimeTurn) (h' : PartitionState D) (t' : RemoteTier S M) → slice_get h.nodes b ≡ Some x → SoundPartition n h
+      (own : Bool) (turn : Turn (ℕ × Dating)) (h' : PartitionState D) (t' : RemoteTier S M) → slice_get h.nodes b ≡ Some x → SoundPartition n h
       → SearchRow disk store meta h t b x broker_tier asked cursor next own turn h' t' → SoundPartition n h'
   search_sound n h t b x broker_tier asked cursor next true turn h' t' at s w =
       put_is n h b (record x { log = w.0.kept }) h' w.0.after s
@@ -148,7 +147,7 @@ module _ {D S M : Type 0} (disk : DiskGhosts D) (store : StoreGhosts S) (meta : 
   search_sound n h t b x broker_tier asked cursor next false turn h' t' at s w = same n h h' w.1 s
 
   searches_sound : (n : ℕ) (p : PartitionId) (h : PartitionState D) (t : RemoteTier S M) (b : ℕ) (x : Node D) (broker_tier : BrokerTierState) (g : StartSnapshot) (ts : ℤ)
-      (cursor : ℕ) (next : Dating) (turn : TimeTurn) (h' : PartitionState D) (t' : RemoteTier S M) → slice_get h.nodes b ≡ Some x → SoundPartition n h
+      (cursor : ℕ) (next : Dating) (turn : Turn (ℕ × Dating)) (h' : PartitionState D) (t' : RemoteTier S M) → slice_get h.nodes b ≡ Some x → SoundPartition n h
       → SearchesOn disk store meta p h t b x broker_tier g ts cursor next turn h' t' → SoundPartition n h'
   searches_sound n p h t b x broker_tier g ts cursor next turn h' t' at s w =
       let on = resumed_at h.registry.start cursor in
@@ -164,7 +163,7 @@ module _ {D S M : Type 0} (disk : DiskGhosts D) (store : StoreGhosts S) (meta : 
   date_sound n p h t b x broker_tier g ts cursor next (Answers answer) h' t' at s w =
       searches_sound n p h t b x broker_tier g ts cursor next (dating.Ends answer) h' t' at s w
   date_sound n p h t b x broker_tier g ts cursor next (Dated later after) h' t' at s w =
-      searches_sound n p h t b x broker_tier g ts cursor next (dating.Goes later after) h' t' at s w.0
+      searches_sound n p h t b x broker_tier g ts cursor next (dating.Goes (later, after)) h' t' at s w.0
   date_sound n p h t b x broker_tier g ts cursor next other h' t' at s w = elim w [ ]
 
   recorded_sound : (n : ℕ) (p : PartitionId) (config : Config) (h : PartitionState D) (t : RemoteTier S M) (b : ℕ) (x : Node D) (broker_tier : BrokerTierState) (g : StartSnapshot) (command : Command) (outcome : Outcome) (h' : PartitionState D) (t' : RemoteTier S M)
@@ -249,7 +248,7 @@ module _ {D S M : Type 0} (disk : DiskGhosts D) (store : StoreGhosts S) (meta : 
   choose_broker_tiers p h t b x broker_tier g outcome h' t' (inr (keeps, inl level)) = ap (λ (k : RemoteTier S M). length k.broker_tiers) level.3
   choose_broker_tiers p h t b x broker_tier g outcome h' t' (inr (keeps, inr reads)) = broker_tiers_put t b reads.broker_tier_after t' (ap (λ (k : RemoteTier S M). k.broker_tiers) reads.tier)
 
-  goes_broker_tiers : (p : PartitionId) (t : RemoteTier S M) (b : ℕ) (x : Node D) (broker_tier : BrokerTierState) (offset limit : ℕ) (next : Search) (turn : FetchTurn) (t' : RemoteTier S M)
+  goes_broker_tiers : (p : PartitionId) (t : RemoteTier S M) (b : ℕ) (x : Node D) (broker_tier : BrokerTierState) (offset limit : ℕ) (next : Search) (turn : Turn Search) (t' : RemoteTier S M)
       → GoesOnFetch store meta p t b x broker_tier offset limit next turn t' → length t'.broker_tiers ≡ length t.broker_tiers
   goes_broker_tiers p t b x broker_tier offset limit next turn t' k = broker_tiers_put t b (record broker_tier { view = k.view; cache = k.cache }) t' (ap (λ (k : RemoteTier S M). k.broker_tiers) k.after)
 
@@ -264,14 +263,14 @@ module _ {D S M : Type 0} (disk : DiskGhosts D) (store : StoreGhosts S) (meta : 
   fetch_broker_tiers p h t b x broker_tier g offset limit next other t' w = elim w [ ]
 
   search_broker_tiers : (h : PartitionState D) (t : RemoteTier S M) (b : ℕ) (x : Node D) (broker_tier : BrokerTierState) (asked : Asked) (cursor : ℕ) (next : Dating) (own : Bool)
-      (turn : TimeTurn) (h' : PartitionState D) (t' : RemoteTier S M) → SearchRow disk store meta h t b x broker_tier asked cursor next own turn h' t'
+      (turn : Turn (ℕ × Dating)) (h' : PartitionState D) (t' : RemoteTier S M) → SearchRow disk store meta h t b x broker_tier asked cursor next own turn h' t'
       → length t'.broker_tiers ≡ length t.broker_tiers
   search_broker_tiers h t b x broker_tier asked cursor next true turn h' t' w = ap (λ (k : RemoteTier S M). length k.broker_tiers) w.1
   search_broker_tiers h t b x broker_tier asked cursor next false turn h' t' w =
       broker_tiers_put t b (record broker_tier { view = w.0.view; cache = w.0.cache }) t' (ap (λ (k : RemoteTier S M). k.broker_tiers) w.0.after)
 
   searches_broker_tiers : (p : PartitionId) (h : PartitionState D) (t : RemoteTier S M) (b : ℕ) (x : Node D) (broker_tier : BrokerTierState) (g : StartSnapshot) (ts : ℤ) (cursor : ℕ)
-      (next : Dating) (turn : TimeTurn) (h' : PartitionState D) (t' : RemoteTier S M)
+      (next : Dating) (turn : Turn (ℕ × Dating)) (h' : PartitionState D) (t' : RemoteTier S M)
       → SearchesOn disk store meta p h t b x broker_tier g ts cursor next turn h' t' → length t'.broker_tiers ≡ length t.broker_tiers
   searches_broker_tiers p h t b x broker_tier g ts cursor next turn h' t' w =
       let on = resumed_at h.registry.start cursor in
@@ -287,7 +286,7 @@ module _ {D S M : Type 0} (disk : DiskGhosts D) (store : StoreGhosts S) (meta : 
   date_broker_tiers p h t b x broker_tier g ts cursor next (Answers answer) h' t' w =
       searches_broker_tiers p h t b x broker_tier g ts cursor next (dating.Ends answer) h' t' w
   date_broker_tiers p h t b x broker_tier g ts cursor next (Dated later after) h' t' w =
-      searches_broker_tiers p h t b x broker_tier g ts cursor next (dating.Goes later after) h' t' w.0
+      searches_broker_tiers p h t b x broker_tier g ts cursor next (dating.Goes (later, after)) h' t' w.0
   date_broker_tiers p h t b x broker_tier g ts cursor next other h' t' w = elim w [ ]
 
   refresh_broker_tiers : (t : RemoteTier S M) (b : ℕ) (broker_tier : BrokerTierState) (outcome : Outcome) (t' : RemoteTier S M) → RefreshedRow meta t b broker_tier outcome t' → length t'.broker_tiers ≡ length t.broker_tiers

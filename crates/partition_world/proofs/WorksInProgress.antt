@@ -13,7 +13,7 @@ use Rattle.rebuild_task.specs.declared.turn.RebuildStep.{RebuildStep as Rebuild}
 use Rattle.tier_fetch.specs.declared.turn.FetchStep.{FetchStep as Search}
 use Rattle.time_find.specs.declared.turn.SearchStep.{SearchStep as Dating}
 use Rattle.time_find.specs.declared.turn.SearchStep.TheVariants.{Seek}
-use Rattle.time_find.specs.declared.turn.TimeTurn.TheVariants as dating
+use Rattle.plain_log.specs.declared.turn.Turn.TheVariants as dating
 use Rattle.time_find.specs.Turns.{IsSet, SearchContinues}
 use Rattle.plain_log.specs.declared.command.ActorList.{ActorList}
 use Rattle.plain_log.specs.declared.command.Command.{Command}
@@ -95,7 +95,7 @@ deleting_for command (Expires g segment before) next k = k
 deleting_for command (Rebuilds g before) next k = k
 
 -- a search that continues has such a turn next as its cursor needs
-set_of : (cursor at : ℕ) (next : Dating) → SearchContinues cursor (dating.Goes at next) → IsSet at next
+set_of : (cursor at : ℕ) (next : Dating) → SearchContinues cursor (dating.Goes (at, next)) → IsSet at next
 set_of cursor at Seek goes = tt
 set_of cursor at next goes = goes.1
 

@@ -2,24 +2,16 @@
 use Rattle.std.specs.Prelude.{ℕ, ◌+◌, List, [], ◌∷◌, map, Option, Some, None}
 use Rattle.tier_base.specs.declared.names.ActorId.{ActorId}
 use Rattle.copy_task.specs.Copying.{Copied}
-use Rattle.copy_task.specs.declared.turn.CopyTurn.{CopyTurn}
-use Rattle.copy_task.specs.declared.turn.CopyTurn.TheVariants.{Goes as GoesOn, Ends}
 use Rattle.copy_task.specs.declared.turn.CopyStep.{CopyStep}
 use Rattle.copy_task.specs.declared.turn.CopyStep.TheVariants.{Start}
 use Rattle.expiry_task.specs.declared.turn.ExpiredSegment.{ExpiredSegment}
-use Rattle.expiry_task.specs.declared.turn.ExpiryTurn.{ExpiryTurn}
-use Rattle.expiry_task.specs.declared.turn.ExpiryTurn.TheVariants as expiry
 use Rattle.expiry_task.specs.declared.turn.DeletionStep.{DeletionStep as Deletion}
 use Rattle.expiry_task.specs.declared.turn.DeletionStep.TheVariants as deletion
-use Rattle.tier_fetch.specs.declared.turn.FetchTurn.{FetchTurn}
-use Rattle.tier_fetch.specs.declared.turn.FetchTurn.TheVariants as fetch
+use Rattle.plain_log.specs.declared.turn.Turn.{Turn}
+use Rattle.plain_log.specs.declared.turn.Turn.TheVariants.{Goes as GoesOn, Ends}
 use Rattle.tier_fetch.specs.declared.turn.FetchStep.{FetchStep as Search}
 use Rattle.rebuild_task.specs.declared.turn.RebuildStep.{RebuildStep as Rebuild}
-use Rattle.rebuild_task.specs.declared.turn.RebuildTurn.{RebuildTurn}
-use Rattle.rebuild_task.specs.declared.turn.RebuildTurn.TheVariants as rebuild
 use Rattle.time_find.specs.declared.turn.SearchStep.{SearchStep as Dating}
-use Rattle.time_find.specs.declared.turn.TimeTurn.{TimeTurn}
-use Rattle.time_find.specs.declared.turn.TimeTurn.TheVariants as dating
 use Rattle.plain_log.specs.declared.command.Command.{Command}
 use Rattle.plain_log.specs.declared.journal.Event.TheVariants as event
 use Rattle.plain_log.specs.declared.journal.JournalEntry.{JournalEntry}
@@ -100,29 +92,29 @@ outcome_of (turned.Answers answer) = Answers answer
 outcome_of (turned.Begins g) = Begins g
 
 -- what a turn of a copy came to
-abbrev pub copy_outcome : CopyTurn → Outcome
+abbrev pub copy_outcome : Turn CopyStep → Outcome
 copy_outcome (GoesOn next) = Goes next
 copy_outcome (Ends answer) = Answers answer
 
 -- what a turn of a fetch from the remote tier came to
-abbrev pub fetch_outcome : FetchTurn → Outcome
-fetch_outcome (fetch.Goes next) = Seeks next
-fetch_outcome (fetch.Ends answer) = Answers answer
+abbrev pub fetch_outcome : Turn Search → Outcome
+fetch_outcome (GoesOn next) = Seeks next
+fetch_outcome (Ends answer) = Answers answer
 
 -- what a turn of a timestamp lookup came to
-abbrev pub date_outcome : TimeTurn → Outcome
-date_outcome (dating.Goes cursor next) = Dates cursor next
-date_outcome (dating.Ends answer) = Answers answer
+abbrev pub date_outcome : Turn (ℕ × Dating) → Outcome
+date_outcome (GoesOn (cursor, next)) = Dates cursor next
+date_outcome (Ends answer) = Answers answer
 
 -- what a turn of an expiry came to
-abbrev pub expiry_outcome : ExpiryTurn → Outcome
-expiry_outcome (expiry.Goes next) = Deletes next
-expiry_outcome (expiry.Ends answer) = Answers answer
+abbrev pub expiry_outcome : Turn Deletion → Outcome
+expiry_outcome (GoesOn next) = Deletes next
+expiry_outcome (Ends answer) = Answers answer
 
 -- what a turn of a rebuild came to
-abbrev pub rebuild_outcome : RebuildTurn → Outcome
-rebuild_outcome (rebuild.Goes next) = Rebuilds next
-rebuild_outcome (rebuild.Ends answer) = Answers answer
+abbrev pub rebuild_outcome : Turn Rebuild → Outcome
+rebuild_outcome (GoesOn next) = Rebuilds next
+rebuild_outcome (Ends answer) = Answers answer
 
 -- the actor's state after a turn: at the next order after an answer, else with what the order continues with
 abbrev pub actor_state_after : ActorState → Outcome → ActorState

@@ -28,8 +28,8 @@ use Rattle.segment_bundle.specs.Parts.{can_pack}
 use Rattle.copy_task.specs.Candidate.{candidate}
 use Rattle.copy_task.specs.Copying.{Copied, IsCopied}
 use Rattle.copy_task.specs.Turns.{Tiers, CopyTurnRow}
-use Rattle.copy_task.specs.declared.turn.CopyTurn.{CopyTurn}
 use Rattle.copy_task.specs.declared.turn.CopyStep.{CopyStep}
+use Rattle.plain_log.specs.declared.turn.Turn.{Turn}
 use Rattle.plain_log.specs.declared.answer.Answer.TheVariants.{Down, NotLeader, CopyOff, MetaFault, LostLead, Level, DiskFault, Damaged}
 use Rattle.plain_log.specs.declared.answer.Place.TheVariants.{File}
 use Rattle.plain_log.specs.State.{leads}
@@ -179,7 +179,7 @@ tiers_of view t = record { view = view; store = t.store; meta = t.meta }
 
 module _ {D S M : Type 0} (store : StoreGhosts S) (meta : MetaGhosts M) where
   -- a turn of the copy's row, and nothing else changes
-  pub record GoesOnCopy (h : PartitionState D) (t : RemoteTier S M) (b : ℕ) (broker_tier : BrokerTierState) (copy : Copied) (next : CopyStep) (turn : CopyTurn)
+  pub record GoesOnCopy (h : PartitionState D) (t : RemoteTier S M) (b : ℕ) (broker_tier : BrokerTierState) (copy : Copied) (next : CopyStep) (turn : Turn CopyStep)
       (t' : RemoteTier S M) : Type 0 where
     pub view : View
     pub row : CopyTurnRow store.content store.control meta.content meta.control copy (origin_of h b) next (Ok turn)
@@ -208,5 +208,5 @@ module _ {D S M : Type 0} (store : StoreGhosts S) (meta : MetaGhosts M) where
       → CopyStep → Outcome → RemoteTier S M → Type 0
   CopyOnRow h t b x broker_tier g copy next outcome t' =
       ((KeepsLead x g → ⊥) × (outcome ≡ Answers LostLead) × (t' ≡ t))
-      ⊎ (KeepsLead x g × ((turn : CopyTurn) × (outcome ≡ copy_outcome turn)
+      ⊎ (KeepsLead x g × ((turn : Turn CopyStep) × (outcome ≡ copy_outcome turn)
       × GoesOnCopy h t b broker_tier copy next turn t'))

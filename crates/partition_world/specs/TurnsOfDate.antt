@@ -18,8 +18,8 @@ use Rattle.broker_log.specs.Seen.{LogState}
 use Rattle.time_find.specs.declared.turn.Asked.{Asked}
 use Rattle.time_find.specs.declared.turn.SearchStep.{SearchStep}
 use Rattle.time_find.specs.declared.turn.SearchStep.TheVariants.{Seek}
-use Rattle.time_find.specs.declared.turn.TimeTurn.{TimeTurn}
-use Rattle.time_find.specs.declared.turn.TimeTurn.TheVariants.{Goes, Ends}
+use Rattle.plain_log.specs.declared.turn.Turn.{Turn}
+use Rattle.plain_log.specs.declared.turn.Turn.TheVariants.{Goes, Ends}
 use Rattle.time_find.specs.Turns.{LocalSearchRow, TimeRow, SearchContinues}
 use Rattle.plain_log.specs.declared.answer.Answer.{Answer}
 use Rattle.plain_log.specs.declared.answer.Answer.TheVariants.{Stopped, NotLeader, NoOffset}
@@ -69,7 +69,7 @@ module _ {D : Type 0} where
 
 module _ {D : Type 0} (disk : DiskGhosts D) where
   -- a turn in the local log: the broker's log is read at most
-  pub record SearchesOwn (h : PartitionState D) (b : ℕ) (x : Node D) (asked : Asked) (cursor : ℕ) (turn : TimeTurn) (h' : PartitionState D) : Type 0 where
+  pub record SearchesOwn (h : PartitionState D) (b : ℕ) (x : Node D) (asked : Asked) (cursor : ℕ) (turn : Turn (ℕ × SearchStep)) (h' : PartitionState D) : Type 0 where
     pub kept : LogState D
     pub row : LocalSearchRow disk.content disk.control x.log asked cursor turn kept
     pub after : h' ≡ put_node h b (record x { log = kept })
@@ -77,7 +77,7 @@ module _ {D : Type 0} (disk : DiskGhosts D) where
 module _ {S M : Type 0} (store : StoreGhosts S) (meta : MetaGhosts M) where
   -- a turn among the remote segments, and nothing else changes
   pub record SearchesRemote (t : RemoteTier S M) (b : ℕ) (broker_tier : BrokerTierState) (line : List (ℕ × ℕ)) (asked : Asked) (cursor : ℕ) (next : SearchStep)
-      (turn : TimeTurn) (t' : RemoteTier S M) : Type 0 where
+      (turn : Turn (ℕ × SearchStep)) (t' : RemoteTier S M) : Type 0 where
     pub view : View
     pub cache : Cache
     pub row : TimeRow store.content store.control meta.content meta.control asked line cursor next (Ok turn)
@@ -96,7 +96,7 @@ module _ {S M : Type 0} (store : StoreGhosts S) (meta : MetaGhosts M) where
 
 module _ {D S M : Type 0} (disk : DiskGhosts D) (store : StoreGhosts S) (meta : MetaGhosts M) where
   -- a turn of a search from a cursor on, in the local log or not
-  abbrev pub SearchRow : PartitionState D → RemoteTier S M → ℕ → Node D → BrokerTierState → Asked → ℕ → SearchStep → Bool → TimeTurn → PartitionState D → RemoteTier S M → Type 0
+  abbrev pub SearchRow : PartitionState D → RemoteTier S M → ℕ → Node D → BrokerTierState → Asked → ℕ → SearchStep → Bool → Turn (ℕ × SearchStep) → PartitionState D → RemoteTier S M → Type 0
   SearchRow h t b x broker_tier asked cursor next true turn h' t' =
       SearchesOwn disk h b x asked cursor turn h' × (t' ≡ t)
   SearchRow h t b x broker_tier asked cursor next false turn h' t' =
@@ -104,7 +104,7 @@ module _ {D S M : Type 0} (disk : DiskGhosts D) (store : StoreGhosts S) (meta : 
 
   -- the broker leads as it did, and the search continues where it is resumed, below the known high watermark
   pub record SearchesOn (p : PartitionId) (h : PartitionState D) (t : RemoteTier S M) (b : ℕ) (x : Node D) (broker_tier : BrokerTierState) (g : StartSnapshot) (ts : ℤ)
-      (cursor : ℕ) (next : SearchStep) (turn : TimeTurn) (h' : PartitionState D) (t' : RemoteTier S M) : Type 0 where
+      (cursor : ℕ) (next : SearchStep) (turn : Turn (ℕ × SearchStep)) (h' : PartitionState D) (t' : RemoteTier S M) : Type 0 where
     pub keeps : KeepsLead x g
     pub below : resumed_at h.registry.start cursor < x.known_high_watermark
     -- an offset has 64 bits
@@ -122,5 +122,5 @@ module _ {D S M : Type 0} (disk : DiskGhosts D) (store : StoreGhosts S) (meta : 
   DateOnRow p h t b x broker_tier g ts cursor next (Answers answer) h' t' =
       SearchesOn p h t b x broker_tier g ts cursor next (Ends answer) h' t'
   DateOnRow p h t b x broker_tier g ts cursor next (Dates at later) h' t' =
-      SearchesOn p h t b x broker_tier g ts cursor next (Goes at later) h' t' × SearchContinues (resumed_at h.registry.start cursor) (Goes at later)
+      SearchesOn p h t b x broker_tier g ts cursor next (Goes (at, later)) h' t' × SearchContinues (resumed_at h.registry.start cursor) (Goes (at, later))
   DateOnRow p h t b x broker_tier g ts cursor next other h' t' = ⊥

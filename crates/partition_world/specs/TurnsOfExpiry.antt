@@ -30,8 +30,8 @@ use Rattle.expiry_task.specs.Rule.{end_from, uncopied, end_behind, raised_to, re
 use Rattle.expiry_task.specs.declared.rule.Uncopied.{Uncopied}
 use Rattle.expiry_task.specs.Turns.{Tiers, ExpiryRow}
 use Rattle.expiry_task.specs.declared.turn.ExpiredSegment.{ExpiredSegment}
-use Rattle.expiry_task.specs.declared.turn.ExpiryTurn.{ExpiryTurn}
 use Rattle.expiry_task.specs.declared.turn.DeletionStep.{DeletionStep}
+use Rattle.plain_log.specs.declared.turn.Turn.{Turn}
 use Rattle.plain_log.specs.declared.answer.Answer.{Answer}
 use Rattle.plain_log.specs.declared.answer.Answer.TheVariants.{LostLead, Kept, StaleEpoch, Raised}
 use Rattle.plain_log.specs.declared.state.Role.{Role}
@@ -137,7 +137,7 @@ expiry_tiers t = record { store = t.store; meta = t.meta }
 
 module _ {D S M : Type 0} (store : StoreGhosts S) (meta : MetaGhosts M) where
   -- a turn of the expiry's row, and nothing else changes
-  pub record GoesOnDeletion (h : PartitionState D) (t : RemoteTier S M) (b : ℕ) (expired_segment : ExpiredSegment) (next : DeletionStep) (turn : ExpiryTurn) (t' : RemoteTier S M)
+  pub record GoesOnDeletion (h : PartitionState D) (t : RemoteTier S M) (b : ℕ) (expired_segment : ExpiredSegment) (next : DeletionStep) (turn : Turn DeletionStep) (t' : RemoteTier S M)
       : Type 0 where
     pub row : ExpiryRow store.content store.control meta.content meta.control expired_segment (origin_of h b) next
         (Ok turn)
@@ -157,4 +157,4 @@ module _ {D S M : Type 0} (store : StoreGhosts S) (meta : MetaGhosts M) where
       → DeletionStep → Outcome → RemoteTier S M → Type 0
   DeleteOnRow h t b x g expired_segment next outcome t' =
       ((KeepsLead x g → ⊥) × (outcome ≡ Answers LostLead) × (t' ≡ t))
-      ⊎ (KeepsLead x g × ((turn : ExpiryTurn) × (outcome ≡ expiry_outcome turn) × GoesOnDeletion h t b expired_segment next turn t'))
+      ⊎ (KeepsLead x g × ((turn : Turn DeletionStep) × (outcome ≡ expiry_outcome turn) × GoesOnDeletion h t b expired_segment next turn t'))

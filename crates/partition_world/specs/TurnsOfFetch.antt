@@ -10,8 +10,8 @@ use Rattle.object_store.specs.declared.store.Store.{Ghosts as StoreGhosts}
 use Rattle.meta_log.specs.declared.log.MetaLog.{Ghosts as MetaGhosts}
 use Rattle.index_cache.specs.Cache.{Cache}
 use Rattle.remote_view.specs.Fold.{EntriesSeen as View}
-use Rattle.tier_fetch.specs.declared.turn.FetchTurn.{FetchTurn}
-use Rattle.tier_fetch.specs.declared.turn.FetchTurn.TheVariants as fetch
+use Rattle.plain_log.specs.declared.turn.Turn.{Turn}
+use Rattle.plain_log.specs.declared.turn.Turn.TheVariants as fetch
 use Rattle.tier_fetch.specs.declared.turn.FetchStep.{FetchStep}
 use Rattle.tier_fetch.specs.declared.turn.FetchRequest.{FetchRequest}
 use Rattle.tier_fetch.specs.Turns.{Tiers, RemoteFetchRow, IsPieceFor}
@@ -60,7 +60,7 @@ fetch_tiers view cache t = record { view = view; cache = cache; store = t.store;
 module _ {D S M : Type 0} (store : StoreGhosts S) (meta : MetaGhosts M) where
   -- a turn of the fetch's row, and nothing else changes
   pub record GoesOnFetch (p : PartitionId) (t : RemoteTier S M) (b : ℕ) (x : Node D) (broker_tier : BrokerTierState) (offset limit : ℕ) (next : FetchStep)
-      (turn : FetchTurn) (t' : RemoteTier S M) : Type 0 where
+      (turn : Turn FetchStep) (t' : RemoteTier S M) : Type 0 where
     pub view : View
     pub cache : Cache
     pub row : RemoteFetchRow store.content store.control meta.content meta.control (wanted_of p x offset limit) (line_of x) next (Ok turn)

@@ -18,9 +18,10 @@ use Rattle.tier_base.specs.declared.names.PartitionId.{PartitionId}
 use Rattle.object_store.specs.declared.store.Store.{Ghosts as StoreGhosts}
 use Rattle.meta_log.specs.declared.log.MetaLog.{Ghosts as MetaGhosts}
 use Rattle.rebuild_task.specs.declared.turn.RebuildStep.TheVariants.{Epochs}
-use Rattle.rebuild_task.specs.declared.turn.RebuildTurn.{RebuildTurn}
+use Rattle.rebuild_task.specs.declared.turn.RebuildStep.{RebuildStep}
 use Rattle.rebuild_task.specs.declared.turn.RebuildRequest.{RebuildRequest}
 use Rattle.rebuild_task.specs.Turns.{RebuildRow}
+use Rattle.plain_log.specs.declared.turn.Turn.{Turn}
 use Rattle.plain_log.specs.declared.answer.Answer.{Answer}
 use Rattle.plain_log.specs.declared.answer.Answer.TheVariants.{Stopped, StaleEpoch, Passed, BelowStart, MetaFault}
 use Rattle.plain_log.specs.State.{followed}
@@ -79,7 +80,7 @@ module _ {D S M : Type 0} (meta : MetaGhosts M) where
 -- the turn that reads the line
 module _ {S M : Type 0} (store : StoreGhosts S) where
   -- a turn of the row of rebuilds, and nothing else changes
-  pub record GoesOnRebuild (p : PartitionId) (t : RemoteTier S M) (broker_tier : BrokerTierState) (g : StartSnapshot) (turn : RebuildTurn) (t' : RemoteTier S M)
+  pub record GoesOnRebuild (p : PartitionId) (t : RemoteTier S M) (broker_tier : BrokerTierState) (g : StartSnapshot) (turn : Turn RebuildStep) (t' : RemoteTier S M)
       : Type 0 where
     pub row : RebuildRow store.content store.control (wanted_of p g) g.line broker_tier.view (Ok turn) t.store t'.store
     pub after : t' ≡ record t { store = t'.store }
@@ -98,4 +99,4 @@ module _ {D S M : Type 0} (store : StoreGhosts S) where
       → Outcome → RemoteTier S M → Type 0
   EpochsOnRow p h t x broker_tier g outcome t' =
       IsJoinAnswered h t x g outcome t'
-      ⊎ (MayRebuild h x g × ((turn : RebuildTurn) × (outcome ≡ rebuild_outcome turn) × GoesOnRebuild store p t broker_tier g turn t'))
+      ⊎ (MayRebuild h x g × ((turn : Turn RebuildStep) × (outcome ≡ rebuild_outcome turn) × GoesOnRebuild store p t broker_tier g turn t'))

@@ -3,13 +3,13 @@
 ghost use Rattle.std.specs.Prelude.{◌≡◌};
 ghost use Rattle.partition_world.specs.ActorStates.{chosen, moved, sought, dated, expired_segment, deleting, rebuilding, outcome_of, copy_outcome, fetch_outcome, date_outcome, expiry_outcome, rebuild_outcome};
 
-use copy_task::{CopyStep, CopyTurn, Copying};
-use expiry_task::{DeletionStep as Deletion, ExpiredSegment, ExpiryTurn};
+use copy_task::{CopyStep, Copying};
+use expiry_task::{DeletionStep as Deletion, ExpiredSegment};
 use laws_partition::{StartSnapshot, Turned};
-use plain_log::Answer;
-use rebuild_task::{RebuildStep as Rebuild, RebuildTurn};
-use tier_fetch::{FetchStep as Search, FetchTurn};
-use time_find::{SearchStep as Dating, TimeTurn};
+use plain_log::{Answer, Turn};
+use rebuild_task::RebuildStep as Rebuild;
+use tier_fetch::FetchStep as Search;
+use time_find::SearchStep as Dating;
 
 /// What is kept of a command between its turns.
 #[derive(Drop)]
@@ -151,51 +151,51 @@ pub(crate) fn outcome_of(turned: Turned) -> Outcome
 }
 
 /// What a turn of a copy came to.
-pub(crate) fn copy_outcome(turn: CopyTurn) -> Outcome
+pub(crate) fn copy_outcome(turn: Turn<CopyStep>) -> Outcome
     ensures { result ≡ copy_outcome turn }
 {
     match turn {
-        CopyTurn::Goes(next) => Outcome::Goes(next),
-        CopyTurn::Ends(answer) => Outcome::Answers(answer),
+        Turn::Goes(next) => Outcome::Goes(next),
+        Turn::Ends(answer) => Outcome::Answers(answer),
     }
 }
 
 /// What a turn of a fetch from the remote tier came to.
-pub(crate) fn fetch_outcome(turn: FetchTurn) -> Outcome
+pub(crate) fn fetch_outcome(turn: Turn<Search>) -> Outcome
     ensures { result ≡ fetch_outcome turn }
 {
     match turn {
-        FetchTurn::Goes(next) => Outcome::Seeks(next),
-        FetchTurn::Ends(answer) => Outcome::Answers(answer),
+        Turn::Goes(next) => Outcome::Seeks(next),
+        Turn::Ends(answer) => Outcome::Answers(answer),
     }
 }
 
 /// What a turn of a timestamp lookup came to.
-pub(crate) fn date_outcome(turn: TimeTurn) -> Outcome
+pub(crate) fn date_outcome(turn: Turn<(u64, Dating)>) -> Outcome
     ensures { result ≡ date_outcome turn }
 {
     match turn {
-        TimeTurn::Goes(cursor, next) => Outcome::Dates(cursor, next),
-        TimeTurn::Ends(answer) => Outcome::Answers(answer),
+        Turn::Goes((cursor, next)) => Outcome::Dates(cursor, next),
+        Turn::Ends(answer) => Outcome::Answers(answer),
     }
 }
 
 /// What a turn of an expiry came to.
-pub(crate) fn expiry_outcome(turn: ExpiryTurn) -> Outcome
+pub(crate) fn expiry_outcome(turn: Turn<Deletion>) -> Outcome
     ensures { result ≡ expiry_outcome turn }
 {
     match turn {
-        ExpiryTurn::Goes(next) => Outcome::Deletes(next),
-        ExpiryTurn::Ends(answer) => Outcome::Answers(answer),
+        Turn::Goes(next) => Outcome::Deletes(next),
+        Turn::Ends(answer) => Outcome::Answers(answer),
     }
 }
 
 /// What a turn of a rebuild came to.
-pub(crate) fn rebuild_outcome(turn: RebuildTurn) -> Outcome
+pub(crate) fn rebuild_outcome(turn: Turn<Rebuild>) -> Outcome
     ensures { result ≡ rebuild_outcome turn }
 {
     match turn {
-        RebuildTurn::Goes(next) => Outcome::Rebuilds(next),
-        RebuildTurn::Ends(answer) => Outcome::Answers(answer),
+        Turn::Goes(next) => Outcome::Rebuilds(next),
+        Turn::Ends(answer) => Outcome::Answers(answer),
     }
 }

@@ -21,10 +21,10 @@ use laws_partition::StartSnapshot;
 use meta_log::MetaLog;
 use object_store::Store;
 use partition_commands::{Node, PartitionState};
-use plain_log::Answer;
+use plain_log::{Answer, Turn};
 use std::alloc::{AllocError, Global};
 use tier_base::{BrokerId, PartitionId};
-use time_find::{Asked, SearchStep, TimeTurn, own_turn, time_turn};
+use time_find::{Asked, SearchStep, own_turn, time_turn};
 
 /// What a search returns before it reads, where its broker has stopped or no longer leads as it did, or all that is
 /// committed has been searched.
@@ -108,7 +108,7 @@ fn search_own<D: Disk>(
     b: usize,
     asked: &Asked,
     cursor: u64,
-) -> Result<TimeTurn, AllocError>
+) -> Result<Turn<(u64, SearchStep)>, AllocError>
     requires up { AtNode held.old b (λ x. is_up x ≡ true) }
     requires local { AtNode held.old b (λ x. local_of x ≤ cursor) }
     requires mark { cursor < asked.now.mark }
@@ -129,7 +129,7 @@ impl<S: Store, M: MetaLog> RemoteTier<S, M> {
         asked: &Asked,
         cursor: u64,
         next: SearchStep,
-    ) -> Result<TimeTurn, AllocError>
+    ) -> Result<Turn<(u64, SearchStep)>, AllocError>
         requires broker_tier { b < length self.old.broker_tiers }
         requires mark { cursor < asked.now.mark }
         requires remote { IsBelowLocal asked.now cursor next }
@@ -164,7 +164,7 @@ impl<S: Store, M: MetaLog> RemoteTier<S, M> {
         cursor: u64,
         next: &SearchStep,
         held: &mut PartitionState<D>,
-    ) -> Result<TimeTurn, AllocError>
+    ) -> Result<Turn<(u64, SearchStep)>, AllocError>
         requires node { AtNode held.old b (λ x. is_up x ≡ true) }
         requires local { AtNode held.old b (λ x. local_of x ≡ asked.now.local) }
         requires broker_tier { b < length self.old.broker_tiers }

@@ -13,6 +13,7 @@ mod command;
 mod journal;
 mod laws;
 mod state;
+mod turn;
 
 pub use answer::{Answer, Place, Tier};
 pub use command::{ActorList, Command, Config, Order, Pace, Which};
@@ -23,3 +24,4 @@ pub use laws::{
 };
 pub use registry::{Registry, Replica};
 pub use state::{Actor, Broker, Path, PlainSnapshot, Role, State};
+pub use turn::Turn;

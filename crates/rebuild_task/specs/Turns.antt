@@ -35,8 +35,9 @@ use Rattle.plain_log.specs.declared.answer.Answer.TheVariants.{StoreFault, Damag
 use Rattle.plain_log.specs.declared.answer.Place.TheVariants.{Key, Meta}
 use Rattle.rebuild_task.specs.declared.turn.RebuildRequest.{RebuildRequest}
 use Rattle.rebuild_task.specs.declared.turn.RebuildStep.TheVariants.{Restart}
-use Rattle.rebuild_task.specs.declared.turn.RebuildTurn.{RebuildTurn}
-use Rattle.rebuild_task.specs.declared.turn.RebuildTurn.TheVariants.{Goes, Ends}
+use Rattle.rebuild_task.specs.declared.turn.RebuildStep.{RebuildStep}
+use Rattle.plain_log.specs.declared.turn.Turn.{Turn}
+use Rattle.plain_log.specs.declared.turn.Turn.TheVariants.{Goes, Ends}
 
 -- where a segment's epochs are, by its entry
 abbrev pub spot_in : PartitionId → SegmentId → Option Entry → Option Spot
@@ -60,7 +61,7 @@ abbrev pub IsNoLine : List ℕ → Type 0
 IsNoLine bytes = (line : List (ℕ × ℕ)) → IsLine line → bytes ≢ text_of line
 
 -- what becomes of a rebuild by bytes of its epochs, and by where more of them are lacking
-abbrev pub TakesBytes : Option ℕ → ℕ → Spot → List ℕ → Result RebuildTurn AllocError → Type 0
+abbrev pub TakesBytes : Option ℕ → ℕ → Spot → List ℕ → Result (Turn RebuildStep) AllocError → Type 0
 TakesBytes (Some end) wanted spot bytes result = result ≡ Ok (Ends (Damaged (Key spot.key) end))
 TakesBytes None wanted spot bytes (Ok (Goes (Restart line))) = IsTaken wanted bytes line
 TakesBytes None wanted spot bytes (Ok (Goes next)) = ⊥
@@ -68,7 +69,7 @@ TakesBytes None wanted spot bytes (Ok (Ends answer)) = (answer ≡ Damaged (Key 
 TakesBytes None wanted spot bytes (Err e) = Unit {0}
 
 -- by what the store answered of them
-abbrev pub TakesEpochs : ℕ → Spot → Result (Option (List ℕ)) Trouble → Result RebuildTurn AllocError → Type 0
+abbrev pub TakesEpochs : ℕ → Spot → Result (Option (List ℕ)) Trouble → Result (Turn RebuildStep) AllocError → Type 0
 TakesEpochs wanted spot (Err Failed) result = result ≡ Ok (Ends StoreFault)
 TakesEpochs wanted spot (Err NoMemory) result = IsErr result
 TakesEpochs wanted spot (Ok None) result = result ≡ Ok (Ends (Damaged (Key spot.key) 0))
@@ -76,18 +77,18 @@ TakesEpochs wanted spot (Ok (Some bytes)) result = TakesBytes (short_of spot byt
 
 module _ {S : Type 0} (objects : S → Content) (calls : S → Control call_code) where
   -- one read of a segment's epochs
-  pub record ReadsEpochs (wanted : ℕ) (spot : Spot) (result : Result RebuildTurn AllocError) (old new : S) : Type 0 where
+  pub record ReadsEpochs (wanted : ℕ) (spot : Spot) (result : Result (Turn RebuildStep) AllocError) (old new : S) : Type 0 where
     pub answer : Result (Option (List ℕ)) Trouble
     pub gets : Gets objects calls spot.key (all_of spot) answer old new
     pub takes : TakesEpochs wanted spot answer result
 
   -- they are read where they are
-  abbrev pub EpochsRow : ℕ → EntriesSeen → Option Spot → Result RebuildTurn AllocError → S → S → Type 0
+  abbrev pub EpochsRow : ℕ → EntriesSeen → Option Spot → Result (Turn RebuildStep) AllocError → S → S → Type 0
   EpochsRow wanted view None result old new = (result ≡ Ok (Ends (Damaged Meta view.notes))) × (new ≡ old)
   EpochsRow wanted view (Some spot) result old new = ReadsEpochs wanted spot result old new
 
   -- a turn of a rebuild: what it came to, or that it ran out of memory
-  abbrev pub RebuildRow : RebuildRequest → List (ℕ × ℕ) → EntriesSeen → Result RebuildTurn AllocError → S → S → Type 0
+  abbrev pub RebuildRow : RebuildRequest → List (ℕ × ℕ) → EntriesSeen → Result (Turn RebuildStep) AllocError → S → S → Type 0
   RebuildRow wanted line view result old new =
       EpochsRow wanted.offset view
       (epochs_of wanted.partition view.entries (piece_at view.entries line wanted.offset (wanted.offset - 1))) result old new

@@ -14,5 +14,5 @@
 mod turn;
 mod turns;
 
-pub use turn::{RebuildRequest, RebuildStep, RebuildTurn};
+pub use turn::{RebuildRequest, RebuildStep};
 pub use turns::rebuild_turn;

@@ -20,12 +20,3 @@ pub enum RebuildStep {
     /// Restarts the local log, with these leader epochs.
     Restart(Line),
 }
-
-/// The result of a turn of a rebuild.
-#[derive(Debug, Drop)]
-pub enum RebuildTurn {
-    /// The rebuild continues with this turn.
-    Goes(RebuildStep),
-    /// The rebuild has ended with this answer.
-    Ends(Answer),
-}

@@ -4,14 +4,14 @@ ghost use Rattle.std.specs.Prelude.{◌≡◌, ◌-◌, ◌<◌, ◌^◌, Ok, If
 ghost use Rattle.plain_log.specs.declared.answer.Answer.TheVariants.{Damaged};
 ghost use Rattle.plain_log.specs.declared.answer.Place.TheVariants.{Key, Meta};
 ghost use Rattle.remote_find.specs.Pieces.{piece_at};
-ghost use Rattle.rebuild_task.specs.declared.turn.RebuildTurn.TheVariants.{Ends};
+ghost use Rattle.plain_log.specs.declared.turn.Turn.TheVariants.{Ends};
 ghost use Rattle.rebuild_task.specs.Turns.{epochs_of, TakesEpochs, RebuildRow};
 
-use crate::turn::{RebuildRequest, RebuildStep, RebuildTurn};
+use crate::turn::{RebuildRequest, RebuildStep};
 use bytes::Bytes;
 use epoch_line::{Line, TextRefusal};
 use object_store::{Spot, Store, get_spot, place};
-use plain_log::{Answer, Place};
+use plain_log::{Answer, Place, Turn};
 use remote_find::find;
 use remote_view::View;
 use std::alloc::{AllocError, Global};
@@ -25,7 +25,7 @@ pub fn rebuild_turn<S: Store>(
     line: &Line,
     view: &View,
     store: &mut S,
-) -> Result<RebuildTurn, AllocError>
+) -> Result<Turn<RebuildStep>, AllocError>
     ensures { RebuildRow S.content S.control wanted line.now view.now result store.old store.new }
 {
     let Some(spot) = epochs_of(wanted, line, view) else {
@@ -33,7 +33,7 @@ pub fn rebuild_turn<S: Store>(
     };
     match get_spot(store, &spot) {
         Ok(given) => take(alloc, wanted.offset, &spot, given),
-        Err(Trouble::Failed) => Ok(RebuildTurn::Ends(Answer::StoreFault)),
+        Err(Trouble::Failed) => Ok(Turn::Ends(Answer::StoreFault)),
         Err(Trouble::NoMemory) => Err(AllocError),
     }
 }
@@ -65,7 +65,7 @@ fn take(
     wanted: u64,
     spot: &Spot,
     given: Option<Bytes>,
-) -> Result<RebuildTurn, AllocError>
+) -> Result<Turn<RebuildStep>, AllocError>
     requires { spot.now.at < 2 ^ 34 }
     ensures { TakesEpochs wanted spot.now (Ok given) result }
 {
@@ -78,7 +78,7 @@ fn take(
     match Line::from_text(alloc, bytes.as_slice()) {
         Ok(mut line) => {
             line.cut_end(wanted);
-            Ok(RebuildTurn::Goes(RebuildStep::Restart(line)))
+            Ok(Turn::Goes(RebuildStep::Restart(line)))
         }
         Err(TextRefusal::BadText { .. }) => Ok(damaged(spot, spot.at)),
         Err(TextRefusal::NoMemory) => Err(AllocError),
@@ -86,15 +86,15 @@ fn take(
 }
 
 /// A view that lacks what the metadata events must hold is damage of the metadata log.
-fn lost(view: &View) -> RebuildTurn
+fn lost(view: &View) -> Turn<RebuildStep>
     ensures { result ≡ Ends (Damaged Meta view.now.notes) }
 {
-    RebuildTurn::Ends(Answer::Damaged(Place::Meta, view.seen()))
+    Turn::Ends(Answer::Damaged(Place::Meta, view.seen()))
 }
 
 /// An object that is absent, or is invalid from a place on.
-fn damaged(spot: &Spot, at: u64) -> RebuildTurn
+fn damaged(spot: &Spot, at: u64) -> Turn<RebuildStep>
     ensures { result ≡ Ends (Damaged (Key spot.now.key) at) }
 {
-    RebuildTurn::Ends(Answer::Damaged(Place::Key(spot.key), at))
+    Turn::Ends(Answer::Damaged(Place::Key(spot.key), at))
 }

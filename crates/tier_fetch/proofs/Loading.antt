@@ -11,11 +11,12 @@ use Rattle.remote_view.specs.Fold.{EntriesSeen, entry_of}
 use Rattle.remote_find.specs.declared.piece.Piece.{Piece}
 use Rattle.tier_fetch.specs.declared.turn.FetchRequest.{FetchRequest}
 use Rattle.tier_fetch.specs.declared.turn.Span.{Span}
-use Rattle.tier_fetch.specs.declared.turn.FetchTurn.{FetchTurn}
+use Rattle.tier_fetch.specs.declared.turn.FetchStep.{FetchStep}
 use Rattle.tier_fetch.specs.Turns.{spot_in, LoadRow, IndexRow}
+use Rattle.plain_log.specs.declared.turn.Turn.{Turn}
 
 -- it is read, and the cache was left as it was before
-pub not_cached : {S : Type 0} (objects : S → Content) (calls : S → Control call_code) (wanted : FetchRequest) (piece : Piece) (view : EntriesSeen) (result : Result FetchTurn AllocError) (f : OffsetTable → Span)
+pub not_cached : {S : Type 0} (objects : S → Content) (calls : S → Control call_code) (wanted : FetchRequest) (piece : Piece) (view : EntriesSeen) (result : Result (Turn FetchStep) AllocError) (f : OffsetTable → Span)
     (cache mid new : Cache) (s s' : S) → None ≡ option_map f (found piece.id.0 cache.pairs) → mid ≡ brought_front cache piece.id.0
     → LoadRow objects calls wanted piece view (spot_in wanted.partition piece.id part.Index (entry_of piece.id view.entries)) result mid new s s'
     → IndexRow objects calls wanted piece view result (found piece.id.0 cache.pairs) cache new s s'

@@ -48,8 +48,8 @@ use Rattle.tier_fetch.specs.declared.turn.FetchRequest.{FetchRequest}
 use Rattle.tier_fetch.specs.declared.turn.Span.{Span}
 use Rattle.tier_fetch.specs.declared.turn.FetchStep.{FetchStep}
 use Rattle.tier_fetch.specs.declared.turn.FetchStep.TheVariants.{Refresh, Index, Log}
-use Rattle.tier_fetch.specs.declared.turn.FetchTurn.{FetchTurn}
-use Rattle.tier_fetch.specs.declared.turn.FetchTurn.TheVariants.{Goes, Ends}
+use Rattle.plain_log.specs.declared.turn.Turn.{Turn}
+use Rattle.plain_log.specs.declared.turn.Turn.TheVariants.{Goes, Ends}
 use Rattle.tier_fetch.specs.Span.{span_of}
 
 -- the turn's piece, where it has one, ends past the offset
@@ -59,13 +59,13 @@ IsPieceFor offset (Index piece) = offset < piece.to
 IsPieceFor offset (Log piece span) = offset < piece.to
 
 -- a fetch that continues has such a turn next
-abbrev pub GoesFor : ℕ → FetchTurn → Type 0
+abbrev pub GoesFor : ℕ → Turn FetchStep → Type 0
 GoesFor offset (Goes next) = IsPieceFor offset next
 GoesFor offset (Ends answer) = Unit {0}
 
 -- what a refreshed view of so many metadata events says of an offset, by its piece: a missing one is damage of the
 -- metadata log
-abbrev pub chosen : ℕ → Option Piece → FetchTurn
+abbrev pub chosen : ℕ → Option Piece → Turn FetchStep
 chosen notes None = Ends (Damaged Meta notes)
 chosen notes (Some piece) = Goes (Index piece)
 
@@ -76,11 +76,11 @@ spot_in partition id part (Some entry) =
     option_map (λ spot. (entry.start, spot)) (spot_of partition id entry.packed entry.custom part)
 
 -- the turn that reads what an index shows
-abbrev pub reads_by : FetchRequest → Piece → OffsetTable → FetchTurn
+abbrev pub reads_by : FetchRequest → Piece → OffsetTable → Turn FetchStep
 reads_by wanted piece index = Goes (Log piece (span_of index wanted.offset wanted.limit piece.to))
 
 -- these are the bytes of an index, which is kept, and the fetch continues with it
-pub record IsLoaded (wanted : FetchRequest) (piece : Piece) (base : ℕ) (bytes : List ℕ) (turn : FetchTurn)
+pub record IsLoaded (wanted : FetchRequest) (piece : Piece) (base : ℕ) (bytes : List ℕ) (turn : Turn FetchStep)
     (old new : Cache)
     : Type 0 where
   pub index : OffsetTable
@@ -92,7 +92,7 @@ pub record IsLoaded (wanted : FetchRequest) (piece : Piece) (base : ℕ) (bytes 
 
 -- what becomes of a fetch by bytes of its index, of a segment with this base offset, and by where more of them are
 -- lacking
-abbrev pub LoadsBytes : Option ℕ → FetchRequest → Piece → ℕ → Spot → List ℕ → Result FetchTurn AllocError → Cache → Cache → Type 0
+abbrev pub LoadsBytes : Option ℕ → FetchRequest → Piece → ℕ → Spot → List ℕ → Result (Turn FetchStep) AllocError → Cache → Cache → Type 0
 LoadsBytes (Some end) wanted piece base spot bytes result old new =
     (result ≡ Ok (Ends (Damaged (Key spot.key) end))) × (new ≡ old)
 LoadsBytes None wanted piece base spot bytes (Ok (Goes next)) old new = IsLoaded wanted piece base bytes (Goes next) old new
@@ -101,7 +101,7 @@ LoadsBytes None wanted piece base spot bytes (Ok (Ends answer)) old new =
 LoadsBytes None wanted piece base spot bytes (Err e) old new = new ≡ old
 
 -- by what the store answered of it
-abbrev pub Loads : FetchRequest → Piece → ℕ → Spot → Result (Option (List ℕ)) Trouble → Result FetchTurn AllocError → Cache → Cache
+abbrev pub Loads : FetchRequest → Piece → ℕ → Spot → Result (Option (List ℕ)) Trouble → Result (Turn FetchStep) AllocError → Cache → Cache
     → Type 0
 Loads wanted piece base spot (Err Failed) result old new = (result ≡ Ok (Ends StoreFault)) × (new ≡ old)
 Loads wanted piece base spot (Err NoMemory) result old new = IsErr result × (new ≡ old)
@@ -127,7 +127,7 @@ pub record HasNoRemoteRun (wanted : FetchRequest) (piece : Piece) (spot : Spot) 
   pub at_is : at ≡ spot.at + span.from + found
 
 -- what becomes of it by bytes of the segment's log, and by where more of them are lacking
-abbrev pub CutsBytes : Option ℕ → FetchRequest → Piece → Spot → Span → List ℕ → Result FetchTurn AllocError → Type 0
+abbrev pub CutsBytes : Option ℕ → FetchRequest → Piece → Spot → Span → List ℕ → Result (Turn FetchStep) AllocError → Type 0
 CutsBytes (Some end) wanted piece spot span bytes result = result ≡ Ok (Ends (Damaged (Key spot.key) end))
 CutsBytes None wanted piece spot span bytes (Ok (Ends (Run tier size stop run))) = IsCutRun wanted piece bytes tier size stop run
 CutsBytes None wanted piece spot span bytes (Ok (Ends (Damaged place at))) = HasNoRemoteRun wanted piece spot span bytes place at
@@ -136,7 +136,7 @@ CutsBytes None wanted piece spot span bytes (Err e) = Unit {0}
 
 -- by what the store answered of it
 abbrev pub CutsRunOut : FetchRequest → Piece → Spot → Span → Result (Option (List ℕ)) Trouble
-    → Result FetchTurn AllocError
+    → Result (Turn FetchStep) AllocError
     → Type 0
 CutsRunOut wanted piece spot span (Err Failed) result = result ≡ Ok (Ends StoreFault)
 CutsRunOut wanted piece spot span (Err NoMemory) result = IsErr result
@@ -146,7 +146,7 @@ CutsRunOut wanted piece spot span (Ok (Some bytes)) result =
 
 module _ {M : Type 0} (notes : M → meta.Content) (calls : M → Control meta_call.call_code) where
   -- the piece is chosen
-  abbrev pub RefreshRow : FetchRequest → List (ℕ × ℕ) → Result FetchTurn AllocError → EntriesSeen → EntriesSeen → M → M
+  abbrev pub RefreshRow : FetchRequest → List (ℕ × ℕ) → Result (Turn FetchStep) AllocError → EntriesSeen → EntriesSeen → M → M
       → Type 0
   RefreshRow wanted line (Ok (Ends MetaFault)) before after old new = Unread notes calls before after old new
   RefreshRow wanted line (Ok turn) before after old new =
@@ -157,20 +157,20 @@ module _ {M : Type 0} (notes : M → meta.Content) (calls : M → Control meta_c
 module _ {S : Type 0} (objects : S → store.Content) (calls : S → Control store_call.call_code) where
   -- one read of a segment's index, which is kept
   pub record ReadsIndex (wanted : FetchRequest) (piece : Piece) (place : ℕ × Spot)
-      (result : Result FetchTurn AllocError)
+      (result : Result (Turn FetchStep) AllocError)
       (cache cache' : Cache) (old new : S) : Type 0 where
     pub answer : Result (Option (List ℕ)) Trouble
     pub gets : Gets objects calls place.1.key (all_of place.1) answer old new
     pub loads : Loads wanted piece place.0 place.1 answer result cache cache'
 
   -- the index isn't in the cache: it is read where it is
-  abbrev pub LoadRow : FetchRequest → Piece → EntriesSeen → Option (ℕ × Spot) → Result FetchTurn AllocError → Cache → Cache → S → S → Type 0
+  abbrev pub LoadRow : FetchRequest → Piece → EntriesSeen → Option (ℕ × Spot) → Result (Turn FetchStep) AllocError → Cache → Cache → S → S → Type 0
   LoadRow wanted piece view None result cache cache' old new =
       (result ≡ Ok (Ends (Damaged Meta view.notes))) × (cache' ≡ cache) × (new ≡ old)
   LoadRow wanted piece view (Some place) result cache cache' old new = ReadsIndex wanted piece place result cache cache' old new
 
   -- the index: no call is made where it is in the cache
-  abbrev pub IndexRow : FetchRequest → Piece → EntriesSeen → Result FetchTurn AllocError → Option OffsetTable → Cache → Cache → S → S → Type 0
+  abbrev pub IndexRow : FetchRequest → Piece → EntriesSeen → Result (Turn FetchStep) AllocError → Option OffsetTable → Cache → Cache → S → S → Type 0
   IndexRow wanted piece view result (Some index) cache cache' old new =
       (result ≡ Ok (reads_by wanted piece index)) × (cache' ≡ brought_front cache piece.id.0) × (new ≡ old)
   IndexRow wanted piece view result None cache cache' old new =
@@ -178,14 +178,14 @@ module _ {S : Type 0} (objects : S → store.Content) (calls : S → Control sto
       cache cache' old new
 
   -- one read of a segment's log, no further than the span
-  pub record ReadsRemoteLog (wanted : FetchRequest) (piece : Piece) (spot : Spot) (span : Span) (result : Result FetchTurn AllocError)
+  pub record ReadsRemoteLog (wanted : FetchRequest) (piece : Piece) (spot : Spot) (span : Span) (result : Result (Turn FetchStep) AllocError)
       (old new : S) : Type 0 where
     pub answer : Result (Option (List ℕ)) Trouble
     pub gets : Gets objects calls spot.key (some_of spot span.from span.most) answer old new
     pub cuts : CutsRunOut wanted piece spot span answer result
 
   -- the run is read where the segment's log is
-  abbrev pub LogRow : FetchRequest → Piece → Span → EntriesSeen → Option (ℕ × Spot) → Result FetchTurn AllocError → S
+  abbrev pub LogRow : FetchRequest → Piece → Span → EntriesSeen → Option (ℕ × Spot) → Result (Turn FetchStep) AllocError → S
       → S
       → Type 0
   LogRow wanted piece span view None result old new = (result ≡ Ok (Ends (Damaged Meta view.notes))) × (new ≡ old)
@@ -201,7 +201,7 @@ pub record Tiers (S M : Type 0) : Type 0 where
 module _ {S M : Type 0} (objects : S → store.Content) (calls : S → Control store_call.call_code)
     (notes : M → meta.Content) (notings : M → Control meta_call.call_code) where
   -- a turn of a fetch, by what was next: what it came to, or that it ran out of memory
-  abbrev pub RemoteFetchRow : FetchRequest → List (ℕ × ℕ) → FetchStep → Result FetchTurn AllocError → Tiers S M
+  abbrev pub RemoteFetchRow : FetchRequest → List (ℕ × ℕ) → FetchStep → Result (Turn FetchStep) AllocError → Tiers S M
       → Tiers S M
       → Type 0
   RemoteFetchRow wanted line Refresh result old new =

@@ -15,5 +15,5 @@ mod turn;
 mod turns;
 
 pub use spanning::span_of;
-pub use turn::{FetchRequest, FetchStep, FetchTurn, Span};
+pub use turn::{FetchRequest, FetchStep, Span};
 pub use turns::fetch_turn;

@@ -34,12 +34,3 @@ pub enum FetchStep {
     /// Read these bytes of the segment, and cut the run out of them.
     Log(Piece, Span),
 }
-
-/// The result of a turn of a fetch.
-#[derive(Debug, Drop)]
-pub enum FetchTurn {
-    /// The fetch continues with this turn.
-    Goes(FetchStep),
-    /// The fetch has ended with this answer.
-    Ends(Answer),
-}

@@ -7,18 +7,18 @@ ghost use Rattle.remote_find.specs.Pieces.{piece_at};
 ghost use Rattle.index_cache.specs.Cache.{found, brought_front};
 ghost use Rattle.plain_log.specs.declared.answer.Answer.TheVariants.{Damaged};
 ghost use Rattle.plain_log.specs.declared.answer.Place.TheVariants.{Key, Meta};
-ghost use Rattle.tier_fetch.specs.declared.turn.FetchTurn.TheVariants.{Ends};
+ghost use Rattle.plain_log.specs.declared.turn.Turn.TheVariants.{Ends};
 ghost use Rattle.tier_fetch.specs.Span.{span_of};
 ghost use Rattle.tier_fetch.specs.Turns.{Tiers, IsPieceFor, GoesFor, chosen, spot_in, Loads, CutsRunOut, RefreshRow, IndexRow, LoadRow, LogRow, RemoteFetchRow};
 
 use crate::spanning::span_of;
-use crate::turn::{FetchRequest, FetchStep, FetchTurn, Span};
+use crate::turn::{FetchRequest, FetchStep, Span};
 use bytes::Bytes;
 use epoch_line::Line;
 use index_cache::IndexCache;
 use meta_log::MetaLog;
 use object_store::{Spot, Store, get_in_spot, get_spot, place};
-use plain_log::{Answer, Place, Tier};
+use plain_log::{Answer, Place, Tier, Turn};
 use remote_find::{Piece, find};
 use remote_view::View;
 use segment_file::take_run;
@@ -37,7 +37,7 @@ pub fn fetch_turn<S: Store, M: MetaLog>(
     cache: &mut IndexCache,
     store: &mut S,
     meta: &mut M,
-) -> Result<FetchTurn, AllocError>
+) -> Result<Turn<FetchStep>, AllocError>
     requires below { wanted.now.offset < wanted.now.mark }
     requires holds { IsPieceFor wanted.now.offset next }
     ensures row { RemoteFetchRow S.content S.control M.content M.control wanted.now line.now next result
@@ -58,19 +58,19 @@ fn choose<M: MetaLog>(
     line: &Line,
     view: &mut View,
     meta: &mut M,
-) -> Result<FetchTurn, AllocError>
+) -> Result<Turn<FetchStep>, AllocError>
     ensures row { RefreshRow M.content M.control wanted.now line.now result view.old view.new meta.old meta.new }
     ensures goes { IfOk result (GoesFor wanted.now.offset) }
 {
     match refresh(view, meta) {
         Ok(()) => Ok(chosen(wanted, line, view)),
-        Err(Trouble::Failed) => Ok(FetchTurn::Ends(Answer::MetaFault)),
+        Err(Trouble::Failed) => Ok(Turn::Ends(Answer::MetaFault)),
         Err(Trouble::NoMemory) => Err(AllocError),
     }
 }
 
 /// What a refreshed view has for the offset.
-fn chosen(wanted: &FetchRequest, line: &Line, view: &View) -> FetchTurn
+fn chosen(wanted: &FetchRequest, line: &Line, view: &View) -> Turn<FetchStep>
     ensures turn { result ≡ chosen view.now.notes
         (piece_at view.now.entries line.now wanted.now.log_end wanted.now.offset) }
     ensures goes { GoesFor wanted.now.offset result }
@@ -80,17 +80,17 @@ fn chosen(wanted: &FetchRequest, line: &Line, view: &View) -> FetchTurn
             // Reading both shows that the piece ends past the offset.
             let _entries = view.entries();
             let _line = line.entries();
-            FetchTurn::Goes(FetchStep::Index(piece))
+            Turn::Goes(FetchStep::Index(piece))
         }
         None => lost(view),
     }
 }
 
 /// A view that lacks what the metadata events must hold is damage of the metadata log.
-fn lost(view: &View) -> FetchTurn
+fn lost(view: &View) -> Turn<FetchStep>
     ensures { result ≡ Ends (Damaged Meta view.now.notes) }
 {
-    FetchTurn::Ends(Answer::Damaged(Place::Meta, view.seen()))
+    Turn::Ends(Answer::Damaged(Place::Meta, view.seen()))
 }
 
 /// Has the index of a piece's segment: the one in the cache, or else the one in the store.
@@ -101,7 +101,7 @@ fn index<S: Store>(
     view: &View,
     cache: &mut IndexCache,
     store: &mut S,
-) -> Result<FetchTurn, AllocError>
+) -> Result<Turn<FetchStep>, AllocError>
     requires { wanted.now.offset < piece.now.to }
     ensures row { IndexRow S.content S.control wanted.now piece.now view.now result
         (found piece.now.id.0 cache.old.pairs) cache.old cache.new store.old store.new }
@@ -109,7 +109,7 @@ fn index<S: Store>(
 {
     let shown = cached(wanted, piece, cache);
     match shown {
-        Some(span) => Ok(FetchTurn::Goes(FetchStep::Log(*piece, span))),
+        Some(span) => Ok(Turn::Goes(FetchStep::Log(*piece, span))),
         None => load(alloc, wanted, piece, view, cache, store),
     }
 }
@@ -135,7 +135,7 @@ fn load<S: Store>(
     view: &View,
     cache: &mut IndexCache,
     store: &mut S,
-) -> Result<FetchTurn, AllocError>
+) -> Result<Turn<FetchStep>, AllocError>
     requires { wanted.now.offset < piece.now.to }
     ensures row { LoadRow S.content S.control wanted.now piece.now view.now
         (spot_in wanted.now.partition piece.now.id part.Index (entry_of piece.now.id view.now.entries)) result
@@ -147,7 +147,7 @@ fn load<S: Store>(
     };
     match get_spot(store, &spot) {
         Ok(given) => keep(alloc, wanted, piece, base, &spot, given, cache),
-        Err(Trouble::Failed) => Ok(FetchTurn::Ends(Answer::StoreFault)),
+        Err(Trouble::Failed) => Ok(Turn::Ends(Answer::StoreFault)),
         Err(Trouble::NoMemory) => Err(AllocError),
     }
 }
@@ -183,7 +183,7 @@ fn keep(
     spot: &Spot,
     given: Option<Bytes>,
     cache: &mut IndexCache,
-) -> Result<FetchTurn, AllocError>
+) -> Result<Turn<FetchStep>, AllocError>
     requires holds { wanted.now.offset < piece.now.to }
     requires low { base ≤ 2 ^ 62 }
     requires near { spot.now.at < 2 ^ 34 }
@@ -201,7 +201,7 @@ fn keep(
             let span = span_of(&index, wanted.offset, wanted.limit, piece.to);
             let _rises = index.offsets();
             cache.keep(piece.id, index)?;
-            Ok(FetchTurn::Goes(FetchStep::Log(*piece, span)))
+            Ok(Turn::Goes(FetchStep::Log(*piece, span)))
         }
         Err(IndexRefusal::BadLength | IndexRefusal::NotRising { .. }) => Ok(damaged(spot, spot.at)),
         Err(IndexRefusal::NoMemory) => Err(AllocError),
@@ -209,10 +209,10 @@ fn keep(
 }
 
 /// An object that lacks what is read, or is invalid from a place on.
-fn damaged(spot: &Spot, at: u64) -> FetchTurn
+fn damaged(spot: &Spot, at: u64) -> Turn<FetchStep>
     ensures { result ≡ Ends (Damaged (Key spot.now.key) at) }
 {
-    FetchTurn::Ends(Answer::Damaged(Place::Key(spot.key), at))
+    Turn::Ends(Answer::Damaged(Place::Key(spot.key), at))
 }
 
 /// Reads a part of a segment's log, and cuts the run out of it.
@@ -222,7 +222,7 @@ fn log<S: Store>(
     span: Span,
     view: &View,
     store: &mut S,
-) -> Result<FetchTurn, AllocError>
+) -> Result<Turn<FetchStep>, AllocError>
     requires below { wanted.now.offset < wanted.now.mark }
     requires holds { wanted.now.offset < piece.now.to }
     ensures row { LogRow S.content S.control wanted.now piece.now span view.now
@@ -235,7 +235,7 @@ fn log<S: Store>(
     };
     match get_in_spot(store, &spot, span.from as u64, span.most) {
         Ok(given) => cut_out(wanted, piece, &spot, span, given),
-        Err(Trouble::Failed) => Ok(FetchTurn::Ends(Answer::StoreFault)),
+        Err(Trouble::Failed) => Ok(Turn::Ends(Answer::StoreFault)),
         Err(Trouble::NoMemory) => Err(AllocError),
     }
 }
@@ -247,7 +247,7 @@ fn cut_out(
     spot: &Spot,
     span: Span,
     given: Option<Bytes>,
-) -> Result<FetchTurn, AllocError>
+) -> Result<Turn<FetchStep>, AllocError>
     requires below { wanted.now.offset < wanted.now.mark }
     requires holds { wanted.now.offset < piece.now.to }
     requires near { spot.now.at < 2 ^ 34 }
@@ -269,7 +269,7 @@ fn cut_out(
     ) {
         Ok(cut) => {
             let run = bytes.slice(cut.from..cut.to)?;
-            Ok(FetchTurn::Ends(Answer::Run {
+            Ok(Turn::Ends(Answer::Run {
                 tier: Tier::Remote(piece.id),
                 size: run.len() as u64,
                 stop: cut.stop,

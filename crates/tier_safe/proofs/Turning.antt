@@ -35,15 +35,13 @@ use Rattle.copy_task.specs.Copying.{Copied, keys as copy_keys, start_note, finis
 use Rattle.copy_task.specs.Turns.{StartRow, FinishRow, CheckRow, PutObjectRow, DeleteRow, CopyTurnRow, checked, delete_at, Tiers as CopyTiers}
 use Rattle.copy_task.specs.declared.turn.CopyStep.{CopyStep as CopyNext}
 use Rattle.copy_task.specs.declared.turn.CopyStep.TheVariants as copying
-use Rattle.copy_task.specs.declared.turn.CopyTurn.{CopyTurn}
-use Rattle.copy_task.specs.declared.turn.CopyTurn.TheVariants.{Ends as CopyStops}
+use Rattle.plain_log.specs.declared.turn.Turn.{Turn}
+use Rattle.plain_log.specs.declared.turn.Turn.TheVariants.{Ends}
 use Rattle.expiry_task.specs.Turns.{keys as expiry_keys, ExpiryRow, Tiers as ExpiryTiers}
 use Rattle.expiry_task.specs.Turns as expiry
 use Rattle.expiry_task.specs.declared.turn.ExpiredSegment.{ExpiredSegment}
 use Rattle.expiry_task.specs.declared.turn.DeletionStep.{DeletionStep as ExpiryNext}
 use Rattle.expiry_task.specs.declared.turn.DeletionStep.TheVariants as expiring
-use Rattle.expiry_task.specs.declared.turn.ExpiryTurn.{ExpiryTurn}
-use Rattle.expiry_task.specs.declared.turn.ExpiryTurn.TheVariants.{Ends as ExpiryStops}
 use Rattle.tier_safe.specs.Scene.{BrokerTierView, TierTask, Free, Copies, Expires, Scene}
 use Rattle.tier_safe.specs.Changes.{Leaves, Overtakes, Telling, CopyStarts, CopyEnds, ExpiryStarts, ExpiryEnds, note_for, before_telling, after_telling, Storing, Puts, Undoes, Deletes, key_for, KeyStands, made_by, before_storing, after_storing, undone, Change, Moves, Tells, Stores, Sees, effect, effects}
 use Rattle.tier_safe.specs.Views.{IsViewOf}
@@ -209,28 +207,28 @@ module _ {S M : Type 0} (objects : S → store.Content) (calls : S → Control s
 
   -- the turns of a copy
 
-  start_turn : (c : Scene) (p : Plain) (a b : ℕ) (tier_view : BrokerTierView) (copied : Copied) (origin : EventOrigin) (turn : CopyTurn) (s : store.Content) (old new : M)
+  start_turn : (c : Scene) (p : Plain) (a b : ℕ) (tier_view : BrokerTierView) (copied : Copied) (origin : EventOrigin) (turn : Turn CopyNext) (s : store.Content) (old new : M)
       → ShowsScene c a b tier_view (Copies copied copying.Start) s (notes old) tier_view.view → StartRow notes notings copied origin (Ok turn) old new
       → IsChanged c p (after_turn c a b tier_view (copy_work copied turn) s.objects (notes new).notes tier_view.view)
-  start_turn c p a b tier_view copied origin (CopyStops MetaFault) s old new h row = told_failed c p a b tier_view (CopyStarts copied) origin s old new h row
+  start_turn c p a b tier_view copied origin (Ends MetaFault) s old new h row = told_failed c p a b tier_view (CopyStarts copied) origin s old new h row
   start_turn c p a b tier_view copied origin turn s old new h row =
       renamed c p a b tier_view _ _ s.objects s.objects (notes new).notes (notes new).notes tier_view.view tier_view.view (ap (copy_work copied) (sym row.0)) refl refl refl
       (told_went c p a b tier_view (CopyStarts copied) origin s old new h row.1)
 
-  finish_turn : (c : Scene) (p : Plain) (a b : ℕ) (tier_view : BrokerTierView) (copied : Copied) (origin : EventOrigin) (turn : CopyTurn) (s : store.Content) (old new : M)
+  finish_turn : (c : Scene) (p : Plain) (a b : ℕ) (tier_view : BrokerTierView) (copied : Copied) (origin : EventOrigin) (turn : Turn CopyNext) (s : store.Content) (old new : M)
       → ShowsScene c a b tier_view (Copies copied copying.Finish) s (notes old) tier_view.view → FinishRow notes notings copied origin (Ok turn) old new
       → IsChanged c p (after_turn c a b tier_view (copy_work copied turn) s.objects (notes new).notes tier_view.view)
-  finish_turn c p a b tier_view copied origin (CopyStops MetaFault) s old new h row = told_failed c p a b tier_view (CopyEnds copied) origin s old new h row
+  finish_turn c p a b tier_view copied origin (Ends MetaFault) s old new h row = told_failed c p a b tier_view (CopyEnds copied) origin s old new h row
   finish_turn c p a b tier_view copied origin turn s old new h row =
       renamed c p a b tier_view _ _ s.objects s.objects (notes new).notes (notes new).notes tier_view.view tier_view.view (ap (copy_work copied) (sym row.0)) refl refl refl
       (told_went c p a b tier_view (CopyEnds copied) origin s old new h row.1)
 
-  put_turn : (c : Scene) (p : Plain) (a b : ℕ) (tier_view : BrokerTierView) (copied : Copied) (n : ℕ) (o : Option ObjectKey) (turn : CopyTurn) (ns : meta.Content) (old new : S)
+  put_turn : (c : Scene) (p : Plain) (a b : ℕ) (tier_view : BrokerTierView) (copied : Copied) (n : ℕ) (o : Option ObjectKey) (turn : Turn CopyNext) (ns : meta.Content) (old new : S)
       → slice_get (copy_keys copied) n ≡ o → n < length (copy_keys copied)
       → ShowsScene c a b tier_view (Copies copied (copying.Put n)) (objects old) ns tier_view.view → PutObjectRow objects calls copied n o (Ok turn) old new
       → IsChanged c p (after_turn c a b tier_view (copy_work copied turn) (objects new).objects ns.notes tier_view.view)
   put_turn c p a b tier_view copied n None turn ns old new at low h row = absurd (let there = look (copy_keys copied) n low in cc (there.1, at))
-  put_turn c p a b tier_view copied n (Some key) (CopyStops StoreFault) ns old new at low h row =
+  put_turn c p a b tier_view copied n (Some key) (Ends StoreFault) ns old new at low h row =
       stored_failed c p a b tier_view (Puts copied n key) _ old new ns h at (part_under copied key row.part row.place _ _ _ row.puts.content)
   put_turn c p a b tier_view copied n (Some key) turn ns old new at low h row =
       renamed c p a b tier_view _ _ (objects new).objects (objects new).objects ns.notes ns.notes tier_view.view tier_view.view (ap (copy_work copied) (sym row.0)) refl refl refl
@@ -240,12 +238,12 @@ module _ {S M : Type 0} (objects : S → store.Content) (calls : S → Control s
   after_undone copied view n None = refl
   after_undone copied view n (Some key) = refl
 
-  delete_turn : (c : Scene) (p : Plain) (a b : ℕ) (tier_view : BrokerTierView) (copied : Copied) (view : EntriesSeen) (n : ℕ) (o : Option ObjectKey) (turn : CopyTurn) (ns : meta.Content) (old new : S)
+  delete_turn : (c : Scene) (p : Plain) (a b : ℕ) (tier_view : BrokerTierView) (copied : Copied) (view : EntriesSeen) (n : ℕ) (o : Option ObjectKey) (turn : Turn CopyNext) (ns : meta.Content) (old new : S)
       → slice_get (copy_keys copied) n ≡ o → n < length (copy_keys copied)
       → ShowsScene c a b tier_view (Copies copied (copying.Delete n)) (objects old) ns tier_view.view → DeleteRow objects calls copied view n o turn old new
       → IsChanged c p (after_turn c a b tier_view (copy_work copied turn) (objects new).objects ns.notes tier_view.view)
   delete_turn c p a b tier_view copied view n None turn ns old new at low h row = absurd (let there = look (copy_keys copied) n low in cc (there.1, at))
-  delete_turn c p a b tier_view copied view n (Some key) (CopyStops StoreFault) ns old new at low h row =
+  delete_turn c p a b tier_view copied view n (Some key) (Ends StoreFault) ns old new at low h row =
       stored_failed c p a b tier_view (Undoes copied n key) _ old new ns h at row.content
   delete_turn c p a b tier_view copied view n (Some key) turn ns old new at low h row =
       renamed c p a b tier_view _ _ (objects new).objects (objects new).objects ns.notes ns.notes tier_view.view tier_view.view
@@ -301,11 +299,11 @@ module _ {S M : Type 0} (objects : S → store.Content) (calls : S → Control s
   by_state c p a b tier_view copied view n (Some DeleteStarted) at actor_state is h = overtakes c p a b tier_view copied DeleteStarted view at actor_state is refl h
   by_state c p a b tier_view copied view n (Some DeleteFinished) at actor_state is h = overtakes c p a b tier_view copied DeleteFinished view at actor_state is refl h
 
-  check_turn : (c : Scene) (p : Plain) (a b : ℕ) (tier_view : BrokerTierView) (copied : Copied) (turn : CopyTurn) (s : store.Content) (old new : M) (view : EntriesSeen)
+  check_turn : (c : Scene) (p : Plain) (a b : ℕ) (tier_view : BrokerTierView) (copied : Copied) (turn : Turn CopyNext) (s : store.Content) (old new : M) (view : EntriesSeen)
       → ShowsScene c a b tier_view (Copies copied copying.Check) s (notes old) tier_view.view → length c.notes < 2 ^ 64 → IsViewOf c.notes tier_view.view
       → CheckRow notes notings copied (Ok turn) tier_view.view view old new
       → IsChanged c p (after_turn c a b tier_view (copy_work copied turn) s.objects (notes new).notes view)
-  check_turn c p a b tier_view copied (CopyStops MetaFault) s old new view h few v row =
+  check_turn c p a b tier_view copied (Ends MetaFault) s old new view h few v row =
       renamed c p a b tier_view _ _ c.objects s.objects c.notes (notes new).notes tier_view.view view refl h.objects_are (h.notes_are ∙ sym row.content.notes) (sym row.view) (left c p a b tier_view h.tier_view_is)
   check_turn c p a b tier_view copied turn s old new view h few v row =
       let all = sees_all c p a b tier_view (Copies copied copying.Check) s old view h few v row.1.view in
@@ -329,7 +327,7 @@ module _ {S M : Type 0} (objects : S → store.Content) (calls : S → Control s
       → IsChanged c p (after_turn c a b tier_view work o n v) → IsChanged c p (after_turn c a b tier_view work (objects new.store).objects (notes new.meta).notes new.view)
   copied_rest c p a b tier_view work o n v new eo en ev h = renamed c p a b tier_view work work o _ n _ v _ refl eo en ev h
 
-  copy_went : (copied : Copied) (origin : EventOrigin) (next : CopyNext) (turn : CopyTurn) (old new : CopyTiers S M) (c : Scene) (p : Plain) (a b : ℕ) (tier_view : BrokerTierView)
+  copy_went : (copied : Copied) (origin : EventOrigin) (next : CopyNext) (turn : Turn CopyNext) (old new : CopyTiers S M) (c : Scene) (p : Plain) (a b : ℕ) (tier_view : BrokerTierView)
       → CopyTurnRow objects calls notes notings copied origin next (Ok turn) old new → ShowsScene c a b tier_view (Copies copied next) (objects old.store) (notes old.meta) old.view
       → length c.notes < 2 ^ 64 → TierSafe c p
       → IsChanged c p (after_turn c a b tier_view (copy_work copied turn) (objects new.store).objects (notes new.meta).notes new.view)
@@ -357,34 +355,34 @@ module _ {S M : Type 0} (objects : S → store.Content) (calls : S → Control s
 
   -- the turns of an expiry
 
-  expiry_start : (c : Scene) (p : Plain) (a b : ℕ) (tier_view : BrokerTierView) (expired_segment : ExpiredSegment) (origin : EventOrigin) (turn : ExpiryTurn) (s : store.Content) (old new : M)
+  expiry_start : (c : Scene) (p : Plain) (a b : ℕ) (tier_view : BrokerTierView) (expired_segment : ExpiredSegment) (origin : EventOrigin) (turn : Turn ExpiryNext) (s : store.Content) (old new : M)
       → ShowsScene c a b tier_view (Expires expired_segment expiring.Start) s (notes old) tier_view.view → expiry.StartRow notes notings expired_segment origin (Ok turn) old new
       → IsChanged c p (after_turn c a b tier_view (expiry_work expired_segment turn) s.objects (notes new).notes tier_view.view)
-  expiry_start c p a b tier_view expired_segment origin (ExpiryStops MetaFault) s old new h row = told_failed c p a b tier_view (ExpiryStarts expired_segment) origin s old new h row
+  expiry_start c p a b tier_view expired_segment origin (Ends MetaFault) s old new h row = told_failed c p a b tier_view (ExpiryStarts expired_segment) origin s old new h row
   expiry_start c p a b tier_view expired_segment origin turn s old new h row =
       renamed c p a b tier_view _ _ s.objects s.objects (notes new).notes (notes new).notes tier_view.view tier_view.view (ap (expiry_work expired_segment) (sym row.0)) refl refl refl
       (told_went c p a b tier_view (ExpiryStarts expired_segment) origin s old new h row.1)
 
-  expiry_finish : (c : Scene) (p : Plain) (a b : ℕ) (tier_view : BrokerTierView) (expired_segment : ExpiredSegment) (origin : EventOrigin) (turn : ExpiryTurn) (s : store.Content) (old new : M)
+  expiry_finish : (c : Scene) (p : Plain) (a b : ℕ) (tier_view : BrokerTierView) (expired_segment : ExpiredSegment) (origin : EventOrigin) (turn : Turn ExpiryNext) (s : store.Content) (old new : M)
       → ShowsScene c a b tier_view (Expires expired_segment expiring.Finish) s (notes old) tier_view.view → expiry.FinishRow notes notings expired_segment origin (Ok turn) old new
       → IsChanged c p (after_turn c a b tier_view (expiry_work expired_segment turn) s.objects (notes new).notes tier_view.view)
-  expiry_finish c p a b tier_view expired_segment origin (ExpiryStops MetaFault) s old new h row = told_failed c p a b tier_view (ExpiryEnds expired_segment) origin s old new h row
+  expiry_finish c p a b tier_view expired_segment origin (Ends MetaFault) s old new h row = told_failed c p a b tier_view (ExpiryEnds expired_segment) origin s old new h row
   expiry_finish c p a b tier_view expired_segment origin turn s old new h row =
       renamed c p a b tier_view _ _ s.objects s.objects (notes new).notes (notes new).notes tier_view.view tier_view.view (ap (expiry_work expired_segment) (sym row.0)) refl refl refl
       (told_went c p a b tier_view (ExpiryEnds expired_segment) origin s old new h row.1)
 
-  expiry_delete : (c : Scene) (p : Plain) (a b : ℕ) (tier_view : BrokerTierView) (expired_segment : ExpiredSegment) (n : ℕ) (o : Option ObjectKey) (turn : ExpiryTurn) (ns : meta.Content) (old new : S)
+  expiry_delete : (c : Scene) (p : Plain) (a b : ℕ) (tier_view : BrokerTierView) (expired_segment : ExpiredSegment) (n : ℕ) (o : Option ObjectKey) (turn : Turn ExpiryNext) (ns : meta.Content) (old new : S)
       → slice_get (expiry_keys expired_segment) n ≡ o → n < length (expiry_keys expired_segment)
       → ShowsScene c a b tier_view (Expires expired_segment (expiring.Delete n)) (objects old) ns tier_view.view → expiry.DeleteRow objects calls expired_segment n o turn old new
       → IsChanged c p (after_turn c a b tier_view (expiry_work expired_segment turn) (objects new).objects ns.notes tier_view.view)
   expiry_delete c p a b tier_view expired_segment n None turn ns old new at low h row = absurd (let there = look (expiry_keys expired_segment) n low in cc (there.1, at))
-  expiry_delete c p a b tier_view expired_segment n (Some key) (ExpiryStops StoreFault) ns old new at low h row =
+  expiry_delete c p a b tier_view expired_segment n (Some key) (Ends StoreFault) ns old new at low h row =
       stored_failed c p a b tier_view (Deletes expired_segment n key) _ old new ns h at row.content
   expiry_delete c p a b tier_view expired_segment n (Some key) turn ns old new at low h row =
       renamed c p a b tier_view _ _ (objects new).objects (objects new).objects ns.notes ns.notes tier_view.view tier_view.view (ap (expiry_work expired_segment) (sym row.0)) refl refl refl
       (stored_went c p a b tier_view (Deletes expired_segment n key) _ old new ns h at row.1.content (λ done k. k.went refl))
 
-  expiry_went : (expired_segment : ExpiredSegment) (origin : EventOrigin) (next : ExpiryNext) (turn : ExpiryTurn) (old new : ExpiryTiers S M) (c : Scene) (p : Plain) (a b : ℕ) (tier_view : BrokerTierView)
+  expiry_went : (expired_segment : ExpiredSegment) (origin : EventOrigin) (next : ExpiryNext) (turn : Turn ExpiryNext) (old new : ExpiryTiers S M) (c : Scene) (p : Plain) (a b : ℕ) (tier_view : BrokerTierView)
       → ExpiryRow objects calls notes notings expired_segment origin next (Ok turn) old new → ShowsScene c a b tier_view (Expires expired_segment next) (objects old.store) (notes old.meta) tier_view.view
       → TierSafe c p
       → IsChanged c p (after_turn c a b tier_view (expiry_work expired_segment turn) (objects new.store).objects (notes new.meta).notes tier_view.view)

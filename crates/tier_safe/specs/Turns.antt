@@ -19,13 +19,11 @@ use Rattle.view_refresh.specs.Refreshing.{Refreshes, Advances}
 use Rattle.copy_task.specs.Copying.{Copied}
 use Rattle.copy_task.specs.Turns as copy
 use Rattle.copy_task.specs.declared.turn.CopyStep.{CopyStep as CopyNext}
-use Rattle.copy_task.specs.declared.turn.CopyTurn.{CopyTurn}
-use Rattle.copy_task.specs.declared.turn.CopyTurn.TheVariants.{Goes as CopyGoes, Ends as CopyEnds}
+use Rattle.plain_log.specs.declared.turn.Turn.{Turn}
+use Rattle.plain_log.specs.declared.turn.Turn.TheVariants.{Goes, Ends}
 use Rattle.expiry_task.specs.Turns as expiry
 use Rattle.expiry_task.specs.declared.turn.ExpiredSegment.{ExpiredSegment}
 use Rattle.expiry_task.specs.declared.turn.DeletionStep.{DeletionStep as ExpiryNext}
-use Rattle.expiry_task.specs.declared.turn.ExpiryTurn.{ExpiryTurn}
-use Rattle.expiry_task.specs.declared.turn.ExpiryTurn.TheVariants.{Goes as ExpiryGoes, Ends as ExpiryEnds}
 use Rattle.tier_safe.specs.Scene.{BrokerTierView, TierTask, Free, Copies, Expires, Scene}
 use Rattle.tier_safe.specs.May.{IsChanged}
 use Rattle.tier_safe.specs.Safe.{TierSafe}
@@ -52,22 +50,22 @@ after_turn c a b tier_view work objects notes view = record {
 }
 
 -- what a copy's actor's state has after a turn
-abbrev pub copy_work : Copied → CopyTurn → TierTask
-copy_work copied (CopyGoes next) = Copies copied next
-copy_work copied (CopyEnds answer) = Free
+abbrev pub copy_work : Copied → Turn CopyNext → TierTask
+copy_work copied (Goes next) = Copies copied next
+copy_work copied (Ends answer) = Free
 
 -- after one that may have run out of memory, and then changed nothing
-abbrev pub copy_after : Copied → CopyNext → Result CopyTurn AllocError → TierTask
+abbrev pub copy_after : Copied → CopyNext → Result (Turn CopyNext) AllocError → TierTask
 copy_after copied next (Ok turn) = copy_work copied turn
 copy_after copied next (Err e) = Copies copied next
 
 -- what an expiry's actor's state has after a turn
-abbrev pub expiry_work : ExpiredSegment → ExpiryTurn → TierTask
-expiry_work expired_segment (ExpiryGoes next) = Expires expired_segment next
-expiry_work expired_segment (ExpiryEnds answer) = Free
+abbrev pub expiry_work : ExpiredSegment → Turn ExpiryNext → TierTask
+expiry_work expired_segment (Goes next) = Expires expired_segment next
+expiry_work expired_segment (Ends answer) = Free
 
 -- after one that may have run out of memory
-abbrev pub expiry_after : ExpiredSegment → ExpiryNext → Result ExpiryTurn AllocError → TierTask
+abbrev pub expiry_after : ExpiredSegment → ExpiryNext → Result (Turn ExpiryNext) AllocError → TierTask
 expiry_after expired_segment next (Ok turn) = expiry_work expired_segment turn
 expiry_after expired_segment next (Err e) = Expires expired_segment next
 
@@ -91,7 +89,7 @@ module _ {S M : Type 0} (objects : S → store.Content) (calls : S → Control s
   -- each turn of a copy is changes
   abbrev pub CopyTurnsChange : Type 0
   CopyTurnsChange =
-      (copied : Copied) (origin : EventOrigin) (next : CopyNext) (result : Result CopyTurn AllocError) (old new : copy.Tiers S M)
+      (copied : Copied) (origin : EventOrigin) (next : CopyNext) (result : Result (Turn CopyNext) AllocError) (old new : copy.Tiers S M)
       (c : Scene) (p : Plain) (a b : ℕ) (tier_view : BrokerTierView)
       → copy.CopyTurnRow objects calls notes notings copied origin next result old new
       → ShowsScene c a b tier_view (Copies copied next) (objects old.store) (notes old.meta) old.view
@@ -102,7 +100,7 @@ module _ {S M : Type 0} (objects : S → store.Content) (calls : S → Control s
   -- each turn of an expiry is
   abbrev pub ExpiryTurnsChange : Type 0
   ExpiryTurnsChange =
-      (expired_segment : ExpiredSegment) (origin : EventOrigin) (next : ExpiryNext) (result : Result ExpiryTurn AllocError) (old new : expiry.Tiers S M)
+      (expired_segment : ExpiredSegment) (origin : EventOrigin) (next : ExpiryNext) (result : Result (Turn ExpiryNext) AllocError) (old new : expiry.Tiers S M)
       (c : Scene) (p : Plain) (a b : ℕ) (tier_view : BrokerTierView)
       → expiry.ExpiryRow objects calls notes notings expired_segment origin next result old new
       → ShowsScene c a b tier_view (Expires expired_segment next) (objects old.store) (notes old.meta) tier_view.view

@@ -8,11 +8,11 @@ use crate::given::{
     failing_store, grows, id, key, tells_with,
 };
 use bytes::Bytes;
-use copy_task::{CopyStep, CopyTurn, Copying, candidate, copy_turn};
+use copy_task::{CopyStep, Copying, candidate, copy_turn};
 use epoch_line::Line;
 use meta_log::{EventOrigin, MemoryLog, MetaCall, MetaLog};
 use object_store::{MemoryStore, ObjectKey, Store, StoreCall, place};
-use plain_log::{Answer, Place};
+use plain_log::{Answer, Place, Turn};
 use remote_view::View;
 use segment_bundle::Bundle;
 use segment_file::{Closed, Growing};
@@ -122,10 +122,10 @@ fn answered(answer: &Answer) -> Came {
 }
 
 /// What a turn of a copy came to, in short.
-fn came_to(turn: &CopyTurn) -> Came {
+fn came_to(turn: &Turn<CopyStep>) -> Came {
     match turn {
-        CopyTurn::Goes(next) => Came::Goes(*next),
-        CopyTurn::Ends(answer) => answered(answer),
+        Turn::Goes(next) => Came::Goes(*next),
+        Turn::Ends(answer) => answered(answer),
     }
 }
 

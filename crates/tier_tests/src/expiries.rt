@@ -5,12 +5,12 @@
 use crate::given::{FINISHED, PARTITION, failing_log, failing_store, feeds, grows, id, puts};
 use epoch_line::Line;
 use expiry_task::{
-    DeletionStep, ExpiredSegment, ExpiryTurn, end_behind, end_from, expiry_turn, find_uncopied,
-    raised_to, rest_behind,
+    DeletionStep, ExpiredSegment, end_behind, end_from, expiry_turn, find_uncopied, raised_to,
+    rest_behind,
 };
 use meta_log::{EventOrigin, MemoryLog, MetaCall, MetaLog};
 use object_store::{MemoryStore, ObjectKey, Store, StoreCall, keys_of};
-use plain_log::Answer;
+use plain_log::{Answer, Turn};
 use remote_find::{Piece, chain};
 use remote_view::View;
 use segment_file::Growing;
@@ -72,10 +72,10 @@ fn answered(answer: &Answer) -> Came {
 }
 
 /// What a turn of an expiry came to, in short.
-fn came_to(turn: &ExpiryTurn) -> Came {
+fn came_to(turn: &Turn<DeletionStep>) -> Came {
     match turn {
-        ExpiryTurn::Goes(next) => Came::Goes(*next),
-        ExpiryTurn::Ends(answer) => answered(answer),
+        Turn::Goes(next) => Came::Goes(*next),
+        Turn::Ends(answer) => answered(answer),
     }
 }
 

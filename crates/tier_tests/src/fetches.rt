@@ -13,13 +13,13 @@ use epoch_line::Line;
 use index_cache::IndexCache;
 use meta_log::{MemoryLog, MetaCall, MetaLog};
 use object_store::{DeafStore, MemoryStore, ObjectKey, Store, StoreCall};
-use plain_log::{Answer, Place, Tier};
+use plain_log::{Answer, Place, Tier, Turn};
 use remote_view::View;
 use sparse_index::OffsetIndex;
 use std::alloc::{AllocError, Global};
 use std::marker::Model;
 use tier_base::{Part, Stop};
-use tier_fetch::{FetchRequest, FetchStep, FetchTurn, fetch_turn, span_of};
+use tier_fetch::{FetchRequest, FetchStep, fetch_turn, span_of};
 
 /// A copy of offsets 0 to 3 starts, of epoch 0: 276 bytes.
 static STARTED: [u8; 75] = [
@@ -101,10 +101,10 @@ fn answered(answer: &Answer, held: &[u8]) -> Came {
 }
 
 /// What a turn of a fetch came to, in short.
-fn came_to(turn: &FetchTurn, held: &[u8]) -> Turned {
+fn came_to(turn: &Turn<FetchStep>, held: &[u8]) -> Turned {
     match turn {
-        FetchTurn::Goes(next) => Turned::Goes(*next),
-        FetchTurn::Ends(answer) => Turned::Ends(answered(answer, held)),
+        Turn::Goes(next) => Turned::Goes(*next),
+        Turn::Ends(answer) => Turned::Ends(answered(answer, held)),
     }
 }
 

@@ -6,8 +6,8 @@ use crate::given::{FINISHED, PARTITION, failing_store, feeds, key, puts, shared}
 use bytes::Bytes;
 use epoch_line::Line;
 use object_store::{DeafStore, ObjectKey, Store, StoreCall};
-use plain_log::{Answer, Place};
-use rebuild_task::{RebuildRequest, RebuildStep, RebuildTurn, rebuild_turn};
+use plain_log::{Answer, Place, Turn};
+use rebuild_task::{RebuildRequest, RebuildStep, rebuild_turn};
 use remote_view::View;
 use std::alloc::{AllocError, Global};
 use tier_base::Part;
@@ -74,11 +74,11 @@ fn answered(answer: &Answer) -> Came {
 }
 
 /// What a rebuild came to, in short.
-fn came_to(alloc: Global, turn: &RebuildTurn, text: &str) -> Came {
+fn came_to(alloc: Global, turn: &Turn<RebuildStep>, text: &str) -> Came {
     match turn {
-        RebuildTurn::Goes(RebuildStep::Restart(line)) => read_as(alloc, line, text),
-        RebuildTurn::Goes(RebuildStep::Epochs) => Came::Other,
-        RebuildTurn::Ends(answer) => answered(answer),
+        Turn::Goes(RebuildStep::Restart(line)) => read_as(alloc, line, text),
+        Turn::Goes(RebuildStep::Epochs) => Came::Other,
+        Turn::Ends(answer) => answered(answer),
     }
 }
 

@@ -3,8 +3,9 @@ use Rattle.std.proofs.Common.{◌≡◌, sym, subst, ℕ, ◌≤◌, ℤ, List, 
 use Rattle.segment_file.specs.Growing.{Grown}
 use Rattle.broker_log.specs.Seen.{LogState, Up, Down, Away, WhileUp}
 use Rattle.time_find.specs.declared.turn.SearchStep.TheVariants.{Seek}
-use Rattle.time_find.specs.declared.turn.TimeTurn.{TimeTurn}
-use Rattle.time_find.specs.declared.turn.TimeTurn.TheVariants.{Goes, Ends}
+use Rattle.time_find.specs.declared.turn.SearchStep.{SearchStep}
+use Rattle.plain_log.specs.declared.turn.Turn.{Turn}
+use Rattle.plain_log.specs.declared.turn.Turn.TheVariants.{Goes, Ends}
 use Rattle.time_find.specs.Passing.{passed_over}
 use Rattle.time_find.specs.Turns.{SearchContinues}
 use Rattle.time_find.proofs.Over.{passed_up}
@@ -21,7 +22,7 @@ starts_below (Down settings disk) cursor at low up = low
 starts_below Away cursor at low up = low
 
 -- and a search that continues from there continues from the cursor
-pub goes_from : (cursor at : ℕ) (turn : TimeTurn) → cursor ≤ at → SearchContinues at turn → SearchContinues cursor turn
-goes_from cursor at (Goes end Seek) up h = omega (arith, up, h)
-goes_from cursor at (Goes end next) up h = (omega (arith, up, h.0), h.1)
+pub goes_from : (cursor at : ℕ) (turn : Turn (ℕ × SearchStep)) → cursor ≤ at → SearchContinues at turn → SearchContinues cursor turn
+goes_from cursor at (Goes (end, Seek)) up h = omega (arith, up, h)
+goes_from cursor at (Goes (end, next)) up h = (omega (arith, up, h.0), h.1)
 goes_from cursor at (Ends answer) up h = tt

@@ -13,8 +13,9 @@ use Rattle.remote_find.specs.declared.piece.Piece.{Piece}
 use Rattle.remote_find.specs.Pieces.{piece_at}
 use Rattle.time_find.specs.declared.turn.Asked.{Asked}
 use Rattle.time_find.specs.declared.turn.SearchStep.TheVariants.{Seek, Times}
-use Rattle.time_find.specs.declared.turn.TimeTurn.{TimeTurn}
-use Rattle.time_find.specs.declared.turn.TimeTurn.TheVariants.{Goes, Ends}
+use Rattle.time_find.specs.declared.turn.SearchStep.{SearchStep}
+use Rattle.plain_log.specs.declared.turn.Turn.{Turn}
+use Rattle.plain_log.specs.declared.turn.Turn.TheVariants.{Goes, Ends}
 
 -- the local log
 
@@ -69,9 +70,9 @@ pub record SeeksNothing (asked : Asked) (line : List (ℕ × ℕ)) (entries : Li
   pub none : piece_at entries line asked.log_end at ≡ None
 
 -- what a view shows to a search: a missing piece is damage of the metadata log
-abbrev pub Seeks : Asked → List (ℕ × ℕ) → EntriesSeen → ℕ → TimeTurn → Type 0
-Seeks asked line view cursor (Goes at Seek) = SeeksOn asked line view.entries cursor at
-Seeks asked line view cursor (Goes at (Times piece)) = SeeksPiece asked line view.entries cursor at piece
-Seeks asked line view cursor (Goes at other) = ⊥
+abbrev pub Seeks : Asked → List (ℕ × ℕ) → EntriesSeen → ℕ → Turn (ℕ × SearchStep) → Type 0
+Seeks asked line view cursor (Goes (at, Seek)) = SeeksOn asked line view.entries cursor at
+Seeks asked line view cursor (Goes (at, Times piece)) = SeeksPiece asked line view.entries cursor at piece
+Seeks asked line view cursor (Goes (at, other)) = ⊥
 Seeks asked line view cursor (Ends (Damaged Meta n)) = SeeksNothing asked line view.entries cursor × (n ≡ view.notes)
 Seeks asked line view cursor (Ends answer) = ⊥

@@ -45,15 +45,14 @@ use Rattle.plain_log.specs.declared.answer.Place.TheVariants.{Key, Meta, File}
 use Rattle.plain_log.specs.RowsOfReads.{first_at}
 use Rattle.tier_fetch.specs.declared.turn.FetchRequest.{FetchRequest}
 use Rattle.tier_fetch.specs.declared.turn.Span.{Span}
-use Rattle.tier_fetch.specs.declared.turn.FetchTurn.{FetchTurn}
-use Rattle.tier_fetch.specs.declared.turn.FetchTurn.TheVariants as fetch
+use Rattle.tier_fetch.specs.declared.turn.FetchStep.{FetchStep}
+use Rattle.plain_log.specs.declared.turn.Turn.{Turn}
+use Rattle.plain_log.specs.declared.turn.Turn.TheVariants.{Goes, Ends}
 use Rattle.tier_fetch.specs.declared.turn.FetchStep.TheVariants as fetching
 use Rattle.tier_fetch.specs.Turns.{Tiers, RemoteFetchRow, spot_in}
 use Rattle.time_find.specs.declared.turn.Asked.{Asked}
 use Rattle.time_find.specs.declared.turn.SearchStep.{SearchStep}
 use Rattle.time_find.specs.declared.turn.SearchStep.TheVariants.{Seek, Times as ReadsTimes, Index, Log}
-use Rattle.time_find.specs.declared.turn.TimeTurn.{TimeTurn}
-use Rattle.time_find.specs.declared.turn.TimeTurn.TheVariants.{Goes, Ends}
 use Rattle.time_find.specs.declared.run.Dated.TheVariants.{At}
 use Rattle.time_find.specs.Dates.{AreAllChecked, IsDated}
 use Rattle.time_find.specs.Passing.{top_of, passed_over, Seeks}
@@ -67,9 +66,9 @@ IsSet cursor (Log piece from span) = (cursor ≤ from) × (from < piece.to)
 
 -- a search that continues from a cursor has such a turn next: its cursor hasn't fallen, and has risen where it has no
 -- piece
-abbrev pub SearchContinues : ℕ → TimeTurn → Type 0
-SearchContinues cursor (Goes at Seek) = cursor < at
-SearchContinues cursor (Goes at next) = (cursor ≤ at) × IsSet at next
+abbrev pub SearchContinues : ℕ → Turn (ℕ × SearchStep) → Type 0
+SearchContinues cursor (Goes (at, Seek)) = cursor < at
+SearchContinues cursor (Goes (at, next)) = (cursor ≤ at) × IsSet at next
 SearchContinues cursor (Ends answer) = Unit {0}
 
 -- remote segments are looked for below the local log alone
@@ -79,11 +78,11 @@ IsBelowLocal asked cursor next = Unit {0}
 
 -- what a search comes to with a run of batches that was read at an offset, and ends at or below the known high
 -- watermark: it ends past it
-abbrev pub IsSearched : Asked → ℕ → List ℕ → TimeTurn → Type 0
+abbrev pub IsSearched : Asked → ℕ → List ℕ → Turn (ℕ × SearchStep) → Type 0
 IsSearched asked offset run (Ends (Offset n)) =
     (batches : List (List ℕ)) → AreAllChecked batches → end_from offset batches ≤ asked.mark → run ≡ joined batches
     → IsDated asked.ts asked.start offset batches (At n)
-IsSearched asked offset run (Goes end Seek) =
+IsSearched asked offset run (Goes (end, Seek)) =
     (batches : List (List ℕ)) → AreAllChecked batches → end_from offset batches ≤ asked.mark → run ≡ joined batches
     → (first_at asked.ts asked.start batches ≡ None) × (end ≡ max (offset + 1) (end_from offset batches))
 IsSearched asked offset run turn = ⊥
@@ -97,12 +96,12 @@ from_of cursor None = cursor
 from_of cursor (Some moment) = max cursor (moment.1 + 1)
 
 -- what a search does whose piece is to be searched from an offset on
-abbrev pub shown : Asked → ℕ → Piece → ℕ → TimeTurn
+abbrev pub shown : Asked → ℕ → Piece → ℕ → Turn (ℕ × SearchStep)
 shown asked cursor piece from =
-    if nat_lt from (top_of asked piece) then Goes cursor (Index piece from) else Goes (top_of asked piece) Seek
+    if nat_lt from (top_of asked piece) then Goes (cursor, Index piece from) else Goes (top_of asked piece, Seek)
 
 -- these are the bytes of a time index, and the search continues as it shows
-pub record IsTimeIndexRead (asked : Asked) (cursor : ℕ) (piece : Piece) (base : ℕ) (bytes : List ℕ) (turn : TimeTurn) : Type 0 where
+pub record IsTimeIndexRead (asked : Asked) (cursor : ℕ) (piece : Piece) (base : ℕ) (bytes : List ℕ) (turn : Turn (ℕ × SearchStep)) : Type 0 where
   pub index : TimeTable
   pub base_is : index.base ≡ base
   pub rises : AreMoments index.entries
@@ -111,15 +110,15 @@ pub record IsTimeIndexRead (asked : Asked) (cursor : ℕ) (piece : Piece) (base 
 
 -- what becomes of a search by bytes of the time index of a segment with this base offset, and by where more of them
 -- are lacking
-abbrev pub TimesBytes : Option ℕ → Asked → ℕ → Piece → ℕ → Spot → List ℕ → Result TimeTurn AllocError → Type 0
+abbrev pub TimesBytes : Option ℕ → Asked → ℕ → Piece → ℕ → Spot → List ℕ → Result (Turn (ℕ × SearchStep)) AllocError → Type 0
 TimesBytes (Some end) asked cursor piece base spot bytes result = result ≡ Ok (Ends (Damaged (Key spot.key) end))
-TimesBytes None asked cursor piece base spot bytes (Ok (Goes at next)) = IsTimeIndexRead asked cursor piece base bytes (Goes at next)
+TimesBytes None asked cursor piece base spot bytes (Ok (Goes (at, next))) = IsTimeIndexRead asked cursor piece base bytes (Goes (at, next))
 TimesBytes None asked cursor piece base spot bytes (Ok (Ends answer)) =
     (answer ≡ Damaged (Key spot.key) spot.at) × IsNoIndex AreMoments moment_bytes bytes
 TimesBytes None asked cursor piece base spot bytes (Err e) = Unit {0}
 
 -- by what the store answered of it
-abbrev pub Times : Asked → ℕ → Piece → ℕ → Spot → Result (Option (List ℕ)) Trouble → Result TimeTurn AllocError → Type 0
+abbrev pub Times : Asked → ℕ → Piece → ℕ → Spot → Result (Option (List ℕ)) Trouble → Result (Turn (ℕ × SearchStep)) AllocError → Type 0
 Times asked cursor piece base spot (Err Failed) result = result ≡ Ok (Ends StoreFault)
 Times asked cursor piece base spot (Err NoMemory) result = IsErr result
 Times asked cursor piece base spot (Ok None) result = result ≡ Ok (Ends (Damaged (Key spot.key) 0))
@@ -137,24 +136,24 @@ wanted_at asked offset = record {
 }
 
 -- what becomes of a search by what a fetch's turn came to, of the segment's offset index
-abbrev pub Indexes : ℕ → Piece → ℕ → Result FetchTurn AllocError → Result TimeTurn AllocError → Type 0
-Indexes cursor piece from (Ok (fetch.Goes (fetching.Log found span))) result =
-    (found ≡ piece) × (result ≡ Ok (Goes cursor (Log piece from span)))
-Indexes cursor piece from (Ok (fetch.Goes next)) result = ⊥
-Indexes cursor piece from (Ok (fetch.Ends answer)) result = result ≡ Ok (Ends answer)
+abbrev pub Indexes : ℕ → Piece → ℕ → Result (Turn FetchStep) AllocError → Result (Turn (ℕ × SearchStep)) AllocError → Type 0
+Indexes cursor piece from (Ok (Goes (fetching.Log found span))) result =
+    (found ≡ piece) × (result ≡ Ok (Goes (cursor, Log piece from span)))
+Indexes cursor piece from (Ok (Goes next)) result = ⊥
+Indexes cursor piece from (Ok (Ends answer)) result = result ≡ Ok (Ends answer)
 Indexes cursor piece from (Err e) result = IsErr result
 
 -- by what it came to of the segment's log
-abbrev pub SearchTakes : Asked → ℕ → Result FetchTurn AllocError → Result TimeTurn AllocError → Type 0
-SearchTakes asked from (Ok (fetch.Ends (Run tier size stop bytes))) (Ok turn) = IsSearched asked from bytes turn
-SearchTakes asked from (Ok (fetch.Ends (Run tier size stop bytes))) (Err e) = ⊥
-SearchTakes asked from (Ok (fetch.Ends answer)) result = result ≡ Ok (Ends answer)
-SearchTakes asked from (Ok (fetch.Goes next)) result = ⊥
+abbrev pub SearchTakes : Asked → ℕ → Result (Turn FetchStep) AllocError → Result (Turn (ℕ × SearchStep)) AllocError → Type 0
+SearchTakes asked from (Ok (Ends (Run tier size stop bytes))) (Ok turn) = IsSearched asked from bytes turn
+SearchTakes asked from (Ok (Ends (Run tier size stop bytes))) (Err e) = ⊥
+SearchTakes asked from (Ok (Ends answer)) result = result ≡ Ok (Ends answer)
+SearchTakes asked from (Ok (Goes next)) result = ⊥
 SearchTakes asked from (Err e) result = IsErr result
 
 module _ {M : Type 0} (notes : M → meta.Content) (calls : M → Control meta_call.call_code) where
   -- remote segments that are too early are passed over
-  abbrev pub SeekRow : Asked → List (ℕ × ℕ) → ℕ → Result TimeTurn AllocError → EntriesSeen → EntriesSeen → M → M
+  abbrev pub SeekRow : Asked → List (ℕ × ℕ) → ℕ → Result (Turn (ℕ × SearchStep)) AllocError → EntriesSeen → EntriesSeen → M → M
       → Type 0
   SeekRow asked line cursor (Ok (Ends MetaFault)) before after old new = Unread notes calls before after old new
   SeekRow asked line cursor (Ok turn) before after old new =
@@ -163,14 +162,14 @@ module _ {M : Type 0} (notes : M → meta.Content) (calls : M → Control meta_c
 
 module _ {S : Type 0} (objects : S → store.Content) (calls : S → Control store_call.call_code) where
   -- one read of a segment's time index
-  pub record ReadsTimeIndex (asked : Asked) (cursor : ℕ) (piece : Piece) (place : ℕ × Spot) (result : Result TimeTurn AllocError)
+  pub record ReadsTimeIndex (asked : Asked) (cursor : ℕ) (piece : Piece) (place : ℕ × Spot) (result : Result (Turn (ℕ × SearchStep)) AllocError)
       (old new : S) : Type 0 where
     pub answer : Result (Option (List ℕ)) Trouble
     pub gets : Gets objects calls place.1.key (all_of place.1) answer old new
     pub times : Times asked cursor piece place.0 place.1 answer result
 
   -- the time index is read where it is
-  abbrev pub TimesRow : Asked → ℕ → Piece → EntriesSeen → Option (ℕ × Spot) → Result TimeTurn AllocError → S → S
+  abbrev pub TimesRow : Asked → ℕ → Piece → EntriesSeen → Option (ℕ × Spot) → Result (Turn (ℕ × SearchStep)) AllocError → S → S
       → Type 0
   TimesRow asked cursor piece view None result old new = (result ≡ Ok (Ends (Damaged Meta view.notes))) × (new ≡ old)
   TimesRow asked cursor piece view (Some place) result old new = ReadsTimeIndex asked cursor piece place result old new
@@ -178,23 +177,23 @@ module _ {S : Type 0} (objects : S → store.Content) (calls : S → Control sto
 module _ {S M : Type 0} (objects : S → store.Content) (calls : S → Control store_call.call_code)
     (notes : M → meta.Content) (notings : M → Control meta_call.call_code) where
   -- the offset index is had as a fetch from this offset has it; none is where the known high watermark isn't past it
-  abbrev pub SearchIndexRow : Asked → List (ℕ × ℕ) → ℕ → Piece → ℕ → Result TimeTurn AllocError → Tiers S M → Tiers S M → Type 0
+  abbrev pub SearchIndexRow : Asked → List (ℕ × ℕ) → ℕ → Piece → ℕ → Result (Turn (ℕ × SearchStep)) AllocError → Tiers S M → Tiers S M → Type 0
   SearchIndexRow asked line cursor piece from result old new =
-      ((asked.mark ≤ from) × (result ≡ Ok (Goes (top_of asked piece) Seek)) × (new ≡ old))
-      ⊎ ((from < asked.mark) × ((turn : Result FetchTurn AllocError)
+      ((asked.mark ≤ from) × (result ≡ Ok (Goes (top_of asked piece, Seek))) × (new ≡ old))
+      ⊎ ((from < asked.mark) × ((turn : Result (Turn FetchStep) AllocError)
       × RemoteFetchRow objects calls notes notings (wanted_at asked from) line (fetching.Index piece) turn old new
       × Indexes cursor piece from turn result))
 
   -- the log is read as that fetch reads it
-  abbrev pub SearchLogRow : Asked → List (ℕ × ℕ) → Piece → ℕ → Span → Result TimeTurn AllocError → Tiers S M → Tiers S M → Type 0
+  abbrev pub SearchLogRow : Asked → List (ℕ × ℕ) → Piece → ℕ → Span → Result (Turn (ℕ × SearchStep)) AllocError → Tiers S M → Tiers S M → Type 0
   SearchLogRow asked line piece from span result old new =
-      ((asked.mark ≤ from) × (result ≡ Ok (Goes (top_of asked piece) Seek)) × (new ≡ old))
-      ⊎ ((from < asked.mark) × ((turn : Result FetchTurn AllocError)
+      ((asked.mark ≤ from) × (result ≡ Ok (Goes (top_of asked piece, Seek))) × (new ≡ old))
+      ⊎ ((from < asked.mark) × ((turn : Result (Turn FetchStep) AllocError)
       × RemoteFetchRow objects calls notes notings (wanted_at asked from) line (fetching.Log piece span) turn old new
       × SearchTakes asked from turn result))
 
   -- a turn of a search among the remote segments, by what was next: what it came to, or that it ran out of memory
-  abbrev pub TimeRow : Asked → List (ℕ × ℕ) → ℕ → SearchStep → Result TimeTurn AllocError → Tiers S M → Tiers S M
+  abbrev pub TimeRow : Asked → List (ℕ × ℕ) → ℕ → SearchStep → Result (Turn (ℕ × SearchStep)) AllocError → Tiers S M → Tiers S M
       → Type 0
   TimeRow asked line cursor Seek result old new =
       (new ≡ record old { view = new.view; meta = new.meta })
@@ -210,7 +209,7 @@ module _ {S M : Type 0} (objects : S → store.Content) (calls : S → Control s
 
 module _ {D : Type 0} (content : D → disk.Content) (control : D → Control disk_call.call_code) where
   -- a run was read at an offset, and was searched
-  pub record SearchesRun (old : LogState D) (asked : Asked) (at : ℕ) (turn : TimeTurn) (new : LogState D) : Type 0 where
+  pub record SearchesRun (old : LogState D) (asked : Asked) (at : ℕ) (turn : Turn (ℕ × SearchStep)) (new : LogState D) : Type 0 where
     pub out : RunOut
     pub reads : ReadsRun content control old new at (2 ^ 64 - 1) asked.mark out
     pub quiet : Quiet control old new
@@ -229,15 +228,15 @@ module _ {D : Type 0} (content : D → disk.Content) (control : D → Control di
   LocalReadFails old new = LogStays content old new × Lasting control old new × OneFault control old new
 
   -- a search in the local log that has come to an offset
-  abbrev pub ReadLocalRow : LogState D → Asked → ℕ → TimeTurn → LogState D → Type 0
+  abbrev pub ReadLocalRow : LogState D → Asked → ℕ → Turn (ℕ × SearchStep) → LogState D → Type 0
   ReadLocalRow old asked at (Ends DiskFault) new = LocalReadFails old new
   ReadLocalRow old asked at (Ends (Damaged (File name) place)) new = SearchHasDamage old asked at name place new
   ReadLocalRow old asked at turn new = SearchesRun old asked at turn new
 
   -- a turn of a search in the local log: nothing is read at or past the known high watermark
-  abbrev pub LocalSearchRow : LogState D → Asked → ℕ → TimeTurn → LogState D → Type 0
+  abbrev pub LocalSearchRow : LogState D → Asked → ℕ → Turn (ℕ × SearchStep) → LogState D → Type 0
   LocalSearchRow old asked cursor turn new =
-      ((asked.mark ≤ passed_over asked.ts cursor (closed_in old)) × (turn ≡ Goes (passed_over asked.ts cursor (closed_in old)) Seek)
+      ((asked.mark ≤ passed_over asked.ts cursor (closed_in old)) × (turn ≡ Goes (passed_over asked.ts cursor (closed_in old), Seek))
       × (new ≡ old))
       ⊎ ((passed_over asked.ts cursor (closed_in old) < asked.mark)
       × ReadLocalRow old asked (passed_over asked.ts cursor (closed_in old)) turn new)

@@ -19,5 +19,5 @@ mod turns;
 
 pub use own::own_turn;
 pub use run::{Dated, date_in};
-pub use turn::{Asked, SearchStep, TimeTurn};
+pub use turn::{Asked, SearchStep};
 pub use turns::time_turn;

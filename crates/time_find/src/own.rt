@@ -6,10 +6,10 @@ ghost use Rattle.time_find.specs.Turns.{SearchContinues, LocalSearchRow};
 
 use crate::passing::passed_over;
 use crate::run::search_run;
-use crate::turn::{Asked, SearchStep, TimeTurn};
+use crate::turn::{Asked, SearchStep};
 use broker_log::{BrokerLog, ReadRefusal};
 use disk_model::Disk;
-use plain_log::{Answer, Place};
+use plain_log::{Answer, Place, Turn};
 use std::alloc::AllocError;
 
 /// Takes a turn of a search whose cursor is in the local log: it passes over closed segments, and reads a run where it
@@ -19,7 +19,7 @@ pub fn own_turn<D: Disk>(
     log: &mut BrokerLog<D>,
     asked: &Asked,
     cursor: u64,
-) -> Result<TimeTurn, AllocError>
+) -> Result<Turn<(u64, SearchStep)>, AllocError>
     requires up { is_up log.old ≡ true }
     requires local { WhileUp log.old (λ l. l.local_start ≤ cursor) }
     requires mark { cursor < asked.now.mark }
@@ -30,15 +30,15 @@ pub fn own_turn<D: Disk>(
 {
     let at = passed_over(log.closed(), cursor, asked.ts);
     if at >= asked.mark {
-        return Ok(TimeTurn::Goes(at, SearchStep::Seek));
+        return Ok(Turn::Goes((at, SearchStep::Seek)));
     }
     match log.read_run(at, u64::MAX, asked.mark) {
         Ok(run) => Ok(search_run(run.bytes.as_slice(), asked, at)),
-        Err(ReadRefusal::Damaged { file, at }) => Ok(TimeTurn::Ends(Answer::Damaged(
+        Err(ReadRefusal::Damaged { file, at }) => Ok(Turn::Ends(Answer::Damaged(
             Place::File(file),
             at,
         ))),
-        Err(ReadRefusal::DiskFault) => Ok(TimeTurn::Ends(Answer::DiskFault)),
+        Err(ReadRefusal::DiskFault) => Ok(Turn::Ends(Answer::DiskFault)),
         Err(ReadRefusal::NoMemory) => Err(AllocError),
     }
 }

@@ -7,9 +7,9 @@ ghost use Rattle.remote_view.specs.Fold.{entry_of};
 ghost use Rattle.time_find.specs.Passing.{is_passed, is_early, passed_over, Seeks};
 ghost use Rattle.time_find.specs.Turns.{SearchContinues};
 
-use crate::turn::{Asked, SearchStep, TimeTurn};
+use crate::turn::{Asked, SearchStep};
 use epoch_line::Line;
-use plain_log::{Answer, Place};
+use plain_log::{Answer, Place, Turn};
 use remote_find::{Piece, find};
 use remote_view::View;
 use segment_file::Growing;
@@ -46,7 +46,7 @@ fn is_early(view: &View, piece: &Piece, ts: i64) -> bool
 
 /// Passes over the pieces of remote segments, from a cursor on, up to the first that may have the timestamp, or up to
 /// the local log or the known high watermark.
-pub(crate) fn seek(asked: &Asked, line: &Line, view: &View, cursor: u64) -> TimeTurn
+pub(crate) fn seek(asked: &Asked, line: &Line, view: &View, cursor: u64) -> Turn<(u64, SearchStep)>
     requires local { cursor < asked.now.local }
     requires mark { cursor < asked.now.mark }
     ensures row { Seeks asked.now line.now view.now cursor result }
@@ -59,12 +59,12 @@ pub(crate) fn seek(asked: &Asked, line: &Line, view: &View, cursor: u64) -> Time
     let mut at = cursor;
     while at < top {
         let Some(piece) = find(view, line, asked.log_end, at) else {
-            return TimeTurn::Ends(Answer::Damaged(Place::Meta, view.seen()));
+            return Turn::Ends(Answer::Damaged(Place::Meta, view.seen()));
         };
         if !is_early(view, &piece, asked.ts) {
-            return TimeTurn::Goes(at, SearchStep::Times(piece));
+            return Turn::Goes((at, SearchStep::Times(piece)));
         }
         at = piece.to;
     }
-    TimeTurn::Goes(at, SearchStep::Seek)
+    Turn::Goes((at, SearchStep::Seek))
 }

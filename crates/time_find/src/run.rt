@@ -5,8 +5,8 @@ ghost use Rattle.log_terms.specs.Log.{joined, end_from};
 ghost use Rattle.time_find.specs.Dates.{AreAllChecked, IsDated};
 ghost use Rattle.time_find.specs.Turns.{SearchContinues, IsSearched};
 
-use crate::turn::{Asked, SearchStep, TimeTurn};
-use plain_log::Answer;
+use crate::turn::{Asked, SearchStep};
+use plain_log::{Answer, Turn};
 use record_batch::read_head;
 
 /// The bytes of a batch before its batch_length counts.
@@ -48,13 +48,13 @@ pub fn date_in(run: &[u8], ts: i64, start: u64, offset: u64) -> Dated
 }
 
 /// What a search comes to with a run that was read at an offset.
-pub(crate) fn search_run(run: &[u8], asked: &Asked, offset: u64) -> TimeTurn
+pub(crate) fn search_run(run: &[u8], asked: &Asked, offset: u64) -> Turn<(u64, SearchStep)>
     requires { offset < asked.now.mark }
     ensures row { IsSearched asked.now offset run.now result }
     ensures goes { SearchContinues offset result }
 {
     match date_in(run, asked.ts, asked.start, offset) {
-        Dated::At(offset) => TimeTurn::Ends(Answer::Offset(offset)),
-        Dated::Behind(end) => TimeTurn::Goes(end.max(offset + 1), SearchStep::Seek),
+        Dated::At(offset) => Turn::Ends(Answer::Offset(offset)),
+        Dated::Behind(end) => Turn::Goes((end.max(offset + 1), SearchStep::Seek)),
     }
 }

@@ -33,12 +33,3 @@ pub enum SearchStep {
     /// Read these bytes of the segment's log, for this offset.
     Log(Piece, u64, Span),
 }
-
-/// The result of a turn of a lookup.
-#[derive(Debug, Drop)]
-pub enum TimeTurn {
-    /// The lookup continues at this cursor, with this turn.
-    Goes(u64, SearchStep),
-    /// The lookup has ended with this answer.
-    Ends(Answer),
-}

@@ -6,24 +6,24 @@ ghost use Rattle.remote_view.specs.Fold.{entry_of};
 ghost use Rattle.plain_log.specs.declared.answer.Answer.TheVariants.{Damaged};
 ghost use Rattle.plain_log.specs.declared.answer.Place.TheVariants.{Key, Meta};
 ghost use Rattle.tier_fetch.specs.Turns.{spot_in};
-ghost use Rattle.time_find.specs.declared.turn.TimeTurn.TheVariants.{Ends};
+ghost use Rattle.plain_log.specs.declared.turn.Turn.TheVariants.{Ends};
 ghost use Rattle.time_find.specs.Turns.{IsSet, SearchContinues, IsBelowLocal, wanted_at, shown, Times, SeekRow, TimesRow, SearchIndexRow, SearchLogRow, TimeRow};
 
 use crate::passing::seek;
 use crate::run::search_run;
-use crate::turn::{Asked, SearchStep, TimeTurn};
+use crate::turn::{Asked, SearchStep};
 use bytes::Bytes;
 use epoch_line::Line;
 use index_cache::IndexCache;
 use meta_log::MetaLog;
 use object_store::{Spot, Store, get_spot, place};
-use plain_log::{Answer, Place};
+use plain_log::{Answer, Place, Turn};
 use remote_find::Piece;
 use remote_view::View;
 use sparse_index::{IndexRefusal, TimeIndex};
 use std::alloc::{AllocError, Global};
 use tier_base::{Part, Trouble};
-use tier_fetch::{FetchRequest, FetchStep as Fetch, FetchTurn, Span, fetch_turn};
+use tier_fetch::{FetchRequest, FetchStep as Fetch, Span, fetch_turn};
 use view_refresh::refresh;
 
 /// Takes the next turn of a lookup whose cursor is below the local log, or which is in a remote segment. `line` has the
@@ -38,7 +38,7 @@ pub fn time_turn<S: Store, M: MetaLog>(
     cache: &mut IndexCache,
     store: &mut S,
     meta: &mut M,
-) -> Result<TimeTurn, AllocError>
+) -> Result<Turn<(u64, SearchStep)>, AllocError>
     requires below { cursor < asked.now.mark }
     requires remote { IsBelowLocal asked.now cursor next }
     requires holds { IsSet cursor next }
@@ -66,7 +66,7 @@ fn refresh_and_seek<M: MetaLog>(
     line: &Line,
     view: &mut View,
     meta: &mut M,
-) -> Result<TimeTurn, AllocError>
+) -> Result<Turn<(u64, SearchStep)>, AllocError>
     requires mark { cursor < asked.now.mark }
     requires local { cursor < asked.now.local }
     ensures row { SeekRow M.content M.control asked.now line.now cursor result view.old view.new meta.old meta.new }
@@ -74,23 +74,23 @@ fn refresh_and_seek<M: MetaLog>(
 {
     match refresh(view, meta) {
         Ok(()) => Ok(seek(asked, line, view, cursor)),
-        Err(Trouble::Failed) => Ok(TimeTurn::Ends(Answer::MetaFault)),
+        Err(Trouble::Failed) => Ok(Turn::Ends(Answer::MetaFault)),
         Err(Trouble::NoMemory) => Err(AllocError),
     }
 }
 
 /// A view that lacks what the metadata events must hold is damage of the metadata log.
-fn lost(view: &View) -> TimeTurn
+fn lost(view: &View) -> Turn<(u64, SearchStep)>
     ensures { result ≡ Ends (Damaged Meta view.now.notes) }
 {
-    TimeTurn::Ends(Answer::Damaged(Place::Meta, view.seen()))
+    Turn::Ends(Answer::Damaged(Place::Meta, view.seen()))
 }
 
 /// An object that lacks what is read, or is invalid.
-fn damaged(spot: &Spot, at: u64) -> TimeTurn
+fn damaged(spot: &Spot, at: u64) -> Turn<(u64, SearchStep)>
     ensures { result ≡ Ends (Damaged (Key spot.now.key) at) }
 {
-    TimeTurn::Ends(Answer::Damaged(Place::Key(spot.key), at))
+    Turn::Ends(Answer::Damaged(Place::Key(spot.key), at))
 }
 
 /// The base offset of a piece's segment, and where its time index exists.
@@ -123,7 +123,7 @@ fn times<S: Store>(
     piece: &Piece,
     view: &View,
     store: &mut S,
-) -> Result<TimeTurn, AllocError>
+) -> Result<Turn<(u64, SearchStep)>, AllocError>
     requires mark { cursor < asked.now.mark }
     requires holds { cursor < piece.now.to }
     ensures row { TimesRow S.content S.control asked.now cursor piece.now view.now
@@ -136,7 +136,7 @@ fn times<S: Store>(
     };
     match get_spot(store, &spot) {
         Ok(given) => read_times(alloc, asked, cursor, piece, base, &spot, given),
-        Err(Trouble::Failed) => Ok(TimeTurn::Ends(Answer::StoreFault)),
+        Err(Trouble::Failed) => Ok(Turn::Ends(Answer::StoreFault)),
         Err(Trouble::NoMemory) => Err(AllocError),
     }
 }
@@ -150,7 +150,7 @@ fn read_times(
     base: u64,
     spot: &Spot,
     given: Option<Bytes>,
-) -> Result<TimeTurn, AllocError>
+) -> Result<Turn<(u64, SearchStep)>, AllocError>
     requires low { base ≤ 2 ^ 62 }
     requires near { spot.now.at < 2 ^ 34 }
     requires mark { cursor < asked.now.mark }
@@ -179,7 +179,7 @@ fn read_times(
 }
 
 /// What a search does whose piece is to be searched from an offset on.
-fn shown(asked: &Asked, cursor: u64, piece: &Piece, from: u64) -> TimeTurn
+fn shown(asked: &Asked, cursor: u64, piece: &Piece, from: u64) -> Turn<(u64, SearchStep)>
     requires low { cursor ≤ from }
     requires mark { cursor < asked.now.mark }
     requires holds { cursor < piece.now.to }
@@ -188,9 +188,9 @@ fn shown(asked: &Asked, cursor: u64, piece: &Piece, from: u64) -> TimeTurn
 {
     let top = piece.to.min(asked.mark);
     if from < top {
-        TimeTurn::Goes(cursor, SearchStep::Index(*piece, from))
+        Turn::Goes((cursor, SearchStep::Index(*piece, from)))
     } else {
-        TimeTurn::Goes(top, SearchStep::Seek)
+        Turn::Goes((top, SearchStep::Seek))
     }
 }
 
@@ -219,7 +219,7 @@ fn index<S: Store, M: MetaLog>(
     cache: &mut IndexCache,
     store: &mut S,
     meta: &mut M,
-) -> Result<TimeTurn, AllocError>
+) -> Result<Turn<(u64, SearchStep)>, AllocError>
     requires mark { cursor < asked.now.mark }
     requires low { cursor ≤ from }
     requires holds { from < piece.now.to }
@@ -243,11 +243,11 @@ fn index<S: Store, M: MetaLog>(
         meta,
     )?;
     match turn {
-        FetchTurn::Goes(Fetch::Log(piece, span)) => {
-            Ok(TimeTurn::Goes(cursor, SearchStep::Log(piece, from, span)))
+        Turn::Goes(Fetch::Log(piece, span)) => {
+            Ok(Turn::Goes((cursor, SearchStep::Log(piece, from, span))))
         }
-        FetchTurn::Ends(answer) => Ok(TimeTurn::Ends(answer)),
-        FetchTurn::Goes(_) => unreachable!(),
+        Turn::Ends(answer) => Ok(Turn::Ends(answer)),
+        Turn::Goes(_) => unreachable!(),
     }
 }
 
@@ -264,7 +264,7 @@ fn log<S: Store, M: MetaLog>(
     cache: &mut IndexCache,
     store: &mut S,
     meta: &mut M,
-) -> Result<TimeTurn, AllocError>
+) -> Result<Turn<(u64, SearchStep)>, AllocError>
     requires mark { cursor < asked.now.mark }
     requires low { cursor ≤ from }
     requires holds { from < piece.now.to }
@@ -274,7 +274,7 @@ fn log<S: Store, M: MetaLog>(
     ensures goes { IfOk result (SearchContinues cursor) }
 {
     if from >= asked.mark {
-        return Ok(TimeTurn::Goes(piece.to.min(asked.mark), SearchStep::Seek));
+        return Ok(Turn::Goes((piece.to.min(asked.mark), SearchStep::Seek)));
     }
     let wanted = wanted_at(asked, from);
     let turn = fetch_turn(
@@ -288,8 +288,8 @@ fn log<S: Store, M: MetaLog>(
         meta,
     )?;
     match turn {
-        FetchTurn::Ends(Answer::Run { bytes, .. }) => Ok(search_run(bytes.as_slice(), asked, from)),
-        FetchTurn::Ends(answer) => Ok(TimeTurn::Ends(answer)),
-        FetchTurn::Goes(_) => unreachable!(),
+        Turn::Ends(Answer::Run { bytes, .. }) => Ok(search_run(bytes.as_slice(), asked, from)),
+        Turn::Ends(answer) => Ok(Turn::Ends(answer)),
+        Turn::Goes(_) => unreachable!(),
     }
 }
