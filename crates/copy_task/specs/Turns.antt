@@ -121,7 +121,8 @@ pub record Tiers (S M : Type 0) : Type 0 where
 module _ {S M : Type 0} (objects : S → store.Content) (calls : S → Control store_call.call_code)
     (notes : M → meta.Content) (notings : M → Control meta_call.call_code) where
   -- a turn of a copy, by what was next: what it came to, or that it ran out of memory
-  abbrev pub CopyTurnRow : Copied → EventOrigin → CopyStep → Result (Turn CopyStep) AllocError → Tiers S M → Tiers S M → Type 0
+  abbrev pub CopyTurnRow : Copied → EventOrigin → CopyStep → Result (Turn CopyStep) AllocError → Tiers S M → Tiers S M
+      → Type 0
   CopyTurnRow copy origin Start result old new =
       (new ≡ record old { meta = new.meta }) × StartRow notes notings copy origin result old.meta new.meta
   CopyTurnRow copy origin (Put n) result old new =

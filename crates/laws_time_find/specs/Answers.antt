@@ -61,7 +61,8 @@ module _ {S M : Type 0} (objects : S → store.Content) (calls : S → Control s
   SearchesGoOn =
       (asked : Asked) (line : List (ℕ × ℕ)) (cursor at : ℕ) (next then : SearchStep) (old new : Tiers S M)
       (c : Scene) (p : Plain) (a b : ℕ) (tier_view : BrokerTierView) (x : Broker) (stops epoch : ℕ)
-      → TimeRow objects calls notes notings asked line cursor next (Ok (Goes (at, then))) old new → IsBelowLocal asked cursor next → IsSet cursor next
+      → TimeRow objects calls notes notings asked line cursor next (Ok (Goes (at, then))) old new
+      → IsBelowLocal asked cursor next → IsSet cursor next
       → IsAtSearch c p a b tier_view x stops epoch asked line cursor next (objects old.store) (notes old.meta) old.view old.cache
       → IsDatedTo asked.ts p.registry.start x.log at then × (cursor ≤ at) × (then ≡ Seek → cursor < at)
 

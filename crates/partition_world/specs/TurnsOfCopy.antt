@@ -179,8 +179,8 @@ tiers_of view t = record { view = view; store = t.store; meta = t.meta }
 
 module _ {D S M : Type 0} (store : StoreGhosts S) (meta : MetaGhosts M) where
   -- a turn of the copy's row, and nothing else changes
-  pub record GoesOnCopy (h : PartitionState D) (t : RemoteTier S M) (b : ℕ) (broker_tier : BrokerTierState) (copy : Copied) (next : CopyStep) (turn : Turn CopyStep)
-      (t' : RemoteTier S M) : Type 0 where
+  pub record GoesOnCopy (h : PartitionState D) (t : RemoteTier S M) (b : ℕ) (broker_tier : BrokerTierState)
+      (copy : Copied) (next : CopyStep) (turn : Turn CopyStep) (t' : RemoteTier S M) : Type 0 where
     pub view : View
     pub row : CopyTurnRow store.content store.control meta.content meta.control copy (origin_of h b) next (Ok turn)
         (tiers_of broker_tier.view t) (tiers_of view t')

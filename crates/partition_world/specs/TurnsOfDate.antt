@@ -69,7 +69,8 @@ module _ {D : Type 0} where
 
 module _ {D : Type 0} (disk : DiskGhosts D) where
   -- a turn in the local log: the broker's log is read at most
-  pub record SearchesOwn (h : PartitionState D) (b : ℕ) (x : Node D) (asked : Asked) (cursor : ℕ) (turn : Turn (ℕ × SearchStep)) (h' : PartitionState D) : Type 0 where
+  pub record SearchesOwn (h : PartitionState D) (b : ℕ) (x : Node D) (asked : Asked) (cursor : ℕ)
+      (turn : Turn (ℕ × SearchStep)) (h' : PartitionState D) : Type 0 where
     pub kept : LogState D
     pub row : LocalSearchRow disk.content disk.control x.log asked cursor turn kept
     pub after : h' ≡ put_node h b (record x { log = kept })
@@ -96,7 +97,8 @@ module _ {S M : Type 0} (store : StoreGhosts S) (meta : MetaGhosts M) where
 
 module _ {D S M : Type 0} (disk : DiskGhosts D) (store : StoreGhosts S) (meta : MetaGhosts M) where
   -- a turn of a search from a cursor on, in the local log or not
-  abbrev pub SearchRow : PartitionState D → RemoteTier S M → ℕ → Node D → BrokerTierState → Asked → ℕ → SearchStep → Bool → Turn (ℕ × SearchStep) → PartitionState D → RemoteTier S M → Type 0
+  abbrev pub SearchRow : PartitionState D → RemoteTier S M → ℕ → Node D → BrokerTierState → Asked → ℕ → SearchStep
+      → Bool → Turn (ℕ × SearchStep) → PartitionState D → RemoteTier S M → Type 0
   SearchRow h t b x broker_tier asked cursor next true turn h' t' =
       SearchesOwn disk h b x asked cursor turn h' × (t' ≡ t)
   SearchRow h t b x broker_tier asked cursor next false turn h' t' =
@@ -104,7 +106,8 @@ module _ {D S M : Type 0} (disk : DiskGhosts D) (store : StoreGhosts S) (meta : 
 
   -- the broker leads as it did, and the search continues where it is resumed, below the known high watermark
   pub record SearchesOn (p : PartitionId) (h : PartitionState D) (t : RemoteTier S M) (b : ℕ) (x : Node D) (broker_tier : BrokerTierState) (g : StartSnapshot) (ts : ℤ)
-      (cursor : ℕ) (next : SearchStep) (turn : Turn (ℕ × SearchStep)) (h' : PartitionState D) (t' : RemoteTier S M) : Type 0 where
+      (cursor : ℕ) (next : SearchStep) (turn : Turn (ℕ × SearchStep)) (h' : PartitionState D) (t' : RemoteTier S M)
+      : Type 0 where
     pub keeps : KeepsLead x g
     pub below : resumed_at h.registry.start cursor < x.known_high_watermark
     -- an offset has 64 bits
@@ -122,5 +125,6 @@ module _ {D S M : Type 0} (disk : DiskGhosts D) (store : StoreGhosts S) (meta : 
   DateOnRow p h t b x broker_tier g ts cursor next (Answers answer) h' t' =
       SearchesOn p h t b x broker_tier g ts cursor next (Ends answer) h' t'
   DateOnRow p h t b x broker_tier g ts cursor next (Dates at later) h' t' =
-      SearchesOn p h t b x broker_tier g ts cursor next (Goes (at, later)) h' t' × SearchContinues (resumed_at h.registry.start cursor) (Goes (at, later))
+      SearchesOn p h t b x broker_tier g ts cursor next (Goes (at, later)) h' t'
+          × SearchContinues (resumed_at h.registry.start cursor) (Goes (at, later))
   DateOnRow p h t b x broker_tier g ts cursor next other h' t' = ⊥

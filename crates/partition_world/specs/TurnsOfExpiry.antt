@@ -137,8 +137,8 @@ expiry_tiers t = record { store = t.store; meta = t.meta }
 
 module _ {D S M : Type 0} (store : StoreGhosts S) (meta : MetaGhosts M) where
   -- a turn of the expiry's row, and nothing else changes
-  pub record GoesOnDeletion (h : PartitionState D) (t : RemoteTier S M) (b : ℕ) (expired_segment : ExpiredSegment) (next : DeletionStep) (turn : Turn DeletionStep) (t' : RemoteTier S M)
-      : Type 0 where
+  pub record GoesOnDeletion (h : PartitionState D) (t : RemoteTier S M) (b : ℕ) (expired_segment : ExpiredSegment)
+      (next : DeletionStep) (turn : Turn DeletionStep) (t' : RemoteTier S M) : Type 0 where
     pub row : ExpiryRow store.content store.control meta.content meta.control expired_segment (origin_of h b) next
         (Ok turn)
         (expiry_tiers t) (expiry_tiers t')
@@ -157,4 +157,5 @@ module _ {D S M : Type 0} (store : StoreGhosts S) (meta : MetaGhosts M) where
       → DeletionStep → Outcome → RemoteTier S M → Type 0
   DeleteOnRow h t b x g expired_segment next outcome t' =
       ((KeepsLead x g → ⊥) × (outcome ≡ Answers LostLead) × (t' ≡ t))
-      ⊎ (KeepsLead x g × ((turn : Turn DeletionStep) × (outcome ≡ expiry_outcome turn) × GoesOnDeletion h t b expired_segment next turn t'))
+      ⊎ (KeepsLead x g × ((turn : Turn DeletionStep) × (outcome ≡ expiry_outcome turn)
+      × GoesOnDeletion h t b expired_segment next turn t'))

@@ -80,8 +80,8 @@ module _ {D S M : Type 0} (meta : MetaGhosts M) where
 -- the turn that reads the line
 module _ {S M : Type 0} (store : StoreGhosts S) where
   -- a turn of the row of rebuilds, and nothing else changes
-  pub record GoesOnRebuild (p : PartitionId) (t : RemoteTier S M) (broker_tier : BrokerTierState) (g : StartSnapshot) (turn : Turn RebuildStep) (t' : RemoteTier S M)
-      : Type 0 where
+  pub record GoesOnRebuild (p : PartitionId) (t : RemoteTier S M) (broker_tier : BrokerTierState) (g : StartSnapshot)
+      (turn : Turn RebuildStep) (t' : RemoteTier S M) : Type 0 where
     pub row : RebuildRow store.content store.control (wanted_of p g) g.line broker_tier.view (Ok turn) t.store t'.store
     pub after : t' ≡ record t { store = t'.store }
 
@@ -99,4 +99,5 @@ module _ {D S M : Type 0} (store : StoreGhosts S) where
       → Outcome → RemoteTier S M → Type 0
   EpochsOnRow p h t x broker_tier g outcome t' =
       IsJoinAnswered h t x g outcome t'
-      ⊎ (MayRebuild h x g × ((turn : Turn RebuildStep) × (outcome ≡ rebuild_outcome turn) × GoesOnRebuild store p t broker_tier g turn t'))
+      ⊎ (MayRebuild h x g × ((turn : Turn RebuildStep) × (outcome ≡ rebuild_outcome turn)
+      × GoesOnRebuild store p t broker_tier g turn t'))

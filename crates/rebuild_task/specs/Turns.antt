@@ -77,7 +77,8 @@ TakesEpochs wanted spot (Ok (Some bytes)) result = TakesBytes (short_of spot byt
 
 module _ {S : Type 0} (objects : S → Content) (calls : S → Control call_code) where
   -- one read of a segment's epochs
-  pub record ReadsEpochs (wanted : ℕ) (spot : Spot) (result : Result (Turn RebuildStep) AllocError) (old new : S) : Type 0 where
+  pub record ReadsEpochs (wanted : ℕ) (spot : Spot) (result : Result (Turn RebuildStep) AllocError) (old new : S)
+      : Type 0 where
     pub answer : Result (Option (List ℕ)) Trouble
     pub gets : Gets objects calls spot.key (all_of spot) answer old new
     pub takes : TakesEpochs wanted spot answer result
@@ -88,7 +89,8 @@ module _ {S : Type 0} (objects : S → Content) (calls : S → Control call_code
   EpochsRow wanted view (Some spot) result old new = ReadsEpochs wanted spot result old new
 
   -- a turn of a rebuild: what it came to, or that it ran out of memory
-  abbrev pub RebuildRow : RebuildRequest → List (ℕ × ℕ) → EntriesSeen → Result (Turn RebuildStep) AllocError → S → S → Type 0
+  abbrev pub RebuildRow : RebuildRequest → List (ℕ × ℕ) → EntriesSeen → Result (Turn RebuildStep) AllocError → S → S
+      → Type 0
   RebuildRow wanted line view result old new =
       EpochsRow wanted.offset view
       (epochs_of wanted.partition view.entries (piece_at view.entries line wanted.offset (wanted.offset - 1))) result old new

@@ -92,7 +92,8 @@ pub record IsLoaded (wanted : FetchRequest) (piece : Piece) (base : ℕ) (bytes 
 
 -- what becomes of a fetch by bytes of its index, of a segment with this base offset, and by where more of them are
 -- lacking
-abbrev pub LoadsBytes : Option ℕ → FetchRequest → Piece → ℕ → Spot → List ℕ → Result (Turn FetchStep) AllocError → Cache → Cache → Type 0
+abbrev pub LoadsBytes : Option ℕ → FetchRequest → Piece → ℕ → Spot → List ℕ → Result (Turn FetchStep) AllocError → Cache
+    → Cache → Type 0
 LoadsBytes (Some end) wanted piece base spot bytes result old new =
     (result ≡ Ok (Ends (Damaged (Key spot.key) end))) × (new ≡ old)
 LoadsBytes None wanted piece base spot bytes (Ok (Goes next)) old new = IsLoaded wanted piece base bytes (Goes next) old new
@@ -101,8 +102,8 @@ LoadsBytes None wanted piece base spot bytes (Ok (Ends answer)) old new =
 LoadsBytes None wanted piece base spot bytes (Err e) old new = new ≡ old
 
 -- by what the store answered of it
-abbrev pub Loads : FetchRequest → Piece → ℕ → Spot → Result (Option (List ℕ)) Trouble → Result (Turn FetchStep) AllocError → Cache → Cache
-    → Type 0
+abbrev pub Loads : FetchRequest → Piece → ℕ → Spot → Result (Option (List ℕ)) Trouble
+    → Result (Turn FetchStep) AllocError → Cache → Cache → Type 0
 Loads wanted piece base spot (Err Failed) result old new = (result ≡ Ok (Ends StoreFault)) × (new ≡ old)
 Loads wanted piece base spot (Err NoMemory) result old new = IsErr result × (new ≡ old)
 Loads wanted piece base spot (Ok None) result old new = (result ≡ Ok (Ends (Damaged (Key spot.key) 0))) × (new ≡ old)
@@ -127,7 +128,8 @@ pub record HasNoRemoteRun (wanted : FetchRequest) (piece : Piece) (spot : Spot) 
   pub at_is : at ≡ spot.at + span.from + found
 
 -- what becomes of it by bytes of the segment's log, and by where more of them are lacking
-abbrev pub CutsBytes : Option ℕ → FetchRequest → Piece → Spot → Span → List ℕ → Result (Turn FetchStep) AllocError → Type 0
+abbrev pub CutsBytes : Option ℕ → FetchRequest → Piece → Spot → Span → List ℕ → Result (Turn FetchStep) AllocError
+    → Type 0
 CutsBytes (Some end) wanted piece spot span bytes result = result ≡ Ok (Ends (Damaged (Key spot.key) end))
 CutsBytes None wanted piece spot span bytes (Ok (Ends (Run tier size stop run))) = IsCutRun wanted piece bytes tier size stop run
 CutsBytes None wanted piece spot span bytes (Ok (Ends (Damaged place at))) = HasNoRemoteRun wanted piece spot span bytes place at
@@ -146,8 +148,8 @@ CutsRunOut wanted piece spot span (Ok (Some bytes)) result =
 
 module _ {M : Type 0} (notes : M → meta.Content) (calls : M → Control meta_call.call_code) where
   -- the piece is chosen
-  abbrev pub RefreshRow : FetchRequest → List (ℕ × ℕ) → Result (Turn FetchStep) AllocError → EntriesSeen → EntriesSeen → M → M
-      → Type 0
+  abbrev pub RefreshRow : FetchRequest → List (ℕ × ℕ) → Result (Turn FetchStep) AllocError → EntriesSeen → EntriesSeen
+      → M → M → Type 0
   RefreshRow wanted line (Ok (Ends MetaFault)) before after old new = Unread notes calls before after old new
   RefreshRow wanted line (Ok turn) before after old new =
       (turn ≡ chosen after.notes (piece_at after.entries line wanted.log_end wanted.offset))
@@ -164,13 +166,15 @@ module _ {S : Type 0} (objects : S → store.Content) (calls : S → Control sto
     pub loads : Loads wanted piece place.0 place.1 answer result cache cache'
 
   -- the index isn't in the cache: it is read where it is
-  abbrev pub LoadRow : FetchRequest → Piece → EntriesSeen → Option (ℕ × Spot) → Result (Turn FetchStep) AllocError → Cache → Cache → S → S → Type 0
+  abbrev pub LoadRow : FetchRequest → Piece → EntriesSeen → Option (ℕ × Spot) → Result (Turn FetchStep) AllocError
+      → Cache → Cache → S → S → Type 0
   LoadRow wanted piece view None result cache cache' old new =
       (result ≡ Ok (Ends (Damaged Meta view.notes))) × (cache' ≡ cache) × (new ≡ old)
   LoadRow wanted piece view (Some place) result cache cache' old new = ReadsIndex wanted piece place result cache cache' old new
 
   -- the index: no call is made where it is in the cache
-  abbrev pub IndexRow : FetchRequest → Piece → EntriesSeen → Result (Turn FetchStep) AllocError → Option OffsetTable → Cache → Cache → S → S → Type 0
+  abbrev pub IndexRow : FetchRequest → Piece → EntriesSeen → Result (Turn FetchStep) AllocError → Option OffsetTable
+      → Cache → Cache → S → S → Type 0
   IndexRow wanted piece view result (Some index) cache cache' old new =
       (result ≡ Ok (reads_by wanted piece index)) × (cache' ≡ brought_front cache piece.id.0) × (new ≡ old)
   IndexRow wanted piece view result None cache cache' old new =
@@ -178,16 +182,15 @@ module _ {S : Type 0} (objects : S → store.Content) (calls : S → Control sto
       cache cache' old new
 
   -- one read of a segment's log, no further than the span
-  pub record ReadsRemoteLog (wanted : FetchRequest) (piece : Piece) (spot : Spot) (span : Span) (result : Result (Turn FetchStep) AllocError)
-      (old new : S) : Type 0 where
+  pub record ReadsRemoteLog (wanted : FetchRequest) (piece : Piece) (spot : Spot) (span : Span)
+      (result : Result (Turn FetchStep) AllocError) (old new : S) : Type 0 where
     pub answer : Result (Option (List ℕ)) Trouble
     pub gets : Gets objects calls spot.key (some_of spot span.from span.most) answer old new
     pub cuts : CutsRunOut wanted piece spot span answer result
 
   -- the run is read where the segment's log is
-  abbrev pub LogRow : FetchRequest → Piece → Span → EntriesSeen → Option (ℕ × Spot) → Result (Turn FetchStep) AllocError → S
-      → S
-      → Type 0
+  abbrev pub LogRow : FetchRequest → Piece → Span → EntriesSeen → Option (ℕ × Spot) → Result (Turn FetchStep) AllocError
+      → S → S → Type 0
   LogRow wanted piece span view None result old new = (result ≡ Ok (Ends (Damaged Meta view.notes))) × (new ≡ old)
   LogRow wanted piece span view (Some place) result old new = ReadsRemoteLog wanted piece place.1 span result old new
 

@@ -89,8 +89,8 @@ module _ {S M : Type 0} (objects : S → store.Content) (calls : S → Control s
   -- each turn of a copy is changes
   abbrev pub CopyTurnsChange : Type 0
   CopyTurnsChange =
-      (copied : Copied) (origin : EventOrigin) (next : CopyNext) (result : Result (Turn CopyNext) AllocError) (old new : copy.Tiers S M)
-      (c : Scene) (p : Plain) (a b : ℕ) (tier_view : BrokerTierView)
+      (copied : Copied) (origin : EventOrigin) (next : CopyNext) (result : Result (Turn CopyNext) AllocError)
+      (old new : copy.Tiers S M) (c : Scene) (p : Plain) (a b : ℕ) (tier_view : BrokerTierView)
       → copy.CopyTurnRow objects calls notes notings copied origin next result old new
       → ShowsScene c a b tier_view (Copies copied next) (objects old.store) (notes old.meta) old.view
       → length c.notes < 2 ^ 64 → TierSafe c p
@@ -100,7 +100,8 @@ module _ {S M : Type 0} (objects : S → store.Content) (calls : S → Control s
   -- each turn of an expiry is
   abbrev pub ExpiryTurnsChange : Type 0
   ExpiryTurnsChange =
-      (expired_segment : ExpiredSegment) (origin : EventOrigin) (next : ExpiryNext) (result : Result (Turn ExpiryNext) AllocError) (old new : expiry.Tiers S M)
+      (expired_segment : ExpiredSegment) (origin : EventOrigin) (next : ExpiryNext)
+      (result : Result (Turn ExpiryNext) AllocError) (old new : expiry.Tiers S M)
       (c : Scene) (p : Plain) (a b : ℕ) (tier_view : BrokerTierView)
       → expiry.ExpiryRow objects calls notes notings expired_segment origin next result old new
       → ShowsScene c a b tier_view (Expires expired_segment next) (objects old.store) (notes old.meta) tier_view.view

@@ -101,7 +101,8 @@ shown asked cursor piece from =
     if nat_lt from (top_of asked piece) then Goes (cursor, Index piece from) else Goes (top_of asked piece, Seek)
 
 -- these are the bytes of a time index, and the search continues as it shows
-pub record IsTimeIndexRead (asked : Asked) (cursor : ℕ) (piece : Piece) (base : ℕ) (bytes : List ℕ) (turn : Turn (ℕ × SearchStep)) : Type 0 where
+pub record IsTimeIndexRead (asked : Asked) (cursor : ℕ) (piece : Piece) (base : ℕ) (bytes : List ℕ)
+    (turn : Turn (ℕ × SearchStep)) : Type 0 where
   pub index : TimeTable
   pub base_is : index.base ≡ base
   pub rises : AreMoments index.entries
@@ -110,7 +111,8 @@ pub record IsTimeIndexRead (asked : Asked) (cursor : ℕ) (piece : Piece) (base 
 
 -- what becomes of a search by bytes of the time index of a segment with this base offset, and by where more of them
 -- are lacking
-abbrev pub TimesBytes : Option ℕ → Asked → ℕ → Piece → ℕ → Spot → List ℕ → Result (Turn (ℕ × SearchStep)) AllocError → Type 0
+abbrev pub TimesBytes : Option ℕ → Asked → ℕ → Piece → ℕ → Spot → List ℕ → Result (Turn (ℕ × SearchStep)) AllocError
+    → Type 0
 TimesBytes (Some end) asked cursor piece base spot bytes result = result ≡ Ok (Ends (Damaged (Key spot.key) end))
 TimesBytes None asked cursor piece base spot bytes (Ok (Goes (at, next))) = IsTimeIndexRead asked cursor piece base bytes (Goes (at, next))
 TimesBytes None asked cursor piece base spot bytes (Ok (Ends answer)) =
@@ -118,7 +120,8 @@ TimesBytes None asked cursor piece base spot bytes (Ok (Ends answer)) =
 TimesBytes None asked cursor piece base spot bytes (Err e) = Unit {0}
 
 -- by what the store answered of it
-abbrev pub Times : Asked → ℕ → Piece → ℕ → Spot → Result (Option (List ℕ)) Trouble → Result (Turn (ℕ × SearchStep)) AllocError → Type 0
+abbrev pub Times : Asked → ℕ → Piece → ℕ → Spot → Result (Option (List ℕ)) Trouble
+    → Result (Turn (ℕ × SearchStep)) AllocError → Type 0
 Times asked cursor piece base spot (Err Failed) result = result ≡ Ok (Ends StoreFault)
 Times asked cursor piece base spot (Err NoMemory) result = IsErr result
 Times asked cursor piece base spot (Ok None) result = result ≡ Ok (Ends (Damaged (Key spot.key) 0))
@@ -136,7 +139,8 @@ wanted_at asked offset = record {
 }
 
 -- what becomes of a search by what a fetch's turn came to, of the segment's offset index
-abbrev pub Indexes : ℕ → Piece → ℕ → Result (Turn FetchStep) AllocError → Result (Turn (ℕ × SearchStep)) AllocError → Type 0
+abbrev pub Indexes : ℕ → Piece → ℕ → Result (Turn FetchStep) AllocError → Result (Turn (ℕ × SearchStep)) AllocError
+    → Type 0
 Indexes cursor piece from (Ok (Goes (fetching.Log found span))) result =
     (found ≡ piece) × (result ≡ Ok (Goes (cursor, Log piece from span)))
 Indexes cursor piece from (Ok (Goes next)) result = ⊥
@@ -144,7 +148,8 @@ Indexes cursor piece from (Ok (Ends answer)) result = result ≡ Ok (Ends answer
 Indexes cursor piece from (Err e) result = IsErr result
 
 -- by what it came to of the segment's log
-abbrev pub SearchTakes : Asked → ℕ → Result (Turn FetchStep) AllocError → Result (Turn (ℕ × SearchStep)) AllocError → Type 0
+abbrev pub SearchTakes : Asked → ℕ → Result (Turn FetchStep) AllocError → Result (Turn (ℕ × SearchStep)) AllocError
+    → Type 0
 SearchTakes asked from (Ok (Ends (Run tier size stop bytes))) (Ok turn) = IsSearched asked from bytes turn
 SearchTakes asked from (Ok (Ends (Run tier size stop bytes))) (Err e) = ⊥
 SearchTakes asked from (Ok (Ends answer)) result = result ≡ Ok (Ends answer)
@@ -153,8 +158,8 @@ SearchTakes asked from (Err e) result = IsErr result
 
 module _ {M : Type 0} (notes : M → meta.Content) (calls : M → Control meta_call.call_code) where
   -- remote segments that are too early are passed over
-  abbrev pub SeekRow : Asked → List (ℕ × ℕ) → ℕ → Result (Turn (ℕ × SearchStep)) AllocError → EntriesSeen → EntriesSeen → M → M
-      → Type 0
+  abbrev pub SeekRow : Asked → List (ℕ × ℕ) → ℕ → Result (Turn (ℕ × SearchStep)) AllocError → EntriesSeen → EntriesSeen
+      → M → M → Type 0
   SeekRow asked line cursor (Ok (Ends MetaFault)) before after old new = Unread notes calls before after old new
   SeekRow asked line cursor (Ok turn) before after old new =
       Seeks asked line after cursor turn × Refreshed notes calls before after old new
@@ -162,22 +167,23 @@ module _ {M : Type 0} (notes : M → meta.Content) (calls : M → Control meta_c
 
 module _ {S : Type 0} (objects : S → store.Content) (calls : S → Control store_call.call_code) where
   -- one read of a segment's time index
-  pub record ReadsTimeIndex (asked : Asked) (cursor : ℕ) (piece : Piece) (place : ℕ × Spot) (result : Result (Turn (ℕ × SearchStep)) AllocError)
-      (old new : S) : Type 0 where
+  pub record ReadsTimeIndex (asked : Asked) (cursor : ℕ) (piece : Piece) (place : ℕ × Spot)
+      (result : Result (Turn (ℕ × SearchStep)) AllocError) (old new : S) : Type 0 where
     pub answer : Result (Option (List ℕ)) Trouble
     pub gets : Gets objects calls place.1.key (all_of place.1) answer old new
     pub times : Times asked cursor piece place.0 place.1 answer result
 
   -- the time index is read where it is
-  abbrev pub TimesRow : Asked → ℕ → Piece → EntriesSeen → Option (ℕ × Spot) → Result (Turn (ℕ × SearchStep)) AllocError → S → S
-      → Type 0
+  abbrev pub TimesRow : Asked → ℕ → Piece → EntriesSeen → Option (ℕ × Spot) → Result (Turn (ℕ × SearchStep)) AllocError
+      → S → S → Type 0
   TimesRow asked cursor piece view None result old new = (result ≡ Ok (Ends (Damaged Meta view.notes))) × (new ≡ old)
   TimesRow asked cursor piece view (Some place) result old new = ReadsTimeIndex asked cursor piece place result old new
 
 module _ {S M : Type 0} (objects : S → store.Content) (calls : S → Control store_call.call_code)
     (notes : M → meta.Content) (notings : M → Control meta_call.call_code) where
   -- the offset index is had as a fetch from this offset has it; none is where the known high watermark isn't past it
-  abbrev pub SearchIndexRow : Asked → List (ℕ × ℕ) → ℕ → Piece → ℕ → Result (Turn (ℕ × SearchStep)) AllocError → Tiers S M → Tiers S M → Type 0
+  abbrev pub SearchIndexRow : Asked → List (ℕ × ℕ) → ℕ → Piece → ℕ → Result (Turn (ℕ × SearchStep)) AllocError
+      → Tiers S M → Tiers S M → Type 0
   SearchIndexRow asked line cursor piece from result old new =
       ((asked.mark ≤ from) × (result ≡ Ok (Goes (top_of asked piece, Seek))) × (new ≡ old))
       ⊎ ((from < asked.mark) × ((turn : Result (Turn FetchStep) AllocError)
@@ -185,7 +191,8 @@ module _ {S M : Type 0} (objects : S → store.Content) (calls : S → Control s
       × Indexes cursor piece from turn result))
 
   -- the log is read as that fetch reads it
-  abbrev pub SearchLogRow : Asked → List (ℕ × ℕ) → Piece → ℕ → Span → Result (Turn (ℕ × SearchStep)) AllocError → Tiers S M → Tiers S M → Type 0
+  abbrev pub SearchLogRow : Asked → List (ℕ × ℕ) → Piece → ℕ → Span → Result (Turn (ℕ × SearchStep)) AllocError
+      → Tiers S M → Tiers S M → Type 0
   SearchLogRow asked line piece from span result old new =
       ((asked.mark ≤ from) × (result ≡ Ok (Goes (top_of asked piece, Seek))) × (new ≡ old))
       ⊎ ((from < asked.mark) × ((turn : Result (Turn FetchStep) AllocError)
@@ -193,8 +200,8 @@ module _ {S M : Type 0} (objects : S → store.Content) (calls : S → Control s
       × SearchTakes asked from turn result))
 
   -- a turn of a search among the remote segments, by what was next: what it came to, or that it ran out of memory
-  abbrev pub TimeRow : Asked → List (ℕ × ℕ) → ℕ → SearchStep → Result (Turn (ℕ × SearchStep)) AllocError → Tiers S M → Tiers S M
-      → Type 0
+  abbrev pub TimeRow : Asked → List (ℕ × ℕ) → ℕ → SearchStep → Result (Turn (ℕ × SearchStep)) AllocError → Tiers S M
+      → Tiers S M → Type 0
   TimeRow asked line cursor Seek result old new =
       (new ≡ record old { view = new.view; meta = new.meta })
       × SeekRow notes notings asked line cursor result old.view new.view old.meta new.meta
@@ -209,7 +216,8 @@ module _ {S M : Type 0} (objects : S → store.Content) (calls : S → Control s
 
 module _ {D : Type 0} (content : D → disk.Content) (control : D → Control disk_call.call_code) where
   -- a run was read at an offset, and was searched
-  pub record SearchesRun (old : LogState D) (asked : Asked) (at : ℕ) (turn : Turn (ℕ × SearchStep)) (new : LogState D) : Type 0 where
+  pub record SearchesRun (old : LogState D) (asked : Asked) (at : ℕ) (turn : Turn (ℕ × SearchStep)) (new : LogState D)
+      : Type 0 where
     pub out : RunOut
     pub reads : ReadsRun content control old new at (2 ^ 64 - 1) asked.mark out
     pub quiet : Quiet control old new
@@ -236,7 +244,8 @@ module _ {D : Type 0} (content : D → disk.Content) (control : D → Control di
   -- a turn of a search in the local log: nothing is read at or past the known high watermark
   abbrev pub LocalSearchRow : LogState D → Asked → ℕ → Turn (ℕ × SearchStep) → LogState D → Type 0
   LocalSearchRow old asked cursor turn new =
-      ((asked.mark ≤ passed_over asked.ts cursor (closed_in old)) × (turn ≡ Goes (passed_over asked.ts cursor (closed_in old), Seek))
+      ((asked.mark ≤ passed_over asked.ts cursor (closed_in old))
+      × (turn ≡ Goes (passed_over asked.ts cursor (closed_in old), Seek))
       × (new ≡ old))
       ⊎ ((passed_over asked.ts cursor (closed_in old) < asked.mark)
       × ReadLocalRow old asked (passed_over asked.ts cursor (closed_in old)) turn new)
