@@ -2,7 +2,7 @@
 --
 -- The rows over disks say what a turn does to the logs by the words of a broker's log; where the disks are observable, it is a row of
 -- the partition as it is seen. The disks' plans last over every turn, and infallible ones stay so.
-use Rattle.std.specs.Prelude.{◌≡◌, ℕ, ◌+◌, ◌-◌, ◌^◌, ◌<◌, ◌≤◌, ◌&&◌, ◌⊎◌, Bool, true, List, [], ◌∷◌, length, Option, unwrap_or, slice_get, slice_set, IsSomeAnd, IsTrue}
+use Rattle.std.specs.Prelude.{◌≡◌, ℕ, ◌+◌, ◌-◌, ◌^◌, ◌<◌, ◌≤◌, ◌&&◌, ◌⊎◌, Bool, true, List, [], ◌∷◌, length, Option, unwrap_or, option_map, slice_get, slice_set, IsSomeAnd, IsTrue}
 use Rattle.std.specs.Option.{option_and_then}
 use Rattle.tier_base.specs.Device.{Control, Went, Ran}
 use Rattle.tier_base.specs.declared.plain.FileName.{FileName}
@@ -11,10 +11,11 @@ use Rattle.disk_model.specs.declared.call.DiskCall.TheVariants.{Read}
 use Rattle.disk_model.specs.Content.{Content}
 use Rattle.local_log.specs.Run.{is_due}
 use Rattle.local_log.specs.Reading.{segment_at, is_edge}
+use Rattle.local_log.specs.Stored.{size_of}
 use Rattle.registry.specs.Calls.{when}
 use Rattle.plain_log.specs.declared.state.Role.TheVariants.{Idle}
 use Rattle.plain_log.specs.State.{leads_in}
-use Rattle.broker_log.specs.Seen.{LogState, ShowsSeen, LogStays, WhileUp, OnDisk, Lasting, OneFault, Quiet, is_up as is_open, end_in, flushed_end_in, line_in, local_in}
+use Rattle.broker_log.specs.Seen.{LogState, ShowsSeen, LogStays, WhileUp, OnDisk, Lasting, OneFault, Quiet, is_up as is_open, end_in, flushed_end_in, line_in, local_in, layout_in}
 use Rattle.broker_log.specs.Turns.{Misreads}
 use Rattle.broker_log.specs.Seen as log
 use Rattle.broker_log.specs.Turns as turns
@@ -39,6 +40,10 @@ module _ {D : Type 0} where
 
   abbrev pub local_of : Node D → ℕ
   local_of x = unwrap_or (local_in x.log) 0
+
+  -- the bytes of its open segment, where it is up
+  abbrev pub open_size_of : Node D → ℕ
+  open_size_of x = unwrap_or (option_map (λ layout. size_of layout.active) (layout_in x.log)) 0
 
   -- the partition with this node in its place
   abbrev pub put_node : PartitionState D → ℕ → Node D → PartitionState D

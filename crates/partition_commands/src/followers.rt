@@ -25,10 +25,7 @@ impl<D: Disk> Node<D> {
         requires other_up { is_up other.now ≡ true }
         ensures { IsMeet self.now other.now result }
     {
-        let (Some(own), Some(its)) = (self.log.line(), other.log.line()) else {
-            unreachable!()
-        };
-        own.meet(self.end(), its, other.end())
+        self.line().meet(self.end(), other.line(), other.end())
     }
 }
 

@@ -28,6 +28,7 @@ impl<D: Disk> PartitionState<D> {
             Which::Earliest => Answer::Offset(start),
             Which::Latest => Answer::Offset(node.known_high_watermark),
             Which::EarliestLocal => Answer::Offset(node.local_start().max(start)),
+            // These aren't known at once: `known`.
             Which::LatestTiered | Which::At(_) => unreachable!(),
         }
     }

@@ -78,6 +78,7 @@ impl<D: Disk> PartitionState<D> {
         let batch = match build(alloc, base, epoch, recs) {
             Ok(batch) => batch,
             Err(BuildRefusal::NoMemory) => return Err(AllocError),
+            // A batch of these records can be built: `fit`.
             Err(BuildRefusal::NoRecords | BuildRefusal::TooLarge) => unreachable!(),
         };
         self.put(b, batch.as_slice(), base, end - 1, epoch)

@@ -3,11 +3,12 @@
 //! Each command has a method of its own, which makes its tests in their order. Where it finds no memory nothing that is
 //! seen has changed. A fault of a broker's disk in a write stops the broker.
 
-ghost use Rattle.std.specs.Prelude.{◌≡◌, ◌<◌, ◌≤◌, ◌+◌, ◌^◌, length, Some, None, IfOk, IfSome, OnErr, IsTrue};
+ghost use Rattle.std.specs.Prelude.{◌≡◌, ◌<◌, ◌≤◌, ◌+◌, ◌^◌, true, length, Some, IfOk, OnErr, IsTrue};
+ghost use Rattle.broker_log.specs.Seen.{line_in, incarnation_in, settings_in};
 ghost use Rattle.epoch_line.specs.Line.{last_epoch};
 ghost use Rattle.plain_log.specs.Orders.{IsInRange};
 ghost use Rattle.laws_partition.specs.declared.start_snapshot.Turned.TheVariants.{Answers};
-ghost use Rattle.partition_commands.specs.Partition.{AtNode, CanStop, KeepsPartition, stopped, is_up, end_of, flushed_end_of, line_of, local_of};
+ghost use Rattle.partition_commands.specs.Partition.{AtNode, CanStop, KeepsPartition, stopped, is_up, end_of, flushed_end_of, line_of, local_of, open_size_of};
 ghost use Rattle.partition_commands.specs.Turns.{IsOfTier, takes_memory, FirstRow};
 ghost use Rattle.partition_commands.specs.TurnsOfLog.{Notes};
 ghost use Rattle.partition_commands.specs.Sound.{SoundPartition};
@@ -16,10 +17,10 @@ use broker_log::BrokerLog;
 use disk_model::Disk;
 use epoch_line::Line;
 use laws_partition::{LocalStart, StartSnapshot, Taken, Turned};
-use plain_log::{Answer, Command, Order, Registry, Role, Which};
+use plain_log::{Answer, Command, Order, Registry, Role};
 use record_batch::Checked;
 use std::alloc::{AllocError, Global};
-use tier_base::Row;
+use tier_base::{Row, Settings};
 
 /// A broker over a disk, which is up as long as its log is open.
 #[derive(Drop)]
@@ -67,11 +68,54 @@ impl<D: Disk> Node<D> {
     }
 
     /// Where its local log begins, 0 while it is down.
-    pub(crate) fn local_start(&self) -> u64
+    pub fn local_start(&self) -> u64
         ensures is { result ≡ local_of self.now }
         ensures low { result ≤ 2 ^ 62 }
     {
         self.log.local_start().unwrap_or(0)
+    }
+
+    /// The bytes of its open segment, 0 while it is down.
+    pub fn open_size(&self) -> u64
+        ensures { result ≡ open_size_of self.now }
+    {
+        self.log.open_size().unwrap_or(0)
+    }
+
+    /// Its leader epochs.
+    pub fn line(&self) -> &Line
+        requires { is_up self.now ≡ true }
+        ensures { Some result.now ≡ line_in self.now.log }
+    {
+        match self.log.line() {
+            Some(line) => line,
+            // The log of a broker that is up is open.
+            None => unreachable!(),
+        }
+    }
+
+    /// How often its log was opened.
+    pub fn incarnation(&self) -> u32
+        requires { is_up self.now ≡ true }
+        ensures { Some result ≡ incarnation_in self.now.log }
+    {
+        match self.log.incarnation() {
+            Some(incarnation) => incarnation,
+            // The log of a broker that is up is open.
+            None => unreachable!(),
+        }
+    }
+
+    /// The settings of its log.
+    pub fn settings(&self) -> Settings
+        requires { is_up self.now ≡ true }
+        ensures { Some result ≡ settings_in self.now.log }
+    {
+        match self.log.settings() {
+            Some(settings) => settings,
+            // The log of a broker that is up is open.
+            None => unreachable!(),
+        }
     }
 
     /// A copy of its leader epochs, the empty one while it is down.
@@ -123,7 +167,7 @@ impl<D: Disk> PartitionState<D> {
         }
     }
 
-    /// Carries out the first turn of a command, where the remote tier has no part in it. What is known of a check is
+    /// Carries out the first turn of a command that the remote tier has no part in. What is known of a check is
     /// used where the command's bytes are those that were checked. Fails only if memory runs out.
     #[tactic(auto, using(crate::proofs::Writes::can_stop))]
     pub fn first_turn(
@@ -131,14 +175,13 @@ impl<D: Disk> PartitionState<D> {
         alloc: Global,
         order: &Order,
         known: Option<&Checked>,
-    ) -> Result<Option<Turned>, AllocError>
+    ) -> Result<Turned, AllocError>
         requires node { CanStop self.old order.now.broker.0 }
         requires sound { SoundPartition (length self.old.nodes) self.old }
         requires fit { IsInRange order.now.command }
-        ensures row { IfOk result (λ found. IfSome found (λ turned.
-            AtNode self.old order.now.broker.0 (λ x.
-            FirstRow D.content D.control self.old order.now.broker.0 x order.now.command turned self.new))) }
-        ensures none { IfOk result (λ found. found ≡ None → IsOfTier order.now.command × (self.new ≡ self.old)) }
+        requires own { IsOfTier order.now.command → ⊥ }
+        ensures row { IfOk result (λ turned. AtNode self.old order.now.broker.0 (λ x.
+            FirstRow D.content D.control self.old order.now.broker.0 x order.now.command turned self.new)) }
         ensures err { OnErr result (KeepsPartition D.content D.control self.old self.new) }
         ensures wants { OnErr result (IsTrue (takes_memory order.now.command)) }
     {
@@ -160,21 +203,19 @@ impl<D: Disk> PartitionState<D> {
             Command::Copying(on) => Ok(at_once(self.set_copying(*on))),
             Command::Stop => Ok(at_once(self.stop(b))),
             Command::Up => Ok(at_once(self.up(b)?)),
-            Command::Join => Ok(Some(self.join(alloc, b)?)),
-            Command::Follow { limit } => Ok(Some(self.follow(alloc, b, *limit)?)),
-            Command::Fetch { offset, limit } => { Ok(Some(self.fetch(alloc, b, *offset, *limit)?)) }
-            Command::Copy
-            | Command::Trim
-            | Command::Expire
-            | Command::Offset(Which::LatestTiered | Which::At(_)) => Ok(None),
+            Command::Join => self.join(alloc, b),
+            Command::Follow { limit } => self.follow(alloc, b, *limit),
+            Command::Fetch { offset, limit } => self.fetch(alloc, b, *offset, *limit),
             Command::Offset(which) => Ok(at_once(self.offset(b, *which))),
+            // The remote tier has a part in these: `own`.
+            Command::Copy | Command::Trim | Command::Expire => unreachable!(),
         }
     }
 }
 
 /// What the first turn of a command came to that has no other.
-fn at_once(answer: Answer) -> Option<Turned>
-    ensures { result ≡ Some (Answers answer) }
+fn at_once(answer: Answer) -> Turned
+    ensures { result ≡ Answers answer }
 {
-    Some(Turned::Answers(answer))
+    Turned::Answers(answer)
 }

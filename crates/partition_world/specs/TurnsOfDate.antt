@@ -126,5 +126,5 @@ module _ {D S M : Type 0} (disk : DiskGhosts D) (store : StoreGhosts S) (meta : 
       SearchesOn p h t b x broker_tier g ts cursor next (Ends answer) h' t'
   DateOnRow p h t b x broker_tier g ts cursor next (Dates at later) h' t' =
       SearchesOn p h t b x broker_tier g ts cursor next (Goes (at, later)) h' t'
-          × SearchContinues (resumed_at h.registry.start cursor) (Goes (at, later))
+      × SearchContinues (resumed_at h.registry.start cursor) (Goes (at, later))
   DateOnRow p h t b x broker_tier g ts cursor next other h' t' = ⊥

@@ -44,10 +44,12 @@ pub(crate) fn copied_to<D: Disk>(node: &Node<D>, broker_tier: &BrokerTierState, 
     requires { is_up node.now ≡ true }
     ensures { result ≡ copied_to node.now broker_tier.now start }
 {
-    let (Some(line), Some(local)) = (node.log.line(), node.log.local_start()) else {
-        unreachable!()
-    };
-    covered_to(&broker_tier.view, line, node.end(), local.max(start))
+    covered_to(
+        &broker_tier.view,
+        node.line(),
+        node.end(),
+        node.local_start().max(start),
+    )
 }
 
 /// Whether a closed segment comes next, after the end that the remote tier has all up to.
@@ -77,9 +79,7 @@ fn copying<D: Disk>(
     ensures interval { IfOk result (λ copy. copy.interval ≡ interval) }
     ensures packed { IfOk result (λ copy. copy.packed ≡ (packed && can_pack copy.parts)) }
 {
-    let Some(line) = node.log.line() else {
-        unreachable!()
-    };
+    let line = node.line();
     Copying::of(alloc, partition, id, segment, line, interval, packed)
 }
 
@@ -111,14 +111,10 @@ fn read_next<D: Disk>(
     ensures err { OnErr result (ReadsQuietly D.Disk node.old node.new) }
     ensures broker_tier { OnErr result (broker_tier.new ≡ broker_tier.old) }
 {
-    let Some(incarnation) = node.log.incarnation() else {
-        unreachable!()
-    };
+    let incarnation = node.incarnation();
     let next = broker_tier.next(incarnation);
     let id = id_of(partition, broker, incarnation, next);
-    let Some(settings) = node.log.settings() else {
-        unreachable!()
-    };
+    let settings = node.settings();
     match node.log.closed_from(offset) {
         Ok(Some(segment)) => {
             let interval = settings.index_interval;
@@ -131,6 +127,7 @@ fn read_next<D: Disk>(
             Ok(Outcome::Answers(Answer::Damaged(Place::File(file), at)))
         }
         Err(ReadRefusal::NoMemory) => Err(AllocError),
+        // A closed segment ends past the offset: `next`.
         Ok(None) => unreachable!(),
     }
 }

@@ -65,9 +65,7 @@ fn is_due<D: Disk>(
     requires { is_up node.now ≡ true }
     ensures { IfOk result (λ due. IsTrue due ↔ IsDue node.now start now keep) }
 {
-    let Some(open) = node.log.open_size() else {
-        unreachable!()
-    };
+    let open = node.open_size();
     let items = items(alloc, node.log.closed())?;
     Ok(local_due(items.as_slice(), open, now, keep, start))
 }
@@ -90,11 +88,9 @@ pub(crate) fn may_trim<D: Disk>(
     if end > node.known_high_watermark {
         return Ok(false);
     }
-    let (Some(line), Some(local)) = (node.log.line(), node.log.local_start()) else {
-        unreachable!()
-    };
     let start = held.registry.start;
-    if !reaches(&broker_tier.view, line, node.end(), local.max(start), end) {
+    let from = node.local_start().max(start);
+    if !reaches(&broker_tier.view, node.line(), node.end(), from, end) {
         return Ok(false);
     }
     is_due(alloc, node, start, held.clock, keep)

@@ -77,14 +77,11 @@ fn asked_of<D: Disk>(
     requires { is_up node.now ≡ true }
     ensures { result ≡ asked_of partition held.now node.now ts }
 {
-    let Some(local) = node.log.local_start() else {
-        unreachable!()
-    };
     Asked {
         partition,
         ts,
         start: held.registry.start,
-        local,
+        local: node.local_start(),
         log_end: node.end(),
         mark: node.known_high_watermark,
     }
@@ -180,9 +177,7 @@ impl<S: Store, M: MetaLog> RemoteTier<S, M> {
         if is_own(asked, cursor, next) {
             return search_own(held, b, asked, cursor);
         }
-        let Some(line) = held.nodes.get(b).log.line() else {
-            unreachable!()
-        };
+        let line = held.nodes.get(b).line();
         self.search_remote(alloc, b, line, asked, cursor, *next)
     }
 

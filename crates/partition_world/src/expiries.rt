@@ -42,17 +42,11 @@ fn rises_to<D: Disk>(
     requires { is_up node.now ≡ true }
     ensures { IfOk result (λ start. start ≡ rises_to held.now node.now broker_tier.now keep) }
 {
-    let (Some(line), Some(open)) = (node.log.line(), node.log.open_size()) else {
-        unreachable!()
-    };
-    let Some(local) = node.log.local_start() else {
-        unreachable!()
-    };
     let (start, end) = (held.registry.start, node.end());
     let pieces = chain(
         alloc,
         &broker_tier.view,
-        line,
+        node.line(),
         end,
         start,
         node.known_high_watermark,
@@ -62,12 +56,17 @@ fn rises_to<D: Disk>(
     let own = find_uncopied(
         alloc,
         held.copying,
-        local,
+        node.local_start(),
         offset,
         node.known_high_watermark,
         closed,
     )?;
-    let rest = rest_behind(end_behind(offset, own.as_slice()), closed, open, end);
+    let rest = rest_behind(
+        end_behind(offset, own.as_slice()),
+        closed,
+        node.open_size(),
+        end,
+    );
     raised_to(
         alloc,
         &broker_tier.view,
@@ -94,10 +93,7 @@ fn rises_within<D: Disk>(
         × (n ≤ node.now.known_high_watermark))) }
 {
     a_log_start_rises_up_to_the_known_mark();
-    let Some(line) = node.log.line() else {
-        unreachable!()
-    };
-    let (_begins, _entries) = (line.entries(), broker_tier.view.entries());
+    let (_begins, _entries) = (node.line().entries(), broker_tier.view.entries());
     rises_to(alloc, held, node, broker_tier, keep)
 }
 
@@ -110,11 +106,13 @@ fn raise<D: Disk>(held: &mut PartitionState<D>, role: Role, start: u64) -> Answe
     ensures { ExpiryRaiseRow held.old role start result held.new }
 {
     let Some(epoch) = leading(role) else {
+        // The role leads: `leads`.
         unreachable!()
     };
     match held.registry.raise(epoch, start) {
         Ok(start) => Answer::Raised(start),
         Err(RegRefusal::StaleEpoch { current }) => Answer::StaleEpoch(current as u64),
+        // The start is above the log start offset and within the high watermark: `above`, `within`.
         Err(_) => unreachable!(),
     }
 }

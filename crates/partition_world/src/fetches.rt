@@ -76,9 +76,7 @@ impl<S: Store, M: MetaLog> RemoteTier<S, M> {
         if let Some(answer) = answer_of(held, node, recorded, offset) {
             return Ok(Outcome::Answers(answer));
         }
-        let Some(line) = node.log.line() else {
-            unreachable!()
-        };
+        let line = node.line();
         let wanted = FetchRequest {
             partition,
             offset,

@@ -124,10 +124,7 @@ impl<S: Store, M: MetaLog> RemoteTier<S, M> {
         ensures err { OnErr result (KeepsPartition D.content D.control held.old held.new × (self.new ≡ self.old)) }
         ensures wants { OnErr result (IsTrue (takes_memory order.now.command)) }
     {
-        match held.first_turn(alloc, order, known)? {
-            Some(turned) => Ok(outcome_of(turned)),
-            None => unreachable!(),
-        }
+        Ok(outcome_of(held.first_turn(alloc, order, known)?))
     }
 
     /// Carries out the second turn of a command of which its actor's state has what was recorded.
@@ -167,21 +164,19 @@ impl<S: Store, M: MetaLog> RemoteTier<S, M> {
                 held,
             ),
             Command::Join => self.join_on(alloc, order.broker, recorded, held),
-            Command::Offset(which) => match which {
-                Which::LatestTiered => Ok(self.offset_on(b, recorded, held)),
-                Which::At(ts) => self.date_on(
-                    alloc,
-                    partition,
-                    order.broker,
-                    recorded,
-                    *ts,
-                    0,
-                    Dating::Seek,
-                    held,
-                ),
-                _ => unreachable!(),
-            },
+            Command::Offset(Which::LatestTiered) => Ok(self.offset_on(b, recorded, held)),
+            Command::Offset(Which::At(ts)) => self.date_on(
+                alloc,
+                partition,
+                order.broker,
+                recorded,
+                *ts,
+                0,
+                Dating::Seek,
+                held,
+            ),
             Command::Follow { .. } => Ok(Outcome::Answers(held.follow_on(b, recorded)?)),
+            // No other command has a second turn: `work`.
             _ => unreachable!(),
         }
     }
@@ -238,6 +233,7 @@ impl<S: Store, M: MetaLog> RemoteTier<S, M> {
                 *limit,
                 held,
             ),
+            // No other command continues as a fetch does: `work`.
             _ => unreachable!(),
         }
     }
@@ -273,6 +269,7 @@ impl<S: Store, M: MetaLog> RemoteTier<S, M> {
                 next,
                 held,
             ),
+            // No other command continues as a timestamp lookup does: `work`.
             _ => unreachable!(),
         }
     }
