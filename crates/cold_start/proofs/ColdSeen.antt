@@ -21,7 +21,7 @@ use Rattle.laws_partition.specs.Central.{LineStands, LeaderStands, LinesStand, P
 use Rattle.laws_tier_turns.specs.BrokerTiers.{BrokerTierModel, fresh_broker_tier, next_of, tier_views_of, tier_view_of}
 use Rattle.tier_safe.specs.Scene.{BrokerTierView}
 use Rattle.cold_state.specs.Cold.{cold_broker, cold_of}
-use Rattle.cold_start.specs.Cold.{cold_tier_view, cold_node, cold_held, cold_whole, cold_broker_tiers}
+use Rattle.cold_start.specs.Cold.{cold_tier_view, cold_node, cold_partition_state, cold_whole, cold_broker_tiers}
 use Rattle.cold_state.proofs.ColdStates.{made, cold_safe}
 
 pub cold_brokers : (nodes : List Node) → map cold_broker (map broker_of nodes) ≡ map broker_of (map cold_node nodes)
@@ -61,7 +61,7 @@ cold_sound x s = record {
 cold_line : (paths : List Path) (broken : List ℕ) (x : Node) → LineStands paths broken x → LineStands paths broken (cold_node x)
 cold_line paths broken x s = record { sound = cold_sound x s.sound; paths_are = s.paths_are; saved_are = s.saved_are; back_are = s.back_are; joined = λ e is. absurd cc }
 
-pub cold_lines : (h : SeenPartition) (clock : ℤ) (paths : List Path) (broken : List ℕ) → LinesStand h paths broken → LinesStand (cold_held h clock) paths broken
+pub cold_lines : (h : SeenPartition) (clock : ℤ) (paths : List Path) (broken : List ℕ) → LinesStand h paths broken → LinesStand (cold_partition_state h clock) paths broken
 cold_lines h clock paths broken s = record {
   each = λ b x at. (let m = made cold_node h.nodes b x at in subst (LineStands paths broken) (sym m.is) (cold_line paths broken m.x (s.each b m.x m.there)));
   leader = λ x at. (let m = made cold_node h.nodes h.registry.leader.0 x at in subst (LeaderStands paths h.registry.epoch) (sym m.is) (s.leader m.x m.there));
@@ -78,8 +78,8 @@ cold_central opening w clock lists journal c rising empty = record {
   replays = ap (replay lists (cold_of c.plain)) empty;
   safe = cold_safe c.plain c.safe;
   stands = record {
-    held = record { registry = c.stands.held.registry; brokers = ap (map cold_broker) c.stands.held.brokers ∙ cold_brokers w.held.nodes };
-    lines = cold_lines w.held clock c.plain.paths c.plain.broken c.stands.lines;
+    partition_state = record { registry = c.stands.partition_state.registry; brokers = ap (map cold_broker) c.stands.partition_state.brokers ∙ cold_brokers w.partition_state.nodes };
+    lines = cold_lines w.partition_state clock c.plain.paths c.plain.broken c.stands.lines;
     desk = λ place l actor_state list at. cold_actor_state c.plain l actor_state (replicated (length lists) fresh_actor_state place actor_state at);
     rising = rising;
     actor_states = replicate_length (length lists) fresh_actor_state;

@@ -24,17 +24,17 @@ use Rattle.laws_partition.specs.Central as seen_central
 use Rattle.laws_tier_turns.specs.BrokerTiers.{BrokerTierModel as BrokerTierIsSeen, tier_views_of}
 use Rattle.partition_commands.specs.declared.partition_state.Node.{Node}
 use Rattle.partition_commands.specs.Partition.{ShowsNode, ShowNodes}
-use Rattle.tier_safe.specs.Scene.{TierTask as InProgressIsSeen, Free}
+use Rattle.tier_safe.specs.Scene.{TierTask, Free}
 use Rattle.partition_world.specs.declared.actor_state.ActorState.{ActorState}
 use Rattle.partition_world.specs.declared.actor_state.InProgress.TheVariants.{Idle}
 use Rattle.partition_world.specs.declared.tier.BrokerTierState.{BrokerTierState}
-use Rattle.partition_world.specs.Central.{IsCentral, IsRecorded, IsSearchState, broker_tiers_seen, broker_tier_seen, work_of, desk_of, notes_left}
+use Rattle.partition_world.specs.Central.{IsCentral, IsRecorded, IsSearchState, broker_tiers_seen, broker_tier_seen, tier_task_of, desk_of, notes_left}
 use Rattle.partition_world.specs.Fresh.{fresh_actor_state, fresh_broker_tier}
 use Rattle.partition_world.specs.Left.{IsCentralLeft, resolved, whole_with}
 use Rattle.partition_world.specs.Whole.{Whole, seen_as}
 use Rattle.partition_world.proofs.WorldFresh.{all_fresh}
 use Rattle.cold_state.specs.Cold.{cold_of}
-use Rattle.cold_start.specs.Cold.{cold_tier_view, cold_node, cold_held, cold_whole, cold_broker_tiers, cold_scene}
+use Rattle.cold_start.specs.Cold.{cold_tier_view, cold_node, cold_partition_state, cold_whole, cold_broker_tiers, cold_scene}
 use Rattle.cold_start.specs.Laws.{IsDeskFree}
 use Rattle.cold_start.specs.ColdWorld.{IsCutDisk, IsCutStore, IsCutLog, LeavesDisk, LeaveDisks, cold_dev, reopened, plain_in}
 use Rattle.cold_start.proofs.ColdLaw.{cold_tier}
@@ -70,15 +70,15 @@ broker_tiers_cold : (broker_tiers : List BrokerTierState) → cold_broker_tiers 
 broker_tiers_cold [] = refl
 broker_tiers_cold (broker_tier ∷ broker_tiers) = ap (λ (l : List BrokerTierIsSeen). broker_tier_seen fresh_broker_tier ∷ l) (broker_tiers_cold broker_tiers)
 
-free : (o : Option Order) → work_of o Idle ≡ Free
+free : (o : Option Order) → tier_task_of o Idle ≡ Free
 free None = refl
 free (Some order) = refl
 
 pub all_free : (lists : List ActorList) → replicate (length lists) Free ≡ desk_of lists (replicate (length lists) fresh_actor_state)
 all_free [] = refl
 all_free (l ∷ lists) =
-    ap (λ (ws : List InProgressIsSeen). Free ∷ ws) (all_free lists)
-    ∙ ap (λ (w : InProgressIsSeen). w ∷ desk_of lists (replicate (length lists) fresh_actor_state)) (sym (free (slice_get l.orders 0)))
+    ap (λ (ws : List TierTask). Free ∷ ws) (all_free lists)
+    ∙ ap (λ (w : TierTask). w ∷ desk_of lists (replicate (length lists) fresh_actor_state)) (sym (free (slice_get l.orders 0)))
 
 replicated : {A : Type 0} (n : ℕ) (x : A) (i : ℕ) (y : A) → slice_get (replicate n x) i ≡ Some y → x ≡ y
 replicated zero x i y e = absurd cc
@@ -86,7 +86,7 @@ replicated (suc n) x zero y e = cc
 replicated (suc n) x (suc i) y e = replicated n x i y e
 
 pub is_free : (n : ℕ) → IsDeskFree (replicate n Free)
-is_free n a work at = sym (replicated n Free a work at)
+is_free n a tier_task at = sym (replicated n Free a tier_task at)
 
 idle_dated : (p : State) (order : Option Order) → IsSearchState p order Idle
 idle_dated p None = tt
@@ -94,7 +94,7 @@ idle_dated p (Some order) = tt
 
 module _ {D S M : Type 0} (disk : DiskGhosts D) (store : StoreGhosts S) (meta : MetaGhosts M) where
   module _ (opening : State) (config : Config) (w : Whole D S M) (lists : List ActorList) (journal : Rolled JournalEntry) (disks : List D) (s : S) (m : M) (l : List Note)
-      (cut : LeaveDisks disk.content w.held.nodes disks) (kept : IsCutStore (store.content w.tier.store) (store.content s)) (told : IsCutLog (meta.content w.tier.meta) (meta.content m))
+      (cut : LeaveDisks disk.content w.partition_state.nodes disks) (kept : IsCutStore (store.content w.tier.store) (store.content s)) (told : IsCutLog (meta.content w.tier.meta) (meta.content m))
       (rising : AreRising lists) (empty : journal.items ≡ []) (low : length l + notes_left lists (replicate (length lists) fresh_actor_state) < 2 ^ 64)
       (k : IsCentral disk store (resolved meta) opening (whole_with w l)) where
     abbrev base : seen_central.IsCentral (cold_of k.central.plain) (cold_whole (seen_as (whole_with w l) k.partition) (pos 0) lists journal)
@@ -102,14 +102,14 @@ module _ {D S M : Type 0} (disk : DiskGhosts D) (store : StoreGhosts S) (meta : 
 
     pub central_cut : IsCentral disk store (resolved meta) (cold_of k.central.plain) (whole_with (reopened config w lists journal disks s m) l)
     central_cut = record {
-      partition = cold_held k.partition (pos 0);
-      shows = record { registry = k.shows.registry; nodes = nodes_shown disk.content config.settings w.held.nodes k.partition.nodes disks cut k.shows.nodes; clock = refl };
+      partition = cold_partition_state k.partition (pos 0);
+      shows = record { registry = k.shows.registry; nodes = nodes_shown disk.content config.settings w.partition_state.nodes k.partition.nodes disks cut k.shows.nodes; clock = refl };
       central = record {
         plain = base.plain;
         replays = base.replays;
         safe = base.safe;
         stands = record {
-          held = base.stands.held;
+          partition_state = base.stands.partition_state;
           lines = base.stands.lines;
           desk = λ place list actor_state at there. base.stands.desk place list actor_state at (ap (λ (d : List _). slice_get d place) (sym (all_fresh (length lists))) ∙ there);
           rising = base.stands.rising;
@@ -127,8 +127,8 @@ module _ {D S M : Type 0} (disk : DiskGhosts D) (store : StoreGhosts S) (meta : 
         desk = all_free lists;
       };
       tier = cold_tier k.scene k.central.plain (replicate (length lists) Free) (is_free (length lists)) k.tier;
-      recorded = λ place actor_state at. subst (λ (s : ActorState). IsRecorded s.work) (replicated (length lists) fresh_actor_state place actor_state at) tt;
-      dated = λ place list actor_state there at. subst (λ (s : ActorState). IsSearchState (cold_of k.central.plain) (slice_get list.orders s.number) s.work) (replicated (length lists) fresh_actor_state place actor_state at) (idle_dated (cold_of k.central.plain) (slice_get list.orders 0));
+      recorded = λ place actor_state at. subst (λ (s : ActorState). IsRecorded s.in_progress) (replicated (length lists) fresh_actor_state place actor_state at) tt;
+      dated = λ place list actor_state there at. subst (λ (s : ActorState). IsSearchState (cold_of k.central.plain) (slice_get list.orders s.number) s.in_progress) (replicated (length lists) fresh_actor_state place actor_state at) (idle_dated (cold_of k.central.plain) (slice_get list.orders 0));
       few = subst (λ (notes : List Note). length notes + notes_left lists (replicate (length lists) fresh_actor_state) < 2 ^ 64) (sym k.shows_tier.notes) low;
     }
 
@@ -138,7 +138,7 @@ module _ {D S M : Type 0} (disk : DiskGhosts D) (store : StoreGhosts S) (meta : 
   same_plain opening w l x a b = let is : Some a.central.plain ≡ Some b.central.plain = sym a.central.replays ∙ b.central.replays in cc (is)
 
   pub power_cut : (opening : State) (config : Config) (w : Whole D S M) (lists : List ActorList) (journal : Rolled JournalEntry) (disks : List D) (s : S) (m : M) (c : IsCentralLeft disk store meta opening w)
-      → LeaveDisks disk.content w.held.nodes disks → IsCutStore (store.content w.tier.store) (store.content s) → IsCutLog (meta.content w.tier.meta) (meta.content m)
+      → LeaveDisks disk.content w.partition_state.nodes disks → IsCutStore (store.content w.tier.store) (store.content s) → IsCutLog (meta.content w.tier.meta) (meta.content m)
       → AreRising lists → journal.items ≡ [] → ((l : List Note) → Left (meta.content m) l → length l + notes_left lists (replicate (length lists) fresh_actor_state) < 2 ^ 64)
       → IsCentralLeft disk store meta (cold_of (plain_in disk store meta opening w c)) (reopened config w lists journal disks s m)
   power_cut opening config w lists journal disks s m c cut kept told rising empty low l left =

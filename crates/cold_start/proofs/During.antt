@@ -148,8 +148,8 @@ module _ {D : Type 0} (disk : DiskGhosts D) (lawful : (d : D) → Lawful (disk.c
   file_since old now r cut told bytes is = cut.images (disk.content r).files ((lawful r).reads (cut.is_observable told)) RegistryName ∙ is
 
 module _ {D S M : Type 0} (laws : FileLaws) (disk : DiskGhosts D) (store : StoreGhosts S) (meta : MetaGhosts M) (lawful : (d : D) → Lawful (disk.content d)) where
-  module _ (opening : State) (v w : Whole D S M) (reg now : D) (told : IsTrue (disk.content reg).is_observable) (here : w.partition ≡ v.partition) (some : 1 ≤ length v.held.registry.replicas) (few : length v.held.registry.replicas ≤ 8)
-      (more : 1 ≤ length w.held.registry.replicas) (fewer : length w.held.registry.replicas ≤ 8) where
+  module _ (opening : State) (v w : Whole D S M) (reg now : D) (told : IsTrue (disk.content reg).is_observable) (here : w.partition ≡ v.partition) (some : 1 ≤ length v.partition_state.registry.replicas) (few : length v.partition_state.registry.replicas ≤ 8)
+      (more : 1 ≤ length w.partition_state.registry.replicas) (fewer : length w.partition_state.registry.replicas ≤ 8) where
     module _ (b : IsCentralLeft disk store meta opening v) (c : IsCentralLeft disk store meta opening w) (disks : List D) (s : S) (m : M) (r : D) (left : IsLeftSince disk store meta v reg w now disks s m r) where
       -- the state before, and the state after
       abbrev Before : Type 0
@@ -158,20 +158,20 @@ module _ {D S M : Type 0} (laws : FileLaws) (disk : DiskGhosts D) (store : Store
       abbrev After : Type 0
       After = StandsFor disk store meta w.partition disks s m r (cold_of (plain_in disk store meta opening w c))
 
-      old_file : left.file.files RegistryName ≡ Some (registry_bytes v.held.registry) → (disk.content r).files RegistryName ≡ Some (registry_bytes v.held.registry)
-      old_file is = file_since disk lawful reg now r left.file told (registry_bytes v.held.registry) is
+      old_file : left.file.files RegistryName ≡ Some (registry_bytes v.partition_state.registry) → (disk.content r).files RegistryName ≡ Some (registry_bytes v.partition_state.registry)
+      old_file is = file_since disk lawful reg now r left.file told (registry_bytes v.partition_state.registry) is
 
-      new_file : left.file.files RegistryName ≡ Some (registry_bytes w.held.registry) → (disk.content r).files RegistryName ≡ Some (registry_bytes w.held.registry)
-      new_file is = file_since disk lawful reg now r left.file told (registry_bytes w.held.registry) is
+      new_file : left.file.files RegistryName ≡ Some (registry_bytes w.partition_state.registry) → (disk.content r).files RegistryName ≡ Some (registry_bytes w.partition_state.registry)
+      new_file is = file_since disk lawful reg now r left.file told (registry_bytes w.partition_state.registry) is
 
-      before : AreShownAs disk.content v.held.nodes disks → IsCutStore (store.content v.tier.store) (store.content s) → IsCutLog (meta.content v.tier.meta) (meta.content m)
-          → left.file.files RegistryName ≡ Some (registry_bytes v.held.registry) → Before
+      before : AreShownAs disk.content v.partition_state.nodes disks → IsCutStore (store.content v.tier.store) (store.content s) → IsCutLog (meta.content v.tier.meta) (meta.content m)
+          → left.file.files RegistryName ≡ Some (registry_bytes v.partition_state.registry) → Before
       before logs objects notes file =
           subst (λ (p : PartitionId). StandsFor disk store meta p disks s m r (cold_of (plain_in disk store meta opening v b))) (sym here)
           (shown_stands laws disk store meta opening v b disks s m r logs objects notes (left.file.is_observable told) (old_file file) some few)
 
-      after : AreShownAs disk.content w.held.nodes disks → IsCutStore (store.content w.tier.store) (store.content s) → IsCutLog (meta.content w.tier.meta) (meta.content m)
-          → left.file.files RegistryName ≡ Some (registry_bytes w.held.registry) → After
+      after : AreShownAs disk.content w.partition_state.nodes disks → IsCutStore (store.content w.tier.store) (store.content s) → IsCutLog (meta.content w.tier.meta) (meta.content m)
+          → left.file.files RegistryName ≡ Some (registry_bytes w.partition_state.registry) → After
       after logs objects notes file = shown_stands laws disk store meta opening w c disks s m r logs objects notes (left.file.is_observable told) (new_file file) more fewer
 
       -- the store, or the metadata log, is as it was
@@ -190,10 +190,10 @@ module _ {D S M : Type 0} (laws : FileLaws) (disk : DiskGhosts D) (store : Store
           left.notes
 
       -- the registry is as it was, and so is its file
-      quietly : AllReopen disk.content v.held.nodes → WorksOnOne disk store meta v w → w.held.registry ≡ v.held.registry → left.file.files RegistryName ≡ Some (registry_bytes v.held.registry) → Before ⊎ After
+      quietly : AllReopen disk.content v.partition_state.nodes → WorksOnOne disk store meta v w → w.partition_state.registry ≡ v.partition_state.registry → left.file.files RegistryName ≡ Some (registry_bytes v.partition_state.registry) → Before ⊎ After
       quietly again works same file = go works
         where
-          file' : left.file.files RegistryName ≡ Some (registry_bytes w.held.registry)
+          file' : left.file.files RegistryName ≡ Some (registry_bytes w.partition_state.registry)
           file' = subst (λ (k : Registry). left.file.files RegistryName ≡ Some (registry_bytes k)) (sym same) file
 
           go : WorksOnOne disk store meta v w → Before ⊎ After
@@ -204,41 +204,41 @@ module _ {D S M : Type 0} (laws : FileLaws) (disk : DiskGhosts D) (store : Store
               ⊎_elim
               (λ was. inl (before was objects.0 notes.0 file))
               (λ is. inr (after is objects.1 notes.1 file'))
-              (log_did disk.content v.held.nodes w.held.nodes k.partition.nodes disks k.shows.nodes again change left.logs)
+              (log_did disk.content v.partition_state.nodes w.partition_state.nodes k.partition.nodes disks k.shows.nodes again change left.logs)
           go (inr (logs, inl one)) =
-              let was = all_rest disk.content v.held.nodes w.held.nodes disks logs left.logs in
+              let was = all_rest disk.content v.partition_state.nodes w.partition_state.nodes disks logs left.logs in
               let objects = store_as one in
               ⊎_elim
               (λ notes. inl (before was objects.0 notes file))
-              (λ notes. inr (after (shown_by disk.content v.held.nodes w.held.nodes disks logs was) objects.1 notes file'))
+              (λ notes. inr (after (shown_by disk.content v.partition_state.nodes w.partition_state.nodes disks logs was) objects.1 notes file'))
               left.notes
           go (inr (logs, inr two)) =
-              let was = all_rest disk.content v.held.nodes w.held.nodes disks logs left.logs in
+              let was = all_rest disk.content v.partition_state.nodes w.partition_state.nodes disks logs left.logs in
               let notes = meta_as two in
               ⊎_elim
               (λ objects. inl (before was objects notes.0 file))
-              (λ objects. inr (after (shown_by disk.content v.held.nodes w.held.nodes disks logs was) objects notes.1 file'))
+              (λ objects. inr (after (shown_by disk.content v.partition_state.nodes w.partition_state.nodes disks logs was) objects notes.1 file'))
               left.objects
 
       -- the registry is another, and its file is put in the place of the old one
-      replacing : SameDevices v w → (left.file.files RegistryName ≡ Some (registry_bytes v.held.registry)) ⊎ (left.file.files RegistryName ≡ Some (registry_bytes w.held.registry)) → Before ⊎ After
+      replacing : SameDevices v w → (left.file.files RegistryName ≡ Some (registry_bytes v.partition_state.registry)) ⊎ (left.file.files RegistryName ≡ Some (registry_bytes w.partition_state.registry)) → Before ⊎ After
       replacing same file =
-          let was = all_rest disk.content v.held.nodes w.held.nodes disks same.logs left.logs in
+          let was = all_rest disk.content v.partition_state.nodes w.partition_state.nodes disks same.logs left.logs in
           let objects = store_as (ap (λ (t : RemoteTier S M). t.store) same.tier) in
           let notes = meta_as (ap (λ (t : RemoteTier S M). t.meta) same.tier) in
           ⊎_elim
           (λ old. inl (before was objects.0 notes.0 old))
-          (λ new. inr (after (shown_by disk.content v.held.nodes w.held.nodes disks same.logs was) objects.1 notes.1 new))
+          (λ new. inr (after (shown_by disk.content v.partition_state.nodes w.partition_state.nodes disks same.logs was) objects.1 notes.1 new))
           file
 
     -- a step that left the registry alone
-    pub during_quiet : AllReopen disk.content v.held.nodes → WorksOnOne disk store meta v w → w.held.registry ≡ v.held.registry → KeepsFile (disk.content reg) v.held.registry → now ≡ reg → LeavesDuring disk store meta opening v reg w now
+    pub during_quiet : AllReopen disk.content v.partition_state.nodes → WorksOnOne disk store meta v w → w.partition_state.registry ≡ v.partition_state.registry → KeepsFile (disk.content reg) v.partition_state.registry → now ≡ reg → LeavesDuring disk store meta opening v reg w now
     during_quiet again works same kept is b c disks s m r left =
         let at : Image (disk.content reg) left.file.files = subst (λ (k : D). (disk.content k).left (disk.content reg).moment left.file.files) is left.file.left in
         quietly b c disks s m r left again works same (kept left.file.files at)
 
     -- one that changed it
-    pub during_replaced : SameDevices v w → KeepsFile (disk.content reg) v.held.registry → KeepsOneOf (disk.content now) v.held.registry w.held.registry
+    pub during_replaced : SameDevices v w → KeepsFile (disk.content reg) v.partition_state.registry → KeepsOneOf (disk.content now) v.partition_state.registry w.partition_state.registry
         → LeavesOnly (disk.content reg) (disk.content now) (λ c. Image (disk.content reg) c ⊎ Image (disk.content now) c) → LeavesDuring disk store meta opening v reg w now
     during_replaced same kept either since b c disks s m r left =
         replacing b c disks s m r left same

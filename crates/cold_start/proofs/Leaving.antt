@@ -58,50 +58,50 @@ module _ {D : Type 0} (content : D → Content) where
 
 module _ {D S M : Type 0} (laws : FileLaws) (disk : DiskGhosts D) (store : StoreGhosts S) (meta : MetaGhosts M) where
   -- the registry of the plain state is the world's, and keeps the rules
-  pub plain_registry : (opening : State) (w : Whole D S M) (c : IsCentralLeft disk store meta opening w) → (plain_in disk store meta opening w c).registry ≡ w.held.registry
+  pub plain_registry : (opening : State) (w : Whole D S M) (c : IsCentralLeft disk store meta opening w) → (plain_in disk store meta opening w c).registry ≡ w.partition_state.registry
   plain_registry opening w c =
       let now = c (meta.content w.tier.meta).notes (inl refl) in
-      now.central.stands.held.registry ∙ now.shows.registry
+      now.central.stands.partition_state.registry ∙ now.shows.registry
 
-  pub scripted : (opening : State) (w : Whole D S M) → IsCentralLeft disk store meta opening w → 1 ≤ length w.held.registry.replicas → length w.held.registry.replicas ≤ 8 → IsRegistry w.held.registry
+  pub scripted : (opening : State) (w : Whole D S M) → IsCentralLeft disk store meta opening w → 1 ≤ length w.partition_state.registry.replicas → length w.partition_state.registry.replicas ≤ 8 → IsRegistry w.partition_state.registry
   scripted opening w c some few =
       registries_scripted disk store (resolved meta) opening (whole_with w (meta.content w.tier.meta).notes) (c (meta.content w.tier.meta).notes (inl refl)) some few
 
   -- devices whose logs are seen as those of a world, and a disk with the file of its registry
-  pub shown_stands : (opening : State) (w : Whole D S M) (c : IsCentralLeft disk store meta opening w) (disks : List D) (s : S) (m : M) (r : D) → AreShownAs disk.content w.held.nodes disks
-      → IsCutStore (store.content w.tier.store) (store.content s) → IsCutLog (meta.content w.tier.meta) (meta.content m) → IsTrue (disk.content r).is_observable → (disk.content r).files RegistryName ≡ Some (registry_bytes w.held.registry)
-      → 1 ≤ length w.held.registry.replicas → length w.held.registry.replicas ≤ 8 → StandsFor disk store meta w.partition disks s m r (cold_of (plain_in disk store meta opening w c))
+  pub shown_stands : (opening : State) (w : Whole D S M) (c : IsCentralLeft disk store meta opening w) (disks : List D) (s : S) (m : M) (r : D) → AreShownAs disk.content w.partition_state.nodes disks
+      → IsCutStore (store.content w.tier.store) (store.content s) → IsCutLog (meta.content w.tier.meta) (meta.content m) → IsTrue (disk.content r).is_observable → (disk.content r).files RegistryName ≡ Some (registry_bytes w.partition_state.registry)
+      → 1 ≤ length w.partition_state.registry.replicas → length w.partition_state.registry.replicas ≤ 8 → StandsFor disk store meta w.partition disks s m r (cold_of (plain_in disk store meta opening w c))
   shown_stands opening w c disks s m r cut kept recorded told file some few =
       let same = plain_registry opening w c in
       record {
         file_tells = told;
-        file = subst (λ (k : Registry). HasFile (disk.content r).files k) (sym same) (spelled laws w.held.registry (disk.content r).files (scripted opening w c some few) file);
+        file = subst (λ (k : Registry). HasFile (disk.content r).files k) (sym same) (spelled laws w.partition_state.registry (disk.content r).files (scripted opening w c some few) file);
         stand = λ l at. subst (λ (k : Registry). StandCold disk store meta w.partition k disks s m (cold_of (plain_in disk store meta opening w c)) l) (sym same) (shown_cold disk store meta opening w disks s m c cut kept recorded l at);
       }
 
   -- devices that are left of a world, and such a disk
-  pub stands_by : (opening : State) (w : Whole D S M) (c : IsCentralLeft disk store meta opening w) (disks : List D) (s : S) (m : M) (r : D) → LeaveDisks disk.content w.held.nodes disks
-      → IsCutStore (store.content w.tier.store) (store.content s) → IsCutLog (meta.content w.tier.meta) (meta.content m) → IsTrue (disk.content r).is_observable → (disk.content r).files RegistryName ≡ Some (registry_bytes w.held.registry)
-      → 1 ≤ length w.held.registry.replicas → length w.held.registry.replicas ≤ 8 → StandsFor disk store meta w.partition disks s m r (cold_of (plain_in disk store meta opening w c))
+  pub stands_by : (opening : State) (w : Whole D S M) (c : IsCentralLeft disk store meta opening w) (disks : List D) (s : S) (m : M) (r : D) → LeaveDisks disk.content w.partition_state.nodes disks
+      → IsCutStore (store.content w.tier.store) (store.content s) → IsCutLog (meta.content w.tier.meta) (meta.content m) → IsTrue (disk.content r).is_observable → (disk.content r).files RegistryName ≡ Some (registry_bytes w.partition_state.registry)
+      → 1 ≤ length w.partition_state.registry.replicas → length w.partition_state.registry.replicas ≤ 8 → StandsFor disk store meta w.partition disks s m r (cold_of (plain_in disk store meta opening w c))
   stands_by opening w c disks s m r cut kept recorded told file some few =
-      shown_stands opening w c disks s m r (left_as disk.content w.held.nodes disks cut) kept recorded told file some few
+      shown_stands opening w c disks s m r (left_as disk.content w.partition_state.nodes disks cut) kept recorded told file some few
 
   module _ (lawful : (d : D) → Lawful (disk.content d)) where
     -- what a disk reads as after a power cut is an image that it had before
     read_was : (old new : D) → IsTrue (disk.content old).is_observable → IsCutDisk (disk.content old) (disk.content new) → Image (disk.content old) (disk.content new).files
     read_was old new told cut = cut.images (disk.content new).files ((lawful new).reads (cut.is_observable told))
 
-    pub left_cold : (opening : State) (w : Whole D S M) (reg : D) → IsTrue (disk.content reg).is_observable → KeepsFile (disk.content reg) w.held.registry → 1 ≤ length w.held.registry.replicas → length w.held.registry.replicas ≤ 8
+    pub left_cold : (opening : State) (w : Whole D S M) (reg : D) → IsTrue (disk.content reg).is_observable → KeepsFile (disk.content reg) w.partition_state.registry → 1 ≤ length w.partition_state.registry.replicas → length w.partition_state.registry.replicas ≤ 8
         → LeavesCold disk store meta opening w reg
     left_cold opening w reg told kept some few c disks s m r left =
         stands_by opening w c disks s m r left.logs left.objects left.notes (left.file.is_observable told) (kept (disk.content r).files (read_was reg r told left.file)) some few
 
-    pub left_either : (opening : State) (v w : Whole D S M) (reg : D) → IsTrue (disk.content reg).is_observable → KeepsOneOf (disk.content reg) v.held.registry w.held.registry → SameDevices v w → w.partition ≡ v.partition
-        → 1 ≤ length v.held.registry.replicas → length v.held.registry.replicas ≤ 8 → 1 ≤ length w.held.registry.replicas → length w.held.registry.replicas ≤ 8 → LeavesOneOf disk store meta opening v w reg
+    pub left_either : (opening : State) (v w : Whole D S M) (reg : D) → IsTrue (disk.content reg).is_observable → KeepsOneOf (disk.content reg) v.partition_state.registry w.partition_state.registry → SameDevices v w → w.partition ≡ v.partition
+        → 1 ≤ length v.partition_state.registry.replicas → length v.partition_state.registry.replicas ≤ 8 → 1 ≤ length w.partition_state.registry.replicas → length w.partition_state.registry.replicas ≤ 8 → LeavesOneOf disk store meta opening v w reg
     left_either opening v w reg told kept same here some few more fewer b c disks s m r left =
         elim (kept (disk.content r).files (read_was reg r told left.file)) [
           | inl old ↦ inl (subst (λ (p : PartitionId). StandsFor disk store meta p disks s m r (cold_of (plain_in disk store meta opening v b))) (sym here)
-              (stands_by opening v b disks s m r (left_by disk.content w.held.nodes v.held.nodes disks same.logs left.logs)
+              (stands_by opening v b disks s m r (left_by disk.content w.partition_state.nodes v.partition_state.nodes disks same.logs left.logs)
               (subst (λ (t : RemoteTier S M). IsCutStore (store.content t.store) (store.content s)) same.tier left.objects)
               (subst (λ (t : RemoteTier S M). IsCutLog (meta.content t.meta) (meta.content m)) same.tier left.notes)
               (left.file.is_observable told) old some few))
@@ -109,11 +109,11 @@ module _ {D S M : Type 0} (laws : FileLaws) (disk : DiskGhosts D) (store : Store
         ]
 
   -- the devices that a closed world gives back represent what is left of its plain state
-  pub closed_cold : (opening : State) (w : Whole D S M) (c : IsCentralLeft disk store meta opening w) (disks : List D) (s : S) (m : M) (r : D) → AreDisksOf w.held.nodes disks → DisksReopen disk.content w.held.nodes disks
-      → s ≡ w.tier.store → m ≡ w.tier.meta → IsTrue (disk.content r).is_observable → (disk.content r).files RegistryName ≡ Some (registry_bytes w.held.registry)
-      → 1 ≤ length w.held.registry.replicas → length w.held.registry.replicas ≤ 8 → StandsFor disk store meta w.partition disks s m r (cold_of (plain_in disk store meta opening w c))
+  pub closed_cold : (opening : State) (w : Whole D S M) (c : IsCentralLeft disk store meta opening w) (disks : List D) (s : S) (m : M) (r : D) → AreDisksOf w.partition_state.nodes disks → DisksReopen disk.content w.partition_state.nodes disks
+      → s ≡ w.tier.store → m ≡ w.tier.meta → IsTrue (disk.content r).is_observable → (disk.content r).files RegistryName ≡ Some (registry_bytes w.partition_state.registry)
+      → 1 ≤ length w.partition_state.registry.replicas → length w.partition_state.registry.replicas ≤ 8 → StandsFor disk store meta w.partition disks s m r (cold_of (plain_in disk store meta opening w c))
   closed_cold opening w c disks s m r are again one two told file some few =
-      stands_by opening w c disks s m r (closed_left disk w.held.nodes disks disks are again (all_uncut disk.content disks))
+      stands_by opening w c disks s m r (closed_left disk w.partition_state.nodes disks disks are again (all_uncut disk.content disks))
       (subst (λ (k : S). IsCutStore (store.content w.tier.store) (store.content k)) (sym one) (record { is_observable = λ yes. yes; objects = refl }))
       (subst (λ (k : M). IsCutLog (meta.content w.tier.meta) (meta.content k)) (sym two) (record { is_observable = λ yes. yes; left = λ l at. at }))
       told file some few

@@ -47,7 +47,7 @@ use Rattle.partition_commands.specs.Partition.{KeepsPartition, line_of}
 use Rattle.partition_world.specs.declared.tier.BrokerTierState.{BrokerTierState}
 use Rattle.partition_world.specs.declared.tier.RemoteTier.{RemoteTier}
 use Rattle.partition_world.specs.declared.actor_state.Outcome.{Outcome}
-use Rattle.partition_world.specs.declared.actor_state.Outcome.TheVariants.{Answers, Begins, Chose, Seeks as Sought, Dates as Dated, Dooms, Rebuilds as Rebuilding}
+use Rattle.partition_world.specs.declared.actor_state.Outcome.TheVariants.{Answers, Begins, Chose, Seeks as Sought, Dates as Dated, ChoosesExpired, Rebuilds as Rebuilding}
 use Rattle.partition_world.specs.declared.actor_state.InProgress.{InProgress}
 use Rattle.partition_world.specs.declared.actor_state.InProgress.TheVariants.{Idle, Noted, Copies, Seeks, Dates, Expires, Rebuilds}
 use Rattle.partition_world.specs.Tier.{HaltsRefresh}
@@ -187,7 +187,7 @@ module _ {S M : Type 0} (store : StoreGhosts S) (meta : MetaGhosts M) where
   rebuilding_halts p t broker_tier g Epochs Join t' w = inr (ap (λ (u : RemoteTier S M). u.meta) w.after)
   rebuilding_halts p t broker_tier g next command t' w = elim w [ ]
 
-  halts_one : {D : Type 0} (p : PartitionId) (h : PartitionState D) (t : RemoteTier S M) (b : ℕ) (x : Node D) (broker_tier : BrokerTierState) (work : InProgress) (command : Command) (t' : RemoteTier S M) → HaltsTier store meta p h t b x broker_tier work command t' → OneOf t t'
+  halts_one : {D : Type 0} (p : PartitionId) (h : PartitionState D) (t : RemoteTier S M) (b : ℕ) (x : Node D) (broker_tier : BrokerTierState) (in_progress : InProgress) (command : Command) (t' : RemoteTier S M) → HaltsTier store meta p h t b x broker_tier in_progress command t' → OneOf t t'
   halts_one p h t b x broker_tier Idle command t' w = begin_halts t b broker_tier command t' w
   halts_one p h t b x broker_tier (Noted g) command t' w = recorded_halts p h t b x broker_tier g command t' w
   halts_one p h t b x broker_tier (Copies g copy next) command t' w = copying_halts h t b broker_tier copy next command t' w
@@ -246,7 +246,7 @@ module _ {D S M : Type 0} (disk : DiskGhosts D) (store : StoreGhosts S) (meta : 
   choose_works p h t b x broker_tier g outcome h' t' at (inl lost) = both h t h' t' lost.2 lost.3
   choose_works p h t b x broker_tier g outcome h' t' at (inr (keeps, inl level)) = both h t h' t' level.2 level.3
   choose_works p h t b x broker_tier g outcome h' t' at (inr (keeps, inr r)) =
-      own h t h' t' (ap (λ (u : RemoteTier S M). u.store) r.tier) (ap (λ (u : RemoteTier S M). u.meta) r.tier) (read_log p h b x r.node broker_tier r.broker_tier_after _ outcome h' at r.row r.held)
+      own h t h' t' (ap (λ (u : RemoteTier S M). u.store) r.tier) (ap (λ (u : RemoteTier S M). u.meta) r.tier) (read_log p h b x r.node broker_tier r.broker_tier_after _ outcome h' at r.row r.partition_state)
 
   trim_works : (h : PartitionState D) (t : RemoteTier S M) (b : ℕ) (x : Node D) (broker_tier : BrokerTierState) (g : StartSnapshot) (keep : Keep) (outcome : Outcome) (h' : PartitionState D) (t' : RemoteTier S M) → slice_get h.nodes b ≡ Some x → t' ≡ t
       → TrimOnRow disk h b x broker_tier g keep outcome h' → Works h t h' t'
@@ -259,7 +259,7 @@ module _ {D S M : Type 0} (disk : DiskGhosts D) (store : StoreGhosts S) (meta : 
   raise_log h x start other h' w = elim w [ ]
 
   expires_works : (p : PartitionId) (h : PartitionState D) (t : RemoteTier S M) (x : Node D) (broker_tier : BrokerTierState) (keep : Keep) (outcome : Outcome) (h' : PartitionState D) (t' : RemoteTier S M) → t' ≡ t → ExpiresBy p h x broker_tier keep outcome h' → Works h t h' t'
-  expires_works p h t x broker_tier keep (Dooms segment) h' t' is w = both h t h' t' w.stays is
+  expires_works p h t x broker_tier keep (ChoosesExpired segment) h' t' is w = both h t h' t' w.stays is
   expires_works p h t x broker_tier keep (Answers Remains) h' t' is w = both h t h' t' w.2 is
   expires_works p h t x broker_tier keep (Answers answer) h' t' is w = own_same h t h' t' is (raise_log h x w.0 answer h' w.2)
   expires_works p h t x broker_tier keep other h' t' is w = elim w [ ]
@@ -354,8 +354,8 @@ module _ {D S M : Type 0} (disk : DiskGhosts D) (store : StoreGhosts S) (meta : 
   rebuilding_works p h t b x broker_tier g (Restart line) Join outcome h' t' at w = own_on h t b x (with_line g line) Join outcome h' t' at w
   rebuilding_works p h t b x broker_tier g next other outcome h' t' at w = elim w [ ]
 
-  turn_works : (p : PartitionId) (config : Config) (h : PartitionState D) (t : RemoteTier S M) (b : ℕ) (x : Node D) (broker_tier : BrokerTierState) (work : InProgress) (command : Command) (outcome : Outcome) (h' : PartitionState D) (t' : RemoteTier S M)
-      → slice_get h.nodes b ≡ Some x → Row disk store meta p config h t b x broker_tier work command outcome h' t' → Works h t h' t'
+  turn_works : (p : PartitionId) (config : Config) (h : PartitionState D) (t : RemoteTier S M) (b : ℕ) (x : Node D) (broker_tier : BrokerTierState) (in_progress : InProgress) (command : Command) (outcome : Outcome) (h' : PartitionState D) (t' : RemoteTier S M)
+      → slice_get h.nodes b ≡ Some x → Row disk store meta p config h t b x broker_tier in_progress command outcome h' t' → Works h t h' t'
   turn_works p config h t b x broker_tier Idle command outcome h' t' at w = begin_works h t b x broker_tier command outcome h' t' at w
   turn_works p config h t b x broker_tier (Noted g) command outcome h' t' at w = recorded_works p config h t b x broker_tier g command outcome h' t' at w
   turn_works p config h t b x broker_tier (Copies g copy next) command outcome h' t' at w = copying_works h t b x broker_tier g copy next command outcome h' t' w
@@ -364,28 +364,28 @@ module _ {D S M : Type 0} (disk : DiskGhosts D) (store : StoreGhosts S) (meta : 
   turn_works p config h t b x broker_tier (Expires g segment next) command outcome h' t' at w = deleting_works h t b x g segment next command outcome h' t' w
   turn_works p config h t b x broker_tier (Rebuilds g next) command outcome h' t' at w = rebuilding_works p h t b x broker_tier g next command outcome h' t' at w
 
-  is_turn_works : (w : Whole D S M) (a : ℕ) (outcome : Outcome) (w' : Whole D S M) → IsTurn disk store meta w a outcome w' → Works w.held w.tier w'.held w'.tier
+  is_turn_works : (w : Whole D S M) (a : ℕ) (outcome : Outcome) (w' : Whole D S M) → IsTurn disk store meta w a outcome w' → Works w.partition_state w.tier w'.partition_state w'.tier
   is_turn_works w a outcome w' t =
-      let x = some_of _ (slice_get w.held.nodes t.order.broker.0) t.row in
+      let x = some_of _ (slice_get w.partition_state.nodes t.order.broker.0) t.row in
       let broker_tier = some_of _ (slice_get w.tier.broker_tiers t.order.broker.0) x.2 in
-      turn_works w.partition w.config w.held w.tier t.order.broker.0 x.0 broker_tier.0 t.actor_state.work t.order.command outcome w'.held w'.tier x.1 broker_tier.2
+      turn_works w.partition w.config w.partition_state w.tier t.order.broker.0 x.0 broker_tier.0 t.actor_state.in_progress t.order.command outcome w'.partition_state w'.tier x.1 broker_tier.2
 
   stays_log : (h h' : PartitionState D) → KeepsPartition disk.content disk.control h h' → OneLog disk.content h h'
   stays_log h h' (inl e) = none disk.content h h' e
   stays_log h h' (inr (b, at)) = let x = some_of _ (slice_get h.nodes b) at in one_put disk.content h b x.0 (record x.0 { log = x.2.0 }) h' x.1 x.2.1.between x.2.3
 
-  stays_works : (w : Whole D S M) (a : ℕ) (w' : Whole D S M) → StaysWhole disk store meta w a w' → Works w.held w.tier w'.held w'.tier
+  stays_works : (w : Whole D S M) (a : ℕ) (w' : Whole D S M) → StaysWhole disk store meta w a w' → Works w.partition_state w.tier w'.partition_state w'.tier
   stays_works w a w' s = by s.tier
     where
-      by : StaysTier disk store meta w.partition w.held w.tier s.order.broker.0 s.actor_state.work s.order.command w'.held w'.tier → Works w.held w.tier w'.held w'.tier
-      by (inl k) = own_same w.held w.tier w'.held w'.tier k.1 (stays_log w.held w'.held k.0)
+      by : StaysTier disk store meta w.partition w.partition_state w.tier s.order.broker.0 s.actor_state.in_progress s.order.command w'.partition_state w'.tier → Works w.partition_state w.tier w'.partition_state w'.tier
+      by (inl k) = own_same w.partition_state w.tier w'.partition_state w'.tier k.1 (stays_log w.partition_state w'.partition_state k.0)
       by (inr k) =
-          let x = some_of _ (slice_get w.held.nodes s.order.broker.0) k.1 in
+          let x = some_of _ (slice_get w.partition_state.nodes s.order.broker.0) k.1 in
           let broker_tier = some_of _ (slice_get w.tier.broker_tiers s.order.broker.0) x.2 in
-          rest w.held w.tier w'.held w'.tier k.0 (halts_one store meta w.partition w.held w.tier s.order.broker.0 x.0 broker_tier.0 s.actor_state.work s.order.command w'.tier broker_tier.2)
+          rest w.partition_state w.tier w'.partition_state w'.tier k.0 (halts_one store meta w.partition w.partition_state w.tier s.order.broker.0 x.0 broker_tier.0 s.actor_state.in_progress s.order.command w'.tier broker_tier.2)
 
   pub steps_work : StepsWorkOnOne disk store meta
   steps_work w a Ran w' s = is_turn_works w a s.0 w' s.2
   steps_work w a Done w' s = is_turn_works w a (Answers s.0) w' s.1
-  steps_work w a Nothing w' s = both w.held w.tier w'.held w'.tier (ap (λ (k : Whole D S M). k.held) s.1) (ap (λ (k : Whole D S M). k.tier) s.1)
+  steps_work w a Nothing w' s = both w.partition_state w.tier w'.partition_state w'.tier (ap (λ (k : Whole D S M). k.partition_state) s.1) (ap (λ (k : Whole D S M). k.tier) s.1)
   steps_work w a NoMemory w' s = stays_works w a w' s

@@ -112,7 +112,7 @@ module _ {D S M : Type 0} (disk : DiskGhosts D) (store : StoreGhosts S) (meta : 
 
   -- a fresh world over such devices is seen, and empty
   pub seen_empty : (partition : PartitionId) (config : Config) (lists : List ActorList) (disks : List D) (s : S) (n : M) (reg : D) (w : Whole D S M) → IsBlank disk store meta s n reg → IsFresh disk store meta partition config lists disks s n w
-      → AllSeen disk.content w.held.nodes → IsSeenEmpty disk store meta w
+      → AllSeen disk.content w.partition_state.nodes → IsSeenEmpty disk store meta w
   seen_empty partition config lists disks s n reg w b f seen =
       let armed = blank_armed partition config lists disks s n reg reg w b f b.file_tells b.file in
       record { logs = seen; store_tells = armed.store_tells; objects = armed.objects; meta_tells = armed.meta_tells; notes = armed.notes }

@@ -30,11 +30,11 @@ node_of_broker [] b x at = absurd cc
 node_of_broker (y ∷ ys) zero x at = (y, refl, cc (at))
 node_of_broker (y ∷ ys) (suc b) x at = node_of_broker ys b x at
 
-module _ (a : seen.SeenPartition) (p : State) (safe : PlainSafe p) (held : PartitionMatches a p) (lines : LinesStand a p.paths p.broken) where
+module _ (a : seen.SeenPartition) (p : State) (safe : PlainSafe p) (partition_state : PartitionMatches a p) (lines : LinesStand a p.paths p.broken) where
   -- flushed ends are within the offsets
   flushed_end_low : (b : ℕ) (x : Broker) → slice_get p.brokers b ≡ Some x → x.flushed_end ≤ 2 ^ 62
   flushed_end_low b x at =
-      let y = node_of_broker a.nodes b x (ap (λ (bs : List Broker). slice_get bs b) (sym held.brokers) ∙ at) in
+      let y = node_of_broker a.nodes b x (ap (λ (bs : List Broker). slice_get bs b) (sym partition_state.brokers) ∙ at) in
       let sound = (lines.each b y.0 y.1).sound in
       let low = ends_below y.0.flushed_end y.0.log.batches sound.log.consecutive sound.flushed_end in
       let small = sound.log.small in
@@ -72,8 +72,8 @@ module _ (a : seen.SeenPartition) (p : State) (safe : PlainSafe p) (held : Parti
 module _ {D S M : Type 0} (disk : DiskGhosts D) (store : StoreGhosts S) (meta : MetaGhosts M) where
   pub registries_scripted : RegistriesKeepRules disk store meta
   registries_scripted opening w c some few =
-      let same : c.central.plain.registry ≡ w.held.registry = c.central.stands.held.registry ∙ c.shows.registry in
+      let same : c.central.plain.registry ≡ w.partition_state.registry = c.central.stands.partition_state.registry ∙ c.shows.registry in
       subst IsRegistry same
-      (registry_rules c.partition c.central.plain c.central.safe c.central.stands.held c.central.stands.lines
+      (registry_rules c.partition c.central.plain c.central.safe c.central.stands.partition_state c.central.stands.lines
       (subst (λ (r : Registry). 1 ≤ length r.replicas) (sym same) some)
       (subst (λ (r : Registry). length r.replicas ≤ 8) (sym same) few))

@@ -91,33 +91,33 @@ module _ {D : Type 0} where
   abbrev pub ChangesOne : PartitionState D → PartitionState D → Type 0
   ChangesOne h h' = (h'.registry ≡ h.registry) ⊎ ((logs_of h'.nodes ≡ logs_of h.nodes) × (length h'.registry.replicas ≡ length h.registry.replicas))
 
-  pub held_same : (h h' : PartitionState D) → h' ≡ h → ChangesOne h h'
-  held_same h h' e = inl (ap (λ (k : PartitionState D). k.registry) e)
+  pub partition_state_same : (h h' : PartitionState D) → h' ≡ h → ChangesOne h h'
+  partition_state_same h h' e = inl (ap (λ (k : PartitionState D). k.registry) e)
 
-  pub held_put : (h : PartitionState D) (b : ℕ) (y : Node D) (h' : PartitionState D) → h' ≡ put_node h b y → ChangesOne h h'
-  held_put h b y h' e = inl (ap (λ (k : PartitionState D). k.registry) e)
+  pub partition_state_put : (h : PartitionState D) (b : ℕ) (y : Node D) (h' : PartitionState D) → h' ≡ put_node h b y → ChangesOne h h'
+  partition_state_put h b y h' e = inl (ap (λ (k : PartitionState D). k.registry) e)
 
-  held_leaves : (h : PartitionState D) (after : Option Registry) (h' : PartitionState D) → AsMany h.registry after → Leaves h after h' → ChangesOne h h'
-  held_leaves h None h' many w = absurd w
-  held_leaves h (Some r) h' many w = inr (ap (λ (k : PartitionState D). logs_of k.nodes) w, ap (λ (k : PartitionState D). length k.registry.replicas) w ∙ many)
+  partition_state_leaves : (h : PartitionState D) (after : Option Registry) (h' : PartitionState D) → AsMany h.registry after → Leaves h after h' → ChangesOne h h'
+  partition_state_leaves h None h' many w = absurd w
+  partition_state_leaves h (Some r) h' many w = inr (ap (λ (k : PartitionState D). logs_of k.nodes) w, ap (λ (k : PartitionState D). length k.registry.replicas) w ∙ many)
 
   elect_leaves : (h : PartitionState D) (b : ℕ) (s : Replica) (up : Bool) (answer : Result ℕ RegRefusal) (h' : PartitionState D) → Leaves h (after_elect h.registry b s up answer) h' → ChangesOne h h'
-  elect_leaves h b s up answer h' w = held_leaves h (after_elect h.registry b s up answer) h' (elect_many h.registry b s up answer) w
+  elect_leaves h b s up answer h' w = partition_state_leaves h (after_elect h.registry b s up answer) h' (elect_many h.registry b s up answer) w
 
   unclean_leaves : (h : PartitionState D) (b : ℕ) (up : Bool) (flushed_end : ℕ) (answer : Result ℕ RegRefusal) (h' : PartitionState D) → Leaves h (after_unclean h.registry b up flushed_end answer) h' → ChangesOne h h'
-  unclean_leaves h b up flushed_end answer h' w = held_leaves h (after_unclean h.registry b up flushed_end answer) h' (unclean_many h.registry b up flushed_end answer) w
+  unclean_leaves h b up flushed_end answer h' w = partition_state_leaves h (after_unclean h.registry b up flushed_end answer) h' (unclean_many h.registry b up flushed_end answer) w
 
   ack_leaves : (h : PartitionState D) (b : ℕ) (s : Replica) (epoch flushed_end : ℕ) (answer : Result ℕ RegRefusal) (h' : PartitionState D) → Leaves h (after_ack h.registry b s epoch flushed_end answer) h' → ChangesOne h h'
-  ack_leaves h b s epoch flushed_end answer h' w = held_leaves h (after_ack h.registry b s epoch flushed_end answer) h' (ack_many h.registry b s epoch flushed_end answer) w
+  ack_leaves h b s epoch flushed_end answer h' w = partition_state_leaves h (after_ack h.registry b s epoch flushed_end answer) h' (ack_many h.registry b s epoch flushed_end answer) w
 
   shrink_leaves : (h : PartitionState D) (b : ℕ) (s : Replica) (answer : Result (Unit {0}) RegRefusal) (h' : PartitionState D) → Leaves h (after_shrink h.registry b s answer) h' → ChangesOne h h'
-  shrink_leaves h b s answer h' w = held_leaves h (after_shrink h.registry b s answer) h' (shrink_many h.registry b s answer) w
+  shrink_leaves h b s answer h' w = partition_state_leaves h (after_shrink h.registry b s answer) h' (shrink_many h.registry b s answer) w
 
   expand_leaves : (h : PartitionState D) (b : ℕ) (s : Replica) (up : Bool) (answer : Result (Unit {0}) RegRefusal) (h' : PartitionState D) → Leaves h (after_expand h.registry b s up answer) h' → ChangesOne h h'
-  expand_leaves h b s up answer h' w = held_leaves h (after_expand h.registry b s up answer) h' (expand_many h.registry b s up answer) w
+  expand_leaves h b s up answer h' w = partition_state_leaves h (after_expand h.registry b s up answer) h' (expand_many h.registry b s up answer) w
 
   pub raise_leaves : (h : PartitionState D) (epoch wanted : ℕ) (answer : Result ℕ RegRefusal) (h' : PartitionState D) → Leaves h (after_raise h.registry epoch wanted answer) h' → ChangesOne h h'
-  raise_leaves h epoch wanted answer h' w = held_leaves h (after_raise h.registry epoch wanted answer) h' (raise_many h.registry epoch wanted answer) w
+  raise_leaves h epoch wanted answer h' w = partition_state_leaves h (after_raise h.registry epoch wanted answer) h' (raise_many h.registry epoch wanted answer) w
 
   -- a node with another log doesn't come in the place of one
   pub logs_put : (xs : List (Node D)) (b : ℕ) (x y : Node D) → slice_get xs b ≡ Some x → y.log ≡ x.log → logs_of (slice_set xs b y) ≡ logs_of xs
@@ -129,18 +129,18 @@ module _ {D : Type 0} where
 
 module _ {D : Type 0} (content : D → Content) (control : D → Control call_code) where
   append_one : (h : PartitionState D) (b : ℕ) (x : Node D) (batch : List ℕ) (answer : Answer) (h' : PartitionState D) → AppendRow content control h b x batch answer h' → ChangesOne h h'
-  append_one h b x batch Down h' w = held_same h h' w.1
-  append_one h b x batch NotLeader h' w = held_same h h' w.2
-  append_one h b x batch LastOffset h' w = held_same h h' w.3
-  append_one h b x batch TooManySegments h' w = held_same h h' w.4
-  append_one h b x batch DiskFault h' w = held_put h b _ h' w.4.after
-  append_one h b x batch (OkSpan base last e) h' w = held_put h b _ h' w.6.5
+  append_one h b x batch Down h' w = partition_state_same h h' w.1
+  append_one h b x batch NotLeader h' w = partition_state_same h h' w.2
+  append_one h b x batch LastOffset h' w = partition_state_same h h' w.3
+  append_one h b x batch TooManySegments h' w = partition_state_same h h' w.4
+  append_one h b x batch DiskFault h' w = partition_state_put h b _ h' w.4.after
+  append_one h b x batch (OkSpan base last e) h' w = partition_state_put h b _ h' w.6.5
   append_one h b x batch other h' w = elim w [ ]
 
   raw_one : (h : PartitionState D) (b : ℕ) (x : Node D) (bytes : List ℕ) (answer : Answer) (h' : PartitionState D) → RawRow content control h b x bytes answer h' → ChangesOne h h'
   raw_one h b x bytes Down h' w = append_one h b x bytes Down h' w
   raw_one h b x bytes NotLeader h' w = append_one h b x bytes NotLeader h' w
-  raw_one h b x bytes (Refused cause) h' w = held_same h h' w.3
+  raw_one h b x bytes (Refused cause) h' w = partition_state_same h h' w.3
   raw_one h b x bytes LastOffset h' w = append_one h b x bytes LastOffset h' w.1
   raw_one h b x bytes TooManySegments h' w = append_one h b x bytes TooManySegments h' w.1
   raw_one h b x bytes DiskFault h' w = append_one h b x bytes DiskFault h' w.1
@@ -148,27 +148,27 @@ module _ {D : Type 0} (content : D → Content) (control : D → Control call_co
   raw_one h b x bytes other h' w = elim w [ ]
 
   flush_one : (h : PartitionState D) (b : ℕ) (x : Node D) (answer : Answer) (h' : PartitionState D) → FlushRow content control h b x answer h' → ChangesOne h h'
-  flush_one h b x Down h' w = held_same h h' w.1
-  flush_one h b x DiskFault h' w = held_put h b _ h' w.1.after
-  flush_one h b x (OkAt n) h' w = held_put h b _ h' w.1.3
+  flush_one h b x Down h' w = partition_state_same h h' w.1
+  flush_one h b x DiskFault h' w = partition_state_put h b _ h' w.1.after
+  flush_one h b x (OkAt n) h' w = partition_state_put h b _ h' w.1.3
   flush_one h b x other h' w = elim w [ ]
 
   roll_one : (h : PartitionState D) (b : ℕ) (x : Node D) (answer : Answer) (h' : PartitionState D) → RollRow content control h b x answer h' → ChangesOne h h'
-  roll_one h b x Down h' w = held_same h h' w.1
-  roll_one h b x EmptySegment h' w = held_same h h' w.2
-  roll_one h b x TooManySegments h' w = held_same h h' w.2
-  roll_one h b x DiskFault h' w = held_put h b _ h' w.2.after
-  roll_one h b x (OkAt n) h' w = held_put h b _ h' w.3.3
+  roll_one h b x Down h' w = partition_state_same h h' w.1
+  roll_one h b x EmptySegment h' w = partition_state_same h h' w.2
+  roll_one h b x TooManySegments h' w = partition_state_same h h' w.2
+  roll_one h b x DiskFault h' w = partition_state_put h b _ h' w.2.after
+  roll_one h b x (OkAt n) h' w = partition_state_put h b _ h' w.3.3
   roll_one h b x other h' w = elim w [ ]
 
   fetch_one : (h : PartitionState D) (b : ℕ) (x : Node D) (offset limit : ℕ) (answer : Answer) (h' : PartitionState D) → FetchRow content control h b x offset limit answer h' → ChangesOne h h'
-  fetch_one h b x offset limit Down h' w = held_same h h' w.1
-  fetch_one h b x offset limit NotLeader h' w = held_same h h' w.2
-  fetch_one h b x offset limit (OutOfRange start end) h' w = held_same h h' w.5
-  fetch_one h b x offset limit Empty h' w = held_same h h' w.4
-  fetch_one h b x offset limit (Run tier size stop bytes) h' w = held_put h b _ h' w.4.after
-  fetch_one h b x offset limit DiskFault h' w = held_put h b _ h' w.4.4
-  fetch_one h b x offset limit (Damaged (File name) from) h' w = held_put h b _ h' w.4.after
+  fetch_one h b x offset limit Down h' w = partition_state_same h h' w.1
+  fetch_one h b x offset limit NotLeader h' w = partition_state_same h h' w.2
+  fetch_one h b x offset limit (OutOfRange start end) h' w = partition_state_same h h' w.5
+  fetch_one h b x offset limit Empty h' w = partition_state_same h h' w.4
+  fetch_one h b x offset limit (Run tier size stop bytes) h' w = partition_state_put h b _ h' w.4.after
+  fetch_one h b x offset limit DiskFault h' w = partition_state_put h b _ h' w.4.4
+  fetch_one h b x offset limit (Damaged (File name) from) h' w = partition_state_put h b _ h' w.4.after
   fetch_one h b x offset limit other h' w = elim w [ ]
 
   elect_one : (h : PartitionState D) (b : ℕ) (x : Node D) (answer : Answer) (h' : PartitionState D) → ElectRow h b x answer h' → ChangesOne h h'
@@ -186,17 +186,17 @@ module _ {D : Type 0} (content : D → Content) (control : D → Control call_co
   unclean_one h b x other h' w = elim w [ ]
 
   learn_one : (h : PartitionState D) (b : ℕ) (x : Node D) (answer : Answer) (h' : PartitionState D) → LearnRow content control h b x answer h' → ChangesOne h h'
-  learn_one h b x Down h' w = held_same h h' w.1
-  learn_one h b x Known h' w = held_same h h' w.2
-  learn_one h b x (Follows n) h' w = held_put h b _ h' w.4
-  learn_one h b x (NeedsElection n) h' w = held_same h h' w.5
-  learn_one h b x (Leads n) h' w = held_put h b _ h' w.4.1.after
-  learn_one h b x DiskFault h' w = held_put h b _ h' w.4.after
+  learn_one h b x Down h' w = partition_state_same h h' w.1
+  learn_one h b x Known h' w = partition_state_same h h' w.2
+  learn_one h b x (Follows n) h' w = partition_state_put h b _ h' w.4
+  learn_one h b x (NeedsElection n) h' w = partition_state_same h h' w.5
+  learn_one h b x (Leads n) h' w = partition_state_put h b _ h' w.4.1.after
+  learn_one h b x DiskFault h' w = partition_state_put h b _ h' w.4.after
   learn_one h b x other h' w = elim w [ ]
 
   ack_one : (h : PartitionState D) (b : ℕ) (x : Node D) (answer : Answer) (h' : PartitionState D) → slice_get h.nodes b ≡ Some x → AckRow h b x answer h' → ChangesOne h h'
-  ack_one h b x Down h' at w = held_same h h' w.1
-  ack_one h b x NotJoined h' at w = held_same h h' w.2
+  ack_one h b x Down h' at w = partition_state_same h h' w.1
+  ack_one h b x NotJoined h' at w = partition_state_same h h' w.2
   ack_one h b x (StaleEpoch e) h' at w =
       let o = some_of _ (acking x.role) w.1 in
       let t = some_of _ (slice_get h.registry.replicas b) o.2 in
@@ -223,8 +223,8 @@ module _ {D : Type 0} (content : D → Content) (control : D → Control call_co
   expand_one h b x other h' w = elim w [ ]
 
   raise_one : (h : PartitionState D) (b : ℕ) (x : Node D) (wanted : ℕ) (answer : Answer) (h' : PartitionState D) → RaiseRow h b x wanted answer h' → ChangesOne h h'
-  raise_one h b x wanted Down h' w = held_same h h' w.1
-  raise_one h b x wanted NotLeader h' w = held_same h h' w.2
+  raise_one h b x wanted Down h' w = partition_state_same h h' w.1
+  raise_one h b x wanted NotLeader h' w = partition_state_same h h' w.2
   raise_one h b x wanted (StaleEpoch e) h' w = raise_leaves h w.1.0 wanted (Err (reg.StaleEpoch e)) h' w.1.2
   raise_one h b x wanted (NotAbove start) h' w = raise_leaves h w.1.0 wanted (Err (reg.NotAbove start)) h' w.1.2
   raise_one h b x wanted (AboveMark mark) h' w = raise_leaves h w.1.0 wanted (Err (reg.AboveMark mark)) h' w.1.2
@@ -232,16 +232,16 @@ module _ {D : Type 0} (content : D → Content) (control : D → Control call_co
   raise_one h b x wanted other h' w = elim w [ ]
 
   stop_one : (h : PartitionState D) (b : ℕ) (x : Node D) (answer : Answer) (h' : PartitionState D) → StopRow content control h b x answer h' → ChangesOne h h'
-  stop_one h b x Down h' w = held_same h h' w.1
-  stop_one h b x Ok h' w = held_put h b _ h' w.1.3
+  stop_one h b x Down h' w = partition_state_same h h' w.1
+  stop_one h b x Ok h' w = partition_state_put h b _ h' w.1.3
   stop_one h b x other h' w = elim w [ ]
 
   up_one : (h : PartitionState D) (b : ℕ) (x : Node D) (answer : Answer) (h' : PartitionState D) → UpRow content control h b x answer h' → ChangesOne h h'
-  up_one h b x IsUp h' w = held_same h h' w.1
-  up_one h b x (IsOpen n) h' w = held_put h b _ h' w.1.3
-  up_one h b x DiskFault h' w = held_put h b _ h' w.1.4
-  up_one h b x (Damaged (File name) from) h' w = held_put h b _ h' w.1.3
-  up_one h b x LastIncarnation h' w = held_put h b _ h' w.1.3
+  up_one h b x IsUp h' w = partition_state_same h h' w.1
+  up_one h b x (IsOpen n) h' w = partition_state_put h b _ h' w.1.3
+  up_one h b x DiskFault h' w = partition_state_put h b _ h' w.1.4
+  up_one h b x (Damaged (File name) from) h' w = partition_state_put h b _ h' w.1.3
+  up_one h b x LastIncarnation h' w = partition_state_put h b _ h' w.1.3
   up_one h b x other h' w = elim w [ ]
 
   clock_one : (h : PartitionState D) (ms : ℤ) (answer : Answer) (h' : PartitionState D) → ClockRow h ms answer h' → ChangesOne h h'
@@ -257,9 +257,9 @@ module _ {D : Type 0} (content : D → Content) (control : D → Control call_co
   copying_one h on other h' w = elim w [ ]
 
   offset_one : (h : PartitionState D) (x : Node D) (which : Which) (answer : Answer) (h' : PartitionState D) → OffsetRow h x which answer h' → ChangesOne h h'
-  offset_one h x which Down h' w = held_same h h' w.1
-  offset_one h x which NotLeader h' w = held_same h h' w.2
-  offset_one h x which (OffsetAnswer n) h' w = held_same h h' w.3
+  offset_one h x which Down h' w = partition_state_same h h' w.1
+  offset_one h x which NotLeader h' w = partition_state_same h h' w.2
+  offset_one h x which (OffsetAnswer n) h' w = partition_state_same h h' w.3
   offset_one h x which other h' w = elim w [ ]
 
   answer_one : (h : PartitionState D) (b : ℕ) (x : Node D) (command : Command) (answer : Answer) (h' : PartitionState D) → slice_get h.nodes b ≡ Some x
@@ -285,58 +285,58 @@ module _ {D : Type 0} (content : D → Content) (control : D → Control call_co
 
   fetch_turn_one : (h : PartitionState D) (b : ℕ) (x : Node D) (offset limit : ℕ) (turned : Turned) (h' : PartitionState D) → FetchTurn content control h b x offset limit turned h' → ChangesOne h h'
   fetch_turn_one h b x offset limit (Answers answer) h' w = fetch_one h b x offset limit answer h' w
-  fetch_turn_one h b x offset limit (Begins g) h' w = held_same h h' w.6
+  fetch_turn_one h b x offset limit (Begins g) h' w = partition_state_same h h' w.6
 
   join_one : (h : PartitionState D) (b : ℕ) (x : Node D) (turned : Turned) (h' : PartitionState D) → JoinRow content control h b x turned h' → ChangesOne h h'
-  join_one h b x (Answers Down) h' w = held_same h h' w.1
-  join_one h b x (Answers NotFollower) h' w = held_same h h' w.2
-  join_one h b x (Answers (StaleEpoch e)) h' w = held_same h h' w.3
-  join_one h b x (Answers NoLeader) h' w = held_same h h' w.3
-  join_one h b x (Answers (Cut n)) h' w = held_put h b _ h' (some_of _ (the_leader h) w.2).2.5.after
-  join_one h b x (Answers (DiskFaultAt n)) h' w = held_put h b _ h' (some_of _ (the_leader h) w.2).2.4.1.after
-  join_one h b x (Begins g) h' w = held_put h b _ h' (some_of _ (the_leader h) w.2).2.4.cuts.after
+  join_one h b x (Answers Down) h' w = partition_state_same h h' w.1
+  join_one h b x (Answers NotFollower) h' w = partition_state_same h h' w.2
+  join_one h b x (Answers (StaleEpoch e)) h' w = partition_state_same h h' w.3
+  join_one h b x (Answers NoLeader) h' w = partition_state_same h h' w.3
+  join_one h b x (Answers (Cut n)) h' w = partition_state_put h b _ h' (some_of _ (the_leader h) w.2).2.5.after
+  join_one h b x (Answers (DiskFaultAt n)) h' w = partition_state_put h b _ h' (some_of _ (the_leader h) w.2).2.4.1.after
+  join_one h b x (Begins g) h' w = partition_state_put h b _ h' (some_of _ (the_leader h) w.2).2.4.cuts.after
   join_one h b x other h' w = elim w [ ]
 
   join_on_one : (h : PartitionState D) (b : ℕ) (x : Node D) (g : StartSnapshot) (answer : Answer) (h' : PartitionState D) → JoinOnRow content control h b x g answer h' → ChangesOne h h'
-  join_on_one h b x g Stopped h' w = held_same h h' w.1
-  join_on_one h b x g (StaleEpoch e) h' w = held_same h h' w.3
-  join_on_one h b x g (Passed n) h' w = held_same h h' w.3
-  join_on_one h b x g (BelowStart start) h' w = held_same h h' w.5
-  join_on_one h b x g (DiskFaultAt n) h' w = held_put h b _ h' w.2.after
-  join_on_one h b x g (Rebuilt n) h' w = held_put h b _ h' w.2.after
+  join_on_one h b x g Stopped h' w = partition_state_same h h' w.1
+  join_on_one h b x g (StaleEpoch e) h' w = partition_state_same h h' w.3
+  join_on_one h b x g (Passed n) h' w = partition_state_same h h' w.3
+  join_on_one h b x g (BelowStart start) h' w = partition_state_same h h' w.5
+  join_on_one h b x g (DiskFaultAt n) h' w = partition_state_put h b _ h' w.2.after
+  join_on_one h b x g (Rebuilt n) h' w = partition_state_put h b _ h' w.2.after
   join_on_one h b x g other h' w = elim w [ ]
 
   trim_one : (h : PartitionState D) (x : Node D) (turned : Turned) (h' : PartitionState D) → TrimRow content control h x turned h' → ChangesOne h h'
-  trim_one h x (Answers Down) h' w = held_same h h' w.1
-  trim_one h x (Begins g) h' w = held_same h h' w.2
+  trim_one h x (Answers Down) h' w = partition_state_same h h' w.1
+  trim_one h x (Begins g) h' w = partition_state_same h h' w.2
   trim_one h x other h' w = elim w [ ]
 
   pub trim_on_one : (h : PartitionState D) (b : ℕ) (x : Node D) (g : StartSnapshot) (answer : Answer) (h' : PartitionState D) → TrimOnRow content control h b x g answer h' → ChangesOne h h'
-  trim_on_one h b x g Stopped h' w = held_same h h' w.1
-  trim_on_one h b x g Remains h' w = held_same h h' w.1
-  trim_on_one h b x g DiskFault h' w = held_put h b _ h' w.2.after
-  trim_on_one h b x g (Dropped base last) h' w = held_put h b _ h' w.2.3
+  trim_on_one h b x g Stopped h' w = partition_state_same h h' w.1
+  trim_on_one h b x g Remains h' w = partition_state_same h h' w.1
+  trim_on_one h b x g DiskFault h' w = partition_state_put h b _ h' w.2.after
+  trim_on_one h b x g (Dropped base last) h' w = partition_state_put h b _ h' w.2.3
   trim_on_one h b x g other h' w = elim w [ ]
 
   follow_one : (h : PartitionState D) (b : ℕ) (x : Node D) (limit : ℕ) (turned : Turned) (h' : PartitionState D) → FollowRow content control h b x limit turned h' → ChangesOne h h'
-  follow_one h b x limit (Answers Down) h' w = held_same h h' w.1
-  follow_one h b x limit (Answers NotJoined) h' w = held_same h h' w.2
-  follow_one h b x limit (Answers (StaleEpoch e)) h' w = held_same h h' w.3
-  follow_one h b x limit (Answers NoLeader) h' w = held_same h h' w.3
-  follow_one h b x limit (Answers Level) h' w = held_same h h' w.3
-  follow_one h b x limit (Answers DiskFault) h' w = let y = some_of _ (the_leader h) w.2 in held_put h h.registry.leader.0 _ h' y.2.2.4
-  follow_one h b x limit (Answers (Moved n)) h' w = held_same h h' w.3
-  follow_one h b x limit (Answers (Damaged (File name) from)) h' w = let y = some_of _ (the_leader h) w.2 in held_put h h.registry.leader.0 _ h' y.2.2.after
-  follow_one h b x limit (Begins g) h' w = let y = some_of _ (the_leader h) w.2 in held_put h h.registry.leader.0 _ h' y.2.2.after
+  follow_one h b x limit (Answers Down) h' w = partition_state_same h h' w.1
+  follow_one h b x limit (Answers NotJoined) h' w = partition_state_same h h' w.2
+  follow_one h b x limit (Answers (StaleEpoch e)) h' w = partition_state_same h h' w.3
+  follow_one h b x limit (Answers NoLeader) h' w = partition_state_same h h' w.3
+  follow_one h b x limit (Answers Level) h' w = partition_state_same h h' w.3
+  follow_one h b x limit (Answers DiskFault) h' w = let y = some_of _ (the_leader h) w.2 in partition_state_put h h.registry.leader.0 _ h' y.2.2.4
+  follow_one h b x limit (Answers (Moved n)) h' w = partition_state_same h h' w.3
+  follow_one h b x limit (Answers (Damaged (File name) from)) h' w = let y = some_of _ (the_leader h) w.2 in partition_state_put h h.registry.leader.0 _ h' y.2.2.after
+  follow_one h b x limit (Begins g) h' w = let y = some_of _ (the_leader h) w.2 in partition_state_put h h.registry.leader.0 _ h' y.2.2.after
   follow_one h b x limit other h' w = elim w [ ]
 
   follow_on_one : (h : PartitionState D) (b : ℕ) (x : Node D) (g : StartSnapshot) (answer : Answer) (h' : PartitionState D) → FollowOnRow content control h b x g answer h' → ChangesOne h h'
-  follow_on_one h b x g Stopped h' w = held_same h h' w.1
-  follow_on_one h b x g (StaleEpoch e) h' w = held_same h h' w.3
-  follow_on_one h b x g (Passed n) h' w = held_same h h' w.3
-  follow_on_one h b x g TooManySegments h' w = held_same h h' w.3
-  follow_on_one h b x g DiskFault h' w = held_put h b _ h' w.3.after
-  follow_on_one h b x g (Copied n) h' w = held_put h b _ h' w.3.after
+  follow_on_one h b x g Stopped h' w = partition_state_same h h' w.1
+  follow_on_one h b x g (StaleEpoch e) h' w = partition_state_same h h' w.3
+  follow_on_one h b x g (Passed n) h' w = partition_state_same h h' w.3
+  follow_on_one h b x g TooManySegments h' w = partition_state_same h h' w.3
+  follow_on_one h b x g DiskFault h' w = partition_state_put h b _ h' w.3.after
+  follow_on_one h b x g (Copied n) h' w = partition_state_put h b _ h' w.3.after
   follow_on_one h b x g other h' w = elim w [ ]
 
   first_one : (h : PartitionState D) (b : ℕ) (x : Node D) (command : Command) (turned : Turned) (h' : PartitionState D) → slice_get h.nodes b ≡ Some x → FirstRow content control h b x command turned h' → ChangesOne h h'

@@ -35,7 +35,7 @@ use Rattle.registry.specs.declared.refusal.RegRefusal.TheVariants as reg
 use Rattle.partition_world.specs.declared.tier.BrokerTierState.{BrokerTierState}
 use Rattle.partition_world.specs.declared.tier.RemoteTier.{RemoteTier}
 use Rattle.partition_world.specs.declared.actor_state.Outcome.{Outcome}
-use Rattle.partition_world.specs.declared.actor_state.Outcome.TheVariants.{Answers, Dates as Dated, Dooms}
+use Rattle.partition_world.specs.declared.actor_state.Outcome.TheVariants.{Answers, Dates as Dated, ChoosesExpired}
 use Rattle.partition_world.specs.declared.actor_state.InProgress.{InProgress}
 use Rattle.partition_world.specs.declared.actor_state.InProgress.TheVariants.{Idle, Noted, Copies, Seeks, Dates, Expires, Rebuilds}
 use Rattle.partition_world.specs.TurnsOfCopy.{ChooseRow}
@@ -78,7 +78,7 @@ module _ {D S M : Type 0} (disk : DiskGhosts D) (store : StoreGhosts S) (meta : 
   choose_either : (p : PartitionId) (h : PartitionState D) (t : RemoteTier S M) (b : ℕ) (x : Node D) (broker_tier : BrokerTierState) (g : StartSnapshot) (outcome : Outcome) (h' : PartitionState D) (t' : RemoteTier S M) → ChooseRow disk p h t b x broker_tier g outcome h' t' → ChangesEither h t h' t'
   choose_either p h t b x broker_tier g outcome h' t' (inl lost) = same h t h' t' lost.2
   choose_either p h t b x broker_tier g outcome h' t' (inr (keeps, inl level)) = same h t h' t' level.2
-  choose_either p h t b x broker_tier g outcome h' t' (inr (keeps, inr r)) = inl (ap (λ (k : PartitionState D). k.registry) r.held)
+  choose_either p h t b x broker_tier g outcome h' t' (inr (keeps, inr r)) = inl (ap (λ (k : PartitionState D). k.registry) r.partition_state)
 
   trim_either : (h : PartitionState D) (t : RemoteTier S M) (b : ℕ) (x : Node D) (broker_tier : BrokerTierState) (g : StartSnapshot) (keep : Keep) (outcome : Outcome) (h' : PartitionState D) (t' : RemoteTier S M) → t' ≡ t
       → TrimOnRow disk h b x broker_tier g keep outcome h' → ChangesEither h t h' t'
@@ -91,7 +91,7 @@ module _ {D S M : Type 0} (disk : DiskGhosts D) (store : StoreGhosts S) (meta : 
   raise_either h t x start other h' t' is w = elim w [ ]
 
   expires_either : (p : PartitionId) (h : PartitionState D) (t : RemoteTier S M) (x : Node D) (broker_tier : BrokerTierState) (keep : Keep) (outcome : Outcome) (h' : PartitionState D) (t' : RemoteTier S M) → t' ≡ t → ExpiresBy p h x broker_tier keep outcome h' → ChangesEither h t h' t'
-  expires_either p h t x broker_tier keep (Dooms segment) h' t' is w = same h t h' t' w.stays
+  expires_either p h t x broker_tier keep (ChoosesExpired segment) h' t' is w = same h t h' t' w.stays
   expires_either p h t x broker_tier keep (Answers Remains) h' t' is w = same h t h' t' w.2
   expires_either p h t x broker_tier keep (Answers answer) h' t' is w = raise_either h t x w.0 answer h' t' is w.2
   expires_either p h t x broker_tier keep other h' t' is w = elim w [ ]
@@ -163,8 +163,8 @@ module _ {D S M : Type 0} (disk : DiskGhosts D) (store : StoreGhosts S) (meta : 
   rebuilding_either p h t b x broker_tier g (Restart line) Join outcome h' t' at w = own_on h t b x (with_line g line) Join outcome h' t' at w
   rebuilding_either p h t b x broker_tier g next other outcome h' t' at w = elim w [ ]
 
-  turn_either : (p : PartitionId) (config : Config) (h : PartitionState D) (t : RemoteTier S M) (b : ℕ) (x : Node D) (broker_tier : BrokerTierState) (work : InProgress) (command : Command) (outcome : Outcome) (h' : PartitionState D) (t' : RemoteTier S M)
-      → slice_get h.nodes b ≡ Some x → Row disk store meta p config h t b x broker_tier work command outcome h' t' → ChangesEither h t h' t'
+  turn_either : (p : PartitionId) (config : Config) (h : PartitionState D) (t : RemoteTier S M) (b : ℕ) (x : Node D) (broker_tier : BrokerTierState) (in_progress : InProgress) (command : Command) (outcome : Outcome) (h' : PartitionState D) (t' : RemoteTier S M)
+      → slice_get h.nodes b ≡ Some x → Row disk store meta p config h t b x broker_tier in_progress command outcome h' t' → ChangesEither h t h' t'
   turn_either p config h t b x broker_tier Idle command outcome h' t' at w = begin_either h t b x broker_tier command outcome h' t' at w
   turn_either p config h t b x broker_tier (Noted g) command outcome h' t' at w = recorded_either p config h t b x broker_tier g command outcome h' t' at w
   turn_either p config h t b x broker_tier (Copies g copy next) command outcome h' t' at w = copying_either h t b x broker_tier g copy next command outcome h' t' w
@@ -173,29 +173,29 @@ module _ {D S M : Type 0} (disk : DiskGhosts D) (store : StoreGhosts S) (meta : 
   turn_either p config h t b x broker_tier (Expires g segment next) command outcome h' t' at w = deleting_either h t b x g segment next command outcome h' t' w
   turn_either p config h t b x broker_tier (Rebuilds g next) command outcome h' t' at w = rebuilding_either p h t b x broker_tier g next command outcome h' t' at w
 
-  is_turn_either : (w : Whole D S M) (a : ℕ) (outcome : Outcome) (w' : Whole D S M) → IsTurn disk store meta w a outcome w' → ChangesEither w.held w.tier w'.held w'.tier
+  is_turn_either : (w : Whole D S M) (a : ℕ) (outcome : Outcome) (w' : Whole D S M) → IsTurn disk store meta w a outcome w' → ChangesEither w.partition_state w.tier w'.partition_state w'.tier
   is_turn_either w a outcome w' t =
-      let x = some_of _ (slice_get w.held.nodes t.order.broker.0) t.row in
+      let x = some_of _ (slice_get w.partition_state.nodes t.order.broker.0) t.row in
       let broker_tier = some_of _ (slice_get w.tier.broker_tiers t.order.broker.0) x.2 in
-      turn_either w.partition w.config w.held w.tier t.order.broker.0 x.0 broker_tier.0 t.actor_state.work t.order.command outcome w'.held w'.tier x.1 broker_tier.2
+      turn_either w.partition w.config w.partition_state w.tier t.order.broker.0 x.0 broker_tier.0 t.actor_state.in_progress t.order.command outcome w'.partition_state w'.tier x.1 broker_tier.2
 
-  stays_held : (h h' : PartitionState D) → KeepsPartition disk.content disk.control h h' → h'.registry ≡ h.registry
-  stays_held h h' (inl e) = ap (λ (k : PartitionState D). k.registry) e
-  stays_held h h' (inr (b, at)) = let x = some_of _ (slice_get h.nodes b) at in ap (λ (k : PartitionState D). k.registry) x.2.3
+  stays_partition_state : (h h' : PartitionState D) → KeepsPartition disk.content disk.control h h' → h'.registry ≡ h.registry
+  stays_partition_state h h' (inl e) = ap (λ (k : PartitionState D). k.registry) e
+  stays_partition_state h h' (inr (b, at)) = let x = some_of _ (slice_get h.nodes b) at in ap (λ (k : PartitionState D). k.registry) x.2.3
 
-  stays_registry : (w : Whole D S M) (a : ℕ) (w' : Whole D S M) → StaysWhole disk store meta w a w' → w'.held.registry ≡ w.held.registry
+  stays_registry : (w : Whole D S M) (a : ℕ) (w' : Whole D S M) → StaysWhole disk store meta w a w' → w'.partition_state.registry ≡ w.partition_state.registry
   stays_registry w a w' s = by s.tier
     where
-      by : StaysTier disk store meta w.partition w.held w.tier s.order.broker.0 s.actor_state.work s.order.command w'.held w'.tier → w'.held.registry ≡ w.held.registry
-      by (inl k) = stays_held w.held w'.held k.0
+      by : StaysTier disk store meta w.partition w.partition_state w.tier s.order.broker.0 s.actor_state.in_progress s.order.command w'.partition_state w'.tier → w'.partition_state.registry ≡ w.partition_state.registry
+      by (inl k) = stays_partition_state w.partition_state w'.partition_state k.0
       by (inr k) = ap (λ (h : PartitionState D). h.registry) k.0
 
-  seen_either : (w w' : Whole D S M) → ChangesEither w.held w.tier w'.held w'.tier → (w'.held.registry ≡ w.held.registry) ⊎ (SameDevices w w' × (length w'.held.registry.replicas ≡ length w.held.registry.replicas))
+  seen_either : (w w' : Whole D S M) → ChangesEither w.partition_state w.tier w'.partition_state w'.tier → (w'.partition_state.registry ≡ w.partition_state.registry) ⊎ (SameDevices w w' × (length w'.partition_state.registry.replicas ≡ length w.partition_state.registry.replicas))
   seen_either w w' (inl e) = inl e
   seen_either w w' (inr k) = inr (record { logs = k.0; tier = k.2 }, k.1)
 
   pub steps_one : StepsChangeOne disk store meta
   steps_one w a Ran w' s = seen_either w w' (is_turn_either w a s.0 w' s.2)
   steps_one w a Done w' s = seen_either w w' (is_turn_either w a (Answers s.0) w' s.1)
-  steps_one w a Nothing w' s = inl (ap (λ (k : Whole D S M). k.held.registry) s.1)
+  steps_one w a Nothing w' s = inl (ap (λ (k : Whole D S M). k.partition_state.registry) s.1)
   steps_one w a NoMemory w' s = inl (stays_registry w a w' s)

@@ -19,7 +19,7 @@ use Rattle.laws_partition.specs.Central.{LinesStand}
 use Rattle.laws_partition.specs.Partition.{broker_of}
 use Rattle.laws_tier_turns.specs.BrokerTiers.{BrokerTierModel as BrokerTierIsSeen, tier_view_of, tier_views_of, fresh_broker_tier as fresh_seen}
 use Rattle.partition_commands.specs.declared.partition_state.Node.{Node}
-use Rattle.partition_commands.specs.Cold.{ShowDisks, DisksReopen, node_back, held_back}
+use Rattle.partition_commands.specs.Cold.{ShowDisks, DisksReopen, node_back, partition_back}
 use Rattle.partition_commands.specs.Fresh.{AreDisksOf}
 use Rattle.partition_commands.specs.Partition.{ShowNodes}
 use Rattle.tier_safe.specs.Scene.{BrokerTierView, Scene}
@@ -37,7 +37,7 @@ use Rattle.partition_world.proofs.ColdLaw.{reopened_runs}
 use Rattle.partition_world.specs.Left.{IsCentralLeft, resolved, whole_with}
 use Rattle.partition_world.specs.Whole.{Whole}
 use Rattle.cold_state.specs.Cold.{cold_of, cold_broker}
-use Rattle.cold_start.specs.Cold.{cold_tier_view, cold_node, cold_held, cold_scene, cold_broker_tiers}
+use Rattle.cold_start.specs.Cold.{cold_tier_view, cold_node, cold_partition_state, cold_scene, cold_broker_tiers}
 use Rattle.cold_start.specs.ColdWorld.{IsCutDisk, IsCutStore, IsCutLog, LeavesDisk, LeaveDisks, AreCut, plain_in}
 use Rattle.cold_start.proofs.ColdLaw.{cold_tier}
 use Rattle.cold_state.proofs.ColdStates.{cold_safe}
@@ -94,23 +94,23 @@ long f [] = refl
 long f (x ∷ xs) = ap suc (long f xs)
 
 module _ {D S M : Type 0} (disk : DiskGhosts D) (store : StoreGhosts S) (meta : MetaGhosts M) where
-  module _ (opening : State) (w : Whole D S M) (disks : List D) (s : S) (m : M) (l : List Note) (cut : AreShownAs disk.content w.held.nodes disks) (kept : IsCutStore (store.content w.tier.store) (store.content s))
+  module _ (opening : State) (w : Whole D S M) (disks : List D) (s : S) (m : M) (l : List Note) (cut : AreShownAs disk.content w.partition_state.nodes disks) (kept : IsCutStore (store.content w.tier.store) (store.content s))
       (told : IsCutLog (meta.content w.tier.meta) (meta.content m)) (k : IsCentral disk store (resolved meta) opening (whole_with w l)) where
     b : Back disk.content disks k.partition.nodes
-    b = back_as disk.content w.held.nodes k.partition.nodes disks cut k.shows.nodes
+    b = back_as disk.content w.partition_state.nodes k.partition.nodes disks cut k.shows.nodes
 
-    registry_is : k.partition.registry ≡ w.held.registry
+    registry_is : k.partition.registry ≡ w.partition_state.registry
     registry_is = k.shows.registry
 
-    held_is : cold_held k.partition (pos 0) ≡ held_back w.held.registry b.logs
-    held_is =
+    partition_state_is : cold_partition_state k.partition (pos 0) ≡ partition_back w.partition_state.registry b.logs
+    partition_state_is =
         ap (λ (r : Registry). (let h : seen.SeenPartition = record { registry = r; nodes = map cold_node k.partition.nodes; clock = pos 0 } in h)) registry_is
-        ∙ ap (λ (nodes : List seen.Node). (let h : seen.SeenPartition = record { registry = w.held.registry; nodes = nodes; clock = pos 0 } in h)) (sym b.same)
+        ∙ ap (λ (nodes : List seen.Node). (let h : seen.SeenPartition = record { registry = w.partition_state.registry; nodes = nodes; clock = pos 0 } in h)) (sym b.same)
 
     many : length (tier_views_of k.partition.nodes (broker_tiers_seen w.tier.broker_tiers)) ≡ length k.partition.nodes
     many =
         ap (λ (tier_views : List BrokerTierView). length tier_views) (sym k.shows_tier.tier_views) ∙ k.tier.tier_views.count
-        ∙ ap (λ (brokers : List Broker). length brokers) k.central.stands.held.brokers ∙ long broker_of k.partition.nodes
+        ∙ ap (λ (brokers : List Broker). length brokers) k.central.stands.partition_state.brokers ∙ long broker_of k.partition.nodes
 
     count : length k.partition.nodes ≡ length b.logs
     count = sym (long cold_node k.partition.nodes) ∙ ap (λ (nodes : List seen.Node). length nodes) (sym b.same) ∙ long node_back b.logs
@@ -123,33 +123,33 @@ module _ {D S M : Type 0} (disk : DiskGhosts D) (store : StoreGhosts S) (meta : 
     scene_is : cold_scene k.scene [] ≡ scene_back w.partition (store.content s).objects l b.logs
     scene_is = scene_same _ _ k.shows_tier.partition (k.shows_tier.objects ∙ sym kept.objects) k.shows_tier.notes tier_views_are refl
 
-    pub stand_cut : StandCold disk store meta w.partition w.held.registry disks s m (cold_of k.central.plain) l
+    pub stand_cut : StandCold disk store meta w.partition w.partition_state.registry disks s m (cold_of k.central.plain) l
     stand_cut = record {
       logs = b.logs;
       shows = b.shows;
       safe = cold_safe k.central.plain k.central.safe;
-      registry_is = k.central.stands.held.registry ∙ registry_is;
-      brokers = ap (map cold_broker) k.central.stands.held.brokers ∙ cold_brokers k.partition.nodes ∙ ap (map broker_of) (sym b.same);
+      registry_is = k.central.stands.partition_state.registry ∙ registry_is;
+      brokers = ap (map cold_broker) k.central.stands.partition_state.brokers ∙ cold_brokers k.partition.nodes ∙ ap (map broker_of) (sym b.same);
       actors = refl;
-      lines = subst (λ (h : seen.SeenPartition). LinesStand h k.central.plain.paths k.central.plain.broken) held_is (cold_lines k.partition (pos 0) k.central.plain.paths k.central.plain.broken k.central.stands.lines);
+      lines = subst (λ (h : seen.SeenPartition). LinesStand h k.central.plain.paths k.central.plain.broken) partition_state_is (cold_lines k.partition (pos 0) k.central.plain.paths k.central.plain.broken k.central.stands.lines);
       store_tells = kept.is_observable k.shows_tier.store_tells;
       meta_tells = told.is_observable k.shows_tier.meta_tells;
-      tier = subst (λ (c : Scene). TierSafe c (cold_of k.central.plain)) scene_is (cold_tier k.scene k.central.plain [] (λ a work at. absurd cc) k.tier);
+      tier = subst (λ (c : Scene). TierSafe c (cold_of k.central.plain)) scene_is (cold_tier k.scene k.central.plain [] (λ a tier_task at. absurd cc) k.tier);
     }
 
-  pub shown_cold : (opening : State) (w : Whole D S M) (disks : List D) (s : S) (m : M) (c : IsCentralLeft disk store meta opening w) → AreShownAs disk.content w.held.nodes disks
+  pub shown_cold : (opening : State) (w : Whole D S M) (disks : List D) (s : S) (m : M) (c : IsCentralLeft disk store meta opening w) → AreShownAs disk.content w.partition_state.nodes disks
       → IsCutStore (store.content w.tier.store) (store.content s) → IsCutLog (meta.content w.tier.meta) (meta.content m) → (l : List Note) → Left (meta.content m) l
-      → StandCold disk store meta w.partition w.held.registry disks s m (cold_of (plain_in disk store meta opening w c)) l
+      → StandCold disk store meta w.partition w.partition_state.registry disks s m (cold_of (plain_in disk store meta opening w c)) l
   shown_cold opening w disks s m c cut kept told l left =
       let now = c (meta.content w.tier.meta).notes (inl refl) in
       let k = c l (told.left l left) in
-      subst (λ (p : State). StandCold disk store meta w.partition w.held.registry disks s m (cold_of p) l) (same_plain disk store meta opening w l (meta.content w.tier.meta).notes k now)
+      subst (λ (p : State). StandCold disk store meta w.partition w.partition_state.registry disks s m (cold_of p) l) (same_plain disk store meta opening w l (meta.content w.tier.meta).notes k now)
       (stand_cut opening w disks s m l cut kept told k)
 
-  pub leaves_cold : (opening : State) (w : Whole D S M) (disks : List D) (s : S) (m : M) (c : IsCentralLeft disk store meta opening w) → LeaveDisks disk.content w.held.nodes disks
+  pub leaves_cold : (opening : State) (w : Whole D S M) (disks : List D) (s : S) (m : M) (c : IsCentralLeft disk store meta opening w) → LeaveDisks disk.content w.partition_state.nodes disks
       → IsCutStore (store.content w.tier.store) (store.content s) → IsCutLog (meta.content w.tier.meta) (meta.content m) → (l : List Note) → Left (meta.content m) l
-      → StandCold disk store meta w.partition w.held.registry disks s m (cold_of (plain_in disk store meta opening w c)) l
-  leaves_cold opening w disks s m c cut kept told l left = shown_cold opening w disks s m c (left_as disk.content w.held.nodes disks cut) kept told l left
+      → StandCold disk store meta w.partition w.partition_state.registry disks s m (cold_of (plain_in disk store meta opening w c)) l
+  leaves_cold opening w disks s m c cut kept told l left = shown_cold opening w disks s m c (left_as disk.content w.partition_state.nodes disks cut) kept told l left
 
   -- a further power cut
   shown_cut : (disks nows : List D) (logs : List LogSeen) → AreCut disk.content disks nows → ShowDisks disk.content disks logs → ShowDisks disk.content nows logs
@@ -179,11 +179,11 @@ module _ {D S M : Type 0} (disk : DiskGhosts D) (store : StoreGhosts S) (meta : 
       }
 
   pub runs_go_on : (opening : State) (w : Whole D S M) (config : Config) (lists : List ActorList) (disks : List D) (s : S) (m : M) (v : Whole D S M) (schedule : List Pace) (v' : Whole D S M)
-      (c : IsCentralLeft disk store meta opening w) → LeaveDisks disk.content w.held.nodes disks → IsCutStore (store.content w.tier.store) (store.content s) → IsCutLog (meta.content w.tier.meta) (meta.content m)
-      → ((l : List Note) → Left (meta.content m) l → length l < 2 ^ 63) → AreListsFor config lists → IsReopened disk store meta w.partition config lists w.held.registry disks s m v
+      (c : IsCentralLeft disk store meta opening w) → LeaveDisks disk.content w.partition_state.nodes disks → IsCutStore (store.content w.tier.store) (store.content s) → IsCutLog (meta.content w.tier.meta) (meta.content m)
+      → ((l : List Note) → Left (meta.content m) l → length l < 2 ^ 63) → AreListsFor config lists → IsReopened disk store meta w.partition config lists w.partition_state.registry disks s m v
       → Reaches disk store meta v schedule v' → IsSafeRunFrom (cold_of (plain_in disk store meta opening w c)) lists v'.journal.items
   runs_go_on opening w config lists disks s m v schedule v' c cut kept told few fit f r =
-      reopened_runs disk store meta w.partition config lists w.held.registry disks s m v schedule v' (cold_of (plain_in disk store meta opening w c)) fit f
+      reopened_runs disk store meta w.partition config lists w.partition_state.registry disks s m v schedule v' (cold_of (plain_in disk store meta opening w c)) fit f
       (record { stand = leaves_cold opening w disks s m c cut kept told; few = few }) r
 
 module _ {D : Type 0} (disk : DiskGhosts D) where

@@ -34,20 +34,20 @@ dry_keeps old new r kept dry c at = kept c (dry.images c at)
 
 module _ {D S M : Type 0} where
   -- a step that changed the registry asked no device
-  pub other_devices : (v w : Whole D S M) → (w.held.registry ≡ v.held.registry) ⊎ (SameDevices v w × (length w.held.registry.replicas ≡ length v.held.registry.replicas))
-      → (view_of w.held.registry ≡ view_of v.held.registry → ⊥) → SameDevices v w
+  pub other_devices : (v w : Whole D S M) → (w.partition_state.registry ≡ v.partition_state.registry) ⊎ (SameDevices v w × (length w.partition_state.registry.replicas ≡ length v.partition_state.registry.replicas))
+      → (view_of w.partition_state.registry ≡ view_of v.partition_state.registry → ⊥) → SameDevices v w
   other_devices v w (inl same) other = absurd (other (ap view_of same))
   other_devices v w (inr same) other = same.0
 
   -- and one has as many replicas
-  pub as_many : (v w : Whole D S M) → (w.held.registry ≡ v.held.registry) ⊎ (SameDevices v w × (length w.held.registry.replicas ≡ length v.held.registry.replicas))
-      → length w.held.registry.replicas ≡ length v.held.registry.replicas
+  pub as_many : (v w : Whole D S M) → (w.partition_state.registry ≡ v.partition_state.registry) ⊎ (SameDevices v w × (length w.partition_state.registry.replicas ≡ length v.partition_state.registry.replicas))
+      → length w.partition_state.registry.replicas ≡ length v.partition_state.registry.replicas
   as_many v w (inl same) = ap (λ (r : Registry). length r.replicas) same
   as_many v w (inr same) = same.1
 
   -- one for each of 1 to 8 brokers
-  pub some_few : (v w : Whole D S M) → length w.held.registry.replicas ≡ length v.held.registry.replicas → 1 ≤ length v.held.registry.replicas → length v.held.registry.replicas ≤ 8
-      → (1 ≤ length w.held.registry.replicas) × (length w.held.registry.replicas ≤ 8)
+  pub some_few : (v w : Whole D S M) → length w.partition_state.registry.replicas ≡ length v.partition_state.registry.replicas → 1 ≤ length v.partition_state.registry.replicas → length v.partition_state.registry.replicas ≤ 8
+      → (1 ≤ length w.partition_state.registry.replicas) × (length w.partition_state.registry.replicas ≤ 8)
   some_few v w many some few = (omega (arith, many, some), omega (arith, many, few))
 
 module _ {D S M : Type 0} (disk : DiskGhosts D) (store : StoreGhosts S) (meta : MetaGhosts M) where

@@ -7,7 +7,7 @@ use Rattle.object_store.specs.declared.store.Store.{Ghosts as StoreGhosts}
 use Rattle.segment_meta.specs.declared.note.Note.{Note}
 use Rattle.meta_log.specs.declared.log.MetaLog.{Ghosts as MetaGhosts}
 use Rattle.plain_log.specs.declared.state.State.{State}
-use Rattle.tier_safe.specs.Scene.{TierTask as InProgressIsSeen}
+use Rattle.tier_safe.specs.Scene.{TierTask}
 use Rattle.tier_sweep.specs.Sweeping.{SweptTier, tier_with, IsUnderSweep}
 use Rattle.laws_audit.specs.Laws.{tier_in, IsIdle, scene_with}
 use Rattle.laws_audit.proofs.Sweeping.{sweep_keeps}
@@ -24,8 +24,8 @@ module _ {D S M : Type 0} (disk : DiskGhosts D) (store : StoreGhosts S) (meta : 
       (store_same : (store.content s).is_observable ≡ (store.content w.tier.store).is_observable) (meta_same : (meta.content m).is_observable ≡ (meta.content w.tier.meta).is_observable)
       (under : IsUnderSweep (tier_with (store.content w.tier.store) before) (tier_with (store.content s) l)) (low : length l + notes_left w.lists w.desk < 2 ^ 64) where
     idle : IsIdle k.scene
-    idle a work at = is_free (length w.lists) a work
-        (ap (λ (d : List InProgressIsSeen). slice_get d a) (all_free w.lists ∙ ap (desk_of w.lists) (sym unused) ∙ sym k.shows_tier.desk) ∙ at)
+    idle a tier_task at = is_free (length w.lists) a tier_task
+        (ap (λ (d : List TierTask). slice_get d a) (all_free w.lists ∙ ap (desk_of w.lists) (sym unused) ∙ sym k.shows_tier.desk) ∙ at)
 
     tier_is : tier_with (store.content w.tier.store) before ≡ tier_in k.scene
     tier_is =

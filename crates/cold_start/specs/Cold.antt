@@ -24,14 +24,14 @@ abbrev pub cold_node : Node → Node
 cold_node x = record x { up = false; stops = 0; role = Idle; known_high_watermark = 0 }
 
 -- all are, and the clock is set again
-abbrev pub cold_held : SeenPartition → ℤ → SeenPartition
-cold_held h clock = record h { nodes = map cold_node h.nodes; clock = clock }
+abbrev pub cold_partition_state : SeenPartition → ℤ → SeenPartition
+cold_partition_state h clock = record h { nodes = map cold_node h.nodes; clock = clock }
 
 -- a world that begins there with these lists and this journal
 abbrev pub cold_whole : Whole → ℤ → List ActorList → Rolled JournalEntry → Whole
 cold_whole w clock lists journal = record w {
   lists = lists;
-  held = cold_held w.held clock;
+  partition_state = cold_partition_state w.partition_state clock;
   desk = replicate (length lists) fresh_actor_state;
   journal = journal;
 }

@@ -82,7 +82,13 @@ module _ {D S M : Type 0} where
     partition = w.partition;
     config = config;
     lists = lists;
-    held = record { registry = w.held.registry; nodes = map (cold_dev config.settings) disks; clock = pos 0; copying = true; packed = false };
+    partition_state = record {
+      registry = w.partition_state.registry;
+      nodes = map (cold_dev config.settings) disks;
+      clock = pos 0;
+      copying = true;
+      packed = false;
+    };
     tier = record { store = s; meta = m; broker_tiers = map (λ broker_tier. fresh_broker_tier) w.tier.broker_tiers };
     desk = replicate (length lists) fresh_actor_state;
     journal = journal;
@@ -96,41 +102,53 @@ module _ {D S M : Type 0} (disk : DiskGhosts D) (store : StoreGhosts S) (meta : 
   -- after a power cut of everything between two turns a world that begins with the registry over what is left has the central fact
   -- for what is left of the plain state
   abbrev pub PowerCutKeepsCentral : Type 0
-  PowerCutKeepsCentral = (opening : State) (config : Config) (w : Whole D S M) (lists : List ActorList) (journal : Rolled JournalEntry)
-      (disks : List D) (s : S) (m : M) (c : IsCentralLeft disk store meta opening w) → LeaveDisks disk.content w.held.nodes disks
+  PowerCutKeepsCentral = (opening : State) (config : Config) (w : Whole D S M) (lists : List ActorList)
+      (journal : Rolled JournalEntry)
+      (disks : List D) (s : S) (m : M) (c : IsCentralLeft disk store meta opening w)
+      → LeaveDisks disk.content w.partition_state.nodes disks
       → IsCutStore (store.content w.tier.store) (store.content s) → IsCutLog (meta.content w.tier.meta) (meta.content m)
       → AreRising lists → journal.items ≡ []
-      → ((l : List Note) → Left (meta.content m) l → length l + notes_left lists (replicate (length lists) fresh_actor_state) < 2 ^ 64)
+      → ((l : List Note) → Left (meta.content m) l
+      → length l + notes_left lists (replicate (length lists) fresh_actor_state) < 2 ^ 64)
       → IsCentralLeft disk store meta (cold_of (plain_in opening w c)) (reopened config w lists journal disks s m)
 
   -- after a power cut of everything between two turns what is left of the devices represents what is left of the plain
   -- state, with whatever metadata events a further power cut may leave
   abbrev pub PowerCutLeavesCold : Type 0
-  PowerCutLeavesCold = (opening : State) (w : Whole D S M) (disks : List D) (s : S) (m : M) (c : IsCentralLeft disk store meta opening w)
-      → LeaveDisks disk.content w.held.nodes disks → IsCutStore (store.content w.tier.store) (store.content s)
+  PowerCutLeavesCold = (opening : State) (w : Whole D S M) (disks : List D) (s : S) (m : M)
+      (c : IsCentralLeft disk store meta opening w)
+      → LeaveDisks disk.content w.partition_state.nodes disks
+      → IsCutStore (store.content w.tier.store) (store.content s)
       → IsCutLog (meta.content w.tier.meta) (meta.content m) → (l : List Note) → Left (meta.content m) l
-      → StandCold disk store meta w.partition w.held.registry disks s m (cold_of (plain_in opening w c)) l
+      → StandCold disk store meta w.partition w.partition_state.registry disks s m (cold_of (plain_in opening w c)) l
 
   -- a power cut of devices that represent a plain state leaves devices that represent it
   abbrev pub PowerCutKeepsCold : Type 0
-  PowerCutKeepsCold = (partition : PartitionId) (registry : Registry) (disks nows : List D) (s : S) (m : M) (t : S) (n : M) (p : State)
+  PowerCutKeepsCold = (partition : PartitionId) (registry : Registry) (disks nows : List D) (s : S) (m : M) (t : S)
+      (n : M) (p : State)
       → ((l : List Note) → Left (meta.content m) l → StandCold disk store meta partition registry disks s m p l)
-      → AreCut disk.content disks nows → IsCutStore (store.content s) (store.content t) → IsCutLog (meta.content m) (meta.content n)
+      → AreCut disk.content disks nows → IsCutStore (store.content s) (store.content t)
+      → IsCutLog (meta.content m) (meta.content n)
       → (l : List Note) → Left (meta.content n) l → StandCold disk store meta partition registry nows t n p l
 
   -- A run continues after a power cut of everything between two turns: over what is left of the devices, with the
   -- registry as it was, a world is reopened, and whatever a schedule reaches from it has a journal that is a run of the
   -- plain log from what is left of the plain state.
   abbrev pub RunsGoOn : Type 0
-  RunsGoOn = (opening : State) (w : Whole D S M) (config : Config) (lists : List ActorList) (disks : List D) (s : S) (m : M)
+  RunsGoOn = (opening : State) (w : Whole D S M) (config : Config) (lists : List ActorList) (disks : List D) (s : S)
+      (m : M)
       (v : Whole D S M) (schedule : List Pace) (v' : Whole D S M) (c : IsCentralLeft disk store meta opening w)
-      → LeaveDisks disk.content w.held.nodes disks → IsCutStore (store.content w.tier.store) (store.content s)
-      → IsCutLog (meta.content w.tier.meta) (meta.content m) → ((l : List Note) → Left (meta.content m) l → length l < 2 ^ 63)
-      → AreListsFor config lists → IsReopened disk store meta w.partition config lists w.held.registry disks s m v
+      → LeaveDisks disk.content w.partition_state.nodes disks
+      → IsCutStore (store.content w.tier.store) (store.content s)
+      → IsCutLog (meta.content w.tier.meta) (meta.content m)
+      → ((l : List Note) → Left (meta.content m) l → length l < 2 ^ 63)
+      → AreListsFor config lists
+      → IsReopened disk store meta w.partition config lists w.partition_state.registry disks s m v
       → Reaches disk store meta v schedule v' → IsSafeRunFrom (cold_of (plain_in opening w c)) lists v'.journal.items
 
 module _ {D : Type 0} (disk : DiskGhosts D) where
   -- the disks that a partition gives back are such as a power cut may leave, and so are those that a power cut leaves of them
   abbrev pub ClosedAreLeft : Type 0
-  ClosedAreLeft = (nodes : List (Node D)) (disks nows : List D) → AreDisksOf nodes disks → DisksReopen disk.content nodes disks
+  ClosedAreLeft = (nodes : List (Node D)) (disks nows : List D) → AreDisksOf nodes disks
+      → DisksReopen disk.content nodes disks
       → AreCut disk.content disks nows → LeaveDisks disk.content nodes nows

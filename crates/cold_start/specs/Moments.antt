@@ -45,7 +45,8 @@ module _ {D : Type 0} (content : D → Content) where
   abbrev pub LeaveSince : List (Node D) → List (Node D) → List D → Type 0
   LeaveSince [] [] [] = Unit {0}
   LeaveSince (x ∷ xs) (y ∷ ys) (d ∷ disks) =
-      OnDisk x.log (λ old. OnDisk y.log (λ now. IsCutSince (content old) (content now) (content d))) × LeaveSince xs ys disks
+      OnDisk x.log (λ old. OnDisk y.log (λ now. IsCutSince (content old) (content now) (content d)))
+      × LeaveSince xs ys disks
   LeaveSince [] [] (d ∷ disks) = ⊥
   LeaveSince [] (y ∷ ys) disks = ⊥
   LeaveSince (x ∷ xs) [] disks = ⊥
@@ -64,23 +65,29 @@ module _ {D S M : Type 0} (disk : DiskGhosts D) (store : StoreGhosts S) (meta : 
   -- One broker's log changes at most. Where one does, nothing else is called; where none does, the store or the metadata log is as it was.
   abbrev pub WorksOnOne : Whole D S M → Whole D S M → Type 0
   WorksOnOne w w' =
-      (ChangesLog disk.content w.held.nodes w'.held.nodes × (w'.held.registry ≡ w.held.registry) × (w'.tier.store ≡ w.tier.store)
+      (ChangesLog disk.content w.partition_state.nodes w'.partition_state.nodes
+      × (w'.partition_state.registry ≡ w.partition_state.registry) × (w'.tier.store ≡ w.tier.store)
       × (w'.tier.meta ≡ w.tier.meta))
-      ⊎ ((logs_of w'.held.nodes ≡ logs_of w.held.nodes) × ((w'.tier.store ≡ w.tier.store) ⊎ (w'.tier.meta ≡ w.tier.meta)))
+      ⊎ ((logs_of w'.partition_state.nodes ≡ logs_of w.partition_state.nodes)
+      × ((w'.tier.store ≡ w.tier.store) ⊎ (w'.tier.meta ≡ w.tier.meta)))
 
   abbrev pub StepsWorkOnOne : Type 0
-  StepsWorkOnOne = (w : Whole D S M) (a : ℕ) (stepped : Stepped) (w' : Whole D S M) → Steps disk store meta w a stepped w' → WorksOnOne w w'
+  StepsWorkOnOne = (w : Whole D S M) (a : ℕ) (stepped : Stepped) (w' : Whole D S M)
+      → Steps disk store meta w a stepped w' → WorksOnOne w w'
 
   -- a power cut of everything may leave these of an open partition's devices in the course of a step from this world to that
   pub record IsLeftSince (v : Whole D S M) (reg : D) (w : Whole D S M) (now : D) (disks : List D) (s : S) (m : M) (r : D) : Type 0 where
-    pub logs : LeaveSince disk.content v.held.nodes w.held.nodes disks
-    pub objects : IsCutStore (store.content v.tier.store) (store.content s) ⊎ IsCutStore (store.content w.tier.store) (store.content s)
-    pub notes : IsCutLog (meta.content v.tier.meta) (meta.content m) ⊎ IsCutLog (meta.content w.tier.meta) (meta.content m)
+    pub logs : LeaveSince disk.content v.partition_state.nodes w.partition_state.nodes disks
+    pub objects : IsCutStore (store.content v.tier.store) (store.content s)
+        ⊎ IsCutStore (store.content w.tier.store) (store.content s)
+    pub notes : IsCutLog (meta.content v.tier.meta) (meta.content m)
+        ⊎ IsCutLog (meta.content w.tier.meta) (meta.content m)
     pub file : IsCutSince (disk.content reg) (disk.content now) (disk.content r)
 
   -- they represent what is left of the plain state before the step, or of that after it
   abbrev pub LeavesDuring : State → Whole D S M → D → Whole D S M → D → Type 0
-  LeavesDuring opening v reg w now = (b : IsCentralLeft disk store meta opening v) (c : IsCentralLeft disk store meta opening w)
+  LeavesDuring opening v reg w now = (b : IsCentralLeft disk store meta opening v)
+      (c : IsCentralLeft disk store meta opening w)
       (disks : List D) (s : S) (m : M) (r : D) → IsLeftSince v reg w now disks s m r
       → StandsFor disk store meta w.partition disks s m r (cold_of (plain_in disk store meta opening v b))
       ⊎ StandsFor disk store meta w.partition disks s m r (cold_of (plain_in disk store meta opening w c))
@@ -95,7 +102,8 @@ module _ {D S M : Type 0} (disk : DiskGhosts D) (store : StoreGhosts S) (meta : 
   pub record GoesSafely (t t' : Running D S M) : Type 0 where
     pub turn : TakesTurn t t'
     pub later : IsLater disk store meta t.world t'.world
-    pub during : IsTrue (disk.content t.reg).is_observable → (opening : State) → LeavesDuring opening t.world t.reg t'.world t'.reg
+    pub during : IsTrue (disk.content t.reg).is_observable → (opening : State)
+        → LeavesDuring opening t.world t.reg t'.world t'.reg
 
   -- such steps, one after the other
   abbrev pub GoesThrough : List (Running D S M) → Running D S M → Running D S M → Type 0

@@ -114,7 +114,8 @@ module _ {D S M : Type 0} (disk : DiskGhosts D) (store : StoreGhosts S) (meta : 
       (t : Running D S M) : Type 0 where
     pub view : RegView
     pub read : view_in (disk.control t.reg).last_read ≡ Ok view
-    pub there : IsTrue (disk.content reg).is_observable → (disk.content reg).files RegistryName ≡ Some (disk.control t.reg).last_read
+    pub there : IsTrue (disk.content reg).is_observable → (disk.content reg).files RegistryName
+        ≡ Some (disk.control t.reg).last_read
     pub count : view.brokers ≡ config.brokers
     pub recorded : M
     pub notes : KeepsNotes (meta.content m) (meta.content recorded)
@@ -130,11 +131,15 @@ module _ {D M : Type 0} (disk : DiskGhosts D) (meta : MetaGhosts M) where
   pub record OpeningHasCause (config : Config) (disks : List D) (m : M) (reg : D) (nows : List D) (n : M) (r : D) (why : ColdRefusal)
       : Type 0 where
     pub registry_fault : why ≡ RegistryFault → Rose (disk.control reg).faults (disk.control r).faults
-    pub device_fault : why ≡ DeviceFault → OneFailed disk.control disks nows ⊎ Rose (meta.control m).faults (meta.control n).faults
-    pub bad_registry : (at : ℕ) → why ≡ BadRegistry at → says config.brokers (view_in (disk.control r).last_read) ≡ Some why
-    pub brokers : (kept asked : ℕ) → why ≡ Brokers kept asked → says config.brokers (view_in (disk.control r).last_read) ≡ Some why
+    pub device_fault : why ≡ DeviceFault → OneFailed disk.control disks nows
+        ⊎ Rose (meta.control m).faults (meta.control n).faults
+    pub bad_registry : (at : ℕ) → why ≡ BadRegistry at → says config.brokers (view_in (disk.control r).last_read)
+        ≡ Some why
+    pub brokers : (kept asked : ℕ) → why ≡ Brokers kept asked
+        → says config.brokers (view_in (disk.control r).last_read) ≡ Some why
     -- what was returned is the file
-    pub last_read : IsRegistryRefusal why → IsTrue (disk.content reg).is_observable → (disk.content reg).files RegistryName ≡ Some (disk.control r).last_read
+    pub last_read : IsRegistryRefusal why → IsTrue (disk.content reg).is_observable
+        → (disk.content reg).files RegistryName ≡ Some (disk.control r).last_read
     -- what the file says comes before all but a fault of its disk, and running out of memory
     pub told : IsTrue (disk.content reg).is_observable → (bytes : List ℕ) (said : ColdRefusal)
         → (disk.content reg).files RegistryName ≡ Some bytes → says config.brokers (view_in bytes) ≡ Some said
@@ -153,14 +158,14 @@ module _ {D S M : Type 0} (disk : DiskGhosts D) (meta : MetaGhosts M) where
 module _ {D S M : Type 0} (disk : DiskGhosts D) where
   -- a fresh world whose registry couldn't be written is closed, and the disk has the registry's file or none
   pub record GivesBack (w : Whole D S M) (reg : D) (disks : List D) (s : S) (m : M) (r : D) (why : ColdRefusal) : Type 0 where
-    pub disks_are : AreDisksOf w.held.nodes disks
-    pub again : DisksReopen disk.content w.held.nodes disks
+    pub disks_are : AreDisksOf w.partition_state.nodes disks
+    pub again : DisksReopen disk.content w.partition_state.nodes disks
     pub store_is : s ≡ w.tier.store
     pub meta_is : m ≡ w.tier.meta
     pub count : length disks ≡ w.config.brokers
-    pub some : 1 ≤ length w.held.registry.replicas
-    pub few : length w.held.registry.replicas ≤ 8
-    pub file : Replaces w.held.registry (disk.content reg) (disk.content r)
+    pub some : 1 ≤ length w.partition_state.registry.replicas
+    pub few : length w.partition_state.registry.replicas ≤ 8
+    pub file : Replaces w.partition_state.registry (disk.content reg) (disk.content r)
     pub control : Lasts (disk.control reg) (disk.control r)
     pub cause : why ≡ RegistryFault → Rose (disk.control reg).faults (disk.control r).faults
     pub only : (why ≡ RegistryFault) ⊎ (why ≡ NoMemory)

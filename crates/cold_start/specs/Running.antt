@@ -21,6 +21,6 @@ pub record Running (D S M : Type 0) : Type 0 where
 -- leaves the file of its registry there.
 pub record IsRunningSound {D S M : Type 0} (content : D → Content) (control : D → Control call_code) (t : Running D S M) : Type 0 where
   pub unarmed : (control t.reg).armed ≡ false
-  pub some : 1 ≤ length t.world.held.registry.replicas
-  pub few : length t.world.held.registry.replicas ≤ 8
-  pub file : t.ended ≡ false → KeepsFile (content t.reg) t.world.held.registry
+  pub some : 1 ≤ length t.world.partition_state.registry.replicas
+  pub few : length t.world.partition_state.registry.replicas ≤ 8
+  pub file : t.ended ≡ false → KeepsFile (content t.reg) t.world.partition_state.registry

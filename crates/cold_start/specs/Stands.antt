@@ -42,7 +42,7 @@ module _ {D S M : Type 0} (disk : DiskGhosts D) (store : StoreGhosts S) (meta : 
 
   -- a power cut of everything may leave these of an open partition's devices
   pub record MayBeLeft (w : Whole D S M) (reg : D) (disks : List D) (s : S) (m : M) (r : D) : Type 0 where
-    pub logs : LeaveDisks disk.content w.held.nodes disks
+    pub logs : LeaveDisks disk.content w.partition_state.nodes disks
     pub objects : IsCutStore (store.content w.tier.store) (store.content s)
     pub notes : IsCutLog (meta.content w.tier.meta) (meta.content m)
     pub file : IsCutDisk (disk.content reg) (disk.content r)
@@ -54,7 +54,8 @@ module _ {D S M : Type 0} (disk : DiskGhosts D) (store : StoreGhosts S) (meta : 
 
   -- they represent what is left of one plain state or of the other
   abbrev pub LeavesOneOf : State → Whole D S M → Whole D S M → D → Type 0
-  LeavesOneOf opening v w reg = (b : IsCentralLeft disk store meta opening v) (c : IsCentralLeft disk store meta opening w)
+  LeavesOneOf opening v w reg = (b : IsCentralLeft disk store meta opening v)
+      (c : IsCentralLeft disk store meta opening w)
       (disks : List D) (s : S) (m : M) (r : D) → MayBeLeft w reg disks s m r
       → StandsFor w.partition disks s m r (cold_of (plain_in disk store meta opening v b))
       ⊎ StandsFor w.partition disks s m r (cold_of (plain_in disk store meta opening w c))

@@ -30,7 +30,7 @@ logs_of {D = D} nodes = map (λ (x : Node D). x.log) nodes
 module _ {D S M : Type 0} where
   -- each device is as it was
   pub record SameDevices (w w' : Whole D S M) : Type 0 where
-    pub logs : logs_of w'.held.nodes ≡ logs_of w.held.nodes
+    pub logs : logs_of w'.partition_state.nodes ≡ logs_of w.partition_state.nodes
     pub tier : w'.tier ≡ w.tier
 
 module _ {D S M : Type 0} (disk : DiskGhosts D) where
@@ -38,21 +38,23 @@ module _ {D S M : Type 0} (disk : DiskGhosts D) where
   pub record Ends (reg : D) (w : Whole D S M) (t : Running D S M) (why : ColdRefusal) : Type 0 where
     pub ended : t.ended ≡ true
     pub devices : SameDevices w t.world
-    pub file : KeepsOneOf (disk.content t.reg) w.held.registry t.world.held.registry
-    pub dry : why ≡ NoMemory → KeepsFile (disk.content t.reg) w.held.registry
+    pub file : KeepsOneOf (disk.content t.reg) w.partition_state.registry t.world.partition_state.registry
+    pub dry : why ≡ NoMemory → KeepsFile (disk.content t.reg) w.partition_state.registry
     pub cause : why ≡ RegistryFault → Rose (disk.control reg).faults (disk.control t.reg).faults
     pub only : (why ≡ RegistryFault) ⊎ (why ≡ NoMemory)
 
 module _ {D S M : Type 0} (disk : DiskGhosts D) (store : StoreGhosts S) (meta : MetaGhosts M) where
   -- a step changes the registry or a device, and not both, and the registry has as many replicas as before
   abbrev pub StepsChangeOne : Type 0
-  StepsChangeOne = (w : Whole D S M) (a : ℕ) (stepped : Stepped) (w' : Whole D S M) → Steps disk store meta w a stepped w'
-      → (w'.held.registry ≡ w.held.registry)
-      ⊎ (SameDevices w w' × (length w'.held.registry.replicas ≡ length w.held.registry.replicas))
+  StepsChangeOne = (w : Whole D S M) (a : ℕ) (stepped : Stepped) (w' : Whole D S M)
+      → Steps disk store meta w a stepped w'
+      → (w'.partition_state.registry ≡ w.partition_state.registry)
+      ⊎ (SameDevices w w' × (length w'.partition_state.registry.replicas ≡ length w.partition_state.registry.replicas))
 
   -- Steps that found no memory, or the last of which ended the partition. Then a power cut leaves what represents the
   -- state before that step or after it.
   abbrev pub HaltsSteps : Running D S M → Running D S M → ColdRefusal → Type 0
   HaltsSteps t t' why = ((why ≡ NoMemory) × (t'.ended ≡ false))
       ⊎ ((w : Whole D S M) × IsLater disk store meta t.world w × Ends disk t.reg w t' why
-      × (IsTrue (disk.content t'.reg).is_observable → (opening : State) → LeavesOneOf disk store meta opening w t'.world t'.reg))
+      × (IsTrue (disk.content t'.reg).is_observable → (opening : State)
+      → LeavesOneOf disk store meta opening w t'.world t'.reg))

@@ -20,7 +20,7 @@ with_devices w s m = record {
   partition = w.partition;
   config = w.config;
   lists = w.lists;
-  held = w.held;
+  partition_state = w.partition_state;
   tier = record { store = s; meta = m; broker_tiers = w.tier.broker_tiers };
   desk = w.desk;
   journal = w.journal;
@@ -32,7 +32,8 @@ module _ {D S M : Type 0} (disk : DiskGhosts D) (store : StoreGhosts S) (meta : 
   abbrev pub SweepKeepsCentral : Type 0
   SweepKeepsCentral = (opening : State) (w : Whole D S M) (s : S) (m : M) → IsCentralLeft disk store meta opening w
       → w.desk ≡ replicate (length w.lists) fresh_actor_state
-      → (store.content s).is_observable ≡ (store.content w.tier.store).is_observable → (meta.content m).is_observable ≡ (meta.content w.tier.meta).is_observable
+      → (store.content s).is_observable ≡ (store.content w.tier.store).is_observable → (meta.content m).is_observable
+      ≡ (meta.content w.tier.meta).is_observable
       → LeavesUnder (store.content w.tier.store) (meta.content w.tier.meta) (store.content s) (meta.content m)
       → ((l : List Note) → Left (meta.content m) l → length l + notes_left w.lists w.desk < 2 ^ 64)
       → IsCentralLeft disk store meta opening (with_devices w s m)

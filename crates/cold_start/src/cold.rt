@@ -87,7 +87,8 @@ impl<D: Disk, S: Store, M: MetaLog> Cold<D, S, M> {
     /// What a power cut now leaves represents what is left of the plain state that the journal has come to. It does
     /// nothing that is seen.
     pub fn leaves(&self)
-        ensures file { self.now.ended ≡ false → KeepsFile (D.content self.now.reg) self.now.world.held.registry }
+        ensures file { self.now.ended ≡ false
+            → KeepsFile (D.content self.now.reg) self.now.world.partition_state.registry }
         ensures unarmed { (D.control self.now.reg).armed ≡ false }
         ensures cold { self.now.ended ≡ false → IsTrue (D.content self.now.reg).is_observable → (opening : State)
             → LeavesCold D.Disk S.Store M.MetaLog opening self.now.world self.now.reg }
@@ -100,10 +101,12 @@ impl<D: Disk, S: Store, M: MetaLog> Cold<D, S, M> {
     /// answer; where that fails the partition has ended.
     pub fn step(&mut self, alloc: Global, actor: ActorId) -> Result<Stepped, ColdRefusal>
         requires { self.old.ended ≡ false }
-        ensures steps { IfOk result (λ stepped. Steps D.Disk S.Store M.MetaLog self.old.world actor.0 stepped self.new.world) }
+        ensures steps { IfOk result (λ stepped. Steps D.Disk S.Store M.MetaLog self.old.world actor.0 stepped
+            self.new.world) }
         ensures going { OnOk result (self.new.ended ≡ false) }
-        ensures file { OnOk result (KeepsFile (D.content self.new.reg) self.new.world.held.registry) }
-        ensures quiet { self.new.world.held.registry ≡ self.old.world.held.registry → self.new.reg ≡ self.old.reg }
+        ensures file { OnOk result (KeepsFile (D.content self.new.reg) self.new.world.partition_state.registry) }
+        ensures quiet { self.new.world.partition_state.registry ≡ self.old.world.partition_state.registry
+            → self.new.reg ≡ self.old.reg }
         ensures err { IfErr result (λ why. Ends D.Disk self.old.reg self.old.world self.new why) }
 
         // Whatever it answers, the world is a later one, and a power cut leaves what represents the state before or
@@ -140,8 +143,8 @@ impl<D: Disk, S: Store, M: MetaLog> Cold<D, S, M> {
 
     /// Gives the devices back, and the registry's disk beside them.
     pub fn close(self) -> (Devices<D, S, M>, D)
-        ensures disks { AreDisksOf self.world.held.nodes result.0.disks.items }
-        ensures again { DisksReopen D.content self.world.held.nodes result.0.disks.items }
+        ensures disks { AreDisksOf self.world.partition_state.nodes result.0.disks.items }
+        ensures again { DisksReopen D.content self.world.partition_state.nodes result.0.disks.items }
         ensures store { result.0.store ≡ self.world.tier.store }
         ensures meta { result.0.meta ≡ self.world.tier.meta }
         ensures reg { result.1 ≡ self.reg }
@@ -151,7 +154,8 @@ impl<D: Disk, S: Store, M: MetaLog> Cold<D, S, M> {
         // They represent what is left of the plain state that the journal has come to.
         ensures cold { self.ended ≡ false → IsTrue (D.content self.reg).is_observable → (opening : State)
             (c : IsCentralLeft D.Disk S.Store M.MetaLog opening self.world)
-            → StandsFor D.Disk S.Store M.MetaLog self.world.partition result.0.disks.items result.0.store result.0.meta result.1
+            → StandsFor D.Disk S.Store M.MetaLog self.world.partition result.0.disks.items result.0.store result.0.meta
+            result.1
             (cold_of (plain_in D.Disk S.Store M.MetaLog opening self.world c)) }
     {
         file_laws();

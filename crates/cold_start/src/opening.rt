@@ -62,7 +62,8 @@ fn world_refusal(why: WorldRefusal) -> ColdRefusal
 
 /// Removes a file.
 fn remove_one<D: Disk>(disk: &mut D, name: FileName) -> Result<(), Trouble>
-    ensures removed { OnOk result (IsTrue (D.content disk.old).is_observable → IsGone name (D.content disk.old).files (D.content disk.new).files) }
+    ensures removed { OnOk result (IsTrue (D.content disk.old).is_observable
+        → IsGone name (D.content disk.old).files (D.content disk.new).files) }
     ensures is_observable { (D.content disk.new).is_observable ≡ (D.content disk.old).is_observable }
     ensures control { Lasts (D.control disk.old) (D.control disk.new) }
     ensures fault { IsErrOf result Failed → Rose (D.control disk.old).faults (D.control disk.new).faults }
@@ -74,7 +75,8 @@ fn remove_one<D: Disk>(disk: &mut D, name: FileName) -> Result<(), Trouble>
 
 /// Removes a disk's files.
 fn clear<D: Disk>(disk: &mut D) -> Result<(), Trouble>
-    ensures cleared { OnOk result (IsTrue (D.content disk.old).is_observable → (n : Name) → (D.content disk.new).files n ≡ None) }
+    ensures cleared { OnOk result (IsTrue (D.content disk.old).is_observable → (n : Name)
+        → (D.content disk.new).files n ≡ None) }
     ensures is_observable { (D.content disk.new).is_observable ≡ (D.content disk.old).is_observable }
     ensures control { Lasts (D.control disk.old) (D.control disk.new) }
     ensures fault { IsErrOf result Failed → Rose (D.control disk.old).faults (D.control disk.new).faults }
@@ -147,7 +149,8 @@ impl<D: Disk, S: Store, M: MetaLog> Cold<D, S, M> {
 
         // For each plain state that the devices represent its journal is a run from there on, and so it is from the
         // beginning where they hold nothing.
-        ensures central { IfOk result (λ t. (p : State) → StandsFor D.Disk S.Store M.MetaLog partition devices.disks.items
+        ensures central { IfOk result (λ t. (p : State)
+            → StandsFor D.Disk S.Store M.MetaLog partition devices.disks.items
             devices.store devices.meta reg p → IsCentralLeft D.Disk S.Store M.MetaLog p t.world) }
         ensures blank { IfOk result (λ t. DisksTell D.content devices.disks.items
             → IsBlank D.Disk S.Store M.MetaLog devices.store devices.meta reg
@@ -161,12 +164,15 @@ impl<D: Disk, S: Store, M: MetaLog> Cold<D, S, M> {
         ensures back { IfErr result
             (λ e. DevicesComeBack D.Disk M.MetaLog devices.disks.items devices.store devices.meta reg
             e.0.disks.items e.0.store e.0.meta e.1 e.2) }
-        ensures stand { IfErr result (λ e. (p : State) → StandsFor D.Disk S.Store M.MetaLog partition devices.disks.items
-            devices.store devices.meta reg p → StandsFor D.Disk S.Store M.MetaLog partition e.0.disks.items e.0.store e.0.meta e.1 p) }
+        ensures stand { IfErr result (λ e. (p : State)
+            → StandsFor D.Disk S.Store M.MetaLog partition devices.disks.items
+            devices.store devices.meta reg p → StandsFor D.Disk S.Store M.MetaLog partition e.0.disks.items e.0.store
+            e.0.meta e.1 p) }
         ensures begun { IfErr result (λ e. DisksTell D.content devices.disks.items
             → IsBlank D.Disk S.Store M.MetaLog devices.store devices.meta reg
             → IsBlank D.Disk S.Store M.MetaLog e.0.store e.0.meta e.1
-            ⊎ StandsFor D.Disk S.Store M.MetaLog partition e.0.disks.items e.0.store e.0.meta e.1 (cold_of (fresh_plain config))) }
+            ⊎ StandsFor D.Disk S.Store M.MetaLog partition e.0.disks.items e.0.store e.0.meta e.1
+            (cold_of (fresh_plain config))) }
     {
         let mut reg = reg;
         match find_registry(&mut reg) {
@@ -209,7 +215,8 @@ impl<D: Disk, S: Store, M: MetaLog> Cold<D, S, M> {
         ensures begun { IfErr result (λ e. DisksTell D.content devices.disks.items
             → IsBlank D.Disk S.Store M.MetaLog devices.store devices.meta reg
             → IsBlank D.Disk S.Store M.MetaLog e.0.store e.0.meta e.1
-            ⊎ StandsFor D.Disk S.Store M.MetaLog partition e.0.disks.items e.0.store e.0.meta e.1 (cold_of (fresh_plain config))) }
+            ⊎ StandsFor D.Disk S.Store M.MetaLog partition e.0.disks.items e.0.store e.0.meta e.1
+            (cold_of (fresh_plain config))) }
     {
         file_laws();
         let Devices {
@@ -244,8 +251,8 @@ impl<D: Disk, S: Store, M: MetaLog> Cold<D, S, M> {
         reg: D,
     ) -> Result<Cold<D, S, M>, (Devices<D, S, M>, D, ColdRefusal)>
         requires registry { (D.control reg).armed ≡ false }
-        requires some { 1 ≤ length world.held.registry.replicas }
-        requires few { length world.held.registry.replicas ≤ 8 }
+        requires some { 1 ≤ length world.partition_state.registry.replicas }
+        requires few { length world.partition_state.registry.replicas ≤ 8 }
         ensures ok { IfOk result (λ t. (t.world ≡ world) × (t.ended ≡ false)) }
         ensures is_observable { IfOk result (λ t. (D.content t.reg).is_observable ≡ (D.content reg).is_observable) }
         ensures cold { IfOk result (λ t. IsTrue (D.content t.reg).is_observable → (opening : State)
@@ -280,13 +287,15 @@ impl<D: Disk, S: Store, M: MetaLog> Cold<D, S, M> {
         requires registry { (D.control reg).armed ≡ false }
         requires rules { IsView view }
         requires read { view_in (D.control reg).last_read ≡ Ok view }
-        requires there { IsTrue (D.content reg).is_observable → (D.content reg).files RegistryName ≡ Some (D.control reg).last_read }
+        requires there { IsTrue (D.content reg).is_observable → (D.content reg).files RegistryName
+            ≡ Some (D.control reg).last_read }
         ensures opened { IfOk result (BeginsFromRegistry D.Disk S.Store M.MetaLog partition config lists
             devices.disks.items devices.store devices.meta reg) }
         ensures going { IfOk result (λ t. t.ended ≡ false) }
         ensures is_observable { IfOk result (λ t. (D.content t.reg).is_observable ≡ (D.content reg).is_observable) }
         ensures new { IfOk result (λ t. IsNewWorld lists t.world) }
-        ensures central { IfOk result (λ t. (p : State) → StandsFor D.Disk S.Store M.MetaLog partition devices.disks.items
+        ensures central { IfOk result (λ t. (p : State)
+            → StandsFor D.Disk S.Store M.MetaLog partition devices.disks.items
             devices.store devices.meta reg p → IsCentralLeft D.Disk S.Store M.MetaLog p t.world) }
         ensures cold { IfOk result (λ t. IsTrue (D.content t.reg).is_observable → (opening : State)
             → LeavesCold D.Disk S.Store M.MetaLog opening t.world t.reg) }
@@ -295,8 +304,10 @@ impl<D: Disk, S: Store, M: MetaLog> Cold<D, S, M> {
         ensures back { IfErr result
             (λ e. DevicesComeBack D.Disk M.MetaLog devices.disks.items devices.store devices.meta reg
             e.0.disks.items e.0.store e.0.meta e.1 e.2) }
-        ensures stand { IfErr result (λ e. (p : State) → StandsFor D.Disk S.Store M.MetaLog partition devices.disks.items
-            devices.store devices.meta reg p → StandsFor D.Disk S.Store M.MetaLog partition e.0.disks.items e.0.store e.0.meta e.1 p) }
+        ensures stand { IfErr result (λ e. (p : State)
+            → StandsFor D.Disk S.Store M.MetaLog partition devices.disks.items
+            devices.store devices.meta reg p → StandsFor D.Disk S.Store M.MetaLog partition e.0.disks.items e.0.store
+            e.0.meta e.1 p) }
     {
         if view.brokers != config.brokers {
             let why = ColdRefusal::Brokers {

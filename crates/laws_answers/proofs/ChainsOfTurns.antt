@@ -85,7 +85,7 @@ some_second Join = omega arith
 some_second (Offset (At ts)) = omega arith
 some_second other = omega arith
 
-pub some_left : (command : Command) (work : InProgress) → 1 ≤ turns_left command work
+pub some_left : (command : Command) (in_progress : InProgress) → 1 ≤ turns_left command in_progress
 some_left command Idle = some_first command
 some_left command (Noted g) = some_second command
 some_left command (Copies g copy next) = some_copying next
@@ -144,13 +144,13 @@ module _ {D S M : Type 0} (disk : DiskGhosts D) (store : StoreGhosts S) (meta : 
 
   -- by what falls from each of its turns to the next
   module _ (I : Whole D S M → Type 0) (P : Whole D S M → ℕ → Whole D S M → Type 0) (W : InProgress → Type 0) (Q : Answer → Type 0) (kind : Command) (a place number : ℕ) (l : ActorList) (left : InProgress → ℕ)
-      (some : (work : InProgress) → 1 ≤ left work)
+      (some : (in_progress : InProgress) → 1 ≤ left in_progress)
       (falls : (v : Whole D S M) (b : ℕ) (outcome : Outcome) (u : Whole D S M) (t : IsTurn disk store meta v b outcome u) → IsUnanswered outcome → P v b u → t.place ≡ place → t.actor_state.number ≡ number
-      → t.order.command ≡ kind → left (actor_state_after t.actor_state outcome).work < left t.actor_state.work)
+      → t.order.command ≡ kind → left (actor_state_after t.actor_state outcome).in_progress < left t.actor_state.in_progress)
       (keeps : (v : Whole D S M) (b : ℕ) (outcome : Outcome) (u : Whole D S M) → IsTurn disk store meta v b outcome u → I v → I u)
       (ends : (v : Whole D S M) (b : ℕ) (outcome : Outcome) (answer : Answer) (u : Whole D S M) (t : IsTurn disk store meta v b outcome u) → outcome ≡ Answers answer → I v → P v b u → t.place ≡ place
-      → t.actor_state.number ≡ number → t.order.command ≡ kind → W t.actor_state.work → Q answer)
-      (further : (v : Whole D S M) (b : ℕ) (outcome : Outcome) (u : Whole D S M) (t : IsTurn disk store meta v b outcome u) → IsUnanswered outcome → W t.actor_state.work → W (actor_state_after t.actor_state outcome).work) where
+      → t.actor_state.number ≡ number → t.order.command ≡ kind → W t.actor_state.in_progress → Q answer)
+      (further : (v : Whole D S M) (b : ℕ) (outcome : Outcome) (u : Whole D S M) (t : IsTurn disk store meta v b outcome u) → IsUnanswered outcome → W t.actor_state.in_progress → W (actor_state_after t.actor_state outcome).in_progress) where
     abbrev pub Result : Whole D S M → Type 0
     Result u = (answer : Answer) × Q answer × IsCommandAnswered u l.actor number answer
 
@@ -162,7 +162,7 @@ module _ {D S M : Type 0} (disk : DiskGhosts D) (store : StoreGhosts S) (meta : 
       pub next : IsNextOrder v a place l actor_state order
       pub number_is : actor_state.number ≡ number
       pub kind_is : order.command ≡ kind
-      pub works : W actor_state.work
+      pub works : W actor_state.in_progress
 
     stays : (actors : List ℕ) (v u : Whole D S M) → RunsTurns disk store meta P v actors u → Result v → Result u
     stays [] v u r h = subst Result (sym r) h
@@ -191,13 +191,13 @@ module _ {D S M : Type 0} (disk : DiskGhosts D) (store : StoreGhosts S) (meta : 
       is_kind : t.order.command ≡ kind
       is_kind = ap (λ (o : Order). o.command) order_is ∙ s.kind_is
 
-      keeps_work : W t.actor_state.work
-      keeps_work = subst (λ (q : ActorState). W q.work) (sym actor_state_is) s.works
+      keeps_in_progress : W t.actor_state.in_progress
+      keeps_in_progress = subst (λ (q : ActorState). W q.in_progress) (sym actor_state_is) s.works
 
       answered : (k : Answer) → outcome ≡ Answers k → I v → P v b u → Result u
       answered k is i p = (
         k,
-        ends v b outcome k u t is i p same told_number is_kind keeps_work,
+        ends v b outcome k u t is i p same told_number is_kind keeps_in_progress,
         record {
           before = v.journal.items;
           after = [];
@@ -207,7 +207,7 @@ module _ {D S M : Type 0} (disk : DiskGhosts D) (store : StoreGhosts S) (meta : 
         },
       )
 
-      goes_on : IsUnanswered outcome → P v b u → (r : Waits u) × (left r.actor_state.work < left s.actor_state.work)
+      goes_on : IsUnanswered outcome → P v b u → (r : Waits u) × (left r.actor_state.in_progress < left s.actor_state.in_progress)
       goes_on un p =
           let after = actor_state_after t.actor_state outcome in
           let there : slice_get u.desk place ≡ Some after =
@@ -223,9 +223,9 @@ module _ {D S M : Type 0} (disk : DiskGhosts D) (store : StoreGhosts S) (meta : 
               };
               number_is = still ∙ s.number_is;
               kind_is = s.kind_is;
-              works = further v b outcome u t un keeps_work;
+              works = further v b outcome u t un keeps_in_progress;
             },
-            subst (λ (q : ActorState). left after.work < left q.work) actor_state_is (falls v b outcome u t un p same told_number is_kind),
+            subst (λ (q : ActorState). left after.in_progress < left q.in_progress) actor_state_is (falls v b outcome u t un p same told_number is_kind),
           )
 
     -- a turn of another command
@@ -254,13 +254,13 @@ module _ {D S M : Type 0} (disk : DiskGhosts D) (store : StoreGhosts S) (meta : 
       not_own : b ≢ a
       not_own e = other (one_list v.lists t.place place t.list l s.rising t.at.list s.next.at.list (t.at.actor ∙ (e ∙ sym s.next.at.actor)))
 
-    pub run_by : (actors : List ℕ) (v u : Whole D S M) (s : Waits v) → I v → RunsTurns disk store meta P v actors u → left s.actor_state.work ≤ times a actors → Result u
-    run_by [] v u s i r le = absurd (let one = some s.actor_state.work in omega (arith, one, le))
+    pub run_by : (actors : List ℕ) (v u : Whole D S M) (s : Waits v) → I v → RunsTurns disk store meta P v actors u → left s.actor_state.in_progress ≤ times a actors → Result u
+    run_by [] v u s i r le = absurd (let one = some s.actor_state.in_progress in omega (arith, one, le))
     run_by (b ∷ actors) v u s i (x, inl (outcome, t), p, rest) le = elim (nat_cases t.place place) [
       | inr other ↦
           let k = beside v b outcome x t s other in
           let count = times_other a b actors (not_own v b outcome x t s other) in
-          let same = ap (λ (q : ActorState). left q.work) k.1 in
+          let same = ap (λ (q : ActorState). left q.in_progress) k.1 in
           run_by actors x u k.0 (keeps v b outcome x t i) rest (omega (arith, le, count, same))
       | inl same ↦ elim (answered_or outcome) [
         | inl done ↦ stays actors x u rest (answered v b outcome x t s same done.0 done.1 i p)
@@ -281,29 +281,29 @@ module _ {D S M : Type 0} (disk : DiskGhosts D) (store : StoreGhosts S) (meta : 
 
   -- by the turns that are left
   pub falls_left : (kind : Command) (v : Whole D S M) (b : ℕ) (outcome : Outcome) (u : Whole D S M) (t : IsTurn disk store meta v b outcome u) → IsUnanswered outcome → t.order.command ≡ kind
-      → turns_left kind (actor_state_after t.actor_state outcome).work < turns_left kind t.actor_state.work
-  falls_left kind v b outcome u t un is = subst (λ (c : Command). turns_left c (actor_state_after t.actor_state outcome).work < turns_left c t.actor_state.work) is (go_on disk store meta v b outcome u t un)
+      → turns_left kind (actor_state_after t.actor_state outcome).in_progress < turns_left kind t.actor_state.in_progress
+  falls_left kind v b outcome u t un is = subst (λ (c : Command). turns_left c (actor_state_after t.actor_state outcome).in_progress < turns_left c t.actor_state.in_progress) is (go_on disk store meta v b outcome u t un)
 
   module _ (I : Whole D S M → Type 0) (P : Whole D S M → ℕ → Whole D S M → Type 0) (W : InProgress → Type 0) (Q : Answer → Type 0) (kind : Command) (a place number : ℕ) (l : ActorList)
       (keeps : (v : Whole D S M) (b : ℕ) (outcome : Outcome) (u : Whole D S M) → IsTurn disk store meta v b outcome u → I v → I u)
       (ends : (v : Whole D S M) (b : ℕ) (outcome : Outcome) (answer : Answer) (u : Whole D S M) (t : IsTurn disk store meta v b outcome u) → outcome ≡ Answers answer → I v → P v b u → t.place ≡ place
-      → t.actor_state.number ≡ number → t.order.command ≡ kind → W t.actor_state.work → Q answer)
-      (further : (v : Whole D S M) (b : ℕ) (outcome : Outcome) (u : Whole D S M) (t : IsTurn disk store meta v b outcome u) → IsUnanswered outcome → W t.actor_state.work → W (actor_state_after t.actor_state outcome).work) where
+      → t.actor_state.number ≡ number → t.order.command ≡ kind → W t.actor_state.in_progress → Q answer)
+      (further : (v : Whole D S M) (b : ℕ) (outcome : Outcome) (u : Whole D S M) (t : IsTurn disk store meta v b outcome u) → IsUnanswered outcome → W t.actor_state.in_progress → W (actor_state_after t.actor_state outcome).in_progress) where
     abbrev pub Left : InProgress → ℕ
-    Left work = turns_left kind work
+    Left in_progress = turns_left kind in_progress
 
     abbrev pub Falls : (v : Whole D S M) (b : ℕ) (outcome : Outcome) (u : Whole D S M) (t : IsTurn disk store meta v b outcome u) → IsUnanswered outcome → P v b u → t.place ≡ place → t.actor_state.number ≡ number
-        → t.order.command ≡ kind → Left (actor_state_after t.actor_state outcome).work < Left t.actor_state.work
+        → t.order.command ≡ kind → Left (actor_state_after t.actor_state outcome).in_progress < Left t.actor_state.in_progress
     Falls v b outcome u t un p same number_is is = falls_left kind v b outcome u t un is
 
     pub run : (actors : List ℕ) (v u : Whole D S M) (s : Waits I P W Q kind a place number l Left (some_left kind) Falls keeps ends further v) → I v → RunsTurns disk store meta P v actors u
-        → turns_left kind s.actor_state.work ≤ times a actors → (answer : Answer) × Q answer × IsCommandAnswered u l.actor number answer
+        → turns_left kind s.actor_state.in_progress ≤ times a actors → (answer : Answer) × Q answer × IsCommandAnswered u l.actor number answer
     run actors v u s i r le = run_by I P W Q kind a place number l Left (some_left kind) Falls keeps ends further actors v u s i r le
 
   pub are_answered : (w : Whole D S M) (a place : ℕ) (l : ActorList) (actor_state : ActorState) (order : Order) (actors : List ℕ) (w' : Whole D S M) → AreRising w.lists → IsNextOrder w a place l actor_state order
-      → RunsTurns disk store meta (λ v b u. Unit {0}) w actors w' → turns_left order.command actor_state.work ≤ times a actors → (answer : Answer) × IsCommandAnswered w' l.actor actor_state.number answer
+      → RunsTurns disk store meta (λ v b u. Unit {0}) w actors w' → turns_left order.command actor_state.in_progress ≤ times a actors → (answer : Answer) × IsCommandAnswered w' l.actor actor_state.number answer
   are_answered w a place l actor_state order actors w' rising next r le =
-      let k = run (λ v. Unit {0}) (λ v b u. Unit {0}) (λ work. Unit {0}) (λ answer. Unit {0}) order.command a place actor_state.number l (λ v b outcome u t i. tt)
+      let k = run (λ v. Unit {0}) (λ v b u. Unit {0}) (λ in_progress. Unit {0}) (λ answer. Unit {0}) order.command a place actor_state.number l (λ v b outcome u t i. tt)
       (λ v b outcome answer u t is i p same number kind works. tt) (λ v b outcome u t un works. tt) actors w w'
       (record { rising = rising; actor_state = actor_state; order = order; next = next; number_is = refl; kind_is = refl; works = tt }) tt r le in
       (k.0, k.2)

@@ -33,7 +33,7 @@ use Rattle.partition_commands.specs.declared.partition_state.PartitionState.{Par
 use Rattle.partition_commands.specs.Partition.{AtNode}
 use Rattle.partition_commands.proofs.Shown.{some_at}
 use Rattle.tier_safe.specs.Copies.{is_deleted}
-use Rattle.tier_safe.specs.Scene.{TierTask as InProgressIsSeen, Copies as CopiesSeen}
+use Rattle.tier_safe.specs.Scene.{TierTask, Copies as CopiesSeen}
 use Rattle.tier_safe.specs.Turns.{ShowsScene}
 use Rattle.tier_safe.proofs.Turning.{refreshes}
 use Rattle.partition_world.specs.declared.actor_state.Outcome.TheVariants.{Answers, Begins}
@@ -42,7 +42,7 @@ use Rattle.partition_world.specs.declared.actor_state.InProgress.TheVariants.{Id
 use Rattle.partition_world.specs.declared.tier.BrokerTierState.{BrokerTierState}
 use Rattle.partition_world.specs.ActorStates.{copy_outcome}
 use Rattle.partition_world.specs.Tier.{AtBrokerTier}
-use Rattle.partition_world.specs.Central.{IsCentral, work_of}
+use Rattle.partition_world.specs.Central.{IsCentral, tier_task_of}
 use Rattle.partition_world.specs.Turn.{IsTurn}
 use Rattle.partition_world.specs.TurnsOfCopy.{CopyFirstRow, ReadSegmentRow, ReadsNext, ChooseRow, CopyOnRow, GoesOnCopy, copied_to, tiers_of, origin_of}
 use Rattle.partition_world.specs.Turns.{Row}
@@ -65,7 +65,7 @@ module _ {D S M : Type 0} (disk : DiskGhosts D) (store : StoreGhosts S) (meta : 
     abbrev b : ℕ
     b = t.order.broker.0
 
-    first : (k : Answer) → CopyFirstRow meta w.held w.tier b z.x z.broker_tier (Answers k) w'.tier → CopyFirstCause disk store meta w z.x k w'
+    first : (k : Answer) → CopyFirstRow meta w.partition_state w.tier b z.x z.broker_tier (Answers k) w'.tier → CopyFirstCause disk store meta w z.x k w'
     first Down row = row.0
     first NotLeader row = row.1
     first CopyOff row = (row.0, row.1, row.2)
@@ -73,19 +73,19 @@ module _ {D S M : Type 0} (disk : DiskGhosts D) (store : StoreGhosts S) (meta : 
     first other row = elim row [ ]
 
     -- the segment that comes next is read
-    reads : (g : StartSnapshot) (n : ReadsNext disk w.partition w.held w.tier b z.x z.broker_tier (Answers answer) w'.held w'.tier) (k : Answer)
-        → ReadSegmentRow disk w.partition b z.x z.broker_tier (copied_to z.x z.broker_tier w.held.registry.start) (Answers k) n.node n.broker_tier_after → ChoiceCause disk store meta w b z.x z.broker_tier g k w'
+    reads : (g : StartSnapshot) (n : ReadsNext disk w.partition w.partition_state w.tier b z.x z.broker_tier (Answers answer) w'.partition_state w'.tier) (k : Answer)
+        → ReadSegmentRow disk w.partition b z.x z.broker_tier (copied_to z.x z.broker_tier w.partition_state.registry.start) (Answers k) n.node n.broker_tier_after → ChoiceCause disk store meta w b z.x z.broker_tier g k w'
     reads g n DiskFault row =
         let lasts : Lasting disk.control z.x.log n.node.log = rw row.0.reads.after row.0.reads.lasts in
         let one : OneFault disk.control z.x.log n.node.log = rw row.0.reads.after row.0.cause in
         let failed : Faulted disk.control z.x.log n.node.log = one_faulted disk.control z.x.log n.node.log lasts one in
-        let there : slice_get w'.held.nodes b ≡ Some n.node = ap (λ (h : PartitionState D). slice_get h.nodes b) n.held ∙ get_put w.held.nodes b z.x n.node z.at in
-        some_at (λ (x : Node D). AtNode w'.held b (λ y. Faulted disk.control x.log y.log)) (slice_get w.held.nodes b) z.x z.at
-        (some_at (λ (y : Node D). Faulted disk.control z.x.log y.log) (slice_get w'.held.nodes b) n.node there failed)
+        let there : slice_get w'.partition_state.nodes b ≡ Some n.node = ap (λ (h : PartitionState D). slice_get h.nodes b) n.partition_state ∙ get_put w.partition_state.nodes b z.x n.node z.at in
+        some_at (λ (x : Node D). AtNode w'.partition_state b (λ y. Faulted disk.control x.log y.log)) (slice_get w.partition_state.nodes b) z.x z.at
+        (some_at (λ (y : Node D). Faulted disk.control z.x.log y.log) (slice_get w'.partition_state.nodes b) n.node there failed)
     reads g n (Damaged (File name) at) row = absurd (row.0.unseen z.s z.sees.shows)
     reads g n other row = elim row [ ]
 
-    second : (g : StartSnapshot) → ChooseRow disk w.partition w.held w.tier b z.x z.broker_tier g (Answers answer) w'.held w'.tier → ChoiceCause disk store meta w b z.x z.broker_tier g answer w'
+    second : (g : StartSnapshot) → ChooseRow disk w.partition w.partition_state w.tier b z.x z.broker_tier g (Answers answer) w'.partition_state w'.tier → ChoiceCause disk store meta w b z.x z.broker_tier g answer w'
     second g (inl lost) = let is : LostLead ≡ answer = cc (lost.1) in subst (λ (k : Answer). ChoiceCause disk store meta w b z.x z.broker_tier g k w') is lost.0
     second g (inr (keeps, inl level)) = let is : Level ≡ answer = cc (level.1) in subst (λ (k : Answer). ChoiceCause disk store meta w b z.x z.broker_tier g k w') is level.0
     second g (inr (keeps, inr n)) = reads g n answer n.row
@@ -108,10 +108,10 @@ module _ {D S M : Type 0} (disk : DiskGhosts D) (store : StoreGhosts S) (meta : 
     put g copy n (Some key) other row = let e = row.0 in absurd (cc (e))
 
     -- what the actor's state is seen to keep
-    module _ (g : StartSnapshot) (copy : Copied) (next : CopyStep) (works : t.actor_state.work ≡ Copies g copy next) where
+    module _ (g : StartSnapshot) (copy : Copied) (next : CopyStep) (works : t.actor_state.in_progress ≡ Copies g copy next) where
       at : ShowsScene c.scene t.place b (tier_view disk store meta opening w c t.place t.list t.actor_state t.order z) (CopiesSeen copy next) (store.content w.tier.store) (meta.content w.tier.meta) z.broker_tier.view
-      at = subst (λ (k : InProgressIsSeen). ShowsScene c.scene t.place b (tier_view disk store meta opening w c t.place t.list t.actor_state t.order z) k (store.content w.tier.store) (meta.content w.tier.meta) z.broker_tier.view)
-          (ap (work_of (Some t.order)) works) (shows_at disk store meta opening w c t.place t.list t.actor_state t.order z)
+      at = subst (λ (k : TierTask). ShowsScene c.scene t.place b (tier_view disk store meta opening w c t.place t.list t.actor_state t.order z) k (store.content w.tier.store) (meta.content w.tier.meta) z.broker_tier.view)
+          (ap (tier_task_of (Some t.order)) works) (shows_at disk store meta opening w c t.place t.list t.actor_state t.order z)
 
     -- the copy is recorded as whole
     looked : (g : StartSnapshot) (copy : Copied) (notes : ℕ) (state : CopyState) (k : Answer) → state_of copy.id (fold (meta.content w'.tier.meta).notes) ≡ Some state → state ≢ CopyStarted
@@ -123,7 +123,7 @@ module _ {D S M : Type 0} (disk : DiskGhosts D) (store : StoreGhosts S) (meta : 
     looked g copy notes DeleteStarted k has not is = absurd (cc (is))
     looked g copy notes DeleteFinished k has not is = absurd (cc (is))
 
-    check : (g : StartSnapshot) (copy : Copied) → t.actor_state.work ≡ Copies g copy Check → (view : View) (k : Answer) → CheckRow meta.content meta.control copy (Ok (Ends k)) z.broker_tier.view view w.tier.meta w'.tier.meta
+    check : (g : StartSnapshot) (copy : Copied) → t.actor_state.in_progress ≡ Copies g copy Check → (view : View) (k : Answer) → CheckRow meta.content meta.control copy (Ok (Ends k)) z.broker_tier.view view w.tier.meta w'.tier.meta
         → Later g copy k
     check g copy works view MetaFault row = row.control.ran.cause refl
     check g copy works view other row =
@@ -137,23 +137,23 @@ module _ {D S M : Type 0} (disk : DiskGhosts D) (store : StoreGhosts S) (meta : 
         looked g copy view.notes has.entry.state _ (ap (λ (ns : List Note). state_of copy.id (fold ns)) (sym same) ∙ now) has.state (row.0 ∙ ap (checked copy view.notes) seen)
 
     -- the copy was overtaken
-    below : (g : StartSnapshot) (copy : Copied) (n : ℕ) → t.actor_state.work ≡ Copies g copy (Delete n) → copy.segment.last < w.held.registry.start
+    below : (g : StartSnapshot) (copy : Copied) (n : ℕ) → t.actor_state.in_progress ≡ Copies g copy (Delete n) → copy.segment.last < w.partition_state.registry.start
     below g copy n works =
         let has = (c.tier.copies.each t.place copy (Delete n) (at g copy (Delete n) works).actor_state).at in
         let low = known.below t.list.actor.0 t.place t.list t.actor_state t.order g copy (Delete n) (record { at = record { list = t.at.list; actor = refl; actor_state_is = t.at.actor_state_is }; next = t.next }) works has.entry (ap (λ (ns : List Note). entry_of copy.id (fold ns)) (sym c.shows_tier.notes) ∙ has.there) has.state in
-        subst (λ (m : ℕ). m < w.held.registry.start) has.is.end low
+        subst (λ (m : ℕ). m < w.partition_state.registry.start) has.is.end low
 
-    took : (g : StartSnapshot) (copy : Copied) (notes : ℕ) (state : Option CopyState) (k : Answer) → IsSomeAnd state (λ s. is_deleted s ≡ true) → copy.segment.last < w.held.registry.start
+    took : (g : StartSnapshot) (copy : Copied) (notes : ℕ) (state : Option CopyState) (k : Answer) → IsSomeAnd state (λ s. is_deleted s ≡ true) → copy.segment.last < w.partition_state.registry.start
         → k ≡ overtaken notes state → Later g copy k
     took g copy notes None k gone low is = absurd gone
     took g copy notes (Some state) k gone low is = subst (Later g copy) (sym is) (gone, low)
 
-    taken : (g : StartSnapshot) (copy : Copied) (view : View) (n : ℕ) (key : Option ObjectKey) (k : Answer) → ShowsDeleted view.entries copy.id → copy.segment.last < w.held.registry.start
+    taken : (g : StartSnapshot) (copy : Copied) (view : View) (n : ℕ) (key : Option ObjectKey) (k : Answer) → ShowsDeleted view.entries copy.id → copy.segment.last < w.partition_state.registry.start
         → Ends k ≡ delete_at copy view n key → Later g copy k
     taken g copy view n None k gone low is = took g copy view.notes (state_of copy.id view.entries) k gone low (ends_same k (overtaken view.notes (state_of copy.id view.entries)) is)
     taken g copy view n (Some key) k gone low is = absurd (cc (is))
 
-    delete : (g : StartSnapshot) (copy : Copied) (n : ℕ) → t.actor_state.work ≡ Copies g copy (Delete n) → (key : Option ObjectKey) (k : Answer)
+    delete : (g : StartSnapshot) (copy : Copied) (n : ℕ) → t.actor_state.in_progress ≡ Copies g copy (Delete n) → (key : Option ObjectKey) (k : Answer)
         → DeleteRow store.content store.control copy z.broker_tier.view n key (Ends k) w.tier.store w'.tier.store → Later g copy k
     delete g copy n works None k row =
         taken g copy z.broker_tier.view n None k (known.seen t.list.actor.0 t.place t.list t.actor_state t.order g copy n z.broker_tier (record { at = record { list = t.at.list; actor = refl; actor_state_is = t.at.actor_state_is }; next = t.next }) works z.broker_tier_at)
@@ -164,51 +164,51 @@ module _ {D S M : Type 0} (disk : DiskGhosts D) (store : StoreGhosts S) (meta : 
         (known.seen t.list.actor.0 t.place t.list t.actor_state t.order g copy n z.broker_tier (record { at = record { list = t.at.list; actor = refl; actor_state_is = t.at.actor_state_is }; next = t.next }) works z.broker_tier_at)
         (below g copy n works) row.0
 
-    ended : (g : StartSnapshot) (copy : Copied) (next : CopyStep) → t.actor_state.work ≡ Copies g copy next → (k : Answer) (view : View)
-        → CopyTurnRow store.content store.control meta.content meta.control copy (origin_of w.held b) next (Ok (Ends k)) (tiers_of z.broker_tier.view w.tier) (tiers_of view w'.tier) → Later g copy k
-    ended g copy Start works k view row = start g copy (origin_of w.held b) k row.1
+    ended : (g : StartSnapshot) (copy : Copied) (next : CopyStep) → t.actor_state.in_progress ≡ Copies g copy next → (k : Answer) (view : View)
+        → CopyTurnRow store.content store.control meta.content meta.control copy (origin_of w.partition_state b) next (Ok (Ends k)) (tiers_of z.broker_tier.view w.tier) (tiers_of view w'.tier) → Later g copy k
+    ended g copy Start works k view row = start g copy (origin_of w.partition_state b) k row.1
     ended g copy (Put n) works k view row = put g copy n (slice_get (keys copy) n) k row.1
-    ended g copy Finish works k view row = finish g copy (origin_of w.held b) k row.1
+    ended g copy Finish works k view row = finish g copy (origin_of w.partition_state b) k row.1
     ended g copy Check works k view row = check g copy works view k row.1
     ended g copy (Delete n) works k view row = delete g copy n works (slice_get (keys copy) n) k row.1
 
-    later : (g : StartSnapshot) (copy : Copied) (next : CopyStep) → t.actor_state.work ≡ Copies g copy next → CopyOnRow store meta w.held w.tier b z.x z.broker_tier g copy next (Answers answer) w'.tier → Later g copy answer
+    later : (g : StartSnapshot) (copy : Copied) (next : CopyStep) → t.actor_state.in_progress ≡ Copies g copy next → CopyOnRow store meta w.partition_state w.tier b z.x z.broker_tier g copy next (Answers answer) w'.tier → Later g copy answer
     later g copy next works (inl lost) = let is : LostLead ≡ answer = cc (lost.1) in subst (Later g copy) is lost.0
     later g copy next works (inr (keeps, (turn, is, goes))) = by turn is goes
       where
-        by : (turn : Turn CopyStep) → Answers answer ≡ copy_outcome turn → GoesOnCopy store meta w.held w.tier b z.broker_tier copy next turn w'.tier → Later g copy answer
+        by : (turn : Turn CopyStep) → Answers answer ≡ copy_outcome turn → GoesOnCopy store meta w.partition_state w.tier b z.broker_tier copy next turn w'.tier → Later g copy answer
         by (GoesOn further) is goes = absurd (cc (is))
         by (Ends k) is goes = let same : k ≡ answer = cc (is) in subst (Later g copy) same (ended g copy next works k goes.view goes.row)
 
-    by_work : (work : InProgress) → t.actor_state.work ≡ work → Row disk store meta w.partition w.config w.held w.tier b z.x z.broker_tier work Copy (Answers answer) w'.held w'.tier
-        → CopyHasCause disk store meta w b z.x z.broker_tier work answer w'
-    by_work Idle is row = first answer row.0
-    by_work (Noted g) is row = second g row
-    by_work (Copies g copy next) is row = later g copy next is row.0
-    by_work (Seeks g next) is row = elim row [ ]
-    by_work (Dates g cursor next) is row = elim row [ ]
-    by_work (Expires g expired_segment next) is row = elim row [ ]
-    by_work (Rebuilds g next) is row = elim row [ ]
+    by_in_progress : (in_progress : InProgress) → t.actor_state.in_progress ≡ in_progress → Row disk store meta w.partition w.config w.partition_state w.tier b z.x z.broker_tier in_progress Copy (Answers answer) w'.partition_state w'.tier
+        → CopyHasCause disk store meta w b z.x z.broker_tier in_progress answer w'
+    by_in_progress Idle is row = first answer row.0
+    by_in_progress (Noted g) is row = second g row
+    by_in_progress (Copies g copy next) is row = later g copy next is row.0
+    by_in_progress (Seeks g next) is row = elim row [ ]
+    by_in_progress (Dates g cursor next) is row = elim row [ ]
+    by_in_progress (Expires g expired_segment next) is row = elim row [ ]
+    by_in_progress (Rebuilds g next) is row = elim row [ ]
 
   pub have_causes : (opening : State) (w : Whole D S M) (a : ℕ) (answer : Answer) (w' : Whole D S M) → IsCentral disk store meta opening w → DeletionsKnown meta w
       → (t : IsTurn disk store meta w a (Answers answer) w') → t.order.command ≡ Copy
-      → AtNode w.held t.order.broker.0 (λ x. AtBrokerTier w.tier t.order.broker.0 (λ broker_tier. CopyHasCause disk store meta w t.order.broker.0 x broker_tier t.actor_state.work answer w'))
+      → AtNode w.partition_state t.order.broker.0 (λ x. AtBrokerTier w.tier t.order.broker.0 (λ broker_tier. CopyHasCause disk store meta w t.order.broker.0 x broker_tier t.actor_state.in_progress answer w'))
   have_causes opening w a answer w' c known t copies =
       let b = t.order.broker.0 in
-      let r = row_of disk store meta w.partition w.config w.held w.tier b t.actor_state.work t.order.command (Answers answer) w'.held w'.tier t.row in
+      let r = row_of disk store meta w.partition w.config w.partition_state w.tier b t.actor_state.in_progress t.order.command (Answers answer) w'.partition_state w'.tier t.row in
       let z = place_of disk store meta opening w c t.place t.list t.actor_state t.order t.at.list t.at.actor_state_is t.next r.x r.at r.broker_tier r.broker_tier_at in
-      let row = subst (λ (k : Command). Row disk store meta w.partition w.config w.held w.tier b r.x r.broker_tier t.actor_state.work k (Answers answer) w'.held w'.tier) copies r.row in
-      some_at (λ (x : Node D). AtBrokerTier w.tier b (λ broker_tier. CopyHasCause disk store meta w b x broker_tier t.actor_state.work answer w')) (slice_get w.held.nodes b) r.x r.at
-      (some_at (λ (broker_tier : BrokerTierState). CopyHasCause disk store meta w b r.x broker_tier t.actor_state.work answer w') (slice_get w.tier.broker_tiers b) r.broker_tier r.broker_tier_at
-      (by_work opening w a answer w' t c known z t.actor_state.work refl row))
+      let row = subst (λ (k : Command). Row disk store meta w.partition w.config w.partition_state w.tier b r.x r.broker_tier t.actor_state.in_progress k (Answers answer) w'.partition_state w'.tier) copies r.row in
+      some_at (λ (x : Node D). AtBrokerTier w.tier b (λ broker_tier. CopyHasCause disk store meta w b x broker_tier t.actor_state.in_progress answer w')) (slice_get w.partition_state.nodes b) r.x r.at
+      (some_at (λ (broker_tier : BrokerTierState). CopyHasCause disk store meta w b r.x broker_tier t.actor_state.in_progress answer w') (slice_get w.tier.broker_tiers b) r.broker_tier r.broker_tier_at
+      (by_in_progress opening w a answer w' t c known z t.actor_state.in_progress refl row))
 
   -- a copy begins where segments are copied
-  pub begin_on : (w : Whole D S M) (a : ℕ) (g : StartSnapshot) (w' : Whole D S M) (t : IsTurn disk store meta w a (Begins g) w') → t.order.command ≡ Copy → w.held.copying ≡ true
+  pub begin_on : (w : Whole D S M) (a : ℕ) (g : StartSnapshot) (w' : Whole D S M) (t : IsTurn disk store meta w a (Begins g) w') → t.order.command ≡ Copy → w.partition_state.copying ≡ true
   begin_on w a g w' t copies =
       let b = t.order.broker.0 in
-      let idle = begins_idle disk store meta w.partition w.config w.held w.tier b t.actor_state.work t.order.command g w'.held w'.tier t.row in
-      let r = row_of disk store meta w.partition w.config w.held w.tier b t.actor_state.work t.order.command (Begins g) w'.held w'.tier t.row in
-      let row = subst (λ (k : Command). Row disk store meta w.partition w.config w.held w.tier b r.x r.broker_tier t.actor_state.work k (Begins g) w'.held w'.tier) copies r.row in
-      let first : Row disk store meta w.partition w.config w.held w.tier b r.x r.broker_tier Idle Copy (Begins g) w'.held w'.tier =
-      subst (λ (work : InProgress). Row disk store meta w.partition w.config w.held w.tier b r.x r.broker_tier work Copy (Begins g) w'.held w'.tier) idle row in
+      let idle = begins_idle disk store meta w.partition w.config w.partition_state w.tier b t.actor_state.in_progress t.order.command g w'.partition_state w'.tier t.row in
+      let r = row_of disk store meta w.partition w.config w.partition_state w.tier b t.actor_state.in_progress t.order.command (Begins g) w'.partition_state w'.tier t.row in
+      let row = subst (λ (k : Command). Row disk store meta w.partition w.config w.partition_state w.tier b r.x r.broker_tier t.actor_state.in_progress k (Begins g) w'.partition_state w'.tier) copies r.row in
+      let first : Row disk store meta w.partition w.config w.partition_state w.tier b r.x r.broker_tier Idle Copy (Begins g) w'.partition_state w'.tier =
+      subst (λ (in_progress : InProgress). Row disk store meta w.partition w.config w.partition_state w.tier b r.x r.broker_tier in_progress Copy (Begins g) w'.partition_state w'.tier) idle row in
       first.0.1

@@ -30,8 +30,8 @@ module _ {D S M : Type 0} (disk : DiskGhosts D) (store : StoreGhosts S) (meta : 
   later_never w x g offset limit (Index piece) place at w' cause = cause
   later_never w x g offset limit (Log piece span) place at w' cause = cause
 
-  never : (w : Whole D S M) (b : ℕ) (x : Node D) (work : InProgress) (offset limit : ℕ) (place : Place) (at : ℕ) (w' : Whole D S M)
-      → FetchHasCause disk store meta w b x work offset limit (Damaged place at) w' → ⊥
+  never : (w : Whole D S M) (b : ℕ) (x : Node D) (in_progress : InProgress) (offset limit : ℕ) (place : Place) (at : ℕ) (w' : Whole D S M)
+      → FetchHasCause disk store meta w b x in_progress offset limit (Damaged place at) w' → ⊥
   never w b x Idle offset limit place at w' cause = cause
   never w b x (Noted g) offset limit place at w' cause = later_never w x g offset limit Refresh place at w' cause
   never w b x (Seeks g next) offset limit place at w' cause = later_never w x g offset limit next place at w' cause
@@ -41,6 +41,6 @@ module _ {D S M : Type 0} (disk : DiskGhosts D) (store : StoreGhosts S) (meta : 
       → (t : IsTurn disk store meta w a (Answers (Damaged place at)) w') → t.order.command ≡ Fetch offset limit → ⊥
   none_damaged opening w a place at w' offset limit c known t fetches =
       let b = t.order.broker.0 in
-      let x = some_of (λ x. FetchHasCause disk store meta w b x t.actor_state.work offset limit (Damaged place at) w') (slice_get w.held.nodes b)
+      let x = some_of (λ x. FetchHasCause disk store meta w b x t.actor_state.in_progress offset limit (Damaged place at) w') (slice_get w.partition_state.nodes b)
       (have_causes disk store meta opening w a (Damaged place at) w' offset limit c known t fetches) in
-      never w b x.0 t.actor_state.work offset limit place at w' x.2
+      never w b x.0 t.actor_state.in_progress offset limit place at w' x.2

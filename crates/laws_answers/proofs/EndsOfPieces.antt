@@ -177,16 +177,16 @@ piece_ends p objects entries line log offset piece s stand kept distinct is_obse
     one_some (entry_of piece.id entries) q.entry entry (ap (λ (id : _). entry_of id entries) q.made.0 ∙ own) i.copy in
     let epoch_is : q.epoch ≡ epoch = one_some (epoch_at line offset) q.epoch epoch q.at (i.of_line offset low high) in
     let done = readable entry.state i.readable in
-    let held : IsStoredWhole objects p.paths entry = stand piece.id entry i.copy done in
-    let whole = whole_of held in
-    let part = held.describes.part in
+    let stored_whole : IsStoredWhole objects p.paths entry = stand piece.id entry i.copy done in
+    let whole = whole_of stored_whole in
+    let part = stored_whole.describes.part in
     let whole_safe = has_safe p part.epoch whole s part.begins in
     -- copy and log are one up to its last offset
     let of_log : epoch_holding log last ≡ Some epoch =
     sym (is_observable.says last (omega (arith, high, end))) ∙ i.of_line last (omega (arith, low, high)) (omega (arith, high)) in
     let of_map : epoch_at entry.map last ≡ Some epoch = i.of_copy last (omega (arith, low, high)) (omega (arith, high)) in
     let shares : Shares whole log last =
-    entry_agrees p entry held.batches held.line log last epoch s held.describes safe (omega (arith, within.0, low, high)) (omega (arith, within.1, high)) of_map of_log in
+    entry_agrees p entry stored_whole.batches stored_whole.line log last epoch s stored_whole.describes safe (omega (arith, within.0, low, high)) (omega (arith, within.1, high)) of_map of_log in
     let in_copy : EndsAt piece.to whole → EndsAt piece.to log = λ e. shared_end whole log piece.to last whole_safe.consecutive e shares (omega (arith, next)) in
     let is_kept : IsEntryValid entry = kept_found piece.id entries entry kept i.copy in
     elim (one_of_both q.span.to q.own.to piece.to q.made.1) [
@@ -200,15 +200,15 @@ piece_ends p objects entries line log offset piece s stand kept distinct is_obse
       ]
       | inl by_map ↦ elim (cases_lt piece.to (entry.end + 1)) [
         | inr all ↦
-            let last_is = held.describes.last_is in
+            let last_is = stored_whole.describes.last_is in
             let ends : end_of whole ≡ entry.end + 1 =
-            end_append 0 part.front held.batches ∙ (ap (λ (n : ℕ). end_from n held.batches) part.ends ∙ sym last_is) in
+            end_append 0 part.front stored_whole.batches ∙ (ap (λ (n : ℕ). end_from n stored_whole.batches) part.ends ∙ sym last_is) in
             in_copy (subst (λ (n : ℕ). EndsAt n whole) (omega (arith, ends, all, within.1)) (ends_at_end whole))
         | inl inner ↦
             let span_is : span_of entry.map epoch (entry.end + 1) ≡ Some q.span =
             subst (λ (x : Entry). span_of x.map epoch (x.end + 1) ≡ Some q.span) entry_is (subst (λ (e : ℕ). span_of q.entry.map e (q.entry.end + 1) ≡ Some q.span) epoch_is q.span_is) in
             let other : epoch_at entry.map q.span.to ≢ Some epoch = behind_span entry.map epoch (entry.end + 1) q.span is_kept.map.line span_is (omega (arith, inner, by_map)) in
-            let of_whole : (o : ℕ) → entry.start ≤ o → o ≤ entry.end → epoch_at entry.map o ≡ epoch_holding whole o = λ o from to. entry_at p entry held.batches held.line o s held.describes from to in
+            let of_whole : (o : ℕ) → entry.start ≤ o → o ≤ entry.end → epoch_at entry.map o ≡ epoch_holding whole o = λ o from to. entry_at p entry stored_whole.batches stored_whole.line o s stored_whole.describes from to in
             let here : epoch_holding whole last ≡ Some epoch = sym (of_whole last (omega (arith, within.0, low, high)) (omega (arith, within.1, high))) ∙ of_map in
             let changes : epoch_holding whole (last + 1) ≢ Some epoch = λ at.
             other (ap (epoch_at entry.map) (sym by_map) ∙ (of_whole piece.to (omega (arith, within.0, low, high)) (omega (arith, inner)) ∙ (ap (epoch_holding whole) (sym next) ∙ at))) in

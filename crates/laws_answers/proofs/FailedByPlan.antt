@@ -46,9 +46,9 @@ module _ {D S M : Type 0} (disk : DiskGhosts D) (store : StoreGhosts S) (meta : 
     (meta_law : (m : M) → FailsAsPlanned (meta.control m)) where
   pub reaches_by_plan : (w : Whole D S M) (schedule : List Pace) (w' : Whole D S M) → AreScripted disk store meta w → Reaches disk store meta w schedule w' → HaveFailedByPlan disk store meta w w'
   reaches_by_plan w schedule w' scripted reaches =
-      let k = schedule_lasted disk store meta w schedule w' reaches (scripted_have disk.control w.held.nodes scripted.disks) in
+      let k = schedule_lasted disk store meta w schedule w' reaches (scripted_have disk.control w.partition_state.nodes scripted.disks) in
       record {
-        disks = disks_by_plan disk.control disk_law w.held.nodes w'.held.nodes k.disks scripted.disks;
+        disks = disks_by_plan disk.control disk_law w.partition_state.nodes w'.partition_state.nodes k.disks scripted.disks;
         store_fails = by_plan (store.control w.tier.store) (store.control w'.tier.store) (store_law w'.tier.store) k.store_lasts scripted.store_scripted;
         meta_fails = by_plan (meta.control w.tier.meta) (meta.control w'.tier.meta) (meta_law w'.tier.meta) k.meta_lasts scripted.meta_scripted;
       }

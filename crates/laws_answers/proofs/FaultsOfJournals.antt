@@ -35,7 +35,7 @@ use Rattle.partition_world.specs.ActorStates.{told_of}
 use Rattle.partition_world.specs.Turn.{IsTurn}
 use Rattle.partition_world.specs.Whole.{Whole}
 use Rattle.partition_world.specs.declared.actor_state.Outcome.{Outcome}
-use Rattle.partition_world.specs.declared.actor_state.Outcome.TheVariants.{Answers, Begins, Chose, Goes, Seeks, Dates, Dooms, Deletes, Rebuilds}
+use Rattle.partition_world.specs.declared.actor_state.Outcome.TheVariants.{Answers, Begins, Chose, Goes, Seeks, Dates, ChoosesExpired, Deletes, Rebuilds}
 use Rattle.partition_world.proofs.Begins.{IsRow, row_of}
 use Rattle.partition_world.proofs.LastingRuns.{lasted_then, turn_lasted, reaches_lasting}
 use Rattle.partition_world.proofs.LastingTurns.{Leaving, turn_lasts}
@@ -79,7 +79,7 @@ module _ {D S M : Type 0} (disk : DiskGhosts D) (store : StoreGhosts S) (meta : 
   -- what is reported of a fault of a command, from the one world to the other
   abbrev Tells : Whole D S M → Whole D S M → Order → Answer → Type 0
   Tells w v order answer =
-      Told (FailsFor disk.control order.command w.held order.broker.0 v.held) (DiskFails disk.control order.broker.0 w.held v.held)
+      Told (FailsFor disk.control order.command w.partition_state order.broker.0 v.partition_state) (DiskFails disk.control order.broker.0 w.partition_state v.partition_state)
       (StoreRose store w.tier.store v.tier.store) (MetaRose meta w.tier.meta v.tier.meta) answer
 
   -- and of an entry
@@ -95,21 +95,21 @@ module _ {D S M : Type 0} (disk : DiskGhosts D) (store : StoreGhosts S) (meta : 
 
   tells_on : (w v u : Whole D S M) (order : Order) (answer : Answer) → HaveLasted disk store meta v u → Tells w v order answer → Tells w u order answer
   tells_on w v u order answer k t =
-      told_map (FailsFor disk.control order.command w.held order.broker.0 v.held) (DiskFails disk.control order.broker.0 w.held v.held)
-      (StoreRose store w.tier.store v.tier.store) (MetaRose meta w.tier.meta v.tier.meta) (FailsFor disk.control order.command w.held order.broker.0 u.held) (DiskFails disk.control order.broker.0 w.held u.held)
+      told_map (FailsFor disk.control order.command w.partition_state order.broker.0 v.partition_state) (DiskFails disk.control order.broker.0 w.partition_state v.partition_state)
+      (StoreRose store w.tier.store v.tier.store) (MetaRose meta w.tier.meta v.tier.meta) (FailsFor disk.control order.command w.partition_state order.broker.0 u.partition_state) (DiskFails disk.control order.broker.0 w.partition_state u.partition_state)
       (StoreRose store w.tier.store u.tier.store) (MetaRose meta w.tier.meta u.tier.meta) answer
-      (λ fails. for_before disk.control order.command w.held v.held u.held order.broker.0 fails k.disks)
-      (λ fails. fails_before disk.control order.broker.0 w.held.nodes v.held.nodes u.held.nodes fails k.disks)
+      (λ fails. for_before disk.control order.command w.partition_state v.partition_state u.partition_state order.broker.0 fails k.disks)
+      (λ fails. fails_before disk.control order.broker.0 w.partition_state.nodes v.partition_state.nodes u.partition_state.nodes fails k.disks)
       (λ rose. rose_on (store.control w.tier.store).faults (store.control v.tier.store).faults (store.control u.tier.store).faults rose k.store_lasts.never_falls)
       (λ rose. rose_on (meta.control w.tier.meta).faults (meta.control v.tier.meta).faults (meta.control u.tier.meta).faults rose k.meta_lasts.never_falls) t
 
   tells_now : (w v u : Whole D S M) (order : Order) (answer : Answer) → HaveLasted disk store meta w v → Tells v u order answer → Tells w u order answer
   tells_now w v u order answer k t =
-      told_map (FailsFor disk.control order.command v.held order.broker.0 u.held) (DiskFails disk.control order.broker.0 v.held u.held)
-      (StoreRose store v.tier.store u.tier.store) (MetaRose meta v.tier.meta u.tier.meta) (FailsFor disk.control order.command w.held order.broker.0 u.held) (DiskFails disk.control order.broker.0 w.held u.held)
+      told_map (FailsFor disk.control order.command v.partition_state order.broker.0 u.partition_state) (DiskFails disk.control order.broker.0 v.partition_state u.partition_state)
+      (StoreRose store v.tier.store u.tier.store) (MetaRose meta v.tier.meta u.tier.meta) (FailsFor disk.control order.command w.partition_state order.broker.0 u.partition_state) (DiskFails disk.control order.broker.0 w.partition_state u.partition_state)
       (StoreRose store w.tier.store u.tier.store) (MetaRose meta w.tier.meta u.tier.meta) answer
-      (λ fails. for_after disk.control order.command w.held v.held u.held order.broker.0 k.disks fails)
-      (λ fails. fails_after disk.control order.broker.0 w.held.nodes v.held.nodes u.held.nodes k.disks fails)
+      (λ fails. for_after disk.control order.command w.partition_state v.partition_state u.partition_state order.broker.0 k.disks fails)
+      (λ fails. fails_after disk.control order.broker.0 w.partition_state.nodes v.partition_state.nodes u.partition_state.nodes k.disks fails)
       (λ rose. rose_from (store.control w.tier.store).faults (store.control v.tier.store).faults (store.control u.tier.store).faults k.store_lasts.never_falls rose)
       (λ rose. rose_from (meta.control w.tier.meta).faults (meta.control v.tier.meta).faults (meta.control u.tier.meta).faults k.meta_lasts.never_falls rose) t
 
@@ -121,14 +121,14 @@ module _ {D S M : Type 0} (disk : DiskGhosts D) (store : StoreGhosts S) (meta : 
     journal = subst (AllByRecursion (EntryTells w u)) (sym t.entered) (told outcome k.1);
   }
     where
-      r : IsRow disk store meta v.partition v.config v.held v.tier t.order.broker.0 t.actor_state.work t.order.command outcome u.held u.tier
-      r = row_of disk store meta v.partition v.config v.held v.tier t.order.broker.0 t.actor_state.work t.order.command outcome u.held u.tier t.row
+      r : IsRow disk store meta v.partition v.config v.partition_state v.tier t.order.broker.0 t.actor_state.in_progress t.order.command outcome u.partition_state u.tier
+      r = row_of disk store meta v.partition v.config v.partition_state v.tier t.order.broker.0 t.actor_state.in_progress t.order.command outcome u.partition_state u.tier t.row
 
-      k : Leaving disk store meta (FailsFor disk.control t.order.command v.held t.order.broker.0 u.held) v.held t.order.broker.0 v.tier outcome u.held u.tier
-      k = turn_lasts disk store meta v.partition v.config v.held v.tier t.order.broker.0 r.x r.broker_tier t.actor_state.work t.order.command outcome u.held u.tier r.at r.row
+      k : Leaving disk store meta (FailsFor disk.control t.order.command v.partition_state t.order.broker.0 u.partition_state) v.partition_state t.order.broker.0 v.tier outcome u.partition_state u.tier
+      k = turn_lasts disk store meta v.partition v.config v.partition_state v.tier t.order.broker.0 r.x r.broker_tier t.actor_state.in_progress t.order.command outcome u.partition_state u.tier r.at r.row
 
       lasts : HaveLasted disk store meta v u
-      lasts = turn_lasted disk store meta v a outcome u t (last_have disk.control w.held.nodes v.held.nodes s.devices.disks)
+      lasts = turn_lasted disk store meta v a outcome u t (last_have disk.control w.partition_state.nodes v.partition_state.nodes s.devices.disks)
 
       was : AllByRecursion (EntryTells w u) v.journal.items
       was = all_map (EntryTells w v) (EntryTells w u) v.journal.items
@@ -139,7 +139,7 @@ module _ {D S M : Type 0} (disk : DiskGhosts D) (store : StoreGhosts S) (meta : 
           ap (λ (l : List ActorList). slice_get (orders_of l t.list.actor.0) t.actor_state.number) (sym s.lists)
           ∙ (ap (λ (l : List Order). slice_get l t.actor_state.number) (orders_at v.lists t.place t.list s.rising t.at.list) ∙ t.next)
 
-      told : (o : Outcome) → TurnTold (FailsFor disk.control t.order.command v.held t.order.broker.0 u.held) (DiskFails disk.control t.order.broker.0 v.held u.held) (StoreRose store v.tier.store u.tier.store) (MetaRose meta v.tier.meta u.tier.meta) o
+      told : (o : Outcome) → TurnTold (FailsFor disk.control t.order.command v.partition_state t.order.broker.0 u.partition_state) (DiskFails disk.control t.order.broker.0 v.partition_state u.partition_state) (StoreRose store v.tier.store u.tier.store) (MetaRose meta v.tier.meta u.tier.meta) o
           → AllByRecursion (EntryTells w u) (v.journal.items ++ told_of t.list.actor t.actor_state.number t.order.command o)
       told (Answers answer) q =
           all_more (EntryTells w u) v.journal.items _ was
@@ -153,7 +153,7 @@ module _ {D S M : Type 0} (disk : DiskGhosts D) (store : StoreGhosts S) (meta : 
       told (Goes next) q = all_same (EntryTells w u) v.journal.items was
       told (Seeks next) q = all_same (EntryTells w u) v.journal.items was
       told (Dates cursor next) q = all_same (EntryTells w u) v.journal.items was
-      told (Dooms segment) q = all_same (EntryTells w u) v.journal.items was
+      told (ChoosesExpired segment) q = all_same (EntryTells w u) v.journal.items was
       told (Deletes next) q = all_same (EntryTells w u) v.journal.items was
       told (Rebuilds next) q = all_same (EntryTells w u) v.journal.items was
 
@@ -195,7 +195,7 @@ module _ {D S M : Type 0} (disk : DiskGhosts D) (store : StoreGhosts S) (meta : 
   failed_as : (w v : Whole D S M) (order : Order) (answer : Answer) → Tells w v order answer → FailedAs disk store meta order answer w v
   failed_as w v order DiskFault t = go order.command t
     where
-      go : (command : Command) → FailsFor disk.control command w.held order.broker.0 v.held → DiskFailedFor disk command order.broker.0 w v
+      go : (command : Command) → FailsFor disk.control command w.partition_state order.broker.0 v.partition_state → DiskFailedFor disk command order.broker.0 w v
       go (Follow limit) fails = fails
       go command fails = fails
   failed_as w v order (DiskFaultAt n) t = t

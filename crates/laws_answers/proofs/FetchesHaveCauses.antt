@@ -55,7 +55,7 @@ use Rattle.laws_tier_fetch.proofs.Running.{runs_are_logs}
 use Rattle.partition_world.specs.declared.actor_state.Outcome.TheVariants.{Answers}
 use Rattle.partition_world.specs.declared.actor_state.InProgress.{InProgress}
 use Rattle.partition_world.specs.declared.actor_state.InProgress.TheVariants.{Idle, Noted, Seeks}
-use Rattle.partition_world.specs.Central.{IsCentral, seeks_of, begun_of, work_of}
+use Rattle.partition_world.specs.Central.{IsCentral, seeks_of, begun_of, tier_task_of}
 use Rattle.partition_world.specs.ActorStates.{recorded_in, outcome_of}
 use Rattle.partition_world.specs.Turn.{IsTurn}
 use Rattle.partition_world.specs.TurnsOfFetch.{AnswersAtOnce, GoesOnFetch, MayServe, FetchOnRow, fetch_tiers, wanted_of}
@@ -146,17 +146,17 @@ module _ {D S M : Type 0} (disk : DiskGhosts D) (store : StoreGhosts S) (meta : 
     b = t.order.broker.0
 
     -- the first turn
-    first : (k : Answer) → LocalRow disk.content disk.control w.held b z.x offset limit k w'.held → FetchFirstCause disk store meta w b z.x offset limit k w'
+    first : (k : Answer) → LocalRow disk.content disk.control w.partition_state b z.x offset limit k w'.partition_state → FetchFirstCause disk store meta w b z.x offset limit k w'
     first Down row = row.0
     first NotLeader row = row.1
     first (OutOfRange start end) row = record { outside = row.2; start_is = row.3; end_is = row.4 }
     first Empty row = row.3
     first DiskFault row =
         let f = row.4 in
-        let there : slice_get w'.held.nodes b ≡ Some (record z.x { log = f.0 }) =
-        ap (λ (h : PartitionState D). slice_get h.nodes b) f.4 ∙ get_put w.held.nodes b z.x (record z.x { log = f.0 }) z.at in
-        some_at (λ (x : Node D). AtNode w'.held b (λ y. Faulted disk.control x.log y.log)) (slice_get w.held.nodes b) z.x z.at
-        (some_at (λ (y : Node D). Faulted disk.control z.x.log y.log) (slice_get w'.held.nodes b) (record z.x { log = f.0 }) there (one_faulted disk.control z.x.log f.0 f.2 f.3))
+        let there : slice_get w'.partition_state.nodes b ≡ Some (record z.x { log = f.0 }) =
+        ap (λ (h : PartitionState D). slice_get h.nodes b) f.4 ∙ get_put w.partition_state.nodes b z.x (record z.x { log = f.0 }) z.at in
+        some_at (λ (x : Node D). AtNode w'.partition_state b (λ y. Faulted disk.control x.log y.log)) (slice_get w.partition_state.nodes b) z.x z.at
+        (some_at (λ (y : Node D). Faulted disk.control z.x.log y.log) (slice_get w'.partition_state.nodes b) (record z.x { log = f.0 }) there (one_faulted disk.control z.x.log f.0 f.2 f.3))
     first (Damaged (File name) at) row = absurd (row.4.misreads.unmarked z.s z.sees.shows (marked disk store meta opening w c t.place t.list t.actor_state t.order z))
     first (Run tier size stop bytes) row =
         let g = row.4 in
@@ -177,13 +177,13 @@ module _ {D S M : Type 0} (disk : DiskGhosts D) (store : StoreGhosts S) (meta : 
     first other row = elim row [ ]
 
     -- a later one, of an actor's state that keeps what was recorded, and has this next
-    module _ (g : StartSnapshot) (next : FetchStep) (recorded : recorded_in t.actor_state.work ≡ Some g) (seeks : work_of (Some t.order) t.actor_state.work ≡ seeks_of b g next t.order.command)
+    module _ (g : StartSnapshot) (next : FetchStep) (recorded : recorded_in t.actor_state.in_progress ≡ Some g) (seeks : tier_task_of (Some t.order) t.actor_state.in_progress ≡ seeks_of b g next t.order.command)
         (so_far : FetchHasFound c.central.plain.paths (meta.content w.tier.meta).notes (unwrap_or (leading g.role) 0) offset limit next) where
       abbrev wanted : FetchRequest
       wanted = wanted_of w.partition z.x offset limit
 
       -- it met no damage
-      undamaged : (place : Spoiled) (at : ℕ) → MayServe w.held z.x g offset → GoesOnFetch store meta w.partition w.tier b z.x z.broker_tier offset limit next (Ends (Damaged place at)) w'.tier → ⊥
+      undamaged : (place : Spoiled) (at : ℕ) → MayServe w.partition_state z.x g offset → GoesOnFetch store meta w.partition w.tier b z.x z.broker_tier offset limit next (Ends (Damaged place at)) w'.tier → ⊥
       undamaged place at serves goes =
           let below = serves.below in
           not_damaged c.scene c.central.plain t.place b (tier_view disk store meta opening w c t.place t.list t.actor_state t.order z) (broker_of (node_of z.x z.s)) g.stops (unwrap_or (leading g.role) 0) wanted (line_of z.x)
@@ -193,7 +193,7 @@ module _ {D S M : Type 0} (disk : DiskGhosts D) (store : StoreGhosts S) (meta : 
           (marked disk store meta opening w c t.place t.list t.actor_state t.order z)
 
       -- a run is the log's
-      runs : (tier : Tier) (size : ℕ) (stop : Stop) (bytes : List ℕ) (piece : Piece) → piece_of next ≡ Some piece → MayServe w.held z.x g offset
+      runs : (tier : Tier) (size : ℕ) (stop : Stop) (bytes : List ℕ) (piece : Piece) → piece_of next ≡ Some piece → MayServe w.partition_state z.x g offset
           → GoesOnFetch store meta w.partition w.tier b z.x z.broker_tier offset limit next (Ends (Run tier size stop bytes)) w'.tier → (tier ≡ Remote piece.id) × IsLogsRun disk z.x offset limit size stop bytes
       runs tier size stop bytes piece is serves goes =
           let r = runs_are_logs store.content store.control meta.content meta.control wanted (line_of z.x) next tier size stop bytes (fetch_tiers z.broker_tier.view z.broker_tier.cache w.tier)
@@ -205,12 +205,12 @@ module _ {D S M : Type 0} (disk : DiskGhosts D) (store : StoreGhosts S) (meta : 
           )
 
     -- such a turn, by what is next
-    module _ (g : StartSnapshot) (recorded : recorded_in t.actor_state.work ≡ Some g) where
+    module _ (g : StartSnapshot) (recorded : recorded_in t.actor_state.in_progress ≡ Some g) where
       abbrev Cause : FetchStep → Answer → Type 0
       Cause next k = FetchLaterCause disk store meta w z.x g offset limit next k w'
 
       abbrev Shown : FetchStep → Type 0
-      Shown next = work_of (Some t.order) t.actor_state.work ≡ seeks_of b g next t.order.command
+      Shown next = tier_task_of (Some t.order) t.actor_state.in_progress ≡ seeks_of b g next t.order.command
 
       abbrev So : FetchStep → Type 0
       So next = FetchHasFound c.central.plain.paths (meta.content w.tier.meta).notes (unwrap_or (leading g.role) 0) offset limit next
@@ -218,24 +218,24 @@ module _ {D S M : Type 0} (disk : DiskGhosts D) (store : StoreGhosts S) (meta : 
       abbrev On : FetchStep → Answer → Type 0
       On next k = GoesOnFetch store meta w.partition w.tier b z.x z.broker_tier offset limit next (Ends k) w'.tier
 
-      refreshed : (k : Answer) → RefreshTells meta k w.tier.meta w'.tier.meta → Shown Refresh → MayServe w.held z.x g offset → On Refresh k → Cause Refresh k
+      refreshed : (k : Answer) → RefreshTells meta k w.tier.meta w'.tier.meta → Shown Refresh → MayServe w.partition_state z.x g offset → On Refresh k → Cause Refresh k
       refreshed MetaFault is_observable shows serves goes = is_observable
       refreshed (Damaged place at) is_observable shows serves goes = absurd (undamaged g Refresh recorded shows tt place at serves goes)
       refreshed other is_observable shows serves goes = elim is_observable [ ]
 
-      indexed : (piece : Piece) (k : Answer) → IndexTells store k w.tier.store w'.tier.store → Shown (Index piece) → So (Index piece) → MayServe w.held z.x g offset → On (Index piece) k → Cause (Index piece) k
+      indexed : (piece : Piece) (k : Answer) → IndexTells store k w.tier.store w'.tier.store → Shown (Index piece) → So (Index piece) → MayServe w.partition_state z.x g offset → On (Index piece) k → Cause (Index piece) k
       indexed piece StoreFault is_observable shows so serves goes = is_observable
       indexed piece (Damaged place at) is_observable shows so serves goes = absurd (undamaged g (Index piece) recorded shows so place at serves goes)
       indexed piece other is_observable shows so serves goes = elim is_observable [ ]
 
-      logged : (piece : Piece) (span : Span) (k : Answer) → LogTells store k w.tier.store w'.tier.store → Shown (Log piece span) → So (Log piece span) → MayServe w.held z.x g offset → On (Log piece span) k
+      logged : (piece : Piece) (span : Span) (k : Answer) → LogTells store k w.tier.store w'.tier.store → Shown (Log piece span) → So (Log piece span) → MayServe w.partition_state z.x g offset → On (Log piece span) k
           → Cause (Log piece span) k
       logged piece span StoreFault is_observable shows so serves goes = is_observable
       logged piece span (Damaged place at) is_observable shows so serves goes = absurd (undamaged g (Log piece span) recorded shows so place at serves goes)
       logged piece span (Run tier size stop bytes) is_observable shows so serves goes = runs g (Log piece span) recorded shows so tier size stop bytes piece refl serves goes
       logged piece span other is_observable shows so serves goes = elim is_observable [ ]
 
-      ended : (next : FetchStep) (k : Answer) → Shown next → So next → MayServe w.held z.x g offset → On next k → Cause next k
+      ended : (next : FetchStep) (k : Answer) → Shown next → So next → MayServe w.partition_state z.x g offset → On next k → Cause next k
       ended Refresh k shows so serves goes = refreshed k (refresh_tells meta (wanted_of w.partition z.x offset limit) (line_of z.x) k z.broker_tier.view goes.view w.tier.meta w'.tier.meta goes.row.1) shows serves goes
       ended (Index piece) k shows so serves goes =
           indexed piece k
@@ -246,7 +246,7 @@ module _ {D S M : Type 0} (disk : DiskGhosts D) (store : StoreGhosts S) (meta : 
           shows so serves goes
 
       -- what it is answered before it reads
-      at_once : (next : FetchStep) (k : Answer) → AnswersAtOnce w.held z.x g offset k → Cause next k
+      at_once : (next : FetchStep) (k : Answer) → AnswersAtOnce w.partition_state z.x g offset k → Cause next k
       at_once Refresh Stopped is = is
       at_once Refresh NotLeader is = is
       at_once Refresh (OutOfRange start end) is = is
@@ -261,35 +261,35 @@ module _ {D S M : Type 0} (disk : DiskGhosts D) (store : StoreGhosts S) (meta : 
       at_once (Log piece span) Empty is = is
       at_once next other is = elim is [ ]
 
-      later : (next : FetchStep) (k : Answer) → Shown next → So next → FetchOnRow store meta w.partition w.held w.tier b z.x z.broker_tier g offset limit next (Answers k) w'.tier → Cause next k
+      later : (next : FetchStep) (k : Answer) → Shown next → So next → FetchOnRow store meta w.partition w.partition_state w.tier b z.x z.broker_tier g offset limit next (Answers k) w'.tier → Cause next k
       later next Stopped shows so row = at_once next Stopped row.0
       later next NotLeader shows so row = at_once next NotLeader (row.0, row.1, row.2)
       later next (OutOfRange start end) shows so row = at_once next (OutOfRange start end) (row.0, row.1, row.2, row.3)
       later next Empty shows so row = at_once next Empty (row.0, row.1, row.2)
       later next k shows so row = ended next _ shows so row.0 row.1
 
-    by_work : (work : InProgress) → t.actor_state.work ≡ work → Row disk store meta w.partition w.config w.held w.tier b z.x z.broker_tier work (Fetch offset limit) (Answers answer) w'.held w'.tier
-        → FetchHasCause disk store meta w b z.x work offset limit answer w'
-    by_work Idle is row = by row.0.0 row.0.1 row.0.2
+    by_in_progress : (in_progress : InProgress) → t.actor_state.in_progress ≡ in_progress → Row disk store meta w.partition w.config w.partition_state w.tier b z.x z.broker_tier in_progress (Fetch offset limit) (Answers answer) w'.partition_state w'.tier
+        → FetchHasCause disk store meta w b z.x in_progress offset limit answer w'
+    by_in_progress Idle is row = by row.0.0 row.0.1 row.0.2
       where
-        by : (turned : Turned) → Answers answer ≡ outcome_of turned → LocalTurn disk.content disk.control w.held b z.x offset limit turned w'.held → FetchHasCause disk store meta w b z.x Idle offset limit answer w'
+        by : (turned : Turned) → Answers answer ≡ outcome_of turned → LocalTurn disk.content disk.control w.partition_state b z.x offset limit turned w'.partition_state → FetchHasCause disk store meta w b z.x Idle offset limit answer w'
         by (turned.Answers k) is turn = let same : k ≡ answer = cc (is) in subst (λ (j : Answer). FetchFirstCause disk store meta w b z.x offset limit j w') same (first k turn)
         by (turned.Begins g) is turn = absurd (cc (is))
-    by_work (Noted g) is row =
-        later g (ap recorded_in is) Refresh answer (ap (work_of (Some t.order)) is ∙ (ap (begun_of b g) fetches ∙ sym (ap (seeks_of b g Refresh) fetches))) tt row.0
-    by_work (Seeks g next) is row =
-        later g (ap recorded_in is) next answer (ap (work_of (Some t.order)) is)
+    by_in_progress (Noted g) is row =
+        later g (ap recorded_in is) Refresh answer (ap (tier_task_of (Some t.order)) is ∙ (ap (begun_of b g) fetches ∙ sym (ap (seeks_of b g Refresh) fetches))) tt row.0
+    by_in_progress (Seeks g next) is row =
+        later g (ap recorded_in is) next answer (ap (tier_task_of (Some t.order)) is)
         (known c.central.plain c.central.replays t.list.actor.0 t.place t.list t.actor_state t.order offset limit g next
         (record { at = record { list = t.at.list; actor = refl; actor_state_is = t.at.actor_state_is }; next = t.next }) fetches is) row.0
-    by_work other is row = elim row [ ]
+    by_in_progress other is row = elim row [ ]
 
   pub have_causes : (opening : State) (w : Whole D S M) (a : ℕ) (answer : Answer) (w' : Whole D S M) (offset limit : ℕ) → IsCentral disk store meta opening w → SpansKnown meta opening w
       → (t : IsTurn disk store meta w a (Answers answer) w') → t.order.command ≡ Fetch offset limit
-      → AtNode w.held t.order.broker.0 (λ x. FetchHasCause disk store meta w t.order.broker.0 x t.actor_state.work offset limit answer w')
+      → AtNode w.partition_state t.order.broker.0 (λ x. FetchHasCause disk store meta w t.order.broker.0 x t.actor_state.in_progress offset limit answer w')
   have_causes opening w a answer w' offset limit c known t fetches =
       let b = t.order.broker.0 in
-      let r = row_of disk store meta w.partition w.config w.held w.tier b t.actor_state.work t.order.command (Answers answer) w'.held w'.tier t.row in
+      let r = row_of disk store meta w.partition w.config w.partition_state w.tier b t.actor_state.in_progress t.order.command (Answers answer) w'.partition_state w'.tier t.row in
       let z = place_of disk store meta opening w c t.place t.list t.actor_state t.order t.at.list t.at.actor_state_is t.next r.x r.at r.broker_tier r.broker_tier_at in
-      let row = subst (λ (k : Command). Row disk store meta w.partition w.config w.held w.tier b r.x r.broker_tier t.actor_state.work k (Answers answer) w'.held w'.tier) fetches r.row in
-      some_at (λ (x : Node D). FetchHasCause disk store meta w b x t.actor_state.work offset limit answer w') (slice_get w.held.nodes b) r.x r.at
-      (by_work opening w a answer w' t c known z offset limit fetches t.actor_state.work refl row)
+      let row = subst (λ (k : Command). Row disk store meta w.partition w.config w.partition_state w.tier b r.x r.broker_tier t.actor_state.in_progress k (Answers answer) w'.partition_state w'.tier) fetches r.row in
+      some_at (λ (x : Node D). FetchHasCause disk store meta w b x t.actor_state.in_progress offset limit answer w') (slice_get w.partition_state.nodes b) r.x r.at
+      (by_in_progress opening w a answer w' t c known z offset limit fetches t.actor_state.in_progress refl row)

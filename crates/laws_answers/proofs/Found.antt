@@ -68,8 +68,8 @@ module _ {D S M : Type 0} (disk : DiskGhosts D) (store : StoreGhosts S) (meta : 
   later_found w b x g cursor (Damaged place at) w' cause keeps clear whole = absurd (whole place at refl)
   later_found w b x g cursor other w' cause keeps clear whole = elim cause [ ]
 
-  any_found : (w : Whole D S M) (b : ℕ) (x : Node D) (broker_tier : BrokerTierState) (ts : ℤ) (work : InProgress) (answer : Answer) (w' : Whole D S M)
-      → OffsetHasCause disk store meta w b x broker_tier work (At ts) answer w' → MaySearch x work → Clear disk store meta b answer w w'
+  any_found : (w : Whole D S M) (b : ℕ) (x : Node D) (broker_tier : BrokerTierState) (ts : ℤ) (in_progress : InProgress) (answer : Answer) (w' : Whole D S M)
+      → OffsetHasCause disk store meta w b x broker_tier in_progress (At ts) answer w' → MaySearch x in_progress → Clear disk store meta b answer w w'
       → IsWhole answer → IsSearchAnswer answer
   any_found w b x broker_tier ts Idle answer w' cause may clear whole = first_found w b x ts answer w' cause may clear
   any_found w b x broker_tier ts (Noted g) answer w' cause may clear whole = later_found w b x g 0 answer w' cause may clear whole
@@ -98,13 +98,13 @@ module _ {D S M : Type 0} (disk : DiskGhosts D) (store : StoreGhosts S) (meta : 
   ends_found opening place number ts v b answer u t known free same number_is asks clear =
       let c = t.order.broker.0 in
       let h = free t.list t.actor_state t.order (own_turn disk store meta place v b (Answers answer) u t same) number_is in
-      let x = some_of (λ x. AtBrokerTier v.tier c (λ broker_tier. OffsetHasCause disk store meta v c x broker_tier t.actor_state.work (At ts) answer u))
-      (slice_get v.held.nodes c) (have_causes disk store meta v b answer u (At ts) t asks) in
-      let broker_tier = some_of (λ broker_tier. OffsetHasCause disk store meta v c x.0 broker_tier t.actor_state.work (At ts) answer u) (slice_get v.tier.broker_tiers c) x.2 in
-      let y = some_of (λ x. MaySearch x t.actor_state.work) (slice_get v.held.nodes c) h in
-      let may : MaySearch x.0 t.actor_state.work =
-      subst (λ (k : Node D). MaySearch k t.actor_state.work) (one_some (slice_get v.held.nodes c) y.0 x.0 y.1 x.1) y.2 in
-      any_found v c x.0 broker_tier.0 ts t.actor_state.work answer u broker_tier.2 may clear (undamaged opening v b ts answer u t known asks)
+      let x = some_of (λ x. AtBrokerTier v.tier c (λ broker_tier. OffsetHasCause disk store meta v c x broker_tier t.actor_state.in_progress (At ts) answer u))
+      (slice_get v.partition_state.nodes c) (have_causes disk store meta v b answer u (At ts) t asks) in
+      let broker_tier = some_of (λ broker_tier. OffsetHasCause disk store meta v c x.0 broker_tier t.actor_state.in_progress (At ts) answer u) (slice_get v.tier.broker_tiers c) x.2 in
+      let y = some_of (λ x. MaySearch x t.actor_state.in_progress) (slice_get v.partition_state.nodes c) h in
+      let may : MaySearch x.0 t.actor_state.in_progress =
+      subst (λ (k : Node D). MaySearch k t.actor_state.in_progress) (one_some (slice_get v.partition_state.nodes c) y.0 x.0 y.1 x.1) y.2 in
+      any_found v c x.0 broker_tier.0 ts t.actor_state.in_progress answer u broker_tier.2 may clear (undamaged opening v b ts answer u t known asks)
 
   free_found : (opening : State) (place number : ℕ) (ts : ℤ) (v : Whole D S M) (b : ℕ) (outcome : Outcome) (answer : Answer)
       (u : Whole D S M) (t : IsTurn disk store meta v b outcome u) → outcome ≡ Answers answer → AllKnown opening v
@@ -121,10 +121,10 @@ module _ {D S M : Type 0} (disk : DiskGhosts D) (store : StoreGhosts S) (meta : 
       (actors : List ℕ) (w' : Whole D S M) → IsCentral disk store meta opening w → SearchesKnown meta opening w
       → IsNextOrder w a place l actor_state order → order.command ≡ Offset (At ts)
       → RunsTurns disk store meta (IsUnhindered disk store meta place actor_state.number) w actors w'
-      → turns_left (Offset (At ts)) actor_state.work ≤ times a actors
+      → turns_left (Offset (At ts)) actor_state.in_progress ≤ times a actors
       → (answer : Answer) × IsSearchAnswer answer × IsCommandAnswered w' l.actor actor_state.number answer
   are_found opening w a place l actor_state order ts actors w' c known next asks r le =
-      run disk store meta (AllKnown opening) (IsUnhindered disk store meta place actor_state.number) (λ work. Unit {0}) IsSearchAnswer
+      run disk store meta (AllKnown opening) (IsUnhindered disk store meta place actor_state.number) (λ in_progress. Unit {0}) IsSearchAnswer
       (Offset (At ts)) a place actor_state.number l (turn_known opening)
       (λ v b outcome answer u t is i p same number ask works. free_found opening place actor_state.number ts v b outcome answer u t is i p same
       number ask) (λ v b outcome u t un works. tt) actors w w'
@@ -143,11 +143,11 @@ module _ {D S M : Type 0} (disk : DiskGhosts D) (store : StoreGhosts S) (meta : 
       → IsNextOrder w a place l actor_state order → order.command ≡ Offset (At ts)
       → RunsTurns disk store meta (λ v b u. IsUnhindered disk store meta place actor_state.number v b u × KnowsUpTo mark place actor_state.number v b u)
       w actors w'
-      → search_left mark actor_state.work ≤ times a actors
+      → search_left mark actor_state.in_progress ≤ times a actors
       → (answer : Answer) × IsSearchAnswer answer × IsCommandAnswered w' l.actor actor_state.number answer
   marked_found opening w a place l actor_state order ts mark actors w' c known next asks r le =
       run_by disk store meta (AllKnown opening)
-      (λ v b u. IsUnhindered disk store meta place actor_state.number v b u × KnowsUpTo mark place actor_state.number v b u) (λ work. Unit {0}) IsSearchAnswer
+      (λ v b u. IsUnhindered disk store meta place actor_state.number v b u × KnowsUpTo mark place actor_state.number v b u) (λ in_progress. Unit {0}) IsSearchAnswer
       (Offset (At ts)) a place actor_state.number l (search_left mark) (search_left_some mark)
       (λ v b outcome u t un p same number ask. closer disk store meta mark place actor_state.number ts v b outcome u t un p.1 same number ask)
       (turn_known opening)
@@ -179,11 +179,11 @@ module _ {D S M : Type 0} (disk : DiskGhosts D) (store : StoreGhosts S) (meta : 
       (actors : List ℕ) (w' : Whole D S M) → IsCentral disk store meta opening w → SearchesKnown meta opening w
       → IsUnfailing disk store meta w → IsNextOrder w a place l actor_state order → order.command ≡ Offset (At ts)
       → RunsTurns disk store meta (IsFree disk store meta place actor_state.number) w actors w'
-      → turns_left (Offset (At ts)) actor_state.work ≤ times a actors
+      → turns_left (Offset (At ts)) actor_state.in_progress ≤ times a actors
       → (answer : Answer) × IsSearchAnswer answer × IsCommandAnswered w' l.actor actor_state.number answer
   infallible_found opening w a place l actor_state order ts actors w' c known infallible next asks r le =
       run disk store meta (λ v. AllKnown opening v × IsUnfailing disk store meta v) (IsFree disk store meta place actor_state.number)
-      (λ work. Unit {0}) IsSearchAnswer (Offset (At ts)) a place actor_state.number l
+      (λ in_progress. Unit {0}) IsSearchAnswer (Offset (At ts)) a place actor_state.number l
       (λ v b outcome u t i. (turn_known opening v b outcome u t i.0, turn_infallible disk store meta v b outcome u t i.1))
       (λ v b outcome answer u t is i p same number ask works. ends_infallible opening place actor_state.number ts v b outcome answer u t is i p same
       number ask) (λ v b outcome u t un works. tt) actors w w'

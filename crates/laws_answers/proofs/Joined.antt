@@ -63,30 +63,30 @@ module _ {D S M : Type 0} (disk : DiskGhosts D) (store : StoreGhosts S) (meta : 
   first_joined : (w : Whole D S M) (b : ℕ) (x : Node D) (answer : Answer) (w' : Whole D S M) → JoinFirstCause disk store meta w b x answer w' → MayJoin w x Idle → Clear disk store meta b answer w w'
       → IsJoined answer
   first_joined w b x Down w' cause may clear = let up = may.0 in absurd (cc (cause, up))
-  first_joined w b x NotFollower w' cause may clear = absurd (none_never w.held (followed x.role) cause may.1)
-  first_joined w b x (StaleEpoch n) w' cause may clear = absurd (stale_never w.held (followed x.role) cause.0 may.1)
+  first_joined w b x NotFollower w' cause may clear = absurd (none_never w.partition_state (followed x.role) cause may.1)
+  first_joined w b x (StaleEpoch n) w' cause may clear = absurd (stale_never w.partition_state (followed x.role) cause.0 may.1)
   first_joined w b x NoLeader w' cause may clear = absurd (may.2 cause)
   first_joined w b x (Cut n) w' cause may clear = (n, inl refl)
   first_joined w b x (DiskFaultAt n) w' cause may clear = absurd (clear.end_clear n refl cause)
   first_joined w b x other w' cause may clear = elim cause [ ]
 
-  restart_joined : (w : Whole D S M) (b : ℕ) (x : Node D) (g : StartSnapshot) (answer : Answer) (w' : Whole D S M) → RestartCause disk store meta w b x g answer w' → MayRebuild w.held x g
+  restart_joined : (w : Whole D S M) (b : ℕ) (x : Node D) (g : StartSnapshot) (answer : Answer) (w' : Whole D S M) → RestartCause disk store meta w b x g answer w' → MayRebuild w.partition_state x g
       → Clear disk store meta b answer w w' → IsJoined answer
   restart_joined w b x g (DiskFaultAt n) w' cause may clear = absurd (clear.end_clear n refl cause)
   restart_joined w b x g (Rebuilt n) w' cause may clear = (n, inr refl)
-  restart_joined w b x g other w' cause may clear = absurd (once_never w.held x g other cause may)
+  restart_joined w b x g other w' cause may clear = absurd (once_never w.partition_state x g other cause may)
 
-  refresh_joined : (w : Whole D S M) (b : ℕ) (x : Node D) (g : StartSnapshot) (answer : Answer) (w' : Whole D S M) → RefreshCause disk store meta w x g answer w' → MayRebuild w.held x g
+  refresh_joined : (w : Whole D S M) (b : ℕ) (x : Node D) (g : StartSnapshot) (answer : Answer) (w' : Whole D S M) → RefreshCause disk store meta w x g answer w' → MayRebuild w.partition_state x g
       → Clear disk store meta b answer w w' → IsJoined answer
   refresh_joined w b x g MetaFault w' cause may clear = absurd (clear.meta_clear refl cause)
-  refresh_joined w b x g other w' cause may clear = absurd (once_never w.held x g other cause may)
+  refresh_joined w b x g other w' cause may clear = absurd (once_never w.partition_state x g other cause may)
 
-  epochs_joined : (w : Whole D S M) (b : ℕ) (x : Node D) (g : StartSnapshot) (answer : Answer) (w' : Whole D S M) → EpochsCause disk store meta w x g answer w' → MayRebuild w.held x g
+  epochs_joined : (w : Whole D S M) (b : ℕ) (x : Node D) (g : StartSnapshot) (answer : Answer) (w' : Whole D S M) → EpochsCause disk store meta w x g answer w' → MayRebuild w.partition_state x g
       → Clear disk store meta b answer w w' → IsJoined answer
   epochs_joined w b x g StoreFault w' cause may clear = absurd (clear.store_clear refl cause)
-  epochs_joined w b x g other w' cause may clear = absurd (once_never w.held x g other cause may)
+  epochs_joined w b x g other w' cause may clear = absurd (once_never w.partition_state x g other cause may)
 
-  any_joined : (w : Whole D S M) (b : ℕ) (x : Node D) (work : InProgress) (answer : Answer) (w' : Whole D S M) → JoinHasCause disk store meta w b x work answer w' → MayJoin w x work
+  any_joined : (w : Whole D S M) (b : ℕ) (x : Node D) (in_progress : InProgress) (answer : Answer) (w' : Whole D S M) → JoinHasCause disk store meta w b x in_progress answer w' → MayJoin w x in_progress
       → Clear disk store meta b answer w w' → IsJoined answer
   any_joined w b x Idle answer w' cause may clear = first_joined w b x answer w' cause may clear
   any_joined w b x (Noted g) answer w' (inl cause) may clear = restart_joined w b x g answer w' cause.1 may clear
@@ -100,10 +100,10 @@ module _ {D S M : Type 0} (disk : DiskGhosts D) (store : StoreGhosts S) (meta : 
   ends_joined opening place number v b answer u t central free same number_is joins clear =
       let c = t.order.broker.0 in
       let h = free t.list t.actor_state t.order (own_turn disk store meta place v b (Answers answer) u t same) number_is in
-      let x = some_of (λ x. JoinHasCause disk store meta v c x t.actor_state.work answer u) (slice_get v.held.nodes c) (have_causes disk store meta opening v b answer u central t joins) in
-      let y = some_of (λ x. MayJoin v x t.actor_state.work) (slice_get v.held.nodes c) h in
-      let may : MayJoin v x.0 t.actor_state.work = subst (λ (n : Node D). MayJoin v n t.actor_state.work) (one_some (slice_get v.held.nodes c) y.0 x.0 y.1 x.1) y.2 in
-      any_joined v c x.0 t.actor_state.work answer u x.2 may clear
+      let x = some_of (λ x. JoinHasCause disk store meta v c x t.actor_state.in_progress answer u) (slice_get v.partition_state.nodes c) (have_causes disk store meta opening v b answer u central t joins) in
+      let y = some_of (λ x. MayJoin v x t.actor_state.in_progress) (slice_get v.partition_state.nodes c) h in
+      let may : MayJoin v x.0 t.actor_state.in_progress = subst (λ (n : Node D). MayJoin v n t.actor_state.in_progress) (one_some (slice_get v.partition_state.nodes c) y.0 x.0 y.1 x.1) y.2 in
+      any_joined v c x.0 t.actor_state.in_progress answer u x.2 may clear
 
   free_joined : (opening : State) (place number : ℕ) (v : Whole D S M) (b : ℕ) (outcome : Outcome) (answer : Answer) (u : Whole D S M) (t : IsTurn disk store meta v b outcome u) → outcome ≡ Answers answer
       → IsCentral disk store meta opening v → IsUnhindered disk store meta place number v b u → t.place ≡ place → t.actor_state.number ≡ number → t.order.command ≡ Join → IsJoined answer
@@ -114,10 +114,10 @@ module _ {D S M : Type 0} (disk : DiskGhosts D) (store : StoreGhosts S) (meta : 
   free_joined opening place number v b other answer u t is central free same number_is joins = absurd (cc (is))
 
   pub are_joined : (opening : State) (w : Whole D S M) (a place : ℕ) (l : ActorList) (actor_state : ActorState) (order : Order) (actors : List ℕ) (w' : Whole D S M) → IsCentral disk store meta opening w
-      → IsNextOrder w a place l actor_state order → order.command ≡ Join → RunsTurns disk store meta (IsUnhindered disk store meta place actor_state.number) w actors w' → turns_left Join actor_state.work ≤ times a actors
+      → IsNextOrder w a place l actor_state order → order.command ≡ Join → RunsTurns disk store meta (IsUnhindered disk store meta place actor_state.number) w actors w' → turns_left Join actor_state.in_progress ≤ times a actors
       → (answer : Answer) × IsJoined answer × IsCommandAnswered w' l.actor actor_state.number answer
   are_joined opening w a place l actor_state order actors w' c next joins r le =
-      run disk store meta (IsCentral disk store meta opening) (IsUnhindered disk store meta place actor_state.number) (λ work. Unit {0}) IsJoined Join a place actor_state.number l
+      run disk store meta (IsCentral disk store meta opening) (IsUnhindered disk store meta place actor_state.number) (λ in_progress. Unit {0}) IsJoined Join a place actor_state.number l
       (λ v b outcome u t central. turn_central disk store meta opening v b outcome u t central)
       (λ v b outcome answer u t is central free same number join works. free_joined opening place actor_state.number v b outcome answer u t is central free same number join) (λ v b outcome u t un works. tt) actors w w'
       (record { rising = c.central.stands.rising; actor_state = actor_state; order = order; next = next; number_is = refl; kind_is = joins; works = tt }) c r le
@@ -132,10 +132,10 @@ module _ {D S M : Type 0} (disk : DiskGhosts D) (store : StoreGhosts S) (meta : 
   ends_infallible opening place number v b other answer u t is known free same number_is joins = absurd (cc (is))
 
   pub infallible_joined : (opening : State) (w : Whole D S M) (a place : ℕ) (l : ActorList) (actor_state : ActorState) (order : Order) (actors : List ℕ) (w' : Whole D S M) → IsCentral disk store meta opening w
-      → IsUnfailing disk store meta w → IsNextOrder w a place l actor_state order → order.command ≡ Join → RunsTurns disk store meta (IsFree disk store meta place actor_state.number) w actors w' → turns_left Join actor_state.work ≤ times a actors
+      → IsUnfailing disk store meta w → IsNextOrder w a place l actor_state order → order.command ≡ Join → RunsTurns disk store meta (IsFree disk store meta place actor_state.number) w actors w' → turns_left Join actor_state.in_progress ≤ times a actors
       → (answer : Answer) × IsJoined answer × IsCommandAnswered w' l.actor actor_state.number answer
   infallible_joined opening w a place l actor_state order actors w' c infallible next joins r le =
-      run disk store meta (λ v. IsCentral disk store meta opening v × IsUnfailing disk store meta v) (IsFree disk store meta place actor_state.number) (λ work. Unit {0}) IsJoined Join a place actor_state.number l
+      run disk store meta (λ v. IsCentral disk store meta opening v × IsUnfailing disk store meta v) (IsFree disk store meta place actor_state.number) (λ in_progress. Unit {0}) IsJoined Join a place actor_state.number l
       (λ v b outcome u t i. (turn_central disk store meta opening v b outcome u t i.0, turn_infallible disk store meta v b outcome u t i.1))
       (λ v b outcome answer u t is i p same number join works. ends_infallible opening place actor_state.number v b outcome answer u t is i p same number join) (λ v b outcome u t un works. tt) actors w w'
       (record { rising = c.central.stands.rising; actor_state = actor_state; order = order; next = next; number_is = refl; kind_is = joins; works = tt }) (c, infallible) r le

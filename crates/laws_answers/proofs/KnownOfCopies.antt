@@ -41,16 +41,16 @@ use Rattle.laws_partition.specs.declared.start_snapshot.StartSnapshot.{StartSnap
 use Rattle.laws_partition.proofs.Standing.{get_put}
 use Rattle.partition_commands.specs.declared.partition_state.Node.{Node}
 use Rattle.tier_safe.specs.Copies.{is_deleted}
-use Rattle.tier_safe.specs.Scene.{TierTask as InProgressIsSeen, Copies as CopiesSeen}
+use Rattle.tier_safe.specs.Scene.{TierTask, Copies as CopiesSeen}
 use Rattle.tier_safe.proofs.Basics.{nat_cases, one_some}
 use Rattle.partition_world.specs.declared.tier.BrokerTierState.{BrokerTierState}
 use Rattle.partition_world.specs.declared.tier.RemoteTier.{RemoteTier}
 use Rattle.partition_world.specs.declared.actor_state.Outcome.{Outcome}
-use Rattle.partition_world.specs.declared.actor_state.Outcome.TheVariants.{Answers, Begins, Chose, Goes, Seeks as Sought, Dates as Dated, Dooms, Deletes, Rebuilds as Rebuilding}
+use Rattle.partition_world.specs.declared.actor_state.Outcome.TheVariants.{Answers, Begins, Chose, Goes, Seeks as Sought, Dates as Dated, ChoosesExpired, Deletes, Rebuilds as Rebuilding}
 use Rattle.partition_world.specs.declared.actor_state.ActorState.{ActorState}
 use Rattle.partition_world.specs.declared.actor_state.InProgress.{InProgress}
 use Rattle.partition_world.specs.declared.actor_state.InProgress.TheVariants.{Idle, Noted, Copies, Seeks, Dates, Expires, Rebuilds}
-use Rattle.partition_world.specs.Central.{IsCentral, work_of}
+use Rattle.partition_world.specs.Central.{IsCentral, tier_task_of}
 use Rattle.partition_world.specs.Fresh.{IsNewWorld, fresh_actor_state}
 use Rattle.partition_world.specs.ActorStates.{chosen, moved, sought, dated, expired_segment, deleting, rebuilding, copy_outcome, actor_state_after, told_of}
 use Rattle.partition_world.specs.Turn.{IsNextOrder, IsTurn}
@@ -64,7 +64,7 @@ use Rattle.partition_world.proofs.Scenes.{place_of, shows_at}
 use Rattle.laws_answers.specs.DeletionsKnown.{DeletedBelow, ShowsDeleted, DeletionsKnown}
 use Rattle.laws_answers.proofs.NotesOfCopies.{told_below, fed_shows}
 use Rattle.laws_answers.proofs.Progress.{others_stay}
-use Rattle.laws_answers.proofs.SeenOfCopies.{TierGoes, DoomsBelow, row_goes}
+use Rattle.laws_answers.proofs.SeenOfCopies.{TierGoes, ChoosesExpiredBelow, row_goes}
 
 rep_get : {A : Type 0} (n i : ℕ) (x y : A) → slice_get (replicate n x) i ≡ Some y → y ≡ x
 rep_get zero i x y at = absurd cc
@@ -89,49 +89,49 @@ start_grows lists p (entry ∷ more) q e s =
     omega (arith, one, rest)
 
 -- what an actor's state has after a turn
-abbrev work_after : InProgress → Outcome → InProgress
-work_after work (Answers answer) = Idle
-work_after work (Begins g) = Noted g
-work_after work (Chose copy) = chosen work copy
-work_after work (Goes next) = moved work next
-work_after work (Sought next) = sought work next
-work_after work (Dated cursor next) = dated work cursor next
-work_after work (Dooms segment) = expired_segment work segment
-work_after work (Deletes next) = deleting work next
-work_after work (Rebuilding next) = rebuilding work next
+abbrev in_progress_after : InProgress → Outcome → InProgress
+in_progress_after in_progress (Answers answer) = Idle
+in_progress_after in_progress (Begins g) = Noted g
+in_progress_after in_progress (Chose copy) = chosen in_progress copy
+in_progress_after in_progress (Goes next) = moved in_progress next
+in_progress_after in_progress (Sought next) = sought in_progress next
+in_progress_after in_progress (Dated cursor next) = dated in_progress cursor next
+in_progress_after in_progress (ChoosesExpired segment) = expired_segment in_progress segment
+in_progress_after in_progress (Deletes next) = deleting in_progress next
+in_progress_after in_progress (Rebuilding next) = rebuilding in_progress next
 
-work_same : (actor_state : ActorState) (outcome : Outcome) → (actor_state_after actor_state outcome).work ≡ work_after actor_state.work outcome
-work_same actor_state (Answers answer) = refl
-work_same actor_state other = refl
+in_progress_same : (actor_state : ActorState) (outcome : Outcome) → (actor_state_after actor_state outcome).in_progress ≡ in_progress_after actor_state.in_progress outcome
+in_progress_same actor_state (Answers answer) = refl
+in_progress_same actor_state other = refl
 
-idle_never : {A : Type 0} (o : Outcome) (g : StartSnapshot) (copy : Copied) (further : CopyStep) → work_after Idle o ≡ Copies g copy further → A
+idle_never : {A : Type 0} (o : Outcome) (g : StartSnapshot) (copy : Copied) (further : CopyStep) → in_progress_after Idle o ≡ Copies g copy further → A
 idle_never (Answers answer) g copy n is = absurd (cc (is))
 idle_never other g copy n is = absurd (cc (is))
 
-recorded_never : {A : Type 0} (f : StartSnapshot) (o : Outcome) (g : StartSnapshot) (copy : Copied) (further : CopyStep) → further ≢ Start → work_after (Noted f) o ≡ Copies g copy further → A
+recorded_never : {A : Type 0} (f : StartSnapshot) (o : Outcome) (g : StartSnapshot) (copy : Copied) (further : CopyStep) → further ≢ Start → in_progress_after (Noted f) o ≡ Copies g copy further → A
 recorded_never f (Answers answer) g copy further snapshot is = absurd (cc (is))
 recorded_never f (Chose k) g copy further snapshot is = absurd (snapshot (let same : Start ≡ further = cc (is) in sym same))
 recorded_never f other g copy further snapshot is = absurd (cc (is))
 
-seeks_never : {A : Type 0} (f : StartSnapshot) (next : Search) (o : Outcome) (g : StartSnapshot) (copy : Copied) (further : CopyStep) → work_after (Seeks f next) o ≡ Copies g copy further → A
+seeks_never : {A : Type 0} (f : StartSnapshot) (next : Search) (o : Outcome) (g : StartSnapshot) (copy : Copied) (further : CopyStep) → in_progress_after (Seeks f next) o ≡ Copies g copy further → A
 seeks_never f next (Answers answer) g copy n is = absurd (cc (is))
 seeks_never f next other g copy n is = absurd (cc (is))
 
 dates_never : {A : Type 0} (f : StartSnapshot) (cursor : ℕ) (next : Dating) (o : Outcome) (g : StartSnapshot) (copy : Copied) (further : CopyStep)
-    → work_after (Dates f cursor next) o ≡ Copies g copy further → A
+    → in_progress_after (Dates f cursor next) o ≡ Copies g copy further → A
 dates_never f cursor next (Answers answer) g copy n is = absurd (cc (is))
 dates_never f cursor next other g copy n is = absurd (cc (is))
 
-expires_never : {A : Type 0} (f : StartSnapshot) (segment : ExpiredSegment) (next : Deletion) (o : Outcome) (g : StartSnapshot) (copy : Copied) (further : CopyStep) → work_after (Expires f segment next) o ≡ Copies g copy further → A
+expires_never : {A : Type 0} (f : StartSnapshot) (segment : ExpiredSegment) (next : Deletion) (o : Outcome) (g : StartSnapshot) (copy : Copied) (further : CopyStep) → in_progress_after (Expires f segment next) o ≡ Copies g copy further → A
 expires_never f segment next (Answers answer) g copy n is = absurd (cc (is))
 expires_never f segment next other g copy n is = absurd (cc (is))
 
-rebuilds_never : {A : Type 0} (f : StartSnapshot) (next : Rebuild) (o : Outcome) (g : StartSnapshot) (copy : Copied) (further : CopyStep) → work_after (Rebuilds f next) o ≡ Copies g copy further → A
+rebuilds_never : {A : Type 0} (f : StartSnapshot) (next : Rebuild) (o : Outcome) (g : StartSnapshot) (copy : Copied) (further : CopyStep) → in_progress_after (Rebuilds f next) o ≡ Copies g copy further → A
 rebuilds_never f next (Answers answer) g copy n is = absurd (cc (is))
 rebuilds_never f next other g copy n is = absurd (cc (is))
 
 -- an actor's state that keeps a copy is at the order that it was at
-number_kept : (actor_state : ActorState) (o : Outcome) (g : StartSnapshot) (copy : Copied) (next : CopyStep) → (actor_state_after actor_state o).work ≡ Copies g copy next → (actor_state_after actor_state o).number ≡ actor_state.number
+number_kept : (actor_state : ActorState) (o : Outcome) (g : StartSnapshot) (copy : Copied) (next : CopyStep) → (actor_state_after actor_state o).in_progress ≡ Copies g copy next → (actor_state_after actor_state o).number ≡ actor_state.number
 number_kept actor_state (Answers answer) g copy next is = absurd (cc (is))
 number_kept actor_state other g copy next is = refl
 
@@ -164,11 +164,11 @@ module _ {S M : Type 0} (store : StoreGhosts S) (meta : MetaGhosts M) where
   goes_shown copy origin (Delete m) n t broker_tier view t' row was = was m refl
 
 module _ {D S M : Type 0} (disk : DiskGhosts D) (store : StoreGhosts S) (meta : MetaGhosts M) where
-  start_of : (opening : State) (w : Whole D S M) → (c : IsCentral disk store meta opening w) → c.central.plain.registry.start ≡ w.held.registry.start
-  start_of opening w c = ap (λ (r : Registry). r.start) (c.central.stands.held.registry ∙ c.shows.registry)
+  start_of : (opening : State) (w : Whole D S M) → (c : IsCentral disk store meta opening w) → c.central.plain.registry.start ≡ w.partition_state.registry.start
+  start_of opening w c = ap (λ (r : Registry). r.start) (c.central.stands.partition_state.registry ∙ c.shows.registry)
 
   start_later : (opening : State) (w : Whole D S M) (a : ℕ) (outcome : Outcome) (w' : Whole D S M) → IsTurn disk store meta w a outcome w' → IsCentral disk store meta opening w
-      → w.held.registry.start ≤ w'.held.registry.start
+      → w.partition_state.registry.start ≤ w'.partition_state.registry.start
   start_later opening w a outcome w' t c =
       let d = turn_central disk store meta opening w a outcome w' t c in
       let more = told_of t.list.actor t.actor_state.number t.order.command outcome in
@@ -184,11 +184,11 @@ module _ {D S M : Type 0} (disk : DiskGhosts D) (store : StoreGhosts S) (meta : 
 
   -- a copy that begins has no entry yet
   start_below : (opening : State) (v : Whole D S M) → IsCentral disk store meta opening v → (d place : ℕ) (l : ActorList) (actor_state : ActorState) (order : Order) (g : StartSnapshot) (copy : Copied) → IsNextOrder v d place l actor_state order
-      → actor_state.work ≡ Copies g copy Start → DeletedBelow (fold (meta.content v.tier.meta).notes) v.held.registry.start copy.id
+      → actor_state.in_progress ≡ Copies g copy Start → DeletedBelow (fold (meta.content v.tier.meta).notes) v.partition_state.registry.start copy.id
   start_below opening v c d place l actor_state order g copy nx works entry there gone =
       let desk : slice_get c.scene.desk place ≡ Some (CopiesSeen copy Start) =
-      ap (λ (k : List InProgressIsSeen). slice_get k place) c.shows_tier.desk
-      ∙ (actor_state_at v.lists v.desk place l actor_state nx.at.list nx.at.actor_state_is ∙ (ap (λ (o : Option Order). Some (work_of o actor_state.work)) nx.next ∙ ap (λ (k : InProgress). Some (work_of (Some order) k)) works)) in
+      ap (λ (k : List TierTask). slice_get k place) c.shows_tier.desk
+      ∙ (actor_state_at v.lists v.desk place l actor_state nx.at.list nx.at.actor_state_is ∙ (ap (λ (o : Option Order). Some (tier_task_of o actor_state.in_progress)) nx.next ∙ ap (λ (k : InProgress). Some (tier_task_of (Some order) k)) works)) in
       let none : entry_of copy.id (fold (meta.content v.tier.meta).notes) ≡ None =
       ap (λ (ns : List Note). entry_of copy.id (fold ns)) (sym c.shows_tier.notes) ∙ (c.tier.copies.each place copy Start desk).at in
       absurd (cc (there, none))
@@ -208,61 +208,61 @@ module _ {D S M : Type 0} (disk : DiskGhosts D) (store : StoreGhosts S) (meta : 
     ]
 
   module _ (opening : State) (w : Whole D S M) (a : ℕ) (outcome : Outcome) (w' : Whole D S M) (t : IsTurn disk store meta w a outcome w') (c : IsCentral disk store meta opening w) (known : DeletionsKnown meta w)
-      (x : Node D) (at_node : slice_get w.held.nodes t.order.broker.0 ≡ Some x) (broker_tier : BrokerTierState) (broker_tier_at : slice_get w.tier.broker_tiers t.order.broker.0 ≡ Some broker_tier)
-      (row : Row disk store meta w.partition w.config w.held w.tier t.order.broker.0 x broker_tier t.actor_state.work t.order.command outcome w'.held w'.tier) where
+      (x : Node D) (at_node : slice_get w.partition_state.nodes t.order.broker.0 ≡ Some x) (broker_tier : BrokerTierState) (broker_tier_at : slice_get w.tier.broker_tiers t.order.broker.0 ≡ Some broker_tier)
+      (row : Row disk store meta w.partition w.config w.partition_state w.tier t.order.broker.0 x broker_tier t.actor_state.in_progress t.order.command outcome w'.partition_state w'.tier) where
     abbrev b : ℕ
     b = t.order.broker.0
 
     -- an expiry that has taken up its segment
-    dooms : (work : InProgress) → t.actor_state.work ≡ work → DoomsBelow (fold (meta.content w.tier.meta).notes) w.held.registry.start work
-    dooms Idle works = tt
-    dooms (Noted g) works = tt
-    dooms (Copies g copy next) works = tt
-    dooms (Seeks g next) works = tt
-    dooms (Dates g cursor next) works = tt
-    dooms (Rebuilds g next) works = tt
-    dooms (Expires g segment next) works =
+    chooses_expired : (in_progress : InProgress) → t.actor_state.in_progress ≡ in_progress → ChoosesExpiredBelow (fold (meta.content w.tier.meta).notes) w.partition_state.registry.start in_progress
+    chooses_expired Idle works = tt
+    chooses_expired (Noted g) works = tt
+    chooses_expired (Copies g copy next) works = tt
+    chooses_expired (Seeks g next) works = tt
+    chooses_expired (Dates g cursor next) works = tt
+    chooses_expired (Rebuilds g next) works = tt
+    chooses_expired (Expires g segment next) works =
         let z = place_of disk store meta opening w c t.place t.list t.actor_state t.order t.at.list t.at.actor_state_is t.next x at_node broker_tier broker_tier_at in
         let shows = shows_at disk store meta opening w c t.place t.list t.actor_state t.order z in
-        let actor_state = shows.actor_state ∙ ap (λ (k : InProgress). Some (work_of (Some t.order) k)) works in
+        let actor_state = shows.actor_state ∙ ap (λ (k : InProgress). Some (tier_task_of (Some t.order) k)) works in
         let has = c.tier.deletions.each t.place segment next actor_state in
         let same : entry_of segment.id (fold (meta.content w.tier.meta).notes) ≡ Some has.entry = ap (λ (ns : List Note). entry_of segment.id (fold ns)) (sym c.shows_tier.notes) ∙ has.there in
-        let low : has.entry.end < w.held.registry.start = subst (λ (n : ℕ). has.entry.end < n) (start_of opening w c) has.below in
-        subst (λ (o : Option Entry). IsSomeAnd o (λ entry. entry.end < w.held.registry.start)) (sym same) low
+        let low : has.entry.end < w.partition_state.registry.start = subst (λ (n : ℕ). has.entry.end < n) (start_of opening w c) has.below in
+        subst (λ (o : Option Entry). IsSomeAnd o (λ entry. entry.end < w.partition_state.registry.start)) (sym same) low
 
-    goes : TierGoes meta w.held.registry.start b broker_tier w.tier w'.tier
-    goes = row_goes disk store meta w.held.registry.start w.partition w.config w.held w.tier b x broker_tier t.actor_state.work t.order.command outcome w'.held w'.tier broker_tier_at c.shows_tier.meta_tells (dooms t.actor_state.work refl) row
+    goes : TierGoes meta w.partition_state.registry.start b broker_tier w.tier w'.tier
+    goes = row_goes disk store meta w.partition_state.registry.start w.partition w.config w.partition_state w.tier b x broker_tier t.actor_state.in_progress t.order.command outcome w'.partition_state w'.tier broker_tier_at c.shows_tier.meta_tells (chooses_expired t.actor_state.in_progress refl) row
 
     -- a copy that took its objects away before
-    before_shown : (g : StartSnapshot) (copy : Copied) (n : ℕ) → t.actor_state.work ≡ Copies g copy (Delete n) → (new : BrokerTierState) → slice_get w'.tier.broker_tiers b ≡ Some new → ShowsDeleted new.view.entries copy.id
+    before_shown : (g : StartSnapshot) (copy : Copied) (n : ℕ) → t.actor_state.in_progress ≡ Copies g copy (Delete n) → (new : BrokerTierState) → slice_get w'.tier.broker_tiers b ≡ Some new → ShowsDeleted new.view.entries copy.id
     before_shown g copy n works new at =
-        still_shown w a outcome w' t broker_tier broker_tier_at w.held.registry.start goes b new copy.id at
+        still_shown w a outcome w' t broker_tier broker_tier_at w.partition_state.registry.start goes b new copy.id at
         (λ old there. known.seen t.list.actor.0 t.place t.list t.actor_state t.order g copy n old (record { at = record { list = t.at.list; actor = refl; actor_state_is = t.at.actor_state_is }; next = t.next }) works there)
 
-    moved_shown : (g : StartSnapshot) (copy : Copied) (before : CopyStep) → t.actor_state.work ≡ Copies g copy before → (further : CopyStep) (n : ℕ) → further ≡ Delete n
-        → GoesOnCopy store meta w.held w.tier b broker_tier copy before (GoesOn further) w'.tier → (new : BrokerTierState) → slice_get w'.tier.broker_tiers b ≡ Some new → ShowsDeleted new.view.entries copy.id
+    moved_shown : (g : StartSnapshot) (copy : Copied) (before : CopyStep) → t.actor_state.in_progress ≡ Copies g copy before → (further : CopyStep) (n : ℕ) → further ≡ Delete n
+        → GoesOnCopy store meta w.partition_state w.tier b broker_tier copy before (GoesOn further) w'.tier → (new : BrokerTierState) → slice_get w'.tier.broker_tiers b ≡ Some new → ShowsDeleted new.view.entries copy.id
     moved_shown g copy before works further n is on new at =
         let now : BrokerTierState = record broker_tier { view = on.view } in
         let there : slice_get w'.tier.broker_tiers b ≡ Some now = ap (λ (k : RemoteTier S M). slice_get k.broker_tiers b) on.after ∙ get_put w.tier.broker_tiers b broker_tier now broker_tier_at in
         let shown : ShowsDeleted now.view.entries copy.id =
-        goes_shown store meta copy (origin_of w.held b) before n w.tier broker_tier on.view w'.tier
-        (subst (λ (k : CopyStep). CopyTurnRow store.content store.control meta.content meta.control copy (origin_of w.held b) before (Ok (GoesOn k)) (tiers_of broker_tier.view w.tier) (tiers_of on.view w'.tier)) is on.row)
+        goes_shown store meta copy (origin_of w.partition_state b) before n w.tier broker_tier on.view w'.tier
+        (subst (λ (k : CopyStep). CopyTurnRow store.content store.control meta.content meta.control copy (origin_of w.partition_state b) before (Ok (GoesOn k)) (tiers_of broker_tier.view w.tier) (tiers_of on.view w'.tier)) is on.row)
         (λ m e. before_shown g copy m (works ∙ ap (λ (k : CopyStep). Copies g copy k) e) now there) in
         subst (λ (k : BrokerTierState). ShowsDeleted k.view.entries copy.id) (one_some (slice_get w'.tier.broker_tiers b) now new there at) shown
 
-    turn_shown : (g : StartSnapshot) (copy : Copied) (before : CopyStep) → t.actor_state.work ≡ Copies g copy before → (next : CopyStep) (n : ℕ) → next ≡ Delete n → (turn : Turn CopyStep) → Goes next ≡ copy_outcome turn
-        → GoesOnCopy store meta w.held w.tier b broker_tier copy before turn w'.tier → (new : BrokerTierState) → slice_get w'.tier.broker_tiers b ≡ Some new → ShowsDeleted new.view.entries copy.id
+    turn_shown : (g : StartSnapshot) (copy : Copied) (before : CopyStep) → t.actor_state.in_progress ≡ Copies g copy before → (next : CopyStep) (n : ℕ) → next ≡ Delete n → (turn : Turn CopyStep) → Goes next ≡ copy_outcome turn
+        → GoesOnCopy store meta w.partition_state w.tier b broker_tier copy before turn w'.tier → (new : BrokerTierState) → slice_get w'.tier.broker_tiers b ≡ Some new → ShowsDeleted new.view.entries copy.id
     turn_shown g copy before works next n is (GoesOn further) one on new at = let same : further ≡ next = cc (one) in moved_shown g copy before works further n (same ∙ is) on new at
     turn_shown g copy before works next n is (Ends answer) one on new at = absurd (cc (one))
 
-    copying_shown : (g : StartSnapshot) (copy : Copied) (before : CopyStep) → t.actor_state.work ≡ Copies g copy before → (command : Command) (next : CopyStep) (n : ℕ) → next ≡ Delete n
-        → CopyLaterRow store meta w.held w.tier b x broker_tier g copy before command (Goes next) w'.held w'.tier → (new : BrokerTierState) → slice_get w'.tier.broker_tiers b ≡ Some new → ShowsDeleted new.view.entries copy.id
+    copying_shown : (g : StartSnapshot) (copy : Copied) (before : CopyStep) → t.actor_state.in_progress ≡ Copies g copy before → (command : Command) (next : CopyStep) (n : ℕ) → next ≡ Delete n
+        → CopyLaterRow store meta w.partition_state w.tier b x broker_tier g copy before command (Goes next) w'.partition_state w'.tier → (new : BrokerTierState) → slice_get w'.tier.broker_tiers b ≡ Some new → ShowsDeleted new.view.entries copy.id
     copying_shown g copy before works Copy next n is (inl lost, same) new at = let e = lost.1 in absurd (cc (e))
     copying_shown g copy before works Copy next n is (inr (keeps, (turn, one, on)), same) new at = turn_shown g copy before works next n is turn one on new at
     copying_shown g copy before works other next n is row new at = elim row [ ]
 
-    own_shown : (work : InProgress) → t.actor_state.work ≡ work → (o : Outcome) → Row disk store meta w.partition w.config w.held w.tier b x broker_tier work t.order.command o w'.held w'.tier → (g : StartSnapshot) (copy : Copied) (n : ℕ)
-        → work_after work o ≡ Copies g copy (Delete n) → (new : BrokerTierState) → slice_get w'.tier.broker_tiers b ≡ Some new → ShowsDeleted new.view.entries copy.id
+    own_shown : (in_progress : InProgress) → t.actor_state.in_progress ≡ in_progress → (o : Outcome) → Row disk store meta w.partition w.config w.partition_state w.tier b x broker_tier in_progress t.order.command o w'.partition_state w'.tier → (g : StartSnapshot) (copy : Copied) (n : ℕ)
+        → in_progress_after in_progress o ≡ Copies g copy (Delete n) → (new : BrokerTierState) → slice_get w'.tier.broker_tiers b ≡ Some new → ShowsDeleted new.view.entries copy.id
     own_shown Idle works o r g copy n is new at = idle_never o g copy (Delete n) is
     own_shown (Noted f) works o r g copy n is new at = recorded_never f o g copy (Delete n) (λ e. absurd (cc (e))) is
     own_shown (Copies f k before) works (Answers answer) r g copy n is new at = absurd (cc (is))
@@ -274,7 +274,7 @@ module _ {D S M : Type 0} (disk : DiskGhosts D) (store : StoreGhosts S) (meta : 
         subst (λ (j : Copied). ShowsDeleted new.view.entries j.id) same (copying_shown f k before works t.order.command next n deletes r new at)
     own_shown (Copies f k before) works (Sought next) r g copy n is new at = before_shown g copy n (works ∙ is) new at
     own_shown (Copies f k before) works (Dated cursor next) r g copy n is new at = before_shown g copy n (works ∙ is) new at
-    own_shown (Copies f k before) works (Dooms segment) r g copy n is new at = before_shown g copy n (works ∙ is) new at
+    own_shown (Copies f k before) works (ChoosesExpired segment) r g copy n is new at = before_shown g copy n (works ∙ is) new at
     own_shown (Copies f k before) works (Deletes next) r g copy n is new at = before_shown g copy n (works ∙ is) new at
     own_shown (Copies f k before) works (Rebuilding next) r g copy n is new at = before_shown g copy n (works ∙ is) new at
     own_shown (Seeks f before) works o r g copy n is new at = seeks_never f before o g copy (Delete n) is
@@ -282,24 +282,24 @@ module _ {D S M : Type 0} (disk : DiskGhosts D) (store : StoreGhosts S) (meta : 
     own_shown (Expires f segment before) works o r g copy n is new at = expires_never f segment before o g copy (Delete n) is
     own_shown (Rebuilds f before) works o r g copy n is new at = rebuilds_never f before o g copy (Delete n) is
 
-    told : (id : SegmentId) → DeletedBelow (fold (meta.content w.tier.meta).notes) w.held.registry.start id → DeletedBelow (fold (meta.content w'.tier.meta).notes) w'.held.registry.start id
+    told : (id : SegmentId) → DeletedBelow (fold (meta.content w.tier.meta).notes) w.partition_state.registry.start id → DeletedBelow (fold (meta.content w'.tier.meta).notes) w'.partition_state.registry.start id
     told id below entry there gone =
-        let now : DeletedBelow (fold (meta.content w'.tier.meta).notes) w.held.registry.start id = elim goes.notes [
-          | inl same ↦ subst (λ (ns : List Note). DeletedBelow (fold ns) w.held.registry.start id) (sym same) below
-          | inr (note, is, be) ↦ subst (λ (ns : List Note). DeletedBelow (fold ns) w.held.registry.start id) (sym is) (told_below (meta.content w.tier.meta).notes note w.held.registry.start id be below)
+        let now : DeletedBelow (fold (meta.content w'.tier.meta).notes) w.partition_state.registry.start id = elim goes.notes [
+          | inl same ↦ subst (λ (ns : List Note). DeletedBelow (fold ns) w.partition_state.registry.start id) (sym same) below
+          | inr (note, is, be) ↦ subst (λ (ns : List Note). DeletedBelow (fold ns) w.partition_state.registry.start id) (sym is) (told_below (meta.content w.tier.meta).notes note w.partition_state.registry.start id be below)
         ] in
         let low = now entry there gone in
         let grows = start_later opening w a outcome w' t c in
         omega (arith, low, grows)
 
     -- of a copy that continued before
-    before_below : (g : StartSnapshot) (copy : Copied) (next : CopyStep) → t.actor_state.work ≡ Copies g copy next → (id : SegmentId) → copy.id ≡ id → DeletedBelow (fold (meta.content w'.tier.meta).notes) w'.held.registry.start id
+    before_below : (g : StartSnapshot) (copy : Copied) (next : CopyStep) → t.actor_state.in_progress ≡ Copies g copy next → (id : SegmentId) → copy.id ≡ id → DeletedBelow (fold (meta.content w'.tier.meta).notes) w'.partition_state.registry.start id
     before_below g copy next works id is =
-        told id (subst (DeletedBelow (fold (meta.content w.tier.meta).notes) w.held.registry.start) is
+        told id (subst (DeletedBelow (fold (meta.content w.tier.meta).notes) w.partition_state.registry.start) is
         (known.below t.list.actor.0 t.place t.list t.actor_state t.order g copy next (record { at = record { list = t.at.list; actor = refl; actor_state_is = t.at.actor_state_is }; next = t.next }) works))
 
-    own_below : (work : InProgress) → t.actor_state.work ≡ work → (o : Outcome) (g : StartSnapshot) (copy : Copied) (next : CopyStep) → next ≢ Start → work_after work o ≡ Copies g copy next
-        → DeletedBelow (fold (meta.content w'.tier.meta).notes) w'.held.registry.start copy.id
+    own_below : (in_progress : InProgress) → t.actor_state.in_progress ≡ in_progress → (o : Outcome) (g : StartSnapshot) (copy : Copied) (next : CopyStep) → next ≢ Start → in_progress_after in_progress o ≡ Copies g copy next
+        → DeletedBelow (fold (meta.content w'.tier.meta).notes) w'.partition_state.registry.start copy.id
     own_below Idle works o g copy next snapshot is = idle_never o g copy next is
     own_below (Noted f) works o g copy next snapshot is = recorded_never f o g copy next snapshot is
     own_below (Copies f k before) works (Answers answer) g copy next snapshot is = absurd (cc (is))
@@ -313,17 +313,17 @@ module _ {D S M : Type 0} (disk : DiskGhosts D) (store : StoreGhosts S) (meta : 
 
     -- the state of the turn
     below_place : (place : ℕ) → t.place ≡ place → (d : ℕ) (l : ActorList) (actor_state : ActorState) (order : Order) (g : StartSnapshot) (copy : Copied) (next : CopyStep) → next ≢ Start → IsNextOrder w' d place l actor_state order
-        → actor_state.work ≡ Copies g copy next → DeletedBelow (fold (meta.content w'.tier.meta).notes) w'.held.registry.start copy.id
+        → actor_state.in_progress ≡ Copies g copy next → DeletedBelow (fold (meta.content w'.tier.meta).notes) w'.partition_state.registry.start copy.id
     below_place place same d l actor_state order g copy next snapshot nx works =
         let after = actor_state_after t.actor_state outcome in
         let there : slice_get w'.desk place ≡ Some after =
         ap (λ (k : List ActorState). slice_get k place) t.desk ∙ (ap (λ (k : ℕ). slice_get (slice_set w.desk t.place after) k) (sym same) ∙ get_put w.desk t.place t.actor_state after t.at.actor_state_is) in
         let actor_state_is : after ≡ actor_state = one_some (slice_get w'.desk place) after actor_state there nx.at.actor_state_is in
-        let is : after.work ≡ Copies g copy next = ap (λ (k : ActorState). k.work) actor_state_is ∙ works in
-        own_below t.actor_state.work refl outcome g copy next snapshot (sym (work_same t.actor_state outcome) ∙ is)
+        let is : after.in_progress ≡ Copies g copy next = ap (λ (k : ActorState). k.in_progress) actor_state_is ∙ works in
+        own_below t.actor_state.in_progress refl outcome g copy next snapshot (sym (in_progress_same t.actor_state outcome) ∙ is)
 
     gone_on_below : (d place : ℕ) (l : ActorList) (actor_state : ActorState) (order : Order) (g : StartSnapshot) (copy : Copied) (next : CopyStep) → next ≢ Start → IsNextOrder w' d place l actor_state order
-        → actor_state.work ≡ Copies g copy next → DeletedBelow (fold (meta.content w'.tier.meta).notes) w'.held.registry.start copy.id
+        → actor_state.in_progress ≡ Copies g copy next → DeletedBelow (fold (meta.content w'.tier.meta).notes) w'.partition_state.registry.start copy.id
     gone_on_below d place l actor_state order g copy next snapshot nx works = elim (nat_cases t.place place) [
       | inl same ↦ below_place place same d l actor_state order g copy next snapshot nx works
       | inr other ↦
@@ -339,7 +339,7 @@ module _ {D S M : Type 0} (disk : DiskGhosts D) (store : StoreGhosts S) (meta : 
     ]
 
     still_below : (d place : ℕ) (l : ActorList) (actor_state : ActorState) (order : Order) (g : StartSnapshot) (copy : Copied) (next : CopyStep) → IsNextOrder w' d place l actor_state order
-        → actor_state.work ≡ Copies g copy next → DeletedBelow (fold (meta.content w'.tier.meta).notes) w'.held.registry.start copy.id
+        → actor_state.in_progress ≡ Copies g copy next → DeletedBelow (fold (meta.content w'.tier.meta).notes) w'.partition_state.registry.start copy.id
     still_below d place l actor_state order g copy Start nx works = start_below opening w' (turn_central disk store meta opening w a outcome w' t c) d place l actor_state order g copy nx works
     still_below d place l actor_state order g copy (Put n) nx works = gone_on_below d place l actor_state order g copy (Put n) (λ e. absurd (cc (e))) nx works
     still_below d place l actor_state order g copy Finish nx works = gone_on_below d place l actor_state order g copy Finish (λ e. absurd (cc (e))) nx works
@@ -348,7 +348,7 @@ module _ {D S M : Type 0} (disk : DiskGhosts D) (store : StoreGhosts S) (meta : 
 
     -- the state of the turn
     at_place : (place : ℕ) → t.place ≡ place → (d : ℕ) (l : ActorList) (actor_state : ActorState) (order : Order) (g : StartSnapshot) (copy : Copied) (n : ℕ) (new : BrokerTierState) → IsNextOrder w' d place l actor_state order
-        → actor_state.work ≡ Copies g copy (Delete n) → slice_get w'.tier.broker_tiers order.broker.0 ≡ Some new → ShowsDeleted new.view.entries copy.id
+        → actor_state.in_progress ≡ Copies g copy (Delete n) → slice_get w'.tier.broker_tiers order.broker.0 ≡ Some new → ShowsDeleted new.view.entries copy.id
     at_place place same d l actor_state order g copy n new next works at =
         let after = actor_state_after t.actor_state outcome in
         let list_is : t.list ≡ l =
@@ -356,15 +356,15 @@ module _ {D S M : Type 0} (disk : DiskGhosts D) (store : StoreGhosts S) (meta : 
         let there : slice_get w'.desk place ≡ Some after =
         ap (λ (k : List ActorState). slice_get k place) t.desk ∙ (ap (λ (k : ℕ). slice_get (slice_set w.desk t.place after) k) (sym same) ∙ get_put w.desk t.place t.actor_state after t.at.actor_state_is) in
         let actor_state_is : after ≡ actor_state = one_some (slice_get w'.desk place) after actor_state there next.at.actor_state_is in
-        let is : after.work ≡ Copies g copy (Delete n) = ap (λ (k : ActorState). k.work) actor_state_is ∙ works in
+        let is : after.in_progress ≡ Copies g copy (Delete n) = ap (λ (k : ActorState). k.in_progress) actor_state_is ∙ works in
         let number : t.actor_state.number ≡ actor_state.number = sym (number_kept t.actor_state outcome g copy (Delete n) is) ∙ ap (λ (k : ActorState). k.number) actor_state_is in
         let order_is : t.order ≡ order =
         one_some (slice_get t.list.orders t.actor_state.number) t.order order t.next
         (ap (λ (k : ActorList). slice_get k.orders t.actor_state.number) list_is ∙ (ap (λ (k : ℕ). slice_get l.orders k) number ∙ next.next)) in
-        own_shown t.actor_state.work refl outcome row g copy n (sym (work_same t.actor_state outcome) ∙ is) new (ap (λ (o : Order). slice_get w'.tier.broker_tiers o.broker.0) order_is ∙ at)
+        own_shown t.actor_state.in_progress refl outcome row g copy n (sym (in_progress_same t.actor_state outcome) ∙ is) new (ap (λ (o : Order). slice_get w'.tier.broker_tiers o.broker.0) order_is ∙ at)
 
     still_seen : (d place : ℕ) (l : ActorList) (actor_state : ActorState) (order : Order) (g : StartSnapshot) (copy : Copied) (n : ℕ) (new : BrokerTierState) → IsNextOrder w' d place l actor_state order
-        → actor_state.work ≡ Copies g copy (Delete n) → slice_get w'.tier.broker_tiers order.broker.0 ≡ Some new → ShowsDeleted new.view.entries copy.id
+        → actor_state.in_progress ≡ Copies g copy (Delete n) → slice_get w'.tier.broker_tiers order.broker.0 ≡ Some new → ShowsDeleted new.view.entries copy.id
     still_seen d place l actor_state order g copy n new next works at = elim (nat_cases t.place place) [
       | inl same ↦ at_place place same d l actor_state order g copy n new next works at
       | inr other ↦
@@ -376,13 +376,13 @@ module _ {D S M : Type 0} (disk : DiskGhosts D) (store : StoreGhosts S) (meta : 
             };
             next = next.next;
           } in
-          still_shown w a outcome w' t broker_tier broker_tier_at w.held.registry.start goes order.broker.0 new copy.id at (λ old there. known.seen d place l actor_state order g copy n old before works there)
+          still_shown w a outcome w' t broker_tier broker_tier_at w.partition_state.registry.start goes order.broker.0 new copy.id at (λ old there. known.seen d place l actor_state order g copy n old before works there)
     ]
 
   pub keep_known : (opening : State) (w : Whole D S M) (a : ℕ) (outcome : Outcome) (w' : Whole D S M) → IsCentral disk store meta opening w → DeletionsKnown meta w → IsTurn disk store meta w a outcome w'
       → DeletionsKnown meta w'
   keep_known opening w a outcome w' c known t =
-      let r = row_of disk store meta w.partition w.config w.held w.tier t.order.broker.0 t.actor_state.work t.order.command outcome w'.held w'.tier t.row in
+      let r = row_of disk store meta w.partition w.config w.partition_state w.tier t.order.broker.0 t.actor_state.in_progress t.order.command outcome w'.partition_state w'.tier t.row in
       record { below = still_below opening w a outcome w' t c known r.x r.at r.broker_tier r.broker_tier_at r.row; seen = still_seen opening w a outcome w' t c known r.x r.at r.broker_tier r.broker_tier_at r.row }
 
   pub new_known : (lists : List ActorList) (w : Whole D S M) → IsNewWorld lists w → DeletionsKnown meta w
@@ -391,7 +391,7 @@ module _ {D S M : Type 0} (disk : DiskGhosts D) (store : StoreGhosts S) (meta : 
     seen = λ a place l actor_state order g copy n broker_tier next works at. absurd (idle place actor_state g copy (Delete n) next.at.actor_state_is works);
   }
     where
-      idle : (place : ℕ) (actor_state : ActorState) (g : StartSnapshot) (copy : Copied) (next : CopyStep) → slice_get w.desk place ≡ Some actor_state → actor_state.work ≡ Copies g copy next → ⊥
+      idle : (place : ℕ) (actor_state : ActorState) (g : StartSnapshot) (copy : Copied) (next : CopyStep) → slice_get w.desk place ≡ Some actor_state → actor_state.in_progress ≡ Copies g copy next → ⊥
       idle place actor_state g copy next at works =
-          let is = ap (λ (k : ActorState). k.work) (rep_get (length lists) place fresh_actor_state actor_state (ap (λ (d : List ActorState). slice_get d place) (sym f.desk) ∙ at)) in
+          let is = ap (λ (k : ActorState). k.in_progress) (rep_get (length lists) place fresh_actor_state actor_state (ap (λ (d : List ActorState). slice_get d place) (sym f.desk) ∙ at)) in
           absurd (cc (works, is))

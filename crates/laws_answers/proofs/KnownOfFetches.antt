@@ -27,7 +27,7 @@ use Rattle.partition_world.specs.declared.actor_state.Outcome.TheVariants.{Answe
 use Rattle.partition_world.specs.declared.actor_state.ActorState.{ActorState}
 use Rattle.partition_world.specs.declared.actor_state.InProgress.{InProgress}
 use Rattle.partition_world.specs.declared.actor_state.InProgress.TheVariants.{Idle, Noted, Seeks}
-use Rattle.partition_world.specs.Central.{IsCentral, seeks_of, begun_of, work_of}
+use Rattle.partition_world.specs.Central.{IsCentral, seeks_of, begun_of, tier_task_of}
 use Rattle.partition_world.specs.Fresh.{IsNewWorld, fresh_actor_state}
 use Rattle.partition_world.specs.ActorStates.{recorded_in, actor_state_after}
 use Rattle.partition_world.specs.Turn.{IsNextOrder, IsTurn}
@@ -56,7 +56,7 @@ last_turn (Index piece) lt = omega (arith, lt)
 last_turn (Log piece span) lt = omega (arith, lt)
 
 -- an actor's state that keeps what a fetch has found is at the order that it was at
-number_kept : (actor_state : ActorState) (o : Outcome) (g : StartSnapshot) (next : FetchStep) → (actor_state_after actor_state o).work ≡ Seeks g next → (actor_state_after actor_state o).number ≡ actor_state.number
+number_kept : (actor_state : ActorState) (o : Outcome) (g : StartSnapshot) (next : FetchStep) → (actor_state_after actor_state o).in_progress ≡ Seeks g next → (actor_state_after actor_state o).number ≡ actor_state.number
 number_kept actor_state (Answers answer) g next is = absurd (cc (is))
 number_kept actor_state other g next is = refl
 
@@ -73,13 +73,13 @@ module _ {D S M : Type 0} (disk : DiskGhosts D) (store : StoreGhosts S) (meta : 
     Found g next = FetchHasFound c.central.plain.paths told (unwrap_or (leading g.role) 0) offset limit next
 
     -- what the actor's state's fetch had found
-    before : (g : StartSnapshot) (next : FetchStep) → t.actor_state.work ≡ Seeks g next → Found g next
+    before : (g : StartSnapshot) (next : FetchStep) → t.actor_state.in_progress ≡ Seeks g next → Found g next
     before g next works =
         known c.central.plain c.central.replays t.list.actor.0 t.place t.list t.actor_state t.order offset limit g next
         (record { at = record { list = t.at.list; actor = refl; actor_state_is = t.at.actor_state_is }; next = t.next }) fetches works
 
     -- and what it has found with its turn
-    on : (g : StartSnapshot) (next later : FetchStep) → recorded_in t.actor_state.work ≡ Some g → work_of (Some t.order) t.actor_state.work ≡ seeks_of b g next t.order.command → Found g next → MayServe w.held z.x g offset
+    on : (g : StartSnapshot) (next later : FetchStep) → recorded_in t.actor_state.in_progress ≡ Some g → tier_task_of (Some t.order) t.actor_state.in_progress ≡ seeks_of b g next t.order.command → Found g next → MayServe w.partition_state z.x g offset
         → GoesOnFetch store meta w.partition w.tier b z.x z.broker_tier offset limit next (fetch.Goes later) w'.tier → Found g later
     on g Refresh later recorded seeks f serves goes =
         refresh_found c.scene c.central.plain t.place b (tier_view disk store meta opening w c t.place t.list t.actor_state t.order z) (broker_of (node_of z.x z.s)) g.stops (unwrap_or (leading g.role) 0)
@@ -95,8 +95,8 @@ module _ {D S M : Type 0} (disk : DiskGhosts D) (store : StoreGhosts S) (meta : 
         (last_turn later
         (fetch_advances store meta (wanted_of w.partition z.x offset limit) (line_of z.x) (Log piece span) later (fetch_tiers z.broker_tier.view z.broker_tier.cache w.tier) (fetch_tiers goes.view goes.cache w'.tier) goes.row))
 
-    own : (work : InProgress) → t.actor_state.work ≡ work → (o : Outcome) → Row disk store meta w.partition w.config w.held w.tier b z.x z.broker_tier work (Fetch offset limit) o w'.held w'.tier → MayComeTo work o
-        → (g : StartSnapshot) (next : FetchStep) → (actor_state_after (record t.actor_state { work = work }) o).work ≡ Seeks g next → Found g next
+    own : (in_progress : InProgress) → t.actor_state.in_progress ≡ in_progress → (o : Outcome) → Row disk store meta w.partition w.config w.partition_state w.tier b z.x z.broker_tier in_progress (Fetch offset limit) o w'.partition_state w'.tier → MayComeTo in_progress o
+        → (g : StartSnapshot) (next : FetchStep) → (actor_state_after (record t.actor_state { in_progress = in_progress }) o).in_progress ≡ Seeks g next → Found g next
     own Idle works (Answers answer) row may g next is = absurd (cc (is))
     own Idle works (Begins f) row may g next is = absurd (cc (is))
     own Idle works other row may g next is = elim may [ ]
@@ -106,7 +106,7 @@ module _ {D S M : Type 0} (disk : DiskGhosts D) (store : StoreGhosts S) (meta : 
         subst (λ (k : StartSnapshot). Found k next) same
         (subst (Found f) last
         (on f Refresh later (ap recorded_in works)
-        (ap (work_of (Some t.order)) works ∙ (ap (begun_of b f) fetches ∙ sym (ap (seeks_of b f Refresh) fetches))) tt row.0.0 row.0.1))
+        (ap (tier_task_of (Some t.order)) works ∙ (ap (begun_of b f) fetches ∙ sym (ap (seeks_of b f Refresh) fetches))) tt row.0.0 row.0.1))
     own (Noted f) works other row may g next is = absurd (cc (is))
     own (Seeks f was) works (Answers answer) row may g next is = absurd (cc (is))
     own (Seeks f was) works (Sought later) row may g next is =
@@ -114,23 +114,23 @@ module _ {D S M : Type 0} (disk : DiskGhosts D) (store : StoreGhosts S) (meta : 
         let last : later ≡ next = cc (is) in
         subst (λ (k : StartSnapshot). Found k next) same
         (subst (Found f) last
-        (on f was later (ap recorded_in works) (ap (work_of (Some t.order)) works) (before f was works) row.0.0 row.0.1))
+        (on f was later (ap recorded_in works) (ap (tier_task_of (Some t.order)) works) (before f was works) row.0.0 row.0.1))
     own (Seeks f was) works other row may g next is = elim may [ ]
     own other works o row may g next is = elim row [ ]
 
-    pub own_found : Row disk store meta w.partition w.config w.held w.tier b z.x z.broker_tier t.actor_state.work t.order.command outcome w'.held w'.tier → (g : StartSnapshot) (next : FetchStep)
-        → (actor_state_after t.actor_state outcome).work ≡ Seeks g next → Found g next
+    pub own_found : Row disk store meta w.partition w.config w.partition_state w.tier b z.x z.broker_tier t.actor_state.in_progress t.order.command outcome w'.partition_state w'.tier → (g : StartSnapshot) (next : FetchStep)
+        → (actor_state_after t.actor_state outcome).in_progress ≡ Seeks g next → Found g next
     own_found row g next is =
-        let may = row_may disk store meta w.partition w.config w.held w.tier b z.x z.broker_tier t.actor_state.work t.order.command outcome w'.held w'.tier row in
-        own t.actor_state.work refl outcome
-        (subst (λ (k : Command). Row disk store meta w.partition w.config w.held w.tier b z.x z.broker_tier t.actor_state.work k outcome w'.held w'.tier) fetches row) may g next is
+        let may = row_may disk store meta w.partition w.config w.partition_state w.tier b z.x z.broker_tier t.actor_state.in_progress t.order.command outcome w'.partition_state w'.tier row in
+        own t.actor_state.in_progress refl outcome
+        (subst (λ (k : Command). Row disk store meta w.partition w.config w.partition_state w.tier b z.x z.broker_tier t.actor_state.in_progress k outcome w'.partition_state w'.tier) fetches row) may g next is
 
   module _ (opening : State) (w : Whole D S M) (a : ℕ) (outcome : Outcome) (w' : Whole D S M) (t : IsTurn disk store meta w a outcome w') (c : IsCentral disk store meta opening w)
-      (known : SpansKnown meta opening w) (x : Node D) (at : slice_get w.held.nodes t.order.broker.0 ≡ Some x) (broker_tier : BrokerTierState) (broker_tier_at : slice_get w.tier.broker_tiers t.order.broker.0 ≡ Some broker_tier)
-      (row : Row disk store meta w.partition w.config w.held w.tier t.order.broker.0 x broker_tier t.actor_state.work t.order.command outcome w'.held w'.tier) where
+      (known : SpansKnown meta opening w) (x : Node D) (at : slice_get w.partition_state.nodes t.order.broker.0 ≡ Some x) (broker_tier : BrokerTierState) (broker_tier_at : slice_get w.tier.broker_tiers t.order.broker.0 ≡ Some broker_tier)
+      (row : Row disk store meta w.partition w.config w.partition_state w.tier t.order.broker.0 x broker_tier t.actor_state.in_progress t.order.command outcome w'.partition_state w'.tier) where
     -- what the state of the turn keeps
     at_place : (place : ℕ) → t.place ≡ place → (d : ℕ) (l : ActorList) (actor_state : ActorState) (order : Order) (offset limit : ℕ) (g : StartSnapshot) (next : FetchStep) → IsNextOrder w' d place l actor_state order
-        → order.command ≡ Fetch offset limit → actor_state.work ≡ Seeks g next → FetchHasFound c.central.plain.paths (meta.content w.tier.meta).notes (unwrap_or (leading g.role) 0) offset limit next
+        → order.command ≡ Fetch offset limit → actor_state.in_progress ≡ Seeks g next → FetchHasFound c.central.plain.paths (meta.content w.tier.meta).notes (unwrap_or (leading g.role) 0) offset limit next
     at_place place same d l actor_state order offset limit g next nx fetches works =
         let after = actor_state_after t.actor_state outcome in
         let list_is : t.list ≡ l =
@@ -138,7 +138,7 @@ module _ {D S M : Type 0} (disk : DiskGhosts D) (store : StoreGhosts S) (meta : 
         let there : slice_get w'.desk place ≡ Some after =
         ap (λ (k : List ActorState). slice_get k place) t.desk ∙ (ap (λ (k : ℕ). slice_get (slice_set w.desk t.place after) k) (sym same) ∙ get_put w.desk t.place t.actor_state after t.at.actor_state_is) in
         let actor_state_is : after ≡ actor_state = one_some (slice_get w'.desk place) after actor_state there nx.at.actor_state_is in
-        let is : after.work ≡ Seeks g next = ap (λ (k : ActorState). k.work) actor_state_is ∙ works in
+        let is : after.in_progress ≡ Seeks g next = ap (λ (k : ActorState). k.in_progress) actor_state_is ∙ works in
         let number : t.actor_state.number ≡ actor_state.number = sym (number_kept t.actor_state outcome g next is) ∙ ap (λ (k : ActorState). k.number) actor_state_is in
         let order_is : t.order ≡ order =
         one_some (slice_get t.list.orders t.actor_state.number) t.order order t.next
@@ -148,7 +148,7 @@ module _ {D S M : Type 0} (disk : DiskGhosts D) (store : StoreGhosts S) (meta : 
 
     pub keeps : SpansKnown meta opening w'
     keeps q replays d place l actor_state order offset limit g next nx fetches works =
-        let notes = row_notes disk store meta w.partition w.config w.held w.tier t.order.broker.0 x broker_tier t.actor_state.work t.order.command outcome w'.held w'.tier c.shows_tier.meta_tells row in
+        let notes = row_notes disk store meta w.partition w.config w.partition_state w.tier t.order.broker.0 x broker_tier t.actor_state.in_progress t.order.command outcome w'.partition_state w'.tier c.shows_tier.meta_tells row in
         let paths = paths_later disk store meta opening w a outcome w' q t c replays in
         found_grows c.central.plain.paths q.paths (meta.content w.tier.meta).notes (meta.content w'.tier.meta).notes (unwrap_or (leading g.role) 0) offset limit next paths notes
         (elim (nat_cases t.place place) [
@@ -168,11 +168,11 @@ module _ {D S M : Type 0} (disk : DiskGhosts D) (store : StoreGhosts S) (meta : 
   pub keep_spans : (opening : State) (w : Whole D S M) (a : ℕ) (outcome : Outcome) (w' : Whole D S M) → IsCentral disk store meta opening w → SpansKnown meta opening w → IsTurn disk store meta w a outcome w'
       → SpansKnown meta opening w'
   keep_spans opening w a outcome w' c known t =
-      let r = row_of disk store meta w.partition w.config w.held w.tier t.order.broker.0 t.actor_state.work t.order.command outcome w'.held w'.tier t.row in
+      let r = row_of disk store meta w.partition w.config w.partition_state w.tier t.order.broker.0 t.actor_state.in_progress t.order.command outcome w'.partition_state w'.tier t.row in
       keeps opening w a outcome w' t c known r.x r.at r.broker_tier r.broker_tier_at r.row
 
   pub new_spans : (opening : State) (lists : List ActorList) (w : Whole D S M) → IsNewWorld lists w → SpansKnown meta opening w
   new_spans opening lists w f p replays a place l actor_state order offset limit g next nx fetches works =
       absurd
-      (let is = ap (λ (k : ActorState). k.work) (rep_get (length lists) place fresh_actor_state actor_state (ap (λ (d : List ActorState). slice_get d place) (sym f.desk) ∙ nx.at.actor_state_is)) in
+      (let is = ap (λ (k : ActorState). k.in_progress) (rep_get (length lists) place fresh_actor_state actor_state (ap (λ (d : List ActorState). slice_get d place) (sym f.desk) ∙ nx.at.actor_state_is)) in
       cc (works, is))

@@ -65,7 +65,7 @@ found_grows ps qs notes more led (Log piece from span) w pre f =
     (ends_grow ps qs led piece w f.0, span_grows ps qs notes more from 4294967295 piece span w pre f.1)
 
 -- an actor's state that keeps what a search has found is at the order that it was at
-number_kept : (actor_state : ActorState) (o : Outcome) (g : StartSnapshot) (cursor : ℕ) (next : SearchStep) → (actor_state_after actor_state o).work ≡ Dates g cursor next
+number_kept : (actor_state : ActorState) (o : Outcome) (g : StartSnapshot) (cursor : ℕ) (next : SearchStep) → (actor_state_after actor_state o).in_progress ≡ Dates g cursor next
     → (actor_state_after actor_state o).number ≡ actor_state.number
 number_kept actor_state (Answers answer) g cursor next is = absurd (cc (is))
 number_kept actor_state other g cursor next is = refl
@@ -92,7 +92,7 @@ module _ {D S M : Type 0} (disk : DiskGhosts D) (store : StoreGhosts S) (meta : 
     Found g next = IsFoundByTime c.central.plain.paths told (unwrap_or (leading g.role) 0) next
 
     -- what the actor's state's search had found
-    before : (g : StartSnapshot) (cursor : ℕ) (next : SearchStep) → t.actor_state.work ≡ Dates g cursor next → Found g next
+    before : (g : StartSnapshot) (cursor : ℕ) (next : SearchStep) → t.actor_state.in_progress ≡ Dates g cursor next → Found g next
     before g cursor next works =
         known c.central.plain c.central.replays t.list.actor.0 t.place t.list t.actor_state t.order ts g cursor next
         (record { at = record { list = t.at.list; actor = refl; actor_state_is = t.at.actor_state_is }; next = t.next }) asks works
@@ -110,7 +110,7 @@ module _ {D S M : Type 0} (disk : DiskGhosts D) (store : StoreGhosts S) (meta : 
       asked = asked_for disk store meta opening w c t.place t.list t.actor_state t.order z ts asks g cursor next k
 
       finds : (to : ℕ) (later : SearchStep) → KeepsLead z.x g → at < z.x.known_high_watermark → Found g next → (own : Bool)
-          → SearchRow disk store meta w.held w.tier b z.x z.broker_tier asked at on own (Goes (to, later)) w'.held w'.tier → Found g later
+          → SearchRow disk store meta w.partition_state w.tier b z.x z.broker_tier asked at on own (Goes (to, later)) w'.partition_state w'.tier → Found g later
       finds to later keeps below f true row = subst (Found g) (sym (own_seeks disk z.x.log asked at to later row.0.kept row.0.row)) tt
       finds to later keeps below f false row =
           let r = row.0 in
@@ -118,21 +118,21 @@ module _ {D S M : Type 0} (disk : DiskGhosts D) (store : StoreGhosts S) (meta : 
           let d = search_at disk store meta opening w c t.place t.list t.actor_state t.order z ts asks g cursor next k keeps below in
           let notes = d.1 ∙ c.shows_tier.notes in
           let found = subst (λ (ns : List Note). IsFoundByTime c.central.plain.paths ns led on) (sym notes)
-          (resumed_found c.central.plain.paths told led w.held.registry.start cursor next f) in
+          (resumed_found c.central.plain.paths told led w.partition_state.registry.start cursor next f) in
           subst (λ (ns : List Note). IsFoundByTime c.central.plain.paths ns led later) notes
           (time_found d.0 c.central.plain t.place b (tier_view disk store meta opening w c t.place t.list t.actor_state t.order z)
           (broker_of (node_of z.x z.s)) g.stops led asked (line_of z.x) at
           store.content store.control meta.content meta.control on to later (fetch_tiers z.broker_tier.view z.broker_tier.cache w.tier)
           (fetch_tiers r.view r.cache w'.tier) d.2
-          (resumed_set w.held.registry.start cursor next k.set) r.row found)
+          (resumed_set w.partition_state.registry.start cursor next k.set) r.row found)
 
-      goes : (to : ℕ) (later : SearchStep) → Found g next → DateOnRow disk store meta w.partition w.held w.tier b z.x z.broker_tier g ts cursor next
-          (Dated to later) w'.held w'.tier → Found g later
+      goes : (to : ℕ) (later : SearchStep) → Found g next → DateOnRow disk store meta w.partition w.partition_state w.tier b z.x z.broker_tier g ts cursor next
+          (Dated to later) w'.partition_state w'.tier → Found g later
       goes to later f row = finds to later row.0.keeps row.0.below f (is_own (local_of z.x) at on) row.0.row
 
-    own : (work : InProgress) → t.actor_state.work ≡ work → (o : Outcome) → Row disk store meta w.partition w.config w.held w.tier b z.x z.broker_tier work
-        (Offset (At ts)) o w'.held w'.tier → MayComeTo work o
-        → (g : StartSnapshot) (cursor : ℕ) (next : SearchStep) → (actor_state_after (record t.actor_state { work = work }) o).work ≡ Dates g cursor next → Found g next
+    own : (in_progress : InProgress) → t.actor_state.in_progress ≡ in_progress → (o : Outcome) → Row disk store meta w.partition w.config w.partition_state w.tier b z.x z.broker_tier in_progress
+        (Offset (At ts)) o w'.partition_state w'.tier → MayComeTo in_progress o
+        → (g : StartSnapshot) (cursor : ℕ) (next : SearchStep) → (actor_state_after (record t.actor_state { in_progress = in_progress }) o).in_progress ≡ Dates g cursor next → Found g next
     own Idle works (Answers answer) row may g cursor next is = absurd (cc (is))
     own Idle works (Begins f) row may g cursor next is = absurd (cc (is))
     own Idle works other row may g cursor next is = elim may [ ]
@@ -154,26 +154,26 @@ module _ {D S M : Type 0} (disk : DiskGhosts D) (store : StoreGhosts S) (meta : 
     own (Dates f from was) works other row may g cursor next is = elim may [ ]
     own other works o row may g cursor next is = elim row [ ]
 
-    pub own_found : Row disk store meta w.partition w.config w.held w.tier b z.x z.broker_tier t.actor_state.work t.order.command outcome w'.held w'.tier
+    pub own_found : Row disk store meta w.partition w.config w.partition_state w.tier b z.x z.broker_tier t.actor_state.in_progress t.order.command outcome w'.partition_state w'.tier
         → (g : StartSnapshot) (cursor : ℕ) (next : SearchStep)
-        → (actor_state_after t.actor_state outcome).work ≡ Dates g cursor next → Found g next
+        → (actor_state_after t.actor_state outcome).in_progress ≡ Dates g cursor next → Found g next
     own_found row g cursor next is =
-        let may = row_may disk store meta w.partition w.config w.held w.tier b z.x z.broker_tier t.actor_state.work t.order.command outcome w'.held
+        let may = row_may disk store meta w.partition w.config w.partition_state w.tier b z.x z.broker_tier t.actor_state.in_progress t.order.command outcome w'.partition_state
         w'.tier row in
-        own t.actor_state.work refl outcome
-        (subst (λ (k : Command). Row disk store meta w.partition w.config w.held w.tier b z.x z.broker_tier t.actor_state.work k outcome w'.held w'.tier)
+        own t.actor_state.in_progress refl outcome
+        (subst (λ (k : Command). Row disk store meta w.partition w.config w.partition_state w.tier b z.x z.broker_tier t.actor_state.in_progress k outcome w'.partition_state w'.tier)
         asks row) may g cursor next is
 
   module _ (opening : State) (w : Whole D S M) (a : ℕ) (outcome : Outcome) (w' : Whole D S M) (t : IsTurn disk store meta w a outcome w')
       (c : IsCentral disk store meta opening w)
-      (known : SearchesKnown meta opening w) (x : Node D) (at : slice_get w.held.nodes t.order.broker.0 ≡ Some x) (broker_tier : BrokerTierState)
+      (known : SearchesKnown meta opening w) (x : Node D) (at : slice_get w.partition_state.nodes t.order.broker.0 ≡ Some x) (broker_tier : BrokerTierState)
       (broker_tier_at : slice_get w.tier.broker_tiers t.order.broker.0 ≡ Some broker_tier)
-      (row : Row disk store meta w.partition w.config w.held w.tier t.order.broker.0 x broker_tier t.actor_state.work t.order.command outcome w'.held
+      (row : Row disk store meta w.partition w.config w.partition_state w.tier t.order.broker.0 x broker_tier t.actor_state.in_progress t.order.command outcome w'.partition_state
       w'.tier) where
     -- what the state of the turn keeps
     at_place : (place : ℕ) → t.place ≡ place → (d : ℕ) (l : ActorList) (actor_state : ActorState) (order : Order) (ts : ℤ) (g : StartSnapshot) (cursor : ℕ)
         (next : SearchStep) → IsNextOrder w' d place l actor_state order
-        → order.command ≡ Offset (At ts) → actor_state.work ≡ Dates g cursor next
+        → order.command ≡ Offset (At ts) → actor_state.in_progress ≡ Dates g cursor next
         → IsFoundByTime c.central.plain.paths (meta.content w.tier.meta).notes (unwrap_or (leading g.role) 0) next
     at_place place same d l actor_state order ts g cursor next nx asks works =
         let after = actor_state_after t.actor_state outcome in
@@ -184,7 +184,7 @@ module _ {D S M : Type 0} (disk : DiskGhosts D) (store : StoreGhosts S) (meta : 
         ap (λ (k : List ActorState). slice_get k place) t.desk ∙ (ap (λ (k : ℕ). slice_get (slice_set w.desk t.place after) k) (sym same)
         ∙ get_put w.desk t.place t.actor_state after t.at.actor_state_is) in
         let actor_state_is : after ≡ actor_state = one_some (slice_get w'.desk place) after actor_state there nx.at.actor_state_is in
-        let is : after.work ≡ Dates g cursor next = ap (λ (k : ActorState). k.work) actor_state_is ∙ works in
+        let is : after.in_progress ≡ Dates g cursor next = ap (λ (k : ActorState). k.in_progress) actor_state_is ∙ works in
         let number : t.actor_state.number ≡ actor_state.number = sym (number_kept t.actor_state outcome g cursor next is)
         ∙ ap (λ (k : ActorState). k.number) actor_state_is in
         let order_is : t.order ≡ order =
@@ -196,8 +196,8 @@ module _ {D S M : Type 0} (disk : DiskGhosts D) (store : StoreGhosts S) (meta : 
 
     pub keeps : SearchesKnown meta opening w'
     keeps q replays d place l actor_state order ts g cursor next nx asks works =
-        let notes = row_notes disk store meta w.partition w.config w.held w.tier t.order.broker.0 x broker_tier t.actor_state.work t.order.command
-        outcome w'.held w'.tier c.shows_tier.meta_tells row in
+        let notes = row_notes disk store meta w.partition w.config w.partition_state w.tier t.order.broker.0 x broker_tier t.actor_state.in_progress t.order.command
+        outcome w'.partition_state w'.tier c.shows_tier.meta_tells row in
         let paths = paths_later disk store meta opening w a outcome w' q t c replays in
         found_grows c.central.plain.paths q.paths (meta.content w.tier.meta).notes (meta.content w'.tier.meta).notes
         (unwrap_or (leading g.role) 0) next paths notes
@@ -219,13 +219,13 @@ module _ {D S M : Type 0} (disk : DiskGhosts D) (store : StoreGhosts S) (meta : 
       → IsCentral disk store meta opening w → SearchesKnown meta opening w
       → IsTurn disk store meta w a outcome w' → SearchesKnown meta opening w'
   keep_searches opening w a outcome w' c known t =
-      let r = row_of disk store meta w.partition w.config w.held w.tier t.order.broker.0 t.actor_state.work t.order.command outcome w'.held
+      let r = row_of disk store meta w.partition w.config w.partition_state w.tier t.order.broker.0 t.actor_state.in_progress t.order.command outcome w'.partition_state
       w'.tier t.row in
       keeps opening w a outcome w' t c known r.x r.at r.broker_tier r.broker_tier_at r.row
 
   pub new_searches : (opening : State) (lists : List ActorList) (w : Whole D S M) → IsNewWorld lists w → SearchesKnown meta opening w
   new_searches opening lists w f p replays a place l actor_state order ts g cursor next nx asks works =
       absurd
-      (let is = ap (λ (k : ActorState). k.work) (rep_get (length lists) place fresh_actor_state actor_state
+      (let is = ap (λ (k : ActorState). k.in_progress) (rep_get (length lists) place fresh_actor_state actor_state
       (ap (λ (d : List ActorState). slice_get d place) (sym f.desk) ∙ nx.at.actor_state_is)) in
       cc (works, is))

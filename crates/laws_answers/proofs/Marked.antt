@@ -40,7 +40,7 @@ use Rattle.laws_answers.proofs.ChainsOfTurns.{own_turn, run_by}
 use Rattle.laws_answers.proofs.Progress.{date_goes, first_left}
 
 -- it takes one turn more at least
-pub search_left_some : (mark : ℕ) (work : InProgress) → 1 ≤ search_left mark work
+pub search_left_some : (mark : ℕ) (in_progress : InProgress) → 1 ≤ search_left mark in_progress
 search_left_some mark Idle = omega arith
 search_left_some mark (Noted g) = omega arith
 search_left_some mark (Dates g cursor next) = omega arith
@@ -48,13 +48,13 @@ search_left_some mark other = omega arith
 
 -- a turn leaves fewer to come
 abbrev Closer : ℕ → InProgress → Outcome → Type 0
-Closer mark work (Answers answer) = Unit {0}
-Closer mark work (Begins g) = search_left mark (Noted g) < search_left mark work
-Closer mark work (Dated cursor next) = search_left mark (dated work cursor next) < search_left mark work
-Closer mark work other = ⊥
+Closer mark in_progress (Answers answer) = Unit {0}
+Closer mark in_progress (Begins g) = search_left mark (Noted g) < search_left mark in_progress
+Closer mark in_progress (Dated cursor next) = search_left mark (dated in_progress cursor next) < search_left mark in_progress
+Closer mark in_progress other = ⊥
 
-actor_state_closer : (mark : ℕ) (actor_state : ActorState) (outcome : Outcome) → Closer mark actor_state.work outcome → IsUnanswered outcome
-    → search_left mark (actor_state_after actor_state outcome).work < search_left mark actor_state.work
+actor_state_closer : (mark : ℕ) (actor_state : ActorState) (outcome : Outcome) → Closer mark actor_state.in_progress outcome → IsUnanswered outcome
+    → search_left mark (actor_state_after actor_state outcome).in_progress < search_left mark actor_state.in_progress
 actor_state_closer mark actor_state (Answers answer) less un = absurd un
 actor_state_closer mark actor_state (Begins g) less un = less
 actor_state_closer mark actor_state (Dated cursor next) less un = less
@@ -91,9 +91,9 @@ module _ {D S M : Type 0} (disk : DiskGhosts D) (store : StoreGhosts S) (meta : 
       (below_mark mark p h t b x broker_tier g ts cursor before at later h' t' low w)
   dates_closer mark p h t b x broker_tier g ts cursor before other h' t' low w = elim w [ ]
 
-  row_closer : (mark : ℕ) (p : PartitionId) (config : Config) (h : PartitionState D) (t : RemoteTier S M) (b : ℕ) (x : Node D) (broker_tier : BrokerTierState) (work : InProgress)
+  row_closer : (mark : ℕ) (p : PartitionId) (config : Config) (h : PartitionState D) (t : RemoteTier S M) (b : ℕ) (x : Node D) (broker_tier : BrokerTierState) (in_progress : InProgress)
       (ts : ℤ) (outcome : Outcome) (h' : PartitionState D) (t' : RemoteTier S M) → x.known_high_watermark ≤ mark
-      → Row disk store meta p config h t b x broker_tier work (Offset (At ts)) outcome h' t' → Closer mark work outcome
+      → Row disk store meta p config h t b x broker_tier in_progress (Offset (At ts)) outcome h' t' → Closer mark in_progress outcome
   row_closer mark p config h t b x broker_tier Idle ts outcome h' t' low row = first_closer mark h t b x broker_tier outcome t' row.0
   row_closer mark p config h t b x broker_tier (Noted g) ts outcome h' t' low row = recorded_closer mark p h t b x broker_tier g ts outcome h' t' low row
   row_closer mark p config h t b x broker_tier (Dates g cursor next) ts outcome h' t' low row =
@@ -103,24 +103,24 @@ module _ {D S M : Type 0} (disk : DiskGhosts D) (store : StoreGhosts S) (meta : 
   pub closer : (mark place number : ℕ) (ts : ℤ) (v : Whole D S M) (b : ℕ) (outcome : Outcome) (u : Whole D S M)
       (t : IsTurn disk store meta v b outcome u) → IsUnanswered outcome → KnowsUpTo mark place number v b u → t.place ≡ place
       → t.actor_state.number ≡ number → t.order.command ≡ Offset (At ts)
-      → search_left mark (actor_state_after t.actor_state outcome).work < search_left mark t.actor_state.work
+      → search_left mark (actor_state_after t.actor_state outcome).in_progress < search_left mark t.actor_state.in_progress
   closer mark place number ts v b outcome u t un knows same number_is asks =
       let c = t.order.broker.0 in
       let h = knows t.list t.actor_state t.order (own_turn disk store meta place v b outcome u t same) number_is in
-      let y = some_of (λ x. x.known_high_watermark ≤ mark) (slice_get v.held.nodes c) h in
-      let r = row_of disk store meta v.partition v.config v.held v.tier c t.actor_state.work t.order.command outcome u.held u.tier t.row in
-      let low : r.x.known_high_watermark ≤ mark = subst (λ (k : Node D). k.known_high_watermark ≤ mark) (one_some (slice_get v.held.nodes c) y.0 r.x y.1 r.at) y.2 in
-      let row = subst (λ (k : Command). Row disk store meta v.partition v.config v.held v.tier c r.x r.broker_tier t.actor_state.work k outcome u.held
+      let y = some_of (λ x. x.known_high_watermark ≤ mark) (slice_get v.partition_state.nodes c) h in
+      let r = row_of disk store meta v.partition v.config v.partition_state v.tier c t.actor_state.in_progress t.order.command outcome u.partition_state u.tier t.row in
+      let low : r.x.known_high_watermark ≤ mark = subst (λ (k : Node D). k.known_high_watermark ≤ mark) (one_some (slice_get v.partition_state.nodes c) y.0 r.x y.1 r.at) y.2 in
+      let row = subst (λ (k : Command). Row disk store meta v.partition v.config v.partition_state v.tier c r.x r.broker_tier t.actor_state.in_progress k outcome u.partition_state
       u.tier) asks r.row in
       actor_state_closer mark t.actor_state outcome
-      (row_closer mark v.partition v.config v.held v.tier c r.x r.broker_tier t.actor_state.work ts outcome u.held u.tier low row) un
+      (row_closer mark v.partition v.config v.partition_state v.tier c r.x r.broker_tier t.actor_state.in_progress ts outcome u.partition_state u.tier low row) un
 
   pub searches_answered : (w : Whole D S M) (a place : ℕ) (l : ActorList) (actor_state : ActorState) (order : Order) (ts : ℤ) (mark : ℕ)
       (actors : List ℕ) (w' : Whole D S M) → AreRising w.lists → IsNextOrder w a place l actor_state order → order.command ≡ Offset (At ts)
-      → RunsTurns disk store meta (KnowsUpTo mark place actor_state.number) w actors w' → search_left mark actor_state.work ≤ times a actors
+      → RunsTurns disk store meta (KnowsUpTo mark place actor_state.number) w actors w' → search_left mark actor_state.in_progress ≤ times a actors
       → (answer : Answer) × IsCommandAnswered w' l.actor actor_state.number answer
   searches_answered w a place l actor_state order ts mark actors w' rising next asks r le =
-      let k = run_by disk store meta (λ v. Unit {0}) (KnowsUpTo mark place actor_state.number) (λ work. Unit {0}) (λ answer. Unit {0})
+      let k = run_by disk store meta (λ v. Unit {0}) (KnowsUpTo mark place actor_state.number) (λ in_progress. Unit {0}) (λ answer. Unit {0})
       (Offset (At ts)) a place actor_state.number l (search_left mark) (search_left_some mark) (closer mark place actor_state.number ts)
       (λ v b outcome u t i. tt) (λ v b outcome answer u t is i p same number kind works. tt) (λ v b outcome u t un works. tt) actors w w'
       (record { rising = rising; actor_state = actor_state; order = order; next = next; number_is = refl; kind_is = asks; works = tt }) tt r le in

@@ -303,8 +303,8 @@ module _ {D S M : Type 0} (disk : DiskGhosts D) (store : StoreGhosts S) (meta : 
   rebuilding_row p h t b x broker_tier g (Restart line) Join outcome h' t' row = same_tier store meta t t' row.1
   rebuilding_row p h t b x broker_tier g next other outcome h' t' row = elim row [ ]
 
-  pub row_notes : (p : PartitionId) (config : Config) (h : PartitionState D) (t : RemoteTier S M) (b : ℕ) (x : Node D) (broker_tier : BrokerTierState) (work : InProgress) (command : Command) (outcome : Outcome) (h' : PartitionState D) (t' : RemoteTier S M)
-      → IsTrue (meta.content t.meta).is_observable → Row disk store meta p config h t b x broker_tier work command outcome h' t' → IsPrefix (meta.content t.meta).notes (meta.content t'.meta).notes
+  pub row_notes : (p : PartitionId) (config : Config) (h : PartitionState D) (t : RemoteTier S M) (b : ℕ) (x : Node D) (broker_tier : BrokerTierState) (in_progress : InProgress) (command : Command) (outcome : Outcome) (h' : PartitionState D) (t' : RemoteTier S M)
+      → IsTrue (meta.content t.meta).is_observable → Row disk store meta p config h t b x broker_tier in_progress command outcome h' t' → IsPrefix (meta.content t.meta).notes (meta.content t'.meta).notes
   row_notes p config h t b x broker_tier Idle command outcome h' t' is_observable row = begin_row h t b x broker_tier command outcome h' t' row
   row_notes p config h t b x broker_tier (Noted g) command outcome h' t' is_observable row = recorded_row p config h t b x broker_tier g command outcome h' t' row
   row_notes p config h t b x broker_tier (Copies g copy next) command outcome h' t' is_observable row = copying_row h t b x broker_tier g copy next command outcome h' t' is_observable row

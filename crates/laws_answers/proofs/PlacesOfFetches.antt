@@ -24,12 +24,12 @@ use Rattle.laws_partition.proofs.Standing.{broker_at, map_get}
 use Rattle.partition_commands.specs.Partition.{line_of, node_of}
 use Rattle.partition_commands.proofs.Shown.{end_shown, line_shown}
 use Rattle.tier_safe.specs.Reads.{TellsEpochs}
-use Rattle.tier_safe.specs.Scene.{TierTask as InProgressIsSeen, Seeks as SeeksSeen}
+use Rattle.tier_safe.specs.Scene.{TierTask, Seeks as SeeksSeen}
 use Rattle.tier_safe.specs.Turns.{ShowsScene}
 use Rattle.laws_tier_fetch.specs.Seeking.{sought_of, IsAtTurn}
 use Rattle.partition_world.specs.declared.actor_state.ActorState.{ActorState}
 use Rattle.partition_world.specs.ActorStates.{recorded_in, actor_state_seen}
-use Rattle.partition_world.specs.Central.{IsCentral, seeks_of, work_of}
+use Rattle.partition_world.specs.Central.{IsCentral, seeks_of, tier_task_of}
 use Rattle.partition_world.specs.TurnsOfFetch.{MayServe, wanted_of}
 use Rattle.partition_world.specs.Whole.{Whole}
 use Rattle.partition_world.proofs.Entered.{both_of}
@@ -43,7 +43,7 @@ module _ {D S M : Type 0} (disk : DiskGhosts D) (store : StoreGhosts S) (meta : 
     y = node_of z.x z.s
 
     pub broker : slice_get c.central.plain.brokers order.broker.0 ≡ Some (broker_of y)
-    broker = broker_at c.partition c.central.plain order.broker.0 y c.central.stands.held z.sees.there
+    broker = broker_at c.partition c.central.plain order.broker.0 y c.central.stands.partition_state z.sees.there
 
     pub sound : NodeSound y
     sound = (c.central.stands.lines.each order.broker.0 y z.sees.there).sound
@@ -52,17 +52,17 @@ module _ {D S M : Type 0} (disk : DiskGhosts D) (store : StoreGhosts S) (meta : 
     pub marked : EndsAt z.x.known_high_watermark z.s.batches
     marked = sound.known_high_watermark
 
-    pub start_plain : c.central.plain.registry.start ≡ w.held.registry.start
-    start_plain = ap (λ (r : Registry). r.start) (c.central.stands.held.registry ∙ z.sees.held.registry)
+    pub start_plain : c.central.plain.registry.start ≡ w.partition_state.registry.start
+    start_plain = ap (λ (r : Registry). r.start) (c.central.stands.partition_state.registry ∙ z.sees.partition_state.registry)
 
     -- a fetch of which this is kept, and that has this next
-    module _ (offset limit : ℕ) (fetches : order.command ≡ Fetch offset limit) (g : StartSnapshot) (next : FetchStep) (recorded : recorded_in actor_state.work ≡ Some g)
-        (seeks : work_of (Some order) actor_state.work ≡ seeks_of order.broker.0 g next order.command) where
+    module _ (offset limit : ℕ) (fetches : order.command ≡ Fetch offset limit) (g : StartSnapshot) (next : FetchStep) (recorded : recorded_in actor_state.in_progress ≡ Some g)
+        (seeks : tier_task_of (Some order) actor_state.in_progress ≡ seeks_of order.broker.0 g next order.command) where
       -- the epoch that its broker led when it began
       abbrev pub epoch : ℕ
       epoch = unwrap_or (leading g.role) 0
 
-      shows_seek : work_of (Some order) actor_state.work ≡ SeeksSeen (sought_of order.broker.0 g.stops epoch offset next)
+      shows_seek : tier_task_of (Some order) actor_state.in_progress ≡ SeeksSeen (sought_of order.broker.0 g.stops epoch offset next)
       shows_seek = seeks ∙ ap (seeks_of order.broker.0 g next) fetches
 
       role_led : g.role ≡ Leads epoch
@@ -73,7 +73,7 @@ module _ {D S M : Type 0} (disk : DiskGhosts D) (store : StoreGhosts S) (meta : 
           leads.1 ∙ ap Leads (sym (ap (λ (r : Role). unwrap_or (leading r) 0) leads.1))
 
       -- the tier at its turn
-      pub turn_at : MayServe w.held z.x g offset → IsAtTurn c.scene c.central.plain place order.broker.0 (tier_view disk store meta opening w c place l actor_state order z) (broker_of y) g.stops epoch
+      pub turn_at : MayServe w.partition_state z.x g offset → IsAtTurn c.scene c.central.plain place order.broker.0 (tier_view disk store meta opening w c place l actor_state order z) (broker_of y) g.stops epoch
           (wanted_of w.partition z.x offset limit) (line_of z.x) next (store.content w.tier.store) (meta.content w.tier.meta) z.broker_tier.view z.broker_tier.cache
       turn_at k =
           let up = k.keeps.up in
@@ -81,7 +81,7 @@ module _ {D S M : Type 0} (disk : DiskGhosts D) (store : StoreGhosts S) (meta : 
           record {
             safe = both_of disk store meta opening w c;
             few = few_now disk store meta opening w c;
-            shows = subst (λ (u : InProgressIsSeen). ShowsScene c.scene place order.broker.0 (tier_view disk store meta opening w c place l actor_state order z) u (store.content w.tier.store) (meta.content w.tier.meta) z.broker_tier.view) shows_seek
+            shows = subst (λ (u : TierTask). ShowsScene c.scene place order.broker.0 (tier_view disk store meta opening w c place l actor_state order z) u (store.content w.tier.store) (meta.content w.tier.meta) z.broker_tier.view) shows_seek
                 (shows_at disk store meta opening w c place l actor_state order z);
             cache_is = refl;
             partition = sym c.shows_tier.partition;

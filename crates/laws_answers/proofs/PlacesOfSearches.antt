@@ -32,7 +32,7 @@ use Rattle.laws_time_find.specs.Searching.{search_of, IsAtSearch}
 use Rattle.tier_safe.specs.Changes.{Moves, Leaves, effect}
 use Rattle.tier_safe.specs.Reads.{TellsEpochs}
 use Rattle.tier_safe.specs.Safe.{BothSafe}
-use Rattle.tier_safe.specs.Scene.{Scene, BrokerTierView, TierTask as InProgressIsSeen, Free}
+use Rattle.tier_safe.specs.Scene.{Scene, BrokerTierView, TierTask, Free}
 use Rattle.tier_safe.specs.Turns.{ShowsScene}
 use Rattle.tier_safe.proofs.Kept.{all_kept}
 use Rattle.tier_safe.proofs.Turning.{set_get}
@@ -40,7 +40,7 @@ use Rattle.partition_world.specs.declared.actor_state.ActorState.{ActorState}
 use Rattle.partition_world.specs.declared.actor_state.InProgress.{InProgress}
 use Rattle.partition_world.specs.declared.actor_state.InProgress.TheVariants.{Noted, Dates}
 use Rattle.partition_world.specs.ActorStates.{recorded_in, actor_state_seen}
-use Rattle.partition_world.specs.Central.{HasGone, IsSearchState, IsCentral, begun_of, dates_of, work_of}
+use Rattle.partition_world.specs.Central.{HasGone, IsSearchState, IsCentral, begun_of, dates_of, tier_task_of}
 use Rattle.partition_world.specs.TurnsOfCopy.{KeepsLead}
 use Rattle.partition_world.specs.TurnsOfDate.{resumed_at, resumed_with, asked_of, SearchesOwn}
 use Rattle.partition_world.specs.Whole.{Whole}
@@ -57,30 +57,30 @@ module _ {D S M : Type 0} (disk : DiskGhosts D) (store : StoreGhosts S) (meta : 
       (z : Place disk store meta opening w c place l actor_state order) (ts : ℤ) (asks : order.command ≡ Offset (At ts)) where
     -- what the actor's state has of a search
     pub record Keeps (g : StartSnapshot) (cursor : ℕ) (next : SearchStep) : Type 0 where
-      pub recorded : recorded_in actor_state.work ≡ Some g
-      pub seeks : work_of (Some order) actor_state.work ≡ dates_of order.broker.0 g cursor next order.command
+      pub recorded : recorded_in actor_state.in_progress ≡ Some g
+      pub seeks : tier_task_of (Some order) actor_state.in_progress ≡ dates_of order.broker.0 g cursor next order.command
       pub set : IsSet cursor next
       pub gone : HasGone c.central.plain order.broker.0 g (Offset (At ts)) cursor next
 
     -- of one that has recorded only where it began
-    pub keeps_recorded : (g : StartSnapshot) → actor_state.work ≡ Noted g → Keeps g 0 Seek
+    pub keeps_recorded : (g : StartSnapshot) → actor_state.in_progress ≡ Noted g → Keeps g 0 Seek
     keeps_recorded g is = record {
       recorded = ap recorded_in is;
-      seeks = ap (work_of (Some order)) is ∙ (ap (begun_of order.broker.0 g) asks ∙ sym (ap (dates_of order.broker.0 g 0 Seek) asks));
+      seeks = ap (tier_task_of (Some order)) is ∙ (ap (begun_of order.broker.0 g) asks ∙ sym (ap (dates_of order.broker.0 g 0 Seek) asks));
       set = tt;
       gone = λ x there stops role.
           none_gone ts c.central.plain.registry.start x.log (c.central.safe.brokers order.broker.0 x there).log.consecutive;
     }
 
     -- of one that has come to a cursor
-    pub keeps_dates : (g : StartSnapshot) (cursor : ℕ) (next : SearchStep) → actor_state.work ≡ Dates g cursor next → Keeps g cursor next
+    pub keeps_dates : (g : StartSnapshot) (cursor : ℕ) (next : SearchStep) → actor_state.in_progress ≡ Dates g cursor next → Keeps g cursor next
     keeps_dates g cursor next is =
         let has : IsSearchState c.central.plain (Some order) (Dates g cursor next) =
         subst (λ (k : InProgress). IsSearchState c.central.plain (Some order) k) is
-        (subst (λ (o : Option Order). IsSearchState c.central.plain o actor_state.work) z.next (c.dated place l actor_state z.list z.actor_state_is)) in
+        (subst (λ (o : Option Order). IsSearchState c.central.plain o actor_state.in_progress) z.next (c.dated place l actor_state z.list z.actor_state_is)) in
         record {
           recorded = ap recorded_in is;
-          seeks = ap (work_of (Some order)) is;
+          seeks = ap (tier_task_of (Some order)) is;
           set = has.0;
           gone = subst (λ (k : Command). HasGone c.central.plain order.broker.0 g k cursor next) asks has.1;
         }
@@ -91,22 +91,22 @@ module _ {D S M : Type 0} (disk : DiskGhosts D) (store : StoreGhosts S) (meta : 
       epoch = unwrap_or (leading g.role) 0
 
       abbrev start : ℕ
-      start = w.held.registry.start
+      start = w.partition_state.registry.start
 
       -- where it continues, with what, and what it asks for
       abbrev pub at : ℕ
-      at = resumed_at w.held.registry.start cursor
+      at = resumed_at w.partition_state.registry.start cursor
 
       abbrev pub on : SearchStep
-      on = resumed_with w.held.registry.start cursor next
+      on = resumed_with w.partition_state.registry.start cursor next
 
       abbrev pub asked : Asked
-      asked = asked_of w.partition w.held z.x ts
+      asked = asked_of w.partition w.partition_state z.x ts
 
       abbrev here : BrokerTierView
       here = tier_view disk store meta opening w c place l actor_state order z
 
-      started : c.central.plain.registry.start ≡ w.held.registry.start
+      started : c.central.plain.registry.start ≡ w.partition_state.registry.start
       started = start_plain disk store meta opening w c place l actor_state order z
 
       there : slice_get c.central.plain.brokers order.broker.0 ≡ Some (broker_of (node_of z.x z.s))
@@ -133,7 +133,7 @@ module _ {D S M : Type 0} (disk : DiskGhosts D) (store : StoreGhosts S) (meta : 
           go n m = omega arith
 
       -- a turn in the local log
-      pub own_at : (turn : Turn (ℕ × SearchStep)) (h' : PartitionState D) → KeepsLead z.x g → SearchesOwn disk w.held order.broker.0 z.x asked at turn h'
+      pub own_at : (turn : Turn (ℕ × SearchStep)) (h' : PartitionState D) → KeepsLead z.x g → SearchesOwn disk w.partition_state order.broker.0 z.x asked at turn h'
           → OwnComes asked z.s.batches turn
       own_at turn h' lead r =
           let whole = sound disk store meta opening w c place l actor_state order z in
@@ -188,7 +188,7 @@ module _ {D S M : Type 0} (disk : DiskGhosts D) (store : StoreGhosts S) (meta : 
           by false is =
               let same_at = at_cursor start cursor is in
               let same_on : on ≡ next = rw is refl in
-              let shows = subst (λ (u : InProgressIsSeen). ShowsScene c.scene place order.broker.0 here u (store.content w.tier.store)
+              let shows = subst (λ (u : TierTask). ShowsScene c.scene place order.broker.0 here u (store.content w.tier.store)
               (meta.content w.tier.meta) z.broker_tier.view)
               (k.seeks ∙ (ap (dates_of order.broker.0 g cursor next) asks
               ∙ (ap (λ (n : ℕ). search_of order.broker.0 g.stops epoch n next) (sym same_at)

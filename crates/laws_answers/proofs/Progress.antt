@@ -45,7 +45,7 @@ use Rattle.partition_commands.specs.Turns.{FirstRow}
 use Rattle.partition_world.specs.declared.tier.BrokerTierState.{BrokerTierState}
 use Rattle.partition_world.specs.declared.tier.RemoteTier.{RemoteTier}
 use Rattle.partition_world.specs.declared.actor_state.Outcome.{Outcome}
-use Rattle.partition_world.specs.declared.actor_state.Outcome.TheVariants.{Answers, Begins, Chose, Goes, Seeks as Sought, Dates as Dated, Dooms, Deletes, Rebuilds as Rebuilding}
+use Rattle.partition_world.specs.declared.actor_state.Outcome.TheVariants.{Answers, Begins, Chose, Goes, Seeks as Sought, Dates as Dated, ChoosesExpired, Deletes, Rebuilds as Rebuilding}
 use Rattle.partition_world.specs.declared.actor_state.ActorState.{ActorState}
 use Rattle.partition_world.specs.declared.actor_state.InProgress.{InProgress}
 use Rattle.partition_world.specs.declared.actor_state.InProgress.TheVariants.{Idle, Noted, Copies, Seeks, Dates, Expires, Rebuilds}
@@ -77,15 +77,15 @@ get_other (x ∷ xs) (suc i) (suc j) y ne = get_other xs i j y (λ e. ne (ap suc
 
 -- a turn leaves fewer to come
 abbrev Less : Command → InProgress → Outcome → Type 0
-Less command work (Answers answer) = Unit {0}
-Less command work (Begins g) = turns_left command (Noted g) < turns_left command work
-Less command work (Chose copy) = turns_left command (chosen work copy) < turns_left command work
-Less command work (Goes next) = turns_left command (moved work next) < turns_left command work
-Less command work (Sought next) = turns_left command (sought work next) < turns_left command work
-Less command work (Dated cursor next) = turns_left command (dated work cursor next) < turns_left command work
-Less command work (Dooms segment) = turns_left command (expired_segment work segment) < turns_left command work
-Less command work (Deletes next) = turns_left command (deleting work next) < turns_left command work
-Less command work (Rebuilding next) = turns_left command (rebuilding work next) < turns_left command work
+Less command in_progress (Answers answer) = Unit {0}
+Less command in_progress (Begins g) = turns_left command (Noted g) < turns_left command in_progress
+Less command in_progress (Chose copy) = turns_left command (chosen in_progress copy) < turns_left command in_progress
+Less command in_progress (Goes next) = turns_left command (moved in_progress next) < turns_left command in_progress
+Less command in_progress (Sought next) = turns_left command (sought in_progress next) < turns_left command in_progress
+Less command in_progress (Dated cursor next) = turns_left command (dated in_progress cursor next) < turns_left command in_progress
+Less command in_progress (ChoosesExpired segment) = turns_left command (expired_segment in_progress segment) < turns_left command in_progress
+Less command in_progress (Deletes next) = turns_left command (deleting in_progress next) < turns_left command in_progress
+Less command in_progress (Rebuilding next) = turns_left command (rebuilding in_progress next) < turns_left command in_progress
 
 -- a copy continues with this turn
 to : (before next after : CopyStep) → GoesOn next ≡ GoesOn after → copying_left after < copying_left before → copying_left next < copying_left before
@@ -248,9 +248,9 @@ module _ {D S M : Type 0} (disk : DiskGhosts D) (store : StoreGhosts S) (meta : 
   own_less h t b x command outcome h' t' ((turn, is, row), same) = subst (Less command Idle) (sym is) (begins_less h b x command turn h' row)
 
   -- a last turn
-  last_less : (h : PartitionState D) (t : RemoteTier S M) (b : ℕ) (x : Node D) (g : StartSnapshot) (work : InProgress) (command kind : Command) (outcome : Outcome) (h' : PartitionState D) (t' : RemoteTier S M)
-      → OwnOnRow disk h t b x g command outcome h' t' → Less kind work outcome
-  last_less h t b x g work command kind outcome h' t' ((answer, is, row), same) = subst (Less kind work) (sym is) tt
+  last_less : (h : PartitionState D) (t : RemoteTier S M) (b : ℕ) (x : Node D) (g : StartSnapshot) (in_progress : InProgress) (command kind : Command) (outcome : Outcome) (h' : PartitionState D) (t' : RemoteTier S M)
+      → OwnOnRow disk h t b x g command outcome h' t' → Less kind in_progress outcome
+  last_less h t b x g in_progress command kind outcome h' t' ((answer, is, row), same) = subst (Less kind in_progress) (sym is) tt
 
   -- a copy's later ones
   choice_less : (p : PartitionId) (b : ℕ) (x y : Node D) (broker_tier z : BrokerTierState) (offset : ℕ) (g : StartSnapshot) (outcome : Outcome) → ReadSegmentRow disk p b x broker_tier offset outcome y z → Less Copy (Noted g) outcome
@@ -277,7 +277,7 @@ module _ {D S M : Type 0} (disk : DiskGhosts D) (store : StoreGhosts S) (meta : 
   -- an expiry's
   expires_less : (p : PartitionId) (config : Config) (h : PartitionState D) (x : Node D) (broker_tier : BrokerTierState) (g : StartSnapshot) (outcome : Outcome) (h' : PartitionState D) → ExpiresBy p h x broker_tier config.keep outcome h' → Less Expire (Noted g) outcome
   expires_less p config h x broker_tier g (Answers answer) h' row = tt
-  expires_less p config h x broker_tier g (Dooms segment) h' row = omega arith
+  expires_less p config h x broker_tier g (ChoosesExpired segment) h' row = omega arith
   expires_less p config h x broker_tier g other h' row = elim row [ ]
 
   expire_less : (p : PartitionId) (config : Config) (h : PartitionState D) (x : Node D) (broker_tier : BrokerTierState) (g : StartSnapshot) (outcome : Outcome) (h' : PartitionState D) → ExpireOnRow p h x broker_tier g config.keep outcome h' → Less Expire (Noted g) outcome
@@ -372,8 +372,8 @@ module _ {D S M : Type 0} (disk : DiskGhosts D) (store : StoreGhosts S) (meta : 
   offset_less h x broker_tier g (Answers answer) row = tt
   offset_less h x broker_tier g other row = elim row [ ]
 
-  row_less : (p : PartitionId) (config : Config) (h : PartitionState D) (t : RemoteTier S M) (b : ℕ) (x : Node D) (broker_tier : BrokerTierState) (work : InProgress) (command : Command) (outcome : Outcome) (h' : PartitionState D) (t' : RemoteTier S M)
-      → Row disk store meta p config h t b x broker_tier work command outcome h' t' → Less command work outcome
+  row_less : (p : PartitionId) (config : Config) (h : PartitionState D) (t : RemoteTier S M) (b : ℕ) (x : Node D) (broker_tier : BrokerTierState) (in_progress : InProgress) (command : Command) (outcome : Outcome) (h' : PartitionState D) (t' : RemoteTier S M)
+      → Row disk store meta p config h t b x broker_tier in_progress command outcome h' t' → Less command in_progress outcome
   row_less p config h t b x broker_tier Idle Copy outcome h' t' row = first_less h t b x broker_tier outcome t' row.0
   row_less p config h t b x broker_tier Idle Expire outcome h' t' row = expire_first h t b x broker_tier outcome t' row.0
   row_less p config h t b x broker_tier Idle Trim outcome h' t' row = trim_first h t b x broker_tier outcome t' row.0
@@ -394,18 +394,18 @@ module _ {D S M : Type 0} (disk : DiskGhosts D) (store : StoreGhosts S) (meta : 
   row_less p config h t b x broker_tier (Expires g segment next) Expire outcome h' t' row = deletion_less h t b x g segment next outcome t' row.0
   row_less p config h t b x broker_tier (Rebuilds g Epochs) Join outcome h' t' row = reads_less p h t b x broker_tier g outcome t' row.0
   row_less p config h t b x broker_tier (Rebuilds g (Restart line)) Join outcome h' t' row = last_less h t b x (with_line g line) (Rebuilds g (Restart line)) Join Join outcome h' t' row
-  row_less p config h t b x broker_tier work command outcome h' t' row = elim row [ ]
+  row_less p config h t b x broker_tier in_progress command outcome h' t' row = elim row [ ]
 
-  actor_state_less : (command : Command) (actor_state : ActorState) (outcome : Outcome) → Less command actor_state.work outcome → IsUnanswered outcome → turns_left command (actor_state_after actor_state outcome).work < turns_left command actor_state.work
+  actor_state_less : (command : Command) (actor_state : ActorState) (outcome : Outcome) → Less command actor_state.in_progress outcome → IsUnanswered outcome → turns_left command (actor_state_after actor_state outcome).in_progress < turns_left command actor_state.in_progress
   actor_state_less command actor_state (Answers answer) less un = absurd un
   actor_state_less command actor_state other less un = less
 
   pub go_on : (w : Whole D S M) (a : ℕ) (outcome : Outcome) (w' : Whole D S M) (t : IsTurn disk store meta w a outcome w') → IsUnanswered outcome
-      → turns_left t.order.command (actor_state_after t.actor_state outcome).work < turns_left t.order.command t.actor_state.work
+      → turns_left t.order.command (actor_state_after t.actor_state outcome).in_progress < turns_left t.order.command t.actor_state.in_progress
   go_on w a outcome w' t un =
       let b = t.order.broker.0 in
-      let r = row_of disk store meta w.partition w.config w.held w.tier b t.actor_state.work t.order.command outcome w'.held w'.tier t.row in
-      actor_state_less t.order.command t.actor_state outcome (row_less w.partition w.config w.held w.tier b r.x r.broker_tier t.actor_state.work t.order.command outcome w'.held w'.tier r.row) un
+      let r = row_of disk store meta w.partition w.config w.partition_state w.tier b t.actor_state.in_progress t.order.command outcome w'.partition_state w'.tier t.row in
+      actor_state_less t.order.command t.actor_state outcome (row_less w.partition w.config w.partition_state w.tier b r.x r.broker_tier t.actor_state.in_progress t.order.command outcome w'.partition_state w'.tier r.row) un
 
   pub others_stay : (w : Whole D S M) (a : ℕ) (outcome : Outcome) (w' : Whole D S M) (t : IsTurn disk store meta w a outcome w') (place : ℕ) → place ≢ t.place
       → slice_get w'.desk place ≡ slice_get w.desk place

@@ -80,20 +80,20 @@ module _ (c : Scene) (p : Plain) (a b : ℕ) (tier_view : BrokerTierView) (x : B
 
   -- and of the copy's batches, up to the piece's end
   copy_end : (next : FetchStep) (s : store.Content) (n : meta.Content) (view : EntriesSeen) (cache : Cache) (piece : Piece) (m : ℕ) → At next s n view cache → (r : FetchReads c p x piece)
-      → r.entry.start ≤ m → m ≤ piece.to → 0 < piece.to → EndsAt m x.log → EndsIn r.entry.start r.held.batches m
+      → r.entry.start ≤ m → m ≤ piece.to → 0 < piece.to → EndsAt m x.log → EndsIn r.entry.start r.stored_whole.batches m
   copy_end next s n view cache piece m h r low high some e =
-      let part = r.held.describes.part in
-      let whole = whole_of r.held in
+      let part = r.stored_whole.describes.part in
+      let whole = whole_of r.stored_whole in
       let safe = has_safe p part.epoch whole h.safe.plain part.begins in
       let log = (h.safe.plain.brokers b x h.broker_is).log in
       let ends = shared_end x.log whole m (piece.to - 1) log.consecutive e (turned whole x.log (piece.to - 1) r.shares) (omega (arith, high, some)) in
-      let k = end_behind part.front r.held.batches m safe.consecutive (omega (arith, part.ends, low)) ends in
+      let k = end_behind part.front r.stored_whole.batches m safe.consecutive (omega (arith, part.ends, low)) ends in
       (k.0, k.1, ap (λ (f : ℕ). end_from f k.0) (sym part.ends) ∙ k.2)
 
   -- no place is bad in the bytes that the last turn reads
   none_bad : (s : store.Content) (n : meta.Content) (view : EntriesSeen) (cache : Cache) (piece : Piece) (span : Span) (at : ℕ) → At (Log piece span) s n view cache → (r : FetchReads c p x piece)
       → FetchHasFound p.paths c.notes epoch wanted.offset wanted.limit (Log piece span) → wanted.offset < wanted.mark → EndsAt wanted.mark x.log
-      → IsBadAt (take span.most (drop span.from (joined r.held.batches))) wanted.offset wanted.limit (min wanted.mark piece.to) at → ⊥
+      → IsBadAt (take span.most (drop span.from (joined r.stored_whole.batches))) wanted.offset wanted.limit (min wanted.mark piece.to) at → ⊥
   none_bad s n view cache piece span at h r f below marked bad =
       let next = Log piece span in
       let k = (h.safe.tier.fetches a (sought_of b stops epoch wanted.offset next) tier_view x h.shows.actor_state h.shows.tier_view_is h.broker_is).piece piece refl h.leads h.past in
@@ -116,13 +116,13 @@ module _ (c : Scene) (p : Plain) (a b : ℕ) (tier_view : BrokerTierView) (x : B
       let y = prefix_goes q.before c.notes piece.id q.entry q.begins q.there in
       let same : y.0 ≡ r.entry = one_some (entry_of piece.id (fold c.notes)) y.0 r.entry y.1 r.there in
       let index : IsIndexOf p.paths r.entry q.index = subst (λ (e : Entry). IsIndexOf p.paths e q.index) same (index_follows p.paths q.entry y.0 q.index y.2 q.is) in
-      let batches = describes_one p r.entry index.batches r.held.batches index.line r.held.line h.safe.plain index.describes r.held.describes in
-      let own : q.index ≡ index_of r.entry.start index.interval (placed_from 0 r.held.batches) =
+      let batches = describes_one p r.entry index.batches r.stored_whole.batches index.line r.stored_whole.line h.safe.plain index.describes r.stored_whole.describes in
+      let own : q.index ≡ index_of r.entry.start index.interval (placed_from 0 r.stored_whole.batches) =
       index.is ∙ ap (λ (bs : List (List ℕ)). index_of r.entry.start index.interval (placed_from 0 bs)) batches in
-      let span_is : span ≡ span_of (index_of r.entry.start index.interval (placed_from 0 r.held.batches)) wanted.offset wanted.limit piece.to =
+      let span_is : span ≡ span_of (index_of r.entry.start index.interval (placed_from 0 r.stored_whole.batches)) wanted.offset wanted.limit piece.to =
       q.span_is ∙ ap (λ (t : OffsetTable). span_of t wanted.offset wanted.limit piece.to) own in
-      spans_hold r.entry.start index.interval r.held.batches wanted.offset wanted.limit wanted.mark piece.to at r.held.describes.is low past one two
-      (subst (λ (k : Span). IsBadAt (read_in r.held.batches k) wanted.offset wanted.limit bound at) span_is bad)
+      spans_hold r.entry.start index.interval r.stored_whole.batches wanted.offset wanted.limit wanted.mark piece.to at r.stored_whole.describes.is low past one two
+      (subst (λ (k : Span). IsBadAt (read_in r.stored_whole.batches k) wanted.offset wanted.limit bound at) span_is bad)
 
   -- an index of the copy's batches shows such a span
   spanned : (piece : Piece) (index : OffsetTable) → PieceEnds p.paths epoch piece → (r : FetchReads c p x piece) → IsIndexOf p.paths r.entry index
@@ -173,7 +173,7 @@ module _ (c : Scene) (p : Plain) (a b : ℕ) (tier_view : BrokerTierView) (x : B
             let is = index_read c p x piece k.index bytes r (k.base_is ∙ g.start_is) k.rises k.bytes_are g.given_is in
             let same : Log piece (span_of k.index wanted.offset wanted.limit piece.to) ≡ later = (let e = k.turn_is in cc (e)) in
             subst (FetchHasFound p.paths c.notes epoch wanted.offset wanted.limit) same
-            (spanned piece k.index ends r (record { batches = r.held.batches; line = r.held.line; interval = r.held.interval; describes = r.held.describes; is = is }))
+            (spanned piece k.index ends r (record { batches = r.stored_whole.batches; line = r.stored_whole.line; interval = r.stored_whole.interval; describes = r.stored_whole.describes; is = is }))
 
     load_found : (ns : meta.Content) (view : EntriesSeen) (cache cache' : Cache) (old new : S) (piece : Piece) (place : Option (ℕ × Spot)) (later : FetchStep) → At (Index piece) (objects old) ns view cache
         → spot_in wanted.partition piece.id part.Index (entry_of piece.id view.entries) ≡ place → LoadRow objects calls wanted piece view place (Ok (Goes later)) cache cache' old new
@@ -205,7 +205,7 @@ module _ (c : Scene) (p : Plain) (a b : ℕ) (tier_view : BrokerTierView) (x : B
 
         -- what is read is of the copy's batches, and all of it that is owed
         read : (given : Option (List ℕ)) → given ≡ option_map (some_of spot.1 span.from span.most) ((objects old).objects spot.1.key)
-            → IsGiven spot r.entry.start (joined r.held.batches) (λ bytes. take span.most (drop span.from bytes)) given
+            → IsGiven spot r.entry.start (joined r.stored_whole.batches) (λ bytes. take span.most (drop span.from bytes)) given
         read given is = gives c p a b tier_view x stops epoch wanted line (Log piece span) (objects old) ns view cache piece part.Log spot (λ bytes. take span.most (drop span.from bytes)) given tt h refl stood is r
 
         by : (answer : Result (Option (List ℕ)) Trouble)
@@ -216,10 +216,10 @@ module _ (c : Scene) (p : Plain) (a b : ℕ) (tier_view : BrokerTierView) (x : B
         by (Ok None) is k = let g = read None is in let e = g.given_is in cc (e)
         by (Ok (Some bytes)) is k =
             let g = read (Some bytes) is in
-            let e : bytes ≡ take span.most (drop span.from (joined r.held.batches)) =
-            one_some (Some bytes) bytes (take span.most (drop span.from (joined r.held.batches))) refl g.given_is in
+            let e : bytes ≡ take span.most (drop span.from (joined r.stored_whole.batches)) =
+            one_some (Some bytes) bytes (take span.most (drop span.from (joined r.stored_whole.batches))) refl g.given_is in
             let all : short_in spot.1 span.from span.most bytes ≡ None =
-            ap (short_in spot.1 span.from span.most) e ∙ piece_not_short spot.1 span.from span.most (joined r.held.batches) g.whole in
+            ap (short_in spot.1 span.from span.most) e ∙ piece_not_short spot.1 span.from span.most (joined r.stored_whole.batches) g.whole in
             let bad = subst (λ (end : Option ℕ). CutsBytes end wanted piece spot.1 span bytes (Ok (Ends (Damaged place at)))) all k in
             none_bad (objects old) ns view cache piece span bad.found h r f below marked
             (subst (λ (given : List ℕ). IsBadAt given wanted.offset wanted.limit (min wanted.mark piece.to) bad.found) e bad.bad)

@@ -83,8 +83,8 @@ module _ {D : Type 0} where
 
 module _ {D S M : Type 0} (disk : DiskGhosts D) (store : StoreGhosts S) (meta : MetaGhosts M) where
   -- a copy has no cause for it
-  cause_never : (w : Whole D S M) (b : ℕ) (x : Node D) (broker_tier : BrokerTierState) (work : InProgress) (place : Spoiled) (at : ℕ) (w' : Whole D S M)
-      → CopyHasCause disk store meta w b x broker_tier work (Damaged place at) w' → ⊥
+  cause_never : (w : Whole D S M) (b : ℕ) (x : Node D) (broker_tier : BrokerTierState) (in_progress : InProgress) (place : Spoiled) (at : ℕ) (w' : Whole D S M)
+      → CopyHasCause disk store meta w b x broker_tier in_progress (Damaged place at) w' → ⊥
   cause_never w b x broker_tier Idle place at w' cause = cause
   cause_never w b x broker_tier (Noted g) place at w' cause = cause
   cause_never w b x broker_tier (Copies g copy next) place at w' cause = cause
@@ -96,17 +96,17 @@ module _ {D S M : Type 0} (disk : DiskGhosts D) (store : StoreGhosts S) (meta : 
     b = t.order.broker.0
 
     -- a follow reads the leader's log
-    follow_never : (limit : ℕ) (spoiled : Spoiled) → FollowRow disk.content disk.control w.held b z.x limit (turned.Answers (Damaged spoiled at)) w'.held → ⊥
+    follow_never : (limit : ℕ) (spoiled : Spoiled) → FollowRow disk.content disk.control w.partition_state b z.x limit (turned.Answers (Damaged spoiled at)) w'.partition_state → ⊥
     follow_never limit (File name) row =
         let y = some_of (λ y. (end_of z.x < end_of y) × (local_of y ≤ end_of z.x)
-        × NodeHasDamage disk.content disk.control w.held w.held.registry.leader.0 y (end_of z.x) limit (end_of y) name at w'.held) (the_leader w.held) row.2 in
-        let v = sees_at disk.content disk.control w.held c.partition w.held.registry.leader.0 y.0 c.shows (leader_at w.held y.0 y.1) in
+        × NodeHasDamage disk.content disk.control w.partition_state w.partition_state.registry.leader.0 y (end_of z.x) limit (end_of y) name at w'.partition_state) (the_leader w.partition_state) row.2 in
+        let v = sees_at disk.content disk.control w.partition_state c.partition w.partition_state.registry.leader.0 y.0 c.shows (leader_at w.partition_state y.0 y.1) in
         y.2.2.misreads.unmarked v.0 v.1.shows
-        (subst (λ (n : ℕ). EndsAt n v.0.batches) (sym (end_shown disk.content y.0 v.0 (leader_up w.held y.0 y.1) v.1.shows)) (ends_at_end v.0.batches))
+        (subst (λ (n : ℕ). EndsAt n v.0.batches) (sym (end_shown disk.content y.0 v.0 (leader_up w.partition_state y.0 y.1) v.1.shows)) (ends_at_end v.0.batches))
     follow_never limit other row = elim row [ ]
 
     -- a command of one turn: a broker that starts opens its log
-    answer_never : (command : Command) (spoiled : Spoiled) → AnswerRow disk.content disk.control w.held b z.x command (Damaged spoiled at) w'.held → ⊥
+    answer_never : (command : Command) (spoiled : Spoiled) → AnswerRow disk.content disk.control w.partition_state b z.x command (Damaged spoiled at) w'.partition_state → ⊥
     answer_never Up (File name) row = row.1.1.unseen z.s z.sees.shows
     answer_never (Append recs) spoiled row = row
     answer_never (Raw bytes) spoiled row = row
@@ -123,7 +123,7 @@ module _ {D S M : Type 0} (disk : DiskGhosts D) (store : StoreGhosts S) (meta : 
     answer_never Stop spoiled row = row
     answer_never command spoiled row = elim row [ ]
 
-    first_never : (command : Command) → FirstRow disk.content disk.control w.held b z.x command (turned.Answers (Damaged place at)) w'.held → IsOwn command → ⊥
+    first_never : (command : Command) → FirstRow disk.content disk.control w.partition_state b z.x command (turned.Answers (Damaged place at)) w'.partition_state → IsOwn command → ⊥
     first_never (Follow limit) row own = follow_never limit place row
     first_never Join row own = row
     first_never Trim row own = row
@@ -132,44 +132,44 @@ module _ {D S M : Type 0} (disk : DiskGhosts D) (store : StoreGhosts S) (meta : 
     first_never (Offset (At ts)) row own = row
     first_never other row own = answer_never other place row
 
-    own_never : (command : Command) → IsOwn command → LocalCommandRow disk w.held w.tier b z.x command (Answers (Damaged place at)) w'.held w'.tier → ⊥
+    own_never : (command : Command) → IsOwn command → LocalCommandRow disk w.partition_state w.tier b z.x command (Answers (Damaged place at)) w'.partition_state w'.tier → ⊥
     own_never command own ((turned.Answers k, is, row), same) =
         let e : Damaged place at ≡ k = cc (is) in
-        first_never command (subst (λ (j : Answer). FirstRow disk.content disk.control w.held b z.x command (turned.Answers j) w'.held) (sym e) row) own
+        first_never command (subst (λ (j : Answer). FirstRow disk.content disk.control w.partition_state b z.x command (turned.Answers j) w'.partition_state) (sym e) row) own
     own_never command own ((turned.Begins g, is, row), same) = absurd (cc (is))
 
     -- its last turn
-    last_never : (g : StartSnapshot) (command : Command) → LaterRow disk.content disk.control w.held b z.x command g (turned.Answers (Damaged place at)) w'.held → ⊥
+    last_never : (g : StartSnapshot) (command : Command) → LaterRow disk.content disk.control w.partition_state b z.x command g (turned.Answers (Damaged place at)) w'.partition_state → ⊥
     last_never g (Follow limit) row = row
     last_never g Join row = row
     last_never g Trim row = row
     last_never g other row = elim row [ ]
 
-    own_on_never : (g : StartSnapshot) (command : Command) → OwnOnRow disk w.held w.tier b z.x g command (Answers (Damaged place at)) w'.held w'.tier → ⊥
+    own_on_never : (g : StartSnapshot) (command : Command) → OwnOnRow disk w.partition_state w.tier b z.x g command (Answers (Damaged place at)) w'.partition_state w'.tier → ⊥
     own_on_never g command ((k, is, row), same) =
         let e : Damaged place at ≡ k = cc (is) in
-        last_never g command (subst (λ (j : Answer). LaterRow disk.content disk.control w.held b z.x command g (turned.Answers j) w'.held) (sym e) row)
+        last_never g command (subst (λ (j : Answer). LaterRow disk.content disk.control w.partition_state b z.x command g (turned.Answers j) w'.partition_state) (sym e) row)
 
     -- an expiry
-    expire_never : (g : StartSnapshot) → ExpireOnRow w.partition w.held z.x z.broker_tier g w.config.keep (Answers (Damaged place at)) w'.held → ⊥
+    expire_never : (g : StartSnapshot) → ExpireOnRow w.partition w.partition_state z.x z.broker_tier g w.config.keep (Answers (Damaged place at)) w'.partition_state → ⊥
     expire_never g (inl lost) = let is = lost.1 in absurd (cc (is))
     expire_never g (inr row) = row.1.2
 
-    delete_never : (g : StartSnapshot) (expired_segment : ExpiredSegment) (next : Deletion) → DeleteOnRow store meta w.held w.tier b z.x g expired_segment next (Answers (Damaged place at)) w'.tier → ⊥
+    delete_never : (g : StartSnapshot) (expired_segment : ExpiredSegment) (next : Deletion) → DeleteOnRow store meta w.partition_state w.tier b z.x g expired_segment next (Answers (Damaged place at)) w'.tier → ⊥
     delete_never g expired_segment next (inl lost) = let is = lost.1 in absurd (cc (is))
     delete_never g expired_segment next (inr (keeps, (turns.Ends k, is, goes))) =
         let e : Damaged place at ≡ k = cc (is) in
-        deletion_never place at k e (expiry_ends store meta expired_segment (origin_of w.held b) next k (expiry_tiers w.tier) (expiry_tiers w'.tier) goes.row)
+        deletion_never place at k e (expiry_ends store meta expired_segment (origin_of w.partition_state b) next k (expiry_tiers w.tier) (expiry_tiers w'.tier) goes.row)
     delete_never g expired_segment next (inr (keeps, (turns.Goes further, is, goes))) = absurd (cc (is))
 
     -- a join that continues in the tier
-    join_never : (g : StartSnapshot) → JoinSecondRow disk meta w.held w.tier b z.x z.broker_tier g (Answers (Damaged place at)) w'.held w'.tier → ⊥
+    join_never : (g : StartSnapshot) → JoinSecondRow disk meta w.partition_state w.tier b z.x z.broker_tier g (Answers (Damaged place at)) w'.partition_state w'.tier → ⊥
     join_never g (inl own) = own_on_never g Join own.1
-    join_never g (inr (low, inl (k, is, once, same), held)) = let e : Damaged place at ≡ k = cc (is) in once_never w.held z.x g k place at e once
-    join_never g (inr (low, inr row, held)) = row.1
+    join_never g (inr (low, inl (k, is, once, same), partition_state)) = let e : Damaged place at ≡ k = cc (is) in once_never w.partition_state z.x g k place at e once
+    join_never g (inr (low, inr row, partition_state)) = row.1
 
-    read_never : (joins : t.order.command ≡ Join) (g : StartSnapshot) → t.actor_state.work ≡ Rebuilds g Epochs → EpochsOnRow store w.partition w.held w.tier z.x z.broker_tier g (Answers (Damaged place at)) w'.tier → ⊥
-    read_never joins g works (inl (k, is, once, same)) = let e : Damaged place at ≡ k = cc (is) in once_never w.held z.x g k place at e once
+    read_never : (joins : t.order.command ≡ Join) (g : StartSnapshot) → t.actor_state.in_progress ≡ Rebuilds g Epochs → EpochsOnRow store w.partition w.partition_state w.tier z.x z.broker_tier g (Answers (Damaged place at)) w'.tier → ⊥
+    read_never joins g works (inl (k, is, once, same)) = let e : Damaged place at ≡ k = cc (is) in once_never w.partition_state z.x g k place at e once
     read_never joins g works (inr (may, (turns.Goes next, is, goes))) = absurd (cc (is))
     read_never joins g works (inr (may, (turns.Ends k, is, goes))) =
         let e : Damaged place at ≡ k = cc (is) in
@@ -181,16 +181,16 @@ module _ {D S M : Type 0} (disk : DiskGhosts D) (store : StoreGhosts S) (meta : 
     module _ (known : DeletionsKnown meta w) (spans : SpansKnown meta opening w) (searches : SearchesKnown meta opening w) where
       copy_never : t.order.command ≡ Copy → ⊥
       copy_never copies =
-          let x = some_of (λ x. AtBrokerTier w.tier b (λ broker_tier. CopyHasCause disk store meta w b x broker_tier t.actor_state.work (Damaged place at) w')) (slice_get w.held.nodes b)
+          let x = some_of (λ x. AtBrokerTier w.tier b (λ broker_tier. CopyHasCause disk store meta w b x broker_tier t.actor_state.in_progress (Damaged place at) w')) (slice_get w.partition_state.nodes b)
           (have_causes disk store meta opening w a (Damaged place at) w' c known t copies) in
-          let broker_tier = some_of (λ broker_tier. CopyHasCause disk store meta w b x.0 broker_tier t.actor_state.work (Damaged place at) w') (slice_get w.tier.broker_tiers b) x.2 in
-          cause_never w b x.0 broker_tier.0 t.actor_state.work place at w' broker_tier.2
+          let broker_tier = some_of (λ broker_tier. CopyHasCause disk store meta w b x.0 broker_tier t.actor_state.in_progress (Damaged place at) w') (slice_get w.tier.broker_tiers b) x.2 in
+          cause_never w b x.0 broker_tier.0 t.actor_state.in_progress place at w' broker_tier.2
 
-      pub row_never : (work : InProgress) (command : Command) → t.actor_state.work ≡ work → t.order.command ≡ command
-          → Row disk store meta w.partition w.config w.held w.tier b z.x z.broker_tier work command (Answers (Damaged place at)) w'.held w'.tier → ⊥
-      row_never work Copy works is row = copy_never is
-      row_never work (Fetch offset limit) works is row = no_fetch disk store meta opening w a place at w' offset limit c spans t is
-      row_never work (Offset (At ts)) works is row = no_search disk store meta opening w a place at w' ts c searches t is
+      pub row_never : (in_progress : InProgress) (command : Command) → t.actor_state.in_progress ≡ in_progress → t.order.command ≡ command
+          → Row disk store meta w.partition w.config w.partition_state w.tier b z.x z.broker_tier in_progress command (Answers (Damaged place at)) w'.partition_state w'.tier → ⊥
+      row_never in_progress Copy works is row = copy_never is
+      row_never in_progress (Fetch offset limit) works is row = no_fetch disk store meta opening w a place at w' offset limit c spans t is
+      row_never in_progress (Offset (At ts)) works is row = no_search disk store meta opening w a place at w' ts c searches t is
       row_never Idle Trim works is row = row.0
       row_never Idle Expire works is row = row.0
       row_never Idle (Offset LatestTiered) works is row = row.0
@@ -203,12 +203,12 @@ module _ {D S M : Type 0} (disk : DiskGhosts D) (store : StoreGhosts S) (meta : 
       row_never (Expires g expired_segment next) Expire works is row = delete_never g expired_segment next row.0
       row_never (Rebuilds g Epochs) Join works is row = read_never is g works row.0
       row_never (Rebuilds g (Restart line)) Join works is row = own_on_never (with_line g line) Join row
-      row_never work command works is row = elim row [ ]
+      row_never in_progress command works is row = elim row [ ]
 
   pub none_damaged : (opening : State) (w : Whole D S M) (a : ℕ) (place : Spoiled) (at : ℕ) (w' : Whole D S M) → IsCentral disk store meta opening w → DeletionsKnown meta w → SpansKnown meta opening w
       → SearchesKnown meta opening w → IsTurn disk store meta w a (Answers (Damaged place at)) w' → ⊥
   none_damaged opening w a place at w' c known spans searches t =
       let b = t.order.broker.0 in
-      let r = row_of disk store meta w.partition w.config w.held w.tier b t.actor_state.work t.order.command (Answers (Damaged place at)) w'.held w'.tier t.row in
+      let r = row_of disk store meta w.partition w.config w.partition_state w.tier b t.actor_state.in_progress t.order.command (Answers (Damaged place at)) w'.partition_state w'.tier t.row in
       let z = place_of disk store meta opening w c t.place t.list t.actor_state t.order t.at.list t.at.actor_state_is t.next r.x r.at r.broker_tier r.broker_tier_at in
-      row_never opening w a place at w' t c z known spans searches t.actor_state.work t.order.command refl refl r.row
+      row_never opening w a place at w' t c z known spans searches t.actor_state.in_progress t.order.command refl refl r.row

@@ -71,7 +71,7 @@ module _ {D S M : Type 0} (disk : DiskGhosts D) (store : StoreGhosts S) (meta : 
       (one.0 ++ more.0, any_more one.0 more.0 v r.0 u one.1 more.1, λ a. (let low = one.2 a in let high = more.2 a in let both = times_more a one.0 more.0 in omega (arith, low, high, both)))
 
   pub schedules_answer : (w : Whole D S M) (a place : ℕ) (l : ActorList) (actor_state : ActorState) (order : Order) (schedule : List Pace) (w' : Whole D S M) → AreRising w.lists → IsNextOrder w a place l actor_state order
-      → Reaches disk store meta w schedule w' → turns_left order.command actor_state.work ≤ turns_in a schedule → (answer : Answer) × IsCommandAnswered w' l.actor actor_state.number answer
+      → Reaches disk store meta w schedule w' → turns_left order.command actor_state.in_progress ≤ turns_in a schedule → (answer : Answer) × IsCommandAnswered w' l.actor actor_state.number answer
   schedules_answer w a place l actor_state order schedule w' rising next r le =
       let any = any_of w schedule w' r in
       let many = any.2 a in

@@ -70,10 +70,10 @@ module _ {D S M : Type 0} (disk : DiskGhosts D) (store : StoreGhosts S) (meta : 
 
     -- the offset of the timestamp, as the log is seen
     abbrev IsFirst : Option ℕ → Type 0
-    IsFirst found = first_at ts w.held.registry.start (from_offset w.held.registry.start (up_to z.x.known_high_watermark z.s.batches)) ≡ found
+    IsFirst found = first_at ts w.partition_state.registry.start (from_offset w.partition_state.registry.start (up_to z.x.known_high_watermark z.s.batches)) ≡ found
 
-    start_seen : c.partition.registry.start ≡ w.held.registry.start
-    start_seen = ap (λ (r : Registry). r.start) z.sees.held.registry
+    start_seen : c.partition.registry.start ≡ w.partition_state.registry.start
+    start_seen = ap (λ (r : Registry). r.start) z.sees.partition_state.registry
 
     seen_first : (found : Option ℕ) → IsFirst found → dated_offset c.partition (node_of z.x z.s) ts ≡ found
     seen_first found is = subst (λ (n : ℕ). first_at ts n (from_offset n (up_to z.x.known_high_watermark z.s.batches)) ≡ found) (sym start_seen) is
@@ -89,18 +89,18 @@ module _ {D S M : Type 0} (disk : DiskGhosts D) (store : StoreGhosts S) (meta : 
       on = on_of disk store meta opening w c t.place t.list t.actor_state t.order z ts asks g cursor next k
 
       abbrev Ended : Answer → Type 0
-      Ended told = SearchesOn disk store meta w.partition w.held w.tier b z.x z.broker_tier g ts cursor next (Ends told) w'.held w'.tier
+      Ended told = SearchesOn disk store meta w.partition w.partition_state w.tier b z.x z.broker_tier g ts cursor next (Ends told) w'.partition_state w'.tier
 
       abbrev Turns : Bool → Answer → Type 0
       Turns own told =
-          SearchRow disk store meta w.held w.tier b z.x z.broker_tier (asked_for disk store meta opening w c t.place t.list t.actor_state t.order z ts
-          asks g cursor next k) at on own (Ends told) w'.held w'.tier
+          SearchRow disk store meta w.partition_state w.tier b z.x z.broker_tier (asked_for disk store meta opening w c t.place t.list t.actor_state t.order z ts
+          asks g cursor next k) at on own (Ends told) w'.partition_state w'.tier
 
       -- the log has that offset
       right : (n : ℕ) → KeepsLead z.x g → at < z.x.known_high_watermark → (own : Bool) → is_own (local_of z.x) at on ≡ own → Turns own (OffsetAnswer n)
           → IsFirst (Some n)
       right n keeps below true own row =
-          elim ((own_at disk store meta opening w c t.place t.list t.actor_state t.order z ts asks g cursor next k (Ends (OffsetAnswer n)) w'.held
+          elim ((own_at disk store meta opening w c t.place t.list t.actor_state t.order z ts asks g cursor next k (Ends (OffsetAnswer n)) w'.partition_state
           keeps row.0).ends (OffsetAnswer n) refl) [
             | inl fault ↦ absurd (cc (fault))
             | inr (m, is, first) ↦ let same : m ≡ n = cc (is) in subst (λ (o : ℕ). IsFirst (Some o)) same first
@@ -113,7 +113,7 @@ module _ {D S M : Type 0} (disk : DiskGhosts D) (store : StoreGhosts S) (meta : 
           (fetch_tiers z.broker_tier.view z.broker_tier.cache w.tier) (fetch_tiers r.view r.cache w'.tier)
           d.0 c.central.plain t.place b (tier_view disk store meta opening w c t.place t.list t.actor_state t.order z) (broker_of (node_of z.x z.s))
           g.stops led r.row (below_local asked at on own)
-          (resumed_set w.held.registry.start cursor next k.set) d.2 in
+          (resumed_set w.partition_state.registry.start cursor next k.set) d.2 in
           subst (λ (m : ℕ). first_at ts m (from_offset m (up_to z.x.known_high_watermark z.s.batches)) ≡ Some n)
           (start_plain disk store meta opening w c t.place t.list t.actor_state t.order z) is
 
@@ -123,7 +123,7 @@ module _ {D S M : Type 0} (disk : DiskGhosts D) (store : StoreGhosts S) (meta : 
           → (own : Bool) → is_own (local_of z.x) at on ≡ own → Turns own (Damaged place n) → ⊥
       undamaged place n keeps below f true own row =
           elim ((own_at disk store meta opening w c t.place t.list t.actor_state t.order z ts asks g cursor next k (Ends (Damaged place n))
-          w'.held keeps row.0).ends (Damaged place n) refl) [
+          w'.partition_state keeps row.0).ends (Damaged place n) refl) [
             | inl fault ↦ cc (fault)
             | inr (m, is, first) ↦ cc (is)
           ]
@@ -132,32 +132,32 @@ module _ {D S M : Type 0} (disk : DiskGhosts D) (store : StoreGhosts S) (meta : 
           let d = search_at disk store meta opening w c t.place t.list t.actor_state t.order z ts asks g cursor next k keeps below in
           let asked = asked_for disk store meta opening w c t.place t.list t.actor_state t.order z ts asks g cursor next k in
           let found = subst (λ (notes : List Note). IsFoundByTime c.central.plain.paths notes led on) (sym (d.1 ∙ c.shows_tier.notes))
-          (resumed_found c.central.plain.paths (meta.content w.tier.meta).notes led w.held.registry.start cursor next f) in
+          (resumed_found c.central.plain.paths (meta.content w.tier.meta).notes led w.partition_state.registry.start cursor next f) in
           time_undamaged d.0 c.central.plain t.place b (tier_view disk store meta opening w c t.place t.list t.actor_state t.order z)
           (broker_of (node_of z.x z.s)) g.stops led asked (line_of z.x) at
           store.content store.control meta.content meta.control on place n (fetch_tiers z.broker_tier.view z.broker_tier.cache w.tier)
           (fetch_tiers r.view r.cache w'.tier) d.2 (below_local asked at on own)
-          (resumed_set w.held.registry.start cursor next k.set) r.row found
+          (resumed_set w.partition_state.registry.start cursor next k.set) r.row found
 
-      dates : (told : Answer) → DateOnRow disk store meta w.partition w.held w.tier b z.x z.broker_tier g ts cursor next (Answers told) w'.held
+      dates : (told : Answer) → DateOnRow disk store meta w.partition w.partition_state w.tier b z.x z.broker_tier g ts cursor next (Answers told) w'.partition_state
           w'.tier → TellsDate disk w z.x ts told
       dates (OffsetAnswer n) row =
           let first = right n row.keeps row.below (is_own (local_of z.x) at on) refl row.row in
-          record { held = c.partition; shown = c.shows; seen = z.s; shows = z.sees.shows; is = seen_first (Some n) first }
+          record { partition_state = c.partition; shown = c.shows; seen = z.s; shows = z.sees.shows; is = seen_first (Some n) first }
       dates NoOffset row =
           let passed = (gone_at disk store meta opening w c t.place t.list t.actor_state t.order z ts asks g cursor next k row.0).cursor in
-          let first = passed_has_none ts w.held.registry.start z.x.known_high_watermark at z.s.batches passed row.1 in
-          record { held = c.partition; shown = c.shows; seen = z.s; shows = z.sees.shows; is = seen_first None first }
+          let first = passed_has_none ts w.partition_state.registry.start z.x.known_high_watermark at z.s.batches passed row.1 in
+          record { partition_state = c.partition; shown = c.shows; seen = z.s; shows = z.sees.shows; is = seen_first None first }
       dates other row = tt
 
-    first : (told : Answer) → Row disk store meta w.partition w.config w.held w.tier b z.x z.broker_tier Idle (Offset (At ts)) (Answers told)
-        w'.held w'.tier → TellsDate disk w z.x ts told
+    first : (told : Answer) → Row disk store meta w.partition w.config w.partition_state w.tier b z.x z.broker_tier Idle (Offset (At ts)) (Answers told)
+        w'.partition_state w'.tier → TellsDate disk w z.x ts told
     first (OffsetAnswer n) row = elim row.0 [ ]
     first NoOffset row = elim row.0 [ ]
     first other row = tt
 
-    is_observable : (work : InProgress) → t.actor_state.work ≡ work → Row disk store meta w.partition w.config w.held w.tier b z.x z.broker_tier work (Offset (At ts))
-        (Answers answer) w'.held w'.tier → TellsDate disk w z.x ts answer
+    is_observable : (in_progress : InProgress) → t.actor_state.in_progress ≡ in_progress → Row disk store meta w.partition w.config w.partition_state w.tier b z.x z.broker_tier in_progress (Offset (At ts))
+        (Answers answer) w'.partition_state w'.tier → TellsDate disk w z.x ts answer
     is_observable Idle is row = first answer row
     is_observable (Noted g) is row = dates g 0 Seek (keeps_recorded disk store meta opening w c t.place t.list t.actor_state t.order z ts asks g is) answer
         row
@@ -167,16 +167,16 @@ module _ {D S M : Type 0} (disk : DiskGhosts D) (store : StoreGhosts S) (meta : 
 
   pub tell_dates : (opening : State) (w : Whole D S M) (a : ℕ) (answer : Answer) (w' : Whole D S M) (ts : ℤ)
       → IsCentral disk store meta opening w → (t : IsTurn disk store meta w a (Answers answer) w')
-      → t.order.command ≡ Offset (At ts) → AtNode w.held t.order.broker.0 (λ x. TellsDate disk w x ts answer)
+      → t.order.command ≡ Offset (At ts) → AtNode w.partition_state t.order.broker.0 (λ x. TellsDate disk w x ts answer)
   tell_dates opening w a answer w' ts c t asks =
       let b = t.order.broker.0 in
-      let r = row_of disk store meta w.partition w.config w.held w.tier b t.actor_state.work t.order.command (Answers answer) w'.held w'.tier
+      let r = row_of disk store meta w.partition w.config w.partition_state w.tier b t.actor_state.in_progress t.order.command (Answers answer) w'.partition_state w'.tier
       t.row in
       let z = place_of disk store meta opening w c t.place t.list t.actor_state t.order t.at.list t.at.actor_state_is t.next r.x r.at r.broker_tier r.broker_tier_at in
-      let row = subst (λ (k : Command). Row disk store meta w.partition w.config w.held w.tier b r.x r.broker_tier t.actor_state.work k (Answers answer)
-      w'.held w'.tier) asks r.row in
-      some_at (λ (x : Node D). TellsDate disk w x ts answer) (slice_get w.held.nodes b) r.x r.at
-      (is_observable opening w a answer w' t c z ts asks t.actor_state.work refl row)
+      let row = subst (λ (k : Command). Row disk store meta w.partition w.config w.partition_state w.tier b r.x r.broker_tier t.actor_state.in_progress k (Answers answer)
+      w'.partition_state w'.tier) asks r.row in
+      some_at (λ (x : Node D). TellsDate disk w x ts answer) (slice_get w.partition_state.nodes b) r.x r.at
+      (is_observable opening w a answer w' t c z ts asks t.actor_state.in_progress refl row)
 
   module _ (opening : State) (w : Whole D S M) (a : ℕ) (place : Spoiled) (at : ℕ) (w' : Whole D S M)
       (t : IsTurn disk store meta w a (Answers (Damaged place at)) w')
@@ -186,16 +186,16 @@ module _ {D S M : Type 0} (disk : DiskGhosts D) (store : StoreGhosts S) (meta : 
     later_never : (g : StartSnapshot) (cursor : ℕ) (next : SearchStep) (k : Keeps disk store meta opening w c t.place t.list t.actor_state t.order z ts asks g
         cursor next)
         → IsFoundByTime c.central.plain.paths (meta.content w.tier.meta).notes (unwrap_or (leading g.role) 0) next
-        → DateOnRow disk store meta w.partition w.held w.tier t.order.broker.0 z.x z.broker_tier g ts cursor next (Answers (Damaged place at))
-        w'.held w'.tier → ⊥
+        → DateOnRow disk store meta w.partition w.partition_state w.tier t.order.broker.0 z.x z.broker_tier g ts cursor next (Answers (Damaged place at))
+        w'.partition_state w'.tier → ⊥
     later_never g cursor next k f row =
         undamaged opening w a (Damaged place at) w' t c z ts asks g cursor next k place at row.keeps row.below f
         (is_own (local_of z.x) (at_of disk store meta opening w c t.place t.list t.actor_state t.order z ts asks g cursor next k)
         (on_of disk store meta opening w c t.place t.list t.actor_state t.order z ts asks g cursor next k)) refl row.row
 
-    never : (work : InProgress) → t.actor_state.work ≡ work
-        → Row disk store meta w.partition w.config w.held w.tier t.order.broker.0 z.x z.broker_tier work (Offset (At ts))
-        (Answers (Damaged place at)) w'.held w'.tier → ⊥
+    never : (in_progress : InProgress) → t.actor_state.in_progress ≡ in_progress
+        → Row disk store meta w.partition w.config w.partition_state w.tier t.order.broker.0 z.x z.broker_tier in_progress (Offset (At ts))
+        (Answers (Damaged place at)) w'.partition_state w'.tier → ⊥
     never Idle is row = row.0
     never (Noted g) is row = later_never g 0 Seek (keeps_recorded disk store meta opening w c t.place t.list t.actor_state t.order z ts asks g is) tt
         row
@@ -210,9 +210,9 @@ module _ {D S M : Type 0} (disk : DiskGhosts D) (store : StoreGhosts S) (meta : 
       → (t : IsTurn disk store meta w a (Answers (Damaged place at)) w') → t.order.command ≡ Offset (At ts) → ⊥
   none_damaged opening w a place at w' ts c known t asks =
       let b = t.order.broker.0 in
-      let r = row_of disk store meta w.partition w.config w.held w.tier b t.actor_state.work t.order.command (Answers (Damaged place at)) w'.held
+      let r = row_of disk store meta w.partition w.config w.partition_state w.tier b t.actor_state.in_progress t.order.command (Answers (Damaged place at)) w'.partition_state
       w'.tier t.row in
       let z = place_of disk store meta opening w c t.place t.list t.actor_state t.order t.at.list t.at.actor_state_is t.next r.x r.at r.broker_tier r.broker_tier_at in
-      never opening w a place at w' t c known z ts asks t.actor_state.work refl
-      (subst (λ (k : Command). Row disk store meta w.partition w.config w.held w.tier b r.x r.broker_tier t.actor_state.work k
-      (Answers (Damaged place at)) w'.held w'.tier) asks r.row)
+      never opening w a place at w' t c known z ts asks t.actor_state.in_progress refl
+      (subst (λ (k : Command). Row disk store meta w.partition w.config w.partition_state w.tier b r.x r.broker_tier t.actor_state.in_progress k
+      (Answers (Damaged place at)) w'.partition_state w'.tier) asks r.row)

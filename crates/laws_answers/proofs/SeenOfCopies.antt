@@ -81,9 +81,9 @@ grown start note may old new g be is_observable = by (g.notes is_observable).0 (
     by false is = inl is
 
 -- what an expiry deletes ends below the log start offset
-abbrev pub DoomsBelow : List Entry → ℕ → InProgress → Type 0
-DoomsBelow es start (Expires g expired_segment next) = EndsBelow es start expired_segment.id
-DoomsBelow es start other = Unit {0}
+abbrev pub ChoosesExpiredBelow : List Entry → ℕ → InProgress → Type 0
+ChoosesExpiredBelow es start (Expires g expired_segment next) = EndsBelow es start expired_segment.id
+ChoosesExpiredBelow es start other = Unit {0}
 
 module _ {M : Type 0} (meta : MetaGhosts M) (start : ℕ) where
   start_notes : (copy : Copied) (origin : EventOrigin) (turn : Turn CopyStep) (old new : M) → IsTrue (meta.content old).is_observable → StartRow meta.content meta.control copy origin (Ok turn) old new
@@ -454,8 +454,8 @@ module _ {D S M : Type 0} (disk : DiskGhosts D) (store : StoreGhosts S) (meta : 
   rebuilding_goes p h t b x broker_tier g (Restart line) Join outcome h' t' at row = same_tier meta start b broker_tier t t' at row.1
   rebuilding_goes p h t b x broker_tier g next other outcome h' t' at row = elim row [ ]
 
-  pub row_goes : (p : PartitionId) (config : Config) (h : PartitionState D) (t : RemoteTier S M) (b : ℕ) (x : Node D) (broker_tier : BrokerTierState) (work : InProgress) (command : Command) (outcome : Outcome) (h' : PartitionState D) (t' : RemoteTier S M)
-      → slice_get t.broker_tiers b ≡ Some broker_tier → IsTrue (meta.content t.meta).is_observable → DoomsBelow (fold (meta.content t.meta).notes) start work → Row disk store meta p config h t b x broker_tier work command outcome h' t' → TierGoes meta start b broker_tier t t'
+  pub row_goes : (p : PartitionId) (config : Config) (h : PartitionState D) (t : RemoteTier S M) (b : ℕ) (x : Node D) (broker_tier : BrokerTierState) (in_progress : InProgress) (command : Command) (outcome : Outcome) (h' : PartitionState D) (t' : RemoteTier S M)
+      → slice_get t.broker_tiers b ≡ Some broker_tier → IsTrue (meta.content t.meta).is_observable → ChoosesExpiredBelow (fold (meta.content t.meta).notes) start in_progress → Row disk store meta p config h t b x broker_tier in_progress command outcome h' t' → TierGoes meta start b broker_tier t t'
   row_goes p config h t b x broker_tier Idle command outcome h' t' at is_observable low row = begin_goes h t b x broker_tier command outcome h' t' at row
   row_goes p config h t b x broker_tier (Noted g) command outcome h' t' at is_observable low row = recorded_goes p config h t b x broker_tier g command outcome h' t' at row
   row_goes p config h t b x broker_tier (Copies g copy next) command outcome h' t' at is_observable low row = copying_goes h t b x broker_tier g copy next command outcome h' t' at is_observable row

@@ -90,7 +90,7 @@ module _ {D S M : Type 0} (disk : DiskGhosts D) (store : StoreGhosts S) (meta : 
       }
 
   -- a committed offset is in the log
-  never_outside : (w : Whole D S M) (x : Node D) (offset start end : ℕ) → x.known_high_watermark ≤ end_of x → IsOffsetCommitted w x offset → (offset < start) ⊎ (end < offset) → start ≡ w.held.registry.start → end ≡ end_of x → ⊥
+  never_outside : (w : Whole D S M) (x : Node D) (offset start end : ℕ) → x.known_high_watermark ≤ end_of x → IsOffsetCommitted w x offset → (offset < start) ⊎ (end < offset) → start ≡ w.partition_state.registry.start → end ≡ end_of x → ⊥
   never_outside w x offset start end high may (inl below) start_is end_is = let from = may.from in omega (arith, below, start_is, from)
   never_outside w x offset start end high may (inr past) start_is end_is = let low = may.below in omega (arith, past, end_is, low, high)
 
@@ -109,7 +109,7 @@ module _ {D S M : Type 0} (disk : DiskGhosts D) (store : StoreGhosts S) (meta : 
   stopped_never x g (inr down) keeps = let up = keeps.up in cc (down, up)
 
   -- it isn't answered before it reads
-  at_once_never : (w : Whole D S M) (x : Node D) (g : StartSnapshot) (offset : ℕ) (answer : Answer) → x.known_high_watermark ≤ end_of x → AnswersAtOnce w.held x g offset answer → KeepsLead x g → IsOffsetCommitted w x offset → ⊥
+  at_once_never : (w : Whole D S M) (x : Node D) (g : StartSnapshot) (offset : ℕ) (answer : Answer) → x.known_high_watermark ≤ end_of x → AnswersAtOnce w.partition_state x g offset answer → KeepsLead x g → IsOffsetCommitted w x offset → ⊥
   at_once_never w x g offset Stopped high is keeps may = stopped_never x g is keeps
   at_once_never w x g offset NotLeader high is keeps may = is.2 keeps.role
   at_once_never w x g offset (OutOfRange start end) high is keeps may = never_outside w x offset start end high may is.1 is.2 is.3
@@ -138,17 +138,17 @@ module _ {D S M : Type 0} (disk : DiskGhosts D) (store : StoreGhosts S) (meta : 
   later_served w b x g offset limit (Index piece) answer w' high cause keeps may clear = index_served w b x g offset limit piece answer w' high cause keeps may clear
   later_served w b x g offset limit (Log piece span) answer w' high cause keeps may clear = log_served w b x g offset limit piece span answer w' high cause keeps may clear
 
-  any_served : (w : Whole D S M) (b : ℕ) (x : Node D) (offset limit : ℕ) (work : InProgress) (answer : Answer) (w' : Whole D S M) → (is_up x ≡ true → x.known_high_watermark ≤ end_of x)
-      → FetchHasCause disk store meta w b x work offset limit answer w' → MayServe w x offset work → Clear disk store meta b answer w w' → IsFetchServed offset limit answer
+  any_served : (w : Whole D S M) (b : ℕ) (x : Node D) (offset limit : ℕ) (in_progress : InProgress) (answer : Answer) (w' : Whole D S M) → (is_up x ≡ true → x.known_high_watermark ≤ end_of x)
+      → FetchHasCause disk store meta w b x in_progress offset limit answer w' → MayServe w x offset in_progress → Clear disk store meta b answer w w' → IsFetchServed offset limit answer
   any_served w b x offset limit Idle answer w' high cause may clear = first_served w b x offset limit answer w' high cause may clear
   any_served w b x offset limit (Noted g) answer w' high cause may clear = later_served w b x g offset limit Refresh answer w' (high may.0.up) cause may.0 may.1 clear
   any_served w b x offset limit (Seeks g next) answer w' high cause may clear = later_served w b x g offset limit next answer w' (high may.0.up) cause may.0 may.1 clear
   any_served w b x offset limit other answer w' high cause may clear = absurd cause
 
   -- the known high watermark is within the log
-  mark_within : (opening : State) (w : Whole D S M) → IsCentral disk store meta opening w → (b : ℕ) (x : Node D) → slice_get w.held.nodes b ≡ Some x → is_up x ≡ true → x.known_high_watermark ≤ end_of x
+  mark_within : (opening : State) (w : Whole D S M) → IsCentral disk store meta opening w → (b : ℕ) (x : Node D) → slice_get w.partition_state.nodes b ≡ Some x → is_up x ≡ true → x.known_high_watermark ≤ end_of x
   mark_within opening w c b x at up =
-      let v = sees_at disk.content disk.control w.held c.partition b x c.shows at in
+      let v = sees_at disk.content disk.control w.partition_state c.partition b x c.shows at in
       let s = v.0 in
       let sound = (c.central.stands.lines.each b _ v.1.there).sound in
       let ends : EndsAt x.known_high_watermark s.batches = sound.known_high_watermark in
@@ -168,10 +168,10 @@ module _ {D S M : Type 0} (disk : DiskGhosts D) (store : StoreGhosts S) (meta : 
   ends_served opening place number offset limit v b answer u t known free same number_is fetches clear =
       let c = t.order.broker.0 in
       let h = free t.list t.actor_state t.order (own_turn disk store meta place v b (Answers answer) u t same) number_is in
-      let x = some_of (λ x. FetchHasCause disk store meta v c x t.actor_state.work offset limit answer u) (slice_get v.held.nodes c) (have_causes disk store meta opening v b answer u offset limit known.0 known.1 t fetches) in
-      let y = some_of (λ x. MayServe v x offset t.actor_state.work) (slice_get v.held.nodes c) h in
-      let may : MayServe v x.0 offset t.actor_state.work = subst (λ (k : Node D). MayServe v k offset t.actor_state.work) (one_some (slice_get v.held.nodes c) y.0 x.0 y.1 x.1) y.2 in
-      any_served v c x.0 offset limit t.actor_state.work answer u (mark_within opening v known.0 c x.0 x.1) x.2 may clear
+      let x = some_of (λ x. FetchHasCause disk store meta v c x t.actor_state.in_progress offset limit answer u) (slice_get v.partition_state.nodes c) (have_causes disk store meta opening v b answer u offset limit known.0 known.1 t fetches) in
+      let y = some_of (λ x. MayServe v x offset t.actor_state.in_progress) (slice_get v.partition_state.nodes c) h in
+      let may : MayServe v x.0 offset t.actor_state.in_progress = subst (λ (k : Node D). MayServe v k offset t.actor_state.in_progress) (one_some (slice_get v.partition_state.nodes c) y.0 x.0 y.1 x.1) y.2 in
+      any_served v c x.0 offset limit t.actor_state.in_progress answer u (mark_within opening v known.0 c x.0 x.1) x.2 may clear
 
   free_served : (opening : State) (place number offset limit : ℕ) (v : Whole D S M) (b : ℕ) (outcome : Outcome) (answer : Answer) (u : Whole D S M) (t : IsTurn disk store meta v b outcome u)
       → outcome ≡ Answers answer → AllKnown opening v → IsUnhindered disk store meta place number offset v b u → t.place ≡ place → t.actor_state.number ≡ number → t.order.command ≡ Fetch offset limit → IsFetchServed offset limit answer
@@ -183,10 +183,10 @@ module _ {D S M : Type 0} (disk : DiskGhosts D) (store : StoreGhosts S) (meta : 
 
   pub are_served : (opening : State) (w : Whole D S M) (a place : ℕ) (l : ActorList) (actor_state : ActorState) (order : Order) (offset limit : ℕ) (actors : List ℕ) (w' : Whole D S M)
       → IsCentral disk store meta opening w → SpansKnown meta opening w → IsNextOrder w a place l actor_state order → order.command ≡ Fetch offset limit
-      → RunsTurns disk store meta (IsUnhindered disk store meta place actor_state.number offset) w actors w' → turns_left (Fetch offset limit) actor_state.work ≤ times a actors
+      → RunsTurns disk store meta (IsUnhindered disk store meta place actor_state.number offset) w actors w' → turns_left (Fetch offset limit) actor_state.in_progress ≤ times a actors
       → (answer : Answer) × IsFetchServed offset limit answer × IsCommandAnswered w' l.actor actor_state.number answer
   are_served opening w a place l actor_state order offset limit actors w' c known next fetches r le =
-      run disk store meta (AllKnown opening) (IsUnhindered disk store meta place actor_state.number offset) (λ work. Unit {0}) (IsFetchServed offset limit) (Fetch offset limit) a place actor_state.number l (turn_known opening)
+      run disk store meta (AllKnown opening) (IsUnhindered disk store meta place actor_state.number offset) (λ in_progress. Unit {0}) (IsFetchServed offset limit) (Fetch offset limit) a place actor_state.number l (turn_known opening)
       (λ v b outcome answer u t is i p same number fetch works. free_served opening place actor_state.number offset limit v b outcome answer u t is i p same number fetch) (λ v b outcome u t un works. tt) actors w w'
       (record { rising = c.central.stands.rising; actor_state = actor_state; order = order; next = next; number_is = refl; kind_is = fetches; works = tt }) (c, known) r le
 
@@ -202,10 +202,10 @@ module _ {D S M : Type 0} (disk : DiskGhosts D) (store : StoreGhosts S) (meta : 
 
   pub infallible_served : (opening : State) (w : Whole D S M) (a place : ℕ) (l : ActorList) (actor_state : ActorState) (order : Order) (offset limit : ℕ) (actors : List ℕ) (w' : Whole D S M)
       → IsCentral disk store meta opening w → SpansKnown meta opening w → IsUnfailing disk store meta w → IsNextOrder w a place l actor_state order → order.command ≡ Fetch offset limit
-      → RunsTurns disk store meta (IsFree disk store meta place actor_state.number offset) w actors w' → turns_left (Fetch offset limit) actor_state.work ≤ times a actors
+      → RunsTurns disk store meta (IsFree disk store meta place actor_state.number offset) w actors w' → turns_left (Fetch offset limit) actor_state.in_progress ≤ times a actors
       → (answer : Answer) × IsFetchServed offset limit answer × IsCommandAnswered w' l.actor actor_state.number answer
   infallible_served opening w a place l actor_state order offset limit actors w' c known infallible next fetches r le =
-      run disk store meta (λ v. AllKnown opening v × IsUnfailing disk store meta v) (IsFree disk store meta place actor_state.number offset) (λ work. Unit {0}) (IsFetchServed offset limit) (Fetch offset limit) a place actor_state.number l
+      run disk store meta (λ v. AllKnown opening v × IsUnfailing disk store meta v) (IsFree disk store meta place actor_state.number offset) (λ in_progress. Unit {0}) (IsFetchServed offset limit) (Fetch offset limit) a place actor_state.number l
       (λ v b outcome u t i. (turn_known opening v b outcome u t i.0, turn_infallible disk store meta v b outcome u t i.1))
       (λ v b outcome answer u t is i p same number fetch works. ends_infallible opening place actor_state.number offset limit v b outcome answer u t is i p same number fetch) (λ v b outcome u t un works. tt) actors w w'
       (record { rising = c.central.stands.rising; actor_state = actor_state; order = order; next = next; number_is = refl; kind_is = fetches; works = tt }) ((c, known), infallible) r le

@@ -37,7 +37,7 @@ use Rattle.partition_world.specs.ActorStates.{told_of}
 use Rattle.partition_world.specs.Turn.{IsTurn}
 use Rattle.partition_world.specs.Whole.{Whole}
 use Rattle.partition_world.specs.declared.actor_state.Outcome.{Outcome}
-use Rattle.partition_world.specs.declared.actor_state.Outcome.TheVariants.{Answers, Begins, Chose, Goes, Seeks, Dates, Dooms, Deletes, Rebuilds}
+use Rattle.partition_world.specs.declared.actor_state.Outcome.TheVariants.{Answers, Begins, Chose, Goes, Seeks, Dates, ChoosesExpired, Deletes, Rebuilds}
 use Rattle.partition_world.proofs.LastingRuns.{turn_lasted}
 use Rattle.partition_world.proofs.CountingTurns.{turn_answers}
 use Rattle.laws_answers.specs.Told.{after_faults, one_if, is_told, count_told, is_broker, count_of, WorksOn, NamesDisk, NameDisks, DisksTold, FaultsAreTold}
@@ -184,14 +184,14 @@ module _ {D S M : Type 0} (disk : DiskGhosts D) (store : StoreGhosts S) (meta : 
   record IsSince (w v : Whole D S M) : Type 0 where
     lists : v.lists ≡ w.lists
     rising : AreRising v.lists
-    have : HaveDisks v.held.nodes
+    have : HaveDisks v.partition_state.nodes
     told : FaultsAreTold disk store meta w v
 
   turn_since : (w v : Whole D S M) (a : ℕ) (outcome : Outcome) (u : Whole D S M) → IsTurn disk store meta v a outcome u → IsSince w v → IsSince w u
   turn_since w v a outcome u t s = record {
     lists = t.lists ∙ s.lists;
     rising = subst AreRising (sym t.lists) s.rising;
-    have = last_have disk.control v.held.nodes u.held.nodes (turn_lasted disk store meta v a outcome u t s.have).disks;
+    have = last_have disk.control v.partition_state.nodes u.partition_state.nodes (turn_lasted disk store meta v a outcome u t s.have).disks;
     told = by outcome (turn_answers disk store meta v a outcome u t s.have) t.entered;
   }
     where
@@ -205,23 +205,23 @@ module _ {D S M : Type 0} (disk : DiskGhosts D) (store : StoreGhosts S) (meta : 
       b = t.order.broker.0
 
       brokers : ℕ
-      brokers = length w.held.nodes
+      brokers = length w.partition_state.nodes
 
       -- an entry more, where the turn has counted so
       more : (entry : JournalEntry) (fault stored recorded : Bool) → is_told is_of_disk entry.event ≡ fault → is_told is_of_store entry.event ≡ stored → is_told is_of_meta entry.event ≡ recorded
-          → order_of v.lists entry ≡ Some t.order → DisksCount disk.control command b fault v.held.nodes u.held.nodes
+          → order_of v.lists entry ≡ Some t.order → DisksCount disk.control command b fault v.partition_state.nodes u.partition_state.nodes
           → (store.control u.tier.store).faults ≡ after_fault stored (store.control v.tier.store).faults
           → (meta.control u.tier.meta).faults ≡ after_fault recorded (meta.control v.tier.meta).faults
           → u.journal.items ≡ v.journal.items ++ entry ∷ [] → FaultsAreTold disk store meta w u
       more entry fault stored recorded is_disk is_store is_meta there disks stores metas entered = record {
-        failed = k.failed ++ blamed disk.control command b fault v.held.nodes u.held.nodes disks ∷ [];
-        are = subst (λ (l : List ActorList). NameDisks brokers l u.journal.items (k.failed ++ blamed disk.control command b fault v.held.nodes u.held.nodes disks ∷ [])) (sym t.lists)
-            (subst (λ (j : List JournalEntry). NameDisks brokers v.lists j (k.failed ++ blamed disk.control command b fault v.held.nodes u.held.nodes disks ∷ [])) (sym entered)
-            (names_snoc brokers v.lists v.journal.items k.failed entry (blamed disk.control command b fault v.held.nodes u.held.nodes disks) k.are
-            (blamed_names disk.control (λ o. NamesDisk brokers v.lists entry o) brokers command b fault v.held.nodes u.held.nodes
-            (told_length disk.control 0 k.failed w.held.nodes v.held.nodes k.disks) (λ no. is_disk ∙ no)
+        failed = k.failed ++ blamed disk.control command b fault v.partition_state.nodes u.partition_state.nodes disks ∷ [];
+        are = subst (λ (l : List ActorList). NameDisks brokers l u.journal.items (k.failed ++ blamed disk.control command b fault v.partition_state.nodes u.partition_state.nodes disks ∷ [])) (sym t.lists)
+            (subst (λ (j : List JournalEntry). NameDisks brokers v.lists j (k.failed ++ blamed disk.control command b fault v.partition_state.nodes u.partition_state.nodes disks ∷ [])) (sym entered)
+            (names_snoc brokers v.lists v.journal.items k.failed entry (blamed disk.control command b fault v.partition_state.nodes u.partition_state.nodes disks) k.are
+            (blamed_names disk.control (λ o. NamesDisk brokers v.lists entry o) brokers command b fault v.partition_state.nodes u.partition_state.nodes
+            (told_length disk.control 0 k.failed w.partition_state.nodes v.partition_state.nodes k.disks) (λ no. is_disk ∙ no)
             (λ d yes works. (is_disk ∙ yes, some_at (λ (o : Order). WorksOn brokers o.command o.broker.0 d) (order_of v.lists entry) t.order there works)) disks)));
-        disks = blamed_told disk.control command b fault k.failed w.held.nodes v.held.nodes u.held.nodes k.disks disks;
+        disks = blamed_told disk.control command b fault k.failed w.partition_state.nodes v.partition_state.nodes u.partition_state.nodes k.disks disks;
         store_told = told_more stored (count_told is_of_store u.journal.items) (count_told is_of_store v.journal.items) (store.control w.tier.store).faults (store.control v.tier.store).faults (store.control u.tier.store).faults k.store_told stores
             (ap (count_told is_of_store) entered ∙ (count_snoc is_of_store v.journal.items entry ∙ ap (λ (f : Bool). one_if f + count_told is_of_store v.journal.items) is_store));
         meta_told = told_more recorded (count_told is_of_meta u.journal.items) (count_told is_of_meta v.journal.items) (meta.control w.tier.meta).faults (meta.control v.tier.meta).faults (meta.control u.tier.meta).faults k.meta_told metas
@@ -229,13 +229,13 @@ module _ {D S M : Type 0} (disk : DiskGhosts D) (store : StoreGhosts S) (meta : 
       }
 
       -- none
-      same : NoneFails disk.control v.held.nodes u.held.nodes → (store.control u.tier.store).faults ≡ (store.control v.tier.store).faults
+      same : NoneFails disk.control v.partition_state.nodes u.partition_state.nodes → (store.control u.tier.store).faults ≡ (store.control v.tier.store).faults
           → (meta.control u.tier.meta).faults ≡ (meta.control v.tier.meta).faults → u.journal.items ≡ v.journal.items ++ [] → FaultsAreTold disk store meta w u
       same disks stores metas entered = record {
         failed = k.failed;
         are = subst (λ (l : List ActorList). NameDisks brokers l u.journal.items k.failed) (sym t.lists)
             (subst (λ (j : List JournalEntry). NameDisks brokers v.lists j k.failed) (sym entered) (names_same brokers v.lists v.journal.items k.failed k.are));
-        disks = told_none disk.control 0 k.failed k.failed (λ n low. refl) w.held.nodes v.held.nodes u.held.nodes k.disks disks;
+        disks = told_none disk.control 0 k.failed k.failed (λ n low. refl) w.partition_state.nodes v.partition_state.nodes u.partition_state.nodes k.disks disks;
         store_told = stores ∙ (k.store_told ∙ ap (λ (n : ℕ). after_faults n (store.control w.tier.store).faults) (sym (ap (count_told is_of_store) entered ∙ none_snoc is_of_store v.journal.items)));
         meta_told = metas ∙ (k.meta_told ∙ ap (λ (n : ℕ). after_faults n (meta.control w.tier.meta).faults) (sym (ap (count_told is_of_meta) entered ∙ none_snoc is_of_meta v.journal.items)));
       }
@@ -253,7 +253,7 @@ module _ {D S M : Type 0} (disk : DiskGhosts D) (store : StoreGhosts S) (meta : 
       by (Goes next) n entered = same n.disks n.store_counts n.meta_counts entered
       by (Seeks next) n entered = same n.disks n.store_counts n.meta_counts entered
       by (Dates cursor next) n entered = same n.disks n.store_counts n.meta_counts entered
-      by (Dooms segment) n entered = same n.disks n.store_counts n.meta_counts entered
+      by (ChoosesExpired segment) n entered = same n.disks n.store_counts n.meta_counts entered
       by (Deletes next) n entered = same n.disks n.store_counts n.meta_counts entered
       by (Rebuilds next) n entered = same n.disks n.store_counts n.meta_counts entered
 
@@ -288,8 +288,8 @@ module _ {D S M : Type 0} (disk : DiskGhosts D) (store : StoreGhosts S) (meta : 
     have = f.disks;
     told = record {
       failed = [];
-      are = subst (λ (j : List JournalEntry). NameDisks (length w.held.nodes) w.lists j []) (sym f.journal) tt;
-      disks = told_nothing disk.control 0 w.held.nodes f.disks;
+      are = subst (λ (j : List JournalEntry). NameDisks (length w.partition_state.nodes) w.lists j []) (sym f.journal) tt;
+      disks = told_nothing disk.control 0 w.partition_state.nodes f.disks;
       store_told = ap (λ (j : List JournalEntry). after_faults (count_told is_of_store j) (store.control w.tier.store).faults) (sym f.journal);
       meta_told = ap (λ (j : List JournalEntry). after_faults (count_told is_of_meta j) (meta.control w.tier.meta).faults) (sym f.journal);
     };

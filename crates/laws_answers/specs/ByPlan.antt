@@ -33,12 +33,12 @@ module _ {D : Type 0} (control : D → Control call_code) where
 module _ {D S M : Type 0} (disk : DiskGhosts D) (store : StoreGhosts S) (meta : MetaGhosts M) where
   -- so are all devices of a world
   pub record AreScripted (w : Whole D S M) : Type 0 where
-    pub disks : AreScriptedDisks disk.control w.held.nodes
+    pub disks : AreScriptedDisks disk.control w.partition_state.nodes
     pub store_scripted : IsTrue (store.control w.tier.store).scripted
     pub meta_scripted : IsTrue (meta.control w.tier.meta).scripted
 
   -- its devices have the plans that they had in that world, and as many of their calls failed as these name of those made
   pub record HaveFailedByPlan (w w' : Whole D S M) : Type 0 where
-    pub disks : DisksFailedByPlan disk.control w.held.nodes w'.held.nodes
+    pub disks : DisksFailedByPlan disk.control w.partition_state.nodes w'.partition_state.nodes
     pub store_fails : FailedByPlan (store.control w.tier.store) (store.control w'.tier.store)
     pub meta_fails : FailedByPlan (meta.control w.tier.meta) (meta.control w'.tier.meta)

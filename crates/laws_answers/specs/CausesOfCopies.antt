@@ -51,14 +51,14 @@ module _ {D S M : Type 0} (disk : DiskGhosts D) (store : StoreGhosts S) (meta : 
   abbrev pub CopyFirstCause : Whole D S M → Node D → Answer → Whole D S M → Type 0
   CopyFirstCause w x Down w' = is_up x ≡ false
   CopyFirstCause w x NotLeader w' = leads x.role ≡ false
-  CopyFirstCause w x CopyOff w' = (is_up x ≡ true) × (leads x.role ≡ true) × (w.held.copying ≡ false)
-  CopyFirstCause w x MetaFault w' = (w.held.copying ≡ true) × MetaFailed meta w w'
+  CopyFirstCause w x CopyOff w' = (is_up x ≡ true) × (leads x.role ≡ true) × (w.partition_state.copying ≡ false)
+  CopyFirstCause w x MetaFault w' = (w.partition_state.copying ≡ true) × MetaFailed meta w w'
   CopyFirstCause w x other w' = ⊥
 
   -- at its second turn
   abbrev pub ChoiceCause : Whole D S M → ℕ → Node D → BrokerTierState → StartSnapshot → Answer → Whole D S M → Type 0
   ChoiceCause w b x broker_tier g LostLead w' = KeepsLead x g → ⊥
-  ChoiceCause w b x broker_tier g Level w' = next_segment w.held x broker_tier ≡ None
+  ChoiceCause w b x broker_tier g Level w' = next_segment w.partition_state x broker_tier ≡ None
   ChoiceCause w b x broker_tier g DiskFault w' = DiskFailed disk b w w'
   ChoiceCause w b x broker_tier g other w' = ⊥
 
@@ -68,7 +68,7 @@ module _ {D S M : Type 0} (disk : DiskGhosts D) (store : StoreGhosts S) (meta : 
   CopyLaterCause w x g copy MetaFault w' = MetaFailed meta w w'
   CopyLaterCause w x g copy StoreFault w' = StoreFailed store w w'
   CopyLaterCause w x g copy (Overtaken state) w' =
-      (is_deleted state ≡ true) × (copy.segment.last < w.held.registry.start)
+      (is_deleted state ≡ true) × (copy.segment.last < w.partition_state.registry.start)
   CopyLaterCause w x g copy (CopiedSegment id base last) w' = IsToldWhole meta copy id base last w'
   CopyLaterCause w x g copy other w' = ⊥
 
@@ -86,9 +86,9 @@ module _ {D S M : Type 0} where
   -- the broker leads, and segments are copied as it begins; it has led on; there is a segment to copy, and the log
   -- start offset isn't past its end
   abbrev pub MayCopy : Whole D S M → Node D → BrokerTierState → InProgress → Type 0
-  MayCopy w x broker_tier Idle = (is_up x ≡ true) × (leads x.role ≡ true) × (w.held.copying ≡ true)
-  MayCopy w x broker_tier (Noted g) = KeepsLead x g × (next_segment w.held x broker_tier ≢ None)
-  MayCopy w x broker_tier (Copies g copy next) = KeepsLead x g × (w.held.registry.start ≤ copy.segment.last)
+  MayCopy w x broker_tier Idle = (is_up x ≡ true) × (leads x.role ≡ true) × (w.partition_state.copying ≡ true)
+  MayCopy w x broker_tier (Noted g) = KeepsLead x g × (next_segment w.partition_state x broker_tier ≢ None)
+  MayCopy w x broker_tier (Copies g copy next) = KeepsLead x g × (w.partition_state.registry.start ≤ copy.segment.last)
   MayCopy w x broker_tier (Seeks g next) = ⊥
   MayCopy w x broker_tier (Dates g cursor next) = ⊥
   MayCopy w x broker_tier (Expires g expired_segment next) = ⊥

@@ -54,7 +54,7 @@ module _ {D S M : Type 0} where
   -- the offset is below the log start offset, or past the log's end
   pub record IsOutside (w : Whole D S M) (x : Node D) (offset start end : ℕ) : Type 0 where
     pub outside : (offset < start) ⊎ (end < offset)
-    pub start_is : start ≡ w.held.registry.start
+    pub start_is : start ≡ w.partition_state.registry.start
     pub end_is : end ≡ end_of x
 
 module _ {D S M : Type 0} (disk : DiskGhosts D) (store : StoreGhosts S) (meta : MetaGhosts M) where
@@ -76,7 +76,7 @@ module _ {D S M : Type 0} (disk : DiskGhosts D) (store : StoreGhosts S) (meta : 
   FetchLaterCause w x g offset limit (Log piece span) StoreFault w' = StoreFailed store w w'
   FetchLaterCause w x g offset limit (Log piece span) (Run tier size stop bytes) w' =
       (tier ≡ Remote piece.id) × IsLogsRun disk x offset limit size stop bytes
-  FetchLaterCause w x g offset limit next answer w' = AnswersAtOnce w.held x g offset answer
+  FetchLaterCause w x g offset limit next answer w' = AnswersAtOnce w.partition_state x g offset answer
 
   -- at any turn, by what the actor's state kept of the fetch
   abbrev pub FetchHasCause : Whole D S M → ℕ → Node D → InProgress → ℕ → ℕ → Answer → Whole D S M → Type 0
@@ -88,7 +88,7 @@ module _ {D S M : Type 0} (disk : DiskGhosts D) (store : StoreGhosts S) (meta : 
 module _ {D S M : Type 0} where
   -- the log start offset isn't past the offset, and the high watermark that the broker knows is
   pub record IsOffsetCommitted (w : Whole D S M) (x : Node D) (offset : ℕ) : Type 0 where
-    pub from : w.held.registry.start ≤ offset
+    pub from : w.partition_state.registry.start ≤ offset
     pub below : offset < x.known_high_watermark
 
   -- the broker leads, and has led on, and may give the offset

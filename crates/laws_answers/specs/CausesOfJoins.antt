@@ -39,28 +39,30 @@ module _ {D S M : Type 0} (disk : DiskGhosts D) (store : StoreGhosts S) (meta : 
   abbrev pub JoinFirstCause : Whole D S M → ℕ → Node D → Answer → Whole D S M → Type 0
   JoinFirstCause w b x Down w' = is_up x ≡ false
   JoinFirstCause w b x NotFollower w' = followed x.role ≡ None
-  JoinFirstCause w b x (StaleEpoch n) w' = IsStale w.held (followed x.role) × (n ≡ w.held.registry.epoch)
-  JoinFirstCause w b x NoLeader w' = the_leader w.held ≡ None
+  JoinFirstCause w b x (StaleEpoch n) w' =
+      IsStale w.partition_state (followed x.role) × (n ≡ w.partition_state.registry.epoch)
+  JoinFirstCause w b x NoLeader w' = the_leader w.partition_state ≡ None
   JoinFirstCause w b x (DiskFaultAt n) w' = DiskFailed disk b w w'
   JoinFirstCause w b x (Cut n) w' =
-      ((y : Node D) × (the_leader w.held ≡ Some y) × (local_of y ≤ n)) × AtNode w'.held b (λ x. end_of x ≡ n)
+      ((y : Node D) × (the_leader w.partition_state ≡ Some y) × (local_of y ≤ n))
+      × AtNode w'.partition_state b (λ x. end_of x ≡ n)
   JoinFirstCause w b x other w' = ⊥
 
   -- where its log restarts
   abbrev pub RestartCause : Whole D S M → ℕ → Node D → StartSnapshot → Answer → Whole D S M → Type 0
   RestartCause w b x g (DiskFaultAt n) w' = DiskFailed disk b w w'
-  RestartCause w b x g (Rebuilt n) w' = (n ≡ g.wanted) × AtNode w'.held b (λ x. end_of x ≡ n)
-  RestartCause w b x g answer w' = AnswersAtOnce w.held x g answer
+  RestartCause w b x g (Rebuilt n) w' = (n ≡ g.wanted) × AtNode w'.partition_state b (λ x. end_of x ≡ n)
+  RestartCause w b x g answer w' = AnswersAtOnce w.partition_state x g answer
 
   -- where its view is refreshed
   abbrev pub RefreshCause : Whole D S M → Node D → StartSnapshot → Answer → Whole D S M → Type 0
   RefreshCause w x g MetaFault w' = MetaFailed meta w w'
-  RefreshCause w x g answer w' = AnswersAtOnce w.held x g answer
+  RefreshCause w x g answer w' = AnswersAtOnce w.partition_state x g answer
 
   -- where the line is read
   abbrev pub EpochsCause : Whole D S M → Node D → StartSnapshot → Answer → Whole D S M → Type 0
   EpochsCause w x g StoreFault w' = StoreFailed store w w'
-  EpochsCause w x g answer w' = AnswersAtOnce w.held x g answer
+  EpochsCause w x g answer w' = AnswersAtOnce w.partition_state x g answer
 
   -- after its first turn, where it keeps what it recorded: where the log start offset had reached the wanted offset by
   -- then, its log restarts at once
@@ -84,7 +86,8 @@ module _ {D S M : Type 0} where
   -- the broker is up and follows the registry's epoch, whose leader is up and leads; later, nothing has come between,
   -- and the log start offset hasn't reached the wanted offset
   abbrev pub MayJoin : Whole D S M → Node D → InProgress → Type 0
-  MayJoin w x Idle = (is_up x ≡ true) × IsCurrent w.held (followed x.role) × (the_leader w.held ≢ None)
-  MayJoin w x (Noted g) = MayRebuild w.held x g
-  MayJoin w x (Rebuilds g next) = MayRebuild w.held x g
+  MayJoin w x Idle =
+      (is_up x ≡ true) × IsCurrent w.partition_state (followed x.role) × (the_leader w.partition_state ≢ None)
+  MayJoin w x (Noted g) = MayRebuild w.partition_state x g
+  MayJoin w x (Rebuilds g next) = MayRebuild w.partition_state x g
   MayJoin w x other = ⊥

@@ -52,8 +52,9 @@ module _ {D S M : Type 0} where
   abbrev pub OffsetSecondCause : Whole D S M → Node D → BrokerTierState → StartSnapshot → Answer → Type 0
   OffsetSecondCause w x broker_tier g Stopped = HasStopped x g
   OffsetSecondCause w x broker_tier g NotLeader = g.role ≢ x.role
-  OffsetSecondCause w x broker_tier g (Offset n) = KeepsLead x g × (tiered_offset w.held x broker_tier ≡ Some n)
-  OffsetSecondCause w x broker_tier g NoOffset = KeepsLead x g × (tiered_offset w.held x broker_tier ≡ None)
+  OffsetSecondCause w x broker_tier g (Offset n) =
+      KeepsLead x g × (tiered_offset w.partition_state x broker_tier ≡ Some n)
+  OffsetSecondCause w x broker_tier g NoOffset = KeepsLead x g × (tiered_offset w.partition_state x broker_tier ≡ None)
   OffsetSecondCause w x broker_tier g other = ⊥
 
 module _ {D S M : Type 0} (disk : DiskGhosts D) (store : StoreGhosts S) (meta : MetaGhosts M) where
@@ -65,7 +66,7 @@ module _ {D S M : Type 0} (disk : DiskGhosts D) (store : StoreGhosts S) (meta : 
   SearchCause w b x g cursor StoreFault w' = KeepsLead x g × StoreFailed store w w'
   SearchCause w b x g cursor DiskFault w' = KeepsLead x g × DiskFailed disk b w w'
   SearchCause w b x g cursor NoOffset w' =
-      KeepsLead x g × (x.known_high_watermark ≤ resumed_at w.held.registry.start cursor)
+      KeepsLead x g × (x.known_high_watermark ≤ resumed_at w.partition_state.registry.start cursor)
   SearchCause w b x g cursor (Offset n) w' = KeepsLead x g
   SearchCause w b x g cursor (Damaged place at) w' = KeepsLead x g
   SearchCause w b x g cursor other w' = ⊥
@@ -75,7 +76,7 @@ module _ {D S M : Type 0} (disk : DiskGhosts D) (store : StoreGhosts S) (meta : 
   OffsetFirstCause w x which Down w' = is_up x ≡ false
   OffsetFirstCause w x which NotLeader w' = leads x.role ≡ false
   OffsetFirstCause w x which (Offset n) w' =
-      (is_up x ≡ true) × (leads x.role ≡ true) × (known_offset w.held x which ≡ Some n)
+      (is_up x ≡ true) × (leads x.role ≡ true) × (known_offset w.partition_state x which ≡ Some n)
   OffsetFirstCause w x which MetaFault w' = (is_long which ≡ true) × MetaFailed meta w w'
   OffsetFirstCause w x which other w' = ⊥
 
@@ -86,7 +87,7 @@ module _ {D S M : Type 0} (disk : DiskGhosts D) (store : StoreGhosts S) (meta : 
   OffsetHasCause w b x broker_tier (Noted g) LatestTiered answer w' = OffsetSecondCause w x broker_tier g answer
   OffsetHasCause w b x broker_tier (Noted g) (At ts) answer w' = SearchCause w b x g 0 answer w'
   OffsetHasCause w b x broker_tier (Dates g cursor next) (At ts) answer w' = SearchCause w b x g cursor answer w'
-  OffsetHasCause w b x broker_tier work which answer w' = ⊥
+  OffsetHasCause w b x broker_tier in_progress which answer w' = ⊥
 
 module _ {D : Type 0} where
   -- the broker of a search leads, and has led on

@@ -40,11 +40,13 @@ module _ {D S M : Type 0} where
   -- where the actor's next turn is one of the command at this place, under this number, this holds of its state and its order
   abbrev pub AtTurnsOf : ℕ → ℕ → Whole D S M → ℕ → (ActorState → Order → Type 0) → Type 0
   AtTurnsOf place number w a P =
-      (l : ActorList) (actor_state : ActorState) (order : Order) → IsNextOrder w a place l actor_state order → actor_state.number ≡ number → P actor_state order
+      (l : ActorList) (actor_state : ActorState) (order : Order) → IsNextOrder w a place l actor_state order
+      → actor_state.number ≡ number → P actor_state order
 
   -- its broker knows no high watermark past a mark in it
   abbrev pub KnowsUpTo : ℕ → ℕ → ℕ → Whole D S M → ℕ → Whole D S M → Type 0
-  KnowsUpTo mark place number w a w' = AtTurnsOf place number w a (λ actor_state order. AtNode w.held order.broker.0 (λ x. x.known_high_watermark ≤ mark))
+  KnowsUpTo mark place number w a w' = AtTurnsOf place number w a
+      (λ actor_state order. AtNode w.partition_state order.broker.0 (λ x. x.known_high_watermark ≤ mark))
 
 module _ {D S M : Type 0} (disk : DiskGhosts D) (store : StoreGhosts S) (meta : MetaGhosts M) where
   -- no call of a device fails in it

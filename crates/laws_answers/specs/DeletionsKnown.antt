@@ -24,7 +24,8 @@ use Rattle.partition_world.specs.Whole.{Whole}
 
 -- the remote segment with this id ends below the log start offset, where its deletion has started
 abbrev pub DeletedBelow : List Entry → ℕ → SegmentId → Type 0
-DeletedBelow entries start id = (entry : Entry) → entry_of id entries ≡ Some entry → is_deleted entry.state ≡ true → entry.end < start
+DeletedBelow entries start id = (entry : Entry) → entry_of id entries ≡ Some entry → is_deleted entry.state ≡ true
+    → entry.end < start
 
 -- the entries have the id, and its deletion has started
 abbrev pub ShowsDeleted : List Entry → SegmentId → Type 0
@@ -36,15 +37,18 @@ module _ {D S M : Type 0} where
   OvertakenSeen w =
       (a place : ℕ) (l : ActorList) (actor_state : ActorState) (order : Order) (g : StartSnapshot) (copy : Copied)
       (n : ℕ) (broker_tier : BrokerTierState)
-      → IsNextOrder w a place l actor_state order → actor_state.work ≡ Copies g copy (Delete n) → slice_get w.tier.broker_tiers order.broker.0 ≡ Some broker_tier
+      → IsNextOrder w a place l actor_state order → actor_state.in_progress ≡ Copies g copy (Delete n)
+      → slice_get w.tier.broker_tiers order.broker.0 ≡ Some broker_tier
       → ShowsDeleted broker_tier.view.entries copy.id
 
   -- A segment that a copy on the desk copies ends below the log start offset, where its deletion has started. That
   -- isn't so of others: a sweep between two runs deletes what was never finished, wherever it ends.
   abbrev pub OvertakenBelow : MetaGhosts M → Whole D S M → Type 0
   OvertakenBelow meta w =
-      (a place : ℕ) (l : ActorList) (actor_state : ActorState) (order : Order) (g : StartSnapshot) (copy : Copied) (next : CopyStep) → IsNextOrder w a place l actor_state order
-      → actor_state.work ≡ Copies g copy next → DeletedBelow (fold (meta.content w.tier.meta).notes) w.held.registry.start copy.id
+      (a place : ℕ) (l : ActorList) (actor_state : ActorState) (order : Order) (g : StartSnapshot) (copy : Copied)
+      (next : CopyStep) → IsNextOrder w a place l actor_state order
+      → actor_state.in_progress ≡ Copies g copy next
+      → DeletedBelow (fold (meta.content w.tier.meta).notes) w.partition_state.registry.start copy.id
 
   -- what is known of deletions
   pub record DeletionsKnown (meta : MetaGhosts M) (w : Whole D S M) : Type 0 where

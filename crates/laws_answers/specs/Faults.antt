@@ -10,7 +10,7 @@ use Rattle.partition_world.specs.Whole.{Whole}
 module _ {D S M : Type 0} (disk : DiskGhosts D) where
   -- a call of the broker's disk failed
   abbrev pub DiskFailed : ℕ → Whole D S M → Whole D S M → Type 0
-  DiskFailed b w w' = DiskFails disk.control b w.held w'.held
+  DiskFailed b w w' = DiskFails disk.control b w.partition_state w'.partition_state
 
 module _ {D S M : Type 0} (store : StoreGhosts S) where
   -- a call of the store failed

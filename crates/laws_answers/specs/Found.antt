@@ -58,7 +58,8 @@ pub record SpanIsOf (paths : List Path) (notes : List Note) (offset limit : ℕ)
 abbrev pub FetchHasFound : List Path → List Note → ℕ → ℕ → ℕ → FetchStep → Type 0
 FetchHasFound paths notes epoch offset limit Refresh = Unit {0}
 FetchHasFound paths notes epoch offset limit (Index piece) = PieceEnds paths epoch piece
-FetchHasFound paths notes epoch offset limit (Log piece span) = PieceEnds paths epoch piece × SpanIsOf paths notes offset limit piece span
+FetchHasFound paths notes epoch offset limit (Log piece span) = PieceEnds paths epoch piece
+    × SpanIsOf paths notes offset limit piece span
 
 module _ {D S M : Type 0} (meta : MetaGhosts M) where
   -- of each fetch that continues in the remote tier, beside the state of the plain log after the world's journal
@@ -66,5 +67,6 @@ module _ {D S M : Type 0} (meta : MetaGhosts M) where
   SpansKnown opening w = (p : State) → replay w.lists opening w.journal.items ≡ Some p
       → (a place : ℕ) (l : ActorList) (actor_state : ActorState) (order : Order) (offset limit : ℕ) (g : StartSnapshot)
       (next : FetchStep)
-      → IsNextOrder w a place l actor_state order → order.command ≡ Fetch offset limit → actor_state.work ≡ Seeks g next
+      → IsNextOrder w a place l actor_state order → order.command ≡ Fetch offset limit
+      → actor_state.in_progress ≡ Seeks g next
       → FetchHasFound p.paths (meta.content w.tier.meta).notes (unwrap_or (leading g.role) 0) offset limit next

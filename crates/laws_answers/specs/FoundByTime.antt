@@ -29,7 +29,8 @@ abbrev pub IsFoundByTime : List Path → List Note → ℕ → SearchStep → Ty
 IsFoundByTime paths notes epoch Seek = Unit {0}
 IsFoundByTime paths notes epoch (Times piece) = PieceEnds paths epoch piece
 IsFoundByTime paths notes epoch (Index piece from) = PieceEnds paths epoch piece
-IsFoundByTime paths notes epoch (Log piece from span) = PieceEnds paths epoch piece × SpanIsOf paths notes from 4294967295 piece span
+IsFoundByTime paths notes epoch (Log piece from span) = PieceEnds paths epoch piece
+    × SpanIsOf paths notes from 4294967295 piece span
 
 module _ {D S M : Type 0} (meta : MetaGhosts M) where
   -- of each search that continues, beside the state of the plain log after the world's journal
@@ -38,5 +39,5 @@ module _ {D S M : Type 0} (meta : MetaGhosts M) where
       → (a place : ℕ) (l : ActorList) (actor_state : ActorState) (order : Order) (ts : ℤ) (g : StartSnapshot)
       (cursor : ℕ) (next : SearchStep)
       → IsNextOrder w a place l actor_state order → order.command ≡ Offset (At ts)
-      → actor_state.work ≡ Dates g cursor next
+      → actor_state.in_progress ≡ Dates g cursor next
       → IsFoundByTime p.paths (meta.content w.tier.meta).notes (unwrap_or (leading g.role) 0) next

@@ -36,15 +36,17 @@ module _ {D S M : Type 0} (disk : DiskGhosts D) (store : StoreGhosts S) (meta : 
   -- a copy's answer has its cause
   abbrev pub CopiesHaveCauses : Type 0
   CopiesHaveCauses = (opening : State) (w : Whole D S M) (a : ℕ) (answer : Answer) (w' : Whole D S M)
-      → IsCentral disk store meta opening w → DeletionsKnown meta w → (t : IsTurn disk store meta w a (Answers answer) w')
+      → IsCentral disk store meta opening w → DeletionsKnown meta w
+      → (t : IsTurn disk store meta w a (Answers answer) w')
       → t.order.command ≡ Copy
-      → AtNode w.held t.order.broker.0 (λ x. AtBrokerTier w.tier t.order.broker.0 (λ broker_tier.
-      CopyHasCause disk store meta w t.order.broker.0 x broker_tier t.actor_state.work answer w'))
+      → AtNode w.partition_state t.order.broker.0 (λ x. AtBrokerTier w.tier t.order.broker.0 (λ broker_tier.
+      CopyHasCause disk store meta w t.order.broker.0 x broker_tier t.actor_state.in_progress answer w'))
 
   -- a copy begins where segments are copied
   abbrev pub CopiesBeginWhereOn : Type 0
-  CopiesBeginWhereOn = (w : Whole D S M) (a : ℕ) (g : StartSnapshot) (w' : Whole D S M) (t : IsTurn disk store meta w a (Begins g) w')
-      → t.order.command ≡ Copy → w.held.copying ≡ true
+  CopiesBeginWhereOn = (w : Whole D S M) (a : ℕ) (g : StartSnapshot) (w' : Whole D S M)
+      (t : IsTurn disk store meta w a (Begins g) w')
+      → t.order.command ≡ Copy → w.partition_state.copying ≡ true
 
   -- a copy is answered `Copied` by as many of its actor's turns as it has left, where there is nothing in the way of
   -- them
@@ -53,17 +55,20 @@ module _ {D S M : Type 0} (disk : DiskGhosts D) (store : StoreGhosts S) (meta : 
       (opening : State) (w : Whole D S M) (a place : ℕ) (l : ActorList) (actor_state : ActorState) (order : Order)
       (actors : List ℕ) (w' : Whole D S M) → IsCentral disk store meta opening w → DeletionsKnown meta w
       → IsNextOrder w a place l actor_state order → order.command ≡ Copy
-      → RunsTurns disk store meta (IsUnhindered disk store meta place actor_state.number) w actors w' → turns_left Copy actor_state.work ≤ times a actors
+      → RunsTurns disk store meta (IsUnhindered disk store meta place actor_state.number) w actors w'
+      → turns_left Copy actor_state.in_progress ≤ times a actors
       → (id : SegmentId) × (base : ℕ) × (last : ℕ)
       × IsCommandAnswered w' l.actor actor_state.number (CopiedSegment id base last)
 
   -- of the segment that it has chosen, where it has
   abbrev pub ChosenAreCopied : Type 0
-  ChosenAreCopied = (opening : State) (w : Whole D S M) (a place : ℕ) (l : ActorList) (actor_state : ActorState) (order : Order) (g : StartSnapshot)
+  ChosenAreCopied = (opening : State) (w : Whole D S M) (a place : ℕ) (l : ActorList) (actor_state : ActorState)
+      (order : Order) (g : StartSnapshot)
       (copy : Copied) (next : CopyStep) (actors : List ℕ) (w' : Whole D S M) → IsCentral disk store meta opening w
       → DeletionsKnown meta w → IsNextOrder w a place l actor_state order → order.command ≡ Copy
-      → actor_state.work ≡ Copies g copy next
-      → RunsTurns disk store meta (IsUnhindered disk store meta place actor_state.number) w actors w' → turns_left Copy actor_state.work ≤ times a actors
+      → actor_state.in_progress ≡ Copies g copy next
+      → RunsTurns disk store meta (IsUnhindered disk store meta place actor_state.number) w actors w'
+      → turns_left Copy actor_state.in_progress ≤ times a actors
       → IsCommandAnswered w' l.actor actor_state.number (CopiedSegment copy.id copy.segment.base copy.segment.last)
 
   -- over devices of which no call can fail that is where it has something to copy, and its broker still leads
@@ -72,7 +77,8 @@ module _ {D S M : Type 0} (disk : DiskGhosts D) (store : StoreGhosts S) (meta : 
       (opening : State) (w : Whole D S M) (a place : ℕ) (l : ActorList) (actor_state : ActorState) (order : Order)
       (actors : List ℕ) (w' : Whole D S M) → IsCentral disk store meta opening w → DeletionsKnown meta w
       → IsUnfailing disk store meta w → IsNextOrder w a place l actor_state order → order.command ≡ Copy
-      → RunsTurns disk store meta (IsFree disk store meta place actor_state.number) w actors w' → turns_left Copy actor_state.work ≤ times a actors
+      → RunsTurns disk store meta (IsFree disk store meta place actor_state.number) w actors w'
+      → turns_left Copy actor_state.in_progress ≤ times a actors
       → (id : SegmentId) × (base : ℕ) × (last : ℕ)
       × IsCommandAnswered w' l.actor actor_state.number (CopiedSegment id base last)
 
@@ -85,7 +91,8 @@ module _ {D S M : Type 0} (disk : DiskGhosts D) (store : StoreGhosts S) (meta : 
   -- a turn keeps what is known of deletions
   abbrev pub TurnsKeepKnown : Type 0
   TurnsKeepKnown = (opening : State) (w : Whole D S M) (a : ℕ) (outcome : Outcome) (w' : Whole D S M)
-      → IsCentral disk store meta opening w → DeletionsKnown meta w → IsTurn disk store meta w a outcome w' → DeletionsKnown meta w'
+      → IsCentral disk store meta opening w → DeletionsKnown meta w → IsTurn disk store meta w a outcome w'
+      → DeletionsKnown meta w'
 
   -- it is known where nothing has happened yet
   abbrev pub NewIsKnown : Type 0

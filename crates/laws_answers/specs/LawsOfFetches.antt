@@ -39,7 +39,8 @@ use Rattle.laws_answers.specs.UnhinderedFetches.{IsFetchServed, IsFree, IsUnhind
 -- a piece that is found by a log's leader epochs, among entries whose finished copies exist, ends where a batch of the
 -- log does
 abbrev pub PiecesEnd : Type 0
-PiecesEnd = (p : State) (objects : Objects) (entries : List Entry) (line : List (ℕ × ℕ)) (log : List (List ℕ)) (offset : ℕ) (piece : Piece)
+PiecesEnd = (p : State) (objects : Objects) (entries : List Entry) (line : List (ℕ × ℕ)) (log : List (List ℕ))
+    (offset : ℕ) (piece : Piece)
     → PlainSafe p → FinishedStand objects p.paths entries → AreEntriesValid entries → AreDistinct entries
     → TellsEpochs line log
     → LogSafe p.paths log → piece_at entries line (end_of log) offset ≡ Some piece → EndsAt piece.to log
@@ -47,14 +48,18 @@ PiecesEnd = (p : State) (objects : Objects) (entries : List Entry) (line : List 
 module _ {D S M : Type 0} (disk : DiskGhosts D) (store : StoreGhosts S) (meta : MetaGhosts M) where
   -- a fetch's answer has its cause
   abbrev pub FetchesHaveCauses : Type 0
-  FetchesHaveCauses = (opening : State) (w : Whole D S M) (a : ℕ) (answer : Answer) (w' : Whole D S M) (offset limit : ℕ)
-      → IsCentral disk store meta opening w → SpansKnown meta opening w → (t : IsTurn disk store meta w a (Answers answer) w')
+  FetchesHaveCauses = (opening : State) (w : Whole D S M) (a : ℕ) (answer : Answer) (w' : Whole D S M)
+      (offset limit : ℕ)
+      → IsCentral disk store meta opening w → SpansKnown meta opening w
+      → (t : IsTurn disk store meta w a (Answers answer) w')
       → t.order.command ≡ Fetch offset limit
-      → AtNode w.held t.order.broker.0 (λ x. FetchHasCause disk store meta w t.order.broker.0 x t.actor_state.work offset limit answer w')
+      → AtNode w.partition_state t.order.broker.0 (λ x. FetchHasCause disk store meta w t.order.broker.0 x
+      t.actor_state.in_progress offset limit answer w')
 
   -- so it is never damage
   abbrev pub NoFetchIsDamaged : Type 0
-  NoFetchIsDamaged = (opening : State) (w : Whole D S M) (a : ℕ) (place : Place) (at : ℕ) (w' : Whole D S M) (offset limit : ℕ)
+  NoFetchIsDamaged = (opening : State) (w : Whole D S M) (a : ℕ) (place : Place) (at : ℕ) (w' : Whole D S M)
+      (offset limit : ℕ)
       → IsCentral disk store meta opening w → SpansKnown meta opening w
       → (t : IsTurn disk store meta w a (Answers (Damaged place at)) w') → t.order.command ≡ Fetch offset limit → ⊥
 
@@ -62,20 +67,22 @@ module _ {D S M : Type 0} (disk : DiskGhosts D) (store : StoreGhosts S) (meta : 
   abbrev pub UnhinderedAreServed : Type 0
   UnhinderedAreServed =
       (opening : State) (w : Whole D S M) (a place : ℕ) (l : ActorList) (actor_state : ActorState) (order : Order)
-      (offset limit : ℕ) (actors : List ℕ) (w' : Whole D S M) → IsCentral disk store meta opening w → SpansKnown meta opening w
+      (offset limit : ℕ) (actors : List ℕ) (w' : Whole D S M) → IsCentral disk store meta opening w
+      → SpansKnown meta opening w
       → IsNextOrder w a place l actor_state order → order.command ≡ Fetch offset limit
       → RunsTurns disk store meta (IsUnhindered disk store meta place actor_state.number offset) w actors w'
-      → turns_left (Fetch offset limit) actor_state.work ≤ times a actors
+      → turns_left (Fetch offset limit) actor_state.in_progress ≤ times a actors
       → (answer : Answer) × IsFetchServed offset limit answer × IsCommandAnswered w' l.actor actor_state.number answer
 
   -- over devices of which no call can fail that is where its broker still leads and may give the offset
   abbrev pub UnfailingAreServed : Type 0
   UnfailingAreServed =
       (opening : State) (w : Whole D S M) (a place : ℕ) (l : ActorList) (actor_state : ActorState) (order : Order)
-      (offset limit : ℕ) (actors : List ℕ) (w' : Whole D S M) → IsCentral disk store meta opening w → SpansKnown meta opening w
+      (offset limit : ℕ) (actors : List ℕ) (w' : Whole D S M) → IsCentral disk store meta opening w
+      → SpansKnown meta opening w
       → IsUnfailing disk store meta w → IsNextOrder w a place l actor_state order → order.command ≡ Fetch offset limit
       → RunsTurns disk store meta (IsFree disk store meta place actor_state.number offset) w actors w'
-      → turns_left (Fetch offset limit) actor_state.work ≤ times a actors
+      → turns_left (Fetch offset limit) actor_state.in_progress ≤ times a actors
       → (answer : Answer) × IsFetchServed offset limit answer × IsCommandAnswered w' l.actor actor_state.number answer
 
   -- what a schedule reaches keeps what is known of what fetches have found

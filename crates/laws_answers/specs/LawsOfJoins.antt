@@ -24,9 +24,10 @@ module _ {D S M : Type 0} (disk : DiskGhosts D) (store : StoreGhosts S) (meta : 
   -- a join's answer has its cause
   abbrev pub JoinsHaveCauses : Type 0
   JoinsHaveCauses = (opening : State) (w : Whole D S M) (a : ℕ) (answer : Answer) (w' : Whole D S M)
-      → IsCentral disk store meta opening w → (t : IsTurn disk store meta w a (Answers answer) w') → t.order.command ≡ Join
-      → AtNode w.held t.order.broker.0
-      (λ x. JoinHasCause disk store meta w t.order.broker.0 x t.actor_state.work answer w')
+      → IsCentral disk store meta opening w → (t : IsTurn disk store meta w a (Answers answer) w') → t.order.command
+      ≡ Join
+      → AtNode w.partition_state t.order.broker.0
+      (λ x. JoinHasCause disk store meta w t.order.broker.0 x t.actor_state.in_progress answer w')
 
   -- a join returns a cut or a restart, by as many of its actor's turns as it has left, where there is nothing in the
   -- way
@@ -37,7 +38,7 @@ module _ {D S M : Type 0} (disk : DiskGhosts D) (store : StoreGhosts S) (meta : 
       → IsNextOrder w a place l actor_state order
       → order.command ≡ Join → RunsTurns disk store meta
       (IsUnhindered disk store meta place actor_state.number) w actors w'
-      → turns_left Join actor_state.work ≤ times a actors
+      → turns_left Join actor_state.in_progress ≤ times a actors
       → (answer : Answer) × IsJoined answer × IsCommandAnswered w' l.actor actor_state.number answer
 
   -- over devices of which no call can fail that is where it may continue
@@ -46,5 +47,6 @@ module _ {D S M : Type 0} (disk : DiskGhosts D) (store : StoreGhosts S) (meta : 
       (opening : State) (w : Whole D S M) (a place : ℕ) (l : ActorList) (actor_state : ActorState) (order : Order)
       (actors : List ℕ) (w' : Whole D S M) → IsCentral disk store meta opening w → IsUnfailing disk store meta w
       → IsNextOrder w a place l actor_state order → order.command ≡ Join
-      → RunsTurns disk store meta (IsFree disk store meta place actor_state.number) w actors w' → turns_left Join actor_state.work ≤ times a actors
+      → RunsTurns disk store meta (IsFree disk store meta place actor_state.number) w actors w'
+      → turns_left Join actor_state.in_progress ≤ times a actors
       → (answer : Answer) × IsJoined answer × IsCommandAnswered w' l.actor actor_state.number answer

@@ -18,5 +18,5 @@ module _ {D S M : Type 0} (disk : DiskGhosts D) (store : StoreGhosts S) (meta : 
   abbrev pub OffsetsHaveCauses : Type 0
   OffsetsHaveCauses = (w : Whole D S M) (a : ℕ) (answer : Answer) (w' : Whole D S M) (which : Which)
       → (t : IsTurn disk store meta w a (Answers answer) w') → t.order.command ≡ Offset which
-      → AtNode w.held t.order.broker.0 (λ x. AtBrokerTier w.tier t.order.broker.0 (λ broker_tier.
-      OffsetHasCause disk store meta w t.order.broker.0 x broker_tier t.actor_state.work which answer w'))
+      → AtNode w.partition_state t.order.broker.0 (λ x. AtBrokerTier w.tier t.order.broker.0 (λ broker_tier.
+      OffsetHasCause disk store meta w t.order.broker.0 x broker_tier t.actor_state.in_progress which answer w'))

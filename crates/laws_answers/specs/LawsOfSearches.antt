@@ -35,11 +35,11 @@ use Rattle.laws_answers.specs.UnhinderedSearches.{IsSearchAnswer, IsFree, IsUnhi
 module _ {D S M : Type 0} (disk : DiskGhosts D) where
   -- the offset of the timestamp in the log that the broker's disk shows, or that there is none
   pub record IsDatedIn (w : Whole D S M) (x : Node D) (ts : ℤ) (found : Option ℕ) : Type 0 where
-    pub held : seen.SeenPartition
-    pub shown : ShowsPartition disk.content w.held held
+    pub partition_state : seen.SeenPartition
+    pub shown : ShowsPartition disk.content w.partition_state partition_state
     pub seen : log.LogSeen
     pub shows : ShowsSeen disk.content x.log seen
-    pub is : dated_offset held (node_of x seen) ts ≡ found
+    pub is : dated_offset partition_state (node_of x seen) ts ≡ found
 
   -- what an answer says of the log
   abbrev pub TellsDate : Whole D S M → Node D → ℤ → Answer → Type 0
@@ -51,8 +51,9 @@ module _ {D S M : Type 0} (disk : DiskGhosts D) (store : StoreGhosts S) (meta : 
   -- an offset that is answered is that of the timestamp, and where none is answered there is none
   abbrev pub SearchesTellDates : Type 0
   SearchesTellDates = (opening : State) (w : Whole D S M) (a : ℕ) (answer : Answer) (w' : Whole D S M) (ts : ℤ)
-      → IsCentral disk store meta opening w → (t : IsTurn disk store meta w a (Answers answer) w') → t.order.command ≡ Offset (At ts)
-      → AtNode w.held t.order.broker.0 (λ x. TellsDate disk w x ts answer)
+      → IsCentral disk store meta opening w → (t : IsTurn disk store meta w a (Answers answer) w') → t.order.command
+      ≡ Offset (At ts)
+      → AtNode w.partition_state t.order.broker.0 (λ x. TellsDate disk w x ts answer)
 
   -- a search is never damage
   abbrev pub NoSearchIsDamaged : Type 0
@@ -68,7 +69,7 @@ module _ {D S M : Type 0} (disk : DiskGhosts D) (store : StoreGhosts S) (meta : 
       (ts : ℤ) (actors : List ℕ) (w' : Whole D S M) → IsCentral disk store meta opening w → SearchesKnown meta opening w
       → IsNextOrder w a place l actor_state order → order.command ≡ Offset (At ts)
       → RunsTurns disk store meta (IsUnhindered disk store meta place actor_state.number) w actors w'
-      → turns_left (Offset (At ts)) actor_state.work ≤ times a actors
+      → turns_left (Offset (At ts)) actor_state.in_progress ≤ times a actors
       → (answer : Answer) × IsSearchAnswer answer × IsCommandAnswered w' l.actor actor_state.number answer
 
   -- over devices of which no call can fail that is where its broker still leads
@@ -78,7 +79,7 @@ module _ {D S M : Type 0} (disk : DiskGhosts D) (store : StoreGhosts S) (meta : 
       (ts : ℤ) (actors : List ℕ) (w' : Whole D S M) → IsCentral disk store meta opening w → SearchesKnown meta opening w
       → IsUnfailing disk store meta w → IsNextOrder w a place l actor_state order → order.command ≡ Offset (At ts)
       → RunsTurns disk store meta (IsFree disk store meta place actor_state.number) w actors w'
-      → turns_left (Offset (At ts)) actor_state.work ≤ times a actors
+      → turns_left (Offset (At ts)) actor_state.in_progress ≤ times a actors
       → (answer : Answer) × IsSearchAnswer answer × IsCommandAnswered w' l.actor actor_state.number answer
 
   -- fewer of its turns are enough where its broker knows no high watermark past a mark at any of them
@@ -87,9 +88,10 @@ module _ {D S M : Type 0} (disk : DiskGhosts D) (store : StoreGhosts S) (meta : 
       (opening : State) (w : Whole D S M) (a place : ℕ) (l : ActorList) (actor_state : ActorState) (order : Order)
       (ts : ℤ) (mark : ℕ) (actors : List ℕ) (w' : Whole D S M) → IsCentral disk store meta opening w
       → SearchesKnown meta opening w → IsNextOrder w a place l actor_state order → order.command ≡ Offset (At ts)
-      → RunsTurns disk store meta (λ v b u. IsUnhindered disk store meta place actor_state.number v b u × KnowsUpTo mark place actor_state.number v b u)
+      → RunsTurns disk store meta (λ v b u. IsUnhindered disk store meta place actor_state.number v b u
+      × KnowsUpTo mark place actor_state.number v b u)
       w actors w'
-      → search_left mark actor_state.work ≤ times a actors
+      → search_left mark actor_state.in_progress ≤ times a actors
       → (answer : Answer) × IsSearchAnswer answer × IsCommandAnswered w' l.actor actor_state.number answer
 
   -- what a schedule reaches keeps what is known of what searches have found
@@ -106,4 +108,5 @@ module _ {D S M : Type 0} (disk : DiskGhosts D) (store : StoreGhosts S) (meta : 
 
   -- it is known where nothing has happened yet
   abbrev pub NewHasSearches : Type 0
-  NewHasSearches = (opening : State) (lists : List ActorList) (w : Whole D S M) → IsNewWorld lists w → SearchesKnown meta opening w
+  NewHasSearches = (opening : State) (lists : List ActorList) (w : Whole D S M) → IsNewWorld lists w
+      → SearchesKnown meta opening w

@@ -61,12 +61,14 @@ WorksOn brokers command b d = d ≡ b
 abbrev pub NamesDisk : ℕ → List ActorList → JournalEntry → Option ℕ → Type 0
 NamesDisk brokers lists entry None = is_told is_of_disk entry.event ≡ false
 NamesDisk brokers lists entry (Some d) =
-    (is_told is_of_disk entry.event ≡ true) × IsSomeAnd (order_of lists entry) (λ order. WorksOn brokers order.command order.broker.0 d)
+    (is_told is_of_disk entry.event ≡ true) × IsSomeAnd (order_of lists entry)
+    (λ order. WorksOn brokers order.command order.broker.0 d)
 
 -- so for each entry
 abbrev pub NameDisks : ℕ → List ActorList → List JournalEntry → List (Option ℕ) → Type 0
 NameDisks brokers lists [] [] = Unit {0}
-NameDisks brokers lists (entry ∷ journal) (o ∷ failed) = NamesDisk brokers lists entry o × NameDisks brokers lists journal failed
+NameDisks brokers lists (entry ∷ journal) (o ∷ failed) = NamesDisk brokers lists entry o
+    × NameDisks brokers lists journal failed
 NameDisks brokers lists [] (o ∷ failed) = ⊥
 NameDisks brokers lists (entry ∷ journal) [] = ⊥
 
@@ -85,8 +87,8 @@ module _ {D S M : Type 0} (disk : DiskGhosts D) (store : StoreGhosts S) (meta : 
   pub record FaultsAreTold (w w' : Whole D S M) : Type 0 where
     -- of each entry the broker whose disk failed
     pub failed : List (Option ℕ)
-    pub are : NameDisks (length w.held.nodes) w'.lists w'.journal.items failed
-    pub disks : DisksTold disk.control 0 failed w.held.nodes w'.held.nodes
+    pub are : NameDisks (length w.partition_state.nodes) w'.lists w'.journal.items failed
+    pub disks : DisksTold disk.control 0 failed w.partition_state.nodes w'.partition_state.nodes
     pub store_told : (store.control w'.tier.store).faults
         ≡ after_faults (count_told is_of_store w'.journal.items) (store.control w.tier.store).faults
     pub meta_told : (meta.control w'.tier.meta).faults

@@ -14,8 +14,8 @@ module _ {D S M : Type 0} (disk : DiskGhosts D) (store : StoreGhosts S) (meta : 
   -- still leads, and there is something to copy
   abbrev pub IsFree : ℕ → ℕ → Whole D S M → ℕ → Whole D S M → Type 0
   IsFree place number w a w' = AtTurnsOf place number w a (λ actor_state order.
-      AtNode w.held order.broker.0
-      (λ x. AtBrokerTier w.tier order.broker.0 (λ broker_tier. MayCopy w x broker_tier actor_state.work)))
+      AtNode w.partition_state order.broker.0
+      (λ x. AtBrokerTier w.tier order.broker.0 (λ broker_tier. MayCopy w x broker_tier actor_state.in_progress)))
 
   -- and no call of a device fails
   abbrev pub IsUnhindered : ℕ → ℕ → Whole D S M → ℕ → Whole D S M → Type 0

@@ -33,7 +33,7 @@ module _ {D S M : Type 0} (disk : DiskGhosts D) (store : StoreGhosts S) (meta : 
   abbrev pub IsFree : ℕ → ℕ → ℕ → Whole D S M → ℕ → Whole D S M → Type 0
   IsFree place number offset w a w' =
       AtTurnsOf place number w a
-      (λ actor_state order. AtNode w.held order.broker.0 (λ x. MayServe w x offset actor_state.work))
+      (λ actor_state order. AtNode w.partition_state order.broker.0 (λ x. MayServe w x offset actor_state.in_progress))
 
   -- and no call of a device fails
   abbrev pub IsUnhindered : ℕ → ℕ → ℕ → Whole D S M → ℕ → Whole D S M → Type 0

@@ -12,7 +12,8 @@ module _ {D S M : Type 0} (disk : DiskGhosts D) (store : StoreGhosts S) (meta : 
   -- where the turn is one of the join at this place, under this number, it may continue
   abbrev pub IsFree : ℕ → ℕ → Whole D S M → ℕ → Whole D S M → Type 0
   IsFree place number w a w' =
-      AtTurnsOf place number w a (λ actor_state order. AtNode w.held order.broker.0 (λ x. MayJoin w x actor_state.work))
+      AtTurnsOf place number w a
+      (λ actor_state order. AtNode w.partition_state order.broker.0 (λ x. MayJoin w x actor_state.in_progress))
 
   -- and no call of a device fails
   abbrev pub IsUnhindered : ℕ → ℕ → Whole D S M → ℕ → Whole D S M → Type 0

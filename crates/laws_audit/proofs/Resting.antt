@@ -25,7 +25,7 @@ use Rattle.tier_audit.specs.declared.verdict.Flaw.TheVariants.{NoEntry, Left, Cu
 use Rattle.tier_audit.specs.Whole.{IsReadable, AreReadable, IsWholeTier}
 use Rattle.tier_audit.proofs.Saying.{one_thing}
 use Rattle.laws_audit.specs.Laws.{tier_in, SafeIsReadable, SafeHasLeftAtMost, SweptIsWhole}
-use Rattle.laws_audit.proofs.Stored.{held_readable, each_has}
+use Rattle.laws_audit.proofs.Stored.{stored_whole_readable, each_has}
 
 -- metadata events and entries
 
@@ -52,7 +52,7 @@ pub safe_readable : SafeIsReadable
 safe_readable c p s = (
   named c p s,
   each_has (IsReadable c.objects) (fold c.notes) (apart c p s)
-      (λ id entry there finished. held_readable c.objects c.objects p entry s.plain (s.tier.finished id entry there finished) (λ key is. refl) finished),
+      (λ id entry there finished. stored_whole_readable c.objects c.objects p entry s.plain (s.tier.finished id entry there finished) (λ key is. refl) finished),
 )
 
 -- its first flaw
@@ -93,7 +93,7 @@ module _ (c : Scene) (p : Plain) (new : SweptTier) (n : ℕ) (s : BothSafe c p) 
     where
       by : (t : Bool) → IsReadable new.objects (cond t (record entry { state = DeleteFinished }) entry)
       by true = λ finished. absurd (cc (finished))
-      by false = λ finished. held_readable new.objects c.objects p entry s.plain (s.tier.finished id entry there finished) (kept_at id entry there finished) finished
+      by false = λ finished. stored_whole_readable new.objects c.objects p entry s.plain (s.tier.finished id entry there finished) (kept_at id entry there finished) finished
 
   all_readable : AreReadable new.objects (fold new.notes)
   all_readable =

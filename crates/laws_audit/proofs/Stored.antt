@@ -105,8 +105,8 @@ module _ (objects kept : Objects) (p : Plain) (entry : Entry) (s : PlainSafe p) 
       within_whole d.part.front h.batches entry.start entry.end d.some safe.consecutive d.is.consecutive d.part.ends d.last_is ∙ sym d.map_is
 
   -- so it is readable, wherever its objects exist
-  pub held_readable : IsReadable objects entry
-  held_readable =
+  pub stored_whole_readable : IsReadable objects entry
+  stored_whole_readable =
       copy_readable objects entry h.batches line h.interval described
       (subst (λ (ts : ℤ). FitsSigned w64 ts) (sym h.describes.max_ts_is) (greatest_fits h.batches))
       (whole_rises kept p entry s h) map_within

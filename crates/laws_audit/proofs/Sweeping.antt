@@ -26,7 +26,7 @@ use Rattle.tier_safe.proofs.Entries.{Follows, prefix_goes}
 use Rattle.tier_safe.proofs.Basics.{one_some, key_is}
 use Rattle.tier_safe.proofs.Covering.{covers_is}
 use Rattle.tier_safe.proofs.Deletions.{finished_or}
-use Rattle.tier_safe.proofs.Lineage.{held_same}
+use Rattle.tier_safe.proofs.Lineage.{stored_whole_same}
 use Rattle.tier_sweep.specs.Sweeping.{SweptTier, IsUnderSweep, rested}
 use Rattle.tier_sweep.proofs.Rested.{notes_distinct}
 use Rattle.tier_sweep.proofs.Midway.{IsOf, IsTold, is_told, are_notes, front, both, told_rests, under_rests, under_may_take}
@@ -111,7 +111,7 @@ module _ (c : Scene) (p : Plain) (new : SweptTier) (idle : IsIdle c) (t : TierSa
   finished : FinishedStand new.objects p.paths (fold new.notes)
   finished id entry there done =
       let old = was_finished id entry there done in
-      held_same c.objects new.objects p.paths entry
+      stored_whole_same c.objects new.objects p.paths entry
       (λ n key at. kept_at id entry old done key (ap (λ (k : ObjectKey). k.id) (key_is entry.partition entry.id entry.packed n key at)))
       (t.finished id entry old done)
 

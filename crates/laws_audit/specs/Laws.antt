@@ -33,7 +33,7 @@ SweptIsWhole = (c : Scene) (p : Plain) (new : SweptTier) (n : ℕ) → BothSafe 
 
 -- no command is in progress
 abbrev pub IsIdle : Scene → Type 0
-IsIdle c = (a : ℕ) (work : TierTask) → slice_get c.desk a ≡ Some work → work ≡ Free
+IsIdle c = (a : ℕ) (tier_task : TierTask) → slice_get c.desk a ≡ Some tier_task → tier_task ≡ Free
 
 -- a scene with these objects and metadata events
 abbrev pub scene_with : Scene → SweptTier → Scene

@@ -44,8 +44,8 @@ record StepsTo (w : Whole) (a : ℕ) (turned : Turned) (w' : Whole) (p : State) 
   state : State
   actor : Actor
   step_is : step p t.order (record { actor = t.list.actor; number = t.actor_state.number; event = event_of turned t.order.command }) ≡ Some state
-  held : PartitionMatches w'.held state
-  lines : PlainSafe state → LinesStand w'.held state.paths state.broken
+  partition_state : PartitionMatches w'.partition_state state
+  lines : PlainSafe state → LinesStand w'.partition_state state.paths state.broken
   actors : state.actors ≡ put_actor p.actors t.list.actor.0 actor
   wide : Wider p.paths state.paths
   steady : Steady p state
@@ -53,17 +53,17 @@ record StepsTo (w : Whole) (a : ℕ) (turned : Turned) (w' : Whole) (p : State) 
 
 -- what a turn starts from
 standing : (w : Whole) (a : ℕ) (turned : Turned) (w' : Whole) (p : State) (t : IsTurn w a turned w') → PlainSafe p → WorldMatches w p
-    → (x : Node) → slice_get w.held.nodes t.order.broker.0 ≡ Some x → (s : Replica) × Standing w.held p t.order.broker.0 x s
+    → (x : Node) → slice_get w.partition_state.nodes t.order.broker.0 ≡ Some x → (s : Replica) × Standing w.partition_state p t.order.broker.0 x s
 standing w a turned w' p t safe st x at =
     let b = t.order.broker.0 in
-    let bx = broker_at w.held p b x st.held at in
+    let bx = broker_at w.partition_state p b x st.partition_state at in
     let s = look p.registry.replicas b (omega (arith, safe.same_count, within p.brokers b (broker_of x) bx)) in
-    (s.0, record { safe = safe; held = st.held; lines = st.lines; at = at; replica = s.1 })
+    (s.0, record { safe = safe; partition_state = st.partition_state; lines = st.lines; at = at; replica = s.1 })
 
 -- an answer
 answer_to : (w : Whole) (a : ℕ) (answer : Answer) (w' : Whole) (p : State) (t : IsTurn w a (Answers answer) w') (x : Node) (s : Replica) (recorded : Option PlainSnapshot)
-    → Standing w.held p t.order.broker.0 x s → actor_at p.actors t.list.actor.0 ≡ record { number = t.actor_state.number; snapshot = recorded } → is_recorded recorded t.order ≡ true
-    → Allowed p t.order.broker.0 x s recorded t.order.command answer w'.held → StepsTo w a (Answers answer) w' p t
+    → Standing w.partition_state p t.order.broker.0 x s → actor_at p.actors t.list.actor.0 ≡ record { number = t.actor_state.number; snapshot = recorded } → is_recorded recorded t.order ≡ true
+    → Allowed p t.order.broker.0 x s recorded t.order.command answer w'.partition_state → StepsTo w a (Answers answer) w' p t
 answer_to w a answer w' p t x s recorded st at its k =
     let b = t.order.broker.0 in
     let y : Actor = record { number = t.actor_state.number + 1; snapshot = None } in
@@ -72,8 +72,8 @@ answer_to w a answer w' p t x s recorded st at its k =
       state = with_actor n y k.state;
       actor = y;
       step_is = answer_steps p t.order n t.actor_state.number (broker_of x) s recorded (record { actor = t.list.actor; number = t.actor_state.number; event = Answered answer }) answer k.state
-          (broker_at w.held p b x st.held st.at) st.replica at its refl refl refl k.is;
-      held = record { registry = k.registry; brokers = k.brokers };
+          (broker_at w.partition_state p b x st.partition_state st.at) st.replica at its refl refl refl k.is;
+      partition_state = record { registry = k.registry; brokers = k.brokers };
       lines = λ safe. k.lines (λ c z is. (safe.brokers c z is).log);
       actors = ap (λ (ys : List Actor). put_actor ys n y) k.actors;
       wide = k.paths;
@@ -87,11 +87,11 @@ recorded_same p order z g stops role end start = rw (stops, role, end, start) re
 
 -- a beginning
 begin_to : (w : Whole) (a : ℕ) (g : StartSnapshot) (w' : Whole) (p : State) (t : IsTurn w a (Begins g) w') (x : Node) (s : Replica)
-    → Standing w.held p t.order.broker.0 x s → actor_at p.actors t.list.actor.0 ≡ record { number = t.actor_state.number; snapshot = None }
-    → FirstRow w.held t.order.broker.0 x t.order.command (Begins g) w'.held → StepsTo w a (Begins g) w' p t
+    → Standing w.partition_state p t.order.broker.0 x s → actor_at p.actors t.list.actor.0 ≡ record { number = t.actor_state.number; snapshot = None }
+    → FirstRow w.partition_state t.order.broker.0 x t.order.command (Begins g) w'.partition_state → StepsTo w a (Begins g) w' p t
 begin_to w a g w' p t x s st at row =
     let b = t.order.broker.0 in
-    let k = first_starts w.held p b x s t.order.command g w'.held st row in
+    let k = first_starts w.partition_state p b x s t.order.command g w'.partition_state st row in
     let n = t.list.actor.0 in
     let recorded = recorded_same p t.order k.broker g k.stops k.role k.end k.start in
     let y : Actor = record { number = t.actor_state.number; snapshot = Some (recorded_of t.order g) } in
@@ -100,9 +100,9 @@ begin_to w a g w' p t x s st at row =
       state = with_actor n y q;
       actor = y;
       step_is = begin_steps p t.order n t.actor_state.number (broker_of x) k.broker s (record { actor = t.list.actor; number = t.actor_state.number; event = event_of (Begins g) t.order.command }) k.cut
-          (broker_at w.held p b x st.held st.at) st.replica at refl refl k.event k.is
+          (broker_at w.partition_state p b x st.partition_state st.at) st.replica at refl refl k.event k.is
           ∙ ap (λ (m : PlainSnapshot). Some (with_actor n (record { number = t.actor_state.number; snapshot = Some m }) q)) recorded;
-      held = record { registry = k.registry; brokers = k.brokers };
+      partition_state = record { registry = k.registry; brokers = k.brokers };
       lines = λ safe. k.lines (λ c z is. (safe.brokers c z is).log);
       actors = refl;
       wide = wider_self p.paths;
@@ -112,21 +112,21 @@ begin_to w a g w' p t x s st at row =
 
 -- a turn, whether its command has begun or not
 steps_to : (w : Whole) (a : ℕ) (turned : Turned) (w' : Whole) (p : State) (t : IsTurn w a turned w') (x : Node) (s : Replica) (snapshot : Option StartSnapshot)
-    → Standing w.held p t.order.broker.0 x s → ProgressMatches p t.list t.actor_state → t.actor_state.snapshot ≡ snapshot → Row w.held t.order.broker.0 x snapshot t.order.command turned w'.held
+    → Standing w.partition_state p t.order.broker.0 x s → ProgressMatches p t.list t.actor_state → t.actor_state.snapshot ≡ snapshot → Row w.partition_state t.order.broker.0 x snapshot t.order.command turned w'.partition_state
     → StepsTo w a turned w' p t
 steps_to w a (Answers answer) w' p t x s None st at is row =
     let recorded = at.actor ∙ ap (λ (o : Option PlainSnapshot). record { number = t.actor_state.number; snapshot = o }) (recorded_none t.list.orders t.actor_state is) in
-    answer_to w a answer w' p t x s None st recorded refl (first_allowed w.held p t.order.broker.0 x s t.order.command answer w'.held st row)
+    answer_to w a answer w' p t x s None st recorded refl (first_allowed w.partition_state p t.order.broker.0 x s t.order.command answer w'.partition_state st row)
 steps_to w a (Begins g) w' p t x s None st at is row =
     let recorded = at.actor ∙ ap (λ (o : Option PlainSnapshot). record { number = t.actor_state.number; snapshot = o }) (recorded_none t.list.orders t.actor_state is) in
     begin_to w a g w' p t x s st recorded row
 steps_to w a (Answers answer) w' p t x s (Some g) st at is row =
     let recorded = at.actor ∙ ap (λ (o : Option PlainSnapshot). record { number = t.actor_state.number; snapshot = o }) (recorded_some t.list.orders t.actor_state t.order g t.next is) in
-    let k = going p x t.order t.list t.actor_state g st.safe at t.next is (broker_at w.held p t.order.broker.0 x st.held st.at) in
-    answer_to w a answer w' p t x s (Some (recorded_of t.order g)) st recorded (recorded_its t.order g (later_same w.held t.order.broker.0 x t.order.command g (Answers answer) w'.held row))
-    (later_allowed w.held p t.order.broker.0 x s t.order t.order.command g answer w'.held st k row)
+    let k = going p x t.order t.list t.actor_state g st.safe at t.next is (broker_at w.partition_state p t.order.broker.0 x st.partition_state st.at) in
+    answer_to w a answer w' p t x s (Some (recorded_of t.order g)) st recorded (recorded_its t.order g (later_same w.partition_state t.order.broker.0 x t.order.command g (Answers answer) w'.partition_state row))
+    (later_allowed w.partition_state p t.order.broker.0 x s t.order t.order.command g answer w'.partition_state st k row)
 steps_to w a (Begins h) w' p t x s (Some g) st at is row =
-    absurd (no_later w.held t.order.broker.0 x t.order.command g h w'.held row)
+    absurd (no_later w.partition_state t.order.broker.0 x t.order.command g h w'.partition_state row)
 
 -- the same lists and the same journal
 replays_on : (lists after : List ActorList) (opening r : State) (journal more : List JournalEntry) → after ≡ lists → more ≡ journal → replay lists opening journal ≡ Some r
@@ -141,7 +141,7 @@ pub record Went (opening : State) (w : Whole) (a : ℕ) (turned : Turned) (w' : 
 pub turn_went : (opening : State) (w : Whole) (a : ℕ) (turned : Turned) (w' : Whole) (t : IsTurn w a turned w') (c : IsCentral opening w) → Went opening w a turned w' t c
 turn_went opening w a turned w' t c =
     let p = c.plain in
-    let x = some_of _ (slice_get w.held.nodes t.order.broker.0) t.row in
+    let x = some_of _ (slice_get w.partition_state.nodes t.order.broker.0) t.row in
     let s = standing w a turned w' p t c.safe c.stands x.0 x.1 in
     let k = steps_to w a turned w' p t x.0 s.0 t.actor_state.snapshot s.1 (c.stands.desk t.place t.list t.actor_state t.at.list t.at.actor_state_is) refl x.2 in
     let entry : JournalEntry = record { actor = t.list.actor; number = t.actor_state.number; event = event_of turned t.order.command } in
@@ -154,7 +154,7 @@ turn_went opening w a turned w' t c =
         replays = replays_on w.lists w'.lists opening k.state (w.journal.items ++ entry ∷ []) w'.journal.items t.lists t.entered (replay_more w.lists opening w.journal.items p entry k.state c.replays taken);
         safe = safe;
         stands = record {
-          held = k.held;
+          partition_state = k.partition_state;
           lines = k.lines safe;
           desk = desk_goes w a turned w' p k.state k.actor t c.stands k.actors k.wide k.steady (λ e log is. (safe.paths e log is).log_safe.consecutive) k.actor_state;
           rising = subst AreRising (sym t.lists) c.stands.rising;

@@ -26,7 +26,7 @@ use Rattle.laws_partition.specs.declared.actor_progress.ActorProgress.{ActorProg
 use Rattle.laws_partition.specs.Partition.{broker_of}
 use Rattle.laws_partition.specs.Whole.{Whole}
 use Rattle.laws_partition.specs.Central.{was_taken, LineStands, LeaderStands, LinesStand, ProgressMatches, IsCentral}
-use Rattle.laws_partition.specs.Fresh.{fresh_node, fresh_held, fresh_actor_state, IsFresh}
+use Rattle.laws_partition.specs.Fresh.{fresh_node, fresh_partition_state, fresh_actor_state, IsFresh}
 use Rattle.laws_partition.specs.Sound.{NodeSound}
 use Rattle.laws_partition.specs.Turn.{IsAtEnd}
 use Rattle.laws_partition.specs.Laws.{IsCompleteRun}
@@ -53,7 +53,7 @@ abbrev fresh_paths : List Path
 fresh_paths = record { epoch = 0; log = [] } ∷ []
 
 -- a node of a fresh world, by its place
-fresh_line : (n : ℕ) → 1 ≤ n → (b : ℕ) (x : Node) → slice_get (fresh_held n).nodes b ≡ Some x → LineStands fresh_paths [] x
+fresh_line : (n : ℕ) → 1 ≤ n → (b : ℕ) (x : Node) → slice_get (fresh_partition_state n).nodes b ≡ Some x → LineStands fresh_paths [] x
 fresh_line n some zero x at =
     let is : fresh_node (Leads 0) ((0, 0) ∷ []) ≡ x = cc in
     subst (LineStands fresh_paths []) is (record {
@@ -73,14 +73,14 @@ fresh_line n some (suc b) x at =
       joined = λ e j. refl;
     })
 
-fresh_lines : (n : ℕ) → 1 ≤ n → LinesStand (fresh_held n) fresh_paths []
+fresh_lines : (n : ℕ) → 1 ≤ n → LinesStand (fresh_partition_state n) fresh_paths []
 fresh_lines n some = record {
   each = fresh_line n some;
   leader = λ x at has. (let is : fresh_node (Leads 0) ((0, 0) ∷ []) ≡ x = cc in subst (λ (y : Node). LeaderStands fresh_paths 0 y) is (λ h. (0, refl, refl, omega arith, λ back b. absurd cc, ([], refl, ([], refl)))) has);
   followers = λ b x at f. other b x at f;
 }
   where
-    other : (b : ℕ) (x : Node) → slice_get (fresh_held n).nodes b ≡ Some x → followed x.role ≡ Some 0 → 0 ≢ b
+    other : (b : ℕ) (x : Node) → slice_get (fresh_partition_state n).nodes b ≡ Some x → followed x.role ≡ Some 0 → 0 ≢ b
     other zero x at f =
         let is : fresh_node (Leads 0) ((0, 0) ∷ []) ≡ x = cc in
         absurd (let none : ◌≡◌ {A = Option ℕ} None (Some 0) = ap (λ (y : Node). followed y.role) is ∙ f in cc)
@@ -103,12 +103,12 @@ fresh_central partition config lists w fits fit f =
       replays = ap (λ (l : List JournalEntry). replay w.lists (fresh config) l) f.journal;
       safe = fresh_safe (n - 1);
       stands = record {
-        held = record {
-          registry = ap fresh_registry more ∙ ap (λ (h : SeenPartition). h.registry) (sym f.held);
+        partition_state = record {
+          registry = ap fresh_registry more ∙ ap (λ (h : SeenPartition). h.registry) (sym f.partition_state);
           brokers = ap (λ (l : List Broker). fresh_broker (Leads 0) ∷ l) (sym (map_replicate broker_of (n - 1) (fresh_node (Joined 0) [])))
-              ∙ ap (λ (h : SeenPartition). map broker_of h.nodes) (sym f.held);
+              ∙ ap (λ (h : SeenPartition). map broker_of h.nodes) (sym f.partition_state);
         };
-        lines = subst (λ (h : SeenPartition). LinesStand h fresh_paths []) (sym f.held) (fresh_lines n fits.some);
+        lines = subst (λ (h : SeenPartition). LinesStand h fresh_paths []) (sym f.partition_state) (fresh_lines n fits.some);
         desk = λ place l actor_state ll ss.
             actor_state_stands (fresh config) l actor_state refl (replicated (length lists) fresh_actor_state place actor_state (ap (λ (k : List ActorProgress). slice_get k place) (sym f.desk) ∙ ss));
         rising = subst AreRising (sym f.lists_are) fit.rising;

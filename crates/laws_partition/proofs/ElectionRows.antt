@@ -35,12 +35,12 @@ calls : (h : SeenPartition) (p q : State) (b : ℕ) (x : Node) (s : Replica) (co
     → Leaves h (f h.registry) h' → Allowed p b x s None command answer h'
 calls h p q b x s command answer h' f st registry brokers actors paths broken to moves w =
     let r = some_of _ (f h.registry) w in
-    let is : f p.registry ≡ Some r.0 = ap f st.held.registry ∙ r.1 in
+    let is : f p.registry ≡ Some r.0 = ap f st.partition_state.registry ∙ r.1 in
     leaves h p (set_registry q r.0) b x s r.0 None command answer h' st (to ∙ left_as q (f p.registry) r.0 is) refl brokers actors paths broken (moves r.0 r.1) r.2
 
 -- the registry's replica is the plain log's
 pub replica_is : (h : SeenPartition) (p : State) (b : ℕ) (x : Node) (s t : Replica) → Standing h p b x s → slice_get h.registry.replicas b ≡ Some t → t ≡ s
-replica_is h p b x s t st at = cc (at, st.replica, ap (λ (k : Registry). slice_get k.replicas b) st.held.registry)
+replica_is h p b x s t st at = cc (at, st.replica, ap (λ (k : Registry). slice_get k.replicas b) st.partition_state.registry)
 
 -- elect
 

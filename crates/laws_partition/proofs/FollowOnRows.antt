@@ -69,11 +69,11 @@ on_path h p b x s limit order g st k on end =
     let run = k.run in
     let e = run.epoch in
     let fresh : h.registry.epoch ≤ e = not_stale e run.role in
-    let low : p.registry.epoch ≤ e = omega (arith, fresh, ap (λ (r : Registry). r.epoch) st.held.registry) in
+    let low : p.registry.epoch ≤ e = omega (arith, fresh, ap (λ (r : Registry). r.epoch) st.partition_state.registry) in
     let one : k.recorded.0 ≡ e = same_epoch k.recorded.0 e (sym k.recorded.1 ∙ run.role) in
     let role : x.role ≡ Joined e = k.recorded.2 on.0 (omega (arith, low, one)) ∙ run.role in
     let is = now h p b x s e st (ap followed role) fresh in
-    let safe = (st.safe.brokers b (broker_of x) (broker_at h p b x st.held st.at)).role in
+    let safe = (st.safe.brokers b (broker_of x) (broker_at h p b x st.partition_state st.at)).role in
     let has = (subst (λ (r : Role). RoleSafe p.paths p.registry.epoch r x.log.batches) role safe).1 in
     let same : has.0 ≡ run.path = cc (has.1, run.path_is) in
     let mine : IsPrefix x.log.batches run.path = subst (λ (w : List (List ℕ)). IsPrefix x.log.batches w) same has.2 in
@@ -191,7 +191,7 @@ copy_on h p b x s limit order g n e h' st k on can first w =
     let fits : is_within limit w.front ≡ true = within_front limit w.front w.rest w.some (ap (is_within limit) (sym w.parts) ∙ k.run.within) in
     let within : is_within limit (drop (length x.log.batches) (up_to n o.path)) ≡ true =
     ap (λ (w : List (List ℕ)). is_within limit (drop (length x.log.batches) w)) up ∙ (ap (is_within limit) (drop_append x.log.batches w.front) ∙ fits) in
-    let is : copied p bx (recorded_of order g) limit n ≡ Some z = rw to (when_true _ z (and_true _ _ (goes_true h p x order g st.held on can.end) within)) in
+    let is : copied p bx (recorded_of order g) limit n ≡ Some z = rw to (when_true _ z (and_true _ _ (goes_true h p x order g st.partition_state on can.end) within)) in
     let line = st.lines.each b x st.at in
     let node = node_extended x g w.front w.rest e line.sound can first w.parts w.some in
     put h p (put_broker p b z) b x (extended x w.front e) s (Some (recorded_of order g)) (Follow limit) (Copied n) h' st (ap (option_map (put_broker p b)) is) (record {
@@ -217,18 +217,18 @@ follow_on_allowed h p b x s limit order g Stopped h' st k w =
     silent h p b x s (Some (recorded_of order g)) (Follow limit) Stopped h' st (when_true _ p (not_false _ (eq_differs g.stops x.stops w.0))) w.1
 follow_on_allowed h p b x s limit order g (StaleEpoch n) h' st k w =
     silent h p b x s (Some (recorded_of order g)) (Follow limit) (StaleEpoch n) h' st
-    (when_true _ p (and_true _ _ (and_true _ _ (eq_same g.stops x.stops w.0) (stale_true h p (followed g.role) st.held w.1)) (eq_same _ _ (epoch_same h p n st.held w.2)))) w.3
+    (when_true _ p (and_true _ _ (and_true _ _ (eq_same g.stops x.stops w.0) (stale_true h p (followed g.role) st.partition_state w.1)) (eq_same _ _ (epoch_same h p n st.partition_state w.2)))) w.3
 follow_on_allowed h p b x s limit order g (Passed n) h' st k w =
     let differs : n ≢ g.end = λ e. w.2 (can_extend h p b x s limit order g st k w.0 (sym e ∙ w.1)) in
     silent h p b x s (Some (recorded_of order g)) (Follow limit) (Passed n) h' st
-    (when_true _ p (and_true _ _ (and_true _ _ (and_true _ _ (eq_same g.stops x.stops w.0.0) (not_false _ (stale_false h p (followed g.role) st.held w.0.1))) (eq_same _ _ w.1))
+    (when_true _ p (and_true _ _ (and_true _ _ (and_true _ _ (eq_same g.stops x.stops w.0.0) (not_false _ (stale_false h p (followed g.role) st.partition_state w.0.1))) (eq_same _ _ w.1))
     (not_false _ (eq_differs n g.end differs)))) w.3
 follow_on_allowed h p b x s limit order g TooManySegments h' st k w =
-    silent h p b x s (Some (recorded_of order g)) (Follow limit) TooManySegments h' st (when_true _ p (goes_true h p x order g st.held w.0 w.1.end)) w.2
+    silent h p b x s (Some (recorded_of order g)) (Follow limit) TooManySegments h' st (when_true _ p (goes_true h p x order g st.partition_state w.0 w.1.end)) w.2
 follow_on_allowed h p b x s limit order g DiskFault h' st k w =
     let up = joined_up x (st.lines.each b x st.at).sound w.1.joined in
     flushed_end_breaks h p b x s (Some (recorded_of order g)) (Follow limit) DiskFault h' st
-    (when_true _ (breaks p b (broker_of x)) (and_true _ _ (goes_true h p x order g st.held w.0 w.1.end) up)) w.2
+    (when_true _ (breaks p b (broker_of x)) (and_true _ _ (goes_true h p x order g st.partition_state w.0 w.1.end) up)) w.2
 follow_on_allowed h p b x s limit order g (Copied n) h' st k w =
     let e = some_of _ (epoch_in g.batches) w.2 in
     copy_on h p b x s limit order g n e.0 h' st k w.0 w.1 e.1 e.2

@@ -81,8 +81,8 @@ leading h p b x s y st e = go (slice_get h.nodes h.registry.leader.0) refl
 
     role_of : (z : Node) → slice_get h.nodes h.registry.leader.0 ≡ Some z → z.role ≡ Leads h.registry.epoch → path_of p.paths p.registry.epoch ≡ Some z.log.batches
     role_of z at leads =
-        let epoch : h.registry.epoch ≡ p.registry.epoch = ap (λ (r : Registry). r.epoch) (sym st.held.registry) in
-        let safe = (st.safe.brokers h.registry.leader.0 (broker_of z) (broker_at h p h.registry.leader.0 z st.held at)).role in
+        let epoch : h.registry.epoch ≡ p.registry.epoch = ap (λ (r : Registry). r.epoch) (sym st.partition_state.registry) in
+        let safe = (st.safe.brokers h.registry.leader.0 (broker_of z) (broker_at h p h.registry.leader.0 z st.partition_state at)).role in
         (subst (λ (r : Role). RoleSafe p.paths p.registry.epoch r z.log.batches) (leads ∙ ap Leads epoch) safe).1
 
     go : (o : Option Node) → slice_get h.nodes h.registry.leader.0 ≡ o → IsLeading h p y
@@ -92,7 +92,7 @@ leading h p b x s y st e = go (slice_get h.nodes h.registry.leader.0) refl
         let k = both_of z.up (leads_in h.registry.epoch z.role) z w in
         let at : slice_get h.nodes h.registry.leader.0 ≡ Some y = is ∙ ap (λ (n : Node). Some n) k.1 in
         let role : y.role ≡ Leads h.registry.epoch = ap (λ (n : Node). n.role) (sym k.1) ∙ leads_in_is h.registry.epoch z.role k.0 in
-        record { at = at; leads = role; path = role_of y at role; is = leader_as h p st.held ∙ ap (option_map broker_of) e }
+        record { at = at; leads = role; path = role_of y at role; is = leader_as h p st.partition_state ∙ ap (option_map broker_of) e }
 
 leader_none : (h : SeenPartition) (p : State) → PartitionMatches h p → the_leader h ≡ None → leader_leads p ≡ false
 leader_none h p st none = ap is_some (leader_as h p st ∙ ap (option_map broker_of) none)
@@ -130,8 +130,8 @@ pub record IsNow (h : SeenPartition) (p : State) (b e : ℕ) : Type 0 where
 
 pub now : (h : SeenPartition) (p : State) (b : ℕ) (x : Node) (s : Replica) (e : ℕ) → Standing h p b x s → followed x.role ≡ Some e → h.registry.epoch ≤ e → IsNow h p b e
 now h p b x s e st is le =
-    let reg = ap (λ (r : Registry). r.epoch) st.held.registry in
-    let low = followed_below p.paths p.registry.epoch x.role x.log.batches e (st.safe.brokers b (broker_of x) (broker_at h p b x st.held st.at)).role is in
+    let reg = ap (λ (r : Registry). r.epoch) st.partition_state.registry in
+    let low = followed_below p.paths p.registry.epoch x.role x.log.batches e (st.safe.brokers b (broker_of x) (broker_at h p b x st.partition_state st.at)).role is in
     let same : e ≡ h.registry.epoch = omega (arith, low, le, reg) in
     record {
       plain = same ∙ sym reg;
@@ -151,7 +151,7 @@ cut_is h p b x s y m st l w =
     let mine = (st.lines.each b x st.at).sound.log in
     let theirs = (st.lines.each h.registry.leader.0 y l.at).sound.log in
     (meet_common p.paths x.log.line y.log.line x.log.batches y.log.batches m (λ e log is. (st.safe.paths e log is).log_safe.consecutive)
-    (st.safe.brokers b (broker_of x) (broker_at h p b x st.held st.at)).log (st.safe.brokers h.registry.leader.0 (broker_of y) (broker_at h p h.registry.leader.0 y st.held l.at)).log
+    (st.safe.brokers b (broker_of x) (broker_at h p b x st.partition_state st.at)).log (st.safe.brokers h.registry.leader.0 (broker_of y) (broker_at h p h.registry.leader.0 y st.partition_state l.at)).log
     (record { mine_for = mine.line_is; mine_rises = mine.rises; theirs_for = theirs.line_is; theirs_rises = theirs.rises }) w).1
 
 -- that is an end of the follower's log
@@ -161,7 +161,7 @@ meet_ends h p b x s y m st e w =
     let mine = (st.lines.each b x st.at).sound.log in
     let theirs = (st.lines.each h.registry.leader.0 y l.at).sound.log in
     let k = meet_common p.paths x.log.line y.log.line x.log.batches y.log.batches m (λ e log is. (st.safe.paths e log is).log_safe.consecutive)
-    (st.safe.brokers b (broker_of x) (broker_at h p b x st.held st.at)).log (st.safe.brokers h.registry.leader.0 (broker_of y) (broker_at h p h.registry.leader.0 y st.held l.at)).log
+    (st.safe.brokers b (broker_of x) (broker_at h p b x st.partition_state st.at)).log (st.safe.brokers h.registry.leader.0 (broker_of y) (broker_at h p h.registry.leader.0 y st.partition_state l.at)).log
     (record { mine_for = mine.line_is; mine_rises = mine.rises; theirs_for = theirs.line_is; theirs_rises = theirs.rises }) w in
     (up_to m x.log.batches, up_to_prefix m x.log.batches, ap end_of k.1 ∙ sym k.0)
 
@@ -281,9 +281,9 @@ pub join_allowed : (h : SeenPartition) (p : State) (b : ℕ) (x : Node) (s : Rep
 join_allowed h p b x s Down h' st w = silent h p b x s None Join Down h' st (rw w.0 refl) w.1
 join_allowed h p b x s NotFollower h' st w = silent h p b x s None Join NotFollower h' st (rw (w.0, w.1) refl) w.2
 join_allowed h p b x s (StaleEpoch n) h' st w =
-    silent h p b x s None Join (StaleEpoch n) h' st (when_true _ p (and_true _ _ (and_true _ _ w.0 (stale_true h p (followed x.role) st.held w.1)) (eq_same _ _ (epoch_same h p n st.held w.2)))) w.3
+    silent h p b x s None Join (StaleEpoch n) h' st (when_true _ p (and_true _ _ (and_true _ _ w.0 (stale_true h p (followed x.role) st.partition_state w.1)) (eq_same _ _ (epoch_same h p n st.partition_state w.2)))) w.3
 join_allowed h p b x s NoLeader h' st w =
-    silent h p b x s None Join NoLeader h' st (when_true _ p (and_true _ _ (current_true h p x (followed x.role) st.held w.0 w.1) (not_false _ (leader_none h p st.held w.2)))) w.3
+    silent h p b x s None Join NoLeader h' st (when_true _ p (and_true _ _ (current_true h p x (followed x.role) st.partition_state w.0 w.1) (not_false _ (leader_none h p st.partition_state w.2)))) w.3
 join_allowed h p b x s (Cut n) h' st w =
     let y = some_of _ (the_leader h) w.2 in
     let o = current_of h (followed x.role) w.1 in
@@ -333,7 +333,7 @@ join_starts h p b x s g h' st w =
       stops = wants.stops;
       role = wants.role;
       end = wants.end ∙ ap end_of (sym cut.is);
-      start = wants.start ∙ ap (λ (r : Registry). r.start) (sym st.held.registry);
+      start = wants.start ∙ ap (λ (r : Registry). r.start) (sym st.partition_state.registry);
       puts = cut_puts h p b x s k.0 k.1 g.end st w.0 cut wants.end;
       after = k.5;
       rebuild = record {
@@ -345,7 +345,7 @@ join_starts h p b x s g h' st w =
         line = wants.line ∙ line_there y.0 their g.wanted (subst (λ (n : ℕ). EndsAt n y.0.log.batches) (sym wants.wanted) their.begins);
         above = wants.above;
         leader = λ same v at. flushed_end_of y.0 l their wants.wanted z v (
-            ap (λ (n : ℕ). slice_get (slice_set p.brokers b z) n) (ap (λ (r : Registry). r.leader.0) (sym st.held.registry)) ∙ at
+            ap (λ (n : ℕ). slice_get (slice_set p.brokers b z) n) (ap (λ (r : Registry). r.leader.0) (sym st.partition_state.registry)) ∙ at
             ) now_is.other;
       };
     }
@@ -359,7 +359,7 @@ join_starts h p b x s g h' st w =
     flushed_end_of y l their is z v at other = elim (get-set p.brokers b z h.registry.leader.0 v at) [
       | inl one ↦ absurd (other one.0)
       | inr rest ↦
-          let same : broker_of y ≡ v = cc (broker_at h p h.registry.leader.0 y st.held l.at, rest.1) in
+          let same : broker_of y ≡ v = cc (broker_at h p h.registry.leader.0 y st.partition_state l.at, rest.1) in
           subst (λ (k : Broker). g.wanted ≤ k.flushed_end) same (omega (arith, is, their.within))
     ]
 
@@ -376,7 +376,7 @@ begins_leader : (h : SeenPartition) (p : State) (b : ℕ) (x : Node) (s : Replic
     → IsPrefix x.log.batches y.log.batches
 begins_leader h p b x s y e st l is le =
     let k = now h p b x s e st (joined_followed x.role e is) le in
-    let safe = (st.safe.brokers b (broker_of x) (broker_at h p b x st.held st.at)).role in
+    let safe = (st.safe.brokers b (broker_of x) (broker_at h p b x st.partition_state st.at)).role in
     let has = (subst (λ (r : Role). RoleSafe p.paths p.registry.epoch r x.log.batches) (joined_is x.role e is) safe).1 in
     let same : has.0 ≡ y.log.batches = cc (has.1, ap (path_of p.paths) k.plain, l.path) in
     subst (λ (w : List (List ℕ)). IsPrefix x.log.batches w) same has.2
@@ -393,10 +393,10 @@ follow_allowed h p b x s limit Down h' st w = silent h p b x s None (Follow limi
 follow_allowed h p b x s limit NotJoined h' st w = silent h p b x s None (Follow limit) NotJoined h' st (rw (w.0, w.1) refl) w.2
 follow_allowed h p b x s limit (StaleEpoch n) h' st w =
     silent h p b x s None (Follow limit) (StaleEpoch n) h' st
-    (when_true _ p (and_true _ _ (and_true _ _ w.0 (stale_true h p (joined x.role) st.held w.1)) (eq_same _ _ (epoch_same h p n st.held w.2)))) w.3
+    (when_true _ p (and_true _ _ (and_true _ _ w.0 (stale_true h p (joined x.role) st.partition_state w.1)) (eq_same _ _ (epoch_same h p n st.partition_state w.2)))) w.3
 follow_allowed h p b x s limit NoLeader h' st w =
     silent h p b x s None (Follow limit) NoLeader h' st
-    (when_true _ p (and_true _ _ (current_true h p x (joined x.role) st.held w.0 w.1) (not_false _ (leader_none h p st.held w.2)))) w.3
+    (when_true _ p (and_true _ _ (current_true h p x (joined x.role) st.partition_state w.0 w.1) (not_false _ (leader_none h p st.partition_state w.2)))) w.3
 follow_allowed h p b x s limit Level h' st w =
     let y = some_of _ (the_leader h) w.2 in
     let l = leading h p b x s y.0 st y.1 in
@@ -404,7 +404,7 @@ follow_allowed h p b x s limit Level h' st w =
     let front = begins_leader h p b x s y.0 o.0 st l o.1 o.2 in
     let low = prefix_end x.log.batches y.0.log.batches (st.lines.each h.registry.leader.0 y.0 l.at).sound.log.consecutive front in
     let ends : end_of x.log.batches ≡ leader_end p = omega (arith, low, y.2, leader_ends h p y.0 l) in
-    silent h p b x s None (Follow limit) Level h' st (when_true _ p (and_true _ _ (follow_true h p x y.0 st.held l w.0 w.1) (eq_same _ _ ends))) w.3
+    silent h p b x s None (Follow limit) Level h' st (when_true _ p (and_true _ _ (follow_true h p x y.0 st.partition_state l w.0 w.1) (eq_same _ _ ends))) w.3
 follow_allowed h p b x s limit (Moved n) h' st w =
     let y = some_of _ (the_leader h) w.2 in
     let l = leading h p b x s y.0 st y.1 in
@@ -412,13 +412,13 @@ follow_allowed h p b x s limit (Moved n) h' st w =
     let their = (st.lines.each h.registry.leader.0 y.0 l.at).sound in
     let high = ends_below y.0.local y.0.log.batches their.log.consecutive their.begins in
     let differs : end_of x.log.batches ≢ leader_end p = λ e. omega (arith, e, y.2.0, ends) in
-    silent h p b x s None (Follow limit) (Moved n) h' st (when_true _ p (and_true _ _ (and_true _ _ (and_true _ _ (follow_true h p x y.0 st.held l w.0 w.1) (not_false _ (eq_differs _ _ differs)))
+    silent h p b x s None (Follow limit) (Moved n) h' st (when_true _ p (and_true _ _ (and_true _ _ (and_true _ _ (follow_true h p x y.0 st.partition_state l w.0 w.1) (not_false _ (eq_differs _ _ differs)))
     (lt_true (end_of x.log.batches) n (omega (arith, y.2.1, y.2.2)))) (le_true n (leader_end p) (omega (arith, y.2.2, high, ends))))) w.3
 follow_allowed h p b x s limit DiskFault h' st w =
     let y = some_of _ (the_leader h) w.2 in
     let l = leading h p b x s y.0 st y.1 in
     let differs : end_of x.log.batches ≢ leader_end p = λ e. omega (arith, e, y.2.0, leader_ends h p y.0 l) in
-    silent h p b x s None (Follow limit) DiskFault h' st (when_true _ p (and_true _ _ (follow_true h p x y.0 st.held l w.0 w.1) (not_false _ (eq_differs _ _ differs)))) w.3
+    silent h p b x s None (Follow limit) DiskFault h' st (when_true _ p (and_true _ _ (follow_true h p x y.0 st.partition_state l w.0 w.1) (not_false _ (eq_differs _ _ differs)))) w.3
 follow_allowed h p b x s limit other h' st w = elim w [ ]
 
 -- what a follow begins with
@@ -458,11 +458,11 @@ follow_starts h p b x s limit g h' st w =
     let last : end_of (up_to g.end y.0.log.batches ++ g.batches) ≡ end_from g.end g.batches = end_append 0 (up_to g.end y.0.log.batches) g.batches ∙ ap (λ (n : ℕ). end_from n g.batches) at in
     record {
       same = w.3;
-      is = when_true _ (broker_of x) (and_true _ _ (follow_true h p x y.0 st.held l w.0 w.1) (lt_true (end_of x.log.batches) (leader_end p) (omega (arith, y.2.0, leader_ends h p y.0 l))));
+      is = when_true _ (broker_of x) (and_true _ _ (follow_true h p x y.0 st.partition_state l w.0 w.1) (lt_true (end_of x.log.batches) (leader_end p) (omega (arith, y.2.0, leader_ends h p y.0 l))));
       stops = takes.stops;
       role = takes.role;
       end = takes.end;
-      start = takes.start ∙ ap (λ (r : Registry). r.start) (sym st.held.registry);
+      start = takes.start ∙ ap (λ (r : Registry). r.start) (sym st.partition_state.registry);
       run = record {
         epoch = o.0;
         role = takes.role ∙ joined_is x.role o.0 o.1;

@@ -5,7 +5,7 @@ use Rattle.log_terms.proofs.Logs.{ends_at_zero}
 use Rattle.registry.specs.Replicas.{fresh_replica}
 use Rattle.plain_log.specs.declared.state.Role.TheVariants.{Leads, Joined}
 use Rattle.laws_partition.specs.Seen.{Node}
-use Rattle.laws_partition.specs.Fresh.{fresh_held, fresh_node}
+use Rattle.laws_partition.specs.Fresh.{fresh_partition_state, fresh_node}
 use Rattle.laws_partition.specs.Sound.{NodeSound, SoundPartition}
 
 pub length_replicate : {A : Type 0} (n : ℕ) (x : A) → length (replicate n x) ≡ n
@@ -47,11 +47,11 @@ follower_sound = record {
   down = λ is. absurd (cc (is));
 }
 
-node_sound : (n b : ℕ) (x : Node) → slice_get (fresh_held n).nodes b ≡ Some x → NodeSound x
+node_sound : (n b : ℕ) (x : Node) → slice_get (fresh_partition_state n).nodes b ≡ Some x → NodeSound x
 node_sound n zero x at = let same : fresh_node (Leads 0) ((0, 0) ∷ []) ≡ x = cc in subst NodeSound same leader_sound
 node_sound n (suc b) x at = subst NodeSound (replicate_is (n - 1) b (fresh_node (Joined 0) []) x at) follower_sound
 
-pub fresh_sound : (n : ℕ) → 1 ≤ n → SoundPartition n (fresh_held n)
+pub fresh_sound : (n : ℕ) → 1 ≤ n → SoundPartition n (fresh_partition_state n)
 fresh_sound n some = record {
   count = omega (arith, length_replicate (n - 1) (fresh_node (Joined 0) []), some);
   same = length_replicate n fresh_replica;

@@ -98,7 +98,7 @@ acks_of h p b x s mark h' st w =
     let same = replica_is h p b x s t.0 st t.1 in
     let r = some_of _ (after_ack h.registry b t.0 o.0 x.flushed_end (Done mark)) t.2 in
     let k = fresh_ack h.registry r.0 b t.0 o.0 x.flushed_end mark r.1 in
-    let reg = st.held.registry in
+    let reg = st.partition_state.registry in
     let ack : with_ack p.registry b s x.flushed_end ≡ with_ack h.registry b t.0 x.flushed_end =
     ap (λ (q : Registry). with_ack q b s x.flushed_end) reg ∙ ap (λ (q : Replica). with_ack h.registry b q x.flushed_end) (sym same) in (
       o.0,
@@ -114,7 +114,7 @@ acks_of h p b x s mark h' st w =
 
 ack_given : (h : SeenPartition) (p : State) (b : ℕ) (x : Node) (s : Replica) (e mark : ℕ) (h' : SeenPartition) → Standing h p b x s → Acks h p b x s e mark h' → Allowed p b x s None Ack (OkAt mark) h'
 ack_given h p b x s e mark h' st w =
-    let bx = broker_at h p b x st.held st.at in
+    let bx = broker_at h p b x st.partition_state st.at in
     let safe = st.safe.brokers b (broker_of x) bx in
     let path = on_path p.paths p.registry.epoch e x.role x.log.batches w.is (not_behind p.registry e w.fresh) safe.role in
     let r = with_ack p.registry b s x.flushed_end in
@@ -133,7 +133,7 @@ ack_given h p b x s e mark h' st w =
       state = q;
       is = is;
       registry = ap (λ (k : SeenPartition). k.registry) (sym w.after);
-      brokers = ap (λ (k : List Broker). slice_set k b (record (broker_of x) { known_high_watermark = min r.mark (end_of x.log.batches) })) st.held.brokers
+      brokers = ap (λ (k : List Broker). slice_set k b (record (broker_of x) { known_high_watermark = min r.mark (end_of x.log.batches) })) st.partition_state.brokers
           ∙ (sym (map_set broker_of h.nodes b y) ∙ ap (λ (k : SeenPartition). map broker_of k.nodes) (sym w.after));
       actors = refl;
       paths = wider_self p.paths;
@@ -145,7 +145,7 @@ ack_given h p b x s e mark h' st w =
         → LinesStand (acked h b x (with_ack p.registry b s x.flushed_end)) p.paths p.broken
     same l = elim w.moves.epoch [
       | inl k ↦ lines_same (put_node h b (record x { known_high_watermark = min (with_ack p.registry b s x.flushed_end).mark (end_of x.log.batches) })) p.paths p.broken (with_ack p.registry b s x.flushed_end) l k
-      | inr k ↦ absurd (omega (arith, k.epoch, ap (λ (q : Registry). q.epoch) st.held.registry))
+      | inr k ↦ absurd (omega (arith, k.epoch, ap (λ (q : Registry). q.epoch) st.partition_state.registry))
     ]
 
 pub ack_allowed : (h : SeenPartition) (p : State) (b : ℕ) (x : Node) (s : Replica) (answer : Answer) (h' : SeenPartition) → Standing h p b x s → AckRow h b x answer h' → Allowed p b x s None Ack answer h'
@@ -156,10 +156,10 @@ ack_allowed h p b x s (StaleEpoch n) h' st w =
     let t = some_of _ (slice_get h.registry.replicas b) o.2 in
     let r = some_of _ (after_ack h.registry b t.0 o.0 x.flushed_end (Err (Reg.StaleEpoch n))) t.2 in
     let k = stale_ack h.registry r.0 b t.0 o.0 x.flushed_end n r.1 in
-    let stale : is_stale p (acking x.role) ≡ true = rw o.1 (subst (λ (q : Registry). is_behind q o.0 ≡ true) (sym st.held.registry) k.0) in
-    let epoch : n ≡ p.registry.epoch = k.1 ∙ ap (λ (q : Registry). q.epoch) (sym st.held.registry) in
+    let stale : is_stale p (acking x.role) ≡ true = rw o.1 (subst (λ (q : Registry). is_behind q o.0 ≡ true) (sym st.partition_state.registry) k.0) in
+    let epoch : n ≡ p.registry.epoch = k.1 ∙ ap (λ (q : Registry). q.epoch) (sym st.partition_state.registry) in
     leaves h p p b x s r.0 None Ack (StaleEpoch n) h' st (when_true _ p (and_true _ _ (and_true _ _ w.0 stale) (eq_same _ _ epoch)))
-    (st.held.registry ∙ k.2) refl refl refl refl (ack_moves h.registry b t.0 o.0 x.flushed_end (Err (Reg.StaleEpoch n)) r.0 r.1) r.2
+    (st.partition_state.registry ∙ k.2) refl refl refl refl (ack_moves h.registry b t.0 o.0 x.flushed_end (Err (Reg.StaleEpoch n)) r.0 r.1) r.2
 ack_allowed h p b x s (OkAt mark) h' st w = let k = acks_of h p b x s mark h' st w in ack_given h p b x s k.0 mark h' st k.1
 ack_allowed h p b x s other h' st w = elim w [ ]
 
@@ -210,7 +210,7 @@ was_led h p b x s n st is old = elim (by_last x.log.line) [
       elim (cases_lt some.0 n) [
         | inl less ↦ absurd (old (λ last e. (let same : last ≡ some.0 = cc (e, some.1) in omega (arith, same, less))))
         | inr more ↦
-            let same : some.0 ≡ n = omega (arith, more, low, is, ap (λ (q : Registry). q.epoch) st.held.registry) in
+            let same : some.0 ≡ n = omega (arith, more, low, is, ap (λ (q : Registry). q.epoch) st.partition_state.registry) in
             subst (λ (k : ℕ). was_taken p.paths p.broken k ≡ true) same has
       ]
 ]
@@ -264,13 +264,13 @@ last_pushed (one ∷ two ∷ line) entry = last_pushed (two ∷ line) entry
 learn_leads : (h : SeenPartition) (p : State) (b : ℕ) (x : Node) (s : Replica) (n : ℕ) (h' : SeenPartition) → Standing h p b x s → LearnRow h b x (Leads n) h' → Allowed p b x s None Learn (Leads n) h'
 learn_leads h p b x s n h' st w =
     let l = st.lines.each b x st.at in
-    let bx = broker_at h p b x st.held st.at in
-    let reg = st.held.registry in
+    let bx = broker_at h p b x st.partition_state st.at in
+    let reg = st.partition_state.registry in
     let free = not_led h p b x s n st w.2 w.3 w.4 in
     let q = led_plain p b (broker_of x) n in
     let leader : (p.registry.leader.0 == b) ≡ true = eq_same _ _ (ap (λ (k : Registry). k.leader.0) reg ∙ w.2) in
     let is : row p b (broker_of x) s None Learn (Leads n) ≡ Some q =
-    when_true _ q (and_true _ _ (and_true _ _ (learns_true h p x n st.held w.0 w.1 w.3) leader) (not_false _ free)) in
+    when_true _ q (and_true _ _ (and_true _ _ (learns_true h p x n st.partition_state w.0 w.1 w.3) leader) (not_false _ free)) in
     let after = (row_keeps p b (broker_of x) s None Learn (Leads n) q bx st.replica tt is st.safe).safe in
     let z = after.brokers b (record (broker_of x) { role = LeadsIn n; flushed_end = end_of x.log.batches; known_high_watermark = p.registry.mark }) (get_put p.brokers b (broker_of x) _ bx) in
     let high = ends_below p.registry.mark x.log.batches l.sound.log.consecutive z.known_high_watermark in
@@ -305,8 +305,8 @@ learn_leads h p b x s n h' st w =
 learn_breaks : (h : SeenPartition) (p : State) (b : ℕ) (x : Node) (s : Replica) (h' : SeenPartition) → Standing h p b x s → LearnRow h b x DiskFault h' → Allowed p b x s None Learn DiskFault h'
 learn_breaks h p b x s h' st w =
     let l = st.lines.each b x st.at in
-    let bx = broker_at h p b x st.held st.at in
-    let reg = st.held.registry in
+    let bx = broker_at h p b x st.partition_state st.at in
+    let reg = st.partition_state.registry in
     let n = h.registry.epoch in
     let m = p.registry.epoch in
     let same : m ≡ n = ap (λ (k : Registry). k.epoch) reg in
@@ -316,7 +316,7 @@ learn_breaks h p b x s h' st w =
     let q : State = record (breaks p b (broker_of x)) { broken = m ∷ p.broken } in
     let leader : (p.registry.leader.0 == b) ≡ true = eq_same _ _ (ap (λ (k : Registry). k.leader.0) reg ∙ w.2) in
     let is : row p b (broker_of x) s None Learn DiskFault ≡ Some q =
-    when_true _ q (and_true _ _ (and_true _ _ (learns_true h p x m st.held w.0 w.1 same) leader) (not_false _ free)) in
+    when_true _ q (and_true _ _ (and_true _ _ (learns_true h p x m st.partition_state w.0 w.1 same) leader) (not_false _ free)) in
     let keeps : Keeps p.broken (m ∷ p.broken) = keeps_more m p.broken in
     let fits : n < 2 ^ 31 = small m n epoch_limit st.safe.marks.epoch same refl in
     let line_is = assign_line x.log.line x.log.batches n l.sound.log.consecutive l.sound.log.line_is in
@@ -355,9 +355,9 @@ learn_breaks h p b x s h' st w =
 learn_follows : (h : SeenPartition) (p : State) (b : ℕ) (x : Node) (s : Replica) (n : ℕ) (h' : SeenPartition) → Standing h p b x s → LearnRow h b x (Follows n) h' → Allowed p b x s None Learn (Follows n) h'
 learn_follows h p b x s n h' st w =
     let l = st.lines.each b x st.at in
-    let other : (p.registry.leader.0 == b) ≡ false = eq_differs _ _ (λ e. w.2 (ap (λ (k : Registry). k.leader.0) (sym st.held.registry) ∙ e)) in
+    let other : (p.registry.leader.0 == b) ≡ false = eq_differs _ _ (λ e. w.2 (ap (λ (k : Registry). k.leader.0) (sym st.partition_state.registry) ∙ e)) in
     put h p (put_broker p b (record (broker_of x) { role = FollowsIn n })) b x (record x { role = FollowsIn n }) s None Learn (Follows n) h' st
-    (when_true _ (put_broker p b (record (broker_of x) { role = FollowsIn n })) (and_true _ _ (learns_true h p x n st.held w.0 w.1 w.3) (not_false _ other))) (record {
+    (when_true _ (put_broker p b (record (broker_of x) { role = FollowsIn n })) (and_true _ _ (learns_true h p x n st.partition_state w.0 w.1 w.3) (not_false _ other))) (record {
       registry = refl;
       brokers = refl;
       actors = refl;
@@ -376,12 +376,12 @@ learn_follows h p b x s n h' st w =
 
 pub learn_allowed : (h : SeenPartition) (p : State) (b : ℕ) (x : Node) (s : Replica) (answer : Answer) (h' : SeenPartition) → Standing h p b x s → LearnRow h b x answer h' → Allowed p b x s None Learn answer h'
 learn_allowed h p b x s Down h' st w = silent h p b x s None Learn Down h' st (rw w.0 refl) w.1
-learn_allowed h p b x s Known h' st w = silent h p b x s None Learn Known h' st (rw (w.0, known_true h p x st.held w.1) refl) w.2
+learn_allowed h p b x s Known h' st w = silent h p b x s None Learn Known h' st (rw (w.0, known_true h p x st.partition_state w.1) refl) w.2
 learn_allowed h p b x s (Follows n) h' st w = learn_follows h p b x s n h' st w
 learn_allowed h p b x s (NeedsElection n) h' st w =
-    let leader : (p.registry.leader.0 == b) ≡ true = eq_same _ _ (ap (λ (k : Registry). k.leader.0) st.held.registry ∙ w.2) in
+    let leader : (p.registry.leader.0 == b) ≡ true = eq_same _ _ (ap (λ (k : Registry). k.leader.0) st.partition_state.registry ∙ w.2) in
     let had = was_led h p b x s n st w.3 w.4 in
-    silent h p b x s None Learn (NeedsElection n) h' st (when_true _ p (and_true _ _ (and_true _ _ (learns_true h p x n st.held w.0 w.1 w.3) leader) had)) w.5
+    silent h p b x s None Learn (NeedsElection n) h' st (when_true _ p (and_true _ _ (and_true _ _ (learns_true h p x n st.partition_state w.0 w.1 w.3) leader) had)) w.5
 learn_allowed h p b x s DiskFault h' st w = learn_breaks h p b x s h' st w
 learn_allowed h p b x s (Leads n) h' st w = learn_leads h p b x s n h' st w
 learn_allowed h p b x s other h' st w = elim w [ ]

@@ -30,7 +30,7 @@ some_is n m e = ap (λ (o : Option ℕ). unwrap_or o 0) e
 offset_given : (h : SeenPartition) (p : State) (b : ℕ) (x : Node) (s : Replica) (which : Which) (n : ℕ) (h' : SeenPartition) → Standing h p b x s → OffsetRow h x which (OffsetAnswer n) h'
     → Allowed p b x s None (Offset which) (OffsetAnswer n) h'
 offset_given h p b x s Earliest n h' st w =
-    let same : p.registry.start ≡ n = ap (λ (k : Registry). k.start) st.held.registry ∙ some_is h.registry.start n w.2 in
+    let same : p.registry.start ≡ n = ap (λ (k : Registry). k.start) st.partition_state.registry ∙ some_is h.registry.start n w.2 in
     silent h p b x s None (Offset Earliest) (OffsetAnswer n) h' st (when_true _ p (and_true _ _ (and_true _ _ (and_true _ _ w.0 w.1) refl) (eq_same _ _ same))) w.3
 offset_given h p b x s Latest n h' st w =
     silent h p b x s None (Offset Latest) (OffsetAnswer n) h' st
@@ -87,7 +87,7 @@ same_given o answer is = subst (λ (k : Option ℕ). same_offset o k ≡ true) i
 -- so the plain log reports it
 told : (h : SeenPartition) (p : State) (b : ℕ) (x : Node) (s : Replica) (ts : ℤ) (answer : Option ℕ) → Standing h p b x s
     → dated_offset h x ts ≡ answer → is_offset_of p (broker_of x) (At ts) answer ≡ true
-told h p b x s ts answer st is = same_given (offset_at p (broker_of x) ts) answer (dated_same h p x ts st.held.registry ∙ is)
+told h p b x s ts answer st is = same_given (offset_at p (broker_of x) ts) answer (dated_same h p x ts st.partition_state.registry ∙ is)
 
 -- the offset of a timestamp, the turn that is answered
 pub dated_allowed : (h : SeenPartition) (p : State) (b : ℕ) (x : Node) (s : Replica) (order : Order) (ts : ℤ) (g : StartSnapshot) (answer : Answer) (h' : SeenPartition)

@@ -102,7 +102,7 @@ append_puts h p b x s batch base e st long up leads fits is =
     let l = st.lines.each b x st.at in
     let t = placed_of x batch base e long l.sound leads is fits in
     let n = node_appended x placed e l.sound leads t.base_is t.epoch_is t.small in
-    let bx = broker_at h p b x st.held st.at in
+    let bx = broker_at h p b x st.partition_state st.at in
     let same : (with_batch x.log placed).line ≡ x.log.line = entered_same x.log.line (epoch_of placed) (end_of x.log.batches) e (l.sound.leads e leads) (sym t.epoch_is) in
     record {
       registry = refl;
@@ -404,17 +404,17 @@ pub fetch_allowed : (h : SeenPartition) (p : State) (b : ℕ) (x : Node) (s : Re
 fetch_allowed h p b x s offset limit Down h' st w = silent h p b x s None (Fetch offset limit) Down h' st (rw w.0 refl) w.1
 fetch_allowed h p b x s offset limit NotLeader h' st w = silent h p b x s None (Fetch offset limit) NotLeader h' st (rw (w.0, w.1) refl) w.2
 fetch_allowed h p b x s offset limit (OutOfRange start end) h' st w =
-    let same : start ≡ p.registry.start = w.3 ∙ ap (λ (k : Registry). k.start) (sym st.held.registry) in
+    let same : start ≡ p.registry.start = w.3 ∙ ap (λ (k : Registry). k.start) (sym st.partition_state.registry) in
     silent h p b x s None (Fetch offset limit) (OutOfRange start end) h' st
     (when_true _ p (and_true _ _ (and_true _ _ (and_true _ _ (and_true _ _ w.0 w.1) (rw (not_in_range p x offset start end same w.4 w.2) refl)) (eq_same _ _ same)) (eq_same _ _ w.4))) w.5
 fetch_allowed h p b x s offset limit Empty h' st w =
     silent h p b x s None (Fetch offset limit) Empty h' st
-    (when_true _ p (and_true _ _ (and_true _ _ (and_true _ _ w.0 w.1) (in_range_of h p x offset st.held w.2)) (le_true x.known_high_watermark offset w.3))) w.4
+    (when_true _ p (and_true _ _ (and_true _ _ (and_true _ _ w.0 w.1) (in_range_of h p x offset st.partition_state w.2)) (le_true x.known_high_watermark offset w.3))) w.4
 fetch_allowed h p b x s offset limit DiskFault h' st w =
     silent h p b x s None (Fetch offset limit) DiskFault h' st
-    (when_true _ p (and_true _ _ (and_true _ _ (and_true _ _ w.0 w.1) (in_range_of h p x offset st.held w.2.0)) (lt_true offset x.known_high_watermark w.3))) w.4
+    (when_true _ p (and_true _ _ (and_true _ _ (and_true _ _ w.0 w.1) (in_range_of h p x offset st.partition_state w.2.0)) (lt_true offset x.known_high_watermark w.3))) w.4
 fetch_allowed h p b x s offset limit (Run tier size stop bytes) h' st w =
     silent h p b x s None (Fetch offset limit) (Run tier size stop bytes) h' st
-    (when_true _ p (and_true _ _ (and_true _ _ (and_true _ _ (and_true _ _ w.0 w.1) (in_range_of h p x offset st.held w.2.0)) (lt_true offset x.known_high_watermark w.3))
+    (when_true _ p (and_true _ _ (and_true _ _ (and_true _ _ (and_true _ _ w.0 w.1) (in_range_of h p x offset st.partition_state w.2.0)) (lt_true offset x.known_high_watermark w.3))
     (run_allowed x offset limit size stop bytes w.5))) w.6
 fetch_allowed h p b x s offset limit other h' st w = elim w [ ]

@@ -63,7 +63,7 @@ still_joined : (h : SeenPartition) (p : State) (b : ℕ) (x : Node) (s : Replica
 still_joined h p b x s order g st k on =
     let e = k.run.epoch in
     let fresh : h.registry.epoch ≤ e = not_stale h x g on e k.run.role in
-    let low : p.registry.epoch ≤ e = omega (arith, fresh, ap (λ (r : Registry). r.epoch) st.held.registry) in
+    let low : p.registry.epoch ≤ e = omega (arith, fresh, ap (λ (r : Registry). r.epoch) st.partition_state.registry) in
     let one : k.recorded.0 ≡ e = same_epoch k.recorded.0 e (sym k.recorded.1 ∙ k.run.role) in
     k.recorded.2 on.0 (omega (arith, low, one)) ∙ k.run.role
   where
@@ -75,11 +75,11 @@ pub on_way : (h : SeenPartition) (p : State) (b : ℕ) (x y : Node) (s : Replica
 on_way h p b x y s order g st k on end at =
     let run = k.run in
     let e = run.epoch in
-    let reg = ap (λ (r : Registry). r.epoch) st.held.registry in
+    let reg = ap (λ (r : Registry). r.epoch) st.partition_state.registry in
     let fresh : h.registry.epoch ≤ e = not_stale h x g on e run.role in
     let role : x.role ≡ Joined e = still_joined h p b x s order g st k on in
     let is = now h p b x s e st (ap followed role) fresh in
-    let safe = (st.safe.brokers b (broker_of x) (broker_at h p b x st.held st.at)).role in
+    let safe = (st.safe.brokers b (broker_of x) (broker_at h p b x st.partition_state st.at)).role in
     let has = (subst (λ (r : Role). RoleSafe p.paths p.registry.epoch r x.log.batches) role safe).1 in
     let mine : IsPrefix x.log.batches run.path = (let same : has.0 ≡ run.path = cc (has.1, run.path_is) in subst (λ (w : List (List ℕ)). IsPrefix x.log.batches w) same has.2) in
     let log = (st.safe.paths e run.path run.path_is).log_safe in
@@ -90,7 +90,7 @@ on_way h p b x y s order g st k on end at =
     (let same : leads.0 ≡ run.path = cc (leads.1, ap (path_of p.paths) (sym is.held), run.path_is) in subst (λ (w : List (List ℕ)). IsPrefix y.log.batches w) same leads.2) in
     let sound = (st.lines.each h.registry.leader.0 y at).sound in
     let plain_at : slice_get p.brokers p.registry.leader.0 ≡ Some (broker_of y) =
-    ap (λ (r : Registry). slice_get p.brokers r.leader.0) st.held.registry ∙ broker_at h p h.registry.leader.0 y st.held at in
+    ap (λ (r : Registry). slice_get p.brokers r.leader.0) st.partition_state.registry ∙ broker_at h p h.registry.leader.0 y st.partition_state at in
     let held : g.wanted ≤ y.flushed_end = run.leader (sym is.plain) (broker_of y) plain_at in
     let high = ends_below y.flushed_end y.log.batches sound.log.consecutive sound.flushed_end in
     let front = run.ends.0 in
@@ -126,7 +126,7 @@ not_passed h p x order g n s b st never is = elim (cases_lt g.start n) [
   | inr more ↦ rw (lt_false g.start n more) refl
   | inl less ↦ elim (cases_lt p.registry.start n) [
     | inl below ↦ rw (lt_true g.start n less, le_false n p.registry.start below) refl
-    | inr past ↦ absurd (never (omega (arith, less, is), omega (arith, past, is, ap (λ (r : Registry). r.start) st.held.registry)))
+    | inr past ↦ absurd (never (omega (arith, less, is), omega (arith, past, is, ap (λ (r : Registry). r.start) st.partition_state.registry)))
   ]
 ]
 
@@ -140,7 +140,7 @@ rebuilds h p b x y s order g n st o may is =
     let ends : end_of (up_to n o.path) ≡ n = ap end_of path_same ∙ (ap (λ (m : ℕ). end_of (up_to m y.log.batches)) is ∙ (o.whole.ends ∙ sym is)) in
     let test : (is_end n o.path && nat_lt (end_of x.log.batches) n) ≡ true = and_true _ _ (eq_same _ _ ends) (lt_true (end_of x.log.batches) n (omega (arith, is, o.whole.above))) in
     let to : extended_broker p bx n ≡ Some z = rw (ap followed o.role, o.path_is) (when_true _ z test) in
-    let goes = goes_true h p x order g st.held may.0 may.1.0 in
+    let goes = goes_true h p x order g st.partition_state may.0 may.1.0 in
     let passed = not_passed h p x order g n s b st may.2 is in
     rw to (when_true _ z (and_true _ _ goes (not_false _ passed)) ∙ ap (λ (w : List (List ℕ)). Some (record bx { log = w })) path_same)
 
@@ -211,25 +211,25 @@ join_on_allowed h p b x s order g Stopped h' st k w =
     silent h p b x s (Some (recorded_of order g)) Join Stopped h' st (when_true _ p (not_false _ (eq_differs g.stops x.stops w.0))) w.1
 join_on_allowed h p b x s order g (StaleEpoch n) h' st k w =
     silent h p b x s (Some (recorded_of order g)) Join (StaleEpoch n) h' st
-    (when_true _ p (and_true _ _ (and_true _ _ (eq_same g.stops x.stops w.0) (stale_true h p (followed g.role) st.held w.1)) (eq_same _ _ (epoch_same h p n st.held w.2)))) w.3
+    (when_true _ p (and_true _ _ (and_true _ _ (eq_same g.stops x.stops w.0) (stale_true h p (followed g.role) st.partition_state w.1)) (eq_same _ _ (epoch_same h p n st.partition_state w.2)))) w.3
 join_on_allowed h p b x s order g (Passed n) h' st k w =
     silent h p b x s (Some (recorded_of order g)) Join (Passed n) h' st
-    (when_true _ p (and_true _ _ (and_true _ _ (and_true _ _ (eq_same g.stops x.stops w.0.0) (not_false _ (stale_false h p (followed g.role) st.held w.0.1))) (eq_same _ _ w.1))
+    (when_true _ p (and_true _ _ (and_true _ _ (and_true _ _ (eq_same g.stops x.stops w.0.0) (not_false _ (stale_false h p (followed g.role) st.partition_state w.0.1))) (eq_same _ _ w.1))
     (not_false _ (eq_differs n g.end (differs st k w.0 w.1 w.2))))) w.3
   where
     differs : Standing h p b x s → Rebuilding p x order g → GoesOn h x g → n ≡ end_of x.log.batches → (IsAsCut x g → ⊥) → n ≢ g.end
     differs st k on is never = λ e. never (sym e ∙ is, subst (λ (r : Role). IsSome (joined r)) (sym (still_joined h p b x s order g st k on)) refl)
 join_on_allowed h p b x s order g (BelowStart start) h' st k w =
-    let goes = goes_true h p x order g st.held w.0 w.1.0 in
-    let same : start ≡ p.registry.start = w.2 ∙ ap (λ (r : Registry). r.start) (sym st.held.registry) in
+    let goes = goes_true h p x order g st.partition_state w.0 w.1.0 in
+    let same : start ≡ p.registry.start = w.2 ∙ ap (λ (r : Registry). r.start) (sym st.partition_state.registry) in
     silent h p b x s (Some (recorded_of order g)) Join (BelowStart start) h' st
     (when_true _ p (and_true _ _ (and_true _ _ goes (eq_same _ _ same)) (lt_true g.start start (omega (arith, w.3, w.4))))) w.5
 join_on_allowed h p b x s order g MetaFault h' st k w =
-    silent h p b x s (Some (recorded_of order g)) Join MetaFault h' st (when_true _ p (goes_true h p x order g st.held w.0 w.1.0)) w.2
+    silent h p b x s (Some (recorded_of order g)) Join MetaFault h' st (when_true _ p (goes_true h p x order g st.partition_state w.0 w.1.0)) w.2
 join_on_allowed h p b x s order g StoreFault h' st k w =
-    silent h p b x s (Some (recorded_of order g)) Join StoreFault h' st (when_true _ p (goes_true h p x order g st.held w.0 w.1.0)) w.2
+    silent h p b x s (Some (recorded_of order g)) Join StoreFault h' st (when_true _ p (goes_true h p x order g st.partition_state w.0 w.1.0)) w.2
 join_on_allowed h p b x s order g (Damaged place at) h' st k w =
-    silent h p b x s (Some (recorded_of order g)) Join (Damaged place at) h' st (when_true _ p (goes_true h p x order g st.held w.0 w.1.0)) w.2
+    silent h p b x s (Some (recorded_of order g)) Join (Damaged place at) h' st (when_true _ p (goes_true h p x order g st.partition_state w.0 w.1.0)) w.2
 join_on_allowed h p b x s order g (DiskFaultAt n) h' st k w =
     let y = some_of _ (slice_get h.nodes h.registry.leader.0) w.2 in
     unbuild_allowed h p b x y.0 s order g n h' st (on_way h p b x y.0 s order g st k w.0.0 w.0.1.0 y.1) w.0 w.1 y.2

@@ -30,7 +30,7 @@ use Rattle.laws_partition.proofs.RegistryLaw.{IsNext, IsSameEpoch, Moves}
 -- a turn of broker b starts here
 pub record Standing (h : SeenPartition) (p : State) (b : ℕ) (x : Node) (s : Replica) : Type 0 where
   pub safe : PlainSafe p
-  pub held : PartitionMatches h p
+  pub partition_state : PartitionMatches h p
   pub lines : LinesStand h p.paths p.broken
   pub at : slice_get h.nodes b ≡ Some x
   pub replica : slice_get p.registry.replicas b ≡ Some s
@@ -270,8 +270,8 @@ pub silent : (h : SeenPartition) (p : State) (b : ℕ) (x : Node) (s : Replica) 
 silent h p b x s recorded command answer h' st is same = record {
   state = p;
   is = is;
-  registry = st.held.registry ∙ ap (λ (k : SeenPartition). k.registry) (sym same);
-  brokers = st.held.brokers ∙ ap (λ (k : SeenPartition). map broker_of k.nodes) (sym same);
+  registry = st.partition_state.registry ∙ ap (λ (k : SeenPartition). k.registry) (sym same);
+  brokers = st.partition_state.brokers ∙ ap (λ (k : SeenPartition). map broker_of k.nodes) (sym same);
   actors = refl;
   paths = wider_self p.paths;
   lines = λ safe. subst (λ (k : SeenPartition). LinesStand k p.paths p.broken) (sym same) st.lines;
@@ -280,9 +280,9 @@ silent h p b x s recorded command answer h' st is same = record {
 
 pub put_steady : (h : SeenPartition) (p q : State) (b : ℕ) (x y : Node) (s : Replica) → Standing h p b x s → Puts h p q b x y → Steady p q
 put_steady h p q b x y s st w =
-    steady_set p q b (broker_of x) (broker_of y) (broker_at h p b x st.held st.at) w.brokers
+    steady_set p q b (broker_of x) (broker_of y) (broker_at h p b x st.partition_state st.at) w.brokers
     (ap (λ (r : Registry). r.epoch) w.registry) (ap (λ (r : Registry). r.leader.0) w.registry)
-    (λ it. w.steady (ap (λ (r : Registry). r.leader.0) (sym st.held.registry) ∙ it))
+    (λ it. w.steady (ap (λ (r : Registry). r.leader.0) (sym st.partition_state.registry) ∙ it))
 
 -- a row that changes the broker
 pub put : (h : SeenPartition) (p q : State) (b : ℕ) (x y : Node) (s : Replica) (recorded : Option PlainSnapshot) (command : Command) (answer : Answer) (h' : SeenPartition) → Standing h p b x s
@@ -290,8 +290,8 @@ pub put : (h : SeenPartition) (p q : State) (b : ℕ) (x y : Node) (s : Replica)
 put h p q b x y s recorded command answer h' st is w same = record {
   state = q;
   is = is;
-  registry = w.registry ∙ (st.held.registry ∙ ap (λ (k : SeenPartition). k.registry) (sym same));
-  brokers = w.brokers ∙ (ap (λ (k : List Broker). slice_set k b (broker_of y)) st.held.brokers
+  registry = w.registry ∙ (st.partition_state.registry ∙ ap (λ (k : SeenPartition). k.registry) (sym same));
+  brokers = w.brokers ∙ (ap (λ (k : List Broker). slice_set k b (broker_of y)) st.partition_state.brokers
       ∙ (sym (map_set broker_of h.nodes b y) ∙ ap (λ (k : SeenPartition). map broker_of k.nodes) (sym same)));
   actors = w.actors;
   paths = w.paths;
@@ -319,13 +319,13 @@ leaves h p q b x s r recorded command answer h' st is registry brokers actors pa
   state = q;
   is = is;
   registry = registry ∙ ap (λ (k : SeenPartition). k.registry) (sym same);
-  brokers = brokers ∙ (st.held.brokers ∙ ap (λ (k : SeenPartition). map broker_of k.nodes) (sym same));
+  brokers = brokers ∙ (st.partition_state.brokers ∙ ap (λ (k : SeenPartition). map broker_of k.nodes) (sym same));
   actors = actors;
   paths = subst (λ (k : List Path). Wider p.paths k) (sym paths) (wider_self p.paths);
   lines = λ safe.
-      let moved = lines_moved h p r st.safe st.held st.lines moves in
+      let moved = lines_moved h p r st.safe st.partition_state st.lines moves in
       subst (λ (k : SeenPartition). LinesStand k q.paths q.broken) (sym same)
       (subst (λ (k : List Path). LinesStand (record h { registry = r }) k q.broken) (sym paths)
       (subst (λ (k : List ℕ). LinesStand (record h { registry = r }) p.paths k) (sym broken) moved));
-  steady = moved_steady h p q r st.safe st.held registry brokers moves;
+  steady = moved_steady h p q r st.safe st.partition_state registry brokers moves;
 }

@@ -142,7 +142,7 @@ raise_on : (h : SeenPartition) (p : State) (b : ℕ) (x : Node) (s : Replica) (o
     → Allowed p b x s (Some (recorded_of order g)) Expire (Raised start) h'
 raise_on h p b x s order g start h' st k w =
     let after = some_of _ (after_raise h.registry w.epoch start (Done start)) w.after in
-    let is : after_raise p.registry w.epoch start (Done start) ≡ Some after.0 = ap (λ (r : Registry). after_raise r w.epoch start (Done start)) st.held.registry ∙ after.1 in
+    let is : after_raise p.registry w.epoch start (Done start) ≡ Some after.0 = ap (λ (r : Registry). after_raise r w.epoch start (Done start)) st.partition_state.registry ∙ after.1 in
     leaves h p (set_registry p after.0) b x s after.0 (Some (recorded_of order g)) Expire (Raised start) h' st
     (rw (lead_kept x order g k) (raised_as p (broker_of x) start w.epoch (Done start) k.up w.role) ∙ left_as p (after_raise p.registry w.epoch start (Done start)) after.0 is)
     refl refl refl refl refl (raise_moves h.registry w.epoch start (Done start) after.0 after.1) after.2
@@ -153,7 +153,7 @@ expire_on_allowed h p b x s order g LostLead h' st up w = loses h p b x s order 
 expire_on_allowed h p b x s order g Kept h' st up w = goes h p b x s order g Expire Kept h' st refl w
 expire_on_allowed h p b x s order g (StaleEpoch n) h' st up w =
     silent h p b x s (Some (recorded_of order g)) Expire (StaleEpoch n) h' st
-    (when_true _ p (and_true _ _ (and_true _ _ (lead_kept x order g w.2.0) (stale_true h p (epoch_in g.role) st.held w.0)) (eq_same _ _ (epoch_same h p n st.held w.1)))) w.2.1
+    (when_true _ p (and_true _ _ (and_true _ _ (lead_kept x order g w.2.0) (stale_true h p (epoch_in g.role) st.partition_state w.0)) (eq_same _ _ (epoch_same h p n st.partition_state w.1)))) w.2.1
 expire_on_allowed h p b x s order g (Raised start) h' st up w = raise_on h p b x s order g start h' st w.0 w.1
 expire_on_allowed h p b x s order g MetaFault h' st up w = goes h p b x s order g Expire MetaFault h' st refl w
 expire_on_allowed h p b x s order g StoreFault h' st up w = goes h p b x s order g Expire StoreFault h' st refl w
@@ -177,19 +177,19 @@ fetch_on_allowed h p b x s offset limit order g NotLeader h' st lead w =
     silent h p b x s (Some (recorded_of order g)) (Fetch offset limit) NotLeader h' st
     (when_true _ p (and_true _ _ (and_true _ _ w.1 (eq_same g.stops x.stops w.0)) (not_false _ (and_false _ _ (role_differs g.role x.role w.2))))) w.3
 fetch_on_allowed h p b x s offset limit order g (OutOfRange start end) h' st lead w =
-    let same : start ≡ p.registry.start = w.2 ∙ ap (λ (k : Registry). k.start) (sym st.held.registry) in
+    let same : start ≡ p.registry.start = w.2 ∙ ap (λ (k : Registry). k.start) (sym st.partition_state.registry) in
     silent h p b x s (Some (recorded_of order g)) (Fetch offset limit) (OutOfRange start end) h' st
     (when_true _ p (and_true _ _ (and_true _ _ (and_true _ _ (served x order g lead w.0) (not_false _ (not_in_range p x offset start end same w.3 w.1))) (eq_same _ _ same)) (eq_same _ _ w.3))) w.4
 fetch_on_allowed h p b x s offset limit order g Empty h' st lead w =
     silent h p b x s (Some (recorded_of order g)) (Fetch offset limit) Empty h' st
-    (when_true _ p (and_true _ _ (and_true _ _ (served x order g lead w.0) (in_range_of h p x offset st.held w.1)) (le_true x.known_high_watermark offset w.2))) w.3
+    (when_true _ p (and_true _ _ (and_true _ _ (served x order g lead w.0) (in_range_of h p x offset st.partition_state w.1)) (le_true x.known_high_watermark offset w.2))) w.3
 fetch_on_allowed h p b x s offset limit order g (Run tier size stop bytes) h' st lead w =
     silent h p b x s (Some (recorded_of order g)) (Fetch offset limit) (Run tier size stop bytes) h' st
-    (when_true _ p (and_true _ _ (serving h p x order g offset st.held lead w.0) (run_allowed x offset limit size stop bytes w.1))) w.2
+    (when_true _ p (and_true _ _ (serving h p x order g offset st.partition_state lead w.0) (run_allowed x offset limit size stop bytes w.1))) w.2
 fetch_on_allowed h p b x s offset limit order g MetaFault h' st lead w =
-    silent h p b x s (Some (recorded_of order g)) (Fetch offset limit) MetaFault h' st (when_true _ p (serving h p x order g offset st.held lead w.0)) w.1
+    silent h p b x s (Some (recorded_of order g)) (Fetch offset limit) MetaFault h' st (when_true _ p (serving h p x order g offset st.partition_state lead w.0)) w.1
 fetch_on_allowed h p b x s offset limit order g StoreFault h' st lead w =
-    silent h p b x s (Some (recorded_of order g)) (Fetch offset limit) StoreFault h' st (when_true _ p (serving h p x order g offset st.held lead w.0)) w.1
+    silent h p b x s (Some (recorded_of order g)) (Fetch offset limit) StoreFault h' st (when_true _ p (serving h p x order g offset st.partition_state lead w.0)) w.1
 fetch_on_allowed h p b x s offset limit order g (Damaged place at) h' st lead w =
-    silent h p b x s (Some (recorded_of order g)) (Fetch offset limit) (Damaged place at) h' st (when_true _ p (serving h p x order g offset st.held lead w.0)) w.1
+    silent h p b x s (Some (recorded_of order g)) (Fetch offset limit) (Damaged place at) h' st (when_true _ p (serving h p x order g offset st.partition_state lead w.0)) w.1
 fetch_on_allowed h p b x s offset limit order g other h' st lead w = elim w [ ]

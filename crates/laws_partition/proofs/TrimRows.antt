@@ -32,7 +32,7 @@ trim_puts h p b x s start st up may =
     let l = st.lines.each b x st.at in
     record {
       registry = refl;
-      brokers = sym (set-same p.brokers b (broker_of x) (broker_at h p b x st.held st.at));
+      brokers = sym (set-same p.brokers b (broker_of x) (broker_at h p b x st.partition_state st.at));
       actors = refl;
       paths = wider_self p.paths;
       broken = keeps_self p.broken;

@@ -48,8 +48,8 @@ clock_allowed : (h : SeenPartition) (p : State) (b : ℕ) (x : Node) (s : Replic
 clock_allowed h p b x s ms Ok h' st w = record {
   state = p;
   is = refl;
-  registry = st.held.registry ∙ ap (λ (k : SeenPartition). k.registry) (sym w);
-  brokers = st.held.brokers ∙ ap (λ (k : SeenPartition). map broker_of k.nodes) (sym w);
+  registry = st.partition_state.registry ∙ ap (λ (k : SeenPartition). k.registry) (sym w);
+  brokers = st.partition_state.brokers ∙ ap (λ (k : SeenPartition). map broker_of k.nodes) (sym w);
   actors = refl;
   paths = wider_self p.paths;
   lines = λ safe. subst (λ (k : SeenPartition). LinesStand k p.paths p.broken) (sym w) (record { each = st.lines.each; leader = st.lines.leader; followers = st.lines.followers });
@@ -124,7 +124,7 @@ quiet : (h : SeenPartition) (p : State) (b : ℕ) (x : Node) (s : Replica) (comm
     → begins p (broker_of x) command None ≡ Some (broker_of x) → g.stops ≡ x.stops → g.role ≡ x.role → g.end ≡ end_of x.log.batches → g.start ≡ p.registry.start → h' ≡ h
     → SnapshotMatches (put_broker p b (broker_of x)) command g → Starting h p b x command g h'
 quiet h p b x s command g h' st event is stops role end start same actor_state =
-    let bx = broker_at h p b x st.held st.at in
+    let bx = broker_at h p b x st.partition_state st.at in
     record {
       cut = None;
       event = event;
@@ -134,8 +134,8 @@ quiet h p b x s command g h' st event is stops role end start same actor_state =
       role = role;
       end = end;
       start = start;
-      registry = st.held.registry ∙ ap (λ (k : SeenPartition). k.registry) (sym same);
-      brokers = set-same p.brokers b (broker_of x) bx ∙ (st.held.brokers ∙ ap (λ (k : SeenPartition). map broker_of k.nodes) (sym same));
+      registry = st.partition_state.registry ∙ ap (λ (k : SeenPartition). k.registry) (sym same);
+      brokers = set-same p.brokers b (broker_of x) bx ∙ (st.partition_state.brokers ∙ ap (λ (k : SeenPartition). map broker_of k.nodes) (sym same));
       lines = λ safe. subst (λ (k : SeenPartition). LinesStand k p.paths p.broken) (sym same) st.lines;
       steady = steady_set p (put_broker p b (broker_of x)) b (broker_of x) (broker_of x) bx refl refl refl (λ it. omega arith);
       actor_state = actor_state;
@@ -145,7 +145,7 @@ quiet h p b x s command g h' st event is stops role end start same actor_state =
 notes : (h : SeenPartition) (p : State) (b : ℕ) (x : Node) (s : Replica) (command : Command) (g : StartSnapshot) (h' : SeenPartition) → Standing h p b x s → event_of (Begins g) command ≡ Began None
     → begins p (broker_of x) command None ≡ Some (broker_of x) → Notes h x g → h' ≡ h → SnapshotMatches (put_broker p b (broker_of x)) command g → Starting h p b x command g h'
 notes h p b x s command g h' st event is n same actor_state =
-    quiet h p b x s command g h' st event is n.stops n.role n.end (n.start ∙ ap (λ (r : Registry). r.start) (sym st.held.registry)) same actor_state
+    quiet h p b x s command g h' st event is n.stops n.role n.end (n.start ∙ ap (λ (r : Registry). r.start) (sym st.partition_state.registry)) same actor_state
 
 pub first_starts : (h : SeenPartition) (p : State) (b : ℕ) (x : Node) (s : Replica) (command : Command) (g : StartSnapshot) (h' : SeenPartition) → Standing h p b x s → FirstRow h b x command (Begins g) h'
     → Starting h p b x command g h'
@@ -163,8 +163,8 @@ first_starts h p b x s Join g h' st w =
       role = k.role;
       end = k.end;
       start = k.start;
-      registry = st.held.registry ∙ ap (λ (n : SeenPartition). n.registry) (sym k.after);
-      brokers = k.puts.brokers ∙ (ap (λ (ys : List Broker). slice_set ys b (broker_of k.node)) st.held.brokers
+      registry = st.partition_state.registry ∙ ap (λ (n : SeenPartition). n.registry) (sym k.after);
+      brokers = k.puts.brokers ∙ (ap (λ (ys : List Broker). slice_set ys b (broker_of k.node)) st.partition_state.brokers
           ∙ (sym (map_set broker_of h.nodes b k.node) ∙ ap (λ (n : SeenPartition). map broker_of n.nodes) (sym k.after)));
       lines = λ safe. subst (λ (n : SeenPartition). LinesStand n p.paths p.broken) (sym k.after) (put_lines h p (put_broker p b k.broker) b x k.node st.lines k.puts safe);
       steady = put_steady h p (put_broker p b k.broker) b x k.node s st k.puts;
@@ -178,7 +178,7 @@ first_starts h p b x s (Offset LatestTiered) g h' st w =
 first_starts h p b x s (Offset (At ts)) g h' st w =
     notes h p b x s (Offset (At ts)) g h' st refl (when_true _ (broker_of x) (and_true _ _ (and_true _ _ w.0 w.1) refl)) w.2 w.3 tt
 first_starts h p b x s (Fetch offset limit) g h' st w =
-    notes h p b x s (Fetch offset limit) g h' st refl (when_true _ (broker_of x) (fetch_gives h p x offset g h' st.held w)) w.5 w.6 tt
+    notes h p b x s (Fetch offset limit) g h' st refl (when_true _ (broker_of x) (fetch_gives h p x offset g h' st.partition_state w)) w.5 w.6 tt
 first_starts h p b x s command g h' st w = elim w [ ]
 
 -- what holds of a command that has begun

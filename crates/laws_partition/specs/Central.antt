@@ -96,7 +96,8 @@ pub record RebuildMatches (p : State) (g : StartSnapshot) : Type 0 where
   pub ends : EndsAt g.wanted path
   pub line : g.line ≡ line_of (up_to g.wanted path)
   pub above : g.end < g.wanted
-  pub leader : p.registry.epoch ≡ epoch → (y : Broker) → slice_get p.brokers p.registry.leader.0 ≡ Some y → g.wanted ≤ y.flushed_end
+  pub leader : p.registry.epoch ≡ epoch → (y : Broker) → slice_get p.brokers p.registry.leader.0 ≡ Some y
+      → g.wanted ≤ y.flushed_end
 
 -- what is kept of a command that has begun
 abbrev pub SnapshotMatches : State → Command → StartSnapshot → Type 0
@@ -121,9 +122,10 @@ pub record ProgressMatches (p : State) (l : ActorList) (actor_state : ActorProgr
 
 -- the world's registry, nodes and desk are those of a state of the plain log
 pub record WorldMatches (w : Whole) (p : State) : Type 0 where
-  pub held : PartitionMatches w.held p
-  pub lines : LinesStand w.held p.paths p.broken
-  pub desk : (place : ℕ) (l : ActorList) (actor_state : ActorProgress) → slice_get w.lists place ≡ Some l → slice_get w.desk place ≡ Some actor_state
+  pub partition_state : PartitionMatches w.partition_state p
+  pub lines : LinesStand w.partition_state p.paths p.broken
+  pub desk : (place : ℕ) (l : ActorList) (actor_state : ActorProgress) → slice_get w.lists place ≡ Some l
+      → slice_get w.desk place ≡ Some actor_state
       → ProgressMatches p l actor_state
   pub rising : AreRising w.lists
   pub actor_states : length w.desk ≡ length w.lists

@@ -26,8 +26,8 @@ fresh_node role line = record {
 }
 
 -- broker 0 leads epoch 0, the others have joined it, and all are in sync
-abbrev pub fresh_held : ℕ → SeenPartition
-fresh_held brokers = record {
+abbrev pub fresh_partition_state : ℕ → SeenPartition
+fresh_partition_state brokers = record {
   registry = fresh_registry brokers;
   nodes = fresh_node (Leads 0) ((0, 0) ∷ []) ∷ replicate (brokers - 1) (fresh_node (Joined 0) []);
   clock = pos 0;
@@ -42,6 +42,6 @@ pub record IsFresh (partition : PartitionId) (config : Config) (lists : List Act
   pub partition_is : w.partition ≡ partition
   pub config_is : w.config ≡ config
   pub lists_are : w.lists ≡ lists
-  pub held : w.held ≡ fresh_held config.brokers
+  pub partition_state : w.partition_state ≡ fresh_partition_state config.brokers
   pub desk : w.desk ≡ replicate (length lists) fresh_actor_state
   pub journal : w.journal.items ≡ []

@@ -41,11 +41,16 @@ pub record IsTurn (w : Whole) (a : ℕ) (turned : Turned) (w' : Whole) : Type 0 
   pub order : Order
   pub at : IsActorAt w a place list actor_state
   pub next : slice_get list.orders actor_state.number ≡ Some order
-  pub row : AtNode w.held order.broker.0
-      (λ x. Row w.held order.broker.0 x actor_state.snapshot order.command turned w'.held)
+  pub row : AtNode w.partition_state order.broker.0
+      (λ x. Row w.partition_state order.broker.0 x actor_state.snapshot order.command turned w'.partition_state)
   pub desk : w'.desk ≡ slice_set w.desk place (actor_state_after actor_state turned)
   pub entered : w'.journal.items
-      ≡ w.journal.items ++ record { actor = list.actor; number = actor_state.number; event = event_of turned order.command } ∷ []
+      ≡ w.journal.items ++ record {
+        actor = list.actor;
+        number = actor_state.number;
+        event = event_of turned
+            order.command;
+      } ∷ []
   pub partition : w'.partition ≡ w.partition
   pub config : w'.config ≡ w.config
   pub lists : w'.lists ≡ w.lists

@@ -13,6 +13,6 @@ pub record Whole : Type 0 where
   pub partition : PartitionId
   pub config : Config
   pub lists : List ActorList
-  pub held : SeenPartition
+  pub partition_state : SeenPartition
   pub desk : List ActorProgress
   pub journal : Rolled JournalEntry

@@ -51,7 +51,7 @@ use Rattle.tier_safe.proofs.Basics.{one_some}
 use Rattle.tier_safe.proofs.Covering.{readable, covers_is}
 use Rattle.tier_safe.proofs.Entries.{Follows, prefix_goes}
 use Rattle.tier_safe.proofs.Lookups.{wanted_is_found}
-use Rattle.tier_safe.proofs.Placed.{IsPlaced, held_placed}
+use Rattle.tier_safe.proofs.Placed.{IsPlaced, stored_whole_placed}
 use Rattle.tier_safe.proofs.Rules.{seen_kept}
 use Rattle.tier_safe.proofs.Serving.{rebuilds_served}
 use Rattle.laws_rebuild.specs.Reading.{IsToRead}
@@ -107,7 +107,7 @@ pub record Found (c : Scene) (p : Plain) (rebuild : Rebuild) (wanted : RebuildRe
   pub reads : RebuildReads c p front rebuild.wanted piece.id
   pub spot : Spot
   pub place : epochs_of wanted.partition view.entries (Some piece) ≡ Some spot
-  pub placed : IsPlaced c.objects spot (text_of (line_of (whole_of reads.held)))
+  pub placed : IsPlaced c.objects spot (text_of (line_of (whole_of reads.stored_whole)))
 
 -- the view's entry of a copy that isn't in progress places its epochs as its entry does
 seen_spot : (partition : PartitionId) (id : SegmentId) (seen entry : Entry) (spot : Spot) → Follows seen entry → seen.state ≢ CopyStarted → entry.partition ≡ partition → entry.id ≡ id
@@ -152,7 +152,7 @@ found c p a rebuild tier_view wanted line objects view h =
     let y = prefix_goes v.before c.notes f.0.id entry v.begins (subst (λ (w : EntriesSeen). entry_of f.0.id w.entries ≡ Some entry) v.is of.copy) in
     let one : y.0 ≡ own = one_some (entry_of f.0.id (fold c.notes)) y.0 own y.1 reads.there in
     let done = readable entry.state of.readable in
-    let has = held_placed c.objects p.paths own EpochsPart tt reads.held in
+    let has = stored_whole_placed c.objects p.paths own EpochsPart tt reads.stored_whole in
     let at : spot_of wanted.partition f.0.id entry.packed entry.custom EpochsPart ≡ Some has.spot =
     seen_spot wanted.partition f.0.id entry own has.spot (subst (Follows entry) one y.2) (λ snapshot. absurd (cc (done, snapshot))) (reads.partition ∙ sym h.partition) (found_id f.0.id (fold c.notes) own reads.there) has.is in
     record {
@@ -161,7 +161,7 @@ found c p a rebuild tier_view wanted line objects view h =
       reads = reads;
       spot = has.spot;
       place = subst (λ (w : EntriesSeen). epochs_of wanted.partition w.entries (Some f.0) ≡ Some has.spot) h.view_is (ap (spot_in wanted.partition f.0.id) of.copy ∙ at);
-      placed = subst (IsPlaced c.objects has.spot) (epochs_are c.objects p own reads.held) has.placed;
+      placed = subst (IsPlaced c.objects has.spot) (epochs_are c.objects p own reads.stored_whole) has.placed;
     }
 
 -- its epochs
@@ -184,17 +184,17 @@ module _ {S : Type 0} (objects : S → store.Content) (calls : S → Control sto
   -- what a store gives of them
   text_given : (c : Scene) (p : Plain) (a : ℕ) (rebuild : Rebuild) (tier_view : BrokerTierView) (wanted : RebuildRequest) (line : List (ℕ × ℕ)) (view : EntriesSeen) (front : List (List ℕ)) (given : Option (List ℕ)) (old new : S)
       → IsToRead c p a rebuild tier_view wanted line (objects old) view → (f : Found c p rebuild wanted line view front) → Gets objects calls f.spot.key (all_of f.spot) (Ok given) old new
-      → given ≡ Some (text_of (line_of (whole_of f.reads.held)))
+      → given ≡ Some (text_of (line_of (whole_of f.reads.stored_whole)))
   text_given c p a rebuild tier_view wanted line view front given old new h f gets =
-      let text = text_of (line_of (whole_of f.reads.held)) in
+      let text = text_of (line_of (whole_of f.reads.stored_whole)) in
       given_text (objects old).objects f.spot text given (gets.bytes h.is_observable) (subst (λ (o : store.Objects). IsPlaced o f.spot text) h.objects_are f.placed)
 
   -- of bytes that are given none are lacking
   taken : (c : Scene) (p : Plain) (rebuild : Rebuild) (wanted : RebuildRequest) (line : List (ℕ × ℕ)) (view : EntriesSeen) (front : List (List ℕ)) (given : List ℕ) (result : Result (Turn RebuildStep) AllocError)
-      → (f : Found c p rebuild wanted line view front) → given ≡ text_of (line_of (whole_of f.reads.held)) → TakesEpochs wanted.offset f.spot (Ok (Some given)) result
+      → (f : Found c p rebuild wanted line view front) → given ≡ text_of (line_of (whole_of f.reads.stored_whole)) → TakesEpochs wanted.offset f.spot (Ok (Some given)) result
       → TakesBytes None wanted.offset f.spot given result
   taken c p rebuild wanted line view front given result f is k =
-      subst (λ (end : Option ℕ). TakesBytes end wanted.offset f.spot given result) (none_lacks c.objects f.spot (text_of (line_of (whole_of f.reads.held))) given is f.placed) k
+      subst (λ (end : Option ℕ). TakesBytes end wanted.offset f.spot given result) (none_lacks c.objects f.spot (text_of (line_of (whole_of f.reads.stored_whole))) given is f.placed) k
 
   -- what is taken of it
   reads_path : (c : Scene) (p : Plain) (a : ℕ) (rebuild : Rebuild) (tier_view : BrokerTierView) (wanted : RebuildRequest) (line read : List (ℕ × ℕ)) (view : EntriesSeen) (old new : S)
@@ -206,13 +206,13 @@ module _ {S : Type 0} (objects : S → store.Content) (calls : S → Control sto
   reads_path c p a rebuild tier_view wanted line read view old new h f (Ok (Some given)) gets k =
       let front = (h.safe.tier.rebuilds a rebuild h.actor_state).front in
       let r = f.reads in
-      let all = whole_of r.held in
-      let safe = has_safe p r.held.describes.part.epoch all h.safe.plain r.held.describes.part.begins in
+      let all = whole_of r.stored_whole in
+      let safe = has_safe p r.stored_whole.describes.part.epoch all h.safe.plain r.stored_whole.describes.part.begins in
       let g = going c p a rebuild tier_view wanted line (objects old) view h in
       let text : given ≡ text_of (line_of all) =
       one_some (Some given) given (text_of (line_of all)) refl (text_given c p a rebuild tier_view wanted line view front (Some given) old new h f gets) in
       let t = taken c p rebuild wanted line view front given (Ok (Goes (Restart read))) f text k in
-      let is : t.whole ≡ line_of all = one_text t.whole (line_of all) t.rises (whole_rises c.objects p r.entry h.safe.plain r.held) (sym t.bytes_are ∙ text) in
+      let is : t.whole ≡ line_of all = one_text t.whole (line_of all) t.rises (whole_rises c.objects p r.entry h.safe.plain r.stored_whole) (sym t.bytes_are ∙ text) in
       t.line_is
       ∙ ap (λ (l : List (ℕ × ℕ)). cut_end l wanted.offset) is
       ∙ ap (cut_end (line_of all)) (h.offset ∙ sym g.ends)
@@ -237,11 +237,11 @@ module _ {S : Type 0} (objects : S → store.Content) (calls : S → Control sto
       absurd (cc (none))
   no_damage c p a rebuild tier_view wanted line view place at old new h f (Ok (Some given)) gets k =
       let front = (h.safe.tier.rebuilds a rebuild h.actor_state).front in
-      let all = whole_of f.reads.held in
+      let all = whole_of f.reads.stored_whole in
       let text : given ≡ text_of (line_of all) =
       one_some (Some given) given (text_of (line_of all)) refl (text_given c p a rebuild tier_view wanted line view front (Some given) old new h f gets) in
       let t = taken c p rebuild wanted line view front given (Ok (Ends (Damaged place at))) f text k in
-      t.1 (line_of all) (whole_rises c.objects p f.reads.entry h.safe.plain f.reads.held) text
+      t.1 (line_of all) (whole_rises c.objects p f.reads.entry h.safe.plain f.reads.stored_whole) text
 
   pub nothing_is_damaged : NothingIsDamaged objects calls
   nothing_is_damaged wanted line view place at old new c p a rebuild tier_view row h =

@@ -56,11 +56,11 @@ piece_there : (c : Scene) (p : Plain) (a b : ℕ) (tier_view : BrokerTierView) (
     → IsChanged c p (after_turn c a b tier_view (Seeks (sought_of b stops epoch wanted.offset Refresh)) c.objects c.notes after)
     → (piece : Piece) × (piece_at after.entries line wanted.log_end wanted.offset ≡ Some piece)
 piece_there c p a b tier_view x stops epoch wanted line s n view cache after h all change =
-    let work = Seeks (sought_of b stops epoch wanted.offset Refresh) in
-    let d = after_turn c a b tier_view work c.objects c.notes after in
+    let tier_task = Seeks (sought_of b stops epoch wanted.offset Refresh) in
+    let d = after_turn c a b tier_view tier_task c.objects c.notes after in
     let safe = kept_safe c d p change h.safe in
     let new : BrokerTierView = record tier_view { view = after } in
-    let k = asked_is_found d p a (sought_of b stops epoch wanted.offset Refresh) new x line safe.tier (set_get c.desk a work work h.shows.actor_state) refl
+    let k = asked_is_found d p a (sought_of b stops epoch wanted.offset Refresh) new x line safe.tier (set_get c.desk a tier_task tier_task h.shows.actor_state) refl
     (set_get c.tier_views b tier_view new h.shows.tier_view_is) h.broker_is h.leads h.past all h.is_observable in
     (k.0, subst (λ (e : ℕ). piece_at after.entries line e wanted.offset ≡ Some k.0) (sym h.end_is) k.1)
 
@@ -74,9 +74,9 @@ module _ {S M : Type 0} (objects : S → store.Content) (calls : S → Control s
       (old new : M) (place : Place) (at : ℕ) → IsAtTurn c p a b tier_view x stops epoch wanted line Refresh s (notes old) view cache
       → RefreshRow notes notings wanted line (Ok (Ends (Damaged place at))) view after old new → ⊥
   refresh_damage c p a b tier_view x stops epoch wanted line s cache view after old new place at h row =
-      let work = Seeks (sought_of b stops epoch wanted.offset Refresh) in
+      let tier_task = Seeks (sought_of b stops epoch wanted.offset Refresh) in
       let r : Refreshes (notes old) tier_view.view after = subst (λ (v : EntriesSeen). Refreshes (notes old) v after) (sym h.shows.view_is) row.1.view in
-      let all = sees_all objects calls notes notings c p a b tier_view work s old after (shown c a b tier_view work s (notes old) view h.shows) h.few (h.safe.tier.views b tier_view h.shows.tier_view_is) r in
+      let all = sees_all objects calls notes notings c p a b tier_view tier_task s old after (shown c a b tier_view tier_task s (notes old) view h.shows) h.few (h.safe.tier.views b tier_view h.shows.tier_view_is) r in
       let k = piece_there c p a b tier_view x stops epoch wanted line s (notes old) view cache after h all.0 all.1 in
       chosen_damage place at after.notes (piece_at after.entries line wanted.log_end wanted.offset) k.0 k.1 row.0
 
@@ -94,14 +94,14 @@ module _ {S M : Type 0} (objects : S → store.Content) (calls : S → Control s
   loads_damage c p a b tier_view x stops epoch wanted line piece ns view cache cache' old new spot place at (Ok (Some bytes)) h stood gets k =
       let r = copy_of c p a b tier_view x stops epoch wanted line (Index piece) (objects old) ns view cache piece h refl in
       let g = gives c p a b tier_view x stops epoch wanted line (Index piece) (objects old) ns view cache piece part.Index spot (λ b. b) (Some bytes) tt h refl stood (gets.bytes h.shows.store_tells) r in
-      let d = r.held.describes in
-      let index = part_in (parts_of r.held.batches r.held.line r.held.interval) part.Index in
-      let first : first_offset r.held.batches ≡ r.entry.start = first_is r.entry.start r.held.batches d.some d.is.consecutive in
+      let d = r.stored_whole.describes in
+      let index = part_in (parts_of r.stored_whole.batches r.stored_whole.line r.stored_whole.interval) part.Index in
+      let first : first_offset r.stored_whole.batches ≡ r.entry.start = first_is r.entry.start r.stored_whole.batches d.some d.is.consecutive in
       let same : bytes ≡ index = one_some (Some bytes) bytes index refl g.given_is in
       let all : short_of spot.1 bytes ≡ None = ap (short_of spot.1) same ∙ not_short spot.1.at spot.1.len index g.whole in
       let none = subst (λ (end : Option ℕ). LoadsBytes end wanted piece spot.0 spot.1 bytes (Ok (Ends (Damaged place at))) cache cache') all k in
-      none.1 (index_of r.entry.start r.held.interval (placed_from 0 r.held.batches)).entries (index_rises r.entry.start r.held.interval r.held.batches d.is)
-      (same ∙ ap (λ (m : ℕ). bytes_of entry_bytes (index_of m r.held.interval (placed_from 0 r.held.batches)).entries) first)
+      none.1 (index_of r.entry.start r.stored_whole.interval (placed_from 0 r.stored_whole.batches)).entries (index_rises r.entry.start r.stored_whole.interval r.stored_whole.batches d.is)
+      (same ∙ ap (λ (m : ℕ). bytes_of entry_bytes (index_of m r.stored_whole.interval (placed_from 0 r.stored_whole.batches)).entries) first)
 
   load_damage : (c : Scene) (p : Plain) (a b : ℕ) (tier_view : BrokerTierView) (x : Broker) (stops epoch : ℕ) (wanted : FetchRequest) (line : List (ℕ × ℕ)) (piece : Piece) (ns : meta.Content) (view : EntriesSeen)
       (cache cache' : Cache) (old new : S) (spot : Option (ℕ × Spot)) (place : Place) (at : ℕ) → IsAtTurn c p a b tier_view x stops epoch wanted line (Index piece) (objects old) ns view cache

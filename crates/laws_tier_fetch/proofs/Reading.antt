@@ -32,7 +32,7 @@ use Rattle.tier_safe.specs.Scene.{BrokerTierView, Scene}
 use Rattle.tier_safe.specs.Fetches.{IsIndexOf, CachedStands}
 use Rattle.tier_safe.proofs.Basics.{one_some}
 use Rattle.tier_safe.proofs.Entries.{prefix_goes}
-use Rattle.tier_safe.proofs.Placed.{IsRead, IsPlaced, held_placed}
+use Rattle.tier_safe.proofs.Placed.{IsRead, IsPlaced, stored_whole_placed}
 use Rattle.tier_safe.proofs.Serving.{FetchReads, fetch_reads}
 use Rattle.laws_tier_fetch.specs.Seeking.{piece_of, sought_of, IsAtTurn}
 use Rattle.laws_tier_fetch.proofs.Entries.{entries_same, index_rises}
@@ -75,7 +75,7 @@ own_home partition id true custom kind home spot is key = by (told_layout custom
 -- the view's entry of it places its parts as its entry does
 pub at_spot : (c : Scene) (p : Plain) (a b : ℕ) (tier_view : BrokerTierView) (x : Broker) (stops epoch : ℕ) (wanted : FetchRequest) (line : List (ℕ × ℕ)) (next : FetchStep) (s : store.Content) (n : meta.Content) (view : EntriesSeen)
     (cache : Cache) (piece : Piece) (kind : Part) → IsRead kind → IsAtTurn c p a b tier_view x stops epoch wanted line next s n view cache → piece_of next ≡ Some piece → (r : FetchReads c p x piece)
-    → IsAtSpot wanted.partition piece.id kind (entry_of piece.id view.entries) r.entry.start s.objects (part_in (parts_of r.held.batches r.held.line r.held.interval) kind)
+    → IsAtSpot wanted.partition piece.id kind (entry_of piece.id view.entries) r.entry.start s.objects (part_in (parts_of r.stored_whole.batches r.stored_whole.line r.stored_whole.interval) kind)
 at_spot c p a b tier_view x stops epoch wanted line next s n view cache piece kind read h is r =
     let k = (h.safe.tier.fetches a (sought_of b stops epoch wanted.offset next) tier_view x h.shows.actor_state h.shows.tier_view_is h.broker_is).seen piece is in
     let v = h.safe.tier.views b tier_view h.shows.tier_view_is in
@@ -86,7 +86,7 @@ at_spot c p a b tier_view x stops epoch wanted line next s n view cache piece ki
     let start : k.0.start ≡ r.entry.start = sym y.2.start ∙ ap (λ (e : Entry). e.start) same in
     let of : r.entry.partition ≡ wanted.partition = h.safe.tier.partition.told piece.id r.entry r.there ∙ sym h.partition in
     let id : r.entry.id ≡ piece.id = found_id piece.id (fold c.notes) r.entry r.there in
-    let has = held_placed c.objects p.paths r.entry kind read r.held in
+    let has = stored_whole_placed c.objects p.paths r.entry kind read r.stored_whole in
     let placed : spot_of wanted.partition piece.id k.0.packed k.0.custom kind ≡ Some has.spot = rw (packed, custom, ← of, ← id) has.is in
     let there : entry_of piece.id view.entries ≡ Some k.0 = subst (λ (w : EntriesSeen). entry_of piece.id w.entries ≡ Some k.0) h.shows.view_is k.1 in
     record {
@@ -95,7 +95,7 @@ at_spot c p a b tier_view x stops epoch wanted line next s n view cache piece ki
       home = has.home;
       own = own_home r.entry.partition r.entry.id r.entry.packed r.entry.custom kind has.home has.spot has.is has.home_is;
       home_is = rw (← of, ← id) has.home_is;
-      placed = subst (λ (o : store.Objects). IsPlaced o has.spot (part_in (parts_of r.held.batches r.held.line r.held.interval) kind)) h.shows.objects_are has.placed;
+      placed = subst (λ (o : store.Objects). IsPlaced o has.spot (part_in (parts_of r.stored_whole.batches r.stored_whole.line r.stored_whole.interval) kind)) h.shows.objects_are has.placed;
     }
 
 -- what a store gives of a part, all of it or some
@@ -113,10 +113,10 @@ pub gives : (c : Scene) (p : Plain) (a b : ℕ) (tier_view : BrokerTierView) (x 
     (cache : Cache) (piece : Piece) (kind : Part) (place : ℕ × Spot) (some : List ℕ → List ℕ) (given : Option (List ℕ)) → IsRead kind
     → IsAtTurn c p a b tier_view x stops epoch wanted line next s n view cache → piece_of next ≡ Some piece
     → spot_in wanted.partition piece.id kind (entry_of piece.id view.entries) ≡ Some place → given ≡ option_map (λ (object : List ℕ). some (all_of place.1 object)) (s.objects place.1.key)
-    → (r : FetchReads c p x piece) → IsGiven place r.entry.start (part_in (parts_of r.held.batches r.held.line r.held.interval) kind) some given
+    → (r : FetchReads c p x piece) → IsGiven place r.entry.start (part_in (parts_of r.stored_whole.batches r.stored_whole.line r.stored_whole.interval) kind) some given
 gives c p a b tier_view x stops epoch wanted line next s n view cache piece kind place some given read h is at given_is r =
     let k = at_spot c p a b tier_view x stops epoch wanted line next s n view cache piece kind read h is r in
-    let bytes = part_in (parts_of r.held.batches r.held.line r.held.interval) kind in
+    let bytes = part_in (parts_of r.stored_whole.batches r.stored_whole.line r.stored_whole.interval) kind in
     let same : place ≡ (r.entry.start, k.spot) =
     one_some (spot_in wanted.partition piece.id kind (entry_of piece.id view.entries)) place (r.entry.start, k.spot) at k.is in
     record {
@@ -130,21 +130,21 @@ gives c p a b tier_view x stops epoch wanted line next s n view cache piece kind
 -- the bytes of its index are read as that index
 pub index_read : (c : Scene) (p : Plain) (x : Broker) (piece : Piece) (index : OffsetTable) (bytes : List ℕ) → (r : FetchReads c p x piece)
     → index.base ≡ r.entry.start → AreOffsets index.entries → bytes ≡ bytes_of entry_bytes index.entries
-    → Some bytes ≡ Some (part_in (parts_of r.held.batches r.held.line r.held.interval) part.Index)
-    → index ≡ index_of r.entry.start r.held.interval (placed_from 0 r.held.batches)
+    → Some bytes ≡ Some (part_in (parts_of r.stored_whole.batches r.stored_whole.line r.stored_whole.interval) part.Index)
+    → index ≡ index_of r.entry.start r.stored_whole.interval (placed_from 0 r.stored_whole.batches)
 index_read c p x piece index bytes r base rises spelled stand =
-    let d = r.held.describes in
-    let first : first_offset r.held.batches ≡ r.entry.start = first_is r.entry.start r.held.batches d.some d.is.consecutive in
-    let whole : bytes ≡ part_in (parts_of r.held.batches r.held.line r.held.interval) part.Index = one_some (Some bytes) bytes (part_in (parts_of r.held.batches r.held.line r.held.interval) part.Index) refl stand in
-    let same : bytes_of entry_bytes index.entries ≡ bytes_of entry_bytes (index_of r.entry.start r.held.interval (placed_from 0 r.held.batches)).entries =
-    sym spelled ∙ whole ∙ ap (λ (n : ℕ). bytes_of entry_bytes (index_of n r.held.interval (placed_from 0 r.held.batches)).entries) first in
-    let entries = entries_same index.entries (index_of r.entry.start r.held.interval (placed_from 0 r.held.batches)).entries rises (index_rises r.entry.start r.held.interval r.held.batches d.is) same in
+    let d = r.stored_whole.describes in
+    let first : first_offset r.stored_whole.batches ≡ r.entry.start = first_is r.entry.start r.stored_whole.batches d.some d.is.consecutive in
+    let whole : bytes ≡ part_in (parts_of r.stored_whole.batches r.stored_whole.line r.stored_whole.interval) part.Index = one_some (Some bytes) bytes (part_in (parts_of r.stored_whole.batches r.stored_whole.line r.stored_whole.interval) part.Index) refl stand in
+    let same : bytes_of entry_bytes index.entries ≡ bytes_of entry_bytes (index_of r.entry.start r.stored_whole.interval (placed_from 0 r.stored_whole.batches)).entries =
+    sym spelled ∙ whole ∙ ap (λ (n : ℕ). bytes_of entry_bytes (index_of n r.stored_whole.interval (placed_from 0 r.stored_whole.batches)).entries) first in
+    let entries = entries_same index.entries (index_of r.entry.start r.stored_whole.interval (placed_from 0 r.stored_whole.batches)).entries rises (index_rises r.entry.start r.stored_whole.interval r.stored_whole.batches d.is) same in
     ap (λ (n : ℕ). (let t : OffsetTable = record { base = n; entries = index.entries } in t)) base
     ∙ ap (λ (es : List (ℕ × ℕ)). (let t : OffsetTable = record { base = r.entry.start; entries = es } in t)) entries
 
 -- and may be kept
 pub index_cached : (c : Scene) (p : Plain) (x : Broker) (piece : Piece) (index : OffsetTable) → (r : FetchReads c p x piece)
-    → index ≡ index_of r.entry.start r.held.interval (placed_from 0 r.held.batches) → CachedStands p.paths c.notes piece.id index
+    → index ≡ index_of r.entry.start r.stored_whole.interval (placed_from 0 r.stored_whole.batches) → CachedStands p.paths c.notes piece.id index
 index_cached c p x piece index r is = record {
   before = c.notes;
   begins = prefix_self c.notes;
@@ -154,5 +154,5 @@ index_cached c p x piece index r is = record {
   is = λ entry there done.
       (let one : r.entry ≡ entry = one_some (entry_of piece.id (fold c.notes)) r.entry entry r.there there in
       subst (λ (e : Entry). IsIndexOf p.paths e index) one
-      (record { batches = r.held.batches; line = r.held.line; interval = r.held.interval; describes = r.held.describes; is = is }));
+      (record { batches = r.stored_whole.batches; line = r.stored_whole.line; interval = r.stored_whole.interval; describes = r.stored_whole.describes; is = is }));
 }

@@ -127,7 +127,7 @@ record Stops (log : List (List ℕ)) (offset limit mark : ℕ) (stop : Stop) (ru
 -- a run out of the copy that a fetch has found is the log's
 copied_run : (c : Scene) (p : Plain) (a b : ℕ) (tier_view : BrokerTierView) (x : Broker) (stops epoch : ℕ) (wanted : FetchRequest) (line : List (ℕ × ℕ)) (piece : Piece) (span : Span) (s : store.Content) (n : meta.Content)
     (view : EntriesSeen) (cache : Cache) (given : List ℕ) (tier : Tier) (size : ℕ) (stop : Stop) (bytes : List ℕ) → IsAtTurn c p a b tier_view x stops epoch wanted line (Log piece span) s n view cache
-    → (r : FetchReads c p x piece) → given ≡ take span.most (drop span.from (joined r.held.batches)) → fetch.IsCutRun wanted piece given tier size stop bytes
+    → (r : FetchReads c p x piece) → given ≡ take span.most (drop span.from (joined r.stored_whole.batches)) → fetch.IsCutRun wanted piece given tier size stop bytes
     → IsRunBytes x.log wanted.offset wanted.limit wanted.mark size stop bytes
 copied_run c p a b tier_view x stops epoch wanted line piece span s n view cache given tier size stop bytes h r given_is m =
     let sought = sought_of b stops epoch wanted.offset (Log piece span) in
@@ -136,7 +136,7 @@ copied_run c p a b tier_view x stops epoch wanted line piece span s n view cache
     let holds = k.holds in
     let within = r.within in
     let low : r.entry.start ≤ wanted.offset = omega (arith, holds.0, within.0) in
-    let q = cut_run r.held.batches r.entry.start f.0 wanted.offset wanted.limit wanted.mark piece.to span.from span.most given m.cut r.held.describes.is low f.1 given_is m.is in
+    let q = cut_run r.stored_whole.batches r.entry.start f.0 wanted.offset wanted.limit wanted.mark piece.to span.from span.most given m.cut r.stored_whole.describes.is low f.1 given_is m.is in
     let ends = q.ends in
     let below = q.below in
     let marked : m.cut.next ≤ wanted.mark = (let le = min-le_left wanted.mark piece.to in omega (arith, below, le)) in
@@ -151,7 +151,7 @@ copied_run c p a b tier_view x stops epoch wanted line piece span s n view cache
       size_is = m.size_is;
     }
   where
-    by : (why : Stop) (rest : List (List ℕ)) → from_offset wanted.offset r.held.batches ≡ (m.is.first ∷ m.is.others) ++ rest → (cutting.would_pass wanted.limit (length (joined (m.is.first ∷ m.is.others))) (headed m.is.rest) ≡ true → WouldPass (m.is.first ∷ m.is.others) rest wanted.limit)
+    by : (why : Stop) (rest : List (List ℕ)) → from_offset wanted.offset r.stored_whole.batches ≡ (m.is.first ∷ m.is.others) ++ rest → (cutting.would_pass wanted.limit (length (joined (m.is.first ∷ m.is.others))) (headed m.is.rest) ≡ true → WouldPass (m.is.first ∷ m.is.others) rest wanted.limit)
         → cutting.StopIs why m.cut.next wanted.mark piece.to (cutting.would_pass wanted.limit (length (joined (m.is.first ∷ m.is.others))) (headed m.is.rest)) → end_of (m.is.first ∷ m.is.others) ≡ m.cut.next → m.cut.next ≤ piece.to
         → ((more : List (List ℕ)) × (from_offset wanted.offset x.log ≡ (m.is.first ∷ m.is.others) ++ more)) → Stops x.log wanted.offset wanted.limit wanted.mark why (m.is.first ∷ m.is.others)
     by Mark rest parts passing is ends high log = record { rest = log.0; parts = log.1; is = ends ∙ is }
@@ -201,7 +201,7 @@ module _ {S M : Type 0} (objects : S → store.Content) (calls : S → Control s
       cut (Some end) given gets cuts = absurd (cc (cuts))
       cut None given gets cuts =
           let r = copy_of c p a b tier_view x stops epoch wanted line (Log piece span) (objects old) ns view cache piece h refl in
-          let piece_bytes = take span.most (drop span.from (joined r.held.batches)) in
+          let piece_bytes = take span.most (drop span.from (joined r.stored_whole.batches)) in
           let g = gives c p a b tier_view x stops epoch wanted line (Log piece span) (objects old) ns view cache piece part.Log place (λ b. take span.most (drop span.from b)) (Some given)
           tt h refl at (gets.bytes h.shows.store_tells) r in
           let same : given ≡ piece_bytes = one_some (Some given) given piece_bytes refl g.given_is in (

@@ -50,7 +50,7 @@ use Rattle.tier_safe.proofs.Covering.{readable}
 use Rattle.tier_safe.proofs.Lookups.{found_stands}
 use Rattle.tier_safe.proofs.Rules.{seen_kept}
 use Rattle.tier_safe.proofs.Turning.{set_set, set_get, scene_same, goes_on, one_change, as_scene, leaves, left, renamed, sees_all, sees_some}
-use Rattle.laws_tier_fetch.specs.Seeking.{sought_of, fetch_work, fetch_after, indexes_in, IsAtTurn, after_fetch}
+use Rattle.laws_tier_fetch.specs.Seeking.{sought_of, fetch_tier_task, fetch_after, indexes_in, IsAtTurn, after_fetch}
 use Rattle.laws_tier_fetch.specs.Turns.{FetchTurnsChange}
 use Rattle.laws_tier_fetch.proofs.Pairs.{found_in, brought_in, kept_in}
 use Rattle.laws_tier_fetch.proofs.Reading.{copy_of, gives, index_read, index_cached}
@@ -58,39 +58,39 @@ use Rattle.laws_tier_fetch.proofs.Reading.{copy_of, gives, index_read, index_cac
 -- scenes
 
 -- a cache that stays
-pub as_fetch : (c : Scene) (p : Plain) (a b : ℕ) (tier_view : BrokerTierView) (work : TierTask) (o : store.Objects) (n : List Note) (v : EntriesSeen) (cache : Cache) → tier_view.cache ≡ indexes_in cache
-    → IsChanged c p (after_turn c a b tier_view work o n v) → IsChanged c p (after_fetch c a b tier_view work o n v cache)
-as_fetch c p a b tier_view work o n v cache same h =
-    as_scene c (after_turn c a b tier_view work o n v) (after_fetch c a b tier_view work o n v cache) p
+pub as_fetch : (c : Scene) (p : Plain) (a b : ℕ) (tier_view : BrokerTierView) (tier_task : TierTask) (o : store.Objects) (n : List Note) (v : EntriesSeen) (cache : Cache) → tier_view.cache ≡ indexes_in cache
+    → IsChanged c p (after_turn c a b tier_view tier_task o n v) → IsChanged c p (after_fetch c a b tier_view tier_task o n v cache)
+as_fetch c p a b tier_view tier_task o n v cache same h =
+    as_scene c (after_turn c a b tier_view tier_task o n v) (after_fetch c a b tier_view tier_task o n v cache) p
     (scene_same _ _ refl refl refl (ap (λ (k : List (SegmentId × OffsetTable)). slice_set c.tier_views b (record tier_view { view = v; cache = k })) same) refl) h
 
 -- what a turn leaves is said of other names
-pub named : (c : Scene) (p : Plain) (a b : ℕ) (tier_view : BrokerTierView) (work other : TierTask) (o o2 : store.Objects) (n n2 : List Note) (v v2 : EntriesSeen) (k k2 : Cache) → work ≡ other → o ≡ o2 → n ≡ n2 → v ≡ v2 → k ≡ k2
-    → IsChanged c p (after_fetch c a b tier_view work o n v k) → IsChanged c p (after_fetch c a b tier_view other o2 n2 v2 k2)
-named c p a b tier_view work other o o2 n n2 v v2 k k2 ew eo en ev ek h =
-    as_scene c (after_fetch c a b tier_view work o n v k) (after_fetch c a b tier_view other o2 n2 v2 k2) p
+pub named : (c : Scene) (p : Plain) (a b : ℕ) (tier_view : BrokerTierView) (tier_task other : TierTask) (o o2 : store.Objects) (n n2 : List Note) (v v2 : EntriesSeen) (k k2 : Cache) → tier_task ≡ other → o ≡ o2 → n ≡ n2 → v ≡ v2 → k ≡ k2
+    → IsChanged c p (after_fetch c a b tier_view tier_task o n v k) → IsChanged c p (after_fetch c a b tier_view other o2 n2 v2 k2)
+named c p a b tier_view tier_task other o o2 n n2 v v2 k k2 ew eo en ev ek h =
+    as_scene c (after_fetch c a b tier_view tier_task o n v k) (after_fetch c a b tier_view other o2 n2 v2 k2) p
     (scene_same _ _ refl eo en
     (ap (λ (x : EntriesSeen). slice_set c.tier_views b (record tier_view { view = x; cache = indexes_in k })) ev ∙ ap (λ (x : Cache). slice_set c.tier_views b (record tier_view { view = v2; cache = indexes_in x })) ek)
     (ap (slice_set c.desk a) ew)) h
 
 -- a turn that left the view, the cache and the devices as they were
-pub quiet : (c : Scene) (p : Plain) (a b : ℕ) (tier_view : BrokerTierView) (before work : TierTask) (s : store.Content) (ns : meta.Content) (view : EntriesSeen) (cache : Cache) (o : store.Objects) (n : List Note) (v : EntriesSeen) (k : Cache)
-    → ShowsScene c a b tier_view before s ns view → tier_view.cache ≡ indexes_in cache → IsChanged c p (after_turn c a b tier_view work c.objects c.notes tier_view.view)
-    → o ≡ s.objects → n ≡ ns.notes → v ≡ view → k ≡ cache → IsChanged c p (after_fetch c a b tier_view work o n v k)
-quiet c p a b tier_view before work s ns view cache o n v k h same base eo en ev ek =
-    as_fetch c p a b tier_view work o n v k (same ∙ ap indexes_in (sym ek))
-    (renamed c p a b tier_view work work c.objects o c.notes n tier_view.view v refl (h.objects_are ∙ sym eo) (h.notes_are ∙ sym en) (h.view_is ∙ sym ev) base)
+pub quiet : (c : Scene) (p : Plain) (a b : ℕ) (tier_view : BrokerTierView) (before tier_task : TierTask) (s : store.Content) (ns : meta.Content) (view : EntriesSeen) (cache : Cache) (o : store.Objects) (n : List Note) (v : EntriesSeen) (k : Cache)
+    → ShowsScene c a b tier_view before s ns view → tier_view.cache ≡ indexes_in cache → IsChanged c p (after_turn c a b tier_view tier_task c.objects c.notes tier_view.view)
+    → o ≡ s.objects → n ≡ ns.notes → v ≡ view → k ≡ cache → IsChanged c p (after_fetch c a b tier_view tier_task o n v k)
+quiet c p a b tier_view before tier_task s ns view cache o n v k h same base eo en ev ek =
+    as_fetch c p a b tier_view tier_task o n v k (same ∙ ap indexes_in (sym ek))
+    (renamed c p a b tier_view tier_task tier_task c.objects o c.notes n tier_view.view v refl (h.objects_are ∙ sym eo) (h.notes_are ∙ sym en) (h.view_is ∙ sym ev) base)
 
 -- nothing
-none : (c : Scene) (p : Plain) (a b : ℕ) (tier_view : BrokerTierView) (work : TierTask) → slice_get c.tier_views b ≡ Some tier_view → slice_get c.desk a ≡ Some work → IsChanged c p (after_turn c a b tier_view work c.objects c.notes tier_view.view)
-none c p a b tier_view work at actor_state =
-    as_scene c c (after_turn c a b tier_view work c.objects c.notes tier_view.view) p
-    (scene_same _ _ refl refl refl (sym (set-same c.tier_views b tier_view at)) (sym (set-same c.desk a work actor_state)))
+none : (c : Scene) (p : Plain) (a b : ℕ) (tier_view : BrokerTierView) (tier_task : TierTask) → slice_get c.tier_views b ≡ Some tier_view → slice_get c.desk a ≡ Some tier_task → IsChanged c p (after_turn c a b tier_view tier_task c.objects c.notes tier_view.view)
+none c p a b tier_view tier_task at actor_state =
+    as_scene c c (after_turn c a b tier_view tier_task c.objects c.notes tier_view.view) p
+    (scene_same _ _ refl refl refl (sym (set-same c.tier_views b tier_view at)) (sym (set-same c.desk a tier_task actor_state)))
     (record { changes = []; may = refl; is = refl })
 
 -- the tier shows its own view
-pub shown : (c : Scene) (a b : ℕ) (tier_view : BrokerTierView) (work : TierTask) (s : store.Content) (n : meta.Content) (view : EntriesSeen) → ShowsScene c a b tier_view work s n view → ShowsScene c a b tier_view work s n tier_view.view
-shown c a b tier_view work s n view h = record {
+pub shown : (c : Scene) (a b : ℕ) (tier_view : BrokerTierView) (tier_task : TierTask) (s : store.Content) (n : meta.Content) (view : EntriesSeen) → ShowsScene c a b tier_view tier_task s n view → ShowsScene c a b tier_view tier_task s n tier_view.view
+shown c a b tier_view tier_task s n view h = record {
   objects_are = h.objects_are;
   notes_are = h.notes_are;
   store_tells = h.store_tells;
@@ -146,7 +146,7 @@ chooses : (c : Scene) (p : Plain) (a b : ℕ) (tier_view : BrokerTierView) (x : 
     (after : EntriesSeen) (piece : Option Piece) → IsAtTurn c p a b tier_view x stops epoch wanted line Refresh s n view cache → after ≡ view_of c.notes
     → piece_at after.entries line wanted.log_end wanted.offset ≡ piece
     → IsChanged c p (after_turn c a b tier_view (Seeks (sought_of b stops epoch wanted.offset Refresh)) c.objects c.notes after)
-    → IsChanged c p (after_turn c a b tier_view (fetch_work b stops epoch wanted.offset (chosen after.notes piece)) c.objects c.notes after)
+    → IsChanged c p (after_turn c a b tier_view (fetch_tier_task b stops epoch wanted.offset (chosen after.notes piece)) c.objects c.notes after)
 chooses c p a b tier_view x stops epoch wanted line s n view cache after None h all made base =
     leaves c p a b tier_view (Seeks (sought_of b stops epoch wanted.offset Refresh)) c.objects c.notes after base
 chooses c p a b tier_view x stops epoch wanted line s n view cache after (Some piece) h all made base =
@@ -160,7 +160,7 @@ reads_on : (c : Scene) (p : Plain) (a b : ℕ) (tier_view : BrokerTierView) (sto
     → slice_get c.tier_views b ≡ Some tier_view → slice_get c.desk a ≡ Some (Seeks (sought_of b stops epoch wanted.offset (Index piece)))
     → ((id : SegmentId) (t : OffsetTable) → In (id, t) (indexes_in cache) → In (id, t) tier_view.cache ⊎ CachedStands p.paths c.notes id t)
     → IndexStands p.paths (fold c.notes) piece.id index
-    → IsChanged c p (after_fetch c a b tier_view (fetch_work b stops epoch wanted.offset (reads_by wanted piece index)) c.objects c.notes tier_view.view cache)
+    → IsChanged c p (after_fetch c a b tier_view (fetch_tier_task b stops epoch wanted.offset (reads_by wanted piece index)) c.objects c.notes tier_view.view cache)
 reads_on c p a b tier_view stops epoch wanted piece index cache at actor_state are is =
     let sought = sought_of b stops epoch wanted.offset (Index piece) in
     let from = (find index wanted.offset).1 in
@@ -171,7 +171,7 @@ reads_on c p a b tier_view stops epoch wanted piece index cache at actor_state a
       found = refl;
       is = λ entry there done. (index, is entry there done, refl);
     } in
-    as_scene c (effect (Moves a (Reads sought from)) d) (after_fetch c a b tier_view (fetch_work b stops epoch wanted.offset (reads_by wanted piece index)) c.objects c.notes tier_view.view cache) p
+    as_scene c (effect (Moves a (Reads sought from)) d) (after_fetch c a b tier_view (fetch_tier_task b stops epoch wanted.offset (reads_by wanted piece index)) c.objects c.notes tier_view.view cache) p
     (scene_same _ _ refl refl refl refl refl)
     (goes_on c d p (Moves a (Reads sought from)) (one_change c p (Caches b tier_view (indexes_in cache)) (refl, record { tier_view_is = at; are = are })) (refl, may))
 
@@ -186,19 +186,19 @@ module _ {S M : Type 0} (objects : S → store.Content) (calls : S → Control s
   refresh_turn c p a b tier_view x stops epoch wanted line (Ok (Ends MetaFault)) s cache view after old new h row =
       quiet c p a b tier_view _ Free s (notes old) view cache s.objects (notes new).notes after cache h.shows h.cache_is (left c p a b tier_view h.shows.tier_view_is) refl row.content.notes row.view refl
   refresh_turn c p a b tier_view x stops epoch wanted line (Ok turn) s cache view after old new h row =
-      let work = Seeks (sought_of b stops epoch wanted.offset Refresh) in
+      let tier_task = Seeks (sought_of b stops epoch wanted.offset Refresh) in
       let r : Refreshes (notes old) tier_view.view after = subst (λ (v : EntriesSeen). Refreshes (notes old) v after) (sym h.shows.view_is) row.1.view in
-      let all = sees_all objects calls notes notings c p a b tier_view work s old after (shown c a b tier_view work s (notes old) view h.shows) h.few (h.safe.tier.views b tier_view h.shows.tier_view_is) r in
-      named c p a b tier_view _ _ c.objects s.objects c.notes (notes new).notes after after cache cache (ap (fetch_work b stops epoch wanted.offset) (sym row.0)) h.shows.objects_are
+      let all = sees_all objects calls notes notings c p a b tier_view tier_task s old after (shown c a b tier_view tier_task s (notes old) view h.shows) h.few (h.safe.tier.views b tier_view h.shows.tier_view_is) r in
+      named c p a b tier_view _ _ c.objects s.objects c.notes (notes new).notes after after cache cache (ap (fetch_tier_task b stops epoch wanted.offset) (sym row.0)) h.shows.objects_are
       (h.shows.notes_are ∙ sym row.1.content.notes) refl refl
       (as_fetch c p a b tier_view _ c.objects c.notes after cache h.cache_is
       (chooses c p a b tier_view x stops epoch wanted line s (notes old) view cache after (piece_at after.entries line wanted.log_end wanted.offset) h all.0 refl all.1))
   refresh_turn c p a b tier_view x stops epoch wanted line (Err e) s cache view after old new h row =
-      let work = Seeks (sought_of b stops epoch wanted.offset Refresh) in
+      let tier_task = Seeks (sought_of b stops epoch wanted.offset Refresh) in
       let r : Advances (notes old) tier_view.view after = subst (λ (v : EntriesSeen). Advances (notes old) v after) (sym h.shows.view_is) row.view in
-      named c p a b tier_view work work c.objects s.objects c.notes (notes new).notes after after cache cache refl h.shows.objects_are (h.shows.notes_are ∙ sym row.content.notes) refl refl
-      (as_fetch c p a b tier_view work c.objects c.notes after cache h.cache_is
-      (sees_some objects calls notes notings c p a b tier_view work s old after (shown c a b tier_view work s (notes old) view h.shows) h.few (h.safe.tier.views b tier_view h.shows.tier_view_is) r))
+      named c p a b tier_view tier_task tier_task c.objects s.objects c.notes (notes new).notes after after cache cache refl h.shows.objects_are (h.shows.notes_are ∙ sym row.content.notes) refl refl
+      (as_fetch c p a b tier_view tier_task c.objects c.notes after cache h.cache_is
+      (sees_some objects calls notes notings c p a b tier_view tier_task s old after (shown c a b tier_view tier_task s (notes old) view h.shows) h.few (h.safe.tier.views b tier_view h.shows.tier_view_is) r))
 
   -- reads of the store
 
@@ -222,9 +222,9 @@ module _ {S M : Type 0} (objects : S → store.Content) (calls : S → Control s
       → turn ≡ reads_by wanted piece index
       → ((id : SegmentId) (t : OffsetTable) → In (id, t) (indexes_in cache') → In (id, t) tier_view.cache ⊎ CachedStands p.paths c.notes id t)
       → IndexStands p.paths (fold c.notes) piece.id index
-      → IsChanged c p (after_fetch c a b tier_view (fetch_work b stops epoch wanted.offset turn) (objects new).objects ns.notes view cache')
+      → IsChanged c p (after_fetch c a b tier_view (fetch_tier_task b stops epoch wanted.offset turn) (objects new).objects ns.notes view cache')
   went c p a b tier_view x stops epoch wanted line piece ns view cache cache' old new turn index h same is are stand =
-      named c p a b tier_view _ _ c.objects (objects new).objects c.notes ns.notes tier_view.view view cache' cache' (ap (fetch_work b stops epoch wanted.offset) (sym is)) (h.shows.objects_are ∙ sym same)
+      named c p a b tier_view _ _ c.objects (objects new).objects c.notes ns.notes tier_view.view view cache' cache' (ap (fetch_tier_task b stops epoch wanted.offset) (sym is)) (h.shows.objects_are ∙ sym same)
       h.shows.notes_are h.shows.view_is refl
       (reads_on c p a b tier_view stops epoch wanted piece index cache' h.shows.tier_view_is h.shows.actor_state are stand)
 
@@ -246,7 +246,7 @@ module _ {S M : Type 0} (objects : S → store.Content) (calls : S → Control s
       (cache cache' : Cache) (old new : S) (place : ℕ × Spot) (bytes : List ℕ) → IsAtTurn c p a b tier_view x stops epoch wanted line (Index piece) (objects old) ns view cache
       → spot_in wanted.partition piece.id part.Index (entry_of piece.id view.entries) ≡ Some place → Gets objects calls place.1.key (all_of place.1) (Ok (Some bytes)) old new
       → IsLoaded wanted piece place.0 bytes (Goes next) cache cache'
-      → IsChanged c p (after_fetch c a b tier_view (fetch_work b stops epoch wanted.offset (Goes next)) (objects new).objects ns.notes view cache')
+      → IsChanged c p (after_fetch c a b tier_view (fetch_tier_task b stops epoch wanted.offset (Goes next)) (objects new).objects ns.notes view cache')
   loaded_turn c p a b tier_view x stops epoch wanted line piece next ns view cache cache' old new place bytes h at gets k =
       let r = copy_of c p a b tier_view x stops epoch wanted line (Index piece) (objects old) ns view cache piece h refl in
       let g = gives c p a b tier_view x stops epoch wanted line (Index piece) (objects old) ns view cache piece part.Index place (λ b. b) (Some bytes) tt h refl at (gets.bytes h.shows.store_tells) r in

@@ -54,13 +54,13 @@ sought_of broker stops epoch offset next = record {
 }
 
 -- what its actor's state has after a turn
-abbrev pub fetch_work : ℕ → ℕ → ℕ → ℕ → Turn FetchStep → TierTask
-fetch_work broker stops epoch offset (Goes next) = Seeks (sought_of broker stops epoch offset next)
-fetch_work broker stops epoch offset (Ends answer) = Free
+abbrev pub fetch_tier_task : ℕ → ℕ → ℕ → ℕ → Turn FetchStep → TierTask
+fetch_tier_task broker stops epoch offset (Goes next) = Seeks (sought_of broker stops epoch offset next)
+fetch_tier_task broker stops epoch offset (Ends answer) = Free
 
 -- after one that may have run out of memory, and then is taken again
 abbrev pub fetch_after : ℕ → ℕ → ℕ → ℕ → FetchStep → Result (Turn FetchStep) AllocError → TierTask
-fetch_after broker stops epoch offset next (Ok turn) = fetch_work broker stops epoch offset turn
+fetch_after broker stops epoch offset next (Ok turn) = fetch_tier_task broker stops epoch offset turn
 fetch_after broker stops epoch offset next (Err e) = Seeks (sought_of broker stops epoch offset next)
 
 -- a cache
@@ -79,7 +79,8 @@ indexes_in cache = map under_id cache.pairs
 -- it still
 pub record IsAtTurn (c : Scene) (p : Plain) (a b : ℕ) (tier_view : BrokerTierView) (x : Broker) (stops epoch : ℕ)
     (wanted : FetchRequest)
-    (line : List (ℕ × ℕ)) (next : FetchStep) (objects : store.Content) (notes : meta.Content) (view : EntriesSeen) (cache : Cache) : Type 0 where
+    (line : List (ℕ × ℕ)) (next : FetchStep) (objects : store.Content) (notes : meta.Content) (view : EntriesSeen)
+    (cache : Cache) : Type 0 where
   pub safe : BothSafe c p
   pub few : length c.notes < 2 ^ 64
   pub shows : ShowsScene c a b tier_view (Seeks (sought_of b stops epoch wanted.offset next)) objects notes view
@@ -94,10 +95,10 @@ pub record IsAtTurn (c : Scene) (p : Plain) (a b : ℕ) (tier_view : BrokerTierV
 -- the tier after a turn of the fetch in that actor's state
 abbrev pub after_fetch : Scene → ℕ → ℕ → BrokerTierView → TierTask → store.Objects → List Note → EntriesSeen → Cache
     → Scene
-after_fetch c a b tier_view work objects notes view cache = record {
+after_fetch c a b tier_view tier_task objects notes view cache = record {
   partition = c.partition;
   objects = objects;
   notes = notes;
   tier_views = slice_set c.tier_views b (record tier_view { view = view; cache = indexes_in cache });
-  desk = slice_set c.desk a work;
+  desk = slice_set c.desk a tier_task;
 }

@@ -24,7 +24,7 @@ use Rattle.laws_tier_turns.proofs.Follow.{tier_views_follow}
 
 -- the tier with these tier states, and with this in actor a's state
 abbrev pub left_with : Scene → ℕ → List BrokerTierView → TierTask → Scene
-left_with c a tier_views work = record c { tier_views = tier_views; desk = slice_set c.desk a work }
+left_with c a tier_views tier_task = record c { tier_views = tier_views; desk = slice_set c.desk a tier_task }
 
 -- a node is a broker of the plain log
 pub broker_at : (h : SeenPartition) (p : Plain) (b : ℕ) (x : Node) → PartitionMatches h p → slice_get h.nodes b ≡ Some x → slice_get p.brokers b ≡ Some (broker_of x)

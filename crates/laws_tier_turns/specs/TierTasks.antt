@@ -24,17 +24,17 @@ rebuild_of b g = record {
 }
 
 -- what the state of a command keeps that has begun with this
-abbrev pub work_of : ℕ → Command → Option StartSnapshot → TierTask
-work_of b Join (Some g) = Rebuilds (rebuild_of b g)
-work_of b command snapshot = Free
+abbrev pub tier_task_of : ℕ → Command → Option StartSnapshot → TierTask
+tier_task_of b Join (Some g) = Rebuilds (rebuild_of b g)
+tier_task_of b command snapshot = Free
 
 -- the actor's state has that; a rebuild may have read on since
 abbrev pub KeepsTask : ℕ → Command → Option StartSnapshot → TierTask → Type 0
-KeepsTask b Join (Some g) work = (refreshed : Bool) × (line : Option (List (ℕ × ℕ)))
-    × (work ≡ Rebuilds (record (rebuild_of b g) { refreshed = refreshed; line = line }))
-KeepsTask b command snapshot work = work ≡ Free
+KeepsTask b Join (Some g) tier_task = (refreshed : Bool) × (line : Option (List (ℕ × ℕ)))
+    × (tier_task ≡ Rebuilds (record (rebuild_of b g) { refreshed = refreshed; line = line }))
+KeepsTask b command snapshot tier_task = tier_task ≡ Free
 
 -- what a command has begun with after a turn
-abbrev pub begun_after : Turned → Option StartSnapshot
-begun_after (Answers answer) = None
-begun_after (Begins g) = Some g
+abbrev pub snapshot_after : Turned → Option StartSnapshot
+snapshot_after (Answers answer) = None
+snapshot_after (Begins g) = Some g

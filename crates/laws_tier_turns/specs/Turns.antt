@@ -44,9 +44,9 @@ pub record ShowsBrokerTiers (h : SeenPartition) (broker_tiers : List BrokerTierM
 
 -- actor a's state shows a command of broker b that has begun with this, or not
 pub record ShowsTask (a b : ℕ) (command : Command) (snapshot : Option StartSnapshot) (c : Scene) : Type 0 where
-  pub work : TierTask
-  pub actor_state : slice_get c.desk a ≡ Some work
-  pub is : KeepsTask b command snapshot work
+  pub tier_task : TierTask
+  pub actor_state : slice_get c.desk a ≡ Some tier_task
+  pub is : KeepsTask b command snapshot tier_task
 
 -- a local start may rise: a trim drops a segment, a rebuild restarts a log, or either fails on the disk
 abbrev pub may_raise : Option StartSnapshot → Command → Turned → Bool

@@ -121,14 +121,14 @@ module _ {S M : Type 0} (objects : S → store.Content) (calls : S → Control s
       let r = copy_of c p a b tier_view x stops epoch (wanted_at asked cursor) line (fetch.Index piece) (objects old) ns view cache piece h refl in
       let g = gives c p a b tier_view x stops epoch (wanted_at asked cursor) line (fetch.Index piece) (objects old) ns view cache piece part.TimeIndex spot (λ b. b) (Some bytes)
       tt h refl stood (got.bytes h.shows.store_tells) r in
-      let d = r.held.describes in
-      let times = part_in (parts_of r.held.batches r.held.line r.held.interval) part.TimeIndex in
-      let first : first_offset r.held.batches ≡ r.entry.start = first_is r.entry.start r.held.batches d.some d.is.consecutive in
+      let d = r.stored_whole.describes in
+      let times = part_in (parts_of r.stored_whole.batches r.stored_whole.line r.stored_whole.interval) part.TimeIndex in
+      let first : first_offset r.stored_whole.batches ≡ r.entry.start = first_is r.entry.start r.stored_whole.batches d.some d.is.consecutive in
       let same : bytes ≡ times = one_some (Some bytes) bytes times refl g.given_is in
       let all : short_of spot.1 bytes ≡ None = ap (short_of spot.1) same ∙ not_short spot.1.at spot.1.len times g.whole in
       let none = subst (λ (end : Option ℕ). TimesBytes end asked cursor piece spot.0 spot.1 bytes (Ok (Ends (Damaged place at)))) all k in
-      none.1 (time_index_of r.entry.start r.held.interval (placed_from 0 r.held.batches)).entries (times_rise r.entry.start r.held.interval r.held.batches d.is)
-      (same ∙ ap (λ (m : ℕ). bytes_of moment_bytes (time_index_of m r.held.interval (placed_from 0 r.held.batches)).entries) first)
+      none.1 (time_index_of r.entry.start r.stored_whole.interval (placed_from 0 r.stored_whole.batches)).entries (times_rise r.entry.start r.stored_whole.interval r.stored_whole.batches d.is)
+      (same ∙ ap (λ (m : ℕ). bytes_of moment_bytes (time_index_of m r.stored_whole.interval (placed_from 0 r.stored_whole.batches)).entries) first)
 
   times_damage : (c : Scene) (p : Plain) (a b : ℕ) (tier_view : BrokerTierView) (x : Broker) (stops epoch : ℕ) (asked : Asked) (line : List (ℕ × ℕ)) (cursor : ℕ) (piece : Piece) (ns : meta.Content) (view : EntriesSeen)
       (cache : Cache) (old new : S) (spot : Option (ℕ × Spot)) (place : Place) (at : ℕ)

@@ -67,28 +67,28 @@ in_greatest (x ∷ xs) b (inl here) = subst (λ (c : List ℕ). max_ts_of c ≤�
 in_greatest (x ∷ xs) b (inr there) = in_from_greatest (max_ts_of x) xs b there
 
 -- so a segment whose entry's is too early has no later batch
-pub copy_early : (c : Scene) (p : Plain) (x : Broker) (piece : Piece) (ts : ℤ) → (r : FetchReads c p x piece) → int_lt r.entry.max_ts ts ≡ true → (b : List ℕ) → In b r.held.batches → max_ts_of b <ℤ ts
+pub copy_early : (c : Scene) (p : Plain) (x : Broker) (piece : Piece) (ts : ℤ) → (r : FetchReads c p x piece) → int_lt r.entry.max_ts ts ≡ true → (b : List ℕ) → In b r.stored_whole.batches → max_ts_of b <ℤ ts
 copy_early c p x piece ts r early b there =
     lt_then (max_ts_of b) r.entry.max_ts ts
-    (subst (λ (t : ℤ). max_ts_of b ≤ℤ t) (sym r.held.describes.max_ts_is) (in_greatest r.held.batches b there)) early
+    (subst (λ (t : ℤ). max_ts_of b ≤ℤ t) (sym r.stored_whole.describes.max_ts_is) (in_greatest r.stored_whole.batches b there)) early
 
 -- pieces
 
 -- a batch of the log that ends in a piece is one of its copy
 pub of_piece : (c : Scene) (p : Plain) (n : ℕ) (x : Broker) (piece : Piece) → PlainSafe p → slice_get p.brokers n ≡ Some x → (r : FetchReads c p x piece) → (b : List ℕ) → In b x.log
-    → piece.from ≤ last_of b → last_of b < piece.to → In b r.held.batches
+    → piece.from ≤ last_of b → last_of b < piece.to → In b r.stored_whole.batches
 of_piece c p n x piece s bx r b there low high =
-    let part = r.held.describes.part in
-    let safe = has_safe p part.epoch (whole_of r.held) s part.begins in
-    let own = consecutive_prefix 0 part.front (whole_of r.held) (r.held.batches, refl) safe.consecutive in
+    let part = r.stored_whole.describes.part in
+    let safe = has_safe p part.epoch (whole_of r.stored_whole) s part.begins in
+    let own = consecutive_prefix 0 part.front (whole_of r.stored_whole) (r.stored_whole.batches, refl) safe.consecutive in
     let shares = r.shares in
     let past = shares.past in
     let within = r.within in
     let ends = part.ends in
     let log = (s.brokers n x bx).log.consecutive in
     let first = in_beginning 0 shares.front shares.two.0 b (subst (IsConsecutive 0) (sym shares.two.1) log) (subst (λ (l : List (List ℕ)). In b l) (sym shares.two.1) there) (omega (arith, past, high)) in
-    let whole : In b (whole_of r.held) = subst (λ (l : List (List ℕ)). In b l) shares.one.1 (in_front b shares.front shares.one.0 first) in
-    in_rest 0 part.front r.held.batches b own whole (omega (arith, ends, within.0, low))
+    let whole : In b (whole_of r.stored_whole) = subst (λ (l : List (List ℕ)). In b l) shares.one.1 (in_front b shares.front shares.one.0 first) in
+    in_rest 0 part.front r.stored_whole.batches b own whole (omega (arith, ends, within.0, low))
 
 -- a piece ends within the log
 pub piece_within : (c : Scene) (p : Plain) (n : ℕ) (x : Broker) (piece : Piece) → PlainSafe p → slice_get p.brokers n ≡ Some x → FetchReads c p x piece → piece.to ≤ end_of x.log

@@ -122,7 +122,7 @@ cursor_below cursor (Some moment) = go cursor (moment.1 + 1)
 -- a piece whose time index was read
 timed : (c : Scene) (p : Plain) (a b : ℕ) (tier_view : BrokerTierView) (x : Broker) (stops epoch : ℕ) (asked : Asked) (line : List (ℕ × ℕ)) (cursor at : ℕ) (piece : Piece) (then : SearchStep) (s : store.Content)
     (n : meta.Content) (view : EntriesSeen) (cache : Cache) (index : TimeTable) → IsAtSearch c p a b tier_view x stops epoch asked line cursor (ReadsTimes piece) s n view cache → cursor < piece.to
-    → (r : FetchReads c p x piece) → piece.from ≤ cursor → index ≡ time_index_of r.entry.start r.held.interval (placed_from 0 r.held.batches)
+    → (r : FetchReads c p x piece) → piece.from ≤ cursor → index ≡ time_index_of r.entry.start r.stored_whole.interval (placed_from 0 r.stored_whole.batches)
     → Goes (at, then) ≡ shown asked cursor piece (from_of cursor (below_time index asked.ts)) → Dated p x asked cursor at then
 timed c p a b tier_view x stops epoch asked line cursor at piece then s n view cache index h set r first is turn = by (nat_lt from top) refl turn
   where
@@ -138,8 +138,8 @@ timed c p a b tier_view x stops epoch asked line cursor at piece then s n view c
         let inside = piece_within c p b x piece h.safe.plain h.broker_is r in
         passed_more asked.ts p.registry.start cursor to x.log (h.safe.plain.brokers b x h.broker_is).log.consecutive h.dated.cursor (omega (arith, within, inside)) (λ batch there behind before.
         (let k = front_of asked 0 0 cursor (last_of batch) (below_time index asked.ts) behind (omega (arith, before, low)) in
-        let found : below_time (time_index_of r.entry.start r.held.interval (placed_from 0 r.held.batches)) asked.ts ≡ Some k.0 = ap (λ (t : TimeTable). below_time t asked.ts) (sym is) ∙ k.1 in
-        shown_early asked.ts r.entry.start r.held.interval r.held.batches k.0 r.held.describes.is found batch
+        let found : below_time (time_index_of r.entry.start r.stored_whole.interval (placed_from 0 r.stored_whole.batches)) asked.ts ≡ Some k.0 = ap (λ (t : TimeTable). below_time t asked.ts) (sym is) ∙ k.1 in
+        shown_early asked.ts r.entry.start r.stored_whole.interval r.stored_whole.batches k.0 r.stored_whole.describes.is found batch
         (of_piece c p b x piece h.safe.plain h.broker_is r batch there (omega (arith, first, behind)) (omega (arith, before, within))) k.2))
 
     by : (t : Bool) → nat_lt from top ≡ t → Goes (at, then) ≡ cond t (Goes (cursor, Index piece from)) (Goes (top, Seek)) → Dated p x asked cursor at then
@@ -275,12 +275,12 @@ module _ {S M : Type 0} (objects : S → store.Content) (calls : S → Control s
           let r = copy_of c p a b tier_view x stops epoch (wanted_at asked cursor) line (fetching.Index piece) (objects old) ns view cache piece turn refl in
           let g = gives c p a b tier_view x stops epoch (wanted_at asked cursor) line (fetching.Index piece) (objects old) ns view cache piece part.TimeIndex place (λ b. b) (Some bytes)
           tt turn refl there (gets.bytes h.shows.store_tells) r in
-          let spelled : bytes ≡ part_in (parts_of r.held.batches r.held.line r.held.interval) part.TimeIndex =
-          one_some (Some bytes) bytes (part_in (parts_of r.held.batches r.held.line r.held.interval) part.TimeIndex) refl g.given_is in
-          let first : first_offset r.held.batches ≡ r.entry.start = first_is r.entry.start r.held.batches r.held.describes.some r.held.describes.is.consecutive in
-          let same : bytes_of moment_bytes t.index.entries ≡ bytes_of moment_bytes (time_index_of r.entry.start r.held.interval (placed_from 0 r.held.batches)).entries =
-          sym t.bytes_are ∙ spelled ∙ ap (λ (n : ℕ). bytes_of moment_bytes (time_index_of n r.held.interval (placed_from 0 r.held.batches)).entries) first in
-          let index = times_read t.index r.entry.start r.held.interval r.held.batches r.held.describes.is (t.base_is ∙ g.start_is) t.rises same in
+          let spelled : bytes ≡ part_in (parts_of r.stored_whole.batches r.stored_whole.line r.stored_whole.interval) part.TimeIndex =
+          one_some (Some bytes) bytes (part_in (parts_of r.stored_whole.batches r.stored_whole.line r.stored_whole.interval) part.TimeIndex) refl g.given_is in
+          let first : first_offset r.stored_whole.batches ≡ r.entry.start = first_is r.entry.start r.stored_whole.batches r.stored_whole.describes.some r.stored_whole.describes.is.consecutive in
+          let same : bytes_of moment_bytes t.index.entries ≡ bytes_of moment_bytes (time_index_of r.entry.start r.stored_whole.interval (placed_from 0 r.stored_whole.batches)).entries =
+          sym t.bytes_are ∙ spelled ∙ ap (λ (n : ℕ). bytes_of moment_bytes (time_index_of n r.stored_whole.interval (placed_from 0 r.stored_whole.batches)).entries) first in
+          let index = times_read t.index r.entry.start r.stored_whole.interval r.stored_whole.batches r.stored_whole.describes.is (t.base_is ∙ g.start_is) t.rises same in
           let stood = (h.safe.tier.fetches a (sought_of b stops epoch cursor (fetching.Index piece)) tier_view x turn.shows.actor_state turn.shows.tier_view_is turn.broker_is).piece piece refl turn.leads turn.past in
           timed c p a b tier_view x stops epoch asked line cursor at piece then (objects old) ns view cache t.index h set r stood.holds.0 index t.turn_is
 

@@ -47,7 +47,7 @@ use Rattle.time_find.specs.declared.turn.SearchStep.{SearchStep}
 use Rattle.time_find.specs.declared.turn.SearchStep.TheVariants.{Seek, Times, Index, Log}
 use Rattle.time_find.specs.Passing.{top_in, top_of, SeeksPiece, Seeks}
 use Rattle.time_find.specs.Turns.{from_of, shown, TimesBytes, Times as Timed, wanted_at, Indexes, SearchTakes, SeekRow, TimesRow, SearchIndexRow, SearchLogRow}
-use Rattle.laws_time_find.specs.Searching.{search_of, search_work, search_after, IsAtSearch}
+use Rattle.laws_time_find.specs.Searching.{search_of, search_tier_task, search_after, IsAtSearch}
 use Rattle.laws_time_find.specs.Turns.{SearchTurnsChange}
 
 -- a search that has taken up a piece is a fetch there
@@ -112,7 +112,7 @@ takes c p a b tier_view x stops epoch asked line cursor s n view cache after at 
 seeks : (c : Scene) (p : Plain) (a b : ℕ) (tier_view : BrokerTierView) (x : Broker) (stops epoch : ℕ) (asked : Asked) (line : List (ℕ × ℕ)) (cursor : ℕ) (s : store.Content) (n : meta.Content) (view : EntriesSeen)
     (cache : Cache) (after : EntriesSeen) (turn : Turn (ℕ × SearchStep)) → IsAtSearch c p a b tier_view x stops epoch asked line cursor Seek s n view cache → after ≡ view_of c.notes
     → Seeks asked line after cursor turn → IsChanged c p (after_turn c a b tier_view Free c.objects c.notes after)
-    → IsChanged c p (after_turn c a b tier_view (search_work b stops epoch turn) c.objects c.notes after)
+    → IsChanged c p (after_turn c a b tier_view (search_tier_task b stops epoch turn) c.objects c.notes after)
 seeks c p a b tier_view x stops epoch asked line cursor s n view cache after (Goes (at, Seek)) h all k base = base
 seeks c p a b tier_view x stops epoch asked line cursor s n view cache after (Goes (at, Times piece)) h all k base =
     takes c p a b tier_view x stops epoch asked line cursor s n view cache after at piece h all k base
@@ -168,11 +168,11 @@ from_up cursor (Some moment) = omega arith
 -- what an index shows
 shows_on : (c : Scene) (p : Plain) (a b : ℕ) (tier_view : BrokerTierView) (x : Broker) (stops epoch : ℕ) (asked : Asked) (line : List (ℕ × ℕ)) (cursor : ℕ) (piece : Piece) (s : store.Content) (n : meta.Content)
     (view : EntriesSeen) (cache : Cache) (from : ℕ) → IsAtSearch c p a b tier_view x stops epoch asked line cursor (Times piece) s n view cache → cursor ≤ from
-    → IsChanged c p (after_turn c a b tier_view (search_work b stops epoch (shown asked cursor piece from)) c.objects c.notes tier_view.view)
+    → IsChanged c p (after_turn c a b tier_view (search_tier_task b stops epoch (shown asked cursor piece from)) c.objects c.notes tier_view.view)
 shows_on c p a b tier_view x stops epoch asked line cursor piece s n view cache from h up = by (nat_lt from (top_of asked piece)) refl
   where
     by : (t : Bool) → nat_lt from (top_of asked piece) ≡ t
-        → IsChanged c p (after_turn c a b tier_view (search_work b stops epoch (cond t (Goes (cursor, Index piece from)) (Goes (top_of asked piece, Seek)))) c.objects c.notes tier_view.view)
+        → IsChanged c p (after_turn c a b tier_view (search_tier_task b stops epoch (cond t (Goes (cursor, Index piece from)) (Goes (top_of asked piece, Seek)))) c.objects c.notes tier_view.view)
     by true is =
         let low : from < top_of asked piece = ltb-true from (top_of asked piece) is in
         skips c p a b tier_view x stops epoch asked line cursor piece s n view cache from h up (omega (arith, low))
@@ -244,7 +244,7 @@ module _ {S M : Type 0} (objects : S → store.Content) (calls : S → Control s
   -- one whose answer is reported
   ends_as : (c : Scene) (p : Plain) (a b : ℕ) (tier_view : BrokerTierView) (x : Broker) (stops epoch : ℕ) (asked : Asked) (line : List (ℕ × ℕ)) (cursor : ℕ) (piece : Piece) (result : Result (Turn (ℕ × SearchStep)) AllocError)
       (turn : Turn (ℕ × SearchStep)) (ns : meta.Content) (view : EntriesSeen) (cache : Cache) (old new : S) → IsAtSearch c p a b tier_view x stops epoch asked line cursor (Times piece) (objects old) ns view cache
-      → (objects new).objects ≡ (objects old).objects → search_work b stops epoch turn ≡ Free → result ≡ Ok turn
+      → (objects new).objects ≡ (objects old).objects → search_tier_task b stops epoch turn ≡ Free → result ≡ Ok turn
       → IsChanged c p (after_fetch c a b tier_view (search_after b stops epoch cursor (Times piece) result) (objects new).objects ns.notes view cache)
   ends_as c p a b tier_view x stops epoch asked line cursor piece result turn ns view cache old new h same free is =
       named c p a b tier_view _ _ (objects new).objects (objects new).objects ns.notes ns.notes view view cache cache
@@ -261,9 +261,9 @@ module _ {S M : Type 0} (objects : S → store.Content) (calls : S → Control s
       ends_as c p a b tier_view x stops epoch asked line cursor piece result (Ends (Damaged (Key spot.key) end)) ns view cache old new h same refl k
   bytes_turn None c p a b tier_view x stops epoch asked line cursor piece (Ok (Goes (at, next))) ns view cache old new base spot bytes h same k =
       let from = from_of cursor (below_time k.index asked.ts) in
-      quiet c p a b tier_view (Fetches (sought_of b stops epoch cursor (fetch.Index piece))) (search_work b stops epoch (Goes (at, next))) (objects old) ns view cache (objects new).objects ns.notes view cache
+      quiet c p a b tier_view (Fetches (sought_of b stops epoch cursor (fetch.Index piece))) (search_tier_task b stops epoch (Goes (at, next))) (objects old) ns view cache (objects new).objects ns.notes view cache
       h.shows h.cache_is
-      (subst (λ (turn : Turn (ℕ × SearchStep)). IsChanged c p (after_turn c a b tier_view (search_work b stops epoch turn) c.objects c.notes tier_view.view)) (sym k.turn_is)
+      (subst (λ (turn : Turn (ℕ × SearchStep)). IsChanged c p (after_turn c a b tier_view (search_tier_task b stops epoch turn) c.objects c.notes tier_view.view)) (sym k.turn_is)
       (shows_on c p a b tier_view x stops epoch asked line cursor piece (objects old) ns view cache from h (from_up cursor (below_time k.index asked.ts))))
       same refl refl refl
   bytes_turn None c p a b tier_view x stops epoch asked line cursor piece (Ok (Ends answer)) ns view cache old new base spot bytes h same k =

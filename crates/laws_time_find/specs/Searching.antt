@@ -33,23 +33,25 @@ abbrev pub search_of : ℕ → ℕ → ℕ → ℕ → SearchStep → TierTask
 search_of broker stops epoch cursor Seek = Free
 search_of broker stops epoch cursor (Times piece) = Seeks (sought_of broker stops epoch cursor (fetch.Index piece))
 search_of broker stops epoch cursor (Index piece from) = Seeks (sought_of broker stops epoch from (fetch.Index piece))
-search_of broker stops epoch cursor (Log piece from span) = Seeks (sought_of broker stops epoch from (fetch.Log piece span))
+search_of broker stops epoch cursor (Log piece from span) = Seeks
+    (sought_of broker stops epoch from (fetch.Log piece span))
 
 -- after a turn
-abbrev pub search_work : ℕ → ℕ → ℕ → Turn (ℕ × SearchStep) → TierTask
-search_work broker stops epoch (Goes (cursor, next)) = search_of broker stops epoch cursor next
-search_work broker stops epoch (Ends answer) = Free
+abbrev pub search_tier_task : ℕ → ℕ → ℕ → Turn (ℕ × SearchStep) → TierTask
+search_tier_task broker stops epoch (Goes (cursor, next)) = search_of broker stops epoch cursor next
+search_tier_task broker stops epoch (Ends answer) = Free
 
 -- after one that may have run out of memory, and then is taken again
 abbrev pub search_after : ℕ → ℕ → ℕ → ℕ → SearchStep → Result (Turn (ℕ × SearchStep)) AllocError → TierTask
-search_after broker stops epoch cursor next (Ok turn) = search_work broker stops epoch turn
+search_after broker stops epoch cursor next (Ok turn) = search_tier_task broker stops epoch turn
 search_after broker stops epoch cursor next (Err e) = search_of broker stops epoch cursor next
 
 -- actor a's search is at this turn, at broker b, in a tier that shows devices, view and cache, and the broker still
 -- leads
 pub record IsAtSearch (c : Scene) (p : Plain) (a b : ℕ) (tier_view : BrokerTierView) (x : Broker) (stops epoch : ℕ)
     (asked : Asked)
-    (line : List (ℕ × ℕ)) (cursor : ℕ) (next : SearchStep) (objects : store.Content) (notes : meta.Content) (view : EntriesSeen) (cache : Cache)
+    (line : List (ℕ × ℕ)) (cursor : ℕ) (next : SearchStep) (objects : store.Content) (notes : meta.Content)
+    (view : EntriesSeen) (cache : Cache)
     : Type 0 where
   pub safe : BothSafe c p
   pub few : length c.notes < 2 ^ 64

@@ -11,7 +11,7 @@ use Rattle.registry.specs.declared.registry.Registry.{Registry}
 use Rattle.broker_log.specs.Seen.{LogState, Up, Down, Away, LogSeen, ShowsSeen, ShowsClosed, LogStays, OnDisk, is_up}
 use Rattle.partition_commands.specs.declared.partition_state.Node.{Node}
 use Rattle.partition_commands.specs.declared.partition_state.PartitionState.{PartitionState}
-use Rattle.partition_commands.specs.Cold.{cold_node, node_back, held_back, ShowDisks, DisksReopen, IsColdOver, AreColdOver, IsColdPartition}
+use Rattle.partition_commands.specs.Cold.{cold_node, node_back, partition_back, ShowDisks, DisksReopen, IsColdOver, AreColdOver, IsColdPartition}
 use Rattle.partition_commands.specs.Disks.{AllReopen}
 use Rattle.partition_commands.specs.Fresh.{AreDisksOf}
 use Rattle.partition_commands.specs.Partition.{node_of, ShowNodes, ShowsPartition}
@@ -84,7 +84,7 @@ module _ {D : Type 0} (content : D → Content) (control : D → Control call_co
     cold_nodes_shown settings disks xs ss c.1 s.1,
   )
 
-  pub cold_shown : (settings : Settings) (registry : Registry) (disks : List D) (h : PartitionState D) (ss : List LogSeen) → IsColdPartition content control settings registry disks h → ShowDisks content disks ss → ShowsPartition content h (held_back registry ss)
+  pub cold_shown : (settings : Settings) (registry : Registry) (disks : List D) (h : PartitionState D) (ss : List LogSeen) → IsColdPartition content control settings registry disks h → ShowDisks content disks ss → ShowsPartition content h (partition_back registry ss)
   cold_shown settings registry disks h ss c s = record {
     registry = sym c.registry_is;
     nodes = cold_nodes_shown settings disks h.nodes ss c.nodes s;

@@ -31,20 +31,20 @@ use Rattle.partition_commands.proofs.Shown.{stays, rests, fails, end_shown, loca
 module _ {D : Type 0} (content : D → Content) (control : D → Control call_code) where
   in_log : (h : PartitionState D) (a : seen.SeenPartition) (b : ℕ) (x : Node D) (s : log.LogSeen) (offset : ℕ) → Sees content h a b x s → is_up x ≡ true → IsInLog h x offset → seen_log.IsInLog a (node_of x s) offset
   in_log h a b x s offset v up w =
-      (subst (λ (r : Registry). r.start ≤ offset) (sym v.held.registry) w.0, subst (λ (n : ℕ). offset ≤ n) (end_shown content x s up v.shows) w.1)
+      (subst (λ (r : Registry). r.start ≤ offset) (sym v.partition_state.registry) w.0, subst (λ (n : ℕ). offset ≤ n) (end_shown content x s up v.shows) w.1)
 
   is_local : (h : PartitionState D) (a : seen.SeenPartition) (b : ℕ) (x : Node D) (s : log.LogSeen) (offset : ℕ) → Sees content h a b x s → is_up x ≡ true → IsLocal h x offset → seen_log.IsLocal a (node_of x s) offset
   is_local h a b x s offset v up w = (in_log h a b x s offset v up w.0, subst (λ (n : ℕ). n ≤ offset) (local_shown content x s up v.shows) w.1)
 
   fetch_refined : (h : PartitionState D) (a : seen.SeenPartition) (b : ℕ) (x : Node D) (s : log.LogSeen) (offset limit : ℕ) (answer : Answer) (h' : PartitionState D) → Sees content h a b x s
       → seen_sound.NodeSound (node_of x s) → FetchRow content control h b x offset limit answer h' → Refines content h' (λ c. seen_log.FetchRow a (node_of x s) offset limit answer c)
-  fetch_refined h a b x s offset limit Down h' v k w = stays content control h a h' _ v.held w.1 (w.0, refl)
-  fetch_refined h a b x s offset limit NotLeader h' v k w = stays content control h a h' _ v.held w.2 (w.0, w.1, refl)
+  fetch_refined h a b x s offset limit Down h' v k w = stays content control h a h' _ v.partition_state w.1 (w.0, refl)
+  fetch_refined h a b x s offset limit NotLeader h' v k w = stays content control h a h' _ v.partition_state w.2 (w.0, w.1, refl)
   fetch_refined h a b x s offset limit (OutOfRange start end) h' v k w =
-      stays content control h a h' _ v.held w.5
-      (w.0, w.1, w.2, w.3 ∙ ap (λ (r : Registry). r.start) (sym v.held.registry), w.4 ∙ end_shown content x s w.0 v.shows, refl)
+      stays content control h a h' _ v.partition_state w.5
+      (w.0, w.1, w.2, w.3 ∙ ap (λ (r : Registry). r.start) (sym v.partition_state.registry), w.4 ∙ end_shown content x s w.0 v.shows, refl)
   fetch_refined h a b x s offset limit Empty h' v k w =
-      stays content control h a h' _ v.held w.4 (w.0, w.1, in_log h a b x s offset v w.0 w.2, w.3, refl)
+      stays content control h a h' _ v.partition_state w.4 (w.0, w.1, in_log h a b x s offset v w.0 w.2, w.3, refl)
   fetch_refined h a b x s offset limit (Run tier size stop bytes) h' v k w =
       let g = w.4 in
       let r = g.reads.run s v.shows k.known_high_watermark in
@@ -71,7 +71,7 @@ module _ {D : Type 0} (content : D → Content) (control : D → Control call_co
       → seen_sound.NodeSound (node_of x s) → FetchTurn content control h b x offset limit turned h' → Refines content h' (λ c. seen_rows.FirstRow a b (node_of x s) (Fetch offset limit) turned c)
   fetch_turn_refined h a b x s offset limit (Answers answer) h' v k w = fetch_refined h a b x s offset limit answer h' v k w
   fetch_turn_refined h a b x s offset limit (Begins g) h' v k w =
-      stays content control h a h' _ v.held w.6 (
+      stays content control h a h' _ v.partition_state w.6 (
         w.0,
         w.1,
         in_log h a b x s offset v w.0 w.2,

@@ -37,7 +37,7 @@ use Rattle.laws_partition.specs.declared.start_snapshot.StartSnapshot.{StartSnap
 use Rattle.laws_partition.specs.declared.start_snapshot.Turned.{Turned}
 use Rattle.laws_partition.specs.declared.start_snapshot.Turned.TheVariants.{Answers, Begins}
 use Rattle.laws_partition.specs.Seen as seen
-use Rattle.laws_partition.specs.Partition as seen_held
+use Rattle.laws_partition.specs.Partition as seen_partition
 use Rattle.laws_partition.specs.Log.{IsRunOf, MayTakeEpoch, entered, epoch_in}
 use Rattle.laws_partition.specs.RowsOfFollowers as seen_rows
 use Rattle.laws_partition.specs.Sound as seen_sound
@@ -56,7 +56,7 @@ use Rattle.partition_commands.proofs.Shown.{some_at, sees_at, shown_none, shown_
 
 -- where the logs meet is an end of the follower's log
 abbrev pub MeetsEnd : seen.SeenPartition → seen.Node → Type 0
-MeetsEnd a x = (y : seen.Node) (m : ℕ) → seen_held.the_leader a ≡ Some y → seen_rows.IsMeet x y m → EndsAt m x.log.batches
+MeetsEnd a x = (y : seen.Node) (m : ℕ) → seen_partition.the_leader a ≡ Some y → seen_rows.IsMeet x y m → EndsAt m x.log.batches
 
 -- a line of batches has no entry past their end
 line_same : (line : List (ℕ × ℕ)) (whole : List (List ℕ)) (n : ℕ) → line ≡ epochs_of whole → IsConsecutive 0 whole → end_of_log whole ≡ n → cut_end line (n + 1) ≡ epochs_of whole
@@ -133,44 +133,44 @@ module _ {D : Type 0} (content : D → Content) (control : D → Control call_co
     log_seen : log.LogSeen
     sees : Sees content h a h.registry.leader.0 y log_seen
     up : is_up y ≡ true
-    is : seen_held.the_leader a ≡ Some (node_of y log_seen)
+    is : seen_partition.the_leader a ≡ Some (node_of y log_seen)
 
   sees_leader : (h : PartitionState D) (a : seen.SeenPartition) (y : Node D) → ShowsPartition content h a → the_leader h ≡ Some y → SeesLeader h a y
-  sees_leader h a y held is =
+  sees_leader h a y partition_state is =
       let one = and_then_some (λ y. when (is_up y && leads_in h.registry.epoch y.role) y) (slice_get h.nodes h.registry.leader.0) y is in
       let w = when_some (is_up one.0 && leads_in h.registry.epoch one.0.role) one.0 y one.2 in
       let test : is_up y && leads_in h.registry.epoch y.role ≡ true = subst (λ (z : Node D). is_up z && leads_in h.registry.epoch z.role ≡ true) w.1 w.0 in
       let at : slice_get h.nodes h.registry.leader.0 ≡ Some y = one.1 ∙ ap (λ (z : Node D). Some z) w.1 in
-      let v = sees_at content control h a h.registry.leader.0 y held at in
+      let v = sees_at content control h a h.registry.leader.0 y partition_state at in
       record {
         log_seen = v.0;
         sees = v.1;
         up = (both (is_up y) (leads_in h.registry.epoch y.role) test).0;
-        is = ap (λ (r : Registry). option_and_then (λ (z : seen.Node). when (z.up && leads_in r.epoch z.role) z) (slice_get a.nodes r.leader.0)) held.registry
+        is = ap (λ (r : Registry). option_and_then (λ (z : seen.Node). when (z.up && leads_in r.epoch z.role) z) (slice_get a.nodes r.leader.0)) partition_state.registry
             ∙ (ap (option_and_then (λ (z : seen.Node). when (z.up && leads_in h.registry.epoch z.role) z)) v.1.there
             ∙ when_true (is_up y && leads_in h.registry.epoch y.role) (node_of y v.0) test);
       }
 
   stale_shown : (h : PartitionState D) (a : seen.SeenPartition) (e : Option ℕ) → ShowsPartition content h a → IsStale h e → seen_rows.IsStale a e
-  stale_shown h a e held k = subst (λ (r : Registry). IsSomeAnd e (λ e. e < r.epoch)) (sym held.registry) k
+  stale_shown h a e partition_state k = subst (λ (r : Registry). IsSomeAnd e (λ e. e < r.epoch)) (sym partition_state.registry) k
 
   unstale_shown : (h : PartitionState D) (a : seen.SeenPartition) (e : Option ℕ) → ShowsPartition content h a → (IsStale h e → ⊥) → seen_rows.IsStale a e → ⊥
-  unstale_shown h a e held k m = k (subst (λ (r : Registry). IsSomeAnd e (λ e. e < r.epoch)) held.registry m)
+  unstale_shown h a e partition_state k m = k (subst (λ (r : Registry). IsSomeAnd e (λ e. e < r.epoch)) partition_state.registry m)
 
   current_shown : (h : PartitionState D) (a : seen.SeenPartition) (e : Option ℕ) → ShowsPartition content h a → IsCurrent h e → seen_rows.IsCurrent a e
-  current_shown h a e held k = subst (λ (r : Registry). IsSomeAnd e (λ e. r.epoch ≤ e)) (sym held.registry) k
+  current_shown h a e partition_state k = subst (λ (r : Registry). IsSomeAnd e (λ e. r.epoch ≤ e)) (sym partition_state.registry) k
 
   epoch_shown : (h : PartitionState D) (a : seen.SeenPartition) (n : ℕ) → ShowsPartition content h a → n ≡ h.registry.epoch → n ≡ a.registry.epoch
-  epoch_shown h a n held is = is ∙ ap (λ (r : Registry). r.epoch) (sym held.registry)
+  epoch_shown h a n partition_state is = is ∙ ap (λ (r : Registry). r.epoch) (sym partition_state.registry)
 
-  leaderless : (h : PartitionState D) (a : seen.SeenPartition) → ShowsPartition content h a → the_leader h ≡ None → seen_held.the_leader a ≡ None
-  leaderless h a held is = shown_none content (the_leader h) (seen_held.the_leader a) (shown_leader content h a held) is
+  leaderless : (h : PartitionState D) (a : seen.SeenPartition) → ShowsPartition content h a → the_leader h ≡ None → seen_partition.the_leader a ≡ None
+  leaderless h a partition_state is = shown_none content (the_leader h) (seen_partition.the_leader a) (shown_leader content h a partition_state) is
 
   -- join
 
   rebuild_shown : (h : PartitionState D) (a : seen.SeenPartition) (b : ℕ) (x : Node D) (s : log.LogSeen) (g : StartSnapshot) → Sees content h a b x s → MayRebuild h x g → seen_rows.MayRebuild a (node_of x s) g
   rebuild_shown h a b x s g v w =
-      ((w.0.0, unstale_shown h a (followed g.role) v.held w.0.2), (w.1.0 ∙ end_shown content x s w.0.1 v.shows, w.1.1), λ k. w.2 (k.0, subst (λ (r : Registry). g.wanted ≤ r.start) v.held.registry k.1))
+      ((w.0.0, unstale_shown h a (followed g.role) v.partition_state w.0.2), (w.1.0 ∙ end_shown content x s w.0.1 v.shows, w.1.1), λ k. w.2 (k.0, subst (λ (r : Registry). g.wanted ≤ r.start) v.partition_state.registry k.1))
 
   -- batches that the log begins have what is flushed of it
   flushed_end_same : (x : Node D) (s : log.LogSeen) (m : ℕ) (whole : List (List ℕ)) → seen_sound.NodeSound (node_of x s) → LeadsTo whole m → IsPrefix s.batches whole → up_to s.flushed_end whole ≡ up_to s.flushed_end s.batches
@@ -187,15 +187,15 @@ module _ {D : Type 0} (content : D → Content) (control : D → Control call_co
 
   pub join_refined : (h : PartitionState D) (a : seen.SeenPartition) (b : ℕ) (x : Node D) (s : log.LogSeen) (turned : Turned) (h' : PartitionState D) → Sees content h a b x s → MeetsEnd a (node_of x s)
       → JoinRow content control h b x turned h' → Refines content h' (λ c. seen_rows.JoinRow a b (node_of x s) turned c)
-  join_refined h a b x s (Answers Down) h' v k w = stays content control h a h' _ v.held w.1 (w.0, refl)
-  join_refined h a b x s (Answers NotFollower) h' v k w = stays content control h a h' _ v.held w.2 (w.0, w.1, refl)
+  join_refined h a b x s (Answers Down) h' v k w = stays content control h a h' _ v.partition_state w.1 (w.0, refl)
+  join_refined h a b x s (Answers NotFollower) h' v k w = stays content control h a h' _ v.partition_state w.2 (w.0, w.1, refl)
   join_refined h a b x s (Answers (StaleEpoch n)) h' v k w =
-      stays content control h a h' _ v.held w.3 (w.0, stale_shown h a (followed x.role) v.held w.1, epoch_shown h a n v.held w.2, refl)
+      stays content control h a h' _ v.partition_state w.3 (w.0, stale_shown h a (followed x.role) v.partition_state w.1, epoch_shown h a n v.partition_state w.2, refl)
   join_refined h a b x s (Answers NoLeader) h' v k w =
-      stays content control h a h' _ v.held w.3 (w.0, current_shown h a (followed x.role) v.held w.1, leaderless h a v.held w.2, refl)
+      stays content control h a h' _ v.partition_state w.3 (w.0, current_shown h a (followed x.role) v.partition_state w.1, leaderless h a v.partition_state w.2, refl)
   join_refined h a b x s (Answers (Cut n)) h' v k w =
       let y = some_of _ (the_leader h) w.2 in
-      let l = sees_leader h a y.0 v.held y.1 in
+      let l = sees_leader h a y.0 v.partition_state y.1 in
       let e = y.2.0 in
       let met = y.2.1 in
       let g = y.2.5 in
@@ -206,14 +206,14 @@ module _ {D : Type 0} (content : D → Content) (control : D → Control call_co
       puts content control h a b x s h' _ (record x { role = Joined e; log = g.kept; known_high_watermark = min x.known_high_watermark n }) t.0 (seen_rows.cut_node (node_of x s) e met) v t.1
       (joined_node x g.kept s t.0 e n met (up_of_end content g.kept n g.cuts.end_is ∙ sym w.0) t.2.0 end) g.after (
         w.0,
-        current_shown h a (followed x.role) v.held w.1,
+        current_shown h a (followed x.role) v.partition_state w.1,
         some_at (λ (z : seen.Node). (e m : ℕ) × (followed x.role ≡ Some e) × seen_rows.IsMeet (node_of x s) z m × (n ≡ end_of_log (up_to m s.batches)) × (z.local ≤ n)
-            × (seen_held.put_node a b (seen_rows.cut_node (node_of x s) y.2.0 met) ≡ seen_held.put_node a b (seen_rows.cut_node (node_of x s) e m)))
-            (seen_held.the_leader a) (node_of y.0 l.log_seen) l.is (e, met, y.2.2, meet, end, low, refl),
+            × (seen_partition.put_node a b (seen_rows.cut_node (node_of x s) y.2.0 met) ≡ seen_partition.put_node a b (seen_rows.cut_node (node_of x s) e m)))
+            (seen_partition.the_leader a) (node_of y.0 l.log_seen) l.is (e, met, y.2.2, meet, end, low, refl),
       )
   join_refined h a b x s (Answers (DiskFaultAt n)) h' v k w =
       let y = some_of _ (the_leader h) w.2 in
-      let l = sees_leader h a y.0 v.held y.1 in
+      let l = sees_leader h a y.0 v.partition_state y.1 in
       let e = y.2.0 in
       let met = y.2.1 in
       let meet = meets h a b x y.0 s met v w.0 l y.2.3 in
@@ -221,18 +221,18 @@ module _ {D : Type 0} (content : D → Content) (control : D → Control call_co
       let end : n ≡ end_of_log (up_to met s.batches) = y.2.4.0.is s v.shows may in
       let q = y.2.4.1 in
       let t = q.breaks.seen s v.shows may in
-      breaks_to content control h a b x s t.0 _ h' _ (seen_held.torn (node_of x s) (seen_rows.cut_back (node_of x s) met)) v q t.1
+      breaks_to content control h a b x s t.0 _ h' _ (seen_partition.torn (node_of x s) (seen_rows.cut_back (node_of x s) met)) v q t.1
       (torn_node x q.kept s (cut_back s met) q.breaks.down ∙ ap (node_of (record (stopped x) { log = q.kept })) (sym t.2)) (
         w.0,
-        current_shown h a (followed x.role) v.held w.1,
+        current_shown h a (followed x.role) v.partition_state w.1,
         some_at (λ (z : seen.Node). (e m : ℕ) × (followed x.role ≡ Some e) × seen_rows.IsMeet (node_of x s) z m × (n ≡ end_of_log (up_to m s.batches))
-            × (seen_held.put_node a b (seen_held.torn (node_of x s) (seen_rows.cut_back (node_of x s) met))
-            ≡ seen_held.put_node a b (seen_held.torn (node_of x s) (seen_rows.cut_back (node_of x s) m))))
-            (seen_held.the_leader a) (node_of y.0 l.log_seen) l.is (e, met, y.2.2, meet, end, refl),
+            × (seen_partition.put_node a b (seen_partition.torn (node_of x s) (seen_rows.cut_back (node_of x s) met))
+            ≡ seen_partition.put_node a b (seen_partition.torn (node_of x s) (seen_rows.cut_back (node_of x s) m))))
+            (seen_partition.the_leader a) (node_of y.0 l.log_seen) l.is (e, met, y.2.2, meet, end, refl),
       )
   join_refined h a b x s (Begins g) h' v k w =
       let y = some_of _ (the_leader h) w.2 in
-      let l = sees_leader h a y.0 v.held y.1 in
+      let l = sees_leader h a y.0 v.partition_state y.1 in
       let e = y.2.0 in
       let met = y.2.1 in
       let q = y.2.4 in
@@ -243,10 +243,10 @@ module _ {D : Type 0} (content : D → Content) (control : D → Control call_co
       puts content control h a b x s h' _ (record x { role = Joined e; log = q.cuts.kept; known_high_watermark = min x.known_high_watermark g.end }) t.0 (seen_rows.cut_node (node_of x s) e met) v t.1
       (joined_node x q.cuts.kept s t.0 e g.end met (up_of_end content q.cuts.kept g.end q.cuts.cuts.end_is ∙ sym w.0) t.2.0 end) q.cuts.after (
         w.0,
-        current_shown h a (followed x.role) v.held w.1,
+        current_shown h a (followed x.role) v.partition_state w.1,
         some_at (λ (z : seen.Node). (e m : ℕ) × (followed x.role ≡ Some e) × seen_rows.IsMeet (node_of x s) z m × seen_rows.Wants a (seen_rows.cut_node (node_of x s) e m) z g
-            × (seen_held.put_node a b (seen_rows.cut_node (node_of x s) y.2.0 met) ≡ seen_held.put_node a b (seen_rows.cut_node (node_of x s) e m)))
-            (seen_held.the_leader a) (node_of y.0 l.log_seen) l.is (
+            × (seen_partition.put_node a b (seen_rows.cut_node (node_of x s) y.2.0 met) ≡ seen_partition.put_node a b (seen_rows.cut_node (node_of x s) e m)))
+            (seen_partition.the_leader a) (node_of y.0 l.log_seen) l.is (
               e,
               met,
               y.2.2,
@@ -255,7 +255,7 @@ module _ {D : Type 0} (content : D → Content) (control : D → Control call_co
                 stops = q.stops;
                 role = q.role;
                 end = end;
-                start = q.start ∙ ap (λ (r : Registry). r.start) (sym v.held.registry);
+                start = q.start ∙ ap (λ (r : Registry). r.start) (sym v.partition_state.registry);
                 wanted = q.wanted ∙ local_shown content y.0 l.log_seen l.up l.sees.shows;
                 line = q.line ∙ ap (λ (k : List (ℕ × ℕ)). cut_end k g.wanted) line;
                 above = q.above;
@@ -269,18 +269,18 @@ module _ {D : Type 0} (content : D → Content) (control : D → Control call_co
 
   pub join_on_refined : (h : PartitionState D) (a : seen.SeenPartition) (b : ℕ) (x : Node D) (s : log.LogSeen) (g : StartSnapshot) (answer : Answer) (h' : PartitionState D) → Sees content h a b x s → seen_sound.NodeSound (node_of x s)
       → IsRebuilding a (node_of x s) g → JoinOnRow content control h b x g answer h' → Refines content h' (λ c. seen_rows.JoinOnRow a b (node_of x s) g answer c)
-  join_on_refined h a b x s g Stopped h' v n k w = stays content control h a h' _ v.held w.1 (halted w.0, refl)
+  join_on_refined h a b x s g Stopped h' v n k w = stays content control h a h' _ v.partition_state w.1 (halted w.0, refl)
     where
       halted : (g.stops ≢ x.stops) ⊎ (is_up x ≡ false) → g.stops ≢ x.stops
       halted (inl differs) = differs
       halted (inr down) = λ same. (let up = k.recorded same in absurd cc)
   join_on_refined h a b x s g (StaleEpoch m) h' v n k w =
-      stays content control h a h' _ v.held w.3 (w.0, stale_shown h a (followed g.role) v.held w.1, epoch_shown h a m v.held w.2, refl)
+      stays content control h a h' _ v.partition_state w.3 (w.0, stale_shown h a (followed g.role) v.partition_state w.1, epoch_shown h a m v.partition_state w.2, refl)
   join_on_refined h a b x s g (Passed m) h' v n k w =
-      stays content control h a h' _ v.held w.3 ((w.0.0, unstale_shown h a (followed g.role) v.held w.0.2), w.1 ∙ end_shown content x s w.0.1 v.shows, λ k. w.2 (k.0 ∙ sym (end_shown content x s w.0.1 v.shows), k.1), refl)
+      stays content control h a h' _ v.partition_state w.3 ((w.0.0, unstale_shown h a (followed g.role) v.partition_state w.0.2), w.1 ∙ end_shown content x s w.0.1 v.shows, λ k. w.2 (k.0 ∙ sym (end_shown content x s w.0.1 v.shows), k.1), refl)
   join_on_refined h a b x s g (BelowStart start) h' v n k w =
-      stays content control h a h' _ v.held w.5
-      ((w.0.0, unstale_shown h a (followed g.role) v.held w.0.2), (w.1.0 ∙ end_shown content x s w.0.1 v.shows, w.1.1), w.2 ∙ ap (λ (r : Registry). r.start) (sym v.held.registry), w.3, w.4, refl)
+      stays content control h a h' _ v.partition_state w.5
+      ((w.0.0, unstale_shown h a (followed g.role) v.partition_state w.0.2), (w.1.0 ∙ end_shown content x s w.0.1 v.shows, w.1.1), w.2 ∙ ap (λ (r : Registry). r.start) (sym v.partition_state.registry), w.3, w.4, refl)
   join_on_refined h a b x s g (DiskFaultAt m) h' v n k w =
       let may = rebuild_shown h a b x s g v w.0 in
       let y = k.leader in
@@ -294,7 +294,7 @@ module _ {D : Type 0} (content : D → Content) (control : D → Control call_co
       breaks_to content control h a b x s (unbuilt s whole (cut_end g.line (m + 1)) m) _ h' _ (seen_rows.unbuilt (node_of x s) whole m) v q shows (unbuilt_node x q.kept s whole (cut_end g.line (m + 1)) m q.breaks.down line) (
         may,
         w.1,
-        some_at (λ (z : seen.Node). seen_held.put_node a b (seen_rows.unbuilt (node_of x s) whole m) ≡ seen_held.put_node a b (seen_rows.unbuilt (node_of x s) (up_to m z.log.batches) m))
+        some_at (λ (z : seen.Node). seen_partition.put_node a b (seen_rows.unbuilt (node_of x s) whole m) ≡ seen_partition.put_node a b (seen_rows.unbuilt (node_of x s) (up_to m z.log.batches) m))
             (slice_get a.nodes a.registry.leader.0) y.0 y.1 refl,
       )
   join_on_refined h a b x s g (Rebuilt m) h' v n k w =
@@ -310,7 +310,7 @@ module _ {D : Type 0} (content : D → Content) (control : D → Control call_co
       (rebuilt_node x q.kept s whole (cut_end g.line (m + 1)) m (up_of_end content q.kept m q.restarts.end_is ∙ sym w.0.0.1) line) q.after (
         may,
         w.1,
-        some_at (λ (z : seen.Node). seen_held.put_node a b (seen_rows.rebuilt (node_of x s) whole m) ≡ seen_held.put_node a b (seen_rows.rebuilt (node_of x s) (up_to m z.log.batches) m))
+        some_at (λ (z : seen.Node). seen_partition.put_node a b (seen_rows.rebuilt (node_of x s) whole m) ≡ seen_partition.put_node a b (seen_rows.rebuilt (node_of x s) (up_to m z.log.batches) m))
             (slice_get a.nodes a.registry.leader.0) y.0 y.1 refl,
       )
   join_on_refined h a b x s g other h' v n k w = elim w [ ]
@@ -329,56 +329,56 @@ module _ {D : Type 0} (content : D → Content) (control : D → Control call_co
 
   pub follow_refined : (h : PartitionState D) (a : seen.SeenPartition) (b : ℕ) (x : Node D) (s : log.LogSeen) (limit : ℕ) (turned : Turned) (h' : PartitionState D) → Sees content h a b x s → AreSound a
       → FollowRow content control h b x limit turned h' → Refines content h' (λ c. seen_rows.FollowRow a b (node_of x s) limit turned c)
-  follow_refined h a b x s limit (Answers Down) h' v k w = stays content control h a h' _ v.held w.1 (w.0, refl)
-  follow_refined h a b x s limit (Answers NotJoined) h' v k w = stays content control h a h' _ v.held w.2 (w.0, w.1, refl)
+  follow_refined h a b x s limit (Answers Down) h' v k w = stays content control h a h' _ v.partition_state w.1 (w.0, refl)
+  follow_refined h a b x s limit (Answers NotJoined) h' v k w = stays content control h a h' _ v.partition_state w.2 (w.0, w.1, refl)
   follow_refined h a b x s limit (Answers (StaleEpoch n)) h' v k w =
-      stays content control h a h' _ v.held w.3 (w.0, stale_shown h a (joined_role x.role) v.held w.1, epoch_shown h a n v.held w.2, refl)
+      stays content control h a h' _ v.partition_state w.3 (w.0, stale_shown h a (joined_role x.role) v.partition_state w.1, epoch_shown h a n v.partition_state w.2, refl)
   follow_refined h a b x s limit (Answers NoLeader) h' v k w =
-      stays content control h a h' _ v.held w.3 (w.0, current_shown h a (joined_role x.role) v.held w.1, leaderless h a v.held w.2, refl)
+      stays content control h a h' _ v.partition_state w.3 (w.0, current_shown h a (joined_role x.role) v.partition_state w.1, leaderless h a v.partition_state w.2, refl)
   follow_refined h a b x s limit (Answers Level) h' v k w =
       let y = some_of _ (the_leader h) w.2 in
-      let l = sees_leader h a y.0 v.held y.1 in
+      let l = sees_leader h a y.0 v.partition_state y.1 in
       let level : end_of_log l.log_seen.batches ≤ end_of_log s.batches =
       (let low = y.2 in omega (arith, low, end_shown content x s w.0 v.shows, end_shown content y.0 l.log_seen l.up l.sees.shows)) in
-      stays content control h a h' _ v.held w.3 (
+      stays content control h a h' _ v.partition_state w.3 (
         w.0,
-        current_shown h a (joined_role x.role) v.held w.1,
-        some_at (λ (z : seen.Node). end_of_log z.log.batches ≤ end_of_log s.batches) (seen_held.the_leader a) (node_of y.0 l.log_seen) l.is level,
+        current_shown h a (joined_role x.role) v.partition_state w.1,
+        some_at (λ (z : seen.Node). end_of_log z.log.batches ≤ end_of_log s.batches) (seen_partition.the_leader a) (node_of y.0 l.log_seen) l.is level,
         refl,
       )
   follow_refined h a b x s limit (Answers (Moved n)) h' v k w =
       let y = some_of _ (the_leader h) w.2 in
-      let l = sees_leader h a y.0 v.held y.1 in
+      let l = sees_leader h a y.0 v.partition_state y.1 in
       let own = end_shown content x s w.0 v.shows in
       let end = end_shown content y.0 l.log_seen l.up l.sees.shows in
       let local = local_shown content y.0 l.log_seen l.up l.sees.shows in
-      stays content control h a h' _ v.held w.3 (
+      stays content control h a h' _ v.partition_state w.3 (
         w.0,
-        current_shown h a (joined_role x.role) v.held w.1,
-        some_at (λ (z : seen.Node). (end_of_log s.batches < end_of_log z.log.batches) × (end_of_log s.batches < z.local) × (n ≡ z.local)) (seen_held.the_leader a) (node_of y.0 l.log_seen) l.is
+        current_shown h a (joined_role x.role) v.partition_state w.1,
+        some_at (λ (z : seen.Node). (end_of_log s.batches < end_of_log z.log.batches) × (end_of_log s.batches < z.local) × (n ≡ z.local)) (seen_partition.the_leader a) (node_of y.0 l.log_seen) l.is
             ((let low = y.2.0 in omega (arith, low, own, end)), (let low = y.2.1 in omega (arith, low, own, local)), y.2.2 ∙ local),
         refl,
       )
   follow_refined h a b x s limit (Answers DiskFault) h' v k w =
       let y = some_of _ (the_leader h) w.2 in
-      let l = sees_leader h a y.0 v.held y.1 in
+      let l = sees_leader h a y.0 v.partition_state y.1 in
       let own = end_shown content x s w.0 v.shows in
       let end = end_shown content y.0 l.log_seen l.up l.sees.shows in
       let over : end_of_log s.batches < end_of_log l.log_seen.batches = (let low = y.2.0 in omega (arith, low, own, end)) in
       let from : l.log_seen.local ≤ end_of_log s.batches = (let le = y.2.1 in let local = local_shown content y.0 l.log_seen l.up l.sees.shows in omega (arith, le, own, local)) in
       fails content control h a h.registry.leader.0 y.0 l.log_seen h' _ l.sees y.2.2 (
         w.0,
-        current_shown h a (joined_role x.role) v.held w.1,
-        some_at (λ (z : seen.Node). (end_of_log s.batches < end_of_log z.log.batches) × (z.local ≤ end_of_log s.batches)) (seen_held.the_leader a) (node_of y.0 l.log_seen) l.is (over, from),
+        current_shown h a (joined_role x.role) v.partition_state w.1,
+        some_at (λ (z : seen.Node). (end_of_log s.batches < end_of_log z.log.batches) × (z.local ≤ end_of_log s.batches)) (seen_partition.the_leader a) (node_of y.0 l.log_seen) l.is (over, from),
         refl,
       )
   follow_refined h a b x s limit (Answers (Damaged (File name) at)) h' v k w =
       let y = some_of _ (the_leader h) w.2 in
-      let l = sees_leader h a y.0 v.held y.1 in
+      let l = sees_leader h a y.0 v.partition_state y.1 in
       absurd (y.2.2.misreads.unmarked l.log_seen l.sees.shows (subst (λ (n : ℕ). EndsAt n l.log_seen.batches) (sym (end_shown content y.0 l.log_seen l.up l.sees.shows)) (ends_at_end l.log_seen.batches)))
   follow_refined h a b x s limit (Begins g) h' v k w =
       let y = some_of _ (the_leader h) w.2 in
-      let l = sees_leader h a y.0 v.held y.1 in
+      let l = sees_leader h a y.0 v.partition_state y.1 in
       let q = y.2.2 in
       let own = end_shown content x s w.0 v.shows in
       let end = end_shown content y.0 l.log_seen l.up l.sees.shows in
@@ -390,15 +390,15 @@ module _ {D : Type 0} (content : D → Content) (control : D → Control call_co
       let over : end_of_log s.batches < end_of_log l.log_seen.batches = (let low = y.2.0 in omega (arith, low, own, end)) in
       rests content control h a h.registry.leader.0 y.0 l.log_seen h' _ l.sees (q.kept, q.reads.stays, q.quiet, q.after) (
         w.0,
-        current_shown h a (joined_role x.role) v.held w.1,
-        some_at (λ (z : seen.Node). (end_of_log s.batches < end_of_log z.log.batches) × (z.local ≤ end_of_log s.batches) × seen_rows.Takes a (node_of x s) z limit g) (seen_held.the_leader a) (node_of y.0 l.log_seen) l.is (
+        current_shown h a (joined_role x.role) v.partition_state w.1,
+        some_at (λ (z : seen.Node). (end_of_log s.batches < end_of_log z.log.batches) × (z.local ≤ end_of_log s.batches) × seen_rows.Takes a (node_of x s) z limit g) (seen_partition.the_leader a) (node_of y.0 l.log_seen) l.is (
           over,
           (let le = y.2.1 in let local = local_shown content y.0 l.log_seen l.up l.sees.shows in omega (arith, le, own, local)),
           record {
             stops = q.stops;
             role = q.role;
             end = q.end ∙ own;
-            start = q.start ∙ ap (λ (r : Registry). r.start) (sym v.held.registry);
+            start = q.start ∙ ap (λ (r : Registry). r.start) (sym v.partition_state.registry);
             are = are_same r.run g.batches same are;
             stop = q.out.stop;
             run = run_same l.log_seen.batches g.end limit (end_of y.0) (end_of_log l.log_seen.batches) q.out.stop r.run g.batches end same run;
@@ -494,32 +494,32 @@ module _ {D : Type 0} (content : D → Content) (control : D → Control call_co
 
   pub follow_on_refined : (h : PartitionState D) (a : seen.SeenPartition) (b : ℕ) (x : Node D) (s : log.LogSeen) (g : StartSnapshot) (answer : Answer) (h' : PartitionState D) → Sees content h a b x s → IsFollowSnapshot (node_of x s) g
       → FollowOnRow content control h b x g answer h' → Refines content h' (λ c. seen_rows.FollowOnRow a b (node_of x s) g answer c)
-  follow_on_refined h a b x s g Stopped h' v k w = stays content control h a h' _ v.held w.1 (halted w.0, refl)
+  follow_on_refined h a b x s g Stopped h' v k w = stays content control h a h' _ v.partition_state w.1 (halted w.0, refl)
     where
       halted : (g.stops ≢ x.stops) ⊎ (is_up x ≡ false) → g.stops ≢ x.stops
       halted (inl differs) = differs
       halted (inr down) = λ same. (let up = k.recorded same in absurd cc)
   follow_on_refined h a b x s g (StaleEpoch n) h' v k w =
-      stays content control h a h' _ v.held w.3 (w.0, stale_shown h a (followed g.role) v.held w.1, epoch_shown h a n v.held w.2, refl)
+      stays content control h a h' _ v.partition_state w.3 (w.0, stale_shown h a (followed g.role) v.partition_state w.1, epoch_shown h a n v.partition_state w.2, refl)
   follow_on_refined h a b x s g (Passed n) h' v k w =
-      stays content control h a h' _ v.held w.3 (
-        (w.0.0, unstale_shown h a (followed g.role) v.held w.0.2),
+      stays content control h a h' _ v.partition_state w.3 (
+        (w.0.0, unstale_shown h a (followed g.role) v.partition_state w.0.2),
         w.1 ∙ end_shown content x s w.0.1 v.shows,
         λ can. w.2 (extend_told x s g w.0.1 v.shows can),
         refl,
       )
   follow_on_refined h a b x s g TooManySegments h' v k w =
-      stays content control h a h' _ v.held w.3 ((w.0.0, unstale_shown h a (followed g.role) v.held w.0.2), extend_shown x s g w.0.1 v.shows k w.1, refl)
+      stays content control h a h' _ v.partition_state w.3 ((w.0.0, unstale_shown h a (followed g.role) v.partition_state w.0.2), extend_shown x s g w.0.1 v.shows k w.1, refl)
   follow_on_refined h a b x s g DiskFault h' v k w =
-      unsaved content control h a b x s h' _ v w.3 ((w.0.0, unstale_shown h a (followed g.role) v.held w.0.2), extend_shown x s g w.0.1 v.shows k w.1, refl)
+      unsaved content control h a b x s h' _ v w.3 ((w.0.0, unstale_shown h a (followed g.role) v.partition_state w.0.2), extend_shown x s g w.0.1 v.shows k w.1, refl)
   follow_on_refined h a b x s g (Copied n) h' v k w =
       let can = extend_shown x s g w.0.1 v.shows k w.1 in
       let r = extends_refined h a b x s g n h' v w.0.1 k can w.3 in
       record {
         after = r.after;
-        held = r.held;
+        partition_state = r.partition_state;
         row = (
-          (w.0.0, unstale_shown h a (followed g.role) v.held w.0.2),
+          (w.0.0, unstale_shown h a (followed g.role) v.partition_state w.0.2),
           can,
           some_at (λ e. seen_rows.Extends a b (node_of x s) g n e r.after) (epoch_in g.batches) can.epoch can.first r.row,
         );

@@ -16,7 +16,7 @@ use Rattle.broker_log.specs.Seen as log
 use Rattle.broker_log.specs.Turns.{with_batches, settled, opened as opened_log, dropped, kept_line, ComesBackAs, OpensWith, loosened}
 use Rattle.laws_partition.specs.Seen as seen
 use Rattle.laws_partition.proofs.BoolTests.{some_of}
-use Rattle.laws_partition.specs.Partition as seen_held
+use Rattle.laws_partition.specs.Partition as seen_partition
 use Rattle.laws_partition.specs.Log.{entered, with_batch}
 use Rattle.laws_partition.specs.Rows as seen_rows
 use Rattle.laws_partition.specs.RowsOfLog as seen_log
@@ -43,7 +43,7 @@ module _ {D : Type 0} where
       → record (node_of x s) { flushed_end = n; saved = s.line } ≡ node_of (record x { log = kept }) s'
   flushed_node x kept s s' n up is end = rw (up, is, end) refl
 
-  stopped_node : (x : Node D) (kept : LogState D) (s s' : log.LogSeen) → is_open kept ≡ false → s' ≡ s → seen_held.stopped (node_of x s) ≡ node_of (record (stopped x) { log = kept }) s'
+  stopped_node : (x : Node D) (kept : LogState D) (s s' : log.LogSeen) → is_open kept ≡ false → s' ≡ s → seen_partition.stopped (node_of x s) ≡ node_of (record (stopped x) { log = kept }) s'
   stopped_node x kept s s' down is = rw (down, is) refl
 
   opened_node : (x : Node D) (kept : LogState D) (s s' : log.LogSeen) (back : log.Back) (i : ℕ) → is_open kept ≡ true → s' ≡ opened_log s back i → seen_rows.opened (node_of x s) back i ≡ node_of (record x { log = kept }) s'
@@ -51,7 +51,7 @@ module _ {D : Type 0} where
 
 module _ {D : Type 0} where
   pub dropped_node : (x : Node D) (kept : LogState D) (s s' : log.LogSeen) (start : ℕ) → is_open kept ≡ is_up x → s' ≡ dropped s start
-      → record (node_of x s) { local = start; saved = seen_held.kept_line (node_of x s) } ≡ node_of (record x { log = kept }) s'
+      → record (node_of x s) { local = start; saved = seen_partition.kept_line (node_of x s) } ≡ node_of (record x { log = kept }) s'
   dropped_node x kept s s' start up is = rw (up, is) refl
 
   -- a log whose end is as it was is up as it was
@@ -77,13 +77,13 @@ module _ {D : Type 0} (content : D → Content) (control : D → Control call_co
 
   -- a write of what isn't flushed yet failed
   pub unsaved : (h : PartitionState D) (a : seen.SeenPartition) (b : ℕ) (x : Node D) (s : log.LogSeen) (h' : PartitionState D) (R : seen.SeenPartition → Type 0) → Sees content h a b x s → BreaksUnsaved content control h b x h'
-      → R (seen_held.put_node a b (seen_held.broken (node_of x s) (log.back_of s))) → Refines content h' R
+      → R (seen_partition.put_node a b (seen_partition.broken (node_of x s) (log.back_of s))) → Refines content h' R
   unsaved h a b x s h' R v k row =
-      breaks content control h a b x s (λ s. loosened s (log.back_of s)) h' R (seen_held.broken (node_of x s) (log.back_of s)) v k (λ kept down. broken_node x kept s (log.back_of s) down) row
+      breaks content control h a b x s (λ s. loosened s (log.back_of s)) h' R (seen_partition.broken (node_of x s) (log.back_of s)) v k (λ kept down. broken_node x kept s (log.back_of s) down) row
 
   -- a batch at the log's end
   gains_refined : (h : PartitionState D) (a : seen.SeenPartition) (b : ℕ) (x : Node D) (s : log.LogSeen) (placed : List ℕ) (h' : PartitionState D) (R : seen.SeenPartition → Type 0) → Sees content h a b x s → is_up x ≡ true
-      → NodeGains content control h b x placed h' → R (seen_held.put_node a b (record (node_of x s) { log = with_batch (node_of x s).log placed })) → Refines content h' R
+      → NodeGains content control h b x placed h' → R (seen_partition.put_node a b (record (node_of x s) { log = with_batch (node_of x s).log placed })) → Refines content h' R
   gains_refined h a b x s placed h' R v up k row =
       let kept = k.0 in
       let g = k.3 in
@@ -99,12 +99,12 @@ module _ {D : Type 0} (content : D → Content) (control : D → Control call_co
 
   pub append_refined : (h : PartitionState D) (a : seen.SeenPartition) (b : ℕ) (x : Node D) (s : log.LogSeen) (batch : List ℕ) (answer : Answer) (h' : PartitionState D) → Sees content h a b x s
       → AppendRow content control h b x batch answer h' → Refines content h' (λ c. seen_log.AppendRow a b (node_of x s) batch answer c)
-  append_refined h a b x s batch Down h' v w = stays content control h a h' _ v.held w.1 (w.0, refl)
-  append_refined h a b x s batch NotLeader h' v w = stays content control h a h' _ v.held w.2 (w.0, w.1, refl)
+  append_refined h a b x s batch Down h' v w = stays content control h a h' _ v.partition_state w.1 (w.0, refl)
+  append_refined h a b x s batch NotLeader h' v w = stays content control h a h' _ v.partition_state w.2 (w.0, w.1, refl)
   append_refined h a b x s batch LastOffset h' v w =
-      stays content control h a h' _ v.held w.3 (w.0, w.1, subst (λ (n : ℕ). offset_limit < n) (with_shown x s batch w.0 v.shows) w.2, refl)
+      stays content control h a h' _ v.partition_state w.3 (w.0, w.1, subst (λ (n : ℕ). offset_limit < n) (with_shown x s batch w.0 v.shows) w.2, refl)
   append_refined h a b x s batch TooManySegments h' v w =
-      stays content control h a h' _ v.held w.4 (w.0, w.1, subst (λ (n : ℕ). n ≤ offset_limit) (with_shown x s batch w.0 v.shows) w.2, refl)
+      stays content control h a h' _ v.partition_state w.4 (w.0, w.1, subst (λ (n : ℕ). n ≤ offset_limit) (with_shown x s batch w.0 v.shows) w.2, refl)
   append_refined h a b x s batch DiskFault h' v w =
       unsaved h a b x s h' _ v w.4 (w.0, w.1, subst (λ (n : ℕ). n ≤ offset_limit) (with_shown x s batch w.0 v.shows) w.2, refl)
   append_refined h a b x s batch (OkSpan base last e) h' v w =
@@ -116,7 +116,7 @@ module _ {D : Type 0} (content : D → Content) (control : D → Control call_co
       → RawRow content control h b x bytes answer h' → Refines content h' (λ c. seen_log.RawRow a b (node_of x s) bytes answer c)
   raw_refined h a b x s bytes Down h' v w = append_refined h a b x s bytes Down h' v w
   raw_refined h a b x s bytes NotLeader h' v w = append_refined h a b x s bytes NotLeader h' v w
-  raw_refined h a b x s bytes (Refused cause) h' v w = stays content control h a h' _ v.held w.3 (w.0, w.1, w.2, refl)
+  raw_refined h a b x s bytes (Refused cause) h' v w = stays content control h a h' _ v.partition_state w.3 (w.0, w.1, w.2, refl)
   raw_refined h a b x s bytes LastOffset h' v w =
       refines_more content control h' (λ c. seen_log.AppendRow a b (node_of x s) bytes LastOffset c) _ (λ c r. (w.0, r)) (append_refined h a b x s bytes LastOffset h' v w.1)
   raw_refined h a b x s bytes TooManySegments h' v w =
@@ -129,9 +129,9 @@ module _ {D : Type 0} (content : D → Content) (control : D → Control call_co
 
   pub flush_refined : (h : PartitionState D) (a : seen.SeenPartition) (b : ℕ) (x : Node D) (s : log.LogSeen) (answer : Answer) (h' : PartitionState D) → Sees content h a b x s
       → FlushRow content control h b x answer h' → Refines content h' (λ c. seen_log.FlushRow a b (node_of x s) answer c)
-  flush_refined h a b x s Down h' v w = stays content control h a h' _ v.held w.1 (w.0, refl)
+  flush_refined h a b x s Down h' v w = stays content control h a h' _ v.partition_state w.1 (w.0, refl)
   flush_refined h a b x s DiskFault h' v w =
-      breaks content control h a b x s (λ s. loosened s (end_of_log s.batches, s.line, s.local)) h' _ (seen_held.broken (node_of x s) (end_of_log s.batches, s.line, s.local)) v w.1
+      breaks content control h a b x s (λ s. loosened s (end_of_log s.batches, s.line, s.local)) h' _ (seen_partition.broken (node_of x s) (end_of_log s.batches, s.line, s.local)) v w.1
       (λ kept down. broken_node x kept s (end_of_log s.batches, s.line, s.local) down) (w.0, refl)
   flush_refined h a b x s (OkAt n) h' v w =
       let kept = w.1.0 in
@@ -144,9 +144,9 @@ module _ {D : Type 0} (content : D → Content) (control : D → Control call_co
 
   pub roll_refined : (h : PartitionState D) (a : seen.SeenPartition) (b : ℕ) (x : Node D) (s : log.LogSeen) (answer : Answer) (h' : PartitionState D) → Sees content h a b x s
       → RollRow content control h b x answer h' → Refines content h' (λ c. seen_log.RollRow a b (node_of x s) answer c)
-  roll_refined h a b x s Down h' v w = stays content control h a h' _ v.held w.1 (w.0, refl)
-  roll_refined h a b x s EmptySegment h' v w = stays content control h a h' _ v.held w.2 (w.0, refl)
-  roll_refined h a b x s TooManySegments h' v w = stays content control h a h' _ v.held w.2 (w.0, refl)
+  roll_refined h a b x s Down h' v w = stays content control h a h' _ v.partition_state w.1 (w.0, refl)
+  roll_refined h a b x s EmptySegment h' v w = stays content control h a h' _ v.partition_state w.2 (w.0, refl)
+  roll_refined h a b x s TooManySegments h' v w = stays content control h a h' _ v.partition_state w.2 (w.0, refl)
   roll_refined h a b x s DiskFault h' v w = unsaved h a b x s h' _ v w.2 (w.0, refl)
   roll_refined h a b x s (OkAt n) h' v w =
       let r = w.3.1 in
@@ -155,16 +155,16 @@ module _ {D : Type 0} (content : D → Content) (control : D → Control call_co
 
   pub stop_refined : (h : PartitionState D) (a : seen.SeenPartition) (b : ℕ) (x : Node D) (s : log.LogSeen) (answer : Answer) (h' : PartitionState D) → Sees content h a b x s
       → StopRow content control h b x answer h' → Refines content h' (λ c. seen_rows.StopRow a b (node_of x s) answer c)
-  stop_refined h a b x s Down h' v w = stays content control h a h' _ v.held w.1 (w.0, refl)
+  stop_refined h a b x s Down h' v w = stays content control h a h' _ v.partition_state w.1 (w.0, refl)
   stop_refined h a b x s Ok h' v w =
       let kept = w.1.0 in
       let t = w.1.1.seen s v.shows in
-      puts content control h a b x s h' _ (record (stopped x) { log = kept }) t.0 (seen_held.stopped (node_of x s)) v t.1 (stopped_node x kept s t.0 w.1.1.down t.2) w.1.3 (w.0, refl)
+      puts content control h a b x s h' _ (record (stopped x) { log = kept }) t.0 (seen_partition.stopped (node_of x s)) v t.1 (stopped_node x kept s t.0 w.1.1.down t.2) w.1.3 (w.0, refl)
   stop_refined h a b x s other h' v w = elim w [ ]
 
   pub up_refined : (h : PartitionState D) (a : seen.SeenPartition) (b : ℕ) (x : Node D) (s : log.LogSeen) (answer : Answer) (h' : PartitionState D) → Sees content h a b x s
       → UpRow content control h b x answer h' → Refines content h' (λ c. seen_rows.UpRow a b (node_of x s) answer c)
-  up_refined h a b x s IsUp h' v w = stays content control h a h' _ v.held w.1 (w.0, refl)
+  up_refined h a b x s IsUp h' v w = stays content control h a h' _ v.partition_state w.1 (w.0, refl)
   up_refined h a b x s (IsOpen n) h' v w =
       let kept = w.1.0 in
       let t = w.1.1.seen s v.shows in
@@ -183,30 +183,30 @@ module _ {D : Type 0} (content : D → Content) (control : D → Control call_co
     stops = n.stops;
     role = n.role;
     end = n.end ∙ end_shown content x s up v.shows;
-    start = n.start ∙ ap (λ (r : Registry). r.start) (sym v.held.registry);
+    start = n.start ∙ ap (λ (r : Registry). r.start) (sym v.partition_state.registry);
   }
 
   -- trim
 
   pub trim_refined : (h : PartitionState D) (a : seen.SeenPartition) (b : ℕ) (x : Node D) (s : log.LogSeen) (turned : Turned) (h' : PartitionState D) → Sees content h a b x s
       → TrimRow content control h x turned h' → Refines content h' (λ c. seen_log.TrimRow a (node_of x s) turned c)
-  trim_refined h a b x s (Answers Down) h' v w = stays content control h a h' _ v.held w.1 (w.0, refl)
+  trim_refined h a b x s (Answers Down) h' v w = stays content control h a h' _ v.partition_state w.1 (w.0, refl)
   trim_refined h a b x s (Begins g) h' v w =
-      stays content control h a h' _ v.held w.2 (w.0, notes_shown h a b x s g v w.0 w.1, refl)
+      stays content control h a h' _ v.partition_state w.2 (w.0, notes_shown h a b x s g v w.0 w.1, refl)
   trim_refined h a b x s other h' v w = elim w [ ]
 
   pub trim_on_refined : (h : PartitionState D) (a : seen.SeenPartition) (b : ℕ) (x : Node D) (s : log.LogSeen) (g : StartSnapshot) (answer : Answer) (h' : PartitionState D) → Sees content h a b x s → (g.stops ≡ x.stops → is_up x ≡ true)
       → TrimOnRow content control h b x g answer h' → Refines content h' (λ c. seen_log.TrimOnRow a b (node_of x s) g answer c)
-  trim_on_refined h a b x s g Stopped h' v k w = stays content control h a h' _ v.held w.1 (halted w.0, refl)
+  trim_on_refined h a b x s g Stopped h' v k w = stays content control h a h' _ v.partition_state w.1 (halted w.0, refl)
     where
       halted : (g.stops ≢ x.stops) ⊎ (is_up x ≡ false) → g.stops ≢ x.stops
       halted (inl differs) = differs
       halted (inr down) = λ same. (let up = k same in absurd cc)
-  trim_on_refined h a b x s g Remains h' v k w = stays content control h a h' _ v.held w.1 (w.0, refl)
+  trim_on_refined h a b x s g Remains h' v k w = stays content control h a h' _ v.partition_state w.1 (w.0, refl)
   trim_on_refined h a b x s g DiskFault h' v k w =
       let q = w.2 in
       let t = q.breaks.seen s v.shows in
-      breaks_to content control h a b x s (loosened s (s.flushed_end, kept_line s, t.0)) _ h' _ (seen_held.broken (node_of x s) (s.flushed_end, kept_line s, t.0)) v q t.3
+      breaks_to content control h a b x s (loosened s (s.flushed_end, kept_line s, t.0)) _ h' _ (seen_partition.broken (node_of x s) (s.flushed_end, kept_line s, t.0)) v q t.3
       (broken_node x q.kept s (s.flushed_end, kept_line s, t.0) q.breaks.down)
       (w.0, w.1, (t.0, record { flushed_end = t.2; ends = t.1 }, refl))
   trim_on_refined h a b x s g (Dropped base last) h' v k w =
@@ -214,7 +214,7 @@ module _ {D : Type 0} (content : D → Content) (control : D → Control call_co
       let d = w.2.1 in
       let t = d.seen s v.shows in
       let e = d.ends s v.shows in
-      puts content control h a b x s h' _ (record x { log = kept }) t.0 (record (node_of x s) { local = last + 1; saved = seen_held.kept_line (node_of x s) }) v t.1
+      puts content control h a b x s h' _ (record x { log = kept }) t.0 (record (node_of x s) { local = last + 1; saved = seen_partition.kept_line (node_of x s) }) v t.1
       (dropped_node x kept s t.0 (last + 1) (open_of x kept d.end_is w.1) t.2) w.2.3
       (w.0, w.1, e.0, record { flushed_end = e.2; ends = e.1 }, refl)
   trim_on_refined h a b x s g other h' v k w = elim w [ ]

@@ -32,7 +32,7 @@ module _ {D : Type 0} (content : D → Content) (control : D → Control call_co
   clock_refined h a b x s ms Ok h' v w =
       subst (λ (k : PartitionState D). Refines content k (λ c. seen_rows.ClockRow a ms Ok c)) (sym w) (record {
         after = record a { clock = ms };
-        held = record { registry = v.held.registry; nodes = v.held.nodes; clock = refl };
+        partition_state = record { registry = v.partition_state.registry; nodes = v.partition_state.nodes; clock = refl };
         row = refl;
       })
   clock_refined h a b x s ms other h' v w = elim w [ ]
@@ -42,7 +42,7 @@ module _ {D : Type 0} (content : D → Content) (control : D → Control call_co
   pack_refined h a b x s on Ok h' v w =
       subst (λ (k : PartitionState D). Refines content k (λ c. seen_rows.SwitchRow a Ok c)) (sym w) (record {
         after = a;
-        held = record { registry = v.held.registry; nodes = v.held.nodes; clock = v.held.clock };
+        partition_state = record { registry = v.partition_state.registry; nodes = v.partition_state.nodes; clock = v.partition_state.clock };
         row = refl;
       })
   pack_refined h a b x s on other h' v w = elim w [ ]
@@ -52,7 +52,7 @@ module _ {D : Type 0} (content : D → Content) (control : D → Control call_co
   copying_refined h a b x s on Ok h' v w =
       subst (λ (k : PartitionState D). Refines content k (λ c. seen_rows.SwitchRow a Ok c)) (sym w) (record {
         after = a;
-        held = record { registry = v.held.registry; nodes = v.held.nodes; clock = v.held.clock };
+        partition_state = record { registry = v.partition_state.registry; nodes = v.partition_state.nodes; clock = v.partition_state.clock };
         row = refl;
       })
   copying_refined h a b x s on other h' v w = elim w [ ]

@@ -14,7 +14,7 @@ use Rattle.broker_log.specs.Seen.{LogState, Up, Down, Away, ShowsSeen, LogStays,
 use Rattle.broker_log.specs.Seen as log
 use Rattle.broker_log.specs.Turns.{loosened, torn}
 use Rattle.laws_partition.specs.Seen as seen
-use Rattle.laws_partition.specs.Partition as seen_held
+use Rattle.laws_partition.specs.Partition as seen_partition
 use Rattle.laws_partition.proofs.BoolTests.{some_of}
 use Rattle.partition_commands.specs.declared.partition_state.Node.{Node}
 use Rattle.partition_commands.specs.declared.partition_state.PartitionState.{PartitionState}
@@ -31,15 +31,15 @@ node_as x kept s up = ap (λ (t : Bool). record (node_of x s) { up = t }) up
 
 -- a node whose disk failed in a write
 pub broken_node : {D : Type 0} (x : Node D) (kept : LogState D) (s : log.LogSeen) (back : log.Back) → is_open kept ≡ false
-    → seen_held.broken (node_of x s) back ≡ node_of (record (stopped x) { log = kept }) (loosened s back)
+    → seen_partition.broken (node_of x s) back ≡ node_of (record (stopped x) { log = kept }) (loosened s back)
 broken_node x kept s back down = rw down refl
 
 -- and in a cut
 pub torn_node : {D : Type 0} (x : Node D) (kept : LogState D) (s : log.LogSeen) (back : log.Back) → is_open kept ≡ false
-    → seen_held.torn (node_of x s) back ≡ node_of (record (stopped x) { log = kept }) (torn s back)
+    → seen_partition.torn (node_of x s) back ≡ node_of (record (stopped x) { log = kept }) (torn s back)
 torn_node x kept s back down = go (nat_lt back.0 s.flushed_end) refl
   where
-    go : (t : Bool) → nat_lt back.0 s.flushed_end ≡ t → seen_held.torn (node_of x s) back ≡ node_of (record (stopped x) { log = kept }) (torn s back)
+    go : (t : Bool) → nat_lt back.0 s.flushed_end ≡ t → seen_partition.torn (node_of x s) back ≡ node_of (record (stopped x) { log = kept }) (torn s back)
     go true t = rw (t, down) refl
     go false t = rw (t, down) refl
 
@@ -99,7 +99,7 @@ module _ {D : Type 0} (content : D → Content) where
       go false = tt
 
   -- the leader
-  pub shown_leader : (h : PartitionState D) (a : seen.SeenPartition) → ShowsPartition content h a → ShowsOption (the_leader h) (seen_held.the_leader a)
+  pub shown_leader : (h : PartitionState D) (a : seen.SeenPartition) → ShowsPartition content h a → ShowsOption (the_leader h) (seen_partition.the_leader a)
   shown_leader h a s =
       subst (λ (r : Registry). ShowsOption (the_leader h) (option_and_then (λ (y : seen.Node). when (y.up && leads_in r.epoch y.role) y) (slice_get a.nodes r.leader.0))) (sym s.registry)
       (leading h.registry.epoch (slice_get h.nodes h.registry.leader.0) (slice_get a.nodes h.registry.leader.0) (shown_get h.nodes a.nodes h.registry.leader.0 s.nodes))
@@ -150,25 +150,25 @@ module _ {D : Type 0} (content : D → Content) where
 module _ {D : Type 0} (content : D → Content) (control : D → Control call_code) where
   -- how a node is seen
   pub sees_at : (h : PartitionState D) (a : seen.SeenPartition) (b : ℕ) (x : Node D) → ShowsPartition content h a → slice_get h.nodes b ≡ Some x → (s : log.LogSeen) × Sees content h a b x s
-  sees_at h a b x held at =
-      let k = shown_some content (slice_get h.nodes b) (slice_get a.nodes b) x (shown_get content h.nodes a.nodes b held.nodes) at in
-      (k.2.0, record { held = held; at = at; there = k.1 ∙ ap (λ (y : seen.Node). Some y) k.2.2; shows = k.2.1 })
+  sees_at h a b x partition_state at =
+      let k = shown_some content (slice_get h.nodes b) (slice_get a.nodes b) x (shown_get content h.nodes a.nodes b partition_state.nodes) at in
+      (k.2.0, record { partition_state = partition_state; at = at; there = k.1 ∙ ap (λ (y : seen.Node). Some y) k.2.2; shows = k.2.1 })
 
   -- what follows from what holds of it
   pub refines_more : (h' : PartitionState D) (R Q : seen.SeenPartition → Type 0) → ((a : seen.SeenPartition) → R a → Q a) → Refines content h' R → Refines content h' Q
-  refines_more h' R Q f r = record { after = r.after; held = r.held; row = f r.after r.row }
+  refines_more h' R Q f r = record { after = r.after; partition_state = r.partition_state; row = f r.after r.row }
 
   -- nothing has changed
   pub stays : (h : PartitionState D) (a : seen.SeenPartition) (h' : PartitionState D) (R : seen.SeenPartition → Type 0) → ShowsPartition content h a → h' ≡ h → R a → Refines content h' R
-  stays h a h' R held is row = subst (λ (k : PartitionState D). Refines content k R) (sym is) (record { after = a; held = held; row = row })
+  stays h a h' R partition_state is row = subst (λ (k : PartitionState D). Refines content k R) (sym is) (record { after = a; partition_state = partition_state; row = row })
 
   -- a node has
   pub puts : (h : PartitionState D) (a : seen.SeenPartition) (b : ℕ) (x : Node D) (s : log.LogSeen) (h' : PartitionState D) (R : seen.SeenPartition → Type 0) (x' : Node D) (s' : log.LogSeen) (y : seen.Node) → Sees content h a b x s
-      → ShowsSeen content x'.log s' → y ≡ node_of x' s' → h' ≡ put_node h b x' → R (seen_held.put_node a b y) → Refines content h' R
+      → ShowsSeen content x'.log s' → y ≡ node_of x' s' → h' ≡ put_node h b x' → R (seen_partition.put_node a b y) → Refines content h' R
   puts h a b x s h' R x' s' y v shows same is row =
       subst (λ (k : PartitionState D). Refines content k R) (sym is) (record {
-        after = seen_held.put_node a b y;
-        held = record { registry = v.held.registry; nodes = shown_set content h.nodes a.nodes b x' y v.held.nodes (s', shows, same); clock = v.held.clock };
+        after = seen_partition.put_node a b y;
+        partition_state = record { registry = v.partition_state.registry; nodes = shown_set content h.nodes a.nodes b x' y v.partition_state.nodes (s', shows, same); clock = v.partition_state.clock };
         row = row;
       })
 
@@ -177,7 +177,7 @@ module _ {D : Type 0} (content : D → Content) (control : D → Control call_co
       → (t : log.LogSeen) × ShowsSeen content kept t × (t ≡ s) → h' ≡ put_node h b (record x { log = kept }) → R a → Refines content h' R
   looks h a b x s h' R v kept up t after row =
       let same : node_of x s ≡ node_of (record x { log = kept }) t.0 = rw (up, t.2) refl in
-      let put : a ≡ seen_held.put_node a b (node_of x s) = ap (λ (ys : List seen.Node). record a { nodes = ys }) (sym (set-same a.nodes b (node_of x s) v.there)) in
+      let put : a ≡ seen_partition.put_node a b (node_of x s) = ap (λ (ys : List seen.Node). record a { nodes = ys }) (sym (set-same a.nodes b (node_of x s) v.there)) in
       puts h a b x s h' R (record x { log = kept }) t.0 (node_of x s) v t.1 same after (subst R put row)
 
   -- a log was asked, and nothing that is seen has changed
@@ -187,10 +187,10 @@ module _ {D : Type 0} (content : D → Content) (control : D → Control call_co
   -- the registry has
   pub leaves : (h : PartitionState D) (a : seen.SeenPartition) (h' : PartitionState D) (R : seen.SeenPartition → Type 0) (r : Registry) → ShowsPartition content h a → h' ≡ record h { registry = r }
       → R (record a { registry = r }) → Refines content h' R
-  leaves h a h' R r held is row =
+  leaves h a h' R r partition_state is row =
       subst (λ (k : PartitionState D). Refines content k R) (sym is) (record {
         after = record a { registry = r };
-        held = record { registry = refl; nodes = held.nodes; clock = held.clock };
+        partition_state = record { registry = refl; nodes = partition_state.nodes; clock = partition_state.clock };
         row = row;
       })
 
@@ -200,27 +200,27 @@ module _ {D : Type 0} (content : D → Content) (control : D → Control call_co
 
   -- a write failed, and the broker has stopped
   pub breaks : (h : PartitionState D) (a : seen.SeenPartition) (b : ℕ) (x : Node D) (s : log.LogSeen) (makes : log.LogSeen → log.LogSeen) (h' : PartitionState D) (R : seen.SeenPartition → Type 0) (y : seen.Node) → Sees content h a b x s → BreaksNode content control h b x makes h'
-      → ((kept : LogState D) → is_open kept ≡ false → y ≡ node_of (record (stopped x) { log = kept }) (makes s)) → R (seen_held.put_node a b y) → Refines content h' R
+      → ((kept : LogState D) → is_open kept ≡ false → y ≡ node_of (record (stopped x) { log = kept }) (makes s)) → R (seen_partition.put_node a b y) → Refines content h' R
   breaks h a b x s makes h' R y v k same row =
       let t = k.breaks.seen s v.shows in
       puts h a b x s h' R (record (stopped x) { log = k.kept }) t.0 y v t.1 (same k.kept k.breaks.down ∙ ap (node_of (record (stopped x) { log = k.kept })) (sym t.2)) k.after row
 
   -- a write failed, and the broker has stopped, whatever that makes of its log
   pub breaks_to : (h : PartitionState D) (a : seen.SeenPartition) (b : ℕ) (x : Node D) (s s' : log.LogSeen) (B : LogState D → LogState D → Type 0) (h' : PartitionState D) (R : seen.SeenPartition → Type 0) (y : seen.Node) → Sees content h a b x s
-      → (k : BreaksBy content control h b x B h') → ShowsSeen content k.kept s' → y ≡ node_of (record (stopped x) { log = k.kept }) s' → R (seen_held.put_node a b y) → Refines content h' R
+      → (k : BreaksBy content control h b x B h') → ShowsSeen content k.kept s' → y ≡ node_of (record (stopped x) { log = k.kept }) s' → R (seen_partition.put_node a b y) → Refines content h' R
   breaks_to h a b x s s' B h' R y v k shows same row = puts h a b x s h' R (record (stopped x) { log = k.kept }) s' y v shows same k.after row
 
   -- a log was read, and is as it was
-  pub held_looks : (h : PartitionState D) (a : seen.SeenPartition) (b : ℕ) (x : Node D) (kept : LogState D) (h' : PartitionState D) → ShowsPartition content h a → slice_get h.nodes b ≡ Some x → LogStays content x.log kept
+  pub partition_state_looks : (h : PartitionState D) (a : seen.SeenPartition) (b : ℕ) (x : Node D) (kept : LogState D) (h' : PartitionState D) → ShowsPartition content h a → slice_get h.nodes b ≡ Some x → LogStays content x.log kept
       → h' ≡ put_node h b (record x { log = kept }) → ShowsPartition content h' a
-  held_looks h a b x kept h' held at stays is =
-      let v = sees_at h a b x held at in
+  partition_state_looks h a b x kept h' partition_state at stays is =
+      let v = sees_at h a b x partition_state at in
       let r = looks h a b x v.0 h' (λ b. b ≡ a) v.1 kept stays.up (stays.seen v.0 v.1.shows) is refl in
-      subst (ShowsPartition content h') r.row r.held
+      subst (ShowsPartition content h') r.row r.partition_state
 
   -- nothing that is seen has changed
-  pub held_stays : (h : PartitionState D) (a : seen.SeenPartition) (h' : PartitionState D) → ShowsPartition content h a → KeepsPartition content control h h' → ShowsPartition content h' a
-  held_stays h a h' held (inl is) = subst (λ (k : PartitionState D). ShowsPartition content k a) (sym is) held
-  held_stays h a h' held (inr k) =
+  pub partition_state_stays : (h : PartitionState D) (a : seen.SeenPartition) (h' : PartitionState D) → ShowsPartition content h a → KeepsPartition content control h h' → ShowsPartition content h' a
+  partition_state_stays h a h' partition_state (inl is) = subst (λ (k : PartitionState D). ShowsPartition content k a) (sym is) partition_state
+  partition_state_stays h a h' partition_state (inr k) =
       let x = some_of (λ x. LogRests content control h k.0 x h') (slice_get h.nodes k.0) k.1 in
-      held_looks h a k.0 x.0 x.2.0 h' held x.1 x.2.1 x.2.3
+      partition_state_looks h a k.0 x.0 x.2.0 h' partition_state x.1 x.2.1 x.2.3

@@ -510,6 +510,6 @@ module _ {D : Type 0} (content : D → Content) (control : D → Control call_co
       let x = some_of (λ x. Row content control h b x snapshot command turned h') (slice_get h.nodes b) w in row_sound n h b x.0 snapshot command turned h' x.1 s x.2
 
   -- running out of memory
-  pub stays_held_sound : (n : ℕ) (h h' : PartitionState D) → SoundPartition n h → KeepsPartition content control h h' → SoundPartition n h'
-  stays_held_sound n h h' s (inl is) = same n h h' is s
-  stays_held_sound n h h' s (inr k) = let x = some_of (λ x. LogRests content control h k.0 x h') (slice_get h.nodes k.0) k.1 in rests_sound n h k.0 x.0 h' x.1 s x.2
+  pub stays_partition_sound : (n : ℕ) (h h' : PartitionState D) → SoundPartition n h → KeepsPartition content control h h' → SoundPartition n h'
+  stays_partition_sound n h h' s (inl is) = same n h h' is s
+  stays_partition_sound n h h' s (inr k) = let x = some_of (λ x. LogRests content control h k.0 x h') (slice_get h.nodes k.0) k.1 in rests_sound n h k.0 x.0 h' x.1 s x.2

@@ -329,8 +329,8 @@ module _ {D : Type 0} (content : D → Content) (control : D → Control call_co
   row_stops h b x (Some g) command turned h' at w = later_stops h b x command g turned h' at w
 
   -- running out of memory
-  pub held_stops : (h h' : PartitionState D) → KeepsPartition content control h h' → StopsStay h h'
-  held_stops h h' (inl is) = stays_same h h' is
-  held_stops h h' (inr k) =
+  pub partition_state_stops : (h h' : PartitionState D) → KeepsPartition content control h h' → StopsStay h h'
+  partition_state_stops h h' (inl is) = stays_same h h' is
+  partition_state_stops h h' (inr k) =
       let x = some_of (λ x. LogRests content control h k.0 x h') (slice_get h.nodes k.0) k.1 in
       stays_put h k.0 x.0 (record x.0 { log = x.2.0 }) h' x.1 refl x.2.3

@@ -2,10 +2,10 @@
 -- anything.
 --
 --   form                          says
---   cold_held settings r disks    the partition with this registry over these disks
+--   cold_partition_state settings r disks    the partition with this registry over these disks
 --   IsColdPartition settings r disks h the same, once the disks' plans are in force
 --   ShowDisks disks ss            the logs on these disks are seen so
---   held_back r ss                the partition as it is seen then
+--   partition_back r ss                the partition as it is seen then
 use Rattle.std.specs.Prelude.{◌≡◌, ◌⊎◌, ℕ, List, [], ◌∷◌, Some, true, false, pos, map, slice_get, IsTrue}
 use Rattle.tier_base.specs.declared.plain.Settings.{Settings}
 use Rattle.tier_base.specs.Device.{Control, Arms}
@@ -25,8 +25,8 @@ module _ {D : Type 0} where
   cold_node settings disk = record { stops = 0; role = Idle; log = Down settings disk; known_high_watermark = 0 }
 
   -- all are
-  abbrev pub cold_held : Settings → Registry → List D → PartitionState D
-  cold_held settings registry disks = record {
+  abbrev pub cold_partition_state : Settings → Registry → List D → PartitionState D
+  cold_partition_state settings registry disks = record {
     registry = registry;
     nodes = map (cold_node settings) disks;
     clock = pos 0;
@@ -50,8 +50,8 @@ node_back s = record {
 }
 
 -- a partition of such brokers
-abbrev pub held_back : Registry → List LogSeen → seen.SeenPartition
-held_back registry ss = record { registry = registry; nodes = map node_back ss; clock = pos 0 }
+abbrev pub partition_back : Registry → List LogSeen → seen.SeenPartition
+partition_back registry ss = record { registry = registry; nodes = map node_back ss; clock = pos 0 }
 
 module _ {D : Type 0} (content : D → Content) where
   -- the logs on these disks, which are closed, are seen so

@@ -27,7 +27,7 @@ use Rattle.partition_commands.specs.Partition.{node_of, ShowsPartition}
 module _ {D : Type 0} (content : D → Content) where
   -- a node of a partition whose disks are observable, and how both are seen
   pub record Sees (h : PartitionState D) (a : seen.SeenPartition) (b : ℕ) (x : Node D) (s : log.LogSeen) : Type 0 where
-    pub held : ShowsPartition content h a
+    pub partition_state : ShowsPartition content h a
     pub at : slice_get h.nodes b ≡ Some x
     pub there : slice_get a.nodes b ≡ Some (node_of x s)
     pub shows : ShowsSeen content x.log s
@@ -35,7 +35,7 @@ module _ {D : Type 0} (content : D → Content) where
   -- the partition after a turn is seen so that this holds
   pub record Refines (h' : PartitionState D) (R : seen.SeenPartition → Type 0) : Type 0 where
     pub after : seen.SeenPartition
-    pub held : ShowsPartition content h' after
+    pub partition_state : ShowsPartition content h' after
     pub row : R after
 
 -- the nodes that are seen keep what nodes keep

@@ -10,7 +10,7 @@ ghost use Rattle.broker_log.specs.Seen.{LogSeen, ShowsSeen, OnDisk, Lasting, Fau
 ghost use Rattle.partition_commands.specs.declared.refusal.WorldRefusal.TheVariants as refusal;
 ghost use Rattle.partition_commands.specs.Partition.{line_of};
 ghost use Rattle.partition_commands.specs.Disks.{AllReopen};
-ghost use Rattle.partition_commands.specs.Cold.{ShowDisks, DisksReopen, AreColdOver, IsColdPartition, cold_node, held_back};
+ghost use Rattle.partition_commands.specs.Cold.{ShowDisks, DisksReopen, AreColdOver, IsColdPartition, cold_node, partition_back};
 ghost use Rattle.partition_commands.specs.Partition.{ShowsPartition};
 ghost use Rattle.partition_commands.specs.Fresh.{IsFreshDisk, AreFreshDisks, DisksTell, IsFreshNode, IsMadeOver, AreMadeFrom, AreFreshFrom, IsFreshPartition, AllSeen, IsNodeLaid, AreNodesLaid, AddsNode, AreDisksOf, RefusesOver, RefusesDisks, empty_seen};
 
@@ -33,7 +33,8 @@ fn follower<D: Disk>(
     requires disk { IsFreshDisk D.content D.control disk }
     ensures node { IfOk result (IsMadeOver D.control false disk) }
     ensures laid { IfOk result (IsNodeLaid settings) }
-    ensures seen { IfOk result (λ node. IsTrue (D.content disk).is_observable → ShowsSeen D.content node.log (empty_seen (line_of node))) }
+    ensures seen { IfOk result (λ node. IsTrue (D.content disk).is_observable
+        → ShowsSeen D.content node.log (empty_seen (line_of node))) }
     ensures err { IfErr result (λ e. RefusesOver D.control disk e.0 e.1) }
 {
     match BrokerLog::create(alloc, disk, settings) {
@@ -59,7 +60,8 @@ fn broker<D: Disk>(
     requires disk { IsFreshDisk D.content D.control disk }
     ensures node { IfOk result (IsMadeOver D.control leads disk) }
     ensures laid { IfOk result (IsNodeLaid settings) }
-    ensures seen { IfOk result (λ node. IsTrue (D.content disk).is_observable → ShowsSeen D.content node.log (empty_seen (line_of node))) }
+    ensures seen { IfOk result (λ node. IsTrue (D.content disk).is_observable
+        → ShowsSeen D.content node.log (empty_seen (line_of node))) }
     ensures err { IfErr result (λ e. RefusesOver D.control disk e.0 e.1) }
 {
     let mut node = follower(alloc, disk, settings)?;
@@ -170,7 +172,8 @@ fn set_down<D: Disk>(
 
 /// Puts the plans of the brokers' disks in force.
 fn arm<D: Disk>(nodes: &mut Row<Node<D>>)
-    ensures nodes { (disks : List D) → AreFreshDisks D.content D.control disks → AreMadeFrom D.control true disks nodes.old
+    ensures nodes { (disks : List D) → AreFreshDisks D.content D.control disks
+        → AreMadeFrom D.control true disks nodes.old
         → AreFreshFrom D.control true disks nodes.new }
     ensures cold { (settings : Options) (disks : List D) → nodes.old ≡ map (cold_node settings) disks
         → AreColdOver D.content D.control settings disks nodes.new }
@@ -216,9 +219,10 @@ impl<D: Disk> PartitionState<D> {
         requires few { length disks.old.items ≤ 8 }
         requires settings { AreSettings settings }
         requires disks { AreFreshDisks D.content D.control disks.old.items }
-        ensures held { IfOk result (IsFreshPartition D.control disks.old.items) }
-        ensures laid { IfOk result (λ held. AreNodesLaid settings held.nodes) }
-        ensures seen { IfOk result (λ held. DisksTell D.content disks.old.items → AllSeen D.content held.nodes) }
+        ensures partition_state { IfOk result (IsFreshPartition D.control disks.old.items) }
+        ensures laid { IfOk result (λ partition_state. AreNodesLaid settings partition_state.nodes) }
+        ensures seen { IfOk result (λ partition_state. DisksTell D.content disks.old.items
+            → AllSeen D.content partition_state.nodes) }
         ensures none { OnOk result (disks.new.items ≡ []) }
         ensures err { IfErr result (λ why. RefusesDisks D.control disks.old.items disks.new.items why) }
         ensures room { vec_capacity disks.new ≡ vec_capacity disks.old }
@@ -249,9 +253,9 @@ impl<D: Disk> PartitionState<D> {
         registry: Registry,
     ) -> Result<PartitionState<D>, AllocError>
         requires settings { AreSettings settings }
-        ensures held { IfOk result (IsColdPartition D.content D.control settings registry disks.old.items) }
-        ensures seen { IfOk result (λ held. (ss : List LogSeen) → ShowDisks D.content disks.old.items ss
-            → ShowsPartition D.content held (held_back registry ss)) }
+        ensures partition_state { IfOk result (IsColdPartition D.content D.control settings registry disks.old.items) }
+        ensures seen { IfOk result (λ partition_state. (ss : List LogSeen) → ShowDisks D.content disks.old.items ss
+            → ShowsPartition D.content partition_state (partition_back registry ss)) }
         ensures none { OnOk result (disks.new.items ≡ []) }
         ensures same { OnErr result (disks.new.items ≡ disks.old.items) }
         ensures room { vec_capacity disks.new ≡ vec_capacity disks.old }

@@ -38,7 +38,7 @@ use Rattle.partition_commands.specs.Partition.{line_of, local_of}
 use Rattle.partition_world.specs.declared.tier.BrokerTierState.{BrokerTierState}
 use Rattle.partition_world.specs.declared.tier.RemoteTier.{RemoteTier}
 use Rattle.partition_world.specs.declared.actor_state.Outcome.{Outcome}
-use Rattle.partition_world.specs.declared.actor_state.Outcome.TheVariants.{Answers, Begins, Chose, Goes, Seeks as Sought, Dates as Dated, Dooms, Deletes, Rebuilds as Rebuilding}
+use Rattle.partition_world.specs.declared.actor_state.Outcome.TheVariants.{Answers, Begins, Chose, Goes, Seeks as Sought, Dates as Dated, ChoosesExpired, Deletes, Rebuilds as Rebuilding}
 use Rattle.partition_world.specs.declared.actor_state.ActorState.{ActorState}
 use Rattle.partition_world.specs.declared.actor_state.InProgress.{InProgress}
 use Rattle.partition_world.specs.declared.actor_state.InProgress.TheVariants.{Idle, Noted, Copies, Seeks, Dates, Expires, Rebuilds}
@@ -87,7 +87,7 @@ taken_of (Rebuilds g next) = rebuilding_before next
 
 -- the turns that are left of a list, of which no order takes more than this
 abbrev pub turns_of : List Order → ActorState → ℕ
-turns_of orders actor_state = (4 * 2 ^ 64 + 6) * (length orders - actor_state.number) - taken_of actor_state.work
+turns_of orders actor_state = (4 * 2 ^ 64 + 6) * (length orders - actor_state.number) - taken_of actor_state.in_progress
 
 -- the turns that are left
 abbrev pub turns_left : List ActorList → List ActorState → ℕ
@@ -97,15 +97,15 @@ turns_left (l ∷ lists) (actor_state ∷ desk) = turns_of l.orders actor_state 
 
 -- the command has taken a turn more
 abbrev pub Advances : InProgress → Outcome → Type 0
-Advances work (Answers answer) = Unit {0}
-Advances work (Begins g) = taken_of work < taken_of (Noted g)
-Advances work (Chose copy) = taken_of work < taken_of (chosen work copy)
-Advances work (Goes next) = taken_of work < taken_of (moved work next)
-Advances work (Sought next) = taken_of work < taken_of (sought work next)
-Advances work (Dated cursor next) = taken_of work < taken_of (dated work cursor next)
-Advances work (Dooms segment) = taken_of work < taken_of (expired_segment work segment)
-Advances work (Deletes next) = taken_of work < taken_of (deleting work next)
-Advances work (Rebuilding next) = taken_of work < taken_of (rebuilding work next)
+Advances in_progress (Answers answer) = Unit {0}
+Advances in_progress (Begins g) = taken_of in_progress < taken_of (Noted g)
+Advances in_progress (Chose copy) = taken_of in_progress < taken_of (chosen in_progress copy)
+Advances in_progress (Goes next) = taken_of in_progress < taken_of (moved in_progress next)
+Advances in_progress (Sought next) = taken_of in_progress < taken_of (sought in_progress next)
+Advances in_progress (Dated cursor next) = taken_of in_progress < taken_of (dated in_progress cursor next)
+Advances in_progress (ChoosesExpired segment) = taken_of in_progress < taken_of (expired_segment in_progress segment)
+Advances in_progress (Deletes next) = taken_of in_progress < taken_of (deleting in_progress next)
+Advances in_progress (Rebuilding next) = taken_of in_progress < taken_of (rebuilding in_progress next)
 
 few_before : (next : CopyStep) → taken_before next ≤ 13
 few_before Start = omega arith
@@ -114,7 +114,7 @@ few_before Finish = omega arith
 few_before Check = omega arith
 few_before (Delete n) = omega arith
 
-few_taken : (work : InProgress) → taken_of work ≤ 4 * 2 ^ 64 + 5
+few_taken : (in_progress : InProgress) → taken_of in_progress ≤ 4 * 2 ^ 64 + 5
 few_taken Idle = omega arith
 few_taken (Noted g) = omega arith
 few_taken (Copies g copy next) = let few = few_before next in omega (arith, few)
@@ -255,14 +255,14 @@ module _ {D S M : Type 0} (disk : DiskGhosts D) (store : StoreGhosts S) (meta : 
   rebuilding_goes p h t b x broker_tier g (Restart line) Join next h' t' w = let e = w.0.1 in absurd (cc (e))
   rebuilding_goes p h t b x broker_tier g before command next h' t' w = elim w [ ]
 
-  advances : (p : PartitionId) (config : Config) (h : PartitionState D) (t : RemoteTier S M) (b : ℕ) (x : Node D) (broker_tier : BrokerTierState) (work : InProgress) (command : Command) (outcome : Outcome) (h' : PartitionState D) (t' : RemoteTier S M)
-      → MayComeTo work outcome → Row disk store meta p config h t b x broker_tier work command outcome h' t' → Advances work outcome
-  advances p config h t b x broker_tier work command (Answers answer) h' t' may w = tt
+  advances : (p : PartitionId) (config : Config) (h : PartitionState D) (t : RemoteTier S M) (b : ℕ) (x : Node D) (broker_tier : BrokerTierState) (in_progress : InProgress) (command : Command) (outcome : Outcome) (h' : PartitionState D) (t' : RemoteTier S M)
+      → MayComeTo in_progress outcome → Row disk store meta p config h t b x broker_tier in_progress command outcome h' t' → Advances in_progress outcome
+  advances p config h t b x broker_tier in_progress command (Answers answer) h' t' may w = tt
   advances p config h t b x broker_tier Idle command (Begins g) h' t' may w = omega arith
   advances p config h t b x broker_tier (Noted g) command (Chose copy) h' t' may w = omega arith
   advances p config h t b x broker_tier (Noted g) command (Sought next) h' t' may w = recorded_sought p config h t b x broker_tier g command next h' t' w
   advances p config h t b x broker_tier (Noted g) command (Dated at next) h' t' may w = omega arith
-  advances p config h t b x broker_tier (Noted g) command (Dooms segment) h' t' may w = omega arith
+  advances p config h t b x broker_tier (Noted g) command (ChoosesExpired segment) h' t' may w = omega arith
   advances p config h t b x broker_tier (Copies g c before) command (Goes next) h' t' may w = copying_goes h t b x broker_tier g c before command next h' t' w
   advances p config h t b x broker_tier (Seeks g before) command (Sought next) h' t' may w = seeking_sought p h t b x broker_tier g before command next h' t' w
   advances p config h t b x broker_tier (Dates g cursor before) command (Dated at next) h' t' may w =
@@ -270,28 +270,28 @@ module _ {D S M : Type 0} (disk : DiskGhosts D) (store : StoreGhosts S) (meta : 
   advances p config h t b x broker_tier (Expires g segment before) command (Deletes next) h' t' may w = deleting_deletes h t b x g segment before command next h' t' w
   advances p config h t b x broker_tier (Noted g) command (Rebuilding next) h' t' may w = second_rebuilding next
   advances p config h t b x broker_tier (Rebuilds g before) command (Rebuilding next) h' t' may w = rebuilding_goes p h t b x broker_tier g before command next h' t' w
-  advances p config h t b x broker_tier work command outcome h' t' may w = elim may [ ]
+  advances p config h t b x broker_tier in_progress command outcome h' t' may w = elim may [ ]
 
-  pub advances_at : (p : PartitionId) (config : Config) (h : PartitionState D) (t : RemoteTier S M) (b : ℕ) (work : InProgress) (command : Command) (outcome : Outcome) (h' : PartitionState D) (t' : RemoteTier S M)
-      → TurnRow disk store meta p config h t b work command outcome h' t' → Advances work outcome
-  advances_at p config h t b work command outcome h' t' w =
-      let r = row_of disk store meta p config h t b work command outcome h' t' w in
-      advances p config h t b r.x r.broker_tier work command outcome h' t' (row_may disk store meta p config h t b r.x r.broker_tier work command outcome h' t' r.row) r.row
+  pub advances_at : (p : PartitionId) (config : Config) (h : PartitionState D) (t : RemoteTier S M) (b : ℕ) (in_progress : InProgress) (command : Command) (outcome : Outcome) (h' : PartitionState D) (t' : RemoteTier S M)
+      → TurnRow disk store meta p config h t b in_progress command outcome h' t' → Advances in_progress outcome
+  advances_at p config h t b in_progress command outcome h' t' w =
+      let r = row_of disk store meta p config h t b in_progress command outcome h' t' w in
+      advances p config h t b r.x r.broker_tier in_progress command outcome h' t' (row_may disk store meta p config h t b r.x r.broker_tier in_progress command outcome h' t' r.row) r.row
 
 -- an actor's state after a turn leaves a turn less
-of_less : (orders : List Order) (actor_state : ActorState) (outcome : Outcome) → actor_state.number < length orders → Advances actor_state.work outcome → turns_of orders (actor_state_after actor_state outcome) + 1 ≤ turns_of orders actor_state
-of_less orders actor_state (Answers answer) lt on = let few = few_taken actor_state.work in omega (arith, lt, few)
+of_less : (orders : List Order) (actor_state : ActorState) (outcome : Outcome) → actor_state.number < length orders → Advances actor_state.in_progress outcome → turns_of orders (actor_state_after actor_state outcome) + 1 ≤ turns_of orders actor_state
+of_less orders actor_state (Answers answer) lt on = let few = few_taken actor_state.in_progress in omega (arith, lt, few)
 of_less orders actor_state (Begins g) lt on = omega (arith, lt, on)
-of_less orders actor_state (Chose copy) lt on = let few = few_taken (chosen actor_state.work copy) in omega (arith, lt, few, on)
-of_less orders actor_state (Goes next) lt on = let few = few_taken (moved actor_state.work next) in omega (arith, lt, few, on)
-of_less orders actor_state (Sought next) lt on = let few = few_taken (sought actor_state.work next) in omega (arith, lt, few, on)
-of_less orders actor_state (Dated cursor next) lt on = let few = few_taken (dated actor_state.work cursor next) in omega (arith, lt, few, on)
-of_less orders actor_state (Dooms segment) lt on = let few = few_taken (expired_segment actor_state.work segment) in omega (arith, lt, few, on)
-of_less orders actor_state (Deletes next) lt on = let few = few_taken (deleting actor_state.work next) in omega (arith, lt, few, on)
-of_less orders actor_state (Rebuilding next) lt on = let few = few_taken (rebuilding actor_state.work next) in omega (arith, lt, few, on)
+of_less orders actor_state (Chose copy) lt on = let few = few_taken (chosen actor_state.in_progress copy) in omega (arith, lt, few, on)
+of_less orders actor_state (Goes next) lt on = let few = few_taken (moved actor_state.in_progress next) in omega (arith, lt, few, on)
+of_less orders actor_state (Sought next) lt on = let few = few_taken (sought actor_state.in_progress next) in omega (arith, lt, few, on)
+of_less orders actor_state (Dated cursor next) lt on = let few = few_taken (dated actor_state.in_progress cursor next) in omega (arith, lt, few, on)
+of_less orders actor_state (ChoosesExpired segment) lt on = let few = few_taken (expired_segment actor_state.in_progress segment) in omega (arith, lt, few, on)
+of_less orders actor_state (Deletes next) lt on = let few = few_taken (deleting actor_state.in_progress next) in omega (arith, lt, few, on)
+of_less orders actor_state (Rebuilding next) lt on = let few = few_taken (rebuilding actor_state.in_progress next) in omega (arith, lt, few, on)
 
 pub turns_less : (lists : List ActorList) (desk : List ActorState) (i : ℕ) (l : ActorList) (actor_state : ActorState) (outcome : Outcome) → slice_get lists i ≡ Some l → slice_get desk i ≡ Some actor_state
-    → actor_state.number < length l.orders → Advances actor_state.work outcome → turns_left lists (slice_set desk i (actor_state_after actor_state outcome)) + 1 ≤ turns_left lists desk
+    → actor_state.number < length l.orders → Advances actor_state.in_progress outcome → turns_left lists (slice_set desk i (actor_state_after actor_state outcome)) + 1 ≤ turns_left lists desk
 turns_less [] desk i l actor_state outcome at to lt on = absurd cc
 turns_less (k ∷ lists) [] i l actor_state outcome at to lt on = absurd cc
 turns_less (k ∷ lists) (s ∷ desk) zero l actor_state outcome at to lt on =

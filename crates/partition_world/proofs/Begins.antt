@@ -27,7 +27,7 @@ use Rattle.partition_commands.specs.declared.partition_state.PartitionState.{Par
 use Rattle.partition_world.specs.declared.tier.BrokerTierState.{BrokerTierState}
 use Rattle.partition_world.specs.declared.tier.RemoteTier.{RemoteTier}
 use Rattle.partition_world.specs.declared.actor_state.Outcome.{Outcome}
-use Rattle.partition_world.specs.declared.actor_state.Outcome.TheVariants.{Answers, Begins, Chose, Goes, Seeks as Sought, Dates as Dated, Dooms, Deletes, Rebuilds as Rebuilding}
+use Rattle.partition_world.specs.declared.actor_state.Outcome.TheVariants.{Answers, Begins, Chose, Goes, Seeks as Sought, Dates as Dated, ChoosesExpired, Deletes, Rebuilds as Rebuilding}
 use Rattle.partition_world.specs.declared.actor_state.InProgress.{InProgress}
 use Rattle.partition_world.specs.declared.actor_state.InProgress.TheVariants.{Idle, Noted, Copies, Seeks, Dates, Expires, Rebuilds}
 use Rattle.partition_world.specs.Tier.{AtBrokerTier}
@@ -36,19 +36,19 @@ use Rattle.partition_world.specs.Turns.{BeginRow, ContinuedRow, CopyLaterRow, Se
 
 -- what a turn may come to where its actor's state has this
 abbrev pub MayComeTo : InProgress → Outcome → Type 0
-MayComeTo work (Answers answer) = Unit {0}
+MayComeTo in_progress (Answers answer) = Unit {0}
 MayComeTo Idle (Begins g) = Unit {0}
 MayComeTo (Noted g) (Chose copy) = Unit {0}
 MayComeTo (Noted g) (Sought next) = Unit {0}
 MayComeTo (Noted g) (Dated at next) = Unit {0}
-MayComeTo (Noted g) (Dooms segment) = Unit {0}
+MayComeTo (Noted g) (ChoosesExpired segment) = Unit {0}
 MayComeTo (Noted g) (Rebuilding next) = Unit {0}
 MayComeTo (Copies g copy before) (Goes next) = Unit {0}
 MayComeTo (Seeks g before) (Sought next) = Unit {0}
 MayComeTo (Dates g cursor before) (Dated at next) = Unit {0}
 MayComeTo (Expires g segment before) (Deletes next) = Unit {0}
 MayComeTo (Rebuilds g before) (Rebuilding next) = Unit {0}
-MayComeTo work outcome = ⊥
+MayComeTo in_progress outcome = ⊥
 
 own_may : (turn : Turned) (outcome : Outcome) → outcome ≡ outcome_of turn → MayComeTo Idle outcome
 own_may (turned.Answers answer) outcome is = rw is tt
@@ -68,18 +68,18 @@ rebuild_may g next (Ends answer) outcome is = rw is tt
 
 module _ {D S M : Type 0} (disk : DiskGhosts D) (store : StoreGhosts S) (meta : MetaGhosts M) where
   -- there are a broker and a tier state of a turn
-  pub record IsRow (p : PartitionId) (config : Config) (h : PartitionState D) (t : RemoteTier S M) (b : ℕ) (work : InProgress) (command : Command) (outcome : Outcome) (h' : PartitionState D) (t' : RemoteTier S M) : Type 0 where
+  pub record IsRow (p : PartitionId) (config : Config) (h : PartitionState D) (t : RemoteTier S M) (b : ℕ) (in_progress : InProgress) (command : Command) (outcome : Outcome) (h' : PartitionState D) (t' : RemoteTier S M) : Type 0 where
     pub x : Node D
     pub at : slice_get h.nodes b ≡ Some x
     pub broker_tier : BrokerTierState
     pub broker_tier_at : slice_get t.broker_tiers b ≡ Some broker_tier
-    pub row : Row disk store meta p config h t b x broker_tier work command outcome h' t'
+    pub row : Row disk store meta p config h t b x broker_tier in_progress command outcome h' t'
 
-  pub row_of : (p : PartitionId) (config : Config) (h : PartitionState D) (t : RemoteTier S M) (b : ℕ) (work : InProgress) (command : Command) (outcome : Outcome) (h' : PartitionState D) (t' : RemoteTier S M)
-      → TurnRow disk store meta p config h t b work command outcome h' t' → IsRow p config h t b work command outcome h' t'
-  row_of p config h t b work command outcome h' t' w =
-      let x = some_of (λ x. AtBrokerTier t b (λ broker_tier. Row disk store meta p config h t b x broker_tier work command outcome h' t')) (slice_get h.nodes b) w in
-      let broker_tier = some_of (λ broker_tier. Row disk store meta p config h t b x.0 broker_tier work command outcome h' t') (slice_get t.broker_tiers b) x.2 in
+  pub row_of : (p : PartitionId) (config : Config) (h : PartitionState D) (t : RemoteTier S M) (b : ℕ) (in_progress : InProgress) (command : Command) (outcome : Outcome) (h' : PartitionState D) (t' : RemoteTier S M)
+      → TurnRow disk store meta p config h t b in_progress command outcome h' t' → IsRow p config h t b in_progress command outcome h' t'
+  row_of p config h t b in_progress command outcome h' t' w =
+      let x = some_of (λ x. AtBrokerTier t b (λ broker_tier. Row disk store meta p config h t b x broker_tier in_progress command outcome h' t')) (slice_get h.nodes b) w in
+      let broker_tier = some_of (λ broker_tier. Row disk store meta p config h t b x.0 broker_tier in_progress command outcome h' t') (slice_get t.broker_tiers b) x.2 in
       record { x = x.0; at = x.1; broker_tier = broker_tier.0; broker_tier_at = broker_tier.1; row = broker_tier.2 }
 
   begin_may : (h : PartitionState D) (t : RemoteTier S M) (b : ℕ) (x : Node D) (broker_tier : BrokerTierState) (command : Command) (outcome : Outcome) (h' : PartitionState D) (t' : RemoteTier S M)
@@ -99,7 +99,7 @@ module _ {D S M : Type 0} (disk : DiskGhosts D) (store : StoreGhosts S) (meta : 
   recorded_may p config h t b x broker_tier g command (Chose copy) h' t' w = tt
   recorded_may p config h t b x broker_tier g command (Sought next) h' t' w = tt
   recorded_may p config h t b x broker_tier g command (Dated at next) h' t' w = tt
-  recorded_may p config h t b x broker_tier g command (Dooms segment) h' t' w = tt
+  recorded_may p config h t b x broker_tier g command (ChoosesExpired segment) h' t' w = tt
   recorded_may p config h t b x broker_tier g command (Rebuilding next) h' t' w = tt
   recorded_may p config h t b x broker_tier g Copy outcome h' t' (inl lost) = let e = lost.1 in absurd (cc (e))
   recorded_may p config h t b x broker_tier g Copy outcome h' t' (inr (keeps, inl level)) = let e = level.1 in absurd (cc (e))
@@ -151,8 +151,8 @@ module _ {D S M : Type 0} (disk : DiskGhosts D) (store : StoreGhosts S) (meta : 
   rebuilding_may p h t b x broker_tier g (Restart line) Join outcome h' t' w = let e = w.0.1 in absurd (cc (e))
   rebuilding_may p h t b x broker_tier g next command outcome h' t' w = elim w [ ]
 
-  pub row_may : (p : PartitionId) (config : Config) (h : PartitionState D) (t : RemoteTier S M) (b : ℕ) (x : Node D) (broker_tier : BrokerTierState) (work : InProgress) (command : Command) (outcome : Outcome) (h' : PartitionState D) (t' : RemoteTier S M)
-      → Row disk store meta p config h t b x broker_tier work command outcome h' t' → MayComeTo work outcome
+  pub row_may : (p : PartitionId) (config : Config) (h : PartitionState D) (t : RemoteTier S M) (b : ℕ) (x : Node D) (broker_tier : BrokerTierState) (in_progress : InProgress) (command : Command) (outcome : Outcome) (h' : PartitionState D) (t' : RemoteTier S M)
+      → Row disk store meta p config h t b x broker_tier in_progress command outcome h' t' → MayComeTo in_progress outcome
   row_may p config h t b x broker_tier Idle command outcome h' t' w = begin_may h t b x broker_tier command outcome h' t' w
   row_may p config h t b x broker_tier (Noted g) command outcome h' t' w = recorded_may p config h t b x broker_tier g command outcome h' t' w
   row_may p config h t b x broker_tier (Copies g copy next) command outcome h' t' w = copying_may h t b x broker_tier g copy next command outcome h' t' w
@@ -162,12 +162,12 @@ module _ {D S M : Type 0} (disk : DiskGhosts D) (store : StoreGhosts S) (meta : 
   row_may p config h t b x broker_tier (Expires g segment next) command outcome h' t' w = deleting_may h t b x g segment next command outcome h' t' w
   row_may p config h t b x broker_tier (Rebuilds g next) command outcome h' t' w = rebuilding_may p h t b x broker_tier g next command outcome h' t' w
 
-  began : (work : InProgress) (f : StartSnapshot) → MayComeTo work (Begins f) → work ≡ Idle
+  began : (in_progress : InProgress) (f : StartSnapshot) → MayComeTo in_progress (Begins f) → in_progress ≡ Idle
   began Idle f may = refl
-  began work f may = elim may [ ]
+  began in_progress f may = elim may [ ]
 
   -- nothing was kept of a command that begins
-  pub begins_idle : (p : PartitionId) (config : Config) (h : PartitionState D) (t : RemoteTier S M) (b : ℕ) (work : InProgress) (command : Command) (f : StartSnapshot) (h' : PartitionState D) (t' : RemoteTier S M)
-      → TurnRow disk store meta p config h t b work command (Begins f) h' t' → work ≡ Idle
-  begins_idle p config h t b work command f h' t' w =
-      let r = row_of p config h t b work command (Begins f) h' t' w in began work f (row_may p config h t b r.x r.broker_tier work command (Begins f) h' t' r.row)
+  pub begins_idle : (p : PartitionId) (config : Config) (h : PartitionState D) (t : RemoteTier S M) (b : ℕ) (in_progress : InProgress) (command : Command) (f : StartSnapshot) (h' : PartitionState D) (t' : RemoteTier S M)
+      → TurnRow disk store meta p config h t b in_progress command (Begins f) h' t' → in_progress ≡ Idle
+  begins_idle p config h t b in_progress command f h' t' w =
+      let r = row_of p config h t b in_progress command (Begins f) h' t' w in began in_progress f (row_may p config h t b r.x r.broker_tier in_progress command (Begins f) h' t' r.row)

@@ -42,7 +42,7 @@ use Rattle.partition_commands.proofs.Shown.{line_shown}
 use Rattle.tier_safe.specs.Changes.{Chooses, effect}
 use Rattle.tier_safe.specs.Lineage.{IsSource}
 use Rattle.tier_safe.specs.May.{MayChoose, IsChanged}
-use Rattle.tier_safe.specs.Scene.{Scene, BrokerTierView, TierTask as InProgressIsSeen, Free, Copies as CopiesSeen}
+use Rattle.tier_safe.specs.Scene.{Scene, BrokerTierView, TierTask, Free, Copies as CopiesSeen}
 use Rattle.tier_safe.specs.Views.{IsIdOf}
 use Rattle.tier_safe.proofs.Sources.{segments_are_sources}
 use Rattle.partition_world.specs.declared.actor_state.Outcome.TheVariants.{Chose}
@@ -53,11 +53,11 @@ use Rattle.partition_world.specs.declared.tier.BrokerTierState.{BrokerTierState}
 use Rattle.partition_world.specs.declared.tier.RemoteTier.{RemoteTier}
 use Rattle.partition_world.specs.Tier.{counted, put_broker_tier}
 use Rattle.partition_world.specs.ActorStates.{recorded_in, chosen, actor_state_seen, actor_state_after}
-use Rattle.partition_world.specs.Central.{broker_tier_seen, broker_tiers_seen, begun_of, work_of, desk_of, ShowsTier, IsCentral}
+use Rattle.partition_world.specs.Central.{broker_tier_seen, broker_tiers_seen, begun_of, tier_task_of, desk_of, ShowsTier, IsCentral}
 use Rattle.partition_world.specs.TurnsOfCopy.{KeepsLead, IsNextCopy, ReadsSegment}
 use Rattle.partition_world.specs.Whole.{Whole}
 use Rattle.partition_world.proofs.SceneParts.{tier_view_set, actor_state_set}
-use Rattle.partition_world.proofs.Scenes.{Place, tier_view, tier_view_is, seated}
+use Rattle.partition_world.proofs.Scenes.{Place, tier_view, tier_view_is, on_desk}
 
 -- ids
 
@@ -104,12 +104,12 @@ next_tier_view : (y : seen.Node) (broker_tier : BrokerTierState) → record (tie
 next_tier_view y broker_tier = ap (λ (n : ℕ). record (tier_view_of y (broker_tier_seen broker_tier)) { next = n }) (sym (next_number y.incarnation (next_of (broker_tier_seen broker_tier) y.incarnation + 1)))
 
 -- an actor's state that has recorded something, and chooses a copy
-recorded_free : (order : Order) (work : InProgress) (g : StartSnapshot) → work ≡ Noted g → order.command ≡ Copy → work_of (Some order) work ≡ Free
-recorded_free order work g recorded is = ap (λ (k : InProgress). work_of (Some order) k) recorded ∙ ap (λ (k : Command). begun_of order.broker.0 g k) is
+recorded_free : (order : Order) (in_progress : InProgress) (g : StartSnapshot) → in_progress ≡ Noted g → order.command ≡ Copy → tier_task_of (Some order) in_progress ≡ Free
+recorded_free order in_progress g recorded is = ap (λ (k : InProgress). tier_task_of (Some order) k) recorded ∙ ap (λ (k : Command). begun_of order.broker.0 g k) is
 
-chosen_copies : (o : Option Order) (order : Order) (work : InProgress) (g : StartSnapshot) (copy : Copied) → o ≡ Some order → work ≡ Noted g → work_of o (chosen work copy) ≡ CopiesSeen copy Start
-chosen_copies o order work g copy next recorded =
-    ap (λ (k : Option Order). work_of k (chosen work copy)) next ∙ ap (λ (k : InProgress). work_of (Some order) (chosen k copy)) recorded
+chosen_copies : (o : Option Order) (order : Order) (in_progress : InProgress) (g : StartSnapshot) (copy : Copied) → o ≡ Some order → in_progress ≡ Noted g → tier_task_of o (chosen in_progress copy) ≡ CopiesSeen copy Start
+chosen_copies o order in_progress g copy next recorded =
+    ap (λ (k : Option Order). tier_task_of k (chosen in_progress copy)) next ∙ ap (λ (k : InProgress). tier_task_of (Some order) (chosen k copy)) recorded
 
 module _ {D S M : Type 0} (disk : DiskGhosts D) (store : StoreGhosts S) (meta : MetaGhosts M) where
   module _ (opening : State) (w : Whole D S M) (c : IsCentral disk store meta opening w) (place : ℕ) (l : ActorList) (actor_state : ActorState) (order : Order) (z : Place disk store meta opening w c place l actor_state order) where
@@ -118,13 +118,13 @@ module _ {D S M : Type 0} (disk : DiskGhosts D) (store : StoreGhosts S) (meta : 
     chosen_scene copy = effect (Chooses place order.broker.0 (tier_view disk store meta opening w c place l actor_state order z) copy) c.scene
 
     -- what is copied is a closed segment of the leader's path
-    chosen_source : (g : StartSnapshot) (copy : Copied) → actor_state.work ≡ Noted g → order.command ≡ Copy → KeepsLead z.x g → IsSegmentOf z.s copy.segment
+    chosen_source : (g : StartSnapshot) (copy : Copied) → actor_state.in_progress ≡ Noted g → order.command ≡ Copy → KeepsLead z.x g → IsSegmentOf z.s copy.segment
         → IsNextCopy w.partition order.broker.0 z.x z.broker_tier copy.segment copy → IsSource c.central.plain.paths copy
     chosen_source g copy recorded is lead part k =
         let y = node_of z.x z.s in
         let P = λ (batch : List ℕ). IsOk (checked batch) in
         let stands = c.central.stands in
-        let at = broker_at c.partition c.central.plain order.broker.0 y stands.held z.sees.there in
+        let at = broker_at c.partition c.central.plain order.broker.0 y stands.partition_state z.sees.there in
         let actor_states = stands.desk place l (actor_state_seen actor_state) z.list (map_get actor_state_seen w.desk place actor_state z.actor_state_is) in
         let on = going c.central.plain y order l (actor_state_seen actor_state) g c.central.safe actor_states z.next (ap recorded_in recorded) at in
         let leads = on.leads (ap is_leaders is) in
@@ -139,7 +139,7 @@ module _ {D S M : Type 0} (disk : DiskGhosts D) (store : StoreGhosts S) (meta : 
         segments_are_sources c.central.plain order.broker.0 (broker_of y) leads.0 copy k.is part.before part.after c.central.safe at (sym lead.role ∙ leads.1) parts part.begins cut
 
     -- choosing it is a change of the tier
-    pub chosen_changed : (g : StartSnapshot) (copy : Copied) (offset : ℕ) (x' : Node D) → actor_state.work ≡ Noted g → order.command ≡ Copy → KeepsLead z.x g → ReadsSegment disk z.x offset copy.segment x'
+    pub chosen_changed : (g : StartSnapshot) (copy : Copied) (offset : ℕ) (x' : Node D) → actor_state.in_progress ≡ Noted g → order.command ≡ Copy → KeepsLead z.x g → ReadsSegment disk z.x offset copy.segment x'
         → IsNextCopy w.partition order.broker.0 z.x z.broker_tier copy.segment copy → IsChanged c.scene c.central.plain (chosen_scene copy)
     chosen_changed g copy offset x' recorded is lead reads k =
         let b = order.broker.0 in
@@ -147,7 +147,7 @@ module _ {D S M : Type 0} (disk : DiskGhosts D) (store : StoreGhosts S) (meta : 
         let id : IsIdOf copy.id w.partition.0 b at.incarnation at.next =
         opened_so disk.content z.x.log z.s (λ (i : ℕ). IsIdOf copy.id w.partition.0 b i (next_of (broker_tier_seen z.broker_tier) i)) z.sees.shows k.id in
         let may : MayChoose place b at copy c.scene c.central.plain = record {
-          actor_state = seated disk store meta opening w c place l actor_state order z ∙ ap (λ (t : InProgressIsSeen). Some t) (recorded_free order actor_state.work g recorded is);
+          actor_state = on_desk disk store meta opening w c place l actor_state order z ∙ ap (λ (t : TierTask). Some t) (recorded_free order actor_state.in_progress g recorded is);
           tier_view_is = tier_view_is disk store meta opening w c place l actor_state order z;
           up = lead.up;
           partition = k.partition_is ∙ sym c.shows_tier.partition;
@@ -159,7 +159,7 @@ module _ {D S M : Type 0} (disk : DiskGhosts D) (store : StoreGhosts S) (meta : 
 
     -- how the tier is seen then
     pub chosen_shown : (w' : Whole D S M) (g : StartSnapshot) (copy : Copied) → w'.partition ≡ w.partition → w'.lists ≡ w.lists → w'.desk ≡ slice_set w.desk place (actor_state_after actor_state (Chose copy))
-        → IsSomeAnd (incarnation_in z.x.log) (λ i. w'.tier ≡ put_broker_tier w.tier order.broker.0 (counted z.broker_tier i)) → actor_state.work ≡ Noted g → ShowsTier store meta w' c.partition (chosen_scene copy)
+        → IsSomeAnd (incarnation_in z.x.log) (λ i. w'.tier ≡ put_broker_tier w.tier order.broker.0 (counted z.broker_tier i)) → actor_state.in_progress ≡ Noted g → ShowsTier store meta w' c.partition (chosen_scene copy)
     chosen_shown w' g copy part lists desk counts recorded =
         let b = order.broker.0 in
         let y = node_of z.x z.s in
@@ -179,8 +179,8 @@ module _ {D S M : Type 0} (disk : DiskGhosts D) (store : StoreGhosts S) (meta : 
               ∙ (ap (λ (k : BrokerTierView). slice_set (tier_views_of c.partition.nodes (broker_tiers_seen w.tier.broker_tiers)) b k) (next_tier_view y z.broker_tier)
               ∙ (sym (tier_view_set c.partition.nodes w.tier.broker_tiers b y (counted z.broker_tier z.s.incarnation) z.sees.there)
               ∙ ap (λ (t : RemoteTier S M). tier_views_of c.partition.nodes (broker_tiers_seen t.broker_tiers)) (sym tier)));
-          desk = ap (λ (k : List InProgressIsSeen). slice_set k place (CopiesSeen copy Start)) c.shows_tier.desk
-              ∙ (ap (λ (k : InProgressIsSeen). slice_set (desk_of w.lists w.desk) place k) (sym (chosen_copies _ order actor_state.work g copy z.next recorded))
+          desk = ap (λ (k : List TierTask). slice_set k place (CopiesSeen copy Start)) c.shows_tier.desk
+              ∙ (ap (λ (k : TierTask). slice_set (desk_of w.lists w.desk) place k) (sym (chosen_copies _ order actor_state.in_progress g copy z.next recorded))
               ∙ (sym (actor_state_set w.lists w.desk place l after z.list)
               ∙ (ap (λ (k : List ActorList). desk_of k (slice_set w.desk place after)) (sym lists) ∙ ap (λ (k : List ActorState). desk_of w'.lists k) (sym desk))));
         }

@@ -25,9 +25,9 @@ use Rattle.laws_partition.specs.Central.{ProgressMatches, recorded_at}
 use Rattle.laws_partition.specs.Fresh.{fresh_actor_state as seen_fresh}
 use Rattle.laws_partition.proofs.FreshSound.{length_replicate}
 use Rattle.laws_tier_turns.specs.BrokerTiers.{tier_views_of, BrokerTierModel as BrokerTierIsSeen, fresh_broker_tier as fresh_seen}
-use Rattle.partition_commands.specs.Cold.{ShowDisks, node_back, held_back}
+use Rattle.partition_commands.specs.Cold.{ShowDisks, node_back, partition_back}
 use Rattle.partition_commands.proofs.ColdDisks.{cold_shown}
-use Rattle.tier_safe.specs.Scene.{Scene, TierTask as InProgressIsSeen, Free, Copies, Expires, Rebuilds, Seeks}
+use Rattle.tier_safe.specs.Scene.{Scene, TierTask, Free, Copies, Expires, Rebuilds, Seeks}
 use Rattle.tier_safe.specs.Safe.{TierSafe}
 use Rattle.tier_safe.specs.Views.{IsIdUsed}
 use Rattle.partition_world.specs.declared.actor_state.ActorState.{ActorState}
@@ -53,14 +53,14 @@ replicated (suc n) x zero y e = cc
 replicated (suc n) x (suc i) y e = replicated n x i y e
 
 -- nothing is on the desk
-abbrev IsFree : List InProgressIsSeen → Type 0
-IsFree desk = (a : ℕ) (work : InProgressIsSeen) → slice_get desk a ≡ Some work → work ≡ Free
+abbrev IsFree : List TierTask → Type 0
+IsFree desk = (a : ℕ) (in_progress : TierTask) → slice_get desk a ≡ Some in_progress → in_progress ≡ Free
 
 is_free : (n : ℕ) → IsFree (replicate n Free)
-is_free n a work at = sym (replicated n Free a work at)
+is_free n a in_progress at = sym (replicated n Free a in_progress at)
 
 -- a desk that is free may have as many places as it will
-free_tier : (c : Scene) (p : State) (desk : List InProgressIsSeen) → IsFree desk → TierSafe c p → TierSafe (record c { desk = desk }) p
+free_tier : (c : Scene) (p : State) (desk : List TierTask) → IsFree desk → TierSafe c p → TierSafe (record c { desk = desk }) p
 free_tier c p desk free t = record {
   notes = record { right = t.notes.right; ids = λ a copy next at. absurd (let none = free a (Copies copy next) at in cc) };
   views = t.views;
@@ -128,14 +128,14 @@ module _ {D S M : Type 0} (disk : DiskGhosts D) (store : StoreGhosts S) (meta : 
 
     pub central_anew : IsCentral disk store (resolved meta) p (whole_with w l)
     central_anew = record {
-      partition = held_back registry k.logs;
-      shows = cold_shown disk.content disk.control config.settings registry disks w.held k.logs f.held k.shows;
+      partition = partition_back registry k.logs;
+      shows = cold_shown disk.content disk.control config.settings registry disks w.partition_state k.logs f.partition_state k.shows;
       central = record {
         plain = p;
         replays = ap (λ (j : List JournalEntry). replay w.lists p j) f.journal;
         safe = k.safe;
         stands = record {
-          held = record { registry = k.registry_is; brokers = k.brokers };
+          partition_state = record { registry = k.registry_is; brokers = k.brokers };
           lines = k.lines;
           desk = λ place list actor_state at there.
               actor_state_stands p list actor_state k.actors (replicated (length lists) seen_fresh place actor_state (ap (λ (d : List ActorIsSeen). slice_get d place) (sym desk_fresh) ∙ there));

@@ -39,7 +39,7 @@ use Rattle.partition_commands.specs.Turns.{Row as OwnRowOf}
 use Rattle.partition_world.specs.declared.tier.BrokerTierState.{BrokerTierState}
 use Rattle.partition_world.specs.declared.tier.RemoteTier.{RemoteTier}
 use Rattle.partition_world.specs.declared.actor_state.Outcome.{Outcome}
-use Rattle.partition_world.specs.declared.actor_state.Outcome.TheVariants.{Answers, Begins, Chose, Seeks as Sought, Dates as Dated, Dooms, Rebuilds as Rebuilding}
+use Rattle.partition_world.specs.declared.actor_state.Outcome.TheVariants.{Answers, Begins, Chose, Seeks as Sought, Dates as Dated, ChoosesExpired, Rebuilds as Rebuilding}
 use Rattle.partition_world.specs.declared.actor_state.InProgress.{InProgress}
 use Rattle.partition_world.specs.declared.actor_state.InProgress.TheVariants.{Idle, Noted, Copies, Seeks, Dates, Expires, Rebuilds}
 use Rattle.partition_world.specs.ActorStates.{outcome_of, copy_outcome, fetch_outcome, date_outcome, expiry_outcome, rebuild_outcome}
@@ -177,7 +177,7 @@ module _ {D S M : Type 0} (disk : DiskGhosts D) (store : StoreGhosts S) (meta : 
 
   next_counts : (p : PartitionId) (h : PartitionState D) (t : RemoteTier S M) (b : ℕ) (x y : Node D) (broker_tier z : BrokerTierState) (offset : ℕ) (o : Outcome) (h' : PartitionState D) (t' : RemoteTier S M) → slice_get h.nodes b ≡ Some x
       → ReadSegmentRow disk p b x broker_tier offset o y z → h' ≡ put_node h b y → t' ≡ put_broker_tier t b z → Leaving (Once disk.control h b h') h t o h' t'
-  next_counts p h t b x y broker_tier z offset o h' t' at w held tier = go o w
+  next_counts p h t b x y broker_tier z offset o h' t' at w partition_state tier = go o w
     where
       stores : StoreStill store meta t.store t'.store
       stores = store_still store meta t.store t'.store (ap (λ (k : RemoteTier S M). k.store) tier)
@@ -188,20 +188,20 @@ module _ {D S M : Type 0} (disk : DiskGhosts D) (store : StoreGhosts S) (meta : 
       go : (o : Outcome) → ReadSegmentRow disk p b x broker_tier offset o y z → Leaving (Once disk.control h b h') h t o h' t'
       go (Answers DiskFault) w =
           let one : OneFault disk.control x.log y.log = rw w.0.reads.after w.0.cause in
-          (once_put disk.control h b x y h' at one held, stores, metas)
+          (once_put disk.control h b x y h' at one partition_state, stores, metas)
       go (Answers (Damaged (File name) place)) w =
           let quiet : NoFault disk.control x.log y.log = rw w.0.reads.after w.0.quiet in
-          (quiet_put disk.control h b x y h' at quiet held, stores, metas)
+          (quiet_put disk.control h b x y h' at quiet partition_state, stores, metas)
       go (Chose copy) w =
           let quiet : NoFault disk.control x.log y.log = rw w.0.reads.after w.0.quiet in
-          (quiet_put disk.control h b x y h' at quiet held, stores, metas)
+          (quiet_put disk.control h b x y h' at quiet partition_state, stores, metas)
       go other w = elim w [ ]
 
   choose_counts : (p : PartitionId) (h : PartitionState D) (t : RemoteTier S M) (b : ℕ) (x : Node D) (broker_tier : BrokerTierState) (g : StartSnapshot) (o : Outcome) (h' : PartitionState D) (t' : RemoteTier S M) → slice_get h.nodes b ≡ Some x
       → ChooseRow disk p h t b x broker_tier g o h' t' → Leaving (Once disk.control h b h') h t o h' t'
   choose_counts p h t b x broker_tier g o h' t' at (inl lost) = counts_as (Once disk.control h b h') h t h' t' o (Answers LostLead) lost.1 (all_still h t h' t' lost.2 lost.3)
   choose_counts p h t b x broker_tier g o h' t' at (inr (keeps, inl level)) = counts_as (Once disk.control h b h') h t h' t' o (Answers Level) level.1 (all_still h t h' t' level.2 level.3)
-  choose_counts p h t b x broker_tier g o h' t' at (inr (keeps, inr r)) = next_counts p h t b x r.node broker_tier r.broker_tier_after _ o h' t' at r.row r.held r.tier
+  choose_counts p h t b x broker_tier g o h' t' at (inr (keeps, inr r)) = next_counts p h t b x r.node broker_tier r.broker_tier_after _ o h' t' at r.row r.partition_state r.tier
 
   -- a later turn of a trim, and of a fetch
 
@@ -238,7 +238,7 @@ module _ {D S M : Type 0} (disk : DiskGhosts D) (store : StoreGhosts S) (meta : 
 
   expires_counts : (A : Type 0) (p : PartitionId) (h : PartitionState D) (t : RemoteTier S M) (b : ℕ) (x : Node D) (broker_tier : BrokerTierState) (keep : Keep) (o : Outcome) (h' : PartitionState D) (t' : RemoteTier S M) → slice_get h.nodes b ≡ Some x
       → is_up x ≡ true → t' ≡ t → ExpiresBy p h x broker_tier keep o h' → Leaving A h t o h' t'
-  expires_counts A p h t b x broker_tier keep (Dooms segment) h' t' at up same w = all_still h t h' t' w.stays same
+  expires_counts A p h t b x broker_tier keep (ChoosesExpired segment) h' t' at up same w = all_still h t h' t' w.stays same
   expires_counts A p h t b x broker_tier keep (Answers Remains) h' t' at up same w = all_still h t h' t' w.2 same
   expires_counts A p h t b x broker_tier keep (Answers answer) h' t' at up same w = raise_counts A h t b x w.0 answer h' t' at up same w.2
   expires_counts A p h t b x broker_tier keep other h' t' at up same w = elim w [ ]
@@ -279,12 +279,12 @@ module _ {D S M : Type 0} (disk : DiskGhosts D) (store : StoreGhosts S) (meta : 
   -- and of a question for the end in the remote tier
   offset_counts : (A : Type 0) (h : PartitionState D) (t : RemoteTier S M) (x : Node D) (broker_tier : BrokerTierState) (g : StartSnapshot) (o : Outcome) (h' : PartitionState D) (t' : RemoteTier S M) → h' ≡ h → t' ≡ t
       → OffsetOnRow h x broker_tier g o → Leaving A h t o h' t'
-  offset_counts A h t x broker_tier g (Answers Stopped) h' t' held tier w = all_still h t h' t' held tier
-  offset_counts A h t x broker_tier g (Answers NotLeader) h' t' held tier w = all_still h t h' t' held tier
-  offset_counts A h t x broker_tier g (Answers (OffsetAnswer n)) h' t' held tier w = all_still h t h' t' held tier
-  offset_counts A h t x broker_tier g (Answers NoOffset) h' t' held tier w = all_still h t h' t' held tier
-  offset_counts A h t x broker_tier g (Answers answer) h' t' held tier w = elim w.1 [ ]
-  offset_counts A h t x broker_tier g other h' t' held tier w = elim w [ ]
+  offset_counts A h t x broker_tier g (Answers Stopped) h' t' partition_state tier w = all_still h t h' t' partition_state tier
+  offset_counts A h t x broker_tier g (Answers NotLeader) h' t' partition_state tier w = all_still h t h' t' partition_state tier
+  offset_counts A h t x broker_tier g (Answers (OffsetAnswer n)) h' t' partition_state tier w = all_still h t h' t' partition_state tier
+  offset_counts A h t x broker_tier g (Answers NoOffset) h' t' partition_state tier w = all_still h t h' t' partition_state tier
+  offset_counts A h t x broker_tier g (Answers answer) h' t' partition_state tier w = elim w.1 [ ]
+  offset_counts A h t x broker_tier g other h' t' partition_state tier w = elim w [ ]
 
   -- and of a timestamp lookup, which reads the broker's log, or is among the remote segments
 
@@ -399,8 +399,8 @@ module _ {D S M : Type 0} (disk : DiskGhosts D) (store : StoreGhosts S) (meta : 
   rebuilding_counts p h t b x broker_tier g (Restart line) Join o h' t' at w = joined_counts h t b x (with_line g line) Join o h' t' at w
   rebuilding_counts p h t b x broker_tier g next other o h' t' at w = elim w [ ]
 
-  pub turn_counts : (p : PartitionId) (config : Config) (h : PartitionState D) (t : RemoteTier S M) (b : ℕ) (x : Node D) (broker_tier : BrokerTierState) (work : InProgress) (command : Command) (o : Outcome) (h' : PartitionState D) (t' : RemoteTier S M)
-      → slice_get h.nodes b ≡ Some x → Row disk store meta p config h t b x broker_tier work command o h' t' → Leaving (OnceFor disk.control command h b h') h t o h' t'
+  pub turn_counts : (p : PartitionId) (config : Config) (h : PartitionState D) (t : RemoteTier S M) (b : ℕ) (x : Node D) (broker_tier : BrokerTierState) (in_progress : InProgress) (command : Command) (o : Outcome) (h' : PartitionState D) (t' : RemoteTier S M)
+      → slice_get h.nodes b ≡ Some x → Row disk store meta p config h t b x broker_tier in_progress command o h' t' → Leaving (OnceFor disk.control command h b h') h t o h' t'
   turn_counts p config h t b x broker_tier Idle command o h' t' at w = begin_counts h t b x broker_tier command o h' t' at w
   turn_counts p config h t b x broker_tier (Noted g) command o h' t' at w = recorded_counts p config h t b x broker_tier g command o h' t' at w
   turn_counts p config h t b x broker_tier (Copies g copy next) command o h' t' at w = copying_counts (OnceFor disk.control command h b h') h t b x broker_tier g copy next command o h' t' w
@@ -410,12 +410,12 @@ module _ {D S M : Type 0} (disk : DiskGhosts D) (store : StoreGhosts S) (meta : 
   turn_counts p config h t b x broker_tier (Rebuilds g next) command o h' t' at w = rebuilding_counts p h t b x broker_tier g next command o h' t' at w
 
   -- of a world
-  pub turn_answers : (w : Whole D S M) (a : ℕ) (o : Outcome) (w' : Whole D S M) (t : IsTurn disk store meta w a o w') → HaveDisks w.held.nodes → AnswersFaults disk store meta t.order o w w'
+  pub turn_answers : (w : Whole D S M) (a : ℕ) (o : Outcome) (w' : Whole D S M) (t : IsTurn disk store meta w a o w') → HaveDisks w.partition_state.nodes → AnswersFaults disk store meta t.order o w w'
   turn_answers w a o w' t have =
-      let r = row_of disk store meta w.partition w.config w.held w.tier t.order.broker.0 t.actor_state.work t.order.command o w'.held w'.tier t.row in
-      let k = turn_counts w.partition w.config w.held w.tier t.order.broker.0 r.x r.broker_tier t.actor_state.work t.order.command o w'.held w'.tier r.at r.row in
+      let r = row_of disk store meta w.partition w.config w.partition_state w.tier t.order.broker.0 t.actor_state.in_progress t.order.command o w'.partition_state w'.tier t.row in
+      let k = turn_counts w.partition w.config w.partition_state w.tier t.order.broker.0 r.x r.broker_tier t.actor_state.in_progress t.order.command o w'.partition_state w'.tier r.at r.row in
       record {
-        disks = counts_by disk.control t.order.command w.held t.order.broker.0 w'.held (is_answered is_of_disk o) have k.0;
+        disks = counts_by disk.control t.order.command w.partition_state t.order.broker.0 w'.partition_state (is_answered is_of_disk o) have k.0;
         store_counts = k.1;
         meta_counts = k.2;
       }

@@ -271,9 +271,9 @@ module _ {D S M : Type 0} (disk : DiskGhosts D) (store : StoreGhosts S) (meta : 
       meta_still store meta t.meta t'.meta (ap (λ (k : RemoteTier S M). k.meta) wants.after)
 
   -- the disks
-  held_quiet : (h h' : PartitionState D) → KeepsPartition disk.content disk.control h h' → Quietly disk.control h h'
-  held_quiet h h' (inl same) = quiet_same disk.control h h' same
-  held_quiet h h' (inr (b, at)) =
+  partition_state_quiet : (h h' : PartitionState D) → KeepsPartition disk.content disk.control h h' → Quietly disk.control h h'
+  partition_state_quiet h h' (inl same) = quiet_same disk.control h h' same
+  partition_state_quiet h h' (inr (b, at)) =
       let x = some_of (λ x. LogRests disk.content disk.control h b x h') (slice_get h.nodes b) at in
       quiet_put disk.control h b x.0 (record x.0 { log = x.2.0 }) h' x.1 x.2.2.1 x.2.3
 
@@ -281,7 +281,7 @@ module _ {D S M : Type 0} (disk : DiskGhosts D) (store : StoreGhosts S) (meta : 
   stays_quiet : (h : PartitionState D) (t : RemoteTier S M) (b : ℕ) (h' : PartitionState D) (t' : RemoteTier S M) → StaysSome disk store meta h t b h' t'
       → Quietly disk.control h h' × StoreStill store meta t.store t'.store × MetaStill store meta t.meta t'.meta
   stays_quiet h t b h' t' (inl (rests, same)) = (
-    held_quiet h h' rests,
+    partition_state_quiet h h' rests,
     store_still store meta t.store t'.store (ap (λ (k : RemoteTier S M). k.store) same),
     meta_still store meta t.meta t'.meta (ap (λ (k : RemoteTier S M). k.meta) same),
   )
@@ -291,8 +291,8 @@ module _ {D S M : Type 0} (disk : DiskGhosts D) (store : StoreGhosts S) (meta : 
       (quiet_same disk.control h h' same, halts_store h t b x.0 broker_tier.0 t' broker_tier.2, halts_meta h t b x.0 broker_tier.0 t' broker_tier.2)
 
   -- a world's
-  pub halts_quietly : (w : Whole D S M) (a : ℕ) (w' : Whole D S M) → StaysWhole disk store meta w a w' → HaveDisks w.held.nodes → MeetsNoFault disk store meta w w'
+  pub halts_quietly : (w : Whole D S M) (a : ℕ) (w' : Whole D S M) → StaysWhole disk store meta w a w' → HaveDisks w.partition_state.nodes → MeetsNoFault disk store meta w w'
   halts_quietly w a w' s have =
-      let some = stays_some disk store meta w.partition w.held w.tier s.order.broker.0 s.actor_state.work s.order.command w'.held w'.tier s.tier in
-      let k = stays_quiet w.held w.tier s.order.broker.0 w'.held w'.tier some in
+      let some = stays_some disk store meta w.partition w.partition_state w.tier s.order.broker.0 s.actor_state.in_progress s.order.command w'.partition_state w'.tier s.tier in
+      let k = stays_quiet w.partition_state w.tier s.order.broker.0 w'.partition_state w'.tier some in
       record { disks = k.0 have; store_counts = k.1; meta_counts = k.2 }

@@ -38,11 +38,11 @@ use Rattle.partition_commands.specs.declared.partition_state.Node.{Node}
 use Rattle.partition_commands.specs.declared.partition_state.PartitionState.{PartitionState}
 use Rattle.partition_commands.specs.Partition.{is_up, line_of, local_of}
 use Rattle.partition_commands.specs.Stopping.{HaveStopped}
-use Rattle.partition_commands.proofs.StoppingRows.{StopsStay, StopsRise, StopsBy, rises, stays_same, stays_put, row_stops, held_stops}
+use Rattle.partition_commands.proofs.StoppingRows.{StopsStay, StopsRise, StopsBy, rises, stays_same, stays_put, row_stops, partition_state_stops}
 use Rattle.partition_world.specs.declared.tier.BrokerTierState.{BrokerTierState}
 use Rattle.partition_world.specs.declared.tier.RemoteTier.{RemoteTier}
 use Rattle.partition_world.specs.declared.actor_state.Outcome.{Outcome}
-use Rattle.partition_world.specs.declared.actor_state.Outcome.TheVariants.{Answers, Begins, Chose, Goes, Seeks as Sought, Dates as Dated, Dooms, Deletes, Rebuilds as Rebuilding}
+use Rattle.partition_world.specs.declared.actor_state.Outcome.TheVariants.{Answers, Begins, Chose, Goes, Seeks as Sought, Dates as Dated, ChoosesExpired, Deletes, Rebuilds as Rebuilding}
 use Rattle.partition_world.specs.declared.actor_state.InProgress.{InProgress}
 use Rattle.partition_world.specs.declared.actor_state.InProgress.TheVariants.{Idle, Noted, Copies, Seeks, Dates, Expires, Rebuilds}
 use Rattle.partition_world.specs.Tier.{next_of, counted, AtBrokerTier}
@@ -161,51 +161,51 @@ module _ {S M : Type 0} where
 
 -- how many actors' states have begun and chosen no segment, after a turn
 
-chosen_waits : (work : InProgress) (copy : Copied) → MayComeTo work (Chose copy) → waits (chosen work copy) + 1 ≤ waits work
+chosen_waits : (in_progress : InProgress) (copy : Copied) → MayComeTo in_progress (Chose copy) → waits (chosen in_progress copy) + 1 ≤ waits in_progress
 chosen_waits (Noted g) copy may = omega arith
-chosen_waits work copy may = elim may [ ]
+chosen_waits in_progress copy may = elim may [ ]
 
-moved_waits : (work : InProgress) (next : CopyStep) → MayComeTo work (Goes next) → waits (moved work next) ≤ waits work
+moved_waits : (in_progress : InProgress) (next : CopyStep) → MayComeTo in_progress (Goes next) → waits (moved in_progress next) ≤ waits in_progress
 moved_waits (Copies g copy before) next may = omega arith
-moved_waits work next may = elim may [ ]
+moved_waits in_progress next may = elim may [ ]
 
-sought_waits : (work : InProgress) (next : Search) → MayComeTo work (Sought next) → waits (sought work next) ≤ waits work
+sought_waits : (in_progress : InProgress) (next : Search) → MayComeTo in_progress (Sought next) → waits (sought in_progress next) ≤ waits in_progress
 sought_waits (Noted g) next may = omega arith
 sought_waits (Seeks g before) next may = omega arith
-sought_waits work next may = elim may [ ]
+sought_waits in_progress next may = elim may [ ]
 
-dated_waits : (work : InProgress) (cursor : ℕ) (next : Dating) → MayComeTo work (Dated cursor next) → waits (dated work cursor next) ≤ waits work
+dated_waits : (in_progress : InProgress) (cursor : ℕ) (next : Dating) → MayComeTo in_progress (Dated cursor next) → waits (dated in_progress cursor next) ≤ waits in_progress
 dated_waits (Noted g) cursor next may = omega arith
 dated_waits (Dates g was before) cursor next may = omega arith
-dated_waits work cursor next may = elim may [ ]
+dated_waits in_progress cursor next may = elim may [ ]
 
-expired_segment_waits : (work : InProgress) (segment : ExpiredSegment) → MayComeTo work (Dooms segment) → waits (expired_segment work segment) ≤ waits work
+expired_segment_waits : (in_progress : InProgress) (segment : ExpiredSegment) → MayComeTo in_progress (ChoosesExpired segment) → waits (expired_segment in_progress segment) ≤ waits in_progress
 expired_segment_waits (Noted g) segment may = omega arith
-expired_segment_waits work segment may = elim may [ ]
+expired_segment_waits in_progress segment may = elim may [ ]
 
-deleting_waits : (work : InProgress) (next : Deletion) → MayComeTo work (Deletes next) → waits (deleting work next) ≤ waits work
+deleting_waits : (in_progress : InProgress) (next : Deletion) → MayComeTo in_progress (Deletes next) → waits (deleting in_progress next) ≤ waits in_progress
 deleting_waits (Expires g segment before) next may = omega arith
-deleting_waits work next may = elim may [ ]
+deleting_waits in_progress next may = elim may [ ]
 
-rebuilding_waits : (work : InProgress) (next : Rebuild) → MayComeTo work (Rebuilding next) → waits (rebuilding work next) ≤ waits work
+rebuilding_waits : (in_progress : InProgress) (next : Rebuild) → MayComeTo in_progress (Rebuilding next) → waits (rebuilding in_progress next) ≤ waits in_progress
 rebuilding_waits (Noted g) next may = omega arith
 rebuilding_waits (Rebuilds g before) next may = omega arith
-rebuilding_waits work next may = elim may [ ]
+rebuilding_waits in_progress next may = elim may [ ]
 
-waits_after : (actor_state : ActorState) (o : Outcome) → MayComeTo actor_state.work o → waits (actor_state_after actor_state o).work + chose o ≤ waits actor_state.work + told_count o
+waits_after : (actor_state : ActorState) (o : Outcome) → MayComeTo actor_state.in_progress o → waits (actor_state_after actor_state o).in_progress + chose o ≤ waits actor_state.in_progress + told_count o
 waits_after actor_state (Answers answer) may = omega arith
 waits_after actor_state (Begins g) may = omega arith
-waits_after actor_state (Chose copy) may = let le = chosen_waits actor_state.work copy may in omega (arith, le)
-waits_after actor_state (Goes next) may = let le = moved_waits actor_state.work next may in omega (arith, le)
-waits_after actor_state (Sought next) may = let le = sought_waits actor_state.work next may in omega (arith, le)
-waits_after actor_state (Dated cursor next) may = let le = dated_waits actor_state.work cursor next may in omega (arith, le)
-waits_after actor_state (Dooms segment) may = let le = expired_segment_waits actor_state.work segment may in omega (arith, le)
-waits_after actor_state (Deletes next) may = let le = deleting_waits actor_state.work next may in omega (arith, le)
-waits_after actor_state (Rebuilding next) may = let le = rebuilding_waits actor_state.work next may in omega (arith, le)
+waits_after actor_state (Chose copy) may = let le = chosen_waits actor_state.in_progress copy may in omega (arith, le)
+waits_after actor_state (Goes next) may = let le = moved_waits actor_state.in_progress next may in omega (arith, le)
+waits_after actor_state (Sought next) may = let le = sought_waits actor_state.in_progress next may in omega (arith, le)
+waits_after actor_state (Dated cursor next) may = let le = dated_waits actor_state.in_progress cursor next may in omega (arith, le)
+waits_after actor_state (ChoosesExpired segment) may = let le = expired_segment_waits actor_state.in_progress segment may in omega (arith, le)
+waits_after actor_state (Deletes next) may = let le = deleting_waits actor_state.in_progress next may in omega (arith, le)
+waits_after actor_state (Rebuilding next) may = let le = rebuilding_waits actor_state.in_progress next may in omega (arith, le)
 
-waiting_set : (desk : List ActorState) (i : ℕ) (actor_state after : ActorState) (c d : ℕ) → slice_get desk i ≡ Some actor_state → waits after.work + c ≤ waits actor_state.work + d → waiting (slice_set desk i after) + c ≤ waiting desk + d
+waiting_set : (desk : List ActorState) (i : ℕ) (actor_state after : ActorState) (c d : ℕ) → slice_get desk i ≡ Some actor_state → waits after.in_progress + c ≤ waits actor_state.in_progress + d → waiting (slice_set desk i after) + c ≤ waiting desk + d
 waiting_set [] i actor_state after c d at le = absurd cc
-waiting_set (s ∷ desk) zero actor_state after c d at le = let one : s ≡ actor_state = cc in omega (arith, le, ap (λ (k : ActorState). waits k.work) one)
+waiting_set (s ∷ desk) zero actor_state after c d at le = let one : s ≡ actor_state = cc in omega (arith, le, ap (λ (k : ActorState). waits k.in_progress) one)
 waiting_set (s ∷ desk) (suc i) actor_state after c d at le = let h = waiting_set desk i actor_state after c d at le in omega (arith, h)
 
 module _ {D S M : Type 0} (disk : DiskGhosts D) (store : StoreGhosts S) (meta : MetaGhosts M) where
@@ -214,7 +214,7 @@ module _ {D S M : Type 0} (disk : DiskGhosts D) (store : StoreGhosts S) (meta : 
   choose_to p h t b x broker_tier g outcome h' t' at (inl lost) = to_same outcome h h' lost.2
   choose_to p h t b x broker_tier g outcome h' t' at (inr (keeps, inl level)) = to_same outcome h h' level.2
   choose_to p h t b x broker_tier g outcome h' t' at (inr (keeps, inr reads)) =
-      to_put outcome h b x reads.node h' at (next_stops disk p b x broker_tier _ outcome reads.node reads.broker_tier_after reads.row) reads.held
+      to_put outcome h b x reads.node h' at (next_stops disk p b x broker_tier _ outcome reads.node reads.broker_tier_after reads.row) reads.partition_state
 
   trim_to : (h : PartitionState D) (b : ℕ) (x : Node D) (broker_tier : BrokerTierState) (g : StartSnapshot) (keep : Keep) (outcome : Outcome) (h' : PartitionState D)
       → slice_get h.nodes b ≡ Some x → TrimOnRow disk h b x broker_tier g keep outcome h' → StopsTo outcome h h'
@@ -230,7 +230,7 @@ module _ {D S M : Type 0} (disk : DiskGhosts D) (store : StoreGhosts S) (meta : 
 
   expires_to : (p : PartitionId) (h : PartitionState D) (b : ℕ) (x : Node D) (broker_tier : BrokerTierState) (keep : Keep) (outcome : Outcome) (h' : PartitionState D) → slice_get h.nodes b ≡ Some x → is_up x ≡ true
       → ExpiresBy p h x broker_tier keep outcome h' → StopsTo outcome h h'
-  expires_to p h b x broker_tier keep (Dooms segment) h' at up w = to_same (Dooms segment) h h' w.stays
+  expires_to p h b x broker_tier keep (ChoosesExpired segment) h' at up w = to_same (ChoosesExpired segment) h h' w.stays
   expires_to p h b x broker_tier keep (Answers Kept) h' at up w = to_same (Answers Kept) h h' w.2
   expires_to p h b x broker_tier keep (Answers answer) h' at up w = raise_to h b x w.0 answer h' at up w.2
   expires_to p h b x broker_tier keep other h' at up w = elim w [ ]
@@ -318,8 +318,8 @@ module _ {D S M : Type 0} (disk : DiskGhosts D) (store : StoreGhosts S) (meta : 
   rebuilding_to p h t b x broker_tier g (Restart line) Join outcome h' t' at w = to_as h h' outcome (Answers w.0.0) w.0.1 (row_stops disk.content disk.control h b x (Some (with_line g line)) Join (turned.Answers w.0.0) h' at w.0.2)
   rebuilding_to p h t b x broker_tier g next other outcome h' t' at w = elim w [ ]
 
-  row_to : (p : PartitionId) (config : Config) (h : PartitionState D) (t : RemoteTier S M) (b : ℕ) (x : Node D) (broker_tier : BrokerTierState) (work : InProgress) (command : Command) (outcome : Outcome) (h' : PartitionState D) (t' : RemoteTier S M)
-      → slice_get h.nodes b ≡ Some x → Row disk store meta p config h t b x broker_tier work command outcome h' t' → StopsTo outcome h h'
+  row_to : (p : PartitionId) (config : Config) (h : PartitionState D) (t : RemoteTier S M) (b : ℕ) (x : Node D) (broker_tier : BrokerTierState) (in_progress : InProgress) (command : Command) (outcome : Outcome) (h' : PartitionState D) (t' : RemoteTier S M)
+      → slice_get h.nodes b ≡ Some x → Row disk store meta p config h t b x broker_tier in_progress command outcome h' t' → StopsTo outcome h h'
   row_to p config h t b x broker_tier Idle command outcome h' t' at w = begins_to h t b x broker_tier command outcome h' t' at w
   row_to p config h t b x broker_tier (Noted g) command outcome h' t' at w = recorded_to p config h t b x broker_tier g command outcome h' t' at w
   row_to p config h t b x broker_tier (Copies g copy next) command outcome h' t' at w = copying_to h t b x broker_tier g copy next command outcome h' t' w
@@ -459,8 +459,8 @@ module _ {D S M : Type 0} (disk : DiskGhosts D) (store : StoreGhosts S) (meta : 
   rebuilding_tries p h t b x broker_tier g (Restart line) Join outcome h' t' w = tries_same broker_tier t t' (ap (λ (k : RemoteTier S M). k.broker_tiers) w.1)
   rebuilding_tries p h t b x broker_tier g next other outcome h' t' w = elim w [ ]
 
-  row_tries : (p : PartitionId) (config : Config) (h : PartitionState D) (t : RemoteTier S M) (b : ℕ) (x : Node D) (broker_tier : BrokerTierState) (work : InProgress) (command : Command) (outcome : Outcome) (h' : PartitionState D) (t' : RemoteTier S M)
-      → Row disk store meta p config h t b x broker_tier work command outcome h' t' → TriesBy outcome broker_tier t t'
+  row_tries : (p : PartitionId) (config : Config) (h : PartitionState D) (t : RemoteTier S M) (b : ℕ) (x : Node D) (broker_tier : BrokerTierState) (in_progress : InProgress) (command : Command) (outcome : Outcome) (h' : PartitionState D) (t' : RemoteTier S M)
+      → Row disk store meta p config h t b x broker_tier in_progress command outcome h' t' → TriesBy outcome broker_tier t t'
   row_tries p config h t b x broker_tier Idle command outcome h' t' w = more outcome broker_tier t t' (begins_tries h t b x broker_tier command outcome h' t' w)
   row_tries p config h t b x broker_tier (Noted g) command outcome h' t' w = recorded_tries p config h t b x broker_tier g command outcome h' t' w
   row_tries p config h t b x broker_tier (Copies g copy next) command outcome h' t' w = more outcome broker_tier t t' (copying_tries h t b x broker_tier g copy next command outcome h' t' w)
@@ -483,23 +483,23 @@ module _ {D S M : Type 0} (disk : DiskGhosts D) (store : StoreGhosts S) (meta : 
   -- a world's counts after a turn
   pub counted_after : (config : Config) (lists : List ActorList) (p : PartitionId) (h : PartitionState D) (t : RemoteTier S M) (h' : PartitionState D) (t' : RemoteTier S M) (desk desk' : List ActorState) (entered entered' place : ℕ) (l : ActorList) (actor_state : ActorState)
       (order : Order) (outcome : Outcome) → AreCounted lists h t.broker_tiers desk entered → slice_get lists place ≡ Some l → slice_get desk place ≡ Some actor_state → actor_state.number < length l.orders
-      → TurnRow disk store meta p config h t order.broker.0 actor_state.work order.command outcome h' t' → desk' ≡ slice_set desk place (actor_state_after actor_state outcome)
+      → TurnRow disk store meta p config h t order.broker.0 actor_state.in_progress order.command outcome h' t' → desk' ≡ slice_set desk place (actor_state_after actor_state outcome)
       → entered' ≡ entered + told_count outcome → AreCounted lists h' t'.broker_tiers desk' entered'
   counted_after config lists p h t h' t' desk desk' entered entered' place l actor_state order outcome s at to lt row desk_is is =
       let less = entries_after disk store meta lists p config h t h' t' desk place l actor_state order outcome at to lt row in
-      let r = row_of disk store meta p config h t order.broker.0 actor_state.work order.command outcome h' t' row in
+      let r = row_of disk store meta p config h t order.broker.0 actor_state.in_progress order.command outcome h' t' row in
       let m = s.tried.0 in
       let tries = s.tried.1 in
       let sum = s.tried.2 in
       let wait = waiting_set desk place actor_state (actor_state_after actor_state outcome) (chose outcome) (told_count outcome) to
-      (waits_after actor_state outcome (row_may disk store meta p config h t order.broker.0 r.x r.broker_tier actor_state.work order.command outcome h' t' r.row)) in
+      (waits_after actor_state outcome (row_may disk store meta p config h t order.broker.0 r.x r.broker_tier actor_state.in_progress order.command outcome h' t' r.row)) in
       let few = s.few in
       record {
         few = rw desk_is (omega (arith, less, few, is));
-        stopped = rw is (row_to p config h t order.broker.0 r.x r.broker_tier actor_state.work order.command outcome h' t' r.at r.row entered s.stopped);
+        stopped = rw is (row_to p config h t order.broker.0 r.x r.broker_tier actor_state.in_progress order.command outcome h' t' r.at r.row entered s.stopped);
         tried = (
           m + chose outcome,
-          row_tries p config h t order.broker.0 r.x r.broker_tier actor_state.work order.command outcome h' t' r.row m (tries order.broker.0 r.broker_tier r.broker_tier_at) tries,
+          row_tries p config h t order.broker.0 r.x r.broker_tier actor_state.in_progress order.command outcome h' t' r.row m (tries order.broker.0 r.broker_tier r.broker_tier_at) tries,
           rw desk_is (omega (arith, wait, sum, is)),
         );
       }
@@ -509,7 +509,7 @@ module _ {D S M : Type 0} (disk : DiskGhosts D) (store : StoreGhosts S) (meta : 
       → StaysSome disk store meta h t b h' t' → AreCounted lists h' t'.broker_tiers desk entered
   counted_after_none lists h t b h' t' desk entered s (inl k) = record {
     few = s.few;
-    stopped = held_stops disk.content disk.control h h' k.0 entered s.stopped;
+    stopped = partition_state_stops disk.content disk.control h h' k.0 entered s.stopped;
     tried = (s.tried.0, subst (HaveTried s.tried.0) (sym (ap (λ (k : RemoteTier S M). k.broker_tiers) k.1)) s.tried.1, s.tried.2);
   }
   counted_after_none lists h t b h' t' desk entered s (inr k) =
@@ -546,7 +546,7 @@ told_length actor number command (Chose copy) = refl
 told_length actor number command (Goes next) = refl
 told_length actor number command (Sought next) = refl
 told_length actor number command (Dated cursor next) = refl
-told_length actor number command (Dooms segment) = refl
+told_length actor number command (ChoosesExpired segment) = refl
 told_length actor number command (Deletes next) = refl
 told_length actor number command (Rebuilding next) = refl
 

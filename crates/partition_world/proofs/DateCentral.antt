@@ -42,9 +42,9 @@ use Rattle.laws_tier_turns.specs.BrokerTiers.{greatest}
 use Rattle.laws_tier_turns.specs.Turns.{may_raise}
 use Rattle.partition_commands.specs.declared.partition_state.Node.{Node}
 use Rattle.partition_commands.specs.Partition.{local_of, line_of, node_of, put_node, ShowsPartition}
-use Rattle.partition_commands.proofs.Shown.{end_shown, line_shown, local_shown, held_looks, held_stays}
+use Rattle.partition_commands.proofs.Shown.{end_shown, line_shown, local_shown, partition_state_looks, partition_state_stays}
 use Rattle.laws_time_find.specs.Passed.{HasPassed, IsDatedTo, read_from}
-use Rattle.laws_time_find.specs.Searching.{search_of, search_work, IsAtSearch}
+use Rattle.laws_time_find.specs.Searching.{search_of, search_tier_task, IsAtSearch}
 use Rattle.laws_time_find.proofs.Dates.{start_has_passed, passed_has_none}
 use Rattle.laws_time_find.proofs.Early.{passed_less}
 use Rattle.laws_time_find.proofs.Turning.{search_turns}
@@ -53,7 +53,7 @@ use Rattle.tier_safe.specs.Changes.{Change, Moves, Leaves, effect}
 use Rattle.tier_safe.specs.May.{May, IsChanged}
 use Rattle.tier_safe.specs.Reads.{TellsEpochs}
 use Rattle.tier_safe.specs.Safe.{BothSafe}
-use Rattle.tier_safe.specs.Scene.{Scene, BrokerTierView, TierTask as InProgressIsSeen, Free}
+use Rattle.tier_safe.specs.Scene.{Scene, BrokerTierView, TierTask, Free}
 use Rattle.tier_safe.specs.Turns.{ShowsScene}
 use Rattle.tier_safe.proofs.Kept.{all_kept}
 use Rattle.tier_safe.proofs.Turning.{set_set, set_get, scene_same, as_scene}
@@ -65,7 +65,7 @@ use Rattle.partition_world.specs.declared.actor_state.InProgress.TheVariants as 
 use Rattle.partition_world.specs.declared.actor_state.InProgress.TheVariants.{Idle}
 use Rattle.partition_world.specs.declared.tier.RemoteTier.{RemoteTier}
 use Rattle.partition_world.specs.ActorStates.{recorded_in, dated, actor_state_after, actor_state_seen, desk_seen, told_of}
-use Rattle.partition_world.specs.Central.{HasGone, IsSearchState, IsCentral, ShowsTier, dates_of, work_of}
+use Rattle.partition_world.specs.Central.{HasGone, IsSearchState, IsCentral, ShowsTier, dates_of, tier_task_of}
 use Rattle.partition_world.specs.Turn.{IsTurn}
 use Rattle.partition_world.specs.TurnsOfCopy.{KeepsLead}
 use Rattle.partition_world.specs.TurnsOfDate.{resumed_at, resumed_with, is_own, asked_of, SearchesOwn, SearchesRemote, SearchRow, SearchesOn, DateOnRow}
@@ -80,9 +80,9 @@ use Rattle.partition_world.proofs.FetchCentral.{stopped_seen}
 use Rattle.partition_world.proofs.LineTells.{line_tells}
 use Rattle.partition_world.proofs.Recording.{GoesAsRecorded}
 use Rattle.partition_world.proofs.Passing.{OwnComes, own_comes, own_rests}
-use Rattle.partition_world.proofs.Scenes.{Place, tier_view, shows_at, scene_with, shows_with, work_after, answered_free, left_changed, same_broker_tiers, few_now}
+use Rattle.partition_world.proofs.Scenes.{Place, tier_view, shows_at, scene_with, shows_with, tier_task_after, answered_free, left_changed, same_broker_tiers, few_now}
 use Rattle.partition_world.proofs.BrokerTierStates.{set_same}
-use Rattle.partition_world.proofs.TurnCentral.{after, shown, entered, stands, held_same, leads_first, silent_dated, untold, unseen}
+use Rattle.partition_world.proofs.TurnCentral.{after, shown, entered, stands, partition_state_same, leads_first, silent_dated, untold, unseen}
 
 -- where a search is resumed
 
@@ -149,31 +149,31 @@ module _ {D S M : Type 0} (disk : DiskGhosts D) (store : StoreGhosts S) (meta : 
     plain = c.central.plain
 
     abbrev start : ℕ
-    start = w.held.registry.start
+    start = w.partition_state.registry.start
 
-    same_held : w'.held ≡ w.held → ShowsPartition disk.content w'.held c.partition
-    same_held = held_same disk store meta opening w a outcome w' t c z (Offset (At ts)) asks
+    same_partition_state : w'.partition_state ≡ w.partition_state → ShowsPartition disk.content w'.partition_state c.partition
+    same_partition_state = partition_state_same disk store meta opening w a outcome w' t c z (Offset (At ts)) asks
 
     start_seen : c.partition.registry.start ≡ start
-    start_seen = ap (λ (r : Registry). r.start) z.sees.held.registry
+    start_seen = ap (λ (r : Registry). r.start) z.sees.partition_state.registry
 
     start_plain : plain.registry.start ≡ start
-    start_plain = ap (λ (r : Registry). r.start) c.central.stands.held.registry ∙ start_seen
+    start_plain = ap (λ (r : Registry). r.start) c.central.stands.partition_state.registry ∙ start_seen
 
     broker : slice_get plain.brokers t.order.broker.0 ≡ Some (broker_of y)
-    broker = broker_at c.partition plain t.order.broker.0 y c.central.stands.held z.sees.there
+    broker = broker_at c.partition plain t.order.broker.0 y c.central.stands.partition_state z.sees.there
 
     sound : NodeSound y
     sound = (c.central.stands.lines.each t.order.broker.0 y z.sees.there).sound
 
     -- the first turn refreshes the broker's view
-    pub date_first : t.actor_state.work ≡ Idle → (o : Outcome) → outcome ≡ o → OffsetFirstRow meta w.held w.tier t.order.broker.0 z.x z.broker_tier o w'.tier → w'.held ≡ w.held → IsCentral disk store meta opening w'
+    pub date_first : t.actor_state.in_progress ≡ Idle → (o : Outcome) → outcome ≡ o → OffsetFirstRow meta w.partition_state w.tier t.order.broker.0 z.x z.broker_tier o w'.tier → w'.partition_state ≡ w.partition_state → IsCentral disk store meta opening w'
     date_first idle o is row same =
         leads_first disk store meta opening w a outcome w' t c z (Offset (At ts)) asks idle (λ turn. refl) (λ g. refl) (λ turn r. r) o is row same
 
     -- a later turn, of an actor's state that keeps this
-    module _ (work : InProgress) (keeps : t.actor_state.work ≡ work) (g : StartSnapshot) (recorded : recorded_in work ≡ Some g) (cursor : ℕ) (next : SearchStep)
-        (seeks : work_of (Some t.order) work ≡ dates_of t.order.broker.0 g cursor next t.order.command) (moved : (to : ℕ) (later : SearchStep) → dated work to later ≡ works.Dates g to later)
+    module _ (in_progress : InProgress) (keeps : t.actor_state.in_progress ≡ in_progress) (g : StartSnapshot) (recorded : recorded_in in_progress ≡ Some g) (cursor : ℕ) (next : SearchStep)
+        (seeks : tier_task_of (Some t.order) in_progress ≡ dates_of t.order.broker.0 g cursor next t.order.command) (moved : (to : ℕ) (later : SearchStep) → dated in_progress to later ≡ works.Dates g to later)
         (gone : HasGone plain t.order.broker.0 g (Offset (At ts)) cursor next) (set : IsSet cursor next) where
       abbrev epoch : ℕ
       epoch = unwrap_or (leading g.role) 0
@@ -185,22 +185,22 @@ module _ {D S M : Type 0} (disk : DiskGhosts D) (store : StoreGhosts S) (meta : 
       on = resumed_with start cursor next
 
       abbrev asked : Asked
-      asked = asked_of w.partition w.held z.x ts
+      asked = asked_of w.partition w.partition_state z.x ts
 
       -- the row of an answer, as it is seen
       abbrev SeenOn : Answer → Type 0
       SeenOn answer = seen_offsets.OffsetAtRow c.partition y ts g answer c.partition
 
-      lift : (answer : Answer) → SeenOn answer → seen_rows.Row c.partition t.order.broker.0 y (recorded_in work) (Offset (At ts)) (turned.Answers answer) c.partition
+      lift : (answer : Answer) → SeenOn answer → seen_rows.Row c.partition t.order.broker.0 y (recorded_in in_progress) (Offset (At ts)) (turned.Answers answer) c.partition
       lift answer row = subst (λ (o : Option StartSnapshot). seen_rows.Row c.partition t.order.broker.0 y o (Offset (At ts)) (turned.Answers answer) c.partition) (sym recorded) row
 
-      low : (turn : Turned) → may_raise (recorded_in work) (Offset (At ts)) turn ≡ false
+      low : (turn : Turned) → may_raise (recorded_in in_progress) (Offset (At ts)) turn ≡ false
       low turn = ap (λ (o : Option StartSnapshot). may_raise o (Offset (At ts)) turn) recorded
 
       -- an answer that leaves the tier as it was
-      answers : (answer : Answer) → outcome ≡ Answers answer → SeenOn answer → w'.tier ≡ w.tier → ShowsPartition disk.content w'.held c.partition → IsCentral disk store meta opening w'
-      answers answer is row tier held =
-          stands disk store meta opening w a outcome w' t c z (Offset (At ts)) asks work keeps answer is (low (turned.Answers answer)) tier held (lift answer row)
+      answers : (answer : Answer) → outcome ≡ Answers answer → SeenOn answer → w'.tier ≡ w.tier → ShowsPartition disk.content w'.partition_state c.partition → IsCentral disk store meta opening w'
+      answers answer is row tier partition_state =
+          stands disk store meta opening w a outcome w' t c z (Offset (At ts)) asks in_progress keeps answer is (low (turned.Answers answer)) tier partition_state (lift answer row)
 
       role_led : g.role ≡ Leads epoch
       role_led =
@@ -225,12 +225,12 @@ module _ {D S M : Type 0} (disk : DiskGhosts D) (store : StoreGhosts S) (meta : 
 
       -- what the actor's state has then
 
-      goes_recorded : (to : ℕ) (later : SearchStep) → outcome ≡ Dates to later → GoesAsRecorded t.actor_state.work outcome
-      goes_recorded to later is = subst (GoesAsRecorded t.actor_state.work) (sym is) tt
+      goes_recorded : (to : ℕ) (later : SearchStep) → outcome ≡ Dates to later → GoesAsRecorded t.actor_state.in_progress outcome
+      goes_recorded to later is = subst (GoesAsRecorded t.actor_state.in_progress) (sym is) tt
 
       goes_dated : (to : ℕ) (later : SearchStep) → outcome ≡ Dates to later → IsSet to later → IsDatedTo ts plain.registry.start z.s.batches to later
-          → GoesAsDated plain (slice_get t.list.orders t.actor_state.number) t.actor_state.work outcome
-      goes_dated to later is fits far = subst (GoesAsDated plain (slice_get t.list.orders t.actor_state.number) t.actor_state.work) (sym is) (λ f k.
+          → GoesAsDated plain (slice_get t.list.orders t.actor_state.number) t.actor_state.in_progress outcome
+      goes_dated to later is fits far = subst (GoesAsDated plain (slice_get t.list.orders t.actor_state.number) t.actor_state.in_progress) (sym is) (λ f k.
           (let one : g ≡ f = cc (sym (ap recorded_in keeps ∙ recorded) ∙ k) in
           subst (λ (h : StartSnapshot). IsSearchState plain (slice_get t.list.orders t.actor_state.number) (works.Dates h to later)) one
           (subst (λ (o : Option Order). IsSearchState plain o (works.Dates g to later)) (sym z.next) (
@@ -250,38 +250,38 @@ module _ {D S M : Type 0} (disk : DiskGhosts D) (store : StoreGhosts S) (meta : 
       goes_untold to later is = untold disk store meta opening w a outcome w' t c z (Offset (At ts)) asks (ap (told_of t.list.actor t.actor_state.number t.order.command) is)
 
       goes_shown : (to : ℕ) (later : SearchStep) → outcome ≡ Dates to later
-          → work_after disk store meta opening w c t.place t.list t.actor_state t.order z outcome ≡ search_of t.order.broker.0 g.stops epoch to later
+          → tier_task_after disk store meta opening w c t.place t.list t.actor_state t.order z outcome ≡ search_of t.order.broker.0 g.stops epoch to later
       goes_shown to later is =
-          ap (λ (o : Outcome). work_after disk store meta opening w c t.place t.list t.actor_state t.order z o) is
-          ∙ (ap (λ (k : InProgress). work_of (slice_get t.list.orders t.actor_state.number) (dated k to later)) keeps
-          ∙ (ap (work_of (slice_get t.list.orders t.actor_state.number)) (moved to later)
-          ∙ (ap (λ (o : Option Order). work_of o (works.Dates g to later)) z.next ∙ ap (dates_of t.order.broker.0 g to later) asks)))
+          ap (λ (o : Outcome). tier_task_after disk store meta opening w c t.place t.list t.actor_state t.order z o) is
+          ∙ (ap (λ (k : InProgress). tier_task_of (slice_get t.list.orders t.actor_state.number) (dated k to later)) keeps
+          ∙ (ap (tier_task_of (slice_get t.list.orders t.actor_state.number)) (moved to later)
+          ∙ (ap (λ (o : Option Order). tier_task_of o (works.Dates g to later)) z.next ∙ ap (dates_of t.order.broker.0 g to later) asks)))
 
       -- a turn in the local log
 
-      own_held : (turn : Turn (ℕ × SearchStep)) → SearchesOwn disk w.held t.order.broker.0 z.x asked at turn w'.held → ShowsPartition disk.content w'.held c.partition
-      own_held turn r = by (own_rests disk.content disk.control z.x.log r.kept asked at turn r.row)
+      own_partition_state : (turn : Turn (ℕ × SearchStep)) → SearchesOwn disk w.partition_state t.order.broker.0 z.x asked at turn w'.partition_state → ShowsPartition disk.content w'.partition_state c.partition
+      own_partition_state turn r = by (own_rests disk.content disk.control z.x.log r.kept asked at turn r.row)
         where
-          by : (r.kept ≡ z.x.log) ⊎ log.LogStays disk.content z.x.log r.kept → ShowsPartition disk.content w'.held c.partition
+          by : (r.kept ≡ z.x.log) ⊎ log.LogStays disk.content z.x.log r.kept → ShowsPartition disk.content w'.partition_state c.partition
           by (inl same) =
-              held_stays disk.content disk.control w.held c.partition w'.held c.shows
-              (inl (r.after ∙ (ap (λ (k : log.LogState D). put_node w.held t.order.broker.0 (record z.x { log = k })) same
-              ∙ ap (λ (u : List (Node D)). record w.held { nodes = u }) (set_same w.held.nodes t.order.broker.0 z.x z.at))))
+              partition_state_stays disk.content disk.control w.partition_state c.partition w'.partition_state c.shows
+              (inl (r.after ∙ (ap (λ (k : log.LogState D). put_node w.partition_state t.order.broker.0 (record z.x { log = k })) same
+              ∙ ap (λ (u : List (Node D)). record w.partition_state { nodes = u }) (set_same w.partition_state.nodes t.order.broker.0 z.x z.at))))
           by (inr stays) =
-              held_looks disk.content disk.control w.held c.partition t.order.broker.0 z.x r.kept w'.held c.shows z.at stays r.after
+              partition_state_looks disk.content disk.control w.partition_state c.partition t.order.broker.0 z.x r.kept w'.partition_state c.shows z.at stays r.after
 
-      comes : (turn : Turn (ℕ × SearchStep)) → KeepsLead z.x g → SearchesOwn disk w.held t.order.broker.0 z.x asked at turn w'.held → OwnComes asked z.s.batches turn
+      comes : (turn : Turn (ℕ × SearchStep)) → KeepsLead z.x g → SearchesOwn disk w.partition_state t.order.broker.0 z.x asked at turn w'.partition_state → OwnComes asked z.s.batches turn
       comes turn k r =
           own_comes disk.content disk.control asked z.x.log r.kept z.s k.up z.sees.shows sound.log.consecutive sound.log.line_is sound.known_high_watermark at turn start_low (gone_at k).cursor r.row
 
-      own_ends : (answer : Answer) → outcome ≡ Answers answer → KeepsLead z.x g → SearchesOwn disk w.held t.order.broker.0 z.x asked at (Ends answer) w'.held → w'.tier ≡ w.tier
+      own_ends : (answer : Answer) → outcome ≡ Answers answer → KeepsLead z.x g → SearchesOwn disk w.partition_state t.order.broker.0 z.x asked at (Ends answer) w'.partition_state → w'.tier ≡ w.tier
           → IsCentral disk store meta opening w'
       own_ends answer is k r tier = elim ((comes (Ends answer) k r).ends answer refl) [
-        | inl fault ↦ answers answer is (subst SeenOn (sym fault) (keeps_seen z.x z.s g k, refl)) tier (own_held (Ends answer) r)
-        | inr (n, offset, right) ↦ answers answer is (subst SeenOn (sym offset) (found (Some n) right, (keeps_seen z.x z.s g k, refl))) tier (own_held (Ends answer) r)
+        | inl fault ↦ answers answer is (subst SeenOn (sym fault) (keeps_seen z.x z.s g k, refl)) tier (own_partition_state (Ends answer) r)
+        | inr (n, offset, right) ↦ answers answer is (subst SeenOn (sym offset) (found (Some n) right, (keeps_seen z.x z.s g k, refl))) tier (own_partition_state (Ends answer) r)
       ]
 
-      own_goes : (to : ℕ) (later : SearchStep) → outcome ≡ Dates to later → KeepsLead z.x g → SearchesOwn disk w.held t.order.broker.0 z.x asked at (Goes (to, later)) w'.held → w'.tier ≡ w.tier
+      own_goes : (to : ℕ) (later : SearchStep) → outcome ≡ Dates to later → KeepsLead z.x g → SearchesOwn disk w.partition_state t.order.broker.0 z.x asked at (Goes (to, later)) w'.partition_state → w'.tier ≡ w.tier
           → IsCentral disk store meta opening w'
       own_goes to later is k r tier =
           let to_there = (comes (Goes (to, later)) k r).goes to later refl in
@@ -289,7 +289,7 @@ module _ {D S M : Type 0} (disk : DiskGhosts D) (store : StoreGhosts S) (meta : 
           let seek = to_there.0 in
           silent_dated disk store meta opening w a outcome w' t c z (Offset (At ts)) asks (goes_recorded to later is)
           (goes_dated to later is (subst (IsSet to) (sym seek) tt) (subst (IsDatedTo ts plain.registry.start z.s.batches to) (sym seek) (record { cursor = passed; read = passed })))
-          (goes_unseen to later is) (goes_untold to later is) (own_held (Goes (to, later)) r)
+          (goes_unseen to later is) (goes_untold to later is) (own_partition_state (Goes (to, later)) r)
           (after disk store meta opening w a outcome w' t c z (Offset (At ts)) asks Free c.scene.objects c.scene.notes z.broker_tier.view)
           (left_changed disk store meta opening w c t.place t.list t.actor_state t.order z)
           (shown disk store meta opening w a outcome w' t c z (Offset (At ts)) asks Free c.scene.objects c.scene.notes z.broker_tier.view
@@ -327,16 +327,16 @@ module _ {D S M : Type 0} (disk : DiskGhosts D) (store : StoreGhosts S) (meta : 
 
       -- what its turn comes to in such a scene
       record Comes (turn : Turn (ℕ × SearchStep)) (r : SearchesRemote store meta w.tier t.order.broker.0 z.broker_tier (line_of z.x) asked at on turn w'.tier) : Type 0 where
-        pub changed : IsChanged c.scene plain (after_fetch c.scene t.place t.order.broker.0 here (search_work t.order.broker.0 g.stops epoch turn) (store.content w'.tier.store).objects
+        pub changed : IsChanged c.scene plain (after_fetch c.scene t.place t.order.broker.0 here (search_tier_task t.order.broker.0 g.stops epoch turn) (store.content w'.tier.store).objects
             (meta.content w'.tier.meta).notes r.view r.cache)
         pub goes : (to : ℕ) (later : SearchStep) → turn ≡ Goes (to, later) → IsDatedTo ts plain.registry.start z.s.batches to later
         pub right : (n : ℕ) → turn ≡ Ends (OffsetAnswer n) → offset_at plain (broker_of y) ts ≡ Some n
 
       comes_in : (d : Scene) (turn : Turn (ℕ × SearchStep)) (r : SearchesRemote store meta w.tier t.order.broker.0 z.broker_tier (line_of z.x) asked at on turn w'.tier) → is_own (local_of z.x) at on ≡ false
           → IsAtSearch d plain t.place t.order.broker.0 here (broker_of y) g.stops epoch asked (line_of z.x) at on (store.content w.tier.store) (meta.content w.tier.meta) z.broker_tier.view z.broker_tier.cache
-          → (IsChanged d plain (after_fetch d t.place t.order.broker.0 here (search_work t.order.broker.0 g.stops epoch turn) (store.content w'.tier.store).objects
+          → (IsChanged d plain (after_fetch d t.place t.order.broker.0 here (search_tier_task t.order.broker.0 g.stops epoch turn) (store.content w'.tier.store).objects
           (meta.content w'.tier.meta).notes r.view r.cache)
-          → IsChanged c.scene plain (after_fetch c.scene t.place t.order.broker.0 here (search_work t.order.broker.0 g.stops epoch turn) (store.content w'.tier.store).objects
+          → IsChanged c.scene plain (after_fetch c.scene t.place t.order.broker.0 here (search_tier_task t.order.broker.0 g.stops epoch turn) (store.content w'.tier.store).objects
           (meta.content w'.tier.meta).notes r.view r.cache))
           → Comes turn r
       comes_in d turn r own h on_scene =
@@ -355,8 +355,8 @@ module _ {D S M : Type 0} (disk : DiskGhosts D) (store : StoreGhosts S) (meta : 
                 (subst (λ (u : Turn (ℕ × SearchStep)). TimeRow store.content store.control meta.content meta.control asked (line_of z.x) at on (Ok u) old new) is r.row) is_below is_set h;
           }
 
-      actor_state_now : t.actor_state.work ≡ work → work_of (Some t.order) t.actor_state.work ≡ search_of t.order.broker.0 g.stops epoch cursor next
-      actor_state_now is = ap (work_of (Some t.order)) is ∙ (seeks ∙ ap (dates_of t.order.broker.0 g cursor next) asks)
+      actor_state_now : t.actor_state.in_progress ≡ in_progress → tier_task_of (Some t.order) t.actor_state.in_progress ≡ search_of t.order.broker.0 g.stops epoch cursor next
+      actor_state_now is = ap (tier_task_of (Some t.order)) is ∙ (seeks ∙ ap (dates_of t.order.broker.0 g cursor next) asks)
 
       remote : (turn : Turn (ℕ × SearchStep)) (r : SearchesRemote store meta w.tier t.order.broker.0 z.broker_tier (line_of z.x) asked at on turn w'.tier) → is_own (local_of z.x) at on ≡ false → KeepsLead z.x g
           → at < z.x.known_high_watermark → Comes turn r
@@ -372,7 +372,7 @@ module _ {D S M : Type 0} (disk : DiskGhosts D) (store : StoreGhosts S) (meta : 
           by false is =
               let same_at = at_cursor start cursor is in
               let same_on : on ≡ next = rw is refl in
-              let shows = subst (λ (u : InProgressIsSeen). ShowsScene c.scene t.place t.order.broker.0 here u (store.content w.tier.store) (meta.content w.tier.meta) z.broker_tier.view)
+              let shows = subst (λ (u : TierTask). ShowsScene c.scene t.place t.order.broker.0 here u (store.content w.tier.store) (meta.content w.tier.meta) z.broker_tier.view)
               (actor_state_now keeps ∙ (ap (λ (n : ℕ). search_of t.order.broker.0 g.stops epoch n next) (sym same_at) ∙ ap (search_of t.order.broker.0 g.stops epoch at) (sym same_on)))
               (shows_at disk store meta opening w c t.place t.list t.actor_state t.order z) in
               comes_in c.scene turn r own (at_search c.scene both (few_now disk store meta opening w c) c.shows_tier.partition shows k below) (λ e. e)
@@ -391,10 +391,10 @@ module _ {D S M : Type 0} (disk : DiskGhosts D) (store : StoreGhosts S) (meta : 
               } in
               comes_in left turn r own (at_search left safe (few_now disk store meta opening w c) c.shows_tier.partition shows k below)
               (λ e. first_change c.scene _ plain (Moves t.place Leaves) (refl, tt)
-              (as_scene left _ _ plain (scene_same _ _ refl refl refl refl (set_set c.scene.desk t.place Free (search_work t.order.broker.0 g.stops epoch turn))) e))
+              (as_scene left _ _ plain (scene_same _ _ refl refl refl refl (set_set c.scene.desk t.place Free (search_tier_task t.order.broker.0 g.stops epoch turn))) e))
 
-      shows_then : (turn : Turn (ℕ × SearchStep)) (r : SearchesRemote store meta w.tier t.order.broker.0 z.broker_tier (line_of z.x) asked at on turn w'.tier) (shows : InProgressIsSeen)
-          → work_after disk store meta opening w c t.place t.list t.actor_state t.order z outcome ≡ shows
+      shows_then : (turn : Turn (ℕ × SearchStep)) (r : SearchesRemote store meta w.tier t.order.broker.0 z.broker_tier (line_of z.x) asked at on turn w'.tier) (shows : TierTask)
+          → tier_task_after disk store meta opening w c t.place t.list t.actor_state t.order z outcome ≡ shows
           → ShowsTier store meta w' c.partition (scene_with disk store meta opening w c t.place t.list t.actor_state t.order z shows (store.content w'.tier.store).objects (meta.content w'.tier.meta).notes
           (record z.broker_tier { view = r.view; cache = r.cache }))
       shows_then turn r shows is =
@@ -411,50 +411,50 @@ module _ {D S M : Type 0} (disk : DiskGhosts D) (store : StoreGhosts S) (meta : 
       ends_row other may k right = elim may [ ]
 
       remote_ends : (answer : Answer) → outcome ≡ Answers answer → KeepsLead z.x g → at < z.x.known_high_watermark → is_own (local_of z.x) at on ≡ false
-          → (r : SearchesRemote store meta w.tier t.order.broker.0 z.broker_tier (line_of z.x) asked at on (Ends answer) w'.tier) → w'.held ≡ w.held → IsCentral disk store meta opening w'
-      remote_ends answer is k below own r held =
+          → (r : SearchesRemote store meta w.tier t.order.broker.0 z.broker_tier (line_of z.x) asked at on (Ends answer) w'.tier) → w'.partition_state ≡ w.partition_state → IsCentral disk store meta opening w'
+      remote_ends answer is k below own r partition_state =
           let come = remote (Ends answer) r own k below in
           let may = date_ends store meta asked (line_of z.x) at on answer (fetch_tiers z.broker_tier.view z.broker_tier.cache w.tier) (fetch_tiers r.view r.cache w'.tier) r.row in
-          entered disk store meta opening w a outcome w' t c z (Offset (At ts)) asks work keeps (turned.Answers answer) _ is (low (turned.Answers answer)) (same_held held)
+          entered disk store meta opening w a outcome w' t c z (Offset (At ts)) asks in_progress keeps (turned.Answers answer) _ is (low (turned.Answers answer)) (same_partition_state partition_state)
           (lift answer (ends_row answer may k (λ n e. come.right n (ap (λ (o : Answer). Ends o) e)))) come.changed
           (shows_then (Ends answer) r Free (answered_free disk store meta opening w c t.place t.list t.actor_state t.order z outcome answer is))
 
       remote_goes : (to : ℕ) (later : SearchStep) → outcome ≡ Dates to later → KeepsLead z.x g → at < z.x.known_high_watermark → is_own (local_of z.x) at on ≡ false
-          → (r : SearchesRemote store meta w.tier t.order.broker.0 z.broker_tier (line_of z.x) asked at on (Goes (to, later)) w'.tier) → w'.held ≡ w.held → SearchContinues at (Goes (to, later))
+          → (r : SearchesRemote store meta w.tier t.order.broker.0 z.broker_tier (line_of z.x) asked at on (Goes (to, later)) w'.tier) → w'.partition_state ≡ w.partition_state → SearchContinues at (Goes (to, later))
           → IsCentral disk store meta opening w'
-      remote_goes to later is k below own r held goes =
+      remote_goes to later is k below own r partition_state goes =
           let come = remote (Goes (to, later)) r own k below in
           silent_dated disk store meta opening w a outcome w' t c z (Offset (At ts)) asks (goes_recorded to later is)
-          (goes_dated to later is (goes_set at to later goes) (come.goes to later refl)) (goes_unseen to later is) (goes_untold to later is) (same_held held) _ come.changed
+          (goes_dated to later is (goes_set at to later goes) (come.goes to later refl)) (goes_unseen to later is) (goes_untold to later is) (same_partition_state partition_state) _ come.changed
           (shows_then (Goes (to, later)) r (search_of t.order.broker.0 g.stops epoch to later) (goes_shown to later is))
 
       -- a turn in either
 
-      ends : (answer : Answer) → outcome ≡ Answers answer → SearchesOn disk store meta w.partition w.held w.tier t.order.broker.0 z.x z.broker_tier g ts cursor next (Ends answer) w'.held w'.tier
+      ends : (answer : Answer) → outcome ≡ Answers answer → SearchesOn disk store meta w.partition w.partition_state w.tier t.order.broker.0 z.x z.broker_tier g ts cursor next (Ends answer) w'.partition_state w'.tier
           → IsCentral disk store meta opening w'
       ends answer is s = by (is_own (local_of z.x) at on) refl s.row
         where
           by : (own : Bool) → is_own (local_of z.x) at on ≡ own
-              → SearchRow disk store meta w.held w.tier t.order.broker.0 z.x z.broker_tier asked at on own (Ends answer) w'.held w'.tier → IsCentral disk store meta opening w'
+              → SearchRow disk store meta w.partition_state w.tier t.order.broker.0 z.x z.broker_tier asked at on own (Ends answer) w'.partition_state w'.tier → IsCentral disk store meta opening w'
           by true own row = own_ends answer is s.keeps row.0 row.1
           by false own row = remote_ends answer is s.keeps s.below own row.0 row.1
 
       goes : (to : ℕ) (later : SearchStep) → outcome ≡ Dates to later
-          → SearchesOn disk store meta w.partition w.held w.tier t.order.broker.0 z.x z.broker_tier g ts cursor next (Goes (to, later)) w'.held w'.tier → SearchContinues at (Goes (to, later))
+          → SearchesOn disk store meta w.partition w.partition_state w.tier t.order.broker.0 z.x z.broker_tier g ts cursor next (Goes (to, later)) w'.partition_state w'.tier → SearchContinues at (Goes (to, later))
           → IsCentral disk store meta opening w'
       goes to later is s on_far = by (is_own (local_of z.x) at on) refl s.row
         where
           by : (own : Bool) → is_own (local_of z.x) at on ≡ own
-              → SearchRow disk store meta w.held w.tier t.order.broker.0 z.x z.broker_tier asked at on own (Goes (to, later)) w'.held w'.tier → IsCentral disk store meta opening w'
+              → SearchRow disk store meta w.partition_state w.tier t.order.broker.0 z.x z.broker_tier asked at on own (Goes (to, later)) w'.partition_state w'.tier → IsCentral disk store meta opening w'
           by true own row = own_goes to later is s.keeps row.0 row.1
           by false own row = remote_goes to later is s.keeps s.below own row.0 row.1 on_far
 
-      pub date_on : (o : Outcome) → outcome ≡ o → DateOnRow disk store meta w.partition w.held w.tier t.order.broker.0 z.x z.broker_tier g ts cursor next o w'.held w'.tier
+      pub date_on : (o : Outcome) → outcome ≡ o → DateOnRow disk store meta w.partition w.partition_state w.tier t.order.broker.0 z.x z.broker_tier g ts cursor next o w'.partition_state w'.tier
           → IsCentral disk store meta opening w'
-      date_on (Answers Stopped) is row = answers Stopped is (stopped_seen z.x z.s g row.0, refl) row.2 (same_held row.1)
-      date_on (Answers NotLeader) is row = answers NotLeader is (row.0, row.1, row.2, refl) row.4 (same_held row.3)
+      date_on (Answers Stopped) is row = answers Stopped is (stopped_seen z.x z.s g row.0, refl) row.2 (same_partition_state row.1)
+      date_on (Answers NotLeader) is row = answers NotLeader is (row.0, row.1, row.2, refl) row.4 (same_partition_state row.3)
       date_on (Answers NoOffset) is row =
-          answers NoOffset is (found None (passed_has_none ts start z.x.known_high_watermark at z.s.batches (gone_at row.0).cursor row.1), (keeps_seen z.x z.s g row.0, refl)) row.3 (same_held row.2)
+          answers NoOffset is (found None (passed_has_none ts start z.x.known_high_watermark at z.s.batches (gone_at row.0).cursor row.1), (keeps_seen z.x z.s g row.0, refl)) row.3 (same_partition_state row.2)
       date_on (Answers answer) is row = ends answer is row
       date_on (Dates to later) is row = goes to later is row.0 row.1
       date_on other is row = elim row [ ]

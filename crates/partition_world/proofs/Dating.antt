@@ -31,7 +31,7 @@ use Rattle.laws_partition.specs.Partition.{recorded_of}
 use Rattle.laws_partition.proofs.ProgressLaw.{recorded_some}
 use Rattle.laws_partition.proofs.Standing.{map_get}
 use Rattle.partition_world.specs.declared.actor_state.Outcome.{Outcome}
-use Rattle.partition_world.specs.declared.actor_state.Outcome.TheVariants.{Answers, Begins, Chose, Goes, Seeks as Sought, Dates as Dated, Dooms, Deletes, Rebuilds as Rebuilding}
+use Rattle.partition_world.specs.declared.actor_state.Outcome.TheVariants.{Answers, Begins, Chose, Goes, Seeks as Sought, Dates as Dated, ChoosesExpired, Deletes, Rebuilds as Rebuilding}
 use Rattle.partition_world.specs.declared.actor_state.ActorState.{ActorState}
 use Rattle.partition_world.specs.declared.actor_state.InProgress.{InProgress}
 use Rattle.partition_world.specs.declared.actor_state.InProgress.TheVariants.{Idle, Noted, Copies, Seeks, Dates, Expires, Rebuilds}
@@ -40,14 +40,14 @@ use Rattle.partition_world.specs.ActorStates.{actor_state_seen, recorded_in, cho
 use Rattle.partition_world.specs.Turn.{IsTurn}
 use Rattle.partition_world.specs.Whole.{Whole}
 
--- the work of no search
+-- what is in progress of no search
 
 abbrev IsNoSearch : InProgress → Type 0
 IsNoSearch (Dates g cursor next) = ⊥
-IsNoSearch work = Unit {0}
+IsNoSearch in_progress = Unit {0}
 
-no_search : (q : State) (o : Option Order) (work : InProgress) → IsNoSearch work → IsSearchState q o work
-no_search q None work k = tt
+no_search : (q : State) (o : Option Order) (in_progress : InProgress) → IsNoSearch in_progress → IsSearchState q o in_progress
+no_search q None in_progress k = tt
 no_search q (Some order) (Dates g cursor next) k = absurd k
 no_search q (Some order) other k = tt
 
@@ -55,24 +55,24 @@ no_search q (Some order) other k = tt
 
 -- a search that continues has gone through its log as far as it continues from
 abbrev pub GoesAsDated : State → Option Order → InProgress → Outcome → Type 0
-GoesAsDated q o work (Dated cursor next) = (g : StartSnapshot) → recorded_in work ≡ Some g → IsSearchState q o (Dates g cursor next)
-GoesAsDated q o work outcome = Unit {0}
+GoesAsDated q o in_progress (Dated cursor next) = (g : StartSnapshot) → recorded_in in_progress ≡ Some g → IsSearchState q o (Dates g cursor next)
+GoesAsDated q o in_progress outcome = Unit {0}
 
 -- the turn isn't one of those
 abbrev pub IsNoDate : Outcome → Type 0
 IsNoDate (Dated cursor next) = ⊥
 IsNoDate outcome = Unit {0}
 
-pub undated : (q : State) (o : Option Order) (work : InProgress) (outcome : Outcome) → IsNoDate outcome → GoesAsDated q o work outcome
-undated q o work (Dated cursor next) k = absurd k
-undated q o work other k = tt
+pub undated : (q : State) (o : Option Order) (in_progress : InProgress) (outcome : Outcome) → IsNoDate outcome → GoesAsDated q o in_progress outcome
+undated q o in_progress (Dated cursor next) k = absurd k
+undated q o in_progress other k = tt
 
 -- nor is one that is entered
 pub told_undated : (actor : ActorId) (number : ℕ) (command : Command) (outcome : Outcome) (entry : JournalEntry) → told_of actor number command outcome ≡ entry ∷ [] → IsNoDate outcome
 told_undated actor number command (Dated cursor next) entry is = absurd (cc (is))
 told_undated actor number command other entry is = tt
 
-chosen_dated : (q : State) (o : Option Order) (work : InProgress) (copy : Copied) → IsSearchState q o work → IsSearchState q o (chosen work copy)
+chosen_dated : (q : State) (o : Option Order) (in_progress : InProgress) (copy : Copied) → IsSearchState q o in_progress → IsSearchState q o (chosen in_progress copy)
 chosen_dated q o Idle copy k = k
 chosen_dated q o (Noted g) copy k = no_search q o (chosen (Noted g) copy) tt
 chosen_dated q o (Copies g c next) copy k = k
@@ -81,7 +81,7 @@ chosen_dated q o (Dates g cursor next) copy k = k
 chosen_dated q o (Expires g segment next) copy k = k
 chosen_dated q o (Rebuilds g next) copy k = k
 
-moved_dated : (q : State) (o : Option Order) (work : InProgress) (next : CopyStep) → IsSearchState q o work → IsSearchState q o (moved work next)
+moved_dated : (q : State) (o : Option Order) (in_progress : InProgress) (next : CopyStep) → IsSearchState q o in_progress → IsSearchState q o (moved in_progress next)
 moved_dated q o Idle next k = k
 moved_dated q o (Noted g) next k = k
 moved_dated q o (Copies g c before) next k = no_search q o (Copies g c next) tt
@@ -90,7 +90,7 @@ moved_dated q o (Dates g cursor before) next k = k
 moved_dated q o (Expires g segment before) next k = k
 moved_dated q o (Rebuilds g before) next k = k
 
-sought_dated : (q : State) (o : Option Order) (work : InProgress) (next : Search) → IsSearchState q o work → IsSearchState q o (sought work next)
+sought_dated : (q : State) (o : Option Order) (in_progress : InProgress) (next : Search) → IsSearchState q o in_progress → IsSearchState q o (sought in_progress next)
 sought_dated q o Idle next k = k
 sought_dated q o (Noted g) next k = no_search q o (Seeks g next) tt
 sought_dated q o (Copies g c before) next k = k
@@ -99,7 +99,7 @@ sought_dated q o (Dates g cursor before) next k = k
 sought_dated q o (Expires g segment before) next k = k
 sought_dated q o (Rebuilds g before) next k = k
 
-dated_dated : (q : State) (o : Option Order) (work : InProgress) (cursor : ℕ) (next : Dating) → GoesAsDated q o work (Dated cursor next) → IsSearchState q o work → IsSearchState q o (dated work cursor next)
+dated_dated : (q : State) (o : Option Order) (in_progress : InProgress) (cursor : ℕ) (next : Dating) → GoesAsDated q o in_progress (Dated cursor next) → IsSearchState q o in_progress → IsSearchState q o (dated in_progress cursor next)
 dated_dated q o Idle cursor next goes k = k
 dated_dated q o (Noted g) cursor next goes k = goes g refl
 dated_dated q o (Copies g c before) cursor next goes k = k
@@ -108,7 +108,7 @@ dated_dated q o (Dates g at before) cursor next goes k = goes g refl
 dated_dated q o (Expires g segment before) cursor next goes k = k
 dated_dated q o (Rebuilds g before) cursor next goes k = k
 
-expired_segment_dated : (q : State) (o : Option Order) (work : InProgress) (segment : ExpiredSegment) → IsSearchState q o work → IsSearchState q o (expired_segment work segment)
+expired_segment_dated : (q : State) (o : Option Order) (in_progress : InProgress) (segment : ExpiredSegment) → IsSearchState q o in_progress → IsSearchState q o (expired_segment in_progress segment)
 expired_segment_dated q o Idle segment k = k
 expired_segment_dated q o (Noted g) segment k = no_search q o (expired_segment (Noted g) segment) tt
 expired_segment_dated q o (Copies g c before) segment k = k
@@ -117,7 +117,7 @@ expired_segment_dated q o (Dates g cursor before) segment k = k
 expired_segment_dated q o (Expires g before next) segment k = k
 expired_segment_dated q o (Rebuilds g before) segment k = k
 
-deleting_dated : (q : State) (o : Option Order) (work : InProgress) (next : Deletion) → IsSearchState q o work → IsSearchState q o (deleting work next)
+deleting_dated : (q : State) (o : Option Order) (in_progress : InProgress) (next : Deletion) → IsSearchState q o in_progress → IsSearchState q o (deleting in_progress next)
 deleting_dated q o Idle next k = k
 deleting_dated q o (Noted g) next k = k
 deleting_dated q o (Copies g c before) next k = k
@@ -126,7 +126,7 @@ deleting_dated q o (Dates g cursor before) next k = k
 deleting_dated q o (Expires g segment before) next k = no_search q o (Expires g segment next) tt
 deleting_dated q o (Rebuilds g before) next k = k
 
-rebuilding_dated : (q : State) (o : Option Order) (work : InProgress) (next : Rebuild) → IsSearchState q o work → IsSearchState q o (rebuilding work next)
+rebuilding_dated : (q : State) (o : Option Order) (in_progress : InProgress) (next : Rebuild) → IsSearchState q o in_progress → IsSearchState q o (rebuilding in_progress next)
 rebuilding_dated q o Idle next k = k
 rebuilding_dated q o (Noted g) next k = no_search q o (Rebuilds g next) tt
 rebuilding_dated q o (Copies g c before) next k = k
@@ -135,17 +135,17 @@ rebuilding_dated q o (Dates g cursor before) next k = k
 rebuilding_dated q o (Expires g segment before) next k = k
 rebuilding_dated q o (Rebuilds g before) next k = no_search q o (Rebuilds g next) tt
 
-actor_state_dated : (q : State) (orders : List Order) (actor_state : ActorState) (outcome : Outcome) → GoesAsDated q (slice_get orders actor_state.number) actor_state.work outcome → IsSearchState q (slice_get orders actor_state.number) actor_state.work
-    → IsSearchState q (slice_get orders (actor_state_after actor_state outcome).number) (actor_state_after actor_state outcome).work
+actor_state_dated : (q : State) (orders : List Order) (actor_state : ActorState) (outcome : Outcome) → GoesAsDated q (slice_get orders actor_state.number) actor_state.in_progress outcome → IsSearchState q (slice_get orders actor_state.number) actor_state.in_progress
+    → IsSearchState q (slice_get orders (actor_state_after actor_state outcome).number) (actor_state_after actor_state outcome).in_progress
 actor_state_dated q orders actor_state (Answers answer) goes k = no_search q (slice_get orders (actor_state.number + 1)) Idle tt
 actor_state_dated q orders actor_state (Begins g) goes k = no_search q (slice_get orders actor_state.number) (Noted g) tt
-actor_state_dated q orders actor_state (Chose copy) goes k = chosen_dated q (slice_get orders actor_state.number) actor_state.work copy k
-actor_state_dated q orders actor_state (Goes next) goes k = moved_dated q (slice_get orders actor_state.number) actor_state.work next k
-actor_state_dated q orders actor_state (Sought next) goes k = sought_dated q (slice_get orders actor_state.number) actor_state.work next k
-actor_state_dated q orders actor_state (Dated cursor next) goes k = dated_dated q (slice_get orders actor_state.number) actor_state.work cursor next goes k
-actor_state_dated q orders actor_state (Dooms segment) goes k = expired_segment_dated q (slice_get orders actor_state.number) actor_state.work segment k
-actor_state_dated q orders actor_state (Deletes next) goes k = deleting_dated q (slice_get orders actor_state.number) actor_state.work next k
-actor_state_dated q orders actor_state (Rebuilding next) goes k = rebuilding_dated q (slice_get orders actor_state.number) actor_state.work next k
+actor_state_dated q orders actor_state (Chose copy) goes k = chosen_dated q (slice_get orders actor_state.number) actor_state.in_progress copy k
+actor_state_dated q orders actor_state (Goes next) goes k = moved_dated q (slice_get orders actor_state.number) actor_state.in_progress next k
+actor_state_dated q orders actor_state (Sought next) goes k = sought_dated q (slice_get orders actor_state.number) actor_state.in_progress next k
+actor_state_dated q orders actor_state (Dated cursor next) goes k = dated_dated q (slice_get orders actor_state.number) actor_state.in_progress cursor next goes k
+actor_state_dated q orders actor_state (ChoosesExpired segment) goes k = expired_segment_dated q (slice_get orders actor_state.number) actor_state.in_progress segment k
+actor_state_dated q orders actor_state (Deletes next) goes k = deleting_dated q (slice_get orders actor_state.number) actor_state.in_progress next k
+actor_state_dated q orders actor_state (Rebuilding next) goes k = rebuilding_dated q (slice_get orders actor_state.number) actor_state.in_progress next k
 
 -- what a step of the plain log makes of it
 
@@ -178,11 +178,11 @@ module _ {D S M : Type 0} (disk : DiskGhosts D) (store : StoreGhosts S) (meta : 
   -- at each actor's state
   pub desk_gone : (opening : State) (w : Whole D S M) (c : IsCentral disk store meta opening w) (q : State) → Grows c.central.plain q → PlainSafe q → AreDated q w.lists w.desk
   desk_gone opening w c q grows safe = λ place l actor_state list at.
-      by place l actor_state list at (slice_get l.orders actor_state.number) refl actor_state.work refl (c.dated place l actor_state list at)
+      by place l actor_state list at (slice_get l.orders actor_state.number) refl actor_state.in_progress refl (c.dated place l actor_state list at)
     where
       by : (place : ℕ) (l : ActorList) (actor_state : ActorState) → slice_get w.lists place ≡ Some l → slice_get w.desk place ≡ Some actor_state → (o : Option Order) → slice_get l.orders actor_state.number ≡ o
-          → (work : InProgress) → actor_state.work ≡ work → IsSearchState c.central.plain o work → IsSearchState q o work
-      by place l actor_state list at None is work keeps k = tt
+          → (in_progress : InProgress) → actor_state.in_progress ≡ in_progress → IsSearchState c.central.plain o in_progress → IsSearchState q o in_progress
+      by place l actor_state list at None is in_progress keeps k = tt
       by place l actor_state list at (Some order) is (Dates g cursor next) keeps k =
           let stands = c.central.stands.desk place l (actor_state_seen actor_state) list (map_get actor_state_seen w.desk place actor_state at) in
           let snapshot : (actor_at c.central.plain.actors l.actor.0).snapshot ≡ Some (recorded_of order g) =
@@ -195,7 +195,7 @@ module _ {D S M : Type 0} (disk : DiskGhosts D) (store : StoreGhosts S) (meta : 
 
   -- after a turn
   pub turn_dated : (w : Whole D S M) (a : ℕ) (outcome : Outcome) (w' : Whole D S M) (t : IsTurn disk store meta w a outcome w') (q : State) → AreDated q w.lists w.desk
-      → GoesAsDated q (slice_get t.list.orders t.actor_state.number) t.actor_state.work outcome → AreDated q w'.lists w'.desk
+      → GoesAsDated q (slice_get t.list.orders t.actor_state.number) t.actor_state.in_progress outcome → AreDated q w'.lists w'.desk
   turn_dated w a outcome w' t q k goes = λ place l actor_state list at.
       let old : slice_get w.lists place ≡ Some l = ap (λ (u : List ActorList). slice_get u place) (sym t.lists) ∙ list in
       let new : slice_get (slice_set w.desk t.place (actor_state_after t.actor_state outcome)) place ≡ Some actor_state = ap (λ (u : List ActorState). slice_get u place) (sym t.desk) ∙ at in
@@ -203,8 +203,8 @@ module _ {D S M : Type 0} (disk : DiskGhosts D) (store : StoreGhosts S) (meta : 
         | inl one ↦
             let there = t.at.list in
             let same : l ≡ t.list = cc (old, there, ap (λ (n : ℕ). slice_get w.lists n) one.0) in
-            subst (λ (u : ActorList). IsSearchState q (slice_get u.orders actor_state.number) actor_state.work) (sym same)
-            (subst (λ (u : ActorState). IsSearchState q (slice_get t.list.orders u.number) u.work) (sym one.1)
+            subst (λ (u : ActorList). IsSearchState q (slice_get u.orders actor_state.number) actor_state.in_progress) (sym same)
+            (subst (λ (u : ActorState). IsSearchState q (slice_get t.list.orders u.number) u.in_progress) (sym one.1)
             (actor_state_dated q t.list.orders t.actor_state outcome goes (k t.place t.list t.actor_state t.at.list t.at.actor_state_is)))
         | inr other ↦ k place l actor_state old other.1
       ]

@@ -35,11 +35,11 @@ use Rattle.laws_partition.proofs.BoolTests.{some_of}
 use Rattle.partition_commands.specs.Partition.{node_of, ShowsPartition}
 use Rattle.partition_commands.specs.Shown.{Refines}
 use Rattle.partition_commands.proofs.Shown.{leaves, some_at}
-use Rattle.tier_safe.specs.Changes.{Moves, Dooms}
+use Rattle.tier_safe.specs.Changes.{Moves, ChoosesExpired}
 use Rattle.tier_safe.specs.May.{IsChanged}
-use Rattle.tier_safe.specs.Moves.{MayDoom}
-use Rattle.tier_safe.specs.Scene.{Scene, BrokerTierView, TierTask as InProgressIsSeen, Free, Expires as ExpiresSeen}
-use Rattle.tier_safe.specs.Turns.{ShowsScene, expiry_work}
+use Rattle.tier_safe.specs.Moves.{MayChooseExpired}
+use Rattle.tier_safe.specs.Scene.{Scene, BrokerTierView, TierTask, Free, Expires as ExpiresSeen}
+use Rattle.tier_safe.specs.Turns.{ShowsScene, expiry_tier_task}
 use Rattle.tier_safe.proofs.Entries.{prefix_goes}
 use Rattle.tier_safe.proofs.Turning.{expiry_turns}
 use Rattle.partition_world.specs.declared.actor_state.Outcome.{Outcome}
@@ -49,7 +49,7 @@ use Rattle.partition_world.specs.declared.actor_state.InProgress.{InProgress}
 use Rattle.partition_world.specs.declared.actor_state.InProgress.TheVariants.{Idle, Noted, Expires}
 use Rattle.partition_world.specs.declared.tier.RemoteTier.{RemoteTier}
 use Rattle.partition_world.specs.ActorStates.{expired_segment, deleting, expiry_outcome, actor_state_after, actor_state_seen, told_of}
-use Rattle.partition_world.specs.Central.{IsCentral, begun_of, work_of}
+use Rattle.partition_world.specs.Central.{IsCentral, begun_of, tier_task_of}
 use Rattle.partition_world.specs.Turn.{IsTurn}
 use Rattle.partition_world.specs.TurnsOfCopy.{KeepsLead, origin_of}
 use Rattle.partition_world.specs.TurnsOfExpiry.{ExpireFirstRow, ExpiryRaiseRow, TakesUp, GoesOnDeletion, DeleteOnRow, expiry_tiers}
@@ -57,11 +57,11 @@ use Rattle.partition_world.specs.Whole.{Whole}
 use Rattle.partition_world.proofs.CopyEnds.{keeps_seen, keeps_back}
 use Rattle.partition_world.proofs.ExpiryEnds.{expiry_ends, expiry_tells, end_row}
 use Rattle.partition_world.proofs.LineTells.{right_view}
-use Rattle.partition_world.proofs.Scenes.{Place, tier_view_is, seated, shows_at, work_after, same_broker_tiers, answered_free}
+use Rattle.partition_world.proofs.Scenes.{Place, tier_view_is, on_desk, shows_at, tier_task_after, same_broker_tiers, answered_free}
 use Rattle.partition_world.proofs.Recording.{GoesAsRecorded}
 use Rattle.partition_world.proofs.Dating.{IsNoDate}
 use Rattle.partition_world.proofs.BrokerTierStates.{set_same}
-use Rattle.partition_world.proofs.TurnCentral.{here, after, shown, entered, stands, held_same, leads_first, silent, untold, unseen}
+use Rattle.partition_world.proofs.TurnCentral.{here, after, shown, entered, stands, partition_state_same, leads_first, silent, untold, unseen}
 use Rattle.partition_world.proofs.WorldSound.{expired_segment_seen, deleting_seen}
 
 -- the first entry that is due is one of the entries, and is due
@@ -102,55 +102,55 @@ module _ {D S M : Type 0} (disk : DiskGhosts D) (store : StoreGhosts S) (meta : 
     abbrev its : BrokerTierView
     its = here disk store meta opening w a outcome w' t c z Expire expires
 
-    abbrev next_scene : InProgressIsSeen → Objects → List Note → View → Scene
+    abbrev next_scene : TierTask → Objects → List Note → View → Scene
     next_scene = after disk store meta opening w a outcome w' t c z Expire expires
 
-    same_held : w'.held ≡ w.held → ShowsPartition disk.content w'.held c.partition
-    same_held = held_same disk store meta opening w a outcome w' t c z Expire expires
+    same_partition_state : w'.partition_state ≡ w.partition_state → ShowsPartition disk.content w'.partition_state c.partition
+    same_partition_state = partition_state_same disk store meta opening w a outcome w' t c z Expire expires
 
-    start_plain : c.central.plain.registry.start ≡ w.held.registry.start
-    start_plain = ap (λ (r : Registry). r.start) c.central.stands.held.registry ∙ ap (λ (r : Registry). r.start) z.sees.held.registry
+    start_plain : c.central.plain.registry.start ≡ w.partition_state.registry.start
+    start_plain = ap (λ (r : Registry). r.start) c.central.stands.partition_state.registry ∙ ap (λ (r : Registry). r.start) z.sees.partition_state.registry
 
-    epoch_seen : c.partition.registry ≡ w.held.registry
-    epoch_seen = z.sees.held.registry
+    epoch_seen : c.partition.registry ≡ w.partition_state.registry
+    epoch_seen = z.sees.partition_state.registry
 
-    pub expire_first : t.actor_state.work ≡ Idle → (o : Outcome) → outcome ≡ o → ExpireFirstRow meta w.held w.tier t.order.broker.0 z.x z.broker_tier o w'.tier → w'.held ≡ w.held → IsCentral disk store meta opening w'
+    pub expire_first : t.actor_state.in_progress ≡ Idle → (o : Outcome) → outcome ≡ o → ExpireFirstRow meta w.partition_state w.tier t.order.broker.0 z.x z.broker_tier o w'.tier → w'.partition_state ≡ w.partition_state → IsCentral disk store meta opening w'
     expire_first idle o is row same = leads_first disk store meta opening w a outcome w' t c z Expire expires idle (λ turn. refl) (λ g. refl) (λ turn r. r) o is row same
 
     -- the second turn
 
-    pub expire_lost : (g : StartSnapshot) → t.actor_state.work ≡ Noted g → outcome ≡ Answers LostLead → (KeepsLead z.x g → ⊥) → w'.tier ≡ w.tier → w'.held ≡ w.held → IsCentral disk store meta opening w'
-    expire_lost g recorded is lost tier held =
-        stands disk store meta opening w a outcome w' t c z Expire expires (Noted g) recorded LostLead is refl tier (same_held held) ((λ k. lost (keeps_back z.x z.s g k)), refl)
+    pub expire_lost : (g : StartSnapshot) → t.actor_state.in_progress ≡ Noted g → outcome ≡ Answers LostLead → (KeepsLead z.x g → ⊥) → w'.tier ≡ w.tier → w'.partition_state ≡ w.partition_state → IsCentral disk store meta opening w'
+    expire_lost g recorded is lost tier partition_state =
+        stands disk store meta opening w a outcome w' t c z Expire expires (Noted g) recorded LostLead is refl tier (same_partition_state partition_state) ((λ k. lost (keeps_back z.x z.s g k)), refl)
 
-    pub expire_kept : (g : StartSnapshot) → t.actor_state.work ≡ Noted g → outcome ≡ Answers Kept → KeepsLead z.x g → w'.tier ≡ w.tier → w'.held ≡ w.held → IsCentral disk store meta opening w'
-    expire_kept g recorded is keeps tier held =
-        stands disk store meta opening w a outcome w' t c z Expire expires (Noted g) recorded Kept is refl tier (same_held held) (keeps_seen z.x z.s g keeps, refl)
+    pub expire_kept : (g : StartSnapshot) → t.actor_state.in_progress ≡ Noted g → outcome ≡ Answers Kept → KeepsLead z.x g → w'.tier ≡ w.tier → w'.partition_state ≡ w.partition_state → IsCentral disk store meta opening w'
+    expire_kept g recorded is keeps tier partition_state =
+        stands disk store meta opening w a outcome w' t c z Expire expires (Noted g) recorded Kept is refl tier (same_partition_state partition_state) (keeps_seen z.x z.s g keeps, refl)
 
     -- another leads by now
-    pub expire_stale : (g : StartSnapshot) → t.actor_state.work ≡ Noted g → (n : ℕ) → outcome ≡ Answers (StaleEpoch n) → KeepsLead z.x g → w'.tier ≡ w.tier → (start : ℕ)
-        → ExpiryRaiseRow w.held z.x.role start (StaleEpoch n) w'.held → IsCentral disk store meta opening w'
+    pub expire_stale : (g : StartSnapshot) → t.actor_state.in_progress ≡ Noted g → (n : ℕ) → outcome ≡ Answers (StaleEpoch n) → KeepsLead z.x g → w'.tier ≡ w.tier → (start : ℕ)
+        → ExpiryRaiseRow w.partition_state z.x.role start (StaleEpoch n) w'.partition_state → IsCentral disk store meta opening w'
     expire_stale g recorded n is keeps tier start row =
-        let k = stale_raise w.held.registry row.0 start n (λ (r : Registry). w'.held ≡ record w.held { registry = r }) row.2 in
+        let k = stale_raise w.partition_state.registry row.0 start n (λ (r : Registry). w'.partition_state ≡ record w.partition_state { registry = r }) row.2 in
         let epoch = ap (λ (r : Registry). r.epoch) epoch_seen in
         let old = k.0 in
         let role : g.role ≡ Leads row.0 = keeps.role ∙ row.1 in
-        stands disk store meta opening w a outcome w' t c z Expire expires (Noted g) recorded (StaleEpoch n) is refl tier (same_held k.2) (
+        stands disk store meta opening w a outcome w' t c z Expire expires (Noted g) recorded (StaleEpoch n) is refl tier (same_partition_state k.2) (
           some_at (λ (e : ℕ). e < c.partition.registry.epoch) (epoch_in g.role) row.0 (ap epoch_in role) (subst (λ (e : ℕ). row.0 < e) (sym epoch) old),
           k.1 ∙ sym epoch,
           (keeps_seen z.x z.s g keeps, refl),
         )
 
     -- the log start offset rises
-    pub raise_seen : (g : StartSnapshot) (start wanted : ℕ) → KeepsLead z.x g → ExpiryRaiseRow w.held z.x.role wanted (Raised start) w'.held
-        → Refines disk.content w'.held (λ h'. seen_tiers.ExpireOnRow c.partition y g (Raised start) h')
+    pub raise_seen : (g : StartSnapshot) (start wanted : ℕ) → KeepsLead z.x g → ExpiryRaiseRow w.partition_state z.x.role wanted (Raised start) w'.partition_state
+        → Refines disk.content w'.partition_state (λ h'. seen_tiers.ExpireOnRow c.partition y g (Raised start) h')
     raise_seen g start wanted keeps row =
-        let P = λ (r : Registry). w'.held ≡ record w.held { registry = r } in
-        let same : wanted ≡ start = sym (granted_raise w.held.registry row.0 wanted start P row.2) in
-        let r = some_of P (after_raise w.held.registry row.0 wanted (Ok start)) row.2 in
+        let P = λ (r : Registry). w'.partition_state ≡ record w.partition_state { registry = r } in
+        let same : wanted ≡ start = sym (granted_raise w.partition_state.registry row.0 wanted start P row.2) in
+        let r = some_of P (after_raise w.partition_state.registry row.0 wanted (Ok start)) row.2 in
         let at : after_raise c.partition.registry row.0 start (Ok start) ≡ Some r.0 =
-        ap (λ (k : Registry). after_raise k row.0 start (Ok start)) epoch_seen ∙ (ap (λ (n : ℕ). after_raise w.held.registry row.0 n (Ok start)) (sym same) ∙ r.1) in
-        leaves disk.content disk.control w.held c.partition w'.held (λ h'. seen_tiers.ExpireOnRow c.partition y g (Raised start) h') r.0 c.shows r.2 (
+        ap (λ (k : Registry). after_raise k row.0 start (Ok start)) epoch_seen ∙ (ap (λ (n : ℕ). after_raise w.partition_state.registry row.0 n (Ok start)) (sym same) ∙ r.1) in
+        leaves disk.content disk.control w.partition_state c.partition w'.partition_state (λ h'. seen_tiers.ExpireOnRow c.partition y g (Raised start) h') r.0 c.shows r.2 (
           keeps_seen z.x z.s g keeps,
           record {
             epoch = row.0;
@@ -161,18 +161,18 @@ module _ {D S M : Type 0} (disk : DiskGhosts D) (store : StoreGhosts S) (meta : 
         )
 
     -- a due segment is taken up
-    doom_may : (g : StartSnapshot) (segment : ExpiredSegment) → t.actor_state.work ≡ Noted g → TakesUp w.partition w.held z.broker_tier segment w'.held → MayDoom t.place t.order.broker.0 segment c.scene c.central.plain
+    doom_may : (g : StartSnapshot) (segment : ExpiredSegment) → t.actor_state.in_progress ≡ Noted g → TakesUp w.partition w.partition_state z.broker_tier segment w'.partition_state → MayChooseExpired t.place t.order.broker.0 segment c.scene c.central.plain
     doom_may g segment recorded k =
         let view = c.tier.views t.order.broker.0 its (tier_view_is disk store meta opening w c t.place t.list t.actor_state t.order z) in
         let right = right_view c.scene.notes c.scene.desk z.broker_tier.view c.tier.notes view in
-        let found = due_found w.held.registry.start z.broker_tier.view.entries k.entry k.first in
+        let found = due_found w.partition_state.registry.start z.broker_tier.view.entries k.entry k.first in
         let there : entry_of k.entry.id z.broker_tier.view.entries ≡ Some k.entry = entry_found z.broker_tier.view.entries k.entry right.distinct found.0 in
         let before : entry_of k.entry.id (fold view.before) ≡ Some k.entry = subst (λ (v : View). entry_of k.entry.id v.entries ≡ Some k.entry) view.is there in
         let now = prefix_goes view.before c.scene.notes k.entry.id k.entry view.begins before in
         let part = c.tier.partition.told k.entry.id now.0 now.1 in
         record {
-          actor_state = seated disk store meta opening w c t.place t.list t.actor_state t.order z
-              ∙ ap (λ (u : InProgress). Some (work_of (Some t.order) u)) recorded ∙ ap (λ (u : Command). Some (begun_of t.order.broker.0 g u)) expires;
+          actor_state = on_desk disk store meta opening w c t.place t.list t.actor_state t.order z
+              ∙ ap (λ (u : InProgress). Some (tier_task_of (Some t.order) u)) recorded ∙ ap (λ (u : Command). Some (begun_of t.order.broker.0 g u)) expires;
           tier_view = its;
           tier_view_is = tier_view_is disk store meta opening w c t.place t.list t.actor_state t.order z;
           entry = k.entry;
@@ -181,67 +181,67 @@ module _ {D S M : Type 0} (disk : DiskGhosts D) (store : StoreGhosts S) (meta : 
           partition = k.partition_is ∙ (sym c.shows_tier.partition ∙ (sym part ∙ now.2.partition));
         }
 
-    doom_changed : (g : StartSnapshot) (segment : ExpiredSegment) → t.actor_state.work ≡ Noted g → TakesUp w.partition w.held z.broker_tier segment w'.held
+    doom_changed : (g : StartSnapshot) (segment : ExpiredSegment) → t.actor_state.in_progress ≡ Noted g → TakesUp w.partition w.partition_state z.broker_tier segment w'.partition_state
         → IsChanged c.scene c.central.plain (next_scene (ExpiresSeen segment Start) c.scene.objects c.scene.notes z.broker_tier.view)
     doom_changed g segment recorded k = record {
-      changes = Moves t.place (Dooms t.order.broker.0 segment) ∷ [];
+      changes = Moves t.place (ChoosesExpired t.order.broker.0 segment) ∷ [];
       may = (c.central.plain, (refl, doom_may g segment recorded k), refl);
       is = ap (λ (u : List BrokerTierView). record c.scene { tier_views = u; desk = slice_set c.scene.desk t.place (ExpiresSeen segment Start) })
           (sym (set_same c.scene.tier_views t.order.broker.0 its (tier_view_is disk store meta opening w c t.place t.list t.actor_state t.order z)));
     }
 
-    pub dooms : (g : StartSnapshot) (segment : ExpiredSegment) → t.actor_state.work ≡ Noted g → outcome ≡ outcomes.Dooms segment → TakesUp w.partition w.held z.broker_tier segment w'.held → w'.tier ≡ w.tier
+    pub chooses_expired : (g : StartSnapshot) (segment : ExpiredSegment) → t.actor_state.in_progress ≡ Noted g → outcome ≡ outcomes.ChoosesExpired segment → TakesUp w.partition w.partition_state z.broker_tier segment w'.partition_state → w'.tier ≡ w.tier
         → IsCentral disk store meta opening w'
-    dooms g segment recorded is k same =
-        silent disk store meta opening w a outcome w' t c z Expire expires (subst (GoesAsRecorded t.actor_state.work) (sym is) tt) (subst IsNoDate (sym is) tt)
+    chooses_expired g segment recorded is k same =
+        silent disk store meta opening w a outcome w' t c z Expire expires (subst (GoesAsRecorded t.actor_state.in_progress) (sym is) tt) (subst IsNoDate (sym is) tt)
         (unseen disk store meta opening w a outcome w' t c z Expire expires
-        (ap (λ (o : Outcome). actor_state_seen (actor_state_after t.actor_state o)) is ∙ ap (λ (o : Option StartSnapshot). record { number = t.actor_state.number; snapshot = o }) (expired_segment_seen t.actor_state.work segment)))
-        (untold disk store meta opening w a outcome w' t c z Expire expires (ap (told_of t.list.actor t.actor_state.number t.order.command) is)) (same_held k.stays) _ (doom_changed g segment recorded k)
+        (ap (λ (o : Outcome). actor_state_seen (actor_state_after t.actor_state o)) is ∙ ap (λ (o : Option StartSnapshot). record { number = t.actor_state.number; snapshot = o }) (expired_segment_seen t.actor_state.in_progress segment)))
+        (untold disk store meta opening w a outcome w' t c z Expire expires (ap (told_of t.list.actor t.actor_state.number t.order.command) is)) (same_partition_state k.stays) _ (doom_changed g segment recorded k)
         (shown disk store meta opening w a outcome w' t c z Expire expires (ExpiresSeen segment Start) c.scene.objects c.scene.notes z.broker_tier.view
         (ap (λ (u : RemoteTier S M). u.broker_tiers) same ∙ same_broker_tiers disk store meta opening w c t.place t.list t.actor_state t.order z)
         (ap (λ (u : RemoteTier S M). (store.content u.store).is_observable) same, ap (λ (u : RemoteTier S M). (meta.content u.meta).is_observable) same)
         (c.shows_tier.objects ∙ sym (ap (λ (u : RemoteTier S M). (store.content u.store).objects) same)) (c.shows_tier.notes ∙ sym (ap (λ (u : RemoteTier S M). (meta.content u.meta).notes) same))
-        (ap (λ (o : Outcome). work_after disk store meta opening w c t.place t.list t.actor_state t.order z o) is
-        ∙ (ap (λ (u : InProgress). work_of (slice_get t.list.orders t.actor_state.number) (expired_segment u segment)) recorded ∙ ap (λ (o : Option Order). work_of o (Expires g segment Start)) z.next)))
+        (ap (λ (o : Outcome). tier_task_after disk store meta opening w c t.place t.list t.actor_state t.order z o) is
+        ∙ (ap (λ (u : InProgress). tier_task_of (slice_get t.list.orders t.actor_state.number) (expired_segment u segment)) recorded ∙ ap (λ (o : Option Order). tier_task_of o (Expires g segment Start)) z.next)))
 
     -- a later turn
-    deletes_on : (g : StartSnapshot) (segment : ExpiredSegment) (next : DeletionStep) → t.actor_state.work ≡ Expires g segment next → KeepsLead z.x g → (turn : Turn DeletionStep) → outcome ≡ expiry_outcome turn
-        → GoesOnDeletion store meta w.held w.tier t.order.broker.0 segment next turn w'.tier → w'.held ≡ w.held → IsCentral disk store meta opening w'
+    deletes_on : (g : StartSnapshot) (segment : ExpiredSegment) (next : DeletionStep) → t.actor_state.in_progress ≡ Expires g segment next → KeepsLead z.x g → (turn : Turn DeletionStep) → outcome ≡ expiry_outcome turn
+        → GoesOnDeletion store meta w.partition_state w.tier t.order.broker.0 segment next turn w'.tier → w'.partition_state ≡ w.partition_state → IsCentral disk store meta opening w'
     deletes_on g segment next works keeps turn is goes same = by turn is goes changed
       where
         at : ShowsScene c.scene t.place t.order.broker.0 its (ExpiresSeen segment next) (store.content w.tier.store) (meta.content w.tier.meta) z.broker_tier.view
-        at = subst (λ (k : InProgressIsSeen). ShowsScene c.scene t.place t.order.broker.0 its k (store.content w.tier.store) (meta.content w.tier.meta) z.broker_tier.view) (ap (work_of (Some t.order)) works)
+        at = subst (λ (k : TierTask). ShowsScene c.scene t.place t.order.broker.0 its k (store.content w.tier.store) (meta.content w.tier.meta) z.broker_tier.view) (ap (tier_task_of (Some t.order)) works)
             (shows_at disk store meta opening w c t.place t.list t.actor_state t.order z)
 
         broker_tiers : w'.tier.broker_tiers ≡ slice_set w.tier.broker_tiers t.order.broker.0 (record z.broker_tier { view = z.broker_tier.view })
         broker_tiers = ap (λ (u : RemoteTier S M). u.broker_tiers) goes.after ∙ same_broker_tiers disk store meta opening w c t.place t.list t.actor_state t.order z
 
-        changed : IsChanged c.scene c.central.plain (next_scene (expiry_work segment turn) (store.content w'.tier.store).objects (meta.content w'.tier.meta).notes z.broker_tier.view)
-        changed = expiry_turns store.content store.control meta.content meta.control segment (origin_of w.held t.order.broker.0) next (Ok turn) (expiry_tiers w.tier) (expiry_tiers w'.tier)
+        changed : IsChanged c.scene c.central.plain (next_scene (expiry_tier_task segment turn) (store.content w'.tier.store).objects (meta.content w'.tier.meta).notes z.broker_tier.view)
+        changed = expiry_turns store.content store.control meta.content meta.control segment (origin_of w.partition_state t.order.broker.0) next (Ok turn) (expiry_tiers w.tier) (expiry_tiers w'.tier)
             c.scene c.central.plain t.place t.order.broker.0 its goes.row at c.tier
 
-        by : (turn : Turn DeletionStep) → outcome ≡ expiry_outcome turn → (goes : GoesOnDeletion store meta w.held w.tier t.order.broker.0 segment next turn w'.tier)
-            → IsChanged c.scene c.central.plain (next_scene (expiry_work segment turn) (store.content w'.tier.store).objects (meta.content w'.tier.meta).notes z.broker_tier.view) → IsCentral disk store meta opening w'
+        by : (turn : Turn DeletionStep) → outcome ≡ expiry_outcome turn → (goes : GoesOnDeletion store meta w.partition_state w.tier t.order.broker.0 segment next turn w'.tier)
+            → IsChanged c.scene c.central.plain (next_scene (expiry_tier_task segment turn) (store.content w'.tier.store).objects (meta.content w'.tier.meta).notes z.broker_tier.view) → IsCentral disk store meta opening w'
         by (Ends answer) is goes k =
-            entered disk store meta opening w a outcome w' t c z Expire expires (Expires g segment next) works (turned.Answers answer) (next_scene Free (store.content w'.tier.store).objects (meta.content w'.tier.meta).notes z.broker_tier.view) is refl (same_held same)
-            (end_row c.partition y g answer (expiry_ends store meta segment (origin_of w.held t.order.broker.0) next answer (expiry_tiers w.tier) (expiry_tiers w'.tier) goes.row) (keeps_seen z.x z.s g keeps))
+            entered disk store meta opening w a outcome w' t c z Expire expires (Expires g segment next) works (turned.Answers answer) (next_scene Free (store.content w'.tier.store).objects (meta.content w'.tier.meta).notes z.broker_tier.view) is refl (same_partition_state same)
+            (end_row c.partition y g answer (expiry_ends store meta segment (origin_of w.partition_state t.order.broker.0) next answer (expiry_tiers w.tier) (expiry_tiers w'.tier) goes.row) (keeps_seen z.x z.s g keeps))
             k
             (shown disk store meta opening w a outcome w' t c z Expire expires Free (store.content w'.tier.store).objects (meta.content w'.tier.meta).notes z.broker_tier.view broker_tiers
-            (expiry_tells store meta segment (origin_of w.held t.order.broker.0) next (Ends answer) (expiry_tiers w.tier) (expiry_tiers w'.tier) goes.row) refl refl
+            (expiry_tells store meta segment (origin_of w.partition_state t.order.broker.0) next (Ends answer) (expiry_tiers w.tier) (expiry_tiers w'.tier) goes.row) refl refl
             (answered_free disk store meta opening w c t.place t.list t.actor_state t.order z outcome answer is))
         by (GoesOn further) is goes k =
-            silent disk store meta opening w a outcome w' t c z Expire expires (subst (GoesAsRecorded t.actor_state.work) (sym is) tt) (subst IsNoDate (sym is) tt)
+            silent disk store meta opening w a outcome w' t c z Expire expires (subst (GoesAsRecorded t.actor_state.in_progress) (sym is) tt) (subst IsNoDate (sym is) tt)
             (unseen disk store meta opening w a outcome w' t c z Expire expires
-            (ap (λ (o : Outcome). actor_state_seen (actor_state_after t.actor_state o)) is ∙ ap (λ (o : Option StartSnapshot). record { number = t.actor_state.number; snapshot = o }) (deleting_seen t.actor_state.work further)))
-            (untold disk store meta opening w a outcome w' t c z Expire expires (ap (told_of t.list.actor t.actor_state.number t.order.command) is)) (same_held same)
+            (ap (λ (o : Outcome). actor_state_seen (actor_state_after t.actor_state o)) is ∙ ap (λ (o : Option StartSnapshot). record { number = t.actor_state.number; snapshot = o }) (deleting_seen t.actor_state.in_progress further)))
+            (untold disk store meta opening w a outcome w' t c z Expire expires (ap (told_of t.list.actor t.actor_state.number t.order.command) is)) (same_partition_state same)
             (next_scene (ExpiresSeen segment further) (store.content w'.tier.store).objects (meta.content w'.tier.meta).notes z.broker_tier.view) k
             (shown disk store meta opening w a outcome w' t c z Expire expires (ExpiresSeen segment further) (store.content w'.tier.store).objects (meta.content w'.tier.meta).notes z.broker_tier.view broker_tiers
-            (expiry_tells store meta segment (origin_of w.held t.order.broker.0) next (GoesOn further) (expiry_tiers w.tier) (expiry_tiers w'.tier) goes.row) refl refl
-            (ap (λ (o : Outcome). work_after disk store meta opening w c t.place t.list t.actor_state t.order z o) is
-            ∙ (ap (λ (u : InProgress). work_of (slice_get t.list.orders t.actor_state.number) (deleting u further)) works ∙ ap (λ (o : Option Order). work_of o (Expires g segment further)) z.next)))
+            (expiry_tells store meta segment (origin_of w.partition_state t.order.broker.0) next (GoesOn further) (expiry_tiers w.tier) (expiry_tiers w'.tier) goes.row) refl refl
+            (ap (λ (o : Outcome). tier_task_after disk store meta opening w c t.place t.list t.actor_state t.order z o) is
+            ∙ (ap (λ (u : InProgress). tier_task_of (slice_get t.list.orders t.actor_state.number) (deleting u further)) works ∙ ap (λ (o : Option Order). tier_task_of o (Expires g segment further)) z.next)))
 
-    pub deletes : (g : StartSnapshot) (segment : ExpiredSegment) (next : DeletionStep) → t.actor_state.work ≡ Expires g segment next → DeleteOnRow store meta w.held w.tier t.order.broker.0 z.x g segment next outcome w'.tier
-        → w'.held ≡ w.held → IsCentral disk store meta opening w'
+    pub deletes : (g : StartSnapshot) (segment : ExpiredSegment) (next : DeletionStep) → t.actor_state.in_progress ≡ Expires g segment next → DeleteOnRow store meta w.partition_state w.tier t.order.broker.0 z.x g segment next outcome w'.tier
+        → w'.partition_state ≡ w.partition_state → IsCentral disk store meta opening w'
     deletes g segment next works (inl lost) same =
-        stands disk store meta opening w a outcome w' t c z Expire expires (Expires g segment next) works LostLead lost.1 refl lost.2 (same_held same) ((λ k. lost.0 (keeps_back z.x z.s g k)), refl)
+        stands disk store meta opening w a outcome w' t c z Expire expires (Expires g segment next) works LostLead lost.1 refl lost.2 (same_partition_state same) ((λ k. lost.0 (keeps_back z.x z.s g k)), refl)
     deletes g segment next works (inr (keeps, (turn, is, goes))) same = deletes_on g segment next works keeps turn is goes same

@@ -21,14 +21,14 @@ use Rattle.plain_log.specs.Orders.{AreListsFor, AreRising, IsListFor, IsConfig}
 use Rattle.broker_log.specs.Seen.{ShowsSeen}
 use Rattle.laws_partition.specs.Whole as seen_whole
 use Rattle.laws_partition.specs.Central as seen_central
-use Rattle.laws_partition.specs.Fresh.{fresh_node, fresh_held}
+use Rattle.laws_partition.specs.Fresh.{fresh_node, fresh_partition_state}
 use Rattle.laws_partition.proofs.CompleteLaw.{fresh_central}
 use Rattle.laws_tier_turns.specs.BrokerTiers.{tier_views_of, BrokerTierModel as BrokerTierIsSeen, fresh_broker_tier as fresh_seen}
 use Rattle.laws_tier_turns.proofs.FreshLaw.{fresh_tier}
 use Rattle.partition_commands.specs.declared.partition_state.Node.{Node}
 use Rattle.partition_commands.specs.Partition.{is_up, line_of, node_of, ShowsNode, ShowNodes}
 use Rattle.partition_commands.specs.Fresh.{IsFreshNode, AreFreshFrom, AllSeen, empty_seen, fresh_role, fresh_line}
-use Rattle.tier_safe.specs.Scene.{Scene, TierTask as InProgressIsSeen, Free}
+use Rattle.tier_safe.specs.Scene.{Scene, TierTask, Free}
 use Rattle.tier_safe.specs.Fresh.{fresh_tier_view}
 use Rattle.tier_safe.specs.Safe.{TierSafe}
 use Rattle.tier_safe.proofs.FreshLaw.{fresh_both}
@@ -37,7 +37,7 @@ use Rattle.partition_world.specs.declared.actor_state.InProgress.TheVariants.{Id
 use Rattle.partition_world.specs.declared.tier.BrokerTierState.{BrokerTierState}
 use Rattle.partition_world.specs.ActorStates.{desk_seen}
 use Rattle.partition_world.specs.Whole.{Whole, seen_as}
-use Rattle.partition_world.specs.Central.{IsRecorded, AreRecorded, IsSearchState, AreDated, IsCentral, ShowsTier, broker_tiers_seen, work_of, desk_of, notes_left}
+use Rattle.partition_world.specs.Central.{IsRecorded, AreRecorded, IsSearchState, AreDated, IsCentral, ShowsTier, broker_tiers_seen, tier_task_of, desk_of, notes_left}
 use Rattle.partition_world.specs.Fresh.{IsFresh, IsSeenEmpty, fresh_actor_state, fresh_broker_tier}
 use Rattle.partition_world.proofs.WorldFresh.{all_fresh}
 
@@ -58,7 +58,7 @@ module _ {D : Type 0} (content : D → Content) (control : D → Control call_co
   followers_shown (d ∷ disks) [] f seen = absurd f
   followers_shown (d ∷ disks) (x ∷ xs) f seen = (node_shown false x f.0.node seen.0, followers_shown disks xs f.1 seen.1)
 
-  nodes_shown : (n : ℕ) (disks : List D) (xs : List (Node D)) → length disks ≡ n → 1 ≤ n → AreFreshFrom control true disks xs → AllSeen content xs → ShowNodes content xs (fresh_held n).nodes
+  nodes_shown : (n : ℕ) (disks : List D) (xs : List (Node D)) → length disks ≡ n → 1 ≤ n → AreFreshFrom control true disks xs → AllSeen content xs → ShowNodes content xs (fresh_partition_state n).nodes
   nodes_shown n [] xs count some f seen = absurd (omega (arith, count, some))
   nodes_shown n (d ∷ disks) [] count some f seen = absurd f
   nodes_shown n (d ∷ disks) (x ∷ xs) count some f seen =
@@ -72,21 +72,21 @@ pub broker_tiers_fresh : (n : ℕ) → broker_tiers_seen (replicate n fresh_brok
 broker_tiers_fresh zero = refl
 broker_tiers_fresh (suc n) = ap (λ (l : List BrokerTierIsSeen). fresh_seen ∷ l) (broker_tiers_fresh n)
 
-tier_views_fresh : (n : ℕ) (broker_tiers : List BrokerTierState) → broker_tiers ≡ replicate n fresh_broker_tier → replicate n fresh_tier_view ≡ tier_views_of (fresh_held n).nodes (broker_tiers_seen broker_tiers)
+tier_views_fresh : (n : ℕ) (broker_tiers : List BrokerTierState) → broker_tiers ≡ replicate n fresh_broker_tier → replicate n fresh_tier_view ≡ tier_views_of (fresh_partition_state n).nodes (broker_tiers_seen broker_tiers)
 tier_views_fresh n broker_tiers is =
     let all : broker_tiers_seen broker_tiers ≡ replicate n fresh_seen = ap (λ (l : List BrokerTierState). broker_tiers_seen l) is ∙ broker_tiers_fresh n in
-    sym (ap (λ (l : List BrokerTierIsSeen). tier_views_of (fresh_held n).nodes l) all ∙ fresh_tier n)
+    sym (ap (λ (l : List BrokerTierIsSeen). tier_views_of (fresh_partition_state n).nodes l) all ∙ fresh_tier n)
 
 -- nothing is in progress
-free : (o : Option Order) → work_of o Idle ≡ Free
+free : (o : Option Order) → tier_task_of o Idle ≡ Free
 free None = refl
 free (Some order) = refl
 
 pub all_free : (lists : List ActorList) → replicate (length lists) Free ≡ desk_of lists (replicate (length lists) fresh_actor_state)
 all_free [] = refl
 all_free (l ∷ lists) =
-    ap (λ (ws : List InProgressIsSeen). Free ∷ ws) (all_free lists)
-    ∙ ap (λ (w : InProgressIsSeen). w ∷ desk_of lists (replicate (length lists) fresh_actor_state)) (sym (free (slice_get l.orders 0)))
+    ap (λ (ws : List TierTask). Free ∷ ws) (all_free lists)
+    ∙ ap (λ (w : TierTask). w ∷ desk_of lists (replicate (length lists) fresh_actor_state)) (sym (free (slice_get l.orders 0)))
 
 -- no list is of an actor below this one
 abbrev IsFrom : ℕ → List ActorList → Type 0
@@ -124,7 +124,7 @@ module _ {D S M : Type 0} (disk : DiskGhosts D) (store : StoreGhosts S) (meta : 
   }
 
   tier_shown : (partition : PartitionId) (config : Config) (lists : List ActorList) (disks : List D) (s : S) (m : M) (w : Whole D S M)
-      → IsFresh disk store meta partition config lists disks s m w → IsSeenEmpty disk store meta w → ShowsTier store meta w (fresh_held config.brokers) (scene_of config lists w)
+      → IsFresh disk store meta partition config lists disks s m w → IsSeenEmpty disk store meta w → ShowsTier store meta w (fresh_partition_state config.brokers) (scene_of config lists w)
   tier_shown partition config lists disks s m w f seen = record {
     partition = refl;
     store_tells = seen.store_tells;
@@ -150,9 +150,9 @@ module _ {D S M : Type 0} (disk : DiskGhosts D) (store : StoreGhosts S) (meta : 
   plain_fresh opening v c none = let is : Some opening ≡ Some c.plain = sym (ap (λ (l : List JournalEntry). replay v.lists opening l) none) ∙ c.replays in cc (is)
 
   -- no actor's state keeps anything
-  idle_recorded : (n place : ℕ) (actor_state : ActorState) → slice_get (replicate n fresh_actor_state) place ≡ Some actor_state → IsRecorded actor_state.work
+  idle_recorded : (n place : ℕ) (actor_state : ActorState) → slice_get (replicate n fresh_actor_state) place ≡ Some actor_state → IsRecorded actor_state.in_progress
   idle_recorded zero place actor_state at = absurd cc
-  idle_recorded (suc n) zero actor_state at = let is : fresh_actor_state ≡ actor_state = cc (at) in subst (λ (k : ActorState). IsRecorded k.work) is tt
+  idle_recorded (suc n) zero actor_state at = let is : fresh_actor_state ≡ actor_state = cc (at) in subst (λ (k : ActorState). IsRecorded k.in_progress) is tt
   idle_recorded (suc n) (suc place) actor_state at = idle_recorded n place actor_state at
 
   pub fresh_recorded : (n : ℕ) (desk : List ActorState) → desk ≡ replicate n fresh_actor_state → AreRecorded desk
@@ -170,32 +170,32 @@ module _ {D S M : Type 0} (disk : DiskGhosts D) (store : StoreGhosts S) (meta : 
   pub fresh_dated : (p : State) (lists : List ActorList) (n : ℕ) (desk : List ActorState) → desk ≡ replicate n fresh_actor_state → AreDated p lists desk
   fresh_dated p lists n desk is = λ place l actor_state there at.
       let same = actor_states_idle n place actor_state (ap (λ (k : List ActorState). slice_get k place) (sym is) ∙ at) in
-      subst (λ (k : ActorState). IsSearchState p (slice_get l.orders k.number) k.work) same (idle_dated p (slice_get l.orders 0))
+      subst (λ (k : ActorState). IsSearchState p (slice_get l.orders k.number) k.in_progress) same (idle_dated p (slice_get l.orders 0))
 
   pub fresh_is_central : (partition : PartitionId) (config : Config) (lists : List ActorList) (disks : List D) (s : S) (m : M) (w : Whole D S M) → IsConfig config → AreListsFor config lists
       → IsFresh disk store meta partition config lists disks s m w → IsSeenEmpty disk store meta w → IsCentral disk store meta (fresh config) w
   fresh_is_central partition config lists disks s m w fits fit f seen = record {
-    partition = fresh_held config.brokers;
+    partition = fresh_partition_state config.brokers;
     shows = record {
-      registry = sym (f.held.registry ∙ ap fresh_registry f.count);
-      nodes = nodes_shown disk.content disk.control config.brokers disks w.held.nodes f.count fits.some f.held.nodes seen.logs;
-      clock = sym f.held.clock;
+      registry = sym (f.partition_state.registry ∙ ap fresh_registry f.count);
+      nodes = nodes_shown disk.content disk.control config.brokers disks w.partition_state.nodes f.count fits.some f.partition_state.nodes seen.logs;
+      clock = sym f.partition_state.clock;
     };
     central = central;
     scene = scene_of config lists w;
     shows_tier = tier_shown partition config lists disks s m w f seen;
-    tier = subst (λ (p : State). TierSafe (scene_of config lists w) p) (plain_fresh (fresh config) (seen_as w (fresh_held config.brokers)) central f.journal) safe;
+    tier = subst (λ (p : State). TierSafe (scene_of config lists w) p) (plain_fresh (fresh config) (seen_as w (fresh_partition_state config.brokers)) central f.journal) safe;
     recorded = fresh_recorded (length lists) w.desk f.desk;
     dated = fresh_dated central.plain w.lists (length lists) w.desk f.desk;
     few = left config lists w.lists w.desk fit f.lists_are f.desk;
   }
     where
-      central : seen_central.IsCentral (fresh config) (seen_as w (fresh_held config.brokers))
-      central = fresh_central partition config lists (seen_as w (fresh_held config.brokers)) fits fit (record {
+      central : seen_central.IsCentral (fresh config) (seen_as w (fresh_partition_state config.brokers))
+      central = fresh_central partition config lists (seen_as w (fresh_partition_state config.brokers)) fits fit (record {
         partition_is = f.partition_is;
         config_is = f.config_is;
         lists_are = f.lists_are;
-        held = refl;
+        partition_state = refl;
         desk = ap (λ (d : List ActorState). desk_seen d) f.desk ∙ all_fresh (length lists);
         journal = f.journal;
       })

@@ -66,8 +66,8 @@ module _ {D S M : Type 0} (disk : DiskGhosts D) (store : StoreGhosts S) (meta : 
   recorded_some p h t b x broker_tier g (Offset (At ts)) t' w = date_some h t b x broker_tier _ _ _ _ t' w
   recorded_some p h t b x broker_tier g other t' w = elim w [ ]
 
-  halts_some : (p : PartitionId) (h : PartitionState D) (t : RemoteTier S M) (b : ℕ) (x : Node D) (broker_tier : BrokerTierState) (work : InProgress) (command : Command) (t' : RemoteTier S M)
-      → HaltsTier store meta p h t b x broker_tier work command t' → HaltsSome h t b x broker_tier t'
+  halts_some : (p : PartitionId) (h : PartitionState D) (t : RemoteTier S M) (b : ℕ) (x : Node D) (broker_tier : BrokerTierState) (in_progress : InProgress) (command : Command) (t' : RemoteTier S M)
+      → HaltsTier store meta p h t b x broker_tier in_progress command t' → HaltsSome h t b x broker_tier t'
   halts_some p h t b x broker_tier Idle command t' w = begin_some h t b x broker_tier command t' w
   halts_some p h t b x broker_tier (Noted g) command t' w = recorded_some p h t b x broker_tier g command t' w
   halts_some p h t b x broker_tier (Copies g copy next) Copy t' w = inr (inl (copy, next, w))
@@ -75,17 +75,17 @@ module _ {D S M : Type 0} (disk : DiskGhosts D) (store : StoreGhosts S) (meta : 
   halts_some p h t b x broker_tier (Dates g cursor next) (Offset (At ts)) t' w = date_some h t b x broker_tier _ _ _ _ t' w
   halts_some p h t b x broker_tier (Expires g expired_segment next) Expire t' w = inr (inr (inr (inl (expired_segment, next, w))))
   halts_some p h t b x broker_tier (Rebuilds g Epochs) Join t' w = inr (inr (inr (inr (inr (p, g, w)))))
-  halts_some p h t b x broker_tier work command t' w = elim w [ ]
+  halts_some p h t b x broker_tier in_progress command t' w = elim w [ ]
 
   -- what a turn leaves that finds no memory is left by some call
-  pub stays_some : (p : PartitionId) (h : PartitionState D) (t : RemoteTier S M) (b : ℕ) (work : InProgress) (command : Command) (h' : PartitionState D) (t' : RemoteTier S M)
-      → StaysTier disk store meta p h t b work command h' t' → StaysSome h t b h' t'
-  stays_some p h t b work command h' t' (inl w) = inl w
-  stays_some p h t b work command h' t' (inr (same, at)) =
+  pub stays_some : (p : PartitionId) (h : PartitionState D) (t : RemoteTier S M) (b : ℕ) (in_progress : InProgress) (command : Command) (h' : PartitionState D) (t' : RemoteTier S M)
+      → StaysTier disk store meta p h t b in_progress command h' t' → StaysSome h t b h' t'
+  stays_some p h t b in_progress command h' t' (inl w) = inl w
+  stays_some p h t b in_progress command h' t' (inr (same, at)) =
       inr (
         same,
-        some_more (λ x. AtBrokerTier t b (λ broker_tier. HaltsTier store meta p h t b x broker_tier work command t'))
+        some_more (λ x. AtBrokerTier t b (λ broker_tier. HaltsTier store meta p h t b x broker_tier in_progress command t'))
             (λ x. AtBrokerTier t b (λ broker_tier. HaltsSome h t b x broker_tier t')) (slice_get h.nodes b)
-            (λ x w. some_more (λ broker_tier. HaltsTier store meta p h t b x broker_tier work command t') (λ broker_tier. HaltsSome h t b x broker_tier t')
-            (slice_get t.broker_tiers b) (λ broker_tier halts. halts_some p h t b x broker_tier work command t' halts) w) at,
+            (λ x w. some_more (λ broker_tier. HaltsTier store meta p h t b x broker_tier in_progress command t') (λ broker_tier. HaltsSome h t b x broker_tier t')
+            (slice_get t.broker_tiers b) (λ broker_tier halts. halts_some p h t b x broker_tier in_progress command t' halts) w) at,
       )

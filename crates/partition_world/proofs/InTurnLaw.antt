@@ -29,7 +29,7 @@ use Rattle.partition_world.specs.Reaches.{TakesTurn as GoesOnce, GoesTimes, Goes
 use Rattle.partition_world.specs.Turn.{IsTurn, IsAtEnd}
 use Rattle.partition_world.specs.Whole.{Whole}
 use Rattle.partition_world.specs.declared.actor_state.Outcome.{Outcome}
-use Rattle.partition_world.specs.declared.actor_state.Outcome.TheVariants.{Answers, Begins, Chose, Goes, Seeks, Dates, Dooms, Deletes, Rebuilds}
+use Rattle.partition_world.specs.declared.actor_state.Outcome.TheVariants.{Answers, Begins, Chose, Goes, Seeks, Dates, ChoosesExpired, Deletes, Rebuilds}
 use Rattle.partition_world.specs.declared.actor_state.ActorState.{ActorState}
 use Rattle.partition_world.specs.declared.actor_state.InProgress.TheVariants.{Idle}
 use Rattle.partition_world.specs.ActorStates.{actor_state_after, told_of, recorded_in}
@@ -105,7 +105,7 @@ lead_answers a count n snapshot (entry ∷ journal) m going low l = go (entry.ac
 
 -- the command has begun
 abbrev is_going : ActorState → Bool
-is_going actor_state = is_some (recorded_in actor_state.work)
+is_going actor_state = is_some (recorded_in actor_state.in_progress)
 
 -- what a turn enters leads to what it makes of its state
 record Enters (actor : ActorId) (actor_state : ActorState) (command : Command) (outcome : Outcome) : Type 0 where
@@ -119,23 +119,23 @@ record IsSilent (actor : ActorId) (actor_state : ActorState) (command : Command)
   number : (actor_state_after actor_state outcome).number ≡ actor_state.number
   going : is_going (actor_state_after actor_state outcome) ≡ is_going actor_state
 
-begin_next : (actor_state : ActorState) (command : Command) (g : StartSnapshot) → actor_state.work ≡ Idle → next_after (event_of (turned.Begins g) command) actor_state.number (is_going actor_state) ≡ Some (actor_state.number, true)
+begin_next : (actor_state : ActorState) (command : Command) (g : StartSnapshot) → actor_state.in_progress ≡ Idle → next_after (event_of (turned.Begins g) command) actor_state.number (is_going actor_state) ≡ Some (actor_state.number, true)
 begin_next actor_state Join g idle = rw idle refl
 begin_next actor_state command g idle = rw idle refl
 
-enters : (actor : ActorId) (actor_state : ActorState) (command : Command) (outcome : Outcome) → ((g : StartSnapshot) → outcome ≡ Begins g → actor_state.work ≡ Idle)
+enters : (actor : ActorId) (actor_state : ActorState) (command : Command) (outcome : Outcome) → ((g : StartSnapshot) → outcome ≡ Begins g → actor_state.in_progress ≡ Idle)
     → Enters actor actor_state command outcome ⊎ IsSilent actor actor_state command outcome
 enters actor actor_state command (Answers answer) idle = inl (record { event = event.Answers answer; told = refl; next = refl })
 enters actor actor_state command (Begins g) idle =
     inl (record { event = event_of (turned.Begins g) command; told = refl; next = begin_next actor_state command g (idle g refl) })
-enters actor actor_state command (Chose copy) idle = inr (record { told = refl; number = refl; going = ap (λ (o : Option StartSnapshot). is_some o) (chosen_seen actor_state.work copy) })
-enters actor actor_state command (Goes next) idle = inr (record { told = refl; number = refl; going = ap (λ (o : Option StartSnapshot). is_some o) (moved_seen actor_state.work next) })
-enters actor actor_state command (Seeks next) idle = inr (record { told = refl; number = refl; going = ap (λ (o : Option StartSnapshot). is_some o) (sought_seen actor_state.work next) })
+enters actor actor_state command (Chose copy) idle = inr (record { told = refl; number = refl; going = ap (λ (o : Option StartSnapshot). is_some o) (chosen_seen actor_state.in_progress copy) })
+enters actor actor_state command (Goes next) idle = inr (record { told = refl; number = refl; going = ap (λ (o : Option StartSnapshot). is_some o) (moved_seen actor_state.in_progress next) })
+enters actor actor_state command (Seeks next) idle = inr (record { told = refl; number = refl; going = ap (λ (o : Option StartSnapshot). is_some o) (sought_seen actor_state.in_progress next) })
 enters actor actor_state command (Dates cursor next) idle =
-    inr (record { told = refl; number = refl; going = ap (λ (o : Option StartSnapshot). is_some o) (dated_seen actor_state.work cursor next) })
-enters actor actor_state command (Dooms segment) idle = inr (record { told = refl; number = refl; going = ap (λ (o : Option StartSnapshot). is_some o) (expired_segment_seen actor_state.work segment) })
-enters actor actor_state command (Deletes next) idle = inr (record { told = refl; number = refl; going = ap (λ (o : Option StartSnapshot). is_some o) (deleting_seen actor_state.work next) })
-enters actor actor_state command (Rebuilds next) idle = inr (record { told = refl; number = refl; going = ap (λ (o : Option StartSnapshot). is_some o) (rebuilding_seen actor_state.work next) })
+    inr (record { told = refl; number = refl; going = ap (λ (o : Option StartSnapshot). is_some o) (dated_seen actor_state.in_progress cursor next) })
+enters actor actor_state command (ChoosesExpired segment) idle = inr (record { told = refl; number = refl; going = ap (λ (o : Option StartSnapshot). is_some o) (expired_segment_seen actor_state.in_progress segment) })
+enters actor actor_state command (Deletes next) idle = inr (record { told = refl; number = refl; going = ap (λ (o : Option StartSnapshot). is_some o) (deleting_seen actor_state.in_progress next) })
+enters actor actor_state command (Rebuilds next) idle = inr (record { told = refl; number = refl; going = ap (λ (o : Option StartSnapshot). is_some o) (rebuilding_seen actor_state.in_progress next) })
 
 -- each actor's entries lead to its state; one without orders has none
 record IsOrderly {D S M : Type 0} (w : Whole D S M) : Type 0 where
@@ -158,10 +158,10 @@ module _ {D S M : Type 0} (disk : DiskGhosts D) (store : StoreGhosts S) (meta : 
   turn_leads : (w : Whole D S M) (a : ℕ) (outcome : Outcome) (w' : Whole D S M) (t : IsTurn disk store meta w a outcome w') → IsOrderly w → Leads w outcome w' t.list t.actor_state
   turn_leads w a outcome w' t o = go (enters t.list.actor t.actor_state t.order.command outcome idle)
     where
-      idle : (g : StartSnapshot) → outcome ≡ Begins g → t.actor_state.work ≡ Idle
+      idle : (g : StartSnapshot) → outcome ≡ Begins g → t.actor_state.in_progress ≡ Idle
       idle g is =
-          begins_idle disk store meta w.partition w.config w.held w.tier t.order.broker.0 t.actor_state.work t.order.command g w'.held w'.tier
-          (subst (λ (k : Outcome). TurnRow disk store meta w.partition w.config w.held w.tier t.order.broker.0 t.actor_state.work t.order.command k w'.held w'.tier) is t.row)
+          begins_idle disk store meta w.partition w.config w.partition_state w.tier t.order.broker.0 t.actor_state.in_progress t.order.command g w'.partition_state w'.tier
+          (subst (λ (k : Outcome). TurnRow disk store meta w.partition w.config w.partition_state w.tier t.order.broker.0 t.actor_state.in_progress t.order.command k w'.partition_state w'.tier) is t.row)
 
       was : LeadTo (length t.list.orders) 0 false (entries_of t.list.actor.0 w.journal.items) t.actor_state.number (is_going t.actor_state)
       was = o.each t.place t.list t.actor_state t.at.list t.at.actor_state_is

@@ -28,7 +28,7 @@ use Rattle.partition_commands.proofs.InfallibleRows.{infallible_have, infallible
 use Rattle.partition_commands.proofs.LastingDisks.{disk_map, FailsFor}
 use Rattle.partition_commands.proofs.Told.{told_none}
 use Rattle.partition_world.specs.declared.actor_state.Outcome.{Outcome}
-use Rattle.partition_world.specs.declared.actor_state.Outcome.TheVariants.{Answers, Begins, Chose, Goes, Seeks as Sought, Dates as Dated, Dooms, Deletes, Rebuilds as Rebuilding}
+use Rattle.partition_world.specs.declared.actor_state.Outcome.TheVariants.{Answers, Begins, Chose, Goes, Seeks as Sought, Dates as Dated, ChoosesExpired, Deletes, Rebuilds as Rebuilding}
 use Rattle.partition_world.specs.Infallible.{IsInfallible, IsUnplanned, IsUnfailing}
 use Rattle.tier_base.specs.declared.plain.Settings.{Settings}
 use Rattle.disk_model.specs.Content.{Content}
@@ -76,30 +76,30 @@ module _ {D S M : Type 0} (disk : DiskGhosts D) (store : StoreGhosts S) (meta : 
 
   turn_unfailing : (w : Whole D S M) (a : ℕ) (outcome : Outcome) (w' : Whole D S M) → IsTurn disk store meta w a outcome w' → IsUnfailing disk store meta w → IsUnfailing disk store meta w'
   turn_unfailing w a outcome w' t u =
-      let r = row_of disk store meta w.partition w.config w.held w.tier t.order.broker.0 t.actor_state.work t.order.command outcome w'.held w'.tier t.row in
-      let k = turn_lasts disk store meta w.partition w.config w.held w.tier t.order.broker.0 r.x r.broker_tier t.actor_state.work t.order.command outcome w'.held w'.tier r.at r.row in
-      let lasts : DisksLast disk.control w.held.nodes w'.held.nodes = k.0.held (infallible_have disk.control w.held.nodes u.infallible) in
+      let r = row_of disk store meta w.partition w.config w.partition_state w.tier t.order.broker.0 t.actor_state.in_progress t.order.command outcome w'.partition_state w'.tier t.row in
+      let k = turn_lasts disk store meta w.partition w.config w.partition_state w.tier t.order.broker.0 r.x r.broker_tier t.actor_state.in_progress t.order.command outcome w'.partition_state w'.tier r.at r.row in
+      let lasts : DisksLast disk.control w.partition_state.nodes w'.partition_state.nodes = k.0.partition_state (infallible_have disk.control w.partition_state.nodes u.infallible) in
       record {
-        infallible = infallible_last disk.control w.held.nodes w'.held.nodes lasts u.infallible;
+        infallible = infallible_last disk.control w.partition_state.nodes w'.partition_state.nodes lasts u.infallible;
         store_infallible = infallible_lasts (store.control w.tier.store) (store.control w'.tier.store) k.0.stores u.store_infallible;
         meta_infallible = infallible_lasts (meta.control w.tier.meta) (meta.control w'.tier.meta) k.0.metas u.meta_infallible;
         journal = subst AreFaultless (sym t.entered) (told lasts k.0.stores k.0.metas outcome k.1);
       }
     where
-      told : DisksLast disk.control w.held.nodes w'.held.nodes → Lasts (store.control w.tier.store) (store.control w'.tier.store) → Lasts (meta.control w.tier.meta) (meta.control w'.tier.meta) → (o : Outcome)
-          → TurnTold (FailsFor disk.control t.order.command w.held t.order.broker.0 w'.held) (DiskFails disk.control t.order.broker.0 w.held w'.held) (StoreRose store w.tier.store w'.tier.store) (MetaRose meta w.tier.meta w'.tier.meta) o
+      told : DisksLast disk.control w.partition_state.nodes w'.partition_state.nodes → Lasts (store.control w.tier.store) (store.control w'.tier.store) → Lasts (meta.control w.tier.meta) (meta.control w'.tier.meta) → (o : Outcome)
+          → TurnTold (FailsFor disk.control t.order.command w.partition_state t.order.broker.0 w'.partition_state) (DiskFails disk.control t.order.broker.0 w.partition_state w'.partition_state) (StoreRose store w.tier.store w'.tier.store) (MetaRose meta w.tier.meta w'.tier.meta) o
           → AreFaultless (w.journal.items ++ told_of t.list.actor t.actor_state.number t.order.command o)
       told disks stores metas (Answers answer) q =
           faultless_more w.journal.items _ u.journal
-          (told_none (FailsFor disk.control t.order.command w.held t.order.broker.0 w'.held) (DiskFails disk.control t.order.broker.0 w.held w'.held) (StoreRose store w.tier.store w'.tier.store) (MetaRose meta w.tier.meta w'.tier.meta) answer
-          (infallible_command disk.control t.order.command t.order.broker.0 w.held w'.held disks u.infallible) (infallible_disk disk.control t.order.broker.0 w.held w'.held disks u.infallible)
+          (told_none (FailsFor disk.control t.order.command w.partition_state t.order.broker.0 w'.partition_state) (DiskFails disk.control t.order.broker.0 w.partition_state w'.partition_state) (StoreRose store w.tier.store w'.tier.store) (MetaRose meta w.tier.meta w'.tier.meta) answer
+          (infallible_command disk.control t.order.command t.order.broker.0 w.partition_state w'.partition_state disks u.infallible) (infallible_disk disk.control t.order.broker.0 w.partition_state w'.partition_state disks u.infallible)
           (infallible_fails (store.control w.tier.store) (store.control w'.tier.store) stores u.store_infallible) (infallible_fails (meta.control w.tier.meta) (meta.control w'.tier.meta) metas u.meta_infallible) q)
       told disks stores metas (Begins g) q = faultless_more w.journal.items _ u.journal (event_quiet g t.order.command)
       told disks stores metas (Chose copy) q = faultless_same w.journal.items u.journal
       told disks stores metas (Goes next) q = faultless_same w.journal.items u.journal
       told disks stores metas (Sought next) q = faultless_same w.journal.items u.journal
       told disks stores metas (Dated cursor next) q = faultless_same w.journal.items u.journal
-      told disks stores metas (Dooms segment) q = faultless_same w.journal.items u.journal
+      told disks stores metas (ChoosesExpired segment) q = faultless_same w.journal.items u.journal
       told disks stores metas (Deletes next) q = faultless_same w.journal.items u.journal
       told disks stores metas (Rebuilding next) q = faultless_same w.journal.items u.journal
 
@@ -154,7 +154,7 @@ module _ {D S M : Type 0} (disk : DiskGhosts D) (store : StoreGhosts S) (meta : 
   pub reopened_is_unfailing : (partition : PartitionId) (config : Config) (lists : List ActorList) (registry : Registry) (disks : List D) (s : S) (m : M) (w : Whole D S M)
       → IsReopened disk store meta partition config lists registry disks s m w → AreUnplanned disk.control disks → IsUnplanned (store.control s) → IsUnplanned (meta.control m) → IsUnfailing disk store meta w
   reopened_is_unfailing partition config lists registry disks s m w f u us um = record {
-    infallible = cold_infallible disk.content disk.control config.settings disks w.held.nodes f.held.nodes u;
+    infallible = cold_infallible disk.content disk.control config.settings disks w.partition_state.nodes f.partition_state.nodes u;
     store_infallible = armed_infallible (store.control s) (store.control w.tier.store) f.tier.store_armed us;
     meta_infallible = armed_infallible (meta.control m) (meta.control w.tier.meta) f.tier.meta_armed um;
     journal = subst AreFaultless (sym f.journal) tt;
@@ -163,7 +163,7 @@ module _ {D S M : Type 0} (disk : DiskGhosts D) (store : StoreGhosts S) (meta : 
   pub fresh_is_unfailing : (partition : PartitionId) (config : Config) (lists : List ActorList) (disks : List D) (s : S) (m : M) (w : Whole D S M) → IsFresh disk store meta partition config lists disks s m w
       → AreUnplanned disk.control disks → IsUnplanned (store.control s) → IsUnplanned (meta.control m) → IsUnfailing disk store meta w
   fresh_is_unfailing partition config lists disks s m w f u us um = record {
-    infallible = nodes_infallible disk.control true disks w.held.nodes f.held.nodes u;
+    infallible = nodes_infallible disk.control true disks w.partition_state.nodes f.partition_state.nodes u;
     store_infallible = armed_infallible (store.control s) (store.control w.tier.store) f.tier.store_armed us;
     meta_infallible = armed_infallible (meta.control m) (meta.control w.tier.meta) f.tier.meta_armed um;
     journal = subst AreFaultless (sym f.journal) tt;

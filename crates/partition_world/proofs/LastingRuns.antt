@@ -47,50 +47,50 @@ module _ {D : Type 0} (content : D → Content) (control : D → Control call_co
   cold_have settings (d ∷ disks) [] f = absurd f
 
 module _ {D S M : Type 0} (disk : DiskGhosts D) (store : StoreGhosts S) (meta : MetaGhosts M) where
-  lasted_none : (w w' : Whole D S M) → w' ≡ w → HaveDisks w.held.nodes → HaveLasted disk store meta w w'
+  lasted_none : (w w' : Whole D S M) → w' ≡ w → HaveDisks w.partition_state.nodes → HaveLasted disk store meta w w'
   lasted_none w w' is have = subst (HaveLasted disk store meta w) (sym is) (record {
-    disks = last_same disk.control w.held.nodes have;
+    disks = last_same disk.control w.partition_state.nodes have;
     store_lasts = lasts_same (store.control w.tier.store);
     meta_lasts = lasts_same (meta.control w.tier.meta);
   })
 
   pub lasted_then : (w v u : Whole D S M) → HaveLasted disk store meta w v → HaveLasted disk store meta v u → HaveLasted disk store meta w u
   lasted_then w v u one two = record {
-    disks = last_then disk.control w.held.nodes v.held.nodes u.held.nodes one.disks two.disks;
+    disks = last_then disk.control w.partition_state.nodes v.partition_state.nodes u.partition_state.nodes one.disks two.disks;
     store_lasts = lasts_then (store.control w.tier.store) (store.control v.tier.store) (store.control u.tier.store) one.store_lasts two.store_lasts;
     meta_lasts = lasts_then (meta.control w.tier.meta) (meta.control v.tier.meta) (meta.control u.tier.meta) one.meta_lasts two.meta_lasts;
   }
 
-  lasted_have : (w v : Whole D S M) → HaveLasted disk store meta w v → HaveDisks v.held.nodes
-  lasted_have w v lasted = last_have disk.control w.held.nodes v.held.nodes lasted.disks
+  lasted_have : (w v : Whole D S M) → HaveLasted disk store meta w v → HaveDisks v.partition_state.nodes
+  lasted_have w v lasted = last_have disk.control w.partition_state.nodes v.partition_state.nodes lasted.disks
 
-  pub turn_lasted : (w : Whole D S M) (a : ℕ) (outcome : Outcome) (w' : Whole D S M) → IsTurn disk store meta w a outcome w' → HaveDisks w.held.nodes → HaveLasted disk store meta w w'
+  pub turn_lasted : (w : Whole D S M) (a : ℕ) (outcome : Outcome) (w' : Whole D S M) → IsTurn disk store meta w a outcome w' → HaveDisks w.partition_state.nodes → HaveLasted disk store meta w w'
   turn_lasted w a outcome w' t have =
-      let r = row_of disk store meta w.partition w.config w.held w.tier t.order.broker.0 t.actor_state.work t.order.command outcome w'.held w'.tier t.row in
-      let k = turn_lasts disk store meta w.partition w.config w.held w.tier t.order.broker.0 r.x r.broker_tier t.actor_state.work t.order.command outcome w'.held w'.tier r.at r.row in
-      record { disks = k.0.held have; store_lasts = k.0.stores; meta_lasts = k.0.metas }
+      let r = row_of disk store meta w.partition w.config w.partition_state w.tier t.order.broker.0 t.actor_state.in_progress t.order.command outcome w'.partition_state w'.tier t.row in
+      let k = turn_lasts disk store meta w.partition w.config w.partition_state w.tier t.order.broker.0 r.x r.broker_tier t.actor_state.in_progress t.order.command outcome w'.partition_state w'.tier r.at r.row in
+      record { disks = k.0.partition_state have; store_lasts = k.0.stores; meta_lasts = k.0.metas }
 
-  goes_lasted : (w : Whole D S M) (a : ℕ) (w' : Whole D S M) → TakesTurn disk store meta w a w' → HaveDisks w.held.nodes → HaveLasted disk store meta w w'
+  goes_lasted : (w : Whole D S M) (a : ℕ) (w' : Whole D S M) → TakesTurn disk store meta w a w' → HaveDisks w.partition_state.nodes → HaveLasted disk store meta w w'
   goes_lasted w a w' (inl t) have = turn_lasted w a t.0 w' t.1 have
   goes_lasted w a w' (inr e) have = lasted_none w w' e.1 have
 
-  times_lasted : (w : Whole D S M) (a turns : ℕ) (w' : Whole D S M) → GoesTimes disk store meta w a turns w' → HaveDisks w.held.nodes → HaveLasted disk store meta w w'
+  times_lasted : (w : Whole D S M) (a turns : ℕ) (w' : Whole D S M) → GoesTimes disk store meta w a turns w' → HaveDisks w.partition_state.nodes → HaveLasted disk store meta w w'
   times_lasted w a zero w' g have = lasted_none w w' g have
   times_lasted w a (suc turns) w' g have =
       let one = goes_lasted w a g.0 g.1 have in
       lasted_then w g.0 w' one (times_lasted g.0 a turns w' g.2 (lasted_have w g.0 one))
 
-  until_lasted : (w : Whole D S M) (a number turns : ℕ) (w' : Whole D S M) → GoesUntil disk store meta w a number turns w' → HaveDisks w.held.nodes → HaveLasted disk store meta w w'
+  until_lasted : (w : Whole D S M) (a number turns : ℕ) (w' : Whole D S M) → GoesUntil disk store meta w a number turns w' → HaveDisks w.partition_state.nodes → HaveLasted disk store meta w w'
   until_lasted w a number zero w' g have = lasted_none w w' g.1 have
   until_lasted w a number (suc turns) w' g have =
       let one = goes_lasted w a g.1.0 g.1.1 have in
       lasted_then w g.1.0 w' one (until_lasted g.1.0 a number turns w' g.1.2 (lasted_have w g.1.0 one))
 
-  paces_lasted : (w : Whole D S M) (pace : Pace) (w' : Whole D S M) → Paces disk store meta w pace w' → HaveDisks w.held.nodes → HaveLasted disk store meta w w'
+  paces_lasted : (w : Whole D S M) (pace : Pace) (w' : Whole D S M) → Paces disk store meta w pace w' → HaveDisks w.partition_state.nodes → HaveLasted disk store meta w w'
   paces_lasted w (Until actor number) w' g have = until_lasted w actor.0 number g.0 w' g.1 have
   paces_lasted w (Times actor turns) w' g have = times_lasted w actor.0 turns w' g have
 
-  pub schedule_lasted : (w : Whole D S M) (schedule : List Pace) (w' : Whole D S M) → Reaches disk store meta w schedule w' → HaveDisks w.held.nodes → HaveLasted disk store meta w w'
+  pub schedule_lasted : (w : Whole D S M) (schedule : List Pace) (w' : Whole D S M) → Reaches disk store meta w schedule w' → HaveDisks w.partition_state.nodes → HaveLasted disk store meta w w'
   schedule_lasted w [] w' r have = lasted_none w w' r have
   schedule_lasted w (pace ∷ schedule) w' r have =
       let one = paces_lasted w pace r.0 r.1 have in
@@ -101,8 +101,8 @@ module _ {D S M : Type 0} (disk : DiskGhosts D) (store : StoreGhosts S) (meta : 
 
   -- a fresh world is new, and one that is reopened is
   pub fresh_new : (partition : PartitionId) (config : Config) (lists : List ActorList) (disks : List D) (s : S) (m : M) (w : Whole D S M) → IsFresh disk store meta partition config lists disks s m w → IsNewWorld lists w
-  fresh_new partition config lists disks s m w f = record { lists_are = f.lists_are; desk = f.desk; journal = f.journal; disks = fresh_have disk.control true disks w.held.nodes f.held.nodes }
+  fresh_new partition config lists disks s m w f = record { lists_are = f.lists_are; desk = f.desk; journal = f.journal; disks = fresh_have disk.control true disks w.partition_state.nodes f.partition_state.nodes }
 
   pub reopened_new : (partition : PartitionId) (config : Config) (lists : List ActorList) (registry : Registry) (disks : List D) (s : S) (m : M) (w : Whole D S M)
       → IsReopened disk store meta partition config lists registry disks s m w → IsNewWorld lists w
-  reopened_new partition config lists registry disks s m w f = record { lists_are = f.lists_are; desk = f.desk; journal = f.journal; disks = cold_have disk.content disk.control config.settings disks w.held.nodes f.held.nodes }
+  reopened_new partition config lists registry disks s m w f = record { lists_are = f.lists_are; desk = f.desk; journal = f.journal; disks = cold_have disk.content disk.control config.settings disks w.partition_state.nodes f.partition_state.nodes }

@@ -38,7 +38,7 @@ use Rattle.partition_commands.specs.Partition.{is_up, line_of, local_of, put_nod
 use Rattle.partition_world.specs.declared.tier.BrokerTierState.{BrokerTierState}
 use Rattle.partition_world.specs.declared.tier.RemoteTier.{RemoteTier}
 use Rattle.partition_world.specs.declared.actor_state.Outcome.{Outcome}
-use Rattle.partition_world.specs.declared.actor_state.Outcome.TheVariants.{Answers, Begins, Chose, Seeks as Sought, Dates as Dated, Dooms, Rebuilds as Rebuilding}
+use Rattle.partition_world.specs.declared.actor_state.Outcome.TheVariants.{Answers, Begins, Chose, Seeks as Sought, Dates as Dated, ChoosesExpired, Rebuilds as Rebuilding}
 use Rattle.partition_world.specs.declared.actor_state.InProgress.{InProgress}
 use Rattle.partition_world.specs.declared.actor_state.InProgress.TheVariants.{Idle, Noted, Copies, Seeks, Dates, Expires, Rebuilds}
 use Rattle.partition_world.specs.ActorStates.{outcome_of, fetch_outcome, date_outcome}
@@ -64,7 +64,7 @@ use Rattle.partition_world.proofs.LastingDates.{searched_told, time_lasts}
 module _ {D S M : Type 0} (disk : DiskGhosts D) (store : StoreGhosts S) (meta : MetaGhosts M) where
   -- all devices last
   pub record AllLast (h : PartitionState D) (t : RemoteTier S M) (h' : PartitionState D) (t' : RemoteTier S M) : Type 0 where
-    pub held : Keeps disk.control h h'
+    pub partition_state : Keeps disk.control h h'
     pub stores : StoreLasts store t.store t'.store
     pub metas : MetaLasts meta t.meta t'.meta
 
@@ -74,10 +74,10 @@ module _ {D S M : Type 0} (disk : DiskGhosts D) (store : StoreGhosts S) (meta : 
       AllLast h t h' t' × TurnTold A (DiskFails disk.control b h h') (StoreRose store t.store t'.store) (MetaRose meta t.meta t'.meta) outcome
 
   kept_by : (h : PartitionState D) (t : RemoteTier S M) (h' : PartitionState D) (t' : RemoteTier S M) → Keeps disk.control h h' → t'.store ≡ t.store → t'.meta ≡ t.meta → AllLast h t h' t'
-  kept_by h t h' t' held one two = record { held = held; stores = store_same store t.store t'.store one; metas = meta_same meta t.meta t'.meta two }
+  kept_by h t h' t' partition_state one two = record { partition_state = partition_state; stores = store_same store t.store t'.store one; metas = meta_same meta t.meta t'.meta two }
 
   same_tier : (h : PartitionState D) (t : RemoteTier S M) (h' : PartitionState D) (t' : RemoteTier S M) → Keeps disk.control h h' → t' ≡ t → AllLast h t h' t'
-  same_tier h t h' t' held same = kept_by h t h' t' held (ap (λ (k : RemoteTier S M). k.store) same) (ap (λ (k : RemoteTier S M). k.meta) same)
+  same_tier h t h' t' partition_state same = kept_by h t h' t' partition_state (ap (λ (k : RemoteTier S M). k.store) same) (ap (λ (k : RemoteTier S M). k.meta) same)
 
   all_same : (h : PartitionState D) (t : RemoteTier S M) (h' : PartitionState D) (t' : RemoteTier S M) → h' ≡ h → t' ≡ t → AllLast h t h' t'
   all_same h t h' t' one two = same_tier h t h' t' (keeps_same disk.control h h' one) two
@@ -101,7 +101,7 @@ module _ {D S M : Type 0} (disk : DiskGhosts D) (store : StoreGhosts S) (meta : 
   unread_lasts : (h : PartitionState D) (t : RemoteTier S M) (broker_tier : BrokerTierState) (h' : PartitionState D) (t' : RemoteTier S M) → h' ≡ h → FailsToRead meta t broker_tier t' → AllLast h t h' t' × MetaRose meta t.meta t'.meta
   unread_lasts h t broker_tier h' t' same w = (
     record {
-      held = keeps_same disk.control h h' same;
+      partition_state = keeps_same disk.control h h' same;
       stores = store_same store t.store t'.store (ap (λ (k : RemoteTier S M). k.store) w.after);
       metas = meta_ran meta _ _ t.meta t'.meta w.reads.control.ran;
     },
@@ -110,7 +110,7 @@ module _ {D S M : Type 0} (disk : DiskGhosts D) (store : StoreGhosts S) (meta : 
 
   refresh_keeps : (h : PartitionState D) (t : RemoteTier S M) (b : ℕ) (broker_tier : BrokerTierState) (h' : PartitionState D) (t' : RemoteTier S M) → h' ≡ h → RefreshesBroker meta t b broker_tier t' → AllLast h t h' t'
   refresh_keeps h t b broker_tier h' t' same w = record {
-    held = keeps_same disk.control h h' same;
+    partition_state = keeps_same disk.control h h' same;
     stores = store_same store t.store t'.store (ap (λ (k : RemoteTier S M). k.store) w.after);
     metas = meta_ran meta _ _ t.meta t'.meta w.reads.control.ran;
   }
@@ -153,18 +153,18 @@ module _ {D S M : Type 0} (disk : DiskGhosts D) (store : StoreGhosts S) (meta : 
 
   next_lasts : (p : PartitionId) (h : PartitionState D) (t : RemoteTier S M) (b : ℕ) (x y : Node D) (broker_tier z : BrokerTierState) (offset : ℕ) (outcome : Outcome) (h' : PartitionState D) (t' : RemoteTier S M) → slice_get h.nodes b ≡ Some x
       → ReadSegmentRow disk p b x broker_tier offset outcome y z → h' ≡ put_node h b y → t' ≡ put_broker_tier t b z → Leaving (DiskFails disk.control b h h') h b t outcome h' t'
-  next_lasts p h t b x y broker_tier z offset outcome h' t' at w held tier = go outcome w
+  next_lasts p h t b x y broker_tier z offset outcome h' t' at w partition_state tier = go outcome w
     where
       all : ReadsLocalLog disk x y → AllLast h t h' t'
       all r =
           let lasts : Lasting disk.control x.log y.log = rw r.after r.lasts in
-          kept_by h t h' t' (keeps_put disk.control h b x y h' at lasts held) (ap (λ (k : RemoteTier S M). k.store) tier) (ap (λ (k : RemoteTier S M). k.meta) tier)
+          kept_by h t h' t' (keeps_put disk.control h b x y h' at lasts partition_state) (ap (λ (k : RemoteTier S M). k.store) tier) (ap (λ (k : RemoteTier S M). k.meta) tier)
 
       go : (o : Outcome) → ReadSegmentRow disk p b x broker_tier offset o y z → Leaving (DiskFails disk.control b h h') h b t o h' t'
       go (Answers DiskFault) w =
           let lasts : Lasting disk.control x.log y.log = rw w.0.reads.after w.0.reads.lasts in
           let one : OneFault disk.control x.log y.log = rw w.0.reads.after w.0.cause in
-          (all w.0.reads, (fails_put disk.control h b x y h' at lasts (one_faulted disk.control x.log y.log lasts one) held).1)
+          (all w.0.reads, (fails_put disk.control h b x y h' at lasts (one_faulted disk.control x.log y.log lasts one) partition_state).1)
       go (Answers (Damaged (File name) place)) w = (all w.0.reads, tt)
       go (Chose copy) w = (all w.0.reads, tt)
       go other w = elim w [ ]
@@ -173,7 +173,7 @@ module _ {D S M : Type 0} (disk : DiskGhosts D) (store : StoreGhosts S) (meta : 
       → ChooseRow disk p h t b x broker_tier g outcome h' t' → Leaving (DiskFails disk.control b h h') h b t outcome h' t'
   choose_lasts p h t b x broker_tier g outcome h' t' at (inl lost) = told_as (DiskFails disk.control b h h') h b t h' t' outcome _ lost.1 (all_same h t h' t' lost.2 lost.3, tt)
   choose_lasts p h t b x broker_tier g outcome h' t' at (inr (keeps, inl level)) = told_as (DiskFails disk.control b h h') h b t h' t' outcome _ level.1 (all_same h t h' t' level.2 level.3, tt)
-  choose_lasts p h t b x broker_tier g outcome h' t' at (inr (keeps, inr r)) = next_lasts p h t b x r.node broker_tier r.broker_tier_after _ outcome h' t' at r.row r.held r.tier
+  choose_lasts p h t b x broker_tier g outcome h' t' at (inr (keeps, inr r)) = next_lasts p h t b x r.node broker_tier r.broker_tier_after _ outcome h' t' at r.row r.partition_state r.tier
 
   -- a later turn of a trim, and of a fetch
 
@@ -187,7 +187,7 @@ module _ {D S M : Type 0} (disk : DiskGhosts D) (store : StoreGhosts S) (meta : 
       → GoesOnFetch store meta p t b x broker_tier offset limit next turn t' → Leaving A h b t (fetch_outcome turn) h' t'
   goes_lasts A p h t b x broker_tier offset limit next turn h' t' same w =
       let k = fetch_lasts A (DiskFails disk.control b h h') store meta (wanted_of p x offset limit) (line_of x) next turn (fetch_tiers broker_tier.view broker_tier.cache t) (fetch_tiers w.view w.cache t') w.row in
-      (record { held = keeps_same disk.control h h' same; stores = k.0; metas = k.1 }, k.2)
+      (record { partition_state = keeps_same disk.control h h' same; stores = k.0; metas = k.1 }, k.2)
 
   seek_lasts : (A : Type 0) (p : PartitionId) (h : PartitionState D) (t : RemoteTier S M) (b : ℕ) (x : Node D) (broker_tier : BrokerTierState) (g : StartSnapshot) (offset limit : ℕ) (next : Search) (outcome : Outcome) (h' : PartitionState D) (t' : RemoteTier S M)
       → h' ≡ h → FetchOnRow store meta p h t b x broker_tier g offset limit next outcome t' → Leaving A h b t outcome h' t'
@@ -211,7 +211,7 @@ module _ {D S M : Type 0} (disk : DiskGhosts D) (store : StoreGhosts S) (meta : 
 
   expires_lasts : (A : Type 0) (p : PartitionId) (h : PartitionState D) (t : RemoteTier S M) (b : ℕ) (x : Node D) (broker_tier : BrokerTierState) (keep : Keep) (outcome : Outcome) (h' : PartitionState D) (t' : RemoteTier S M) → slice_get h.nodes b ≡ Some x
       → is_up x ≡ true → t' ≡ t → ExpiresBy p h x broker_tier keep outcome h' → Leaving A h b t outcome h' t'
-  expires_lasts A p h t b x broker_tier keep (Dooms segment) h' t' at up same w = (all_same h t h' t' w.stays same, tt)
+  expires_lasts A p h t b x broker_tier keep (ChoosesExpired segment) h' t' at up same w = (all_same h t h' t' w.stays same, tt)
   expires_lasts A p h t b x broker_tier keep (Answers Remains) h' t' at up same w = (all_same h t h' t' w.2 same, tt)
   expires_lasts A p h t b x broker_tier keep (Answers answer) h' t' at up same w = raise_lasts A h t b x w.0 answer h' t' at up same w.2
   expires_lasts A p h t b x broker_tier keep other h' t' at up same w = elim w [ ]
@@ -253,12 +253,12 @@ module _ {D S M : Type 0} (disk : DiskGhosts D) (store : StoreGhosts S) (meta : 
   -- and of a question for the end in the remote tier
   offset_lasts : (A : Type 0) (h : PartitionState D) (t : RemoteTier S M) (b : ℕ) (x : Node D) (broker_tier : BrokerTierState) (g : StartSnapshot) (outcome : Outcome) (h' : PartitionState D) (t' : RemoteTier S M) → h' ≡ h → t' ≡ t
       → OffsetOnRow h x broker_tier g outcome → Leaving A h b t outcome h' t'
-  offset_lasts A h t b x broker_tier g (Answers Stopped) h' t' held tier w = (all_same h t h' t' held tier, tt)
-  offset_lasts A h t b x broker_tier g (Answers NotLeader) h' t' held tier w = (all_same h t h' t' held tier, tt)
-  offset_lasts A h t b x broker_tier g (Answers (OffsetAnswer n)) h' t' held tier w = (all_same h t h' t' held tier, tt)
-  offset_lasts A h t b x broker_tier g (Answers NoOffset) h' t' held tier w = (all_same h t h' t' held tier, tt)
-  offset_lasts A h t b x broker_tier g (Answers answer) h' t' held tier w = elim w.1 [ ]
-  offset_lasts A h t b x broker_tier g other h' t' held tier w = elim w [ ]
+  offset_lasts A h t b x broker_tier g (Answers Stopped) h' t' partition_state tier w = (all_same h t h' t' partition_state tier, tt)
+  offset_lasts A h t b x broker_tier g (Answers NotLeader) h' t' partition_state tier w = (all_same h t h' t' partition_state tier, tt)
+  offset_lasts A h t b x broker_tier g (Answers (OffsetAnswer n)) h' t' partition_state tier w = (all_same h t h' t' partition_state tier, tt)
+  offset_lasts A h t b x broker_tier g (Answers NoOffset) h' t' partition_state tier w = (all_same h t h' t' partition_state tier, tt)
+  offset_lasts A h t b x broker_tier g (Answers answer) h' t' partition_state tier w = elim w.1 [ ]
+  offset_lasts A h t b x broker_tier g other h' t' partition_state tier w = elim w [ ]
 
   -- and of a timestamp lookup, which reads the broker's log, or is among the remote segments
 
@@ -301,7 +301,7 @@ module _ {D S M : Type 0} (disk : DiskGhosts D) (store : StoreGhosts S) (meta : 
   search_lasts h t b x broker_tier asked cursor next false turn h' t' at w =
       let k = time_lasts (DiskFails disk.control b h h') (DiskFails disk.control b h h') store meta asked (line_of x) cursor next turn
       (fetch_tiers broker_tier.view broker_tier.cache t) (fetch_tiers w.0.view w.0.cache t') w.0.row in
-      (record { held = keeps_same disk.control h h' w.1; stores = k.0; metas = k.1 }, k.2)
+      (record { partition_state = keeps_same disk.control h h' w.1; stores = k.0; metas = k.1 }, k.2)
 
   searches_lasts : (p : PartitionId) (h : PartitionState D) (t : RemoteTier S M) (b : ℕ) (x : Node D) (broker_tier : BrokerTierState) (g : StartSnapshot) (ts : ℤ) (cursor : ℕ)
       (next : Dating) (turn : Turn (ℕ × Dating)) (h' : PartitionState D) (t' : RemoteTier S M)
@@ -341,7 +341,7 @@ module _ {D S M : Type 0} (disk : DiskGhosts D) (store : StoreGhosts S) (meta : 
   copying_lasts A h t b x broker_tier g copy next Copy outcome h' t' (inl lost, same) = told_as A h b t h' t' outcome _ lost.1 (all_same h t h' t' same lost.2, tt)
   copying_lasts A h t b x broker_tier g copy next Copy outcome h' t' (inr (keeps, (turn, is, goes)), same) =
       let k = copy_lasts A (DiskFails disk.control b h h') store meta copy (origin_of h b) next turn (tiers_of broker_tier.view t) (tiers_of goes.view t') goes.row in
-      told_as A h b t h' t' outcome _ is (record { held = keeps_same disk.control h h' same; stores = k.0; metas = k.1 }, k.2)
+      told_as A h b t h' t' outcome _ is (record { partition_state = keeps_same disk.control h h' same; stores = k.0; metas = k.1 }, k.2)
   copying_lasts A h t b x broker_tier g copy next other outcome h' t' w = elim w [ ]
 
   seeking_lasts : (A : Type 0) (p : PartitionId) (h : PartitionState D) (t : RemoteTier S M) (b : ℕ) (x : Node D) (broker_tier : BrokerTierState) (g : StartSnapshot) (next : Search) (command : Command) (outcome : Outcome) (h' : PartitionState D) (t' : RemoteTier S M)
@@ -362,7 +362,7 @@ module _ {D S M : Type 0} (disk : DiskGhosts D) (store : StoreGhosts S) (meta : 
   deleting_lasts A h t b x g segment next Expire outcome h' t' (inl lost, same) = told_as A h b t h' t' outcome _ lost.1 (all_same h t h' t' same lost.2, tt)
   deleting_lasts A h t b x g segment next Expire outcome h' t' (inr (keeps, (turn, is, goes)), same) =
       let k = expiry_lasts A (DiskFails disk.control b h h') store meta segment (origin_of h b) next turn (expiry_tiers t) (expiry_tiers t') goes.row in
-      told_as A h b t h' t' outcome _ is (record { held = keeps_same disk.control h h' same; stores = k.0; metas = k.1 }, k.2)
+      told_as A h b t h' t' outcome _ is (record { partition_state = keeps_same disk.control h h' same; stores = k.0; metas = k.1 }, k.2)
   deleting_lasts A h t b x g segment next other outcome h' t' w = elim w [ ]
 
   rebuilding_lasts : (p : PartitionId) (h : PartitionState D) (t : RemoteTier S M) (b : ℕ) (x : Node D) (broker_tier : BrokerTierState) (g : StartSnapshot) (next : Rebuild) (command : Command) (outcome : Outcome) (h' : PartitionState D) (t' : RemoteTier S M)
@@ -372,12 +372,12 @@ module _ {D S M : Type 0} (disk : DiskGhosts D) (store : StoreGhosts S) (meta : 
   rebuilding_lasts p h t b x broker_tier g Epochs Join outcome h' t' at (inr (may, (turn, is, goes)), same) =
       let k = rebuild_lasts (DiskFails disk.control b h h') (DiskFails disk.control b h h') (MetaRose meta t.meta t'.meta) store (rebuilt_to p g) g.line broker_tier.view turn t.store t'.store goes.row in
       told_as (DiskFails disk.control b h h') h b t h' t' outcome _ is
-      (record { held = keeps_same disk.control h h' same; stores = k.0; metas = meta_same meta t.meta t'.meta (ap (λ (u : RemoteTier S M). u.meta) goes.after) }, k.1)
+      (record { partition_state = keeps_same disk.control h h' same; stores = k.0; metas = meta_same meta t.meta t'.meta (ap (λ (u : RemoteTier S M). u.meta) goes.after) }, k.1)
   rebuilding_lasts p h t b x broker_tier g (Restart line) Join outcome h' t' at w = joined_lasts h t b x (with_line g line) Join outcome h' t' at w
   rebuilding_lasts p h t b x broker_tier g next other outcome h' t' at w = elim w [ ]
 
-  pub turn_lasts : (p : PartitionId) (config : Config) (h : PartitionState D) (t : RemoteTier S M) (b : ℕ) (x : Node D) (broker_tier : BrokerTierState) (work : InProgress) (command : Command) (outcome : Outcome) (h' : PartitionState D) (t' : RemoteTier S M)
-      → slice_get h.nodes b ≡ Some x → Row disk store meta p config h t b x broker_tier work command outcome h' t' → Leaving (FailsFor disk.control command h b h') h b t outcome h' t'
+  pub turn_lasts : (p : PartitionId) (config : Config) (h : PartitionState D) (t : RemoteTier S M) (b : ℕ) (x : Node D) (broker_tier : BrokerTierState) (in_progress : InProgress) (command : Command) (outcome : Outcome) (h' : PartitionState D) (t' : RemoteTier S M)
+      → slice_get h.nodes b ≡ Some x → Row disk store meta p config h t b x broker_tier in_progress command outcome h' t' → Leaving (FailsFor disk.control command h b h') h b t outcome h' t'
   turn_lasts p config h t b x broker_tier Idle command outcome h' t' at w = begin_lasts h t b x broker_tier command outcome h' t' at w
   turn_lasts p config h t b x broker_tier (Noted g) command outcome h' t' at w = recorded_lasts p config h t b x broker_tier g command outcome h' t' at w
   turn_lasts p config h t b x broker_tier (Copies g copy next) command outcome h' t' at w = copying_lasts (FailsFor disk.control command h b h') h t b x broker_tier g copy next command outcome h' t' w

@@ -10,7 +10,7 @@ use Rattle.object_store.specs.declared.store.Store.{Ghosts as StoreGhosts}
 use Rattle.meta_log.specs.declared.log.MetaLog.{Ghosts as MetaGhosts}
 use Rattle.partition_world.specs.Whole.{Whole}
 use Rattle.partition_world.specs.declared.actor_state.Outcome.{Outcome}
-use Rattle.partition_world.specs.declared.actor_state.Outcome.TheVariants.{Answers, Begins, Chose, Goes, Seeks, Dates, Dooms, Deletes, Rebuilds}
+use Rattle.partition_world.specs.declared.actor_state.Outcome.TheVariants.{Answers, Begins, Chose, Goes, Seeks, Dates, ChoosesExpired, Deletes, Rebuilds}
 use Rattle.partition_world.specs.declared.actor_state.ActorState.{ActorState}
 use Rattle.partition_world.specs.ActorStates.{actor_state_after}
 use Rattle.partition_world.specs.Turn.{IsTurn, IsAtEnd, StaysWhole, Steps}
@@ -41,7 +41,7 @@ module _ {D S M : Type 0} (disk : DiskGhosts D) (store : StoreGhosts S) (meta : 
   number_after actor_state (Goes next) = omega arith
   number_after actor_state (Seeks next) = omega arith
   number_after actor_state (Dates cursor next) = omega arith
-  number_after actor_state (Dooms segment) = omega arith
+  number_after actor_state (ChoosesExpired segment) = omega arith
   number_after actor_state (Deletes next) = omega arith
   number_after actor_state (Rebuilds next) = omega arith
 
@@ -90,7 +90,7 @@ module _ {D S M : Type 0} (disk : DiskGhosts D) (store : StoreGhosts S) (meta : 
   -- a turn leaves a turn less
   pub turn_left : (w : Whole D S M) (a : ℕ) (outcome : Outcome) (w' : Whole D S M) → IsTurn disk store meta w a outcome w' → turns_left w'.lists w'.desk < turns_left w.lists w.desk
   turn_left w a outcome w' t =
-      let on = advances_at disk store meta w.partition w.config w.held w.tier t.order.broker.0 t.actor_state.work t.order.command outcome w'.held w'.tier t.row in
+      let on = advances_at disk store meta w.partition w.config w.partition_state w.tier t.order.broker.0 t.actor_state.in_progress t.order.command outcome w'.partition_state w'.tier t.row in
       let less = turns_less w.lists w.desk t.place t.list t.actor_state outcome t.at.list t.at.actor_state_is (within t.list.orders t.actor_state.number t.order t.next) on in
       rw (t.lists, t.desk) (omega (arith, less))
 

@@ -60,7 +60,7 @@ module _ {D S M : Type 0} (disk : DiskGhosts D) (store : StoreGhosts S) (meta : 
         config_is = f.config_is;
         lists_are = f.lists_are;
         count = f.count;
-        held = f.held;
+        partition_state = f.partition_state;
         laid = f.laid;
         tier = record {
           objects = f.tier.objects;

@@ -32,7 +32,7 @@ use Rattle.partition_commands.specs.Partition.{line_of, local_of}
 use Rattle.partition_world.specs.declared.tier.BrokerTierState.{BrokerTierState}
 use Rattle.partition_world.specs.declared.tier.RemoteTier.{RemoteTier}
 use Rattle.partition_world.specs.declared.actor_state.Outcome.{Outcome}
-use Rattle.partition_world.specs.declared.actor_state.Outcome.TheVariants.{Answers, Begins, Chose, Goes, Seeks as Sought, Dates as Dated, Dooms, Deletes, Rebuilds as Rebuilding}
+use Rattle.partition_world.specs.declared.actor_state.Outcome.TheVariants.{Answers, Begins, Chose, Goes, Seeks as Sought, Dates as Dated, ChoosesExpired, Deletes, Rebuilds as Rebuilding}
 use Rattle.partition_world.specs.declared.actor_state.ActorState.{ActorState}
 use Rattle.partition_world.specs.declared.actor_state.InProgress.{InProgress}
 use Rattle.partition_world.specs.declared.actor_state.InProgress.TheVariants.{Idle, Noted, Copies, Seeks, Dates, Expires, Rebuilds}
@@ -204,9 +204,9 @@ module _ {D S M : Type 0} (disk : DiskGhosts D) (store : StoreGhosts S) (meta : 
   rebuilding_count p h t b x broker_tier g (Restart line) Join outcome h' t' w = same_count meta t.meta t'.meta (ap (λ (k : RemoteTier S M). k.meta) w.1)
   rebuilding_count p h t b x broker_tier g next command outcome h' t' w = elim w [ ]
 
-  row_told : (p : PartitionId) (config : Config) (h : PartitionState D) (t : RemoteTier S M) (b : ℕ) (x : Node D) (broker_tier : BrokerTierState) (work : InProgress) (command : Command) (outcome : Outcome) (h' : PartitionState D) (t' : RemoteTier S M)
-      → Row disk store meta p config h t b x broker_tier work command outcome h' t' → IsTrue (meta.content t.meta).is_observable
-      → count meta t'.meta + told_by work ≤ count meta t.meta + told_after work outcome
+  row_told : (p : PartitionId) (config : Config) (h : PartitionState D) (t : RemoteTier S M) (b : ℕ) (x : Node D) (broker_tier : BrokerTierState) (in_progress : InProgress) (command : Command) (outcome : Outcome) (h' : PartitionState D) (t' : RemoteTier S M)
+      → Row disk store meta p config h t b x broker_tier in_progress command outcome h' t' → IsTrue (meta.content t.meta).is_observable
+      → count meta t'.meta + told_by in_progress ≤ count meta t.meta + told_after in_progress outcome
   row_told p config h t b x broker_tier Idle command outcome h' t' w is_observable = let most = begin_count h t b x broker_tier command outcome h' t' w in omega (arith, most)
   row_told p config h t b x broker_tier (Noted g) command outcome h' t' w is_observable = let most = recorded_count p config h t b x broker_tier g command outcome h' t' w in omega (arith, most)
   row_told p config h t b x broker_tier (Copies g copy next) command outcome h' t' w is_observable = copying_told h t b x broker_tier g copy next command outcome h' t' w is_observable
@@ -240,20 +240,20 @@ module _ {D S M : Type 0} (disk : DiskGhosts D) (store : StoreGhosts S) (meta : 
 
 -- how many metadata events the commands of a list may append yet
 abbrev left_of : ActorList → ActorState → ℕ
-left_of l actor_state = 2 * (length l.orders - actor_state.number) - told_by actor_state.work
+left_of l actor_state = 2 * (length l.orders - actor_state.number) - told_by actor_state.in_progress
 
-actor_state_told : (l : ActorList) (actor_state : ActorState) (outcome : Outcome) (old new : ℕ) → actor_state.number < length l.orders → new + told_by actor_state.work ≤ old + told_after actor_state.work outcome
+actor_state_told : (l : ActorList) (actor_state : ActorState) (outcome : Outcome) (old new : ℕ) → actor_state.number < length l.orders → new + told_by actor_state.in_progress ≤ old + told_after actor_state.in_progress outcome
     → new + left_of l (actor_state_after actor_state outcome) ≤ old + left_of l actor_state
-actor_state_told l actor_state (Answers answer) old new lt told = let few = few_told actor_state.work in omega (arith, lt, few, told)
-actor_state_told l actor_state (Begins g) old new lt told = let few = few_told actor_state.work in omega (arith, lt, few, told)
-actor_state_told l actor_state (Chose copy) old new lt told = let few = few_told actor_state.work in let after = few_told (chosen actor_state.work copy) in omega (arith, lt, few, after, told)
-actor_state_told l actor_state (Goes next) old new lt told = let few = few_told actor_state.work in let after = few_told (moved actor_state.work next) in omega (arith, lt, few, after, told)
-actor_state_told l actor_state (Sought next) old new lt told = let few = few_told actor_state.work in let after = few_told (sought actor_state.work next) in omega (arith, lt, few, after, told)
+actor_state_told l actor_state (Answers answer) old new lt told = let few = few_told actor_state.in_progress in omega (arith, lt, few, told)
+actor_state_told l actor_state (Begins g) old new lt told = let few = few_told actor_state.in_progress in omega (arith, lt, few, told)
+actor_state_told l actor_state (Chose copy) old new lt told = let few = few_told actor_state.in_progress in let after = few_told (chosen actor_state.in_progress copy) in omega (arith, lt, few, after, told)
+actor_state_told l actor_state (Goes next) old new lt told = let few = few_told actor_state.in_progress in let after = few_told (moved actor_state.in_progress next) in omega (arith, lt, few, after, told)
+actor_state_told l actor_state (Sought next) old new lt told = let few = few_told actor_state.in_progress in let after = few_told (sought actor_state.in_progress next) in omega (arith, lt, few, after, told)
 actor_state_told l actor_state (Dated cursor next) old new lt told =
-    let few = few_told actor_state.work in let after = few_told (dated actor_state.work cursor next) in omega (arith, lt, few, after, told)
-actor_state_told l actor_state (Dooms segment) old new lt told = let few = few_told actor_state.work in let after = few_told (expired_segment actor_state.work segment) in omega (arith, lt, few, after, told)
-actor_state_told l actor_state (Deletes next) old new lt told = let few = few_told actor_state.work in let after = few_told (deleting actor_state.work next) in omega (arith, lt, few, after, told)
-actor_state_told l actor_state (Rebuilding next) old new lt told = let few = few_told actor_state.work in let after = few_told (rebuilding actor_state.work next) in omega (arith, lt, few, after, told)
+    let few = few_told actor_state.in_progress in let after = few_told (dated actor_state.in_progress cursor next) in omega (arith, lt, few, after, told)
+actor_state_told l actor_state (ChoosesExpired segment) old new lt told = let few = few_told actor_state.in_progress in let after = few_told (expired_segment actor_state.in_progress segment) in omega (arith, lt, few, after, told)
+actor_state_told l actor_state (Deletes next) old new lt told = let few = few_told actor_state.in_progress in let after = few_told (deleting actor_state.in_progress next) in omega (arith, lt, few, after, told)
+actor_state_told l actor_state (Rebuilding next) old new lt told = let few = few_told actor_state.in_progress in let after = few_told (rebuilding actor_state.in_progress next) in omega (arith, lt, few, after, told)
 
 desk_told : (lists : List ActorList) (desk : List ActorState) (i : ℕ) (l : ActorList) (actor_state after : ActorState) (old new : ℕ) → slice_get lists i ≡ Some l → slice_get desk i ≡ Some actor_state
     → new + left_of l after ≤ old + left_of l actor_state → new + notes_left lists (slice_set desk i after) ≤ old + notes_left lists desk
@@ -275,8 +275,8 @@ module _ {D S M : Type 0} (disk : DiskGhosts D) (store : StoreGhosts S) (meta : 
   pub notes_few : (w : Whole D S M) (a : ℕ) (outcome : Outcome) (w' : Whole D S M) → IsTurn disk store meta w a outcome w' → IsTrue (meta.content w.tier.meta).is_observable
       → length (meta.content w'.tier.meta).notes + notes_left w'.lists w'.desk ≤ length (meta.content w.tier.meta).notes + notes_left w.lists w.desk
   notes_few w a outcome w' t is_observable =
-      let r = row_of disk store meta w.partition w.config w.held w.tier t.order.broker.0 t.actor_state.work t.order.command outcome w'.held w'.tier t.row in
-      let told = row_told disk store meta w.partition w.config w.held w.tier t.order.broker.0 r.x r.broker_tier t.actor_state.work t.order.command outcome w'.held w'.tier r.row is_observable in
+      let r = row_of disk store meta w.partition w.config w.partition_state w.tier t.order.broker.0 t.actor_state.in_progress t.order.command outcome w'.partition_state w'.tier t.row in
+      let told = row_told disk store meta w.partition w.config w.partition_state w.tier t.order.broker.0 r.x r.broker_tier t.actor_state.in_progress t.order.command outcome w'.partition_state w'.tier r.row is_observable in
       let low = got_low t.list.orders t.actor_state.number t.order t.next in
       let after = actor_state_after t.actor_state outcome in
       let actor_state = actor_state_told t.list t.actor_state outcome (count meta w.tier.meta) (count meta w'.tier.meta) low told in
@@ -289,8 +289,8 @@ module _ {D S M : Type 0} (disk : DiskGhosts D) (store : StoreGhosts S) (meta : 
   pub notes_stay : (w : Whole D S M) (a : ℕ) (w' : Whole D S M) → StaysWhole disk store meta w a w' → IsTrue (meta.content w.tier.meta).is_observable
       → length (meta.content w'.tier.meta).notes + notes_left w'.lists w'.desk ≤ length (meta.content w.tier.meta).notes + notes_left w.lists w.desk
   notes_stay w a w' t is_observable =
-      let stays = stays_some disk store meta w.partition w.held w.tier t.order.broker.0 t.actor_state.work t.order.command w'.held w'.tier t.tier in
-      let most = stays_count disk store meta w.held w.tier t.order.broker.0 w'.held w'.tier stays is_observable in
+      let stays = stays_some disk store meta w.partition w.partition_state w.tier t.order.broker.0 t.actor_state.in_progress t.order.command w'.partition_state w'.tier t.tier in
+      let most = stays_count disk store meta w.partition_state w.tier t.order.broker.0 w'.partition_state w'.tier stays is_observable in
       let lists : w'.lists ≡ w.lists = ap (λ (v : Whole D S M). v.lists) t.fields in
       let desk : w'.desk ≡ w.desk = ap (λ (v : Whole D S M). v.desk) t.fields in
       let one = ap (λ (ls : List ActorList). notes_left ls w'.desk) lists in

@@ -37,7 +37,7 @@ use Rattle.plain_log.specs.declared.answer.Answer.TheVariants.{MetaFault, StoreF
 use Rattle.laws_partition.specs.declared.start_snapshot.StartSnapshot.{StartSnapshot}
 use Rattle.partition_commands.proofs.FreshNodes.{length_more}
 use Rattle.partition_world.specs.declared.actor_state.Outcome.{Outcome}
-use Rattle.partition_world.specs.declared.actor_state.Outcome.TheVariants.{Answers, Begins, Chose, Goes, Seeks as Sought, Dates as Dated, Dooms, Deletes, Rebuilds as Rebuilding}
+use Rattle.partition_world.specs.declared.actor_state.Outcome.TheVariants.{Answers, Begins, Chose, Goes, Seeks as Sought, Dates as Dated, ChoosesExpired, Deletes, Rebuilds as Rebuilding}
 use Rattle.partition_world.specs.declared.actor_state.InProgress.{InProgress}
 use Rattle.partition_world.specs.declared.actor_state.InProgress.TheVariants.{Idle, Noted, Copies, Seeks, Dates, Expires, Rebuilds}
 use Rattle.partition_world.specs.Central.{told_by}
@@ -45,17 +45,17 @@ use Rattle.partition_world.specs.ActorStates.{chosen, moved, sought, dated, expi
 
 -- how many metadata events a command has appended at most after a turn; once it is answered it appends none
 abbrev pub told_after : InProgress → Outcome → ℕ
-told_after work (Answers answer) = 2
-told_after work (Begins g) = told_by (Noted g)
-told_after work (Chose copy) = told_by (chosen work copy)
-told_after work (Goes next) = told_by (moved work next)
-told_after work (Sought next) = told_by (sought work next)
-told_after work (Dated cursor next) = told_by (dated work cursor next)
-told_after work (Dooms segment) = told_by (expired_segment work segment)
-told_after work (Deletes next) = told_by (deleting work next)
-told_after work (Rebuilding next) = told_by (rebuilding work next)
+told_after in_progress (Answers answer) = 2
+told_after in_progress (Begins g) = told_by (Noted g)
+told_after in_progress (Chose copy) = told_by (chosen in_progress copy)
+told_after in_progress (Goes next) = told_by (moved in_progress next)
+told_after in_progress (Sought next) = told_by (sought in_progress next)
+told_after in_progress (Dated cursor next) = told_by (dated in_progress cursor next)
+told_after in_progress (ChoosesExpired segment) = told_by (expired_segment in_progress segment)
+told_after in_progress (Deletes next) = told_by (deleting in_progress next)
+told_after in_progress (Rebuilding next) = told_by (rebuilding in_progress next)
 
-pub few_told : (work : InProgress) → told_by work ≤ 2
+pub few_told : (in_progress : InProgress) → told_by in_progress ≤ 2
 few_told Idle = omega arith
 few_told (Noted g) = omega arith
 few_told (Copies g copy Start) = omega arith

@@ -22,27 +22,27 @@ use Rattle.partition_world.specs.Whole.{Whole}
 use Rattle.partition_world.proofs.CopyEnds.{keeps_seen}
 use Rattle.partition_world.proofs.FetchCentral.{stopped_seen}
 use Rattle.partition_world.proofs.Scenes.{Place}
-use Rattle.partition_world.proofs.TurnCentral.{stands, held_same, leads_first}
+use Rattle.partition_world.proofs.TurnCentral.{stands, partition_state_same, leads_first}
 
 module _ {D S M : Type 0} (disk : DiskGhosts D) (store : StoreGhosts S) (meta : MetaGhosts M) where
   module _ (opening : State) (w : Whole D S M) (a : ℕ) (outcome : Outcome) (w' : Whole D S M) (t : IsTurn disk store meta w a outcome w') (c : IsCentral disk store meta opening w)
       (z : Place disk store meta opening w c t.place t.list t.actor_state t.order) (asks : t.order.command ≡ Offset LatestTiered) where
-    pub offset_first : t.actor_state.work ≡ Idle → (o : Outcome) → outcome ≡ o → OffsetFirstRow meta w.held w.tier t.order.broker.0 z.x z.broker_tier o w'.tier → w'.held ≡ w.held → IsCentral disk store meta opening w'
+    pub offset_first : t.actor_state.in_progress ≡ Idle → (o : Outcome) → outcome ≡ o → OffsetFirstRow meta w.partition_state w.tier t.order.broker.0 z.x z.broker_tier o w'.tier → w'.partition_state ≡ w.partition_state → IsCentral disk store meta opening w'
     offset_first idle o is row same =
         leads_first disk store meta opening w a outcome w' t c z (Offset LatestTiered) asks idle (λ turn. refl) (λ g. refl) (λ turn r. r) o is row same
 
     -- the second turn
 
-    answers : (g : StartSnapshot) → t.actor_state.work ≡ Noted g → (answer : Answer) → outcome ≡ Answers answer → seen_offsets.OffsetOnRow c.partition (node_of z.x z.s) g answer c.partition
-        → w'.held ≡ w.held → w'.tier ≡ w.tier → IsCentral disk store meta opening w'
-    answers g recorded answer is row held tier =
+    answers : (g : StartSnapshot) → t.actor_state.in_progress ≡ Noted g → (answer : Answer) → outcome ≡ Answers answer → seen_offsets.OffsetOnRow c.partition (node_of z.x z.s) g answer c.partition
+        → w'.partition_state ≡ w.partition_state → w'.tier ≡ w.tier → IsCentral disk store meta opening w'
+    answers g recorded answer is row partition_state tier =
         stands disk store meta opening w a outcome w' t c z (Offset LatestTiered) asks (Noted g) recorded answer is refl tier
-        (held_same disk store meta opening w a outcome w' t c z (Offset LatestTiered) asks held) row
+        (partition_state_same disk store meta opening w a outcome w' t c z (Offset LatestTiered) asks partition_state) row
 
-    pub offset_on : (g : StartSnapshot) → t.actor_state.work ≡ Noted g → (o : Outcome) → outcome ≡ o → OffsetOnRow w.held z.x z.broker_tier g o → w'.held ≡ w.held → w'.tier ≡ w.tier → IsCentral disk store meta opening w'
-    offset_on g recorded (Answers Stopped) is row held tier = answers g recorded Stopped is (stopped_seen z.x z.s g row, refl) held tier
-    offset_on g recorded (Answers NotLeader) is row held tier = answers g recorded NotLeader is (row.0, row.1, row.2, refl) held tier
-    offset_on g recorded (Answers (OffsetAnswer n)) is row held tier = answers g recorded (OffsetAnswer n) is (keeps_seen z.x z.s g row.0, refl) held tier
-    offset_on g recorded (Answers NoOffset) is row held tier = answers g recorded NoOffset is (keeps_seen z.x z.s g row.0, refl) held tier
-    offset_on g recorded (Answers other) is row held tier = elim row.1 [ ]
-    offset_on g recorded other is row held tier = elim row [ ]
+    pub offset_on : (g : StartSnapshot) → t.actor_state.in_progress ≡ Noted g → (o : Outcome) → outcome ≡ o → OffsetOnRow w.partition_state z.x z.broker_tier g o → w'.partition_state ≡ w.partition_state → w'.tier ≡ w.tier → IsCentral disk store meta opening w'
+    offset_on g recorded (Answers Stopped) is row partition_state tier = answers g recorded Stopped is (stopped_seen z.x z.s g row, refl) partition_state tier
+    offset_on g recorded (Answers NotLeader) is row partition_state tier = answers g recorded NotLeader is (row.0, row.1, row.2, refl) partition_state tier
+    offset_on g recorded (Answers (OffsetAnswer n)) is row partition_state tier = answers g recorded (OffsetAnswer n) is (keeps_seen z.x z.s g row.0, refl) partition_state tier
+    offset_on g recorded (Answers NoOffset) is row partition_state tier = answers g recorded NoOffset is (keeps_seen z.x z.s g row.0, refl) partition_state tier
+    offset_on g recorded (Answers other) is row partition_state tier = elim row.1 [ ]
+    offset_on g recorded other is row partition_state tier = elim row [ ]

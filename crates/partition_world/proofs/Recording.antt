@@ -16,7 +16,7 @@ use Rattle.laws_partition.specs.declared.start_snapshot.StartSnapshot.{StartSnap
 use Rattle.laws_partition.specs.declared.start_snapshot.Turned.{Turned}
 use Rattle.laws_partition.specs.declared.start_snapshot.Turned.TheVariants as turned
 use Rattle.partition_world.specs.declared.actor_state.Outcome.{Outcome}
-use Rattle.partition_world.specs.declared.actor_state.Outcome.TheVariants.{Answers, Begins, Chose, Goes, Seeks as Sought, Dates as Dated, Dooms, Deletes, Rebuilds as Rebuilding}
+use Rattle.partition_world.specs.declared.actor_state.Outcome.TheVariants.{Answers, Begins, Chose, Goes, Seeks as Sought, Dates as Dated, ChoosesExpired, Deletes, Rebuilds as Rebuilding}
 use Rattle.partition_world.specs.declared.actor_state.ActorState.{ActorState}
 use Rattle.partition_world.specs.declared.actor_state.InProgress.{InProgress}
 use Rattle.partition_world.specs.declared.actor_state.InProgress.TheVariants.{Idle, Noted, Copies, Seeks, Dates, Expires, Rebuilds}
@@ -27,15 +27,15 @@ use Rattle.partition_world.specs.Whole.{Whole}
 
 -- a join that continues does so with what it recorded
 abbrev pub GoesAsRecorded : InProgress → Outcome → Type 0
-GoesAsRecorded work (Rebuilding next) = (g : StartSnapshot) → recorded_in work ≡ Some g → IsRecorded (Rebuilds g next)
-GoesAsRecorded work outcome = Unit {0}
+GoesAsRecorded in_progress (Rebuilding next) = (g : StartSnapshot) → recorded_in in_progress ≡ Some g → IsRecorded (Rebuilds g next)
+GoesAsRecorded in_progress outcome = Unit {0}
 
 -- a turn on brokers' logs and the registry alone is none of those
-pub own_recorded : (work : InProgress) (turn : Turned) (outcome : Outcome) → outcome ≡ outcome_of turn → GoesAsRecorded work outcome
-own_recorded work (turned.Answers answer) outcome is = subst (GoesAsRecorded work) (sym is) tt
-own_recorded work (turned.Begins g) outcome is = subst (GoesAsRecorded work) (sym is) tt
+pub own_recorded : (in_progress : InProgress) (turn : Turned) (outcome : Outcome) → outcome ≡ outcome_of turn → GoesAsRecorded in_progress outcome
+own_recorded in_progress (turned.Answers answer) outcome is = subst (GoesAsRecorded in_progress) (sym is) tt
+own_recorded in_progress (turned.Begins g) outcome is = subst (GoesAsRecorded in_progress) (sym is) tt
 
-chosen_recorded : (work : InProgress) (copy : Copied) → IsRecorded work → IsRecorded (chosen work copy)
+chosen_recorded : (in_progress : InProgress) (copy : Copied) → IsRecorded in_progress → IsRecorded (chosen in_progress copy)
 chosen_recorded Idle copy k = tt
 chosen_recorded (Noted g) copy k = tt
 chosen_recorded (Copies g c next) copy k = tt
@@ -44,7 +44,7 @@ chosen_recorded (Dates g cursor then) copy k = tt
 chosen_recorded (Expires g segment next) copy k = tt
 chosen_recorded (Rebuilds g next) copy k = k
 
-moved_recorded : (work : InProgress) (next : CopyStep) → IsRecorded work → IsRecorded (moved work next)
+moved_recorded : (in_progress : InProgress) (next : CopyStep) → IsRecorded in_progress → IsRecorded (moved in_progress next)
 moved_recorded Idle next k = tt
 moved_recorded (Noted g) next k = tt
 moved_recorded (Copies g c before) next k = tt
@@ -53,7 +53,7 @@ moved_recorded (Dates g cursor was) next k = tt
 moved_recorded (Expires g segment before) next k = tt
 moved_recorded (Rebuilds g before) next k = k
 
-sought_recorded : (work : InProgress) (next : Search) → IsRecorded work → IsRecorded (sought work next)
+sought_recorded : (in_progress : InProgress) (next : Search) → IsRecorded in_progress → IsRecorded (sought in_progress next)
 sought_recorded Idle next k = tt
 sought_recorded (Noted g) next k = tt
 sought_recorded (Copies g c before) next k = tt
@@ -62,7 +62,7 @@ sought_recorded (Dates g cursor was) next k = tt
 sought_recorded (Expires g segment before) next k = tt
 sought_recorded (Rebuilds g before) next k = k
 
-dated_recorded : (work : InProgress) (cursor : ℕ) (next : Dating) → IsRecorded work → IsRecorded (dated work cursor next)
+dated_recorded : (in_progress : InProgress) (cursor : ℕ) (next : Dating) → IsRecorded in_progress → IsRecorded (dated in_progress cursor next)
 dated_recorded Idle cursor next k = tt
 dated_recorded (Noted g) cursor next k = tt
 dated_recorded (Copies g c before) cursor next k = tt
@@ -71,7 +71,7 @@ dated_recorded (Dates g at before) cursor next k = tt
 dated_recorded (Expires g segment before) cursor next k = tt
 dated_recorded (Rebuilds g before) cursor next k = k
 
-expired_segment_recorded : (work : InProgress) (segment : ExpiredSegment) → IsRecorded work → IsRecorded (expired_segment work segment)
+expired_segment_recorded : (in_progress : InProgress) (segment : ExpiredSegment) → IsRecorded in_progress → IsRecorded (expired_segment in_progress segment)
 expired_segment_recorded Idle segment k = tt
 expired_segment_recorded (Noted g) segment k = tt
 expired_segment_recorded (Copies g c before) segment k = tt
@@ -80,7 +80,7 @@ expired_segment_recorded (Dates g cursor was) segment k = tt
 expired_segment_recorded (Expires g before next) segment k = tt
 expired_segment_recorded (Rebuilds g before) segment k = k
 
-deleting_recorded : (work : InProgress) (next : Deletion) → IsRecorded work → IsRecorded (deleting work next)
+deleting_recorded : (in_progress : InProgress) (next : Deletion) → IsRecorded in_progress → IsRecorded (deleting in_progress next)
 deleting_recorded Idle next k = tt
 deleting_recorded (Noted g) next k = tt
 deleting_recorded (Copies g c before) next k = tt
@@ -89,7 +89,7 @@ deleting_recorded (Dates g cursor was) next k = tt
 deleting_recorded (Expires g segment before) next k = tt
 deleting_recorded (Rebuilds g before) next k = k
 
-rebuilding_recorded : (work : InProgress) (next : Rebuild) → GoesAsRecorded work (Rebuilding next) → IsRecorded work → IsRecorded (rebuilding work next)
+rebuilding_recorded : (in_progress : InProgress) (next : Rebuild) → GoesAsRecorded in_progress (Rebuilding next) → IsRecorded in_progress → IsRecorded (rebuilding in_progress next)
 rebuilding_recorded Idle next goes k = tt
 rebuilding_recorded (Noted g) next goes k = goes g refl
 rebuilding_recorded (Copies g c before) next goes k = tt
@@ -98,23 +98,23 @@ rebuilding_recorded (Dates g cursor was) next goes k = tt
 rebuilding_recorded (Expires g segment before) next goes k = tt
 rebuilding_recorded (Rebuilds g before) next goes k = goes g refl
 
-actor_state_recorded : (actor_state : ActorState) (outcome : Outcome) → GoesAsRecorded actor_state.work outcome → IsRecorded actor_state.work → IsRecorded (actor_state_after actor_state outcome).work
+actor_state_recorded : (actor_state : ActorState) (outcome : Outcome) → GoesAsRecorded actor_state.in_progress outcome → IsRecorded actor_state.in_progress → IsRecorded (actor_state_after actor_state outcome).in_progress
 actor_state_recorded actor_state (Answers answer) goes k = tt
 actor_state_recorded actor_state (Begins g) goes k = tt
-actor_state_recorded actor_state (Chose copy) goes k = chosen_recorded actor_state.work copy k
-actor_state_recorded actor_state (Goes next) goes k = moved_recorded actor_state.work next k
-actor_state_recorded actor_state (Sought next) goes k = sought_recorded actor_state.work next k
-actor_state_recorded actor_state (Dated cursor next) goes k = dated_recorded actor_state.work cursor next k
-actor_state_recorded actor_state (Dooms segment) goes k = expired_segment_recorded actor_state.work segment k
-actor_state_recorded actor_state (Deletes next) goes k = deleting_recorded actor_state.work next k
-actor_state_recorded actor_state (Rebuilding next) goes k = rebuilding_recorded actor_state.work next goes k
+actor_state_recorded actor_state (Chose copy) goes k = chosen_recorded actor_state.in_progress copy k
+actor_state_recorded actor_state (Goes next) goes k = moved_recorded actor_state.in_progress next k
+actor_state_recorded actor_state (Sought next) goes k = sought_recorded actor_state.in_progress next k
+actor_state_recorded actor_state (Dated cursor next) goes k = dated_recorded actor_state.in_progress cursor next k
+actor_state_recorded actor_state (ChoosesExpired segment) goes k = expired_segment_recorded actor_state.in_progress segment k
+actor_state_recorded actor_state (Deletes next) goes k = deleting_recorded actor_state.in_progress next k
+actor_state_recorded actor_state (Rebuilding next) goes k = rebuilding_recorded actor_state.in_progress next goes k
 
 module _ {D S M : Type 0} (disk : DiskGhosts D) (store : StoreGhosts S) (meta : MetaGhosts M) where
   -- after a turn
-  pub turn_recorded : (w : Whole D S M) (a : ℕ) (outcome : Outcome) (w' : Whole D S M) (t : IsTurn disk store meta w a outcome w') → AreRecorded w.desk → GoesAsRecorded t.actor_state.work outcome → AreRecorded w'.desk
+  pub turn_recorded : (w : Whole D S M) (a : ℕ) (outcome : Outcome) (w' : Whole D S M) (t : IsTurn disk store meta w a outcome w') → AreRecorded w.desk → GoesAsRecorded t.actor_state.in_progress outcome → AreRecorded w'.desk
   turn_recorded w a outcome w' t recorded goes = λ place actor_state at.
       let new : slice_get (slice_set w.desk t.place (actor_state_after t.actor_state outcome)) place ≡ Some actor_state = ap (λ (k : List ActorState). slice_get k place) (sym t.desk) ∙ at in
       elim (get-set w.desk t.place (actor_state_after t.actor_state outcome) place actor_state new) [
-        | inl one ↦ subst (λ (k : ActorState). IsRecorded k.work) (sym one.1) (actor_state_recorded t.actor_state outcome goes (recorded t.place t.actor_state t.at.actor_state_is))
+        | inl one ↦ subst (λ (k : ActorState). IsRecorded k.in_progress) (sym one.1) (actor_state_recorded t.actor_state outcome goes (recorded t.place t.actor_state t.at.actor_state_is))
         | inr other ↦ recorded place actor_state other.1
       ]

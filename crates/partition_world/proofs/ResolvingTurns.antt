@@ -133,7 +133,7 @@ module _ {D S M : Type 0} (disk : DiskGhosts D) (store : StoreGhosts S) (meta : 
     kept t t' l' (ap (λ (u : RemoteTier S M). u.meta) k.tier) left,
     inr (
       keeps,
-      inr (record { there = k.there; node = k.node; broker_tier_after = k.broker_tier_after; row = k.row; form = k.form; held = k.held; tier = ap (λ (u : RemoteTier S M). tier_with u l') k.tier }),
+      inr (record { there = k.there; node = k.node; broker_tier_after = k.broker_tier_after; row = k.row; form = k.form; partition_state = k.partition_state; tier = ap (λ (u : RemoteTier S M). tier_with u l') k.tier }),
     ),
   )
 
@@ -275,9 +275,9 @@ module _ {D S M : Type 0} (disk : DiskGhosts D) (store : StoreGhosts S) (meta : 
   rebuilding p h t b x broker_tier g (Restart line) Join outcome h' t' w l' left = let a = tier_same t t' w.1 l' left in (a.0, a.1, (w.0, a.2))
   rebuilding p h t b x broker_tier g next command outcome h' t' w l' left = elim w [ ]
 
-  rows : (p : PartitionId) (config : Config) (h : PartitionState D) (t : RemoteTier S M) (b : ℕ) (x : Node D) (broker_tier : BrokerTierState) (work : InProgress) (command : Command) (outcome : Outcome) (h' : PartitionState D) (t' : RemoteTier S M)
-      → Row disk store meta p config h t b x broker_tier work command outcome h' t' → Tells meta t.meta → (l' : List Note) → Left (meta.content t'.meta) l'
-      → Before meta t.meta (λ l. Row disk store (resolved meta) p config h (tier_with t l) b x broker_tier work command outcome h' (tier_with t' l'))
+  rows : (p : PartitionId) (config : Config) (h : PartitionState D) (t : RemoteTier S M) (b : ℕ) (x : Node D) (broker_tier : BrokerTierState) (in_progress : InProgress) (command : Command) (outcome : Outcome) (h' : PartitionState D) (t' : RemoteTier S M)
+      → Row disk store meta p config h t b x broker_tier in_progress command outcome h' t' → Tells meta t.meta → (l' : List Note) → Left (meta.content t'.meta) l'
+      → Before meta t.meta (λ l. Row disk store (resolved meta) p config h (tier_with t l) b x broker_tier in_progress command outcome h' (tier_with t' l'))
   rows p config h t b x broker_tier Idle command outcome h' t' w is_observable l' left = begins h t b x broker_tier command outcome h' t' w is_observable l' left
   rows p config h t b x broker_tier (Noted g) command outcome h' t' w is_observable l' left = recorded p config h t b x broker_tier g command outcome h' t' w is_observable l' left
   rows p config h t b x broker_tier (Copies g copy next) command outcome h' t' w is_observable l' left = copying h t b x broker_tier g copy next command outcome h' t' w is_observable l' left
@@ -287,15 +287,15 @@ module _ {D S M : Type 0} (disk : DiskGhosts D) (store : StoreGhosts S) (meta : 
   rows p config h t b x broker_tier (Rebuilds g next) command outcome h' t' w is_observable l' left = rebuilding p h t b x broker_tier g next command outcome h' t' w l' left
 
   -- a turn's row
-  turn_row : (p : PartitionId) (config : Config) (h : PartitionState D) (t : RemoteTier S M) (b : ℕ) (work : InProgress) (command : Command) (outcome : Outcome) (h' : PartitionState D) (t' : RemoteTier S M)
-      → TurnRow disk store meta p config h t b work command outcome h' t' → Tells meta t.meta → (l' : List Note) → Left (meta.content t'.meta) l'
-      → Before meta t.meta (λ l. TurnRow disk store (resolved meta) p config h (tier_with t l) b work command outcome h' (tier_with t' l'))
-  turn_row p config h t b work command outcome h' t' w is_observable l' left =
-      with_some (slice_get h.nodes b) (λ x. AtBrokerTier t b (λ broker_tier. Row disk store meta p config h t b x broker_tier work command outcome h' t')) (Left (meta.content t.meta))
-      (λ x l. AtBrokerTier (tier_with t l) b (λ broker_tier. Row disk store (resolved meta) p config h (tier_with t l) b x broker_tier work command outcome h' (tier_with t' l'))) w
-      (λ x there. with_some (slice_get t.broker_tiers b) (λ broker_tier. Row disk store meta p config h t b x broker_tier work command outcome h' t') (Left (meta.content t.meta))
-      (λ broker_tier l. Row disk store (resolved meta) p config h (tier_with t l) b x broker_tier work command outcome h' (tier_with t' l')) there
-      (λ broker_tier row. rows p config h t b x broker_tier work command outcome h' t' row is_observable l' left))
+  turn_row : (p : PartitionId) (config : Config) (h : PartitionState D) (t : RemoteTier S M) (b : ℕ) (in_progress : InProgress) (command : Command) (outcome : Outcome) (h' : PartitionState D) (t' : RemoteTier S M)
+      → TurnRow disk store meta p config h t b in_progress command outcome h' t' → Tells meta t.meta → (l' : List Note) → Left (meta.content t'.meta) l'
+      → Before meta t.meta (λ l. TurnRow disk store (resolved meta) p config h (tier_with t l) b in_progress command outcome h' (tier_with t' l'))
+  turn_row p config h t b in_progress command outcome h' t' w is_observable l' left =
+      with_some (slice_get h.nodes b) (λ x. AtBrokerTier t b (λ broker_tier. Row disk store meta p config h t b x broker_tier in_progress command outcome h' t')) (Left (meta.content t.meta))
+      (λ x l. AtBrokerTier (tier_with t l) b (λ broker_tier. Row disk store (resolved meta) p config h (tier_with t l) b x broker_tier in_progress command outcome h' (tier_with t' l'))) w
+      (λ x there. with_some (slice_get t.broker_tiers b) (λ broker_tier. Row disk store meta p config h t b x broker_tier in_progress command outcome h' t') (Left (meta.content t.meta))
+      (λ broker_tier l. Row disk store (resolved meta) p config h (tier_with t l) b x broker_tier in_progress command outcome h' (tier_with t' l')) there
+      (λ broker_tier row. rows p config h t b x broker_tier in_progress command outcome h' t' row is_observable l' left))
 
   -- there was no memory
   begin_halts : (t : RemoteTier S M) (b : ℕ) (broker_tier : BrokerTierState) (command : Command) (t' : RemoteTier S M) → BeginHalts meta t b broker_tier command t' → Tells meta t.meta → (l' : List Note)
@@ -342,9 +342,9 @@ module _ {D S M : Type 0} (disk : DiskGhosts D) (store : StoreGhosts S) (meta : 
   recorded_halts p h t b x broker_tier g (Offset (At ts)) t' k is_observable l' left = date_halts p h t b x broker_tier ts 0 Seek t' k is_observable l' left
   recorded_halts p h t b x broker_tier g other t' k is_observable l' left = elim k [ ]
 
-  halts_tier : (p : PartitionId) (h : PartitionState D) (t : RemoteTier S M) (b : ℕ) (x : Node D) (broker_tier : BrokerTierState) (work : InProgress) (command : Command) (t' : RemoteTier S M)
-      → HaltsTier store meta p h t b x broker_tier work command t' → Tells meta t.meta → (l' : List Note) → Left (meta.content t'.meta) l'
-      → Before meta t.meta (λ l. HaltsTier store (resolved meta) p h (tier_with t l) b x broker_tier work command (tier_with t' l'))
+  halts_tier : (p : PartitionId) (h : PartitionState D) (t : RemoteTier S M) (b : ℕ) (x : Node D) (broker_tier : BrokerTierState) (in_progress : InProgress) (command : Command) (t' : RemoteTier S M)
+      → HaltsTier store meta p h t b x broker_tier in_progress command t' → Tells meta t.meta → (l' : List Note) → Left (meta.content t'.meta) l'
+      → Before meta t.meta (λ l. HaltsTier store (resolved meta) p h (tier_with t l) b x broker_tier in_progress command (tier_with t' l'))
   halts_tier p h t b x broker_tier Idle command t' k is_observable l' left = begin_halts t b broker_tier command t' k is_observable l' left
   halts_tier p h t b x broker_tier (Noted g) command t' k is_observable l' left = recorded_halts p h t b x broker_tier g command t' k is_observable l' left
   halts_tier p h t b x broker_tier (Copies g copy next) Copy t' k is_observable l' left = copy_halts h t b broker_tier copy next t' k is_observable l' left
@@ -356,18 +356,18 @@ module _ {D S M : Type 0} (disk : DiskGhosts D) (store : StoreGhosts S) (meta : 
     kept t t' l' (ap (λ (u : RemoteTier S M). u.meta) k.after) left,
     record { error = k.error; row = k.row; after = ap (λ (u : RemoteTier S M). tier_with u l') k.after },
   )
-  halts_tier p h t b x broker_tier work command t' k is_observable l' left = elim k [ ]
+  halts_tier p h t b x broker_tier in_progress command t' k is_observable l' left = elim k [ ]
 
-  stays_tier : (p : PartitionId) (h : PartitionState D) (t : RemoteTier S M) (b : ℕ) (work : InProgress) (command : Command) (h' : PartitionState D) (t' : RemoteTier S M)
-      → StaysTier disk store meta p h t b work command h' t' → Tells meta t.meta → (l' : List Note) → Left (meta.content t'.meta) l'
-      → Before meta t.meta (λ l. StaysTier disk store (resolved meta) p h (tier_with t l) b work command h' (tier_with t' l'))
-  stays_tier p h t b work command h' t' (inl (held, tier)) is_observable l' left = let a = tier_same t t' tier l' left in (a.0, a.1, inl (held, a.2))
-  stays_tier p h t b work command h' t' (inr (same, at)) is_observable l' left =
-      let a = with_some (slice_get h.nodes b) (λ x. AtBrokerTier t b (λ broker_tier. HaltsTier store meta p h t b x broker_tier work command t')) (Left (meta.content t.meta))
-      (λ x l. AtBrokerTier (tier_with t l) b (λ broker_tier. HaltsTier store (resolved meta) p h (tier_with t l) b x broker_tier work command (tier_with t' l'))) at
-      (λ x there. with_some (slice_get t.broker_tiers b) (λ broker_tier. HaltsTier store meta p h t b x broker_tier work command t') (Left (meta.content t.meta))
-      (λ broker_tier l. HaltsTier store (resolved meta) p h (tier_with t l) b x broker_tier work command (tier_with t' l')) there
-      (λ broker_tier row. halts_tier p h t b x broker_tier work command t' row is_observable l' left)) in
+  stays_tier : (p : PartitionId) (h : PartitionState D) (t : RemoteTier S M) (b : ℕ) (in_progress : InProgress) (command : Command) (h' : PartitionState D) (t' : RemoteTier S M)
+      → StaysTier disk store meta p h t b in_progress command h' t' → Tells meta t.meta → (l' : List Note) → Left (meta.content t'.meta) l'
+      → Before meta t.meta (λ l. StaysTier disk store (resolved meta) p h (tier_with t l) b in_progress command h' (tier_with t' l'))
+  stays_tier p h t b in_progress command h' t' (inl (partition_state, tier)) is_observable l' left = let a = tier_same t t' tier l' left in (a.0, a.1, inl (partition_state, a.2))
+  stays_tier p h t b in_progress command h' t' (inr (same, at)) is_observable l' left =
+      let a = with_some (slice_get h.nodes b) (λ x. AtBrokerTier t b (λ broker_tier. HaltsTier store meta p h t b x broker_tier in_progress command t')) (Left (meta.content t.meta))
+      (λ x l. AtBrokerTier (tier_with t l) b (λ broker_tier. HaltsTier store (resolved meta) p h (tier_with t l) b x broker_tier in_progress command (tier_with t' l'))) at
+      (λ x there. with_some (slice_get t.broker_tiers b) (λ broker_tier. HaltsTier store meta p h t b x broker_tier in_progress command t') (Left (meta.content t.meta))
+      (λ broker_tier l. HaltsTier store (resolved meta) p h (tier_with t l) b x broker_tier in_progress command (tier_with t' l')) there
+      (λ broker_tier row. halts_tier p h t b x broker_tier in_progress command t' row is_observable l' left)) in
       (a.0, a.1, inr (same, a.2))
 
   actor_state_with : (w : Whole D S M) (l : List Note) (a place : ℕ) (list : ActorList) (actor_state : ActorState) → IsActorAt w a place list actor_state → IsActorAt (whole_with w l) a place list actor_state
@@ -376,7 +376,7 @@ module _ {D S M : Type 0} (disk : DiskGhosts D) (store : StoreGhosts S) (meta : 
   pub turns : (w : Whole D S M) (a : ℕ) (outcome : Outcome) (w' : Whole D S M) → IsTurn disk store meta w a outcome w' → Tells meta w.tier.meta → (l' : List Note) → Left (meta.content w'.tier.meta) l'
       → Before meta w.tier.meta (λ l. IsTurn disk store (resolved meta) (whole_with w l) a outcome (whole_with w' l'))
   turns w a outcome w' k is_observable l' left =
-      let r = turn_row w.partition w.config w.held w.tier k.order.broker.0 k.actor_state.work k.order.command outcome w'.held w'.tier k.row is_observable l' left in (
+      let r = turn_row w.partition w.config w.partition_state w.tier k.order.broker.0 k.actor_state.in_progress k.order.command outcome w'.partition_state w'.tier k.row is_observable l' left in (
         r.0,
         r.1,
         record {
@@ -398,7 +398,7 @@ module _ {D S M : Type 0} (disk : DiskGhosts D) (store : StoreGhosts S) (meta : 
   pub stays : (w : Whole D S M) (a : ℕ) (w' : Whole D S M) → StaysWhole disk store meta w a w' → Tells meta w.tier.meta → (l' : List Note) → Left (meta.content w'.tier.meta) l'
       → Before meta w.tier.meta (λ l. StaysWhole disk store (resolved meta) (whole_with w l) a (whole_with w' l'))
   stays w a w' k is_observable l' left =
-      let r = stays_tier w.partition w.held w.tier k.order.broker.0 k.actor_state.work k.order.command w'.held w'.tier k.tier is_observable l' left in (
+      let r = stays_tier w.partition w.partition_state w.tier k.order.broker.0 k.actor_state.in_progress k.order.command w'.partition_state w'.tier k.tier is_observable l' left in (
         r.0,
         r.1,
         record {

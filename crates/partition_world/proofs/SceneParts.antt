@@ -7,12 +7,12 @@ use Rattle.plain_log.specs.declared.command.Order.{Order}
 use Rattle.laws_partition.specs.declared.start_snapshot.StartSnapshot.{StartSnapshot}
 use Rattle.laws_partition.specs.Seen as seen
 use Rattle.laws_tier_turns.specs.BrokerTiers.{tier_view_of, tier_views_of}
-use Rattle.laws_tier_turns.specs.TierTasks.{KeepsTask, work_of as work_seen}
-use Rattle.tier_safe.specs.Scene.{BrokerTierView, TierTask as InProgressIsSeen, Free}
+use Rattle.laws_tier_turns.specs.TierTasks.{KeepsTask, tier_task_of as tier_task_seen}
+use Rattle.tier_safe.specs.Scene.{BrokerTierView, TierTask, Free}
 use Rattle.partition_world.specs.declared.actor_state.ActorState.{ActorState}
 use Rattle.partition_world.specs.declared.actor_state.InProgress.TheVariants.{Idle}
 use Rattle.partition_world.specs.declared.tier.BrokerTierState.{BrokerTierState}
-use Rattle.partition_world.specs.Central.{broker_tier_seen, broker_tiers_seen, work_of, desk_of}
+use Rattle.partition_world.specs.Central.{broker_tier_seen, broker_tiers_seen, tier_task_of, desk_of}
 
 -- as many tier states are seen as there are
 pub broker_tiers_count : (broker_tiers : List BrokerTierState) → length (broker_tiers_seen broker_tiers) ≡ length broker_tiers
@@ -40,7 +40,7 @@ tier_view_set (x ∷ nodes) (z ∷ broker_tiers) (suc b) y broker_tier at = ap (
 
 -- what the tier sees of an actor's state
 pub actor_state_at : (lists : List ActorList) (desk : List ActorState) (place : ℕ) (l : ActorList) (actor_state : ActorState) → slice_get lists place ≡ Some l → slice_get desk place ≡ Some actor_state
-    → slice_get (desk_of lists desk) place ≡ Some (work_of (slice_get l.orders actor_state.number) actor_state.work)
+    → slice_get (desk_of lists desk) place ≡ Some (tier_task_of (slice_get l.orders actor_state.number) actor_state.in_progress)
 actor_state_at [] desk place l actor_state at to = absurd cc
 actor_state_at (k ∷ lists) [] place l actor_state at to = absurd cc
 actor_state_at (k ∷ lists) (s ∷ desk) zero l actor_state at to =
@@ -51,19 +51,19 @@ actor_state_at (k ∷ lists) (s ∷ desk) (suc place) l actor_state at to = acto
 
 -- with another actor's state in its place
 pub actor_state_set : (lists : List ActorList) (desk : List ActorState) (place : ℕ) (l : ActorList) (actor_state : ActorState) → slice_get lists place ≡ Some l
-    → desk_of lists (slice_set desk place actor_state) ≡ slice_set (desk_of lists desk) place (work_of (slice_get l.orders actor_state.number) actor_state.work)
+    → desk_of lists (slice_set desk place actor_state) ≡ slice_set (desk_of lists desk) place (tier_task_of (slice_get l.orders actor_state.number) actor_state.in_progress)
 actor_state_set [] desk place l actor_state at = absurd cc
 actor_state_set (k ∷ lists) [] place l actor_state at = refl
 actor_state_set (k ∷ lists) (s ∷ desk) zero l actor_state at = let one : k ≡ l = cc in rw one refl
 actor_state_set (k ∷ lists) (s ∷ desk) (suc place) l actor_state at =
-    ap (λ (ws : List InProgressIsSeen). work_of (slice_get k.orders s.number) s.work ∷ ws) (actor_state_set lists desk place l actor_state at)
+    ap (λ (ws : List TierTask). tier_task_of (slice_get k.orders s.number) s.in_progress ∷ ws) (actor_state_set lists desk place l actor_state at)
 
 -- an idle actor's state is free
-pub idle_free : (order : Option Order) → work_of order Idle ≡ Free
+pub idle_free : (order : Option Order) → tier_task_of order Idle ≡ Free
 idle_free None = refl
 idle_free (Some order) = refl
 
 -- what was recorded is kept
-pub keeps_recorded : (b : ℕ) (command : Command) (g : StartSnapshot) → KeepsTask b command (Some g) (work_seen b command (Some g))
+pub keeps_recorded : (b : ℕ) (command : Command) (g : StartSnapshot) → KeepsTask b command (Some g) (tier_task_seen b command (Some g))
 keeps_recorded b Join g = (_, _, refl)
 keeps_recorded b command g = refl

@@ -21,7 +21,7 @@ use Rattle.broker_log.specs.Seen as log
 use Rattle.broker_log.specs.Seen.{ShowsSeen, closed_in}
 use Rattle.broker_log.specs.Turns.{loosened, kept_line}
 use Rattle.laws_partition.specs.declared.start_snapshot.StartSnapshot.{StartSnapshot}
-use Rattle.laws_partition.specs.Partition as seen_held
+use Rattle.laws_partition.specs.Partition as seen_partition
 use Rattle.laws_partition.specs.RowsOfLog as seen_log
 use Rattle.laws_partition.specs.Seen as seen
 use Rattle.laws_partition.specs.Sound.{NodeSound}
@@ -31,7 +31,7 @@ use Rattle.laws_tier_turns.specs.Turns.{IsTrimmed, OwesTier}
 use Rattle.partition_commands.specs.declared.partition_state.Node.{Node}
 use Rattle.partition_commands.specs.declared.partition_state.PartitionState.{PartitionState}
 use Rattle.partition_commands.specs.Partition.{is_up, line_of, local_of, node_of, ShowsPartition}
-use Rattle.partition_commands.specs.Partition as disk_held
+use Rattle.partition_commands.specs.Partition as disk_partition
 use Rattle.partition_commands.specs.Shown.{Sees, Refines}
 use Rattle.partition_commands.specs.TurnsOfLog.{TrimOnRow as DiskRow}
 use Rattle.partition_commands.proofs.OwnRefined.{notes_shown, open_of, dropped_node}
@@ -49,7 +49,7 @@ use Rattle.partition_world.specs.TurnsOfCopy.{copied_to}
 use Rattle.partition_world.specs.TurnsOfTrim.{MayTrim, TrimsBy, TrimFirstRow}
 use Rattle.partition_world.specs.Whole.{Whole}
 use Rattle.partition_world.proofs.Scenes.{Place}
-use Rattle.partition_world.proofs.TurnCentral.{rests, stands, held_same, begins}
+use Rattle.partition_world.proofs.TurnCentral.{rests, stands, partition_state_same, begins}
 
 -- a broker's tier state as it is seen
 pub seen_broker_tier : (broker_tiers : List BrokerTierState) (b : ℕ) (broker_tier : BrokerTierState) → slice_get broker_tiers b ≡ Some broker_tier → slice_get (broker_tiers_seen broker_tiers) b ≡ Some (broker_tier_seen broker_tier)
@@ -81,16 +81,16 @@ module _ {D : Type 0} (disk : DiskGhosts D) where
   pub trim_shown : (h : PartitionState D) (a : seen.SeenPartition) (b : ℕ) (x : Node D) (s : log.LogSeen) (g : StartSnapshot) (answer : Answer) (h' : PartitionState D) → Sees disk.content h a b x s → (g.stops ≡ x.stops → is_up x ≡ true)
       → NodeSound (node_of x s) → DiskRow disk.content disk.control h b x g answer h'
       → Refines disk.content h' (λ c. seen_log.TrimOnRow a b (node_of x s) g answer c × StartGoes (closed_in x.log) b (node_of x s) c)
-  trim_shown h a b x s g Stopped h' v k n w = stays disk.content disk.control h a h' _ v.held w.1 ((halted w.0, refl), record { each = λ z there. inl (cc (v.there, there)) })
+  trim_shown h a b x s g Stopped h' v k n w = stays disk.content disk.control h a h' _ v.partition_state w.1 ((halted w.0, refl), record { each = λ z there. inl (cc (v.there, there)) })
     where
       halted : (g.stops ≢ x.stops) ⊎ (is_up x ≡ false) → g.stops ≢ x.stops
       halted (inl differs) = differs
       halted (inr down) = λ same. (let up = k same in absurd cc)
-  trim_shown h a b x s g Kept h' v k n w = stays disk.content disk.control h a h' _ v.held w.1 ((w.0, refl), record { each = λ z there. inl (cc (v.there, there)) })
+  trim_shown h a b x s g Kept h' v k n w = stays disk.content disk.control h a h' _ v.partition_state w.1 ((w.0, refl), record { each = λ z there. inl (cc (v.there, there)) })
   trim_shown h a b x s g DiskFault h' v k n w =
       let q = w.2 in
       let t = q.breaks.seen s v.shows in
-      let y = seen_held.broken (node_of x s) (s.flushed_end, kept_line s, t.0) in
+      let y = seen_partition.broken (node_of x s) (s.flushed_end, kept_line s, t.0) in
       breaks_to disk.content disk.control h a b x s (loosened s (s.flushed_end, kept_line s, t.0)) _ h' _ y v q t.3
       (broken_node x q.kept s (s.flushed_end, kept_line s, t.0) q.breaks.down) (
         (w.0, w.1, (t.0, record { flushed_end = t.2; ends = t.1 }, refl)),
@@ -107,7 +107,7 @@ module _ {D : Type 0} (disk : DiskGhosts D) where
       let d = w.2.1 in
       let t = d.seen s v.shows in
       let e = d.ends s v.shows in
-      let y = record (node_of x s) { local = last + 1; saved = seen_held.kept_line (node_of x s) } in
+      let y = record (node_of x s) { local = last + 1; saved = seen_partition.kept_line (node_of x s) } in
       puts disk.content disk.control h a b x s h' _ (record x { log = kept }) t.0 y v t.1
       (dropped_node x kept s t.0 (last + 1) (open_of x kept d.end_is w.1) t.2) w.2.3 (
         (w.0, w.1, e.0, record { flushed_end = e.2; ends = e.1 }, refl),
@@ -144,9 +144,9 @@ trim_owed disk h a b x s broker_tier keep broker_tiers c v at n is_observable ri
           (let top = behind_of (closed_in x.log) s.local (copied_to x broker_tier h.registry.start) may.copied in
           let is = k.0 in
           let line : line_of x ≡ s.line = line_shown disk.content x s up v.shows in
-          let end : disk_held.end_of x ≡ end_of s.batches = end_shown disk.content x s up v.shows in
+          let end : disk_partition.end_of x ≡ end_of s.batches = end_shown disk.content x s up v.shows in
           let local : local_of x ≡ s.local = local_shown disk.content x s up v.shows in
-          let start : a.registry.start ≡ h.registry.start = ap (λ (r : Registry). r.start) v.held.registry in
+          let start : a.registry.start ≡ h.registry.start = ap (λ (r : Registry). r.start) v.partition_state.registry in
           let mark : copied_to x broker_tier h.registry.start ≡ covered_to broker_tier.view.entries s.line (end_of s.batches) (max (local_of x) h.registry.start) = rw (line, end) refl in
           reached_is_covered broker_tier.view s.line s.batches (max (local_of x) h.registry.start) right is_observable o (omega (arith, from, low, loose, local, start)) (omega (arith, high, is, top, mark)));
     }
@@ -172,15 +172,15 @@ module _ {D S M : Type 0} (disk : DiskGhosts D) (store : StoreGhosts S) (meta : 
   -- the first turn of a trim, in its place
   module _ (opening : State) (w : Whole D S M) (a : ℕ) (outcome : Outcome) (w' : Whole D S M) (t : IsTurn disk store meta w a outcome w') (c : IsCentral disk store meta opening w)
       (z : Place disk store meta opening w c t.place t.list t.actor_state t.order) (trims : t.order.command ≡ Trim) where
-    same_held : w'.held ≡ w.held → ShowsPartition disk.content w'.held c.partition
-    same_held = held_same disk store meta opening w a outcome w' t c z Trim trims
+    same_partition_state : w'.partition_state ≡ w.partition_state → ShowsPartition disk.content w'.partition_state c.partition
+    same_partition_state = partition_state_same disk store meta opening w a outcome w' t c z Trim trims
 
-    pub trim_first : t.actor_state.work ≡ Idle → (o : Outcome) → outcome ≡ o → TrimFirstRow meta w.held w.tier t.order.broker.0 z.x z.broker_tier o w'.tier → w'.held ≡ w.held → IsCentral disk store meta opening w'
-    trim_first idle (Answers Down) is row same = stands disk store meta opening w a outcome w' t c z Trim trims Idle idle Down is refl row.1 (same_held same) (row.0, refl)
+    pub trim_first : t.actor_state.in_progress ≡ Idle → (o : Outcome) → outcome ≡ o → TrimFirstRow meta w.partition_state w.tier t.order.broker.0 z.x z.broker_tier o w'.tier → w'.partition_state ≡ w.partition_state → IsCentral disk store meta opening w'
+    trim_first idle (Answers Down) is row same = stands disk store meta opening w a outcome w' t c z Trim trims Idle idle Down is refl row.1 (same_partition_state same) (row.0, refl)
     trim_first idle (Answers MetaFault) is row same =
         rests disk store meta opening w a outcome w' t c z Trim trims Idle idle MetaFault is refl (ap (λ (u : RemoteTier S M). u.broker_tiers) row.1.after)
         (ap (λ (u : RemoteTier S M). (store.content u.store).is_observable) row.1.after, row.1.reads.content.is_observable)
-        (ap (λ (u : RemoteTier S M). (store.content u.store).objects) row.1.after) row.1.reads.content.notes (same_held same) (row.0, refl)
+        (ap (λ (u : RemoteTier S M). (store.content u.store).objects) row.1.after) row.1.reads.content.notes (same_partition_state same) (row.0, refl)
     trim_first idle (Begins g) is row same =
-        begins disk store meta opening w a outcome w' t c z Trim trims idle g is refl refl (row.0, notes_shown disk.content disk.control w.held c.partition t.order.broker.0 z.x z.s g z.sees row.0 row.1, refl) row.2 same
+        begins disk store meta opening w a outcome w' t c z Trim trims idle g is refl refl (row.0, notes_shown disk.content disk.control w.partition_state c.partition t.order.broker.0 z.x z.s g z.sees row.0 row.1, refl) row.2 same
     trim_first idle other is row same = elim row [ ]

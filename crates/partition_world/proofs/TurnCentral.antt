@@ -25,7 +25,7 @@ use Rattle.laws_tier_turns.specs.Turns.{may_raise}
 use Rattle.partition_commands.specs.declared.partition_state.PartitionState.{PartitionState}
 use Rattle.partition_commands.specs.Partition.{node_of, ShowsPartition}
 use Rattle.partition_commands.proofs.OwnRefined.{notes_shown}
-use Rattle.tier_safe.specs.Scene.{Scene, BrokerTierView, TierTask as InProgressIsSeen, Free}
+use Rattle.tier_safe.specs.Scene.{Scene, BrokerTierView, TierTask, Free}
 use Rattle.tier_safe.specs.May.{IsChanged}
 use Rattle.tier_safe.specs.Turns.{ShowsScene}
 use Rattle.tier_safe.proofs.Turning.{refreshes}
@@ -36,13 +36,13 @@ use Rattle.partition_world.specs.declared.actor_state.InProgress.TheVariants.{Id
 use Rattle.partition_world.specs.declared.tier.RemoteTier.{RemoteTier}
 use Rattle.partition_world.specs.ActorStates.{recorded_in, outcome_of, actor_state_after, actor_state_seen, desk_seen, told_of}
 use Rattle.partition_world.specs.Tier.{RefreshesBroker}
-use Rattle.partition_world.specs.Central.{IsCentral, ShowsTier, work_of, begun_of}
+use Rattle.partition_world.specs.Central.{IsCentral, ShowsTier, tier_task_of, begun_of}
 use Rattle.partition_world.specs.Turn.{IsTurn}
 use Rattle.partition_world.specs.TurnsOfCopy.{LeadersFirstRow}
 use Rattle.partition_world.specs.Whole.{Whole}
 use Rattle.partition_world.proofs.CopyEnds.{TellsOn}
 use Rattle.partition_world.proofs.Entered.{enters, entered_central, silent_central}
-use Rattle.partition_world.proofs.Scenes.{Place, tier_view, scene_after, shows_at, shows_after, work_after, same_broker_tiers, left_changed, answered_free, few_now, few_after}
+use Rattle.partition_world.proofs.Scenes.{Place, tier_view, scene_after, shows_at, shows_after, tier_task_after, same_broker_tiers, left_changed, answered_free, few_now, few_after}
 use Rattle.partition_world.proofs.Recording.{GoesAsRecorded, own_recorded, turn_recorded}
 use Rattle.partition_world.proofs.Dating.{GoesAsDated, IsNoDate, undated, turn_dated}
 use Rattle.partition_world.proofs.WorldSound.{seen_stays}
@@ -60,102 +60,102 @@ module _ {D S M : Type 0} (disk : DiskGhosts D) (store : StoreGhosts S) (meta : 
     here = tier_view disk store meta opening w c t.place t.list t.actor_state t.order z
 
     -- the scene after it
-    abbrev pub after : InProgressIsSeen → Objects → List Note → View → Scene
-    after work objects notes view = scene_after disk store meta opening w c t.place t.list t.actor_state t.order z work objects notes view
+    abbrev pub after : TierTask → Objects → List Note → View → Scene
+    after in_progress objects notes view = scene_after disk store meta opening w c t.place t.list t.actor_state t.order z in_progress objects notes view
 
     -- what its state shows after it
-    abbrev pub actor_state_shows : Outcome → InProgressIsSeen
-    actor_state_shows o = work_after disk store meta opening w c t.place t.list t.actor_state t.order z o
+    abbrev pub actor_state_shows : Outcome → TierTask
+    actor_state_shows o = tier_task_after disk store meta opening w c t.place t.list t.actor_state t.order z o
 
     -- the row of an entry, of a command that keeps this
     abbrev pub SeenRow : InProgress → Turned → Type 0
-    SeenRow work turn = seen_rows.Row c.partition t.order.broker.0 y (recorded_in work) command turn c.partition
+    SeenRow in_progress turn = seen_rows.Row c.partition t.order.broker.0 y (recorded_in in_progress) command turn c.partition
 
-    pub shown : (work : InProgressIsSeen) (objects : Objects) (notes : List Note) (view : View) → w'.tier.broker_tiers ≡ slice_set w.tier.broker_tiers t.order.broker.0 (record z.broker_tier { view = view })
+    pub shown : (in_progress : TierTask) (objects : Objects) (notes : List Note) (view : View) → w'.tier.broker_tiers ≡ slice_set w.tier.broker_tiers t.order.broker.0 (record z.broker_tier { view = view })
         → TellsOn store meta w.tier.store w.tier.meta w'.tier.store w'.tier.meta → objects ≡ (store.content w'.tier.store).objects → notes ≡ (meta.content w'.tier.meta).notes
-        → actor_state_shows outcome ≡ work → ShowsTier store meta w' c.partition (after work objects notes view)
-    shown work objects notes view broker_tiers is_observable o n is =
-        shows_after disk store meta opening w c t.place t.list t.actor_state t.order z w' outcome work objects notes view t.partition t.lists t.desk broker_tiers is_observable o n is
+        → actor_state_shows outcome ≡ in_progress → ShowsTier store meta w' c.partition (after in_progress objects notes view)
+    shown in_progress objects notes view broker_tiers is_observable o n is =
+        shows_after disk store meta opening w c t.place t.list t.actor_state t.order z w' outcome in_progress objects notes view t.partition t.lists t.desk broker_tiers is_observable o n is
 
     -- an entry that changes nothing that is seen of the partition
-    pub entered : (work : InProgress) → t.actor_state.work ≡ work → (turn : Turned) (d : Scene) → outcome ≡ outcome_of turn → may_raise (recorded_in work) command turn ≡ false → ShowsPartition disk.content w'.held c.partition → SeenRow work turn
+    pub entered : (in_progress : InProgress) → t.actor_state.in_progress ≡ in_progress → (turn : Turned) (d : Scene) → outcome ≡ outcome_of turn → may_raise (recorded_in in_progress) command turn ≡ false → ShowsPartition disk.content w'.partition_state c.partition → SeenRow in_progress turn
         → IsChanged c.scene c.central.plain d → ShowsTier store meta w' c.partition d → IsCentral disk store meta opening w'
-    entered work keeps turn d is low held row changed shows =
+    entered in_progress keeps turn d is low partition_state row changed shows =
         let kept = subst (λ (k : InProgress). SeenRow k turn) (sym keeps) row in
-        let e = enters disk store meta w outcome w' c.partition t.list t.actor_state t.order turn c.partition y is held z.sees.there
-        (subst (λ (k : Command). seen_rows.Row c.partition t.order.broker.0 y (recorded_in t.actor_state.work) k turn c.partition) (sym is_command) kept) in
+        let e = enters disk store meta w outcome w' c.partition t.list t.actor_state t.order turn c.partition y is partition_state z.sees.there
+        (subst (λ (k : Command). seen_rows.Row c.partition t.order.broker.0 y (recorded_in t.actor_state.in_progress) k turn c.partition) (sym is_command) kept) in
         entered_central disk store meta opening w a outcome w' t c e d changed shows
-        (ap (λ (k : Command). may_raise (recorded_in t.actor_state.work) k turn) is_command ∙ (ap (λ (k : InProgress). may_raise (recorded_in k) command turn) keeps ∙ low))
-        (turn_recorded disk store meta w a outcome w' t c.recorded (own_recorded t.actor_state.work turn outcome is))
+        (ap (λ (k : Command). may_raise (recorded_in t.actor_state.in_progress) k turn) is_command ∙ (ap (λ (k : InProgress). may_raise (recorded_in k) command turn) keeps ∙ low))
+        (turn_recorded disk store meta w a outcome w' t c.recorded (own_recorded t.actor_state.in_progress turn outcome is))
         (few_after disk store meta opening w a outcome w' t c c.partition d shows)
 
     -- an answer after which the devices hold what they did
-    pub rests : (work : InProgress) → t.actor_state.work ≡ work → (answer : Answer) → outcome ≡ Answers answer → may_raise (recorded_in work) command (turned.Answers answer) ≡ false → w'.tier.broker_tiers ≡ w.tier.broker_tiers → TellsOn store meta w.tier.store w.tier.meta w'.tier.store w'.tier.meta
+    pub rests : (in_progress : InProgress) → t.actor_state.in_progress ≡ in_progress → (answer : Answer) → outcome ≡ Answers answer → may_raise (recorded_in in_progress) command (turned.Answers answer) ≡ false → w'.tier.broker_tiers ≡ w.tier.broker_tiers → TellsOn store meta w.tier.store w.tier.meta w'.tier.store w'.tier.meta
         → (store.content w'.tier.store).objects ≡ (store.content w.tier.store).objects → (meta.content w'.tier.meta).notes ≡ (meta.content w.tier.meta).notes
-        → ShowsPartition disk.content w'.held c.partition → SeenRow work (turned.Answers answer) → IsCentral disk store meta opening w'
-    rests work keeps answer is low broker_tiers is_observable objects notes held row =
-        entered work keeps (turned.Answers answer) (after Free c.scene.objects c.scene.notes z.broker_tier.view) is low held row
+        → ShowsPartition disk.content w'.partition_state c.partition → SeenRow in_progress (turned.Answers answer) → IsCentral disk store meta opening w'
+    rests in_progress keeps answer is low broker_tiers is_observable objects notes partition_state row =
+        entered in_progress keeps (turned.Answers answer) (after Free c.scene.objects c.scene.notes z.broker_tier.view) is low partition_state row
         (left_changed disk store meta opening w c t.place t.list t.actor_state t.order z)
         (shown Free c.scene.objects c.scene.notes z.broker_tier.view (broker_tiers ∙ same_broker_tiers disk store meta opening w c t.place t.list t.actor_state t.order z) is_observable
         (c.shows_tier.objects ∙ sym objects) (c.shows_tier.notes ∙ sym notes) (answered_free disk store meta opening w c t.place t.list t.actor_state t.order z outcome answer is))
 
     -- an answer after which the tier is as it was
-    pub stands : (work : InProgress) → t.actor_state.work ≡ work → (answer : Answer) → outcome ≡ Answers answer → may_raise (recorded_in work) command (turned.Answers answer) ≡ false → w'.tier ≡ w.tier → ShowsPartition disk.content w'.held c.partition → SeenRow work (turned.Answers answer)
+    pub stands : (in_progress : InProgress) → t.actor_state.in_progress ≡ in_progress → (answer : Answer) → outcome ≡ Answers answer → may_raise (recorded_in in_progress) command (turned.Answers answer) ≡ false → w'.tier ≡ w.tier → ShowsPartition disk.content w'.partition_state c.partition → SeenRow in_progress (turned.Answers answer)
         → IsCentral disk store meta opening w'
-    stands work keeps answer is low same held row =
-        rests work keeps answer is low (ap (λ (k : RemoteTier S M). k.broker_tiers) same) (ap (λ (k : RemoteTier S M). (store.content k.store).is_observable) same, ap (λ (k : RemoteTier S M). (meta.content k.meta).is_observable) same)
-        (ap (λ (k : RemoteTier S M). (store.content k.store).objects) same) (ap (λ (k : RemoteTier S M). (meta.content k.meta).notes) same) held row
+    stands in_progress keeps answer is low same partition_state row =
+        rests in_progress keeps answer is low (ap (λ (k : RemoteTier S M). k.broker_tiers) same) (ap (λ (k : RemoteTier S M). (store.content k.store).is_observable) same, ap (λ (k : RemoteTier S M). (meta.content k.meta).is_observable) same)
+        (ap (λ (k : RemoteTier S M). (store.content k.store).objects) same) (ap (λ (k : RemoteTier S M). (meta.content k.meta).notes) same) partition_state row
 
-    pub held_same : w'.held ≡ w.held → ShowsPartition disk.content w'.held c.partition
-    held_same same = subst (λ (k : PartitionState D). ShowsPartition disk.content k c.partition) (sym same) c.shows
+    pub partition_state_same : w'.partition_state ≡ w.partition_state → ShowsPartition disk.content w'.partition_state c.partition
+    partition_state_same same = subst (λ (k : PartitionState D). ShowsPartition disk.content k c.partition) (sym same) c.shows
 
     -- an actor's state that keeps what was recorded
     pub begun_shows : (g : StartSnapshot) → outcome ≡ Begins g → actor_state_shows outcome ≡ begun_of t.order.broker.0 g command
     begun_shows g is =
-        ap actor_state_shows is ∙ (ap (λ (o : Option Order). work_of o (Noted g)) z.next ∙ ap (begun_of t.order.broker.0 g) is_command)
+        ap actor_state_shows is ∙ (ap (λ (o : Option Order). tier_task_of o (Noted g)) z.next ∙ ap (begun_of t.order.broker.0 g) is_command)
 
     -- a first turn that refreshes the broker's view, of a command that the tier sees nothing of yet
-    pub begins : t.actor_state.work ≡ Idle → (g : StartSnapshot) → outcome ≡ Begins g → may_raise None command (turned.Begins g) ≡ false → begun_of t.order.broker.0 g command ≡ Free → SeenRow Idle (turned.Begins g) → RefreshesBroker meta w.tier t.order.broker.0 z.broker_tier w'.tier → w'.held ≡ w.held
+    pub begins : t.actor_state.in_progress ≡ Idle → (g : StartSnapshot) → outcome ≡ Begins g → may_raise None command (turned.Begins g) ≡ false → begun_of t.order.broker.0 g command ≡ Free → SeenRow Idle (turned.Begins g) → RefreshesBroker meta w.tier t.order.broker.0 z.broker_tier w'.tier → w'.partition_state ≡ w.partition_state
         → IsCentral disk store meta opening w'
     begins idle g is low free row r same =
-        let at = subst (λ (k : InProgressIsSeen). ShowsScene c.scene t.place t.order.broker.0 here k (store.content w.tier.store) (meta.content w.tier.meta) z.broker_tier.view) (ap (work_of (Some t.order)) idle)
+        let at = subst (λ (k : TierTask). ShowsScene c.scene t.place t.order.broker.0 here k (store.content w.tier.store) (meta.content w.tier.meta) z.broker_tier.view) (ap (tier_task_of (Some t.order)) idle)
         (shows_at disk store meta opening w c t.place t.list t.actor_state t.order z) in
         let k = refreshes store.content store.control meta.content meta.control w.tier.meta r.view c.scene c.central.plain t.place t.order.broker.0 here Free (store.content w.tier.store) at
         (few_now disk store meta opening w c) c.tier r.reads.view in
-        entered Idle idle (turned.Begins g) (after Free c.scene.objects c.scene.notes r.view) is low (held_same same) row k.1
+        entered Idle idle (turned.Begins g) (after Free c.scene.objects c.scene.notes r.view) is low (partition_state_same same) row k.1
         (shown Free c.scene.objects c.scene.notes r.view (ap (λ (u : RemoteTier S M). u.broker_tiers) r.after) (ap (λ (u : RemoteTier S M). (store.content u.store).is_observable) r.after, r.reads.content.is_observable)
         (c.shows_tier.objects ∙ sym (ap (λ (u : RemoteTier S M). (store.content u.store).objects) r.after)) (c.shows_tier.notes ∙ sym r.reads.content.notes) (begun_shows g is ∙ free))
 
     -- a leader's first turn on the tier
-    pub leads_first : t.actor_state.work ≡ Idle → ((turn : Turned) → may_raise None command turn ≡ false) → ((g : StartSnapshot) → begun_of t.order.broker.0 g command ≡ Free)
+    pub leads_first : t.actor_state.in_progress ≡ Idle → ((turn : Turned) → may_raise None command turn ≡ false) → ((g : StartSnapshot) → begun_of t.order.broker.0 g command ≡ Free)
         → ((turn : Turned) → LeadersRow c.partition y turn c.partition → SeenRow Idle turn) → (o : Outcome) → outcome ≡ o
-        → LeadersFirstRow meta w.held w.tier t.order.broker.0 z.x z.broker_tier o w'.tier → w'.held ≡ w.held → IsCentral disk store meta opening w'
-    leads_first idle low free row_of (Answers Down) is row same = stands Idle idle Down is (low (turned.Answers Down)) row.1 (held_same same) (row_of (turned.Answers Down) (row.0, refl))
+        → LeadersFirstRow meta w.partition_state w.tier t.order.broker.0 z.x z.broker_tier o w'.tier → w'.partition_state ≡ w.partition_state → IsCentral disk store meta opening w'
+    leads_first idle low free row_of (Answers Down) is row same = stands Idle idle Down is (low (turned.Answers Down)) row.1 (partition_state_same same) (row_of (turned.Answers Down) (row.0, refl))
     leads_first idle low free row_of (Answers NotLeader) is row same =
-        stands Idle idle NotLeader is (low (turned.Answers NotLeader)) row.2 (held_same same) (row_of (turned.Answers NotLeader) (row.0, row.1, refl))
+        stands Idle idle NotLeader is (low (turned.Answers NotLeader)) row.2 (partition_state_same same) (row_of (turned.Answers NotLeader) (row.0, row.1, refl))
     leads_first idle low free row_of (Answers MetaFault) is row same =
         rests Idle idle MetaFault is (low (turned.Answers MetaFault)) (ap (λ (u : RemoteTier S M). u.broker_tiers) row.2.after)
         (ap (λ (u : RemoteTier S M). (store.content u.store).is_observable) row.2.after, row.2.reads.content.is_observable)
-        (ap (λ (u : RemoteTier S M). (store.content u.store).objects) row.2.after) row.2.reads.content.notes (held_same same) (row_of (turned.Answers MetaFault) (row.0, row.1, refl))
+        (ap (λ (u : RemoteTier S M). (store.content u.store).objects) row.2.after) row.2.reads.content.notes (partition_state_same same) (row_of (turned.Answers MetaFault) (row.0, row.1, refl))
     leads_first idle low free row_of (Begins g) is row same =
         begins idle g is (low (turned.Begins g)) (free g)
-        (row_of (turned.Begins g) (row.0, row.1, notes_shown disk.content disk.control w.held c.partition t.order.broker.0 z.x z.s g z.sees row.0 row.2, refl)) row.3 same
+        (row_of (turned.Begins g) (row.0, row.1, notes_shown disk.content disk.control w.partition_state c.partition t.order.broker.0 z.x z.s g z.sees row.0 row.2, refl)) row.3 same
     leads_first idle low free row_of other is row same = elim row [ ]
 
     -- a turn that enters nothing
-    pub silent_dated : GoesAsRecorded t.actor_state.work outcome → GoesAsDated c.central.plain (slice_get t.list.orders t.actor_state.number) t.actor_state.work outcome → desk_seen w'.desk ≡ desk_seen w.desk
-        → w'.journal.items ≡ w.journal.items → ShowsPartition disk.content w'.held c.partition → (d : Scene) → IsChanged c.scene c.central.plain d → ShowsTier store meta w' c.partition d
+    pub silent_dated : GoesAsRecorded t.actor_state.in_progress outcome → GoesAsDated c.central.plain (slice_get t.list.orders t.actor_state.number) t.actor_state.in_progress outcome → desk_seen w'.desk ≡ desk_seen w.desk
+        → w'.journal.items ≡ w.journal.items → ShowsPartition disk.content w'.partition_state c.partition → (d : Scene) → IsChanged c.scene c.central.plain d → ShowsTier store meta w' c.partition d
         → IsCentral disk store meta opening w'
-    silent_dated goes far desk items held d changed shows =
-        silent_central disk store meta opening w w' c t.lists desk items held d changed shows (turn_recorded disk store meta w a outcome w' t c.recorded goes)
+    silent_dated goes far desk items partition_state d changed shows =
+        silent_central disk store meta opening w w' c t.lists desk items partition_state d changed shows (turn_recorded disk store meta w a outcome w' t c.recorded goes)
         (turn_dated disk store meta w a outcome w' t c.central.plain c.dated far)
         (few_after disk store meta opening w a outcome w' t c c.partition d shows)
 
     -- of a command that isn't a timestamp lookup
-    pub silent : GoesAsRecorded t.actor_state.work outcome → IsNoDate outcome → desk_seen w'.desk ≡ desk_seen w.desk → w'.journal.items ≡ w.journal.items → ShowsPartition disk.content w'.held c.partition → (d : Scene)
+    pub silent : GoesAsRecorded t.actor_state.in_progress outcome → IsNoDate outcome → desk_seen w'.desk ≡ desk_seen w.desk → w'.journal.items ≡ w.journal.items → ShowsPartition disk.content w'.partition_state c.partition → (d : Scene)
         → IsChanged c.scene c.central.plain d → ShowsTier store meta w' c.partition d → IsCentral disk store meta opening w'
-    silent goes none desk items held d changed shows =
-        silent_dated goes (undated c.central.plain (slice_get t.list.orders t.actor_state.number) t.actor_state.work outcome none) desk items held d changed shows
+    silent goes none desk items partition_state d changed shows =
+        silent_dated goes (undated c.central.plain (slice_get t.list.orders t.actor_state.number) t.actor_state.in_progress outcome none) desk items partition_state d changed shows
 
     pub untold : told_of t.list.actor t.actor_state.number t.order.command outcome ≡ [] → w'.journal.items ≡ w.journal.items
     untold none = t.entered ∙ (ap (λ (more : List JournalEntry). w.journal.items ++ more) none ∙ append-nil w.journal.items)

@@ -38,11 +38,11 @@ use Rattle.partition_commands.specs.declared.partition_state.Node.{Node}
 use Rattle.partition_commands.specs.declared.partition_state.PartitionState.{PartitionState}
 use Rattle.partition_commands.specs.Partition.{is_up, line_of, local_of}
 use Rattle.partition_commands.specs.Sound.{LeaderSound, SoundPartition}
-use Rattle.partition_commands.proofs.SoundLaw.{same, put_is, first_sound, later_sound, stays_held_sound}
+use Rattle.partition_commands.proofs.SoundLaw.{same, put_is, first_sound, later_sound, stays_partition_sound}
 use Rattle.partition_world.specs.declared.tier.BrokerTierState.{BrokerTierState}
 use Rattle.partition_world.specs.declared.tier.RemoteTier.{RemoteTier}
 use Rattle.partition_world.specs.declared.actor_state.Outcome.{Outcome}
-use Rattle.partition_world.specs.declared.actor_state.Outcome.TheVariants.{Answers, Begins, Chose, Seeks as Sought, Dates as Dated, Dooms, Rebuilds as Rebuilding}
+use Rattle.partition_world.specs.declared.actor_state.Outcome.TheVariants.{Answers, Begins, Chose, Seeks as Sought, Dates as Dated, ChoosesExpired, Rebuilds as Rebuilding}
 use Rattle.partition_world.specs.declared.actor_state.InProgress.{InProgress}
 use Rattle.partition_world.specs.declared.actor_state.InProgress.TheVariants.{Idle, Noted, Copies, Seeks, Dates, Expires, Rebuilds}
 use Rattle.partition_world.specs.Tier.{AtBrokerTier}
@@ -111,7 +111,7 @@ module _ {D S M : Type 0} (disk : DiskGhosts D) (store : StoreGhosts S) (meta : 
   choose_sound n p h t b x broker_tier g outcome h' t' at s (inl lost) = same n h h' lost.2 s
   choose_sound n p h t b x broker_tier g outcome h' t' at s (inr (keeps, inl level)) = same n h h' level.2 s
   choose_sound n p h t b x broker_tier g outcome h' t' at s (inr (keeps, inr reads)) =
-      put_is n h b reads.node h' reads.held s (alike_sound x reads.node (s.nodes b x at) (next_alike disk p b x broker_tier _ outcome reads.node reads.broker_tier_after reads.row))
+      put_is n h b reads.node h' reads.partition_state s (alike_sound x reads.node (s.nodes b x at) (next_alike disk p b x broker_tier _ outcome reads.node reads.broker_tier_after reads.row))
 
   trim_sound : (n : ℕ) (h : PartitionState D) (b : ℕ) (x : Node D) (broker_tier : BrokerTierState) (g : StartSnapshot) (keep : Keep) (outcome : Outcome) (h' : PartitionState D)
       → slice_get h.nodes b ≡ Some x → SoundPartition n h → TrimOnRow disk h b x broker_tier g keep outcome h' → SoundPartition n h'
@@ -127,7 +127,7 @@ module _ {D S M : Type 0} (disk : DiskGhosts D) (store : StoreGhosts S) (meta : 
 
   expires_sound : (n : ℕ) (p : PartitionId) (h : PartitionState D) (b : ℕ) (x : Node D) (broker_tier : BrokerTierState) (keep : Keep) (outcome : Outcome) (h' : PartitionState D) → slice_get h.nodes b ≡ Some x → is_up x ≡ true → SoundPartition n h
       → ExpiresBy p h x broker_tier keep outcome h' → SoundPartition n h'
-  expires_sound n p h b x broker_tier keep (Dooms segment) h' at up s w = same n h h' w.stays s
+  expires_sound n p h b x broker_tier keep (ChoosesExpired segment) h' at up s w = same n h h' w.stays s
   expires_sound n p h b x broker_tier keep (Answers Kept) h' at up s w = same n h h' w.2 s
   expires_sound n p h b x broker_tier keep (Answers answer) h' at up s w = raise_sound n h b x w.0 answer h' at up s w.2
   expires_sound n p h b x broker_tier keep other h' at up s w = elim w [ ]
@@ -216,8 +216,8 @@ module _ {D S M : Type 0} (disk : DiskGhosts D) (store : StoreGhosts S) (meta : 
   rebuilding_sound n p h t b x broker_tier g (Restart line) Join outcome h' t' at s w = later_sound disk.content disk.control n h b x Join (with_line g line) (turned.Answers w.0.0) h' at s w.0.2
   rebuilding_sound n p h t b x broker_tier g next other outcome h' t' at s w = elim w [ ]
 
-  row_sound : (n : ℕ) (p : PartitionId) (config : Config) (h : PartitionState D) (t : RemoteTier S M) (b : ℕ) (x : Node D) (broker_tier : BrokerTierState) (work : InProgress) (command : Command) (outcome : Outcome) (h' : PartitionState D) (t' : RemoteTier S M)
-      → slice_get h.nodes b ≡ Some x → SoundPartition n h → Row disk store meta p config h t b x broker_tier work command outcome h' t' → SoundPartition n h'
+  row_sound : (n : ℕ) (p : PartitionId) (config : Config) (h : PartitionState D) (t : RemoteTier S M) (b : ℕ) (x : Node D) (broker_tier : BrokerTierState) (in_progress : InProgress) (command : Command) (outcome : Outcome) (h' : PartitionState D) (t' : RemoteTier S M)
+      → slice_get h.nodes b ≡ Some x → SoundPartition n h → Row disk store meta p config h t b x broker_tier in_progress command outcome h' t' → SoundPartition n h'
   row_sound n p config h t b x broker_tier Idle command outcome h' t' at s w = begins_sound n h t b x broker_tier command outcome h' t' at s w
   row_sound n p config h t b x broker_tier (Noted g) command outcome h' t' at s w = recorded_sound n p config h t b x broker_tier g command outcome h' t' at s w
   row_sound n p config h t b x broker_tier (Copies g copy next) command outcome h' t' at s w = copying_sound n h t b x broker_tier g copy next command outcome h' t' s w
@@ -228,14 +228,14 @@ module _ {D S M : Type 0} (disk : DiskGhosts D) (store : StoreGhosts S) (meta : 
   row_sound n p config h t b x broker_tier (Rebuilds g next) command outcome h' t' at s w = rebuilding_sound n p h t b x broker_tier g next command outcome h' t' at s w
 
   -- each turn does
-  pub turn_sound : (n : ℕ) (p : PartitionId) (config : Config) (h : PartitionState D) (t : RemoteTier S M) (b : ℕ) (work : InProgress) (command : Command) (outcome : Outcome) (h' : PartitionState D) (t' : RemoteTier S M) → SoundPartition n h
-      → TurnRow disk store meta p config h t b work command outcome h' t' → SoundPartition n h'
-  turn_sound n p config h t b work command outcome h' t' s w =
-      let r = row_of disk store meta p config h t b work command outcome h' t' w in row_sound n p config h t b r.x r.broker_tier work command outcome h' t' r.at s r.row
+  pub turn_sound : (n : ℕ) (p : PartitionId) (config : Config) (h : PartitionState D) (t : RemoteTier S M) (b : ℕ) (in_progress : InProgress) (command : Command) (outcome : Outcome) (h' : PartitionState D) (t' : RemoteTier S M) → SoundPartition n h
+      → TurnRow disk store meta p config h t b in_progress command outcome h' t' → SoundPartition n h'
+  turn_sound n p config h t b in_progress command outcome h' t' s w =
+      let r = row_of disk store meta p config h t b in_progress command outcome h' t' w in row_sound n p config h t b r.x r.broker_tier in_progress command outcome h' t' r.at s r.row
 
   -- and running out of memory
   pub stays_sound : (n : ℕ) (h : PartitionState D) (t : RemoteTier S M) (b : ℕ) (h' : PartitionState D) (t' : RemoteTier S M) → SoundPartition n h → StaysSome disk store meta h t b h' t' → SoundPartition n h'
-  stays_sound n h t b h' t' s (inl k) = stays_held_sound disk.content disk.control n h h' s k.0
+  stays_sound n h t b h' t' s (inl k) = stays_partition_sound disk.content disk.control n h h' s k.0
   stays_sound n h t b h' t' s (inr k) = same n h h' k.0 s
 
   -- and each leaves as many tier states
@@ -371,8 +371,8 @@ module _ {D S M : Type 0} (disk : DiskGhosts D) (store : StoreGhosts S) (meta : 
   rebuilding_broker_tiers p h t b x broker_tier g (Restart line) Join outcome h' t' w = ap (λ (k : RemoteTier S M). length k.broker_tiers) w.1
   rebuilding_broker_tiers p h t b x broker_tier g next other outcome h' t' w = elim w [ ]
 
-  row_broker_tiers : (p : PartitionId) (config : Config) (h : PartitionState D) (t : RemoteTier S M) (b : ℕ) (x : Node D) (broker_tier : BrokerTierState) (work : InProgress) (command : Command) (outcome : Outcome) (h' : PartitionState D) (t' : RemoteTier S M)
-      → Row disk store meta p config h t b x broker_tier work command outcome h' t' → length t'.broker_tiers ≡ length t.broker_tiers
+  row_broker_tiers : (p : PartitionId) (config : Config) (h : PartitionState D) (t : RemoteTier S M) (b : ℕ) (x : Node D) (broker_tier : BrokerTierState) (in_progress : InProgress) (command : Command) (outcome : Outcome) (h' : PartitionState D) (t' : RemoteTier S M)
+      → Row disk store meta p config h t b x broker_tier in_progress command outcome h' t' → length t'.broker_tiers ≡ length t.broker_tiers
   row_broker_tiers p config h t b x broker_tier Idle command outcome h' t' w = begins_broker_tiers h t b x broker_tier command outcome h' t' w
   row_broker_tiers p config h t b x broker_tier (Noted g) command outcome h' t' w = recorded_broker_tiers p config h t b x broker_tier g command outcome h' t' w
   row_broker_tiers p config h t b x broker_tier (Copies g copy next) command outcome h' t' w = copying_broker_tiers h t b x broker_tier g copy next command outcome h' t' w
@@ -382,10 +382,10 @@ module _ {D S M : Type 0} (disk : DiskGhosts D) (store : StoreGhosts S) (meta : 
   row_broker_tiers p config h t b x broker_tier (Expires g segment next) command outcome h' t' w = deleting_broker_tiers h t b x g segment next command outcome h' t' w
   row_broker_tiers p config h t b x broker_tier (Rebuilds g next) command outcome h' t' w = rebuilding_broker_tiers p h t b x broker_tier g next command outcome h' t' w
 
-  pub turn_broker_tiers : (p : PartitionId) (config : Config) (h : PartitionState D) (t : RemoteTier S M) (b : ℕ) (work : InProgress) (command : Command) (outcome : Outcome) (h' : PartitionState D) (t' : RemoteTier S M)
-      → TurnRow disk store meta p config h t b work command outcome h' t' → length t'.broker_tiers ≡ length t.broker_tiers
-  turn_broker_tiers p config h t b work command outcome h' t' w =
-      let r = row_of disk store meta p config h t b work command outcome h' t' w in row_broker_tiers p config h t b r.x r.broker_tier work command outcome h' t' r.row
+  pub turn_broker_tiers : (p : PartitionId) (config : Config) (h : PartitionState D) (t : RemoteTier S M) (b : ℕ) (in_progress : InProgress) (command : Command) (outcome : Outcome) (h' : PartitionState D) (t' : RemoteTier S M)
+      → TurnRow disk store meta p config h t b in_progress command outcome h' t' → length t'.broker_tiers ≡ length t.broker_tiers
+  turn_broker_tiers p config h t b in_progress command outcome h' t' w =
+      let r = row_of disk store meta p config h t b in_progress command outcome h' t' w in row_broker_tiers p config h t b r.x r.broker_tier in_progress command outcome h' t' r.row
 
   halts_broker_tiers : (h : PartitionState D) (t : RemoteTier S M) (b : ℕ) (x : Node D) (broker_tier : BrokerTierState) (t' : RemoteTier S M) → HaltsSome disk store meta h t b x broker_tier t' → length t'.broker_tiers ≡ length t.broker_tiers
   halts_broker_tiers h t b x broker_tier t' (inl halts) = broker_tiers_put t b (record broker_tier { view = halts.view }) t' (ap (λ (k : RemoteTier S M). k.broker_tiers) halts.after)

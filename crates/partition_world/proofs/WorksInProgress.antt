@@ -30,7 +30,7 @@ use Rattle.partition_commands.specs.declared.partition_state.PartitionState.{Par
 use Rattle.partition_world.specs.declared.tier.BrokerTierState.{BrokerTierState}
 use Rattle.partition_world.specs.declared.tier.RemoteTier.{RemoteTier}
 use Rattle.partition_world.specs.declared.actor_state.Outcome.{Outcome}
-use Rattle.partition_world.specs.declared.actor_state.Outcome.TheVariants.{Answers, Begins, Chose, Goes, Seeks as Sought, Dates as Dated, Dooms, Deletes, Rebuilds as Rebuilding}
+use Rattle.partition_world.specs.declared.actor_state.Outcome.TheVariants.{Answers, Begins, Chose, Goes, Seeks as Sought, Dates as Dated, ChoosesExpired, Deletes, Rebuilds as Rebuilding}
 use Rattle.partition_world.specs.declared.actor_state.ActorState.{ActorState}
 use Rattle.partition_world.specs.declared.actor_state.InProgress.{InProgress}
 use Rattle.partition_world.specs.declared.actor_state.InProgress.TheVariants.{Idle, Noted, Copies, Seeks, Dates, Expires, Rebuilds}
@@ -66,7 +66,7 @@ dates_take (Offset (At ts)) g cursor next k = refl
 dates_take (Offset other) g cursor next k = absurd k
 dates_take other g cursor next k = absurd k
 
-pub works_take : (command : Command) (work : InProgress) → work ≢ Idle → IsProgressOf command work → IsTrue (takes_memory command)
+pub works_take : (command : Command) (in_progress : InProgress) → in_progress ≢ Idle → IsProgressOf command in_progress → IsTrue (takes_memory command)
 works_take command Idle busy k = absurd (busy refl)
 works_take command (Noted g) busy k = recorded_takes command g k
 works_take command (Copies g copy next) busy k = ap takes_memory k
@@ -76,7 +76,7 @@ works_take command (Expires g segment next) busy k = ap takes_memory k
 works_take command (Rebuilds g next) busy k = ap takes_memory k
 
 -- a copy, an expiry and a join continue with what is for them as before
-moved_for : (command : Command) (work : InProgress) (next : CopyStep) → IsProgressOf command work → IsProgressOf command (moved work next)
+moved_for : (command : Command) (in_progress : InProgress) (next : CopyStep) → IsProgressOf command in_progress → IsProgressOf command (moved in_progress next)
 moved_for command Idle next k = k
 moved_for command (Noted g) next k = k
 moved_for command (Copies g c before) next k = k
@@ -85,7 +85,7 @@ moved_for command (Dates g cursor before) next k = k
 moved_for command (Expires g segment before) next k = k
 moved_for command (Rebuilds g before) next k = k
 
-deleting_for : (command : Command) (work : InProgress) (next : Deletion) → IsProgressOf command work → IsProgressOf command (deleting work next)
+deleting_for : (command : Command) (in_progress : InProgress) (next : Deletion) → IsProgressOf command in_progress → IsProgressOf command (deleting in_progress next)
 deleting_for command Idle next k = k
 deleting_for command (Noted g) next k = k
 deleting_for command (Copies g c before) next k = k
@@ -138,8 +138,8 @@ module _ {D S M : Type 0} (disk : DiskGhosts D) (store : StoreGhosts S) (meta : 
   chosen_by p config h t b x broker_tier g (Offset (At ts)) copy h' t' w = elim w [ ]
   chosen_by p config h t b x broker_tier g other copy h' t' w = let e = w.0.1 in absurd (cc (e))
 
-  chosen_for : (p : PartitionId) (config : Config) (h : PartitionState D) (t : RemoteTier S M) (b : ℕ) (x : Node D) (broker_tier : BrokerTierState) (work : InProgress) (command : Command) (copy : Copied) (h' : PartitionState D) (t' : RemoteTier S M)
-      → Row disk store meta p config h t b x broker_tier work command (Chose copy) h' t' → IsProgressOf command work → IsProgressOf command (chosen work copy)
+  chosen_for : (p : PartitionId) (config : Config) (h : PartitionState D) (t : RemoteTier S M) (b : ℕ) (x : Node D) (broker_tier : BrokerTierState) (in_progress : InProgress) (command : Command) (copy : Copied) (h' : PartitionState D) (t' : RemoteTier S M)
+      → Row disk store meta p config h t b x broker_tier in_progress command (Chose copy) h' t' → IsProgressOf command in_progress → IsProgressOf command (chosen in_progress copy)
   chosen_for p config h t b x broker_tier (Noted g) command copy h' t' w k = chosen_by p config h t b x broker_tier g command copy h' t' w
   chosen_for p config h t b x broker_tier Idle command copy h' t' w k = k
   chosen_for p config h t b x broker_tier (Copies g c next) command copy h' t' w k = k
@@ -150,7 +150,7 @@ module _ {D S M : Type 0} (disk : DiskGhosts D) (store : StoreGhosts S) (meta : 
 
   -- an expiry alone takes up a segment
   expired_segment_by : (p : PartitionId) (config : Config) (h : PartitionState D) (t : RemoteTier S M) (b : ℕ) (x : Node D) (broker_tier : BrokerTierState) (g : StartSnapshot) (command : Command) (segment : ExpiredSegment) (h' : PartitionState D) (t' : RemoteTier S M)
-      → ContinuedRow disk store meta p config h t b x broker_tier g command (Dooms segment) h' t' → command ≡ Expire
+      → ContinuedRow disk store meta p config h t b x broker_tier g command (ChoosesExpired segment) h' t' → command ≡ Expire
   expired_segment_by p config h t b x broker_tier g Expire segment h' t' w = refl
   expired_segment_by p config h t b x broker_tier g Copy segment h' t' (inl lost) = let e = lost.1 in absurd (cc (e))
   expired_segment_by p config h t b x broker_tier g Copy segment h' t' (inr (keeps, inl level)) = let e = level.1 in absurd (cc (e))
@@ -164,8 +164,8 @@ module _ {D S M : Type 0} (disk : DiskGhosts D) (store : StoreGhosts S) (meta : 
   expired_segment_by p config h t b x broker_tier g (Offset (At ts)) segment h' t' w = elim w [ ]
   expired_segment_by p config h t b x broker_tier g other segment h' t' w = let e = w.0.1 in absurd (cc (e))
 
-  expired_segment_for : (p : PartitionId) (config : Config) (h : PartitionState D) (t : RemoteTier S M) (b : ℕ) (x : Node D) (broker_tier : BrokerTierState) (work : InProgress) (command : Command) (segment : ExpiredSegment) (h' : PartitionState D) (t' : RemoteTier S M)
-      → Row disk store meta p config h t b x broker_tier work command (Dooms segment) h' t' → IsProgressOf command work → IsProgressOf command (expired_segment work segment)
+  expired_segment_for : (p : PartitionId) (config : Config) (h : PartitionState D) (t : RemoteTier S M) (b : ℕ) (x : Node D) (broker_tier : BrokerTierState) (in_progress : InProgress) (command : Command) (segment : ExpiredSegment) (h' : PartitionState D) (t' : RemoteTier S M)
+      → Row disk store meta p config h t b x broker_tier in_progress command (ChoosesExpired segment) h' t' → IsProgressOf command in_progress → IsProgressOf command (expired_segment in_progress segment)
   expired_segment_for p config h t b x broker_tier (Noted g) command segment h' t' w k = expired_segment_by p config h t b x broker_tier g command segment h' t' w
   expired_segment_for p config h t b x broker_tier Idle command segment h' t' w k = k
   expired_segment_for p config h t b x broker_tier (Copies g c next) command segment h' t' w k = k
@@ -189,8 +189,8 @@ module _ {D S M : Type 0} (disk : DiskGhosts D) (store : StoreGhosts S) (meta : 
   rebuilding_by p config h t b x broker_tier g (Offset (At ts)) next h' t' w = elim w [ ]
   rebuilding_by p config h t b x broker_tier g other next h' t' w = let e = w.0.1 in absurd (cc (e))
 
-  rebuilding_for : (p : PartitionId) (config : Config) (h : PartitionState D) (t : RemoteTier S M) (b : ℕ) (x : Node D) (broker_tier : BrokerTierState) (work : InProgress) (command : Command) (next : Rebuild) (h' : PartitionState D) (t' : RemoteTier S M)
-      → Row disk store meta p config h t b x broker_tier work command (Rebuilding next) h' t' → IsProgressOf command work → IsProgressOf command (rebuilding work next)
+  rebuilding_for : (p : PartitionId) (config : Config) (h : PartitionState D) (t : RemoteTier S M) (b : ℕ) (x : Node D) (broker_tier : BrokerTierState) (in_progress : InProgress) (command : Command) (next : Rebuild) (h' : PartitionState D) (t' : RemoteTier S M)
+      → Row disk store meta p config h t b x broker_tier in_progress command (Rebuilding next) h' t' → IsProgressOf command in_progress → IsProgressOf command (rebuilding in_progress next)
   rebuilding_for p config h t b x broker_tier (Noted g) command next h' t' w k = rebuilding_by p config h t b x broker_tier g command next h' t' w
   rebuilding_for p config h t b x broker_tier Idle command next h' t' w k = k
   rebuilding_for p config h t b x broker_tier (Copies g c before) command next h' t' w k = k
@@ -221,8 +221,8 @@ module _ {D S M : Type 0} (disk : DiskGhosts D) (store : StoreGhosts S) (meta : 
   seeking_by p h t b x broker_tier g before (Fetch offset limit) next h' t' w = w.0.2
   seeking_by p h t b x broker_tier g before other next h' t' w = elim w [ ]
 
-  sought_for : (p : PartitionId) (config : Config) (h : PartitionState D) (t : RemoteTier S M) (b : ℕ) (x : Node D) (broker_tier : BrokerTierState) (work : InProgress) (command : Command) (next : Search) (h' : PartitionState D) (t' : RemoteTier S M)
-      → Row disk store meta p config h t b x broker_tier work command (Sought next) h' t' → IsProgressOf command work → IsProgressOf command (sought work next)
+  sought_for : (p : PartitionId) (config : Config) (h : PartitionState D) (t : RemoteTier S M) (b : ℕ) (x : Node D) (broker_tier : BrokerTierState) (in_progress : InProgress) (command : Command) (next : Search) (h' : PartitionState D) (t' : RemoteTier S M)
+      → Row disk store meta p config h t b x broker_tier in_progress command (Sought next) h' t' → IsProgressOf command in_progress → IsProgressOf command (sought in_progress next)
   sought_for p config h t b x broker_tier (Noted g) command next h' t' w k = sought_by p config h t b x broker_tier g command next h' t' w
   sought_for p config h t b x broker_tier (Seeks g before) command next h' t' w k = seeking_by p h t b x broker_tier g before command next h' t' w
   sought_for p config h t b x broker_tier Idle command next h' t' w k = k
@@ -255,10 +255,10 @@ module _ {D S M : Type 0} (disk : DiskGhosts D) (store : StoreGhosts S) (meta : 
   dating_by p h t b x broker_tier g was before (Offset (At ts)) cursor next h' t' w = set_of _ cursor next w.1
   dating_by p h t b x broker_tier g was before other cursor next h' t' w = elim w [ ]
 
-  dated_for : (p : PartitionId) (config : Config) (h : PartitionState D) (t : RemoteTier S M) (b : ℕ) (x : Node D) (broker_tier : BrokerTierState) (work : InProgress)
+  dated_for : (p : PartitionId) (config : Config) (h : PartitionState D) (t : RemoteTier S M) (b : ℕ) (x : Node D) (broker_tier : BrokerTierState) (in_progress : InProgress)
       (command : Command) (cursor : ℕ) (next : Dating) (h' : PartitionState D) (t' : RemoteTier S M)
-      → Row disk store meta p config h t b x broker_tier work command (Dated cursor next) h' t' → IsProgressOf command work
-      → IsProgressOf command (dated work cursor next)
+      → Row disk store meta p config h t b x broker_tier in_progress command (Dated cursor next) h' t' → IsProgressOf command in_progress
+      → IsProgressOf command (dated in_progress cursor next)
   dated_for p config h t b x broker_tier (Noted g) command cursor next h' t' w k = dated_by p config h t b x broker_tier g command cursor next h' t' w
   dated_for p config h t b x broker_tier (Dates g was before) command cursor next h' t' w k =
       dating_by p h t b x broker_tier g was before command cursor next h' t' w
@@ -269,44 +269,44 @@ module _ {D S M : Type 0} (disk : DiskGhosts D) (store : StoreGhosts S) (meta : 
   dated_for p config h t b x broker_tier (Rebuilds g before) command cursor next h' t' w k = k
 
   -- the actor's state has what the next turn of its list needs
-  pub work_after : (p : PartitionId) (config : Config) (h : PartitionState D) (t : RemoteTier S M) (h' : PartitionState D) (t' : RemoteTier S M) (l : ActorList) (actor_state : ActorState) (order : Order) (outcome : Outcome) (later : Order)
-      → slice_get l.orders actor_state.number ≡ Some order → IsProgressOf order.command actor_state.work → TurnRow disk store meta p config h t order.broker.0 actor_state.work order.command outcome h' t'
-      → slice_get l.orders (actor_state_after actor_state outcome).number ≡ Some later → IsProgressOf later.command (actor_state_after actor_state outcome).work
-  work_after p config h t h' t' l actor_state order (Answers answer) later at k row to = idle_for later.command
-  work_after p config h t h' t' l actor_state order (Begins g) later at k row to =
+  pub in_progress_after : (p : PartitionId) (config : Config) (h : PartitionState D) (t : RemoteTier S M) (h' : PartitionState D) (t' : RemoteTier S M) (l : ActorList) (actor_state : ActorState) (order : Order) (outcome : Outcome) (later : Order)
+      → slice_get l.orders actor_state.number ≡ Some order → IsProgressOf order.command actor_state.in_progress → TurnRow disk store meta p config h t order.broker.0 actor_state.in_progress order.command outcome h' t'
+      → slice_get l.orders (actor_state_after actor_state outcome).number ≡ Some later → IsProgressOf later.command (actor_state_after actor_state outcome).in_progress
+  in_progress_after p config h t h' t' l actor_state order (Answers answer) later at k row to = idle_for later.command
+  in_progress_after p config h t h' t' l actor_state order (Begins g) later at k row to =
       let same : order ≡ later = cc (at, to) in
-      let idle = begins_idle disk store meta p config h t order.broker.0 actor_state.work order.command g h' t' row in
-      let r = row_of disk store meta p config h t order.broker.0 actor_state.work order.command (Begins g) h' t' row in
+      let idle = begins_idle disk store meta p config h t order.broker.0 actor_state.in_progress order.command g h' t' row in
+      let r = row_of disk store meta p config h t order.broker.0 actor_state.in_progress order.command (Begins g) h' t' row in
       subst (λ (o : Order). HasSecondTurn o.command g) same (begun_for h t order.broker.0 r.x r.broker_tier order.command g h' t'
       (subst (λ (w : InProgress). Row disk store meta p config h t order.broker.0 r.x r.broker_tier w order.command (Begins g) h' t') idle r.row))
-  work_after p config h t h' t' l actor_state order (Chose copy) later at k row to =
+  in_progress_after p config h t h' t' l actor_state order (Chose copy) later at k row to =
       let same : order ≡ later = cc (at, to) in
-      let r = row_of disk store meta p config h t order.broker.0 actor_state.work order.command (Chose copy) h' t' row in
-      subst (λ (o : Order). IsProgressOf o.command (chosen actor_state.work copy)) same
-      (chosen_for p config h t order.broker.0 r.x r.broker_tier actor_state.work order.command copy h' t' r.row k)
-  work_after p config h t h' t' l actor_state order (Goes next) later at k row to =
+      let r = row_of disk store meta p config h t order.broker.0 actor_state.in_progress order.command (Chose copy) h' t' row in
+      subst (λ (o : Order). IsProgressOf o.command (chosen actor_state.in_progress copy)) same
+      (chosen_for p config h t order.broker.0 r.x r.broker_tier actor_state.in_progress order.command copy h' t' r.row k)
+  in_progress_after p config h t h' t' l actor_state order (Goes next) later at k row to =
       let same : order ≡ later = cc (at, to) in
-      subst (λ (o : Order). IsProgressOf o.command (moved actor_state.work next)) same (moved_for order.command actor_state.work next k)
-  work_after p config h t h' t' l actor_state order (Dooms segment) later at k row to =
+      subst (λ (o : Order). IsProgressOf o.command (moved actor_state.in_progress next)) same (moved_for order.command actor_state.in_progress next k)
+  in_progress_after p config h t h' t' l actor_state order (ChoosesExpired segment) later at k row to =
       let same : order ≡ later = cc (at, to) in
-      let r = row_of disk store meta p config h t order.broker.0 actor_state.work order.command (Dooms segment) h' t' row in
-      subst (λ (o : Order). IsProgressOf o.command (expired_segment actor_state.work segment)) same
-      (expired_segment_for p config h t order.broker.0 r.x r.broker_tier actor_state.work order.command segment h' t' r.row k)
-  work_after p config h t h' t' l actor_state order (Deletes next) later at k row to =
+      let r = row_of disk store meta p config h t order.broker.0 actor_state.in_progress order.command (ChoosesExpired segment) h' t' row in
+      subst (λ (o : Order). IsProgressOf o.command (expired_segment actor_state.in_progress segment)) same
+      (expired_segment_for p config h t order.broker.0 r.x r.broker_tier actor_state.in_progress order.command segment h' t' r.row k)
+  in_progress_after p config h t h' t' l actor_state order (Deletes next) later at k row to =
       let same : order ≡ later = cc (at, to) in
-      subst (λ (o : Order). IsProgressOf o.command (deleting actor_state.work next)) same (deleting_for order.command actor_state.work next k)
-  work_after p config h t h' t' l actor_state order (Rebuilding next) later at k row to =
+      subst (λ (o : Order). IsProgressOf o.command (deleting actor_state.in_progress next)) same (deleting_for order.command actor_state.in_progress next k)
+  in_progress_after p config h t h' t' l actor_state order (Rebuilding next) later at k row to =
       let same : order ≡ later = cc (at, to) in
-      let r = row_of disk store meta p config h t order.broker.0 actor_state.work order.command (Rebuilding next) h' t' row in
-      subst (λ (o : Order). IsProgressOf o.command (rebuilding actor_state.work next)) same
-      (rebuilding_for p config h t order.broker.0 r.x r.broker_tier actor_state.work order.command next h' t' r.row k)
-  work_after p config h t h' t' l actor_state order (Sought next) later at k row to =
+      let r = row_of disk store meta p config h t order.broker.0 actor_state.in_progress order.command (Rebuilding next) h' t' row in
+      subst (λ (o : Order). IsProgressOf o.command (rebuilding actor_state.in_progress next)) same
+      (rebuilding_for p config h t order.broker.0 r.x r.broker_tier actor_state.in_progress order.command next h' t' r.row k)
+  in_progress_after p config h t h' t' l actor_state order (Sought next) later at k row to =
       let same : order ≡ later = cc (at, to) in
-      let r = row_of disk store meta p config h t order.broker.0 actor_state.work order.command (Sought next) h' t' row in
-      subst (λ (o : Order). IsProgressOf o.command (sought actor_state.work next)) same
-      (sought_for p config h t order.broker.0 r.x r.broker_tier actor_state.work order.command next h' t' r.row k)
-  work_after p config h t h' t' l actor_state order (Dated cursor next) later at k row to =
+      let r = row_of disk store meta p config h t order.broker.0 actor_state.in_progress order.command (Sought next) h' t' row in
+      subst (λ (o : Order). IsProgressOf o.command (sought actor_state.in_progress next)) same
+      (sought_for p config h t order.broker.0 r.x r.broker_tier actor_state.in_progress order.command next h' t' r.row k)
+  in_progress_after p config h t h' t' l actor_state order (Dated cursor next) later at k row to =
       let same : order ≡ later = cc (at, to) in
-      let r = row_of disk store meta p config h t order.broker.0 actor_state.work order.command (Dated cursor next) h' t' row in
-      subst (λ (o : Order). IsProgressOf o.command (dated actor_state.work cursor next)) same
-      (dated_for p config h t order.broker.0 r.x r.broker_tier actor_state.work order.command cursor next h' t' r.row k)
+      let r = row_of disk store meta p config h t order.broker.0 actor_state.in_progress order.command (Dated cursor next) h' t' row in
+      subst (λ (o : Order). IsProgressOf o.command (dated actor_state.in_progress cursor next)) same
+      (dated_for p config h t order.broker.0 r.x r.broker_tier actor_state.in_progress order.command cursor next h' t' r.row k)

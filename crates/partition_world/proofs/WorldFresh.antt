@@ -34,10 +34,10 @@ replicated zero x i y e = absurd cc
 replicated (suc n) x zero y e = cc
 replicated (suc n) x (suc i) y e = replicated n x i y e
 
-pub fresh_works : (lists : List ActorList) (n : ℕ) (desk : List ActorState) → desk ≡ replicate n fresh_actor_state → AreInProgress lists desk
-fresh_works lists n desk is = λ i l actor_state order at to next.
+pub fresh_in_progress : (lists : List ActorList) (n : ℕ) (desk : List ActorState) → desk ≡ replicate n fresh_actor_state → AreInProgress lists desk
+fresh_in_progress lists n desk is = λ i l actor_state order at to next.
     let same : fresh_actor_state ≡ actor_state = replicated n fresh_actor_state i actor_state (ap (λ (k : List ActorState). slice_get k i) (sym is) ∙ to) in
-    subst (λ (s : ActorState). IsProgressOf order.command s.work) same (idle_for order.command)
+    subst (λ (s : ActorState). IsProgressOf order.command s.in_progress) same (idle_for order.command)
 
 -- no actor's state waits, and no broker has tried a copy
 none_wait : (n : ℕ) → waiting (replicate n fresh_actor_state) ≡ 0

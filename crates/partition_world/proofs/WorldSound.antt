@@ -31,7 +31,7 @@ use Rattle.laws_partition.proofs.Standing.{map_set, map_get}
 use Rattle.partition_world.specs.declared.tier.BrokerTierState.{BrokerTierState}
 use Rattle.partition_world.specs.declared.tier.RemoteTier.{RemoteTier}
 use Rattle.partition_world.specs.declared.actor_state.Outcome.{Outcome}
-use Rattle.partition_world.specs.declared.actor_state.Outcome.TheVariants.{Answers, Begins, Chose, Goes, Seeks as Sought, Dates as Dated, Dooms, Deletes, Rebuilds as Rebuilding}
+use Rattle.partition_world.specs.declared.actor_state.Outcome.TheVariants.{Answers, Begins, Chose, Goes, Seeks as Sought, Dates as Dated, ChoosesExpired, Deletes, Rebuilds as Rebuilding}
 use Rattle.partition_world.specs.declared.actor_state.ActorState.{ActorState}
 use Rattle.partition_world.specs.declared.actor_state.InProgress.{InProgress}
 use Rattle.partition_world.specs.declared.actor_state.InProgress.TheVariants.{Idle, Noted, Copies, Seeks, Dates, Expires, Rebuilds}
@@ -41,12 +41,12 @@ use Rattle.partition_world.specs.Turns.{TurnRow}
 use Rattle.partition_world.proofs.Begins.{begins_idle}
 use Rattle.partition_world.proofs.TurnSound.{turn_sound, stays_sound, turn_broker_tiers, stays_broker_tiers}
 use Rattle.partition_world.proofs.BrokerTierStates.{set_same}
-use Rattle.partition_world.proofs.WorksInProgress.{work_after}
+use Rattle.partition_world.proofs.WorksInProgress.{in_progress_after}
 use Rattle.partition_world.specs.Reaches.{HasAnswered}
 use Rattle.partition_world.proofs.Halting.{StaysSome}
 
 -- what was recorded stays
-pub chosen_seen : (work : InProgress) (copy : Copied) → recorded_in (chosen work copy) ≡ recorded_in work
+pub chosen_seen : (in_progress : InProgress) (copy : Copied) → recorded_in (chosen in_progress copy) ≡ recorded_in in_progress
 chosen_seen Idle copy = refl
 chosen_seen (Noted g) copy = refl
 chosen_seen (Copies g c next) copy = refl
@@ -55,7 +55,7 @@ chosen_seen (Dates g cursor next) copy = refl
 chosen_seen (Expires g segment next) copy = refl
 chosen_seen (Rebuilds g next) copy = refl
 
-pub moved_seen : (work : InProgress) (next : CopyStep) → recorded_in (moved work next) ≡ recorded_in work
+pub moved_seen : (in_progress : InProgress) (next : CopyStep) → recorded_in (moved in_progress next) ≡ recorded_in in_progress
 moved_seen Idle next = refl
 moved_seen (Noted g) next = refl
 moved_seen (Copies g c before) next = refl
@@ -64,7 +64,7 @@ moved_seen (Dates g cursor before) next = refl
 moved_seen (Expires g segment before) next = refl
 moved_seen (Rebuilds g before) next = refl
 
-pub sought_seen : (work : InProgress) (next : Search) → recorded_in (sought work next) ≡ recorded_in work
+pub sought_seen : (in_progress : InProgress) (next : Search) → recorded_in (sought in_progress next) ≡ recorded_in in_progress
 sought_seen Idle next = refl
 sought_seen (Noted g) next = refl
 sought_seen (Copies g c before) next = refl
@@ -73,7 +73,7 @@ sought_seen (Dates g cursor before) next = refl
 sought_seen (Expires g segment before) next = refl
 sought_seen (Rebuilds g before) next = refl
 
-pub dated_seen : (work : InProgress) (cursor : ℕ) (next : Dating) → recorded_in (dated work cursor next) ≡ recorded_in work
+pub dated_seen : (in_progress : InProgress) (cursor : ℕ) (next : Dating) → recorded_in (dated in_progress cursor next) ≡ recorded_in in_progress
 dated_seen Idle cursor next = refl
 dated_seen (Noted g) cursor next = refl
 dated_seen (Copies g c before) cursor next = refl
@@ -82,7 +82,7 @@ dated_seen (Dates g was before) cursor next = refl
 dated_seen (Expires g segment before) cursor next = refl
 dated_seen (Rebuilds g before) cursor next = refl
 
-pub expired_segment_seen : (work : InProgress) (segment : ExpiredSegment) → recorded_in (expired_segment work segment) ≡ recorded_in work
+pub expired_segment_seen : (in_progress : InProgress) (segment : ExpiredSegment) → recorded_in (expired_segment in_progress segment) ≡ recorded_in in_progress
 expired_segment_seen Idle segment = refl
 expired_segment_seen (Noted g) segment = refl
 expired_segment_seen (Copies g c before) segment = refl
@@ -91,7 +91,7 @@ expired_segment_seen (Dates g cursor before) segment = refl
 expired_segment_seen (Expires g before next) segment = refl
 expired_segment_seen (Rebuilds g before) segment = refl
 
-pub deleting_seen : (work : InProgress) (next : Deletion) → recorded_in (deleting work next) ≡ recorded_in work
+pub deleting_seen : (in_progress : InProgress) (next : Deletion) → recorded_in (deleting in_progress next) ≡ recorded_in in_progress
 deleting_seen Idle next = refl
 deleting_seen (Noted g) next = refl
 deleting_seen (Copies g c before) next = refl
@@ -100,7 +100,7 @@ deleting_seen (Dates g cursor before) next = refl
 deleting_seen (Expires g segment before) next = refl
 deleting_seen (Rebuilds g before) next = refl
 
-pub rebuilding_seen : (work : InProgress) (next : Rebuild) → recorded_in (rebuilding work next) ≡ recorded_in work
+pub rebuilding_seen : (in_progress : InProgress) (next : Rebuild) → recorded_in (rebuilding in_progress next) ≡ recorded_in in_progress
 rebuilding_seen Idle next = refl
 rebuilding_seen (Noted g) next = refl
 rebuilding_seen (Copies g c before) next = refl
@@ -135,66 +135,66 @@ module _ {D S M : Type 0} (disk : DiskGhosts D) (store : StoreGhosts S) (meta : 
   -- the entries that are left after a turn
   pub entries_after : (lists : List ActorList) (p : PartitionId) (config : Config) (h : PartitionState D) (t : RemoteTier S M) (h' : PartitionState D) (t' : RemoteTier S M) (desk : List ActorState) (place : ℕ) (l : ActorList) (actor_state : ActorState) (order : Order) (outcome : Outcome)
       → slice_get lists place ≡ Some l → slice_get desk place ≡ Some actor_state → actor_state.number < length l.orders
-      → TurnRow disk store meta p config h t order.broker.0 actor_state.work order.command outcome h' t'
+      → TurnRow disk store meta p config h t order.broker.0 actor_state.in_progress order.command outcome h' t'
       → turns_left lists (desk_seen (slice_set desk place (actor_state_after actor_state outcome))) + told_count outcome ≤ turns_left lists (desk_seen desk)
   entries_after lists p config h t h' t' desk place l actor_state order (Answers answer) at to lt row =
       let less = turns_less lists (desk_seen desk) place l (actor_state_seen actor_state) (seen.Answers answer) at (map_get actor_state_seen desk place actor_state to) lt tt in
       rw (map_set actor_state_seen desk place (actor_state_after actor_state (Answers answer))) less
   entries_after lists p config h t h' t' desk place l actor_state order (Begins g) at to lt row =
-      let idle = begins_idle disk store meta p config h t order.broker.0 actor_state.work order.command g h' t' row in
+      let idle = begins_idle disk store meta p config h t order.broker.0 actor_state.in_progress order.command g h' t' row in
       let less = turns_less lists (desk_seen desk) place l (actor_state_seen actor_state) (seen.Begins g) at (map_get actor_state_seen desk place actor_state to) lt (ap recorded_in idle) in
       rw (map_set actor_state_seen desk place (actor_state_after actor_state (Begins g))) less
   entries_after lists p config h t h' t' desk place l actor_state order (Chose copy) at to lt row =
-      let same = seen_stays desk place actor_state (actor_state_after actor_state (Chose copy)) to (ap (λ (o : Option StartSnapshot). record { number = actor_state.number; snapshot = o }) (chosen_seen actor_state.work copy)) in
+      let same = seen_stays desk place actor_state (actor_state_after actor_state (Chose copy)) to (ap (λ (o : Option StartSnapshot). record { number = actor_state.number; snapshot = o }) (chosen_seen actor_state.in_progress copy)) in
       omega (arith, ap (λ k. turns_left lists k) same)
   entries_after lists p config h t h' t' desk place l actor_state order (Goes next) at to lt row =
-      let same = seen_stays desk place actor_state (actor_state_after actor_state (Goes next)) to (ap (λ (o : Option StartSnapshot). record { number = actor_state.number; snapshot = o }) (moved_seen actor_state.work next)) in
+      let same = seen_stays desk place actor_state (actor_state_after actor_state (Goes next)) to (ap (λ (o : Option StartSnapshot). record { number = actor_state.number; snapshot = o }) (moved_seen actor_state.in_progress next)) in
       omega (arith, ap (λ k. turns_left lists k) same)
   entries_after lists p config h t h' t' desk place l actor_state order (Sought next) at to lt row =
-      let same = seen_stays desk place actor_state (actor_state_after actor_state (Sought next)) to (ap (λ (o : Option StartSnapshot). record { number = actor_state.number; snapshot = o }) (sought_seen actor_state.work next)) in
+      let same = seen_stays desk place actor_state (actor_state_after actor_state (Sought next)) to (ap (λ (o : Option StartSnapshot). record { number = actor_state.number; snapshot = o }) (sought_seen actor_state.in_progress next)) in
       omega (arith, ap (λ k. turns_left lists k) same)
   entries_after lists p config h t h' t' desk place l actor_state order (Dated cursor next) at to lt row =
       let same =
       seen_stays desk place actor_state (actor_state_after actor_state (Dated cursor next)) to
-      (ap (λ (o : Option StartSnapshot). record { number = actor_state.number; snapshot = o }) (dated_seen actor_state.work cursor next)) in
+      (ap (λ (o : Option StartSnapshot). record { number = actor_state.number; snapshot = o }) (dated_seen actor_state.in_progress cursor next)) in
       omega (arith, ap (λ k. turns_left lists k) same)
-  entries_after lists p config h t h' t' desk place l actor_state order (Dooms segment) at to lt row =
-      let same = seen_stays desk place actor_state (actor_state_after actor_state (Dooms segment)) to (ap (λ (o : Option StartSnapshot). record { number = actor_state.number; snapshot = o }) (expired_segment_seen actor_state.work segment)) in
+  entries_after lists p config h t h' t' desk place l actor_state order (ChoosesExpired segment) at to lt row =
+      let same = seen_stays desk place actor_state (actor_state_after actor_state (ChoosesExpired segment)) to (ap (λ (o : Option StartSnapshot). record { number = actor_state.number; snapshot = o }) (expired_segment_seen actor_state.in_progress segment)) in
       omega (arith, ap (λ k. turns_left lists k) same)
   entries_after lists p config h t h' t' desk place l actor_state order (Deletes next) at to lt row =
-      let same = seen_stays desk place actor_state (actor_state_after actor_state (Deletes next)) to (ap (λ (o : Option StartSnapshot). record { number = actor_state.number; snapshot = o }) (deleting_seen actor_state.work next)) in
+      let same = seen_stays desk place actor_state (actor_state_after actor_state (Deletes next)) to (ap (λ (o : Option StartSnapshot). record { number = actor_state.number; snapshot = o }) (deleting_seen actor_state.in_progress next)) in
       omega (arith, ap (λ k. turns_left lists k) same)
   entries_after lists p config h t h' t' desk place l actor_state order (Rebuilding next) at to lt row =
-      let same = seen_stays desk place actor_state (actor_state_after actor_state (Rebuilding next)) to (ap (λ (o : Option StartSnapshot). record { number = actor_state.number; snapshot = o }) (rebuilding_seen actor_state.work next)) in
+      let same = seen_stays desk place actor_state (actor_state_after actor_state (Rebuilding next)) to (ap (λ (o : Option StartSnapshot). record { number = actor_state.number; snapshot = o }) (rebuilding_seen actor_state.in_progress next)) in
       omega (arith, ap (λ k. turns_left lists k) same)
 
   -- what the actors' states keep after a turn
   works_after : (lists : List ActorList) (p : PartitionId) (config : Config) (h : PartitionState D) (t : RemoteTier S M) (h' : PartitionState D) (t' : RemoteTier S M) (desk : List ActorState) (place : ℕ) (l : ActorList) (actor_state : ActorState) (order : Order) (outcome : Outcome)
       → AreInProgress lists desk → slice_get lists place ≡ Some l → slice_get desk place ≡ Some actor_state → slice_get l.orders actor_state.number ≡ Some order
-      → TurnRow disk store meta p config h t order.broker.0 actor_state.work order.command outcome h' t' → AreInProgress lists (slice_set desk place (actor_state_after actor_state outcome))
+      → TurnRow disk store meta p config h t order.broker.0 actor_state.in_progress order.command outcome h' t' → AreInProgress lists (slice_set desk place (actor_state_after actor_state outcome))
   works_after lists p config h t h' t' desk place l actor_state order outcome works at to next row = λ i k s o at2 to2 next2.
       elim (get-set desk place (actor_state_after actor_state outcome) i s to2) [
         | inl one ↦
             let list : k ≡ l = cc (at2, at, ap (λ (n : ℕ). slice_get lists n) one.0) in
             let there : slice_get l.orders (actor_state_after actor_state outcome).number ≡ Some o =
             ap (λ (m : ActorList). slice_get m.orders (actor_state_after actor_state outcome).number) (sym list) ∙ (ap (λ (m : ActorState). slice_get k.orders m.number) (sym one.1) ∙ next2) in
-            subst (λ (m : ActorState). IsProgressOf o.command m.work) (sym one.1)
-            (work_after disk store meta p config h t h' t' l actor_state order outcome o next (works place l actor_state order at to next) row there)
+            subst (λ (m : ActorState). IsProgressOf o.command m.in_progress) (sym one.1)
+            (in_progress_after disk store meta p config h t h' t' l actor_state order outcome o next (works place l actor_state order at to next) row there)
         | inr other ↦ works i k s o at2 other.1 next2
       ]
 
   -- the world after the turn
   pub sound_after : (config : Config) (lists : List ActorList) (p : PartitionId) (h : PartitionState D) (t : RemoteTier S M) (h' : PartitionState D) (t' : RemoteTier S M) (desk desk' : List ActorState) (free free' place : ℕ) (l : ActorList) (actor_state : ActorState) (order : Order) (outcome : Outcome)
       → CanBeRun config lists h t.broker_tiers desk free → slice_get lists place ≡ Some l → slice_get desk place ≡ Some actor_state → slice_get l.orders actor_state.number ≡ Some order → actor_state.number < length l.orders
-      → TurnRow disk store meta p config h t order.broker.0 actor_state.work order.command outcome h' t' → desk' ≡ slice_set desk place (actor_state_after actor_state outcome)
+      → TurnRow disk store meta p config h t order.broker.0 actor_state.in_progress order.command outcome h' t' → desk' ≡ slice_set desk place (actor_state_after actor_state outcome)
       → free' ≡ free - told_count outcome → CanBeRun config lists h' t'.broker_tiers desk' free'
   sound_after config lists p h t h' t' desk desk' free free' place l actor_state order outcome s at to next lt row desk_is free_is =
       let less = entries_after lists p config h t h' t' desk place l actor_state order outcome at to lt row in
       record {
         config_fits = s.config_fits;
         fit = s.fit;
-        held = turn_sound disk store meta config.brokers p config h t order.broker.0 actor_state.work order.command outcome h' t' s.held row;
-        sided = turn_broker_tiers disk store meta p config h t order.broker.0 actor_state.work order.command outcome h' t' row ∙ s.sided;
+        partition_state = turn_sound disk store meta config.brokers p config h t order.broker.0 actor_state.in_progress order.command outcome h' t' s.partition_state row;
+        sided = turn_broker_tiers disk store meta p config h t order.broker.0 actor_state.in_progress order.command outcome h' t' row ∙ s.sided;
         actor_states = ap (λ (k : List ActorState). length k) desk_is ∙ (length-slice_set desk place (actor_state_after actor_state outcome) ∙ s.actor_states);
         works = subst (AreInProgress lists) (sym desk_is) (works_after lists p config h t h' t' desk place l actor_state order outcome s.works at to next row);
         room = rw (desk_is, free_is) (omega (arith, less, s.room));
@@ -206,7 +206,7 @@ module _ {D S M : Type 0} (disk : DiskGhosts D) (store : StoreGhosts S) (meta : 
   sound_after_none config lists h t b h' t' desk free s k = record {
     config_fits = s.config_fits;
     fit = s.fit;
-    held = stays_sound disk store meta config.brokers h t b h' t' s.held k;
+    partition_state = stays_sound disk store meta config.brokers h t b h' t' s.partition_state k;
     sided = stays_broker_tiers disk store meta h t b h' t' k ∙ s.sided;
     actor_states = s.actor_states;
     works = s.works;
@@ -221,25 +221,25 @@ module _ {D S M : Type 0} (disk : DiskGhosts D) (store : StoreGhosts S) (meta : 
   steps_of w a (Goes next) w' t = (Goes next, tt, t)
   steps_of w a (Sought next) w' t = (Sought next, tt, t)
   steps_of w a (Dated cursor next) w' t = (Dated cursor next, tt, t)
-  steps_of w a (Dooms segment) w' t = (Dooms segment, tt, t)
+  steps_of w a (ChoosesExpired segment) w' t = (ChoosesExpired segment, tt, t)
   steps_of w a (Deletes next) w' t = (Deletes next, tt, t)
   steps_of w a (Rebuilding next) w' t = (Rebuilding next, tt, t)
 
   -- an actor whose list is at its end is at its end
   pub at_end : (w : Whole D S M) (a place : ℕ) (l : ActorList) (actor_state : ActorState) → AreRising w.lists → IsActorAt w a place l actor_state → length l.orders ≤ actor_state.number → IsAtEnd w a
-  at_end w a place l actor_state r s le = λ place2 l2 seat2 s2.
+  at_end w a place l actor_state r s le = λ place2 l2 actor_state2 s2.
       let same : place2 ≡ place = one_list w.lists place2 place l2 l r s2.list s.list (s2.actor ∙ sym s.actor) in
       let one : l2 ≡ l = cc (s2.list, s.list, ap (λ (k : ℕ). slice_get w.lists k) same) in
-      let two : seat2 ≡ actor_state = cc (s2.actor_state_is, s.actor_state_is, ap (λ (k : ℕ). slice_get w.desk k) same) in
+      let two : actor_state2 ≡ actor_state = cc (s2.actor_state_is, s.actor_state_is, ap (λ (k : ℕ). slice_get w.desk k) same) in
       omega (arith, le, ap (λ (k : ActorList). length k.orders) one, ap (λ (k : ActorState). k.number) two)
 
   -- an actor whose list has come so far has answered
-  pub answered_at : (w : Whole D S M) (a number place : ℕ) (l : ActorList) (actor_state : ActorState) → CanBeRun w.config w.lists w.held w.tier.broker_tiers w.desk w.journal.room → IsActorAt w a place l actor_state
+  pub answered_at : (w : Whole D S M) (a number place : ℕ) (l : ActorList) (actor_state : ActorState) → CanBeRun w.config w.lists w.partition_state w.tier.broker_tiers w.desk w.journal.room → IsActorAt w a place l actor_state
       → ◌⊎◌ (number ≤ actor_state.number) (length l.orders ≤ actor_state.number) → HasAnswered w a number
-  answered_at w a number place l actor_state sound s done = λ place2 l2 seat2 s2.
+  answered_at w a number place l actor_state sound s done = λ place2 l2 actor_state2 s2.
       let same : place2 ≡ place = one_list w.lists place2 place l2 l sound.fit.rising s2.list s.list (s2.actor ∙ sym s.actor) in
       let one : l ≡ l2 = cc (s2.list, s.list, ap (λ (k : ℕ). slice_get w.lists k) same) in
-      let two : actor_state ≡ seat2 = cc (s2.actor_state_is, s.actor_state_is, ap (λ (k : ℕ). slice_get w.desk k) same) in
+      let two : actor_state ≡ actor_state2 = cc (s2.actor_state_is, s.actor_state_is, ap (λ (k : ℕ). slice_get w.desk k) same) in
       subst (λ (k : ActorState). ◌⊎◌ (number ≤ k.number) (length l2.orders ≤ k.number)) two (subst (λ (k : ActorList). ◌⊎◌ (number ≤ actor_state.number) (length k.orders ≤ actor_state.number)) one done)
 
   le_of : (a b : ℕ) → IsTrue (nat_le a b) → a ≤ b
@@ -248,11 +248,11 @@ module _ {D S M : Type 0} (disk : DiskGhosts D) (store : StoreGhosts S) (meta : 
   is_le : (a b : ℕ) → a ≤ b → IsTrue (nat_le a b)
   is_le a b le = le-leb a b le
 
-  pub answers_now : (w : Whole D S M) (a number place : ℕ) (l : ActorList) (actor_state : ActorState) → CanBeRun w.config w.lists w.held w.tier.broker_tiers w.desk w.journal.room → IsActorAt w a place l actor_state → number ≤ actor_state.number
+  pub answers_now : (w : Whole D S M) (a number place : ℕ) (l : ActorList) (actor_state : ActorState) → CanBeRun w.config w.lists w.partition_state w.tier.broker_tiers w.desk w.journal.room → IsActorAt w a place l actor_state → number ≤ actor_state.number
       → (IsTrue (nat_le number actor_state.number) → HasAnswered w a number) × (HasAnswered w a number → IsTrue (nat_le number actor_state.number))
   answers_now w a number place l actor_state sound s le = (λ t. answered_at w a number place l actor_state sound s (inl le), λ h. is_le number actor_state.number le)
 
-  pub answers_so_far : (w : Whole D S M) (a number place : ℕ) (l : ActorList) (actor_state : ActorState) → CanBeRun w.config w.lists w.held w.tier.broker_tiers w.desk w.journal.room → IsActorAt w a place l actor_state
+  pub answers_so_far : (w : Whole D S M) (a number place : ℕ) (l : ActorList) (actor_state : ActorState) → CanBeRun w.config w.lists w.partition_state w.tier.broker_tiers w.desk w.journal.room → IsActorAt w a place l actor_state
       → (number ≤ actor_state.number → ⊥)
       → (IsTrue (nat_le (length l.orders) actor_state.number) → HasAnswered w a number) × (HasAnswered w a number → IsTrue (nat_le (length l.orders) actor_state.number))
   answers_so_far w a number place l actor_state sound s more = (

@@ -23,10 +23,10 @@ use Rattle.laws_partition.specs.declared.actor_progress.Stepped.{Stepped}
 use Rattle.laws_partition.specs.declared.actor_progress.Stepped.TheVariants.{Ran, Done}
 use Rattle.laws_partition.specs.Turn.{event_of}
 use Rattle.partition_world.specs.declared.actor_state.Outcome.{Outcome}
-use Rattle.partition_world.specs.declared.actor_state.Outcome.TheVariants.{Answers, Begins, Chose, Goes, Seeks, Dates, Dooms, Deletes, Rebuilds}
+use Rattle.partition_world.specs.declared.actor_state.Outcome.TheVariants.{Answers, Begins, Chose, Goes, Seeks, Dates, ChoosesExpired, Deletes, Rebuilds}
 use Rattle.partition_world.specs.declared.actor_state.ActorState.{ActorState}
 use Rattle.partition_world.specs.declared.actor_state.InProgress.{InProgress}
-use Rattle.partition_world.specs.declared.actor_state.InProgress.TheVariants as work
+use Rattle.partition_world.specs.declared.actor_state.InProgress.TheVariants as in_progress
 use Rattle.partition_world.specs.declared.actor_state.InProgress.TheVariants.{Idle, Noted, Copies, Expires}
 
 -- what was recorded where the command began
@@ -34,10 +34,10 @@ abbrev pub recorded_in : InProgress → Option StartSnapshot
 recorded_in Idle = None
 recorded_in (Noted g) = Some g
 recorded_in (Copies g copy next) = Some g
-recorded_in (work.Seeks g next) = Some g
-recorded_in (work.Dates g cursor next) = Some g
+recorded_in (in_progress.Seeks g next) = Some g
+recorded_in (in_progress.Dates g cursor next) = Some g
 recorded_in (Expires g segment next) = Some g
-recorded_in (work.Rebuilds g next) = Some g
+recorded_in (in_progress.Rebuilds g next) = Some g
 
 -- a copy that has chosen its segment starts with it next
 abbrev pub chosen : InProgress → Copied → InProgress
@@ -51,14 +51,14 @@ moved other next = other
 
 -- a fetch continues in the remote tier with this
 abbrev pub sought : InProgress → Search → InProgress
-sought (Noted g) next = work.Seeks g next
-sought (work.Seeks g before) next = work.Seeks g next
+sought (Noted g) next = in_progress.Seeks g next
+sought (in_progress.Seeks g before) next = in_progress.Seeks g next
 sought other next = other
 
 -- a timestamp lookup continues at this cursor with this
 abbrev pub dated : InProgress → ℕ → Dating → InProgress
-dated (Noted g) cursor next = work.Dates g cursor next
-dated (work.Dates g before was) cursor next = work.Dates g cursor next
+dated (Noted g) cursor next = in_progress.Dates g cursor next
+dated (in_progress.Dates g before was) cursor next = in_progress.Dates g cursor next
 dated other cursor next = other
 
 -- an expiry that has taken up a remote segment starts its deletion next
@@ -73,14 +73,14 @@ deleting other next = other
 
 -- a join continues with this to restart its log
 abbrev pub rebuilding : InProgress → Rebuild → InProgress
-rebuilding (Noted g) next = work.Rebuilds g next
-rebuilding (work.Rebuilds g before) next = work.Rebuilds g next
+rebuilding (Noted g) next = in_progress.Rebuilds g next
+rebuilding (in_progress.Rebuilds g before) next = in_progress.Rebuilds g next
 rebuilding other next = other
 
 -- the actor's state as it is seen: what was recorded is seen, and not the segment of a copy or an expiry, nor what a
 -- fetch, a timestamp lookup or a rebuild has found
 abbrev pub actor_state_seen : ActorState → seen_actor_state.ActorProgress
-actor_state_seen actor_state = record { number = actor_state.number; snapshot = recorded_in actor_state.work }
+actor_state_seen actor_state = record { number = actor_state.number; snapshot = recorded_in actor_state.in_progress }
 
 -- the desk as it is seen
 abbrev pub desk_seen : List ActorState → List seen_actor_state.ActorProgress
@@ -118,15 +118,19 @@ rebuild_outcome (Ends answer) = Answers answer
 
 -- the actor's state after a turn: at the next order after an answer, else with what the order continues with
 abbrev pub actor_state_after : ActorState → Outcome → ActorState
-actor_state_after actor_state (Answers answer) = record { number = actor_state.number + 1; work = Idle }
-actor_state_after actor_state (Begins g) = record actor_state { work = Noted g }
-actor_state_after actor_state (Chose copy) = record actor_state { work = chosen actor_state.work copy }
-actor_state_after actor_state (Goes next) = record actor_state { work = moved actor_state.work next }
-actor_state_after actor_state (Seeks next) = record actor_state { work = sought actor_state.work next }
-actor_state_after actor_state (Dates cursor next) = record actor_state { work = dated actor_state.work cursor next }
-actor_state_after actor_state (Dooms segment) = record actor_state { work = expired_segment actor_state.work segment }
-actor_state_after actor_state (Deletes next) = record actor_state { work = deleting actor_state.work next }
-actor_state_after actor_state (Rebuilds next) = record actor_state { work = rebuilding actor_state.work next }
+actor_state_after actor_state (Answers answer) = record { number = actor_state.number + 1; in_progress = Idle }
+actor_state_after actor_state (Begins g) = record actor_state { in_progress = Noted g }
+actor_state_after actor_state (Chose copy) = record actor_state { in_progress = chosen actor_state.in_progress copy }
+actor_state_after actor_state (Goes next) = record actor_state { in_progress = moved actor_state.in_progress next }
+actor_state_after actor_state (Seeks next) = record actor_state { in_progress = sought actor_state.in_progress next }
+actor_state_after actor_state (Dates cursor next) =
+    record actor_state { in_progress = dated actor_state.in_progress cursor next }
+actor_state_after actor_state (ChoosesExpired segment) =
+    record actor_state { in_progress = expired_segment actor_state.in_progress segment }
+actor_state_after actor_state (Deletes next) =
+    record actor_state { in_progress = deleting actor_state.in_progress next }
+actor_state_after actor_state (Rebuilds next) =
+    record actor_state { in_progress = rebuilding actor_state.in_progress next }
 
 -- what the journal says of a turn: nothing of one that neither begins its command nor answers it
 abbrev pub told_of : ActorId → ℕ → Command → Outcome → List JournalEntry

@@ -21,7 +21,8 @@ module _ {D S M : Type 0} (disk : DiskGhosts D) (store : StoreGhosts S) (meta : 
   -- a turn of the order that returns a fault has raised the count of that device by one, and no other count has risen:
   -- a disk's that the command works on, the store's, or the metadata log's
   pub record AnswersFaults (order : Order) (outcome : Outcome) (w w' : Whole D S M) : Type 0 where
-    pub disks : DisksCount disk.control order.command order.broker.0 (is_answered is_of_disk outcome) w.held.nodes w'.held.nodes
+    pub disks : DisksCount disk.control order.command order.broker.0 (is_answered is_of_disk outcome)
+        w.partition_state.nodes w'.partition_state.nodes
     pub store_counts : (store.control w'.tier.store).faults
         ≡ after_fault (is_answered is_of_store outcome) (store.control w.tier.store).faults
     pub meta_counts : (meta.control w'.tier.meta).faults
@@ -29,16 +30,17 @@ module _ {D S M : Type 0} (disk : DiskGhosts D) (store : StoreGhosts S) (meta : 
 
   -- each turn does, over any devices
   abbrev pub TurnsAnswerFaults : Type 0
-  TurnsAnswerFaults = (w : Whole D S M) (a : ℕ) (outcome : Outcome) (w' : Whole D S M) (t : IsTurn disk store meta w a outcome w')
-      → HaveDisks w.held.nodes → AnswersFaults t.order outcome w w'
+  TurnsAnswerFaults = (w : Whole D S M) (a : ℕ) (outcome : Outcome) (w' : Whole D S M)
+      (t : IsTurn disk store meta w a outcome w')
+      → HaveDisks w.partition_state.nodes → AnswersFaults t.order outcome w w'
 
   -- no call of a device has failed: each count of faults is as it was
   pub record MeetsNoFault (w w' : Whole D S M) : Type 0 where
-    pub disks : NoneFails disk.control w.held.nodes w'.held.nodes
+    pub disks : NoneFails disk.control w.partition_state.nodes w'.partition_state.nodes
     pub store_counts : (store.control w'.tier.store).faults ≡ (store.control w.tier.store).faults
     pub meta_counts : (meta.control w'.tier.meta).faults ≡ (meta.control w.tier.meta).faults
 
   -- so in each turn that finds no memory, over any devices
   abbrev pub HaltsMeetNoFault : Type 0
   HaltsMeetNoFault = (w : Whole D S M) (a : ℕ) (w' : Whole D S M) → StaysWhole disk store meta w a w'
-      → HaveDisks w.held.nodes → MeetsNoFault w w'
+      → HaveDisks w.partition_state.nodes → MeetsNoFault w w'

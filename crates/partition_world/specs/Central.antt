@@ -26,9 +26,9 @@ use Rattle.laws_partition.specs.declared.start_snapshot.StartSnapshot.{StartSnap
 use Rattle.laws_partition.specs.Seen as seen
 use Rattle.laws_partition.specs.Central as seen_central
 use Rattle.laws_tier_turns.specs.BrokerTiers.{tier_views_of, BrokerTierModel as BrokerTierIsSeen}
-use Rattle.laws_tier_turns.specs.TierTasks.{rebuild_of, work_of as work_seen}
+use Rattle.laws_tier_turns.specs.TierTasks.{rebuild_of, tier_task_of as tier_task_seen}
 use Rattle.partition_commands.specs.Partition.{ShowsPartition}
-use Rattle.tier_safe.specs.Scene.{Scene, TierTask as InProgressIsSeen, Free, Copies as CopiesSeen, Expires as ExpiresSeen, Rebuilds as RebuildsSeen, Seeks as SeeksSeen}
+use Rattle.tier_safe.specs.Scene.{Scene, TierTask, Free, Copies as CopiesSeen, Expires as ExpiresSeen, Rebuilds as RebuildsSeen, Seeks as SeeksSeen}
 use Rattle.tier_safe.specs.Safe.{TierSafe}
 use Rattle.laws_tier_fetch.specs.Seeking.{sought_of, indexes_in}
 use Rattle.laws_time_find.specs.Passed.{IsDatedTo}
@@ -53,42 +53,42 @@ broker_tiers_seen [] = []
 broker_tiers_seen (broker_tier ∷ broker_tiers) = broker_tier_seen broker_tier ∷ broker_tiers_seen broker_tiers
 
 -- what the tier sees of a fetch of broker b that has begun with this, and continues so
-abbrev pub seeks_of : ℕ → StartSnapshot → Search → Command → InProgressIsSeen
+abbrev pub seeks_of : ℕ → StartSnapshot → Search → Command → TierTask
 seeks_of b g next (Fetch offset limit) = SeeksSeen (sought_of b g.stops (unwrap_or (leading g.role) 0) offset next)
 seeks_of b g next command = Free
 
 -- what it sees of a timestamp lookup that has begun with this, and continues so
-abbrev pub dates_of : ℕ → StartSnapshot → ℕ → Dating → Command → InProgressIsSeen
+abbrev pub dates_of : ℕ → StartSnapshot → ℕ → Dating → Command → TierTask
 dates_of b g cursor next (Offset (At ts)) = search_of b g.stops (unwrap_or (leading g.role) 0) cursor next
 dates_of b g cursor next command = Free
 
 -- what it sees of a join whose broker has refreshed its view to restart its log
-abbrev pub rebuilds_of : ℕ → StartSnapshot → Command → InProgressIsSeen
+abbrev pub rebuilds_of : ℕ → StartSnapshot → Command → TierTask
 rebuilds_of b g Join = RebuildsSeen (record (rebuild_of b g) { refreshed = true })
 rebuilds_of b g command = Free
 
 -- what it sees of a command that has begun: a fetch looks below its broker's local log
-abbrev pub begun_of : ℕ → StartSnapshot → Command → InProgressIsSeen
+abbrev pub begun_of : ℕ → StartSnapshot → Command → TierTask
 begun_of b g (Fetch offset limit) = seeks_of b g Refresh (Fetch offset limit)
-begun_of b g command = work_seen b command (Some g)
+begun_of b g command = tier_task_seen b command (Some g)
 
--- what the tier sees of an actor's state's work, of a command that the order asks for
-abbrev pub work_of : Option Order → InProgress → InProgressIsSeen
-work_of None work = Free
-work_of (Some order) Idle = Free
-work_of (Some order) (Noted g) = begun_of order.broker.0 g order.command
-work_of (Some order) (Copies g copy next) = CopiesSeen copy next
-work_of (Some order) (Seeks g next) = seeks_of order.broker.0 g next order.command
-work_of (Some order) (Dates g cursor next) = dates_of order.broker.0 g cursor next order.command
-work_of (Some order) (Expires g segment next) = ExpiresSeen segment next
-work_of (Some order) (Rebuilds g next) = rebuilds_of order.broker.0 g order.command
+-- the task that the tier sees in what an actor has in progress, of a command that the order asks for
+abbrev pub tier_task_of : Option Order → InProgress → TierTask
+tier_task_of None in_progress = Free
+tier_task_of (Some order) Idle = Free
+tier_task_of (Some order) (Noted g) = begun_of order.broker.0 g order.command
+tier_task_of (Some order) (Copies g copy next) = CopiesSeen copy next
+tier_task_of (Some order) (Seeks g next) = seeks_of order.broker.0 g next order.command
+tier_task_of (Some order) (Dates g cursor next) = dates_of order.broker.0 g cursor next order.command
+tier_task_of (Some order) (Expires g segment next) = ExpiresSeen segment next
+tier_task_of (Some order) (Rebuilds g next) = rebuilds_of order.broker.0 g order.command
 
 -- of the whole desk
-abbrev pub desk_of : List ActorList → List ActorState → List InProgressIsSeen
+abbrev pub desk_of : List ActorList → List ActorState → List TierTask
 desk_of [] desk = []
 desk_of (l ∷ lists) [] = []
 desk_of (l ∷ lists) (actor_state ∷ desk) =
-    work_of (slice_get l.orders actor_state.number) actor_state.work ∷ desk_of lists desk
+    tier_task_of (slice_get l.orders actor_state.number) actor_state.in_progress ∷ desk_of lists desk
 
 -- how many metadata events a command has appended at most, of the two that it may
 abbrev pub told_by : InProgress → ℕ
@@ -105,37 +105,40 @@ abbrev pub notes_left : List ActorList → List ActorState → ℕ
 notes_left [] desk = 0
 notes_left (l ∷ lists) [] = 0
 notes_left (l ∷ lists) (actor_state ∷ desk) =
-    2 * (length l.orders - actor_state.number) - told_by actor_state.work + notes_left lists desk
+    2 * (length l.orders - actor_state.number) - told_by actor_state.in_progress + notes_left lists desk
 
 -- a join that is to read a line in the tier began while the log start offset was below the wanted offset, and the
 -- leader epochs that it has read is the leader's, as it recorded it
 abbrev pub IsRecorded : InProgress → Type 0
 IsRecorded (Rebuilds g Epochs) = g.start < g.wanted
 IsRecorded (Rebuilds g (Restart line)) = line ≡ g.line
-IsRecorded work = Unit {0}
+IsRecorded in_progress = Unit {0}
 
 -- at each actor's state
 abbrev pub AreRecorded : List ActorState → Type 0
 AreRecorded desk =
-    (place : ℕ) (actor_state : ActorState) → slice_get desk place ≡ Some actor_state → IsRecorded actor_state.work
+    (place : ℕ) (actor_state : ActorState) → slice_get desk place ≡ Some actor_state
+    → IsRecorded actor_state.in_progress
 
 -- a timestamp lookup that has begun with this has gone through its broker's log up to its cursor, and up to where it
 -- reads, as long as the broker hasn't stopped and leads as it did
 abbrev pub HasGone : State → ℕ → StartSnapshot → Command → ℕ → Dating → Type 0
 HasGone p b g (Offset (At ts)) cursor next =
-    (x : Broker) → slice_get p.brokers b ≡ Some x → g.stops ≡ x.stops → g.role ≡ x.role → IsDatedTo ts p.registry.start x.log cursor next
+    (x : Broker) → slice_get p.brokers b ≡ Some x → g.stops ≡ x.stops → g.role ≡ x.role
+    → IsDatedTo ts p.registry.start x.log cursor next
 HasGone p b g command cursor next = Unit {0}
 
 -- where an actor's state has that of a command that the order asks for; and what was found is for its cursor
 abbrev pub IsSearchState : State → Option Order → InProgress → Type 0
 IsSearchState p (Some order) (Dates g cursor next) =
     IsSet cursor next × HasGone p order.broker.0 g order.command cursor next
-IsSearchState p order work = Unit {0}
+IsSearchState p order in_progress = Unit {0}
 
 -- at each actor's state
 abbrev pub AreDated : State → List ActorList → List ActorState → Type 0
-AreDated p lists desk = (place : ℕ) (l : ActorList) (actor_state : ActorState) → slice_get lists place ≡ Some l → slice_get desk place ≡ Some actor_state
-    → IsSearchState p (slice_get l.orders actor_state.number) actor_state.work
+AreDated p lists desk = (place : ℕ) (l : ActorList) (actor_state : ActorState) → slice_get lists place ≡ Some l
+    → slice_get desk place ≡ Some actor_state
+    → IsSearchState p (slice_get l.orders actor_state.number) actor_state.in_progress
 
 module _ {D S M : Type 0} (store : StoreGhosts S) (meta : MetaGhosts M) where
   -- the remote tier is seen so, beside the partition
@@ -152,7 +155,7 @@ module _ {D S M : Type 0} (disk : DiskGhosts D) (store : StoreGhosts S) (meta : 
   -- the partition and the tier are seen so that the central fact holds of both
   pub record IsCentral (opening : State) (w : Whole D S M) : Type 0 where
     pub partition : seen.SeenPartition
-    pub shows : ShowsPartition disk.content w.held partition
+    pub shows : ShowsPartition disk.content w.partition_state partition
     pub central : seen_central.IsCentral opening (seen_as w partition)
     pub scene : Scene
     pub shows_tier : ShowsTier store meta w partition scene

@@ -22,7 +22,7 @@ use Rattle.broker_log.specs.Seen.{LogSeen}
 use Rattle.laws_partition.specs.Central.{LinesStand}
 use Rattle.laws_partition.specs.Partition.{broker_of}
 use Rattle.laws_tier_turns.specs.BrokerTiers.{tier_views_of, fresh_broker_tier as fresh_seen}
-use Rattle.partition_commands.specs.Cold.{ShowDisks, IsColdPartition, node_back, held_back}
+use Rattle.partition_commands.specs.Cold.{ShowDisks, IsColdPartition, node_back, partition_back}
 use Rattle.tier_safe.specs.Scene.{Scene}
 use Rattle.tier_safe.specs.Safe.{TierSafe}
 use Rattle.partition_world.specs.Fresh.{fresh_actor_state, fresh_broker_tier}
@@ -48,7 +48,7 @@ module _ {D S M : Type 0} (disk : DiskGhosts D) (store : StoreGhosts S) (meta : 
     pub config_is : w.config ≡ config
     pub lists_are : w.lists ≡ lists
     pub count : length disks ≡ config.brokers
-    pub held : IsColdPartition disk.content disk.control config.settings registry disks w.held
+    pub partition_state : IsColdPartition disk.content disk.control config.settings registry disks w.partition_state
     pub tier : IsArmedTier store meta s m w.tier
     pub broker_tiers : w.tier.broker_tiers ≡ replicate config.brokers fresh_broker_tier
     pub desk : w.desk ≡ replicate (length lists) fresh_actor_state
@@ -65,7 +65,7 @@ module _ {D S M : Type 0} (disk : DiskGhosts D) (store : StoreGhosts S) (meta : 
     pub registry_is : p.registry ≡ registry
     pub brokers : p.brokers ≡ map broker_of (map node_back logs)
     pub actors : p.actors ≡ []
-    pub lines : LinesStand (held_back registry logs) p.paths p.broken
+    pub lines : LinesStand (partition_back registry logs) p.paths p.broken
     pub store_tells : IsTrue (store.content s).is_observable
     pub meta_tells : IsTrue (meta.content m).is_observable
     pub tier : TierSafe (scene_back partition (store.content s).objects l logs) p
@@ -77,7 +77,8 @@ module _ {D S M : Type 0} (disk : DiskGhosts D) (store : StoreGhosts S) (meta : 
 
   -- a world that is reopened has the central fact for each plain state that its devices represent
   abbrev pub ReopensCentral : Type 0
-  ReopensCentral = (partition : PartitionId) (config : Config) (lists : List ActorList) (registry : Registry) (disks : List D) (s : S)
+  ReopensCentral = (partition : PartitionId) (config : Config) (lists : List ActorList) (registry : Registry)
+      (disks : List D) (s : S)
       (m : M) (w : Whole D S M) (p : State) → AreListsFor config lists
       → IsReopened partition config lists registry disks s m w → AreCold partition registry disks s m p
       → IsCentralLeft disk store meta p w

@@ -22,7 +22,7 @@ use Rattle.partition_world.specs.Whole.{Whole}
 
 -- an actor's state at the front of its list
 abbrev pub fresh_actor_state : ActorState
-fresh_actor_state = record { number = 0; work = Idle }
+fresh_actor_state = record { number = 0; in_progress = Idle }
 
 -- an empty journal with room for all entries of the lists, and an actor's state at the front of each list
 pub record AreFreshBooks (lists : List ActorList) (journal : Rolled JournalEntry)
@@ -53,7 +53,7 @@ pub record IsNewWorld {D S M : Type 0} (lists : List ActorList) (w : Whole D S M
   pub lists_are : w.lists ≡ lists
   pub desk : w.desk ≡ replicate (length lists) fresh_actor_state
   pub journal : w.journal.items ≡ []
-  pub disks : HaveDisks w.held.nodes
+  pub disks : HaveDisks w.partition_state.nodes
 
 module _ {D S M : Type 0} (disk : DiskGhosts D) (store : StoreGhosts S) (meta : MetaGhosts M) where
   -- nothing has happened
@@ -63,8 +63,8 @@ module _ {D S M : Type 0} (disk : DiskGhosts D) (store : StoreGhosts S) (meta : 
     pub config_is : w.config ≡ config
     pub lists_are : w.lists ≡ lists
     pub count : length disks ≡ config.brokers
-    pub held : IsFreshPartition disk.control disks w.held
-    pub laid : AreNodesLaid config.settings w.held.nodes
+    pub partition_state : IsFreshPartition disk.control disks w.partition_state
+    pub laid : AreNodesLaid config.settings w.partition_state.nodes
     pub tier : IsArmedTier store meta s m w.tier
     pub broker_tiers : w.tier.broker_tiers ≡ replicate config.brokers fresh_broker_tier
     pub desk : w.desk ≡ replicate (length lists) fresh_actor_state
@@ -72,7 +72,7 @@ module _ {D S M : Type 0} (disk : DiskGhosts D) (store : StoreGhosts S) (meta : 
 
   -- the brokers' logs, the store and the metadata log are seen, and empty
   pub record IsSeenEmpty (w : Whole D S M) : Type 0 where
-    pub logs : AllSeen disk.content w.held.nodes
+    pub logs : AllSeen disk.content w.partition_state.nodes
     pub store_tells : IsTrue (store.content w.tier.store).is_observable
     pub objects : IsEmptyStore (store.content w.tier.store)
     pub meta_tells : IsTrue (meta.content w.tier.meta).is_observable

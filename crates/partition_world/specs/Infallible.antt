@@ -22,7 +22,7 @@ module _ {K : Type 0} {code : K → ℕ} where
 -- no call of the devices can fail, and nothing has failed
 pub record IsUnfailing {D S M : Type 0} (disk : DiskGhosts D) (store : StoreGhosts S) (meta : MetaGhosts M) (w : Whole D S M)
     : Type 0 where
-  pub infallible : AreInfallible disk.control w.held.nodes
+  pub infallible : AreInfallible disk.control w.partition_state.nodes
   pub store_infallible : IsInfallible (store.control w.tier.store)
   pub meta_infallible : IsInfallible (meta.control w.tier.meta)
   pub journal : AreFaultless w.journal.items

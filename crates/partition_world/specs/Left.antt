@@ -42,7 +42,7 @@ whole_with w l = record {
   partition = w.partition;
   config = w.config;
   lists = w.lists;
-  held = w.held;
+  partition_state = w.partition_state;
   tier = tier_with w.tier l;
   desk = w.desk;
   journal = w.journal;
@@ -61,7 +61,8 @@ module _ {D S M : Type 0} (disk : DiskGhosts D) (store : StoreGhosts S) (meta : 
 
   -- each step keeps it
   abbrev pub StepsKeepCentralLeft : Type 0
-  StepsKeepCentralLeft = (w : Whole D S M) (a : ℕ) (stepped : Stepped) (w' : Whole D S M) → Steps disk store meta w a stepped w'
+  StepsKeepCentralLeft = (w : Whole D S M) (a : ℕ) (stepped : Stepped) (w' : Whole D S M)
+      → Steps disk store meta w a stepped w'
       → KeepsCentralLeft w w'
 
   -- where it holds, the central fact does
@@ -70,7 +71,8 @@ module _ {D S M : Type 0} (disk : DiskGhosts D) (store : StoreGhosts S) (meta : 
 
   -- a fresh world has it whose logs, objects and metadata events are seen, where a power cut leaves no metadata events
   abbrev pub FreshIsCentralLeft : Type 0
-  FreshIsCentralLeft = (partition : PartitionId) (config : Config) (lists : List ActorList) (disks : List D) (s : S) (m : M)
+  FreshIsCentralLeft = (partition : PartitionId) (config : Config) (lists : List ActorList) (disks : List D) (s : S)
+      (m : M)
       (w : Whole D S M) → IsConfig config → AreListsFor config lists
       → IsFresh disk store meta partition config lists disks s m w → IsSeenEmpty disk store meta w
       → LeavesTold (meta.content w.tier.meta) → IsCentralLeft (fresh config) w

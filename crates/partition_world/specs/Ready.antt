@@ -26,13 +26,13 @@ IsWantOfCopy copy (want.Bundle closed line interval) =
 abbrev pub IsWantOf : Command → InProgress → Want → Type 0
 IsWantOf command (Copies g copy next) wanted = IsWantOfCopy copy wanted
 IsWantOf (Raw bytes) Idle wanted = wanted ≡ want.Check bytes
-IsWantOf command work wanted = wanted ≡ want.Nothing
+IsWantOf command in_progress wanted = wanted ≡ want.Nothing
 
 -- what an actor's next turn wants
 pub record IsWanted {D S M : Type 0} (w : Whole D S M) (a : ℕ) (wanted : Want) : Type 0 where
   pub next : (place : ℕ) (l : ActorList) (actor_state : ActorState) (order : Order)
       → IsNextOrder w a place l actor_state order
-      → IsWantOf order.command actor_state.work wanted
+      → IsWantOf order.command actor_state.in_progress wanted
   pub none : IsAtEnd w a → wanted ≡ want.Nothing
 
 -- what is made of what is wanted

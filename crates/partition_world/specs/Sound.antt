@@ -60,7 +60,7 @@ abbrev pub AreInProgress : List ActorList → List ActorState → Type 0
 AreInProgress lists desk =
     (place : ℕ) (l : ActorList) (actor_state : ActorState) (order : Order) → slice_get lists place ≡ Some l
     → slice_get desk place ≡ Some actor_state → slice_get l.orders actor_state.number ≡ Some order
-    → IsProgressOf order.command actor_state.work
+    → IsProgressOf order.command actor_state.in_progress
 
 -- its lists can be run, each broker has a tier state of the tier, and the journal has room for each entry that is left:
 -- a beginning and an answer of each order
@@ -68,21 +68,21 @@ pub record CanBeRun {D : Type 0} (config : Config) (lists : List ActorList) (h :
     (free : ℕ) : Type 0 where
   pub config_fits : IsConfig config
   pub fit : AreListsFor config lists
-  pub held : SoundPartition config.brokers h
+  pub partition_state : SoundPartition config.brokers h
   pub sided : length broker_tiers ≡ config.brokers
   pub actor_states : length desk ≡ length lists
   pub works : AreInProgress lists desk
   pub room : entries_left lists (desk_seen desk) ≤ free
 
--- one for a work that has begun and chosen nothing yet
+-- one for a command that has begun and chosen nothing yet
 abbrev pub waits : InProgress → ℕ
 waits (Noted g) = 1
 waits other = 0
 
--- how many actors' states have such a work
+-- how many actors' states have such a command in progress
 abbrev pub waiting : List ActorState → ℕ
 waiting [] = 0
-waiting (actor_state ∷ desk) = waits actor_state.work + waiting desk
+waiting (actor_state ∷ desk) = waits actor_state.in_progress + waiting desk
 
 -- no broker has tried more copies than so many
 abbrev pub HaveTried : ℕ → List BrokerTierState → Type 0

@@ -45,7 +45,8 @@ module _ {D S M : Type 0} (disk : DiskGhosts D) (store : StoreGhosts S) (meta : 
     pub order : Order
     pub at : IsActorAt w a place list actor_state
     pub next : slice_get list.orders actor_state.number ≡ Some order
-    pub row : TurnRow disk store meta w.partition w.config w.held w.tier order.broker.0 actor_state.work order.command outcome w'.held w'.tier
+    pub row : TurnRow disk store meta w.partition w.config w.partition_state w.tier order.broker.0
+        actor_state.in_progress order.command outcome w'.partition_state w'.tier
     pub desk : w'.desk ≡ slice_set w.desk place (actor_state_after actor_state outcome)
     pub entered : w'.journal.items ≡ w.journal.items ++ told_of list.actor actor_state.number order.command outcome
     pub partition : w'.partition ≡ w.partition
@@ -60,10 +61,11 @@ module _ {D S M : Type 0} (disk : DiskGhosts D) (store : StoreGhosts S) (meta : 
     pub actor_state : ActorState
     pub order : Order
     pub next : IsNextOrder w a place list actor_state order
-    pub node : order.broker.0 < length w.held.nodes
-    pub tier : StaysTier disk store meta w.partition w.held w.tier order.broker.0 actor_state.work order.command w'.held w'.tier
+    pub node : order.broker.0 < length w.partition_state.nodes
+    pub tier : StaysTier disk store meta w.partition w.partition_state w.tier order.broker.0 actor_state.in_progress
+        order.command w'.partition_state w'.tier
     pub wants : IsTrue (takes_memory order.command)
-    pub fields : w' ≡ record w { held = w'.held; tier = w'.tier }
+    pub fields : w' ≡ record w { partition_state = w'.partition_state; tier = w'.tier }
 
   -- what a step of the actor comes to, by what it answers
   abbrev pub Steps : Whole D S M → ℕ → Stepped → Whole D S M → Type 0

@@ -49,35 +49,43 @@ module _ {D S M : Type 0} (disk : DiskGhosts D) where
   abbrev pub LocalCommandRow : PartitionState D → RemoteTier S M → ℕ → Node D → Command → Outcome → PartitionState D
       → RemoteTier S M → Type 0
   LocalCommandRow h t b x command outcome h' t' =
-      ((turn : Turned) × (outcome ≡ outcome_of turn) × FirstRow disk.content disk.control h b x command turn h') × (t' ≡ t)
+      ((turn : Turned) × (outcome ≡ outcome_of turn) × FirstRow disk.content disk.control h b x command turn h')
+      × (t' ≡ t)
 
   -- its last one
   abbrev pub OwnOnRow : PartitionState D → RemoteTier S M → ℕ → Node D → StartSnapshot → Command → Outcome
       → PartitionState D → RemoteTier S M → Type 0
   OwnOnRow h t b x g command outcome h' t' =
-      ((answer : Answer) × (outcome ≡ Answers answer) × LaterRow disk.content disk.control h b x command g (turned.Answers answer) h')
+      ((answer : Answer) × (outcome ≡ Answers answer)
+      × LaterRow disk.content disk.control h b x command g (turned.Answers answer) h')
       × (t' ≡ t)
 
 module _ {D S M : Type 0} (store : StoreGhosts S) (meta : MetaGhosts M) where
   -- a later turn of a copy; no other command has one
-  abbrev pub CopyLaterRow : PartitionState D → RemoteTier S M → ℕ → Node D → BrokerTierState → StartSnapshot → Copied → CopyStep → Command → Outcome → PartitionState D → RemoteTier S M → Type 0
-  CopyLaterRow h t b x broker_tier g copy next Copy outcome h' t' = CopyOnRow store meta h t b x broker_tier g copy next outcome t' × (h' ≡ h)
+  abbrev pub CopyLaterRow : PartitionState D → RemoteTier S M → ℕ → Node D → BrokerTierState → StartSnapshot → Copied
+      → CopyStep → Command → Outcome → PartitionState D → RemoteTier S M → Type 0
+  CopyLaterRow h t b x broker_tier g copy next Copy outcome h' t' = CopyOnRow store meta h t b x broker_tier g copy
+      next outcome t' × (h' ≡ h)
   CopyLaterRow h t b x broker_tier g copy next command outcome h' t' = ⊥
 
   -- a later turn of a fetch that continues in the remote tier; no other command has one
-  abbrev pub SeekingRow : PartitionId → PartitionState D → RemoteTier S M → ℕ → Node D → BrokerTierState → StartSnapshot → Search → Command → Outcome → PartitionState D → RemoteTier S M → Type 0
+  abbrev pub SeekingRow : PartitionId → PartitionState D → RemoteTier S M → ℕ → Node D → BrokerTierState
+      → StartSnapshot → Search → Command → Outcome → PartitionState D → RemoteTier S M → Type 0
   SeekingRow p h t b x broker_tier g next (Fetch offset limit) outcome h' t' =
       FetchOnRow store meta p h t b x broker_tier g offset limit next outcome t' × (h' ≡ h)
   SeekingRow p h t b x broker_tier g next command outcome h' t' = ⊥
 
   -- a later turn of an expiry that has taken up a remote segment; no other command has one
-  abbrev pub DeletingRow : PartitionState D → RemoteTier S M → ℕ → Node D → StartSnapshot → ExpiredSegment → Deletion → Command → Outcome → PartitionState D → RemoteTier S M → Type 0
-  DeletingRow h t b x g expired_segment next Expire outcome h' t' = DeleteOnRow store meta h t b x g expired_segment next outcome t' × (h' ≡ h)
+  abbrev pub DeletingRow : PartitionState D → RemoteTier S M → ℕ → Node D → StartSnapshot → ExpiredSegment → Deletion
+      → Command → Outcome → PartitionState D → RemoteTier S M → Type 0
+  DeletingRow h t b x g expired_segment next Expire outcome h' t' = DeleteOnRow store meta h t b x g expired_segment
+      next outcome t' × (h' ≡ h)
   DeletingRow h t b x g expired_segment next command outcome h' t' = ⊥
 
 module _ {D S M : Type 0} (disk : DiskGhosts D) (store : StoreGhosts S) (meta : MetaGhosts M) where
   -- a later turn of a timestamp lookup that has come to a cursor; no other command has one
-  abbrev pub DatingRow : PartitionId → PartitionState D → RemoteTier S M → ℕ → Node D → BrokerTierState → StartSnapshot → ℕ → Dating → Command → Outcome → PartitionState D → RemoteTier S M → Type 0
+  abbrev pub DatingRow : PartitionId → PartitionState D → RemoteTier S M → ℕ → Node D → BrokerTierState → StartSnapshot
+      → ℕ → Dating → Command → Outcome → PartitionState D → RemoteTier S M → Type 0
   DatingRow p h t b x broker_tier g cursor next (Offset (At ts)) outcome h' t' =
       DateOnRow disk store meta p h t b x broker_tier g ts cursor next outcome h' t'
   DatingRow p h t b x broker_tier g cursor next command outcome h' t' = ⊥
@@ -93,13 +101,16 @@ module _ {D S M : Type 0} (disk : DiskGhosts D) (meta : MetaGhosts M) where
 
 module _ {D S M : Type 0} (disk : DiskGhosts D) (store : StoreGhosts S) where
   -- a later turn of a join that restarts its log: it reads the line, or restarts the log with it
-  abbrev pub RebuildOnRow : PartitionId → PartitionState D → RemoteTier S M → ℕ → Node D → BrokerTierState → StartSnapshot → Rebuild → Outcome → PartitionState D → RemoteTier S M → Type 0
+  abbrev pub RebuildOnRow : PartitionId → PartitionState D → RemoteTier S M → ℕ → Node D → BrokerTierState
+      → StartSnapshot → Rebuild → Outcome → PartitionState D → RemoteTier S M → Type 0
   RebuildOnRow p h t b x broker_tier g Epochs outcome h' t' =
       EpochsOnRow store p h t x broker_tier g outcome t' × (h' ≡ h)
-  RebuildOnRow p h t b x broker_tier g (Restart line) outcome h' t' = OwnOnRow disk h t b x (with_line g line) Join outcome h' t'
+  RebuildOnRow p h t b x broker_tier g (Restart line) outcome h' t' = OwnOnRow disk h t b x (with_line g line) Join
+      outcome h' t'
 
   -- no other command has one
-  abbrev pub RebuildingRow : PartitionId → PartitionState D → RemoteTier S M → ℕ → Node D → BrokerTierState → StartSnapshot → Rebuild → Command → Outcome → PartitionState D → RemoteTier S M → Type 0
+  abbrev pub RebuildingRow : PartitionId → PartitionState D → RemoteTier S M → ℕ → Node D → BrokerTierState
+      → StartSnapshot → Rebuild → Command → Outcome → PartitionState D → RemoteTier S M → Type 0
   RebuildingRow p h t b x broker_tier g next Join outcome h' t' =
       RebuildOnRow p h t b x broker_tier g next outcome h' t'
   RebuildingRow p h t b x broker_tier g next command outcome h' t' = ⊥
@@ -107,17 +118,21 @@ module _ {D S M : Type 0} (disk : DiskGhosts D) (store : StoreGhosts S) where
 module _ {D S M : Type 0} (disk : DiskGhosts D) (store : StoreGhosts S) (meta : MetaGhosts M) where
   -- the second turn, of a command of which its actor's state has what was recorded: a fetch begins with a refresh, and
   -- a timestamp lookup at the log start offset
-  abbrev pub ContinuedRow : PartitionId → Config → PartitionState D → RemoteTier S M → ℕ → Node D → BrokerTierState → StartSnapshot → Command → Outcome → PartitionState D → RemoteTier S M → Type 0
+  abbrev pub ContinuedRow : PartitionId → Config → PartitionState D → RemoteTier S M → ℕ → Node D → BrokerTierState
+      → StartSnapshot → Command → Outcome → PartitionState D → RemoteTier S M → Type 0
   ContinuedRow p config h t b x broker_tier g Copy outcome h' t' = ChooseRow disk p h t b x broker_tier g outcome h' t'
-  ContinuedRow p config h t b x broker_tier g Trim outcome h' t' = TrimOnRow disk h b x broker_tier g config.local_keep outcome h' × (t' ≡ t)
+  ContinuedRow p config h t b x broker_tier g Trim outcome h' t' = TrimOnRow disk h b x broker_tier g config.local_keep
+      outcome h' × (t' ≡ t)
   ContinuedRow p config h t b x broker_tier g Expire outcome h' t' =
       ExpireOnRow p h x broker_tier g config.keep outcome h' × (t' ≡ t)
   ContinuedRow p config h t b x broker_tier g (Fetch offset limit) outcome h' t' =
       FetchOnRow store meta p h t b x broker_tier g offset limit Refresh outcome t' × (h' ≡ h)
   ContinuedRow p config h t b x broker_tier g Join outcome h' t' =
       JoinSecondRow disk meta h t b x broker_tier g outcome h' t'
-  ContinuedRow p config h t b x broker_tier g (Offset LatestTiered) outcome h' t' = OffsetOnRow h x broker_tier g outcome × (h' ≡ h) × (t' ≡ t)
-  ContinuedRow p config h t b x broker_tier g (Offset (At ts)) outcome h' t' = DateOnRow disk store meta p h t b x broker_tier g ts 0 Seek outcome h' t'
+  ContinuedRow p config h t b x broker_tier g (Offset LatestTiered) outcome h' t' = OffsetOnRow h x broker_tier g
+      outcome × (h' ≡ h) × (t' ≡ t)
+  ContinuedRow p config h t b x broker_tier g (Offset (At ts)) outcome h' t' = DateOnRow disk store meta p h t b x
+      broker_tier g ts 0 Seek outcome h' t'
   ContinuedRow p config h t b x broker_tier g command outcome h' t' = OwnOnRow disk h t b x g command outcome h' t'
 
   -- a command's first turn
@@ -133,7 +148,8 @@ module _ {D S M : Type 0} (disk : DiskGhosts D) (store : StoreGhosts S) (meta : 
   BeginRow h t b x broker_tier command outcome h' t' = LocalCommandRow disk h t b x command outcome h' t'
 
   -- a turn of a command of broker b, of which so much is kept
-  abbrev pub Row : PartitionId → Config → PartitionState D → RemoteTier S M → ℕ → Node D → BrokerTierState → InProgress → Command → Outcome → PartitionState D → RemoteTier S M → Type 0
+  abbrev pub Row : PartitionId → Config → PartitionState D → RemoteTier S M → ℕ → Node D → BrokerTierState → InProgress
+      → Command → Outcome → PartitionState D → RemoteTier S M → Type 0
   Row p config h t b x broker_tier Idle command outcome h' t' = BeginRow h t b x broker_tier command outcome h' t'
   Row p config h t b x broker_tier (Noted g) command outcome h' t' =
       ContinuedRow p config h t b x broker_tier g command outcome h' t'
@@ -149,9 +165,11 @@ module _ {D S M : Type 0} (disk : DiskGhosts D) (store : StoreGhosts S) (meta : 
       RebuildingRow disk store p h t b x broker_tier g next command outcome h' t'
 
   -- there are such a broker and such a tier state, and the row holds of them
-  abbrev pub TurnRow : PartitionId → Config → PartitionState D → RemoteTier S M → ℕ → InProgress → Command → Outcome → PartitionState D → RemoteTier S M → Type 0
-  TurnRow p config h t b work command outcome h' t' =
-      AtNode h b (λ x. AtBrokerTier t b (λ broker_tier. Row p config h t b x broker_tier work command outcome h' t'))
+  abbrev pub TurnRow : PartitionId → Config → PartitionState D → RemoteTier S M → ℕ → InProgress → Command → Outcome
+      → PartitionState D → RemoteTier S M → Type 0
+  TurnRow p config h t b in_progress command outcome h' t' =
+      AtNode h b (λ x. AtBrokerTier t b
+      (λ broker_tier. Row p config h t b x broker_tier in_progress command outcome h' t'))
 
 -- What a turn leaves that finds no memory: what its own calls of the tier may leave, by its command and by what its actor's state has.
 -- A turn that makes none leaves the tier as it was.
@@ -196,7 +214,8 @@ module _ {D S M : Type 0} (store : StoreGhosts S) (meta : MetaGhosts M) where
   SeekingHalts p t b x broker_tier next command t' = ⊥
 
   -- of a timestamp lookup
-  abbrev pub DatingHalts : PartitionId → PartitionState D → RemoteTier S M → ℕ → Node D → BrokerTierState → ℕ → Dating → Command → RemoteTier S M → Type 0
+  abbrev pub DatingHalts : PartitionId → PartitionState D → RemoteTier S M → ℕ → Node D → BrokerTierState → ℕ → Dating
+      → Command → RemoteTier S M → Type 0
   DatingHalts p h t b x broker_tier cursor next (Offset (At ts)) t' = DateHalts p h t b x broker_tier ts cursor next t'
   DatingHalts p h t b x broker_tier cursor next command t' = ⊥
 
@@ -223,7 +242,8 @@ module _ {D S M : Type 0} (store : StoreGhosts S) (meta : MetaGhosts M) where
       CopyingHalts store meta h t b broker_tier copy next command t'
   HaltsTier p h t b x broker_tier (Seeks g next) command t' =
       SeekingHalts store meta p t b x broker_tier next command t'
-  HaltsTier p h t b x broker_tier (Dates g cursor next) command t' = DatingHalts store meta p h t b x broker_tier cursor next command t'
+  HaltsTier p h t b x broker_tier (Dates g cursor next) command t' = DatingHalts store meta p h t b x broker_tier
+      cursor next command t'
   HaltsTier p h t b x broker_tier (Expires g expired_segment next) command t' =
       DeletingHalts store meta h t b expired_segment next command t'
   HaltsTier p h t b x broker_tier (Rebuilds g next) command t' = RebuildingHalts store p t broker_tier g next command t'
@@ -240,5 +260,5 @@ module _ {D S M : Type 0} (disk : DiskGhosts D) (store : StoreGhosts S) (meta : 
   -- there was no memory for a turn of a command of broker b, of which so much is kept
   abbrev pub StaysTier : PartitionId → PartitionState D → RemoteTier S M → ℕ → InProgress → Command → PartitionState D
       → RemoteTier S M → Type 0
-  StaysTier p h t b work command h' t' =
-      StaysOr disk h t b (λ x broker_tier. HaltsTier store meta p h t b x broker_tier work command t') h' t'
+  StaysTier p h t b in_progress command h' t' =
+      StaysOr disk h t b (λ x broker_tier. HaltsTier store meta p h t b x broker_tier in_progress command t') h' t'

@@ -89,7 +89,8 @@ module _ {D S M : Type 0} (meta : MetaGhosts M) where
       → RemoteTier S M → Type 0
   LeadersFirstRow h t b x broker_tier (Answers Down) t' = (is_up x ≡ false) × (t' ≡ t)
   LeadersFirstRow h t b x broker_tier (Answers NotLeader) t' = (is_up x ≡ true) × (leads x.role ≡ false) × (t' ≡ t)
-  LeadersFirstRow h t b x broker_tier (Answers MetaFault) t' = (is_up x ≡ true) × (leads x.role ≡ true) × FailsToRead meta t broker_tier t'
+  LeadersFirstRow h t b x broker_tier (Answers MetaFault) t' = (is_up x ≡ true) × (leads x.role ≡ true)
+      × FailsToRead meta t broker_tier t'
   LeadersFirstRow h t b x broker_tier (Begins g) t' =
       (is_up x ≡ true) × (leads x.role ≡ true) × Notes h x g × RefreshesBroker meta t b broker_tier t'
   LeadersFirstRow h t b x broker_tier other t' = ⊥
@@ -99,7 +100,8 @@ module _ {D S M : Type 0} (meta : MetaGhosts M) where
       → Type 0
   CopyFirstRow h t b x broker_tier (Answers CopyOff) t' =
       (is_up x ≡ true) × (leads x.role ≡ true) × (h.copying ≡ false) × (t' ≡ t)
-  CopyFirstRow h t b x broker_tier (Answers MetaFault) t' = LeadersFirstRow h t b x broker_tier (Answers MetaFault) t' × (h.copying ≡ true)
+  CopyFirstRow h t b x broker_tier (Answers MetaFault) t' = LeadersFirstRow h t b x broker_tier (Answers MetaFault) t'
+      × (h.copying ≡ true)
   CopyFirstRow h t b x broker_tier (Begins g) t' =
       LeadersFirstRow h t b x broker_tier (Begins g) t' × (h.copying ≡ true)
   CopyFirstRow h t b x broker_tier outcome t' = LeadersFirstRow h t b x broker_tier outcome t'
@@ -125,7 +127,8 @@ module _ {D : Type 0} (disk : DiskGhosts D) where
   pub record ReadsSegment (x : Node D) (offset : ℕ) (segment : ClosedSegment) (x' : Node D) : Type 0 where
     pub reads : ReadsLocalLog x x'
     pub ran : NodeHasRead x reads.kept
-    pub last_read : WhileUp x.log (λ log. OnDisk reads.kept (λ d. IsClosedFrom log offset (disk.control d).last_read (Some segment)))
+    pub last_read : WhileUp x.log (λ log. OnDisk reads.kept
+        (λ d. IsClosedFrom log offset (disk.control d).last_read (Some segment)))
     pub part : (s : LogSeen) → ShowsSeen disk.content x.log s → IsSegmentOf s segment
     pub quiet : NoFault disk.control x.log reads.kept
 
@@ -138,7 +141,8 @@ module _ {D : Type 0} (disk : DiskGhosts D) where
   pub record ReadsNoSegment (x : Node D) (offset : ℕ) (name : FileName) (at : ℕ) (x' : Node D) : Type 0 where
     pub reads : ReadsLocalLog x x'
     pub ran : NodeHasRead x reads.kept
-    pub bad : WhileUp x.log (λ log. OnDisk reads.kept (λ d. ClosedFails log offset (disk.control d).last_read (refusal.Damaged name at)))
+    pub bad : WhileUp x.log (λ log. OnDisk reads.kept
+        (λ d. ClosedFails log offset (disk.control d).last_read (refusal.Damaged name at)))
     pub unseen : (s : LogSeen) → ShowsSeen disk.content x.log s → ⊥
     pub quiet : NoFault disk.control x.log reads.kept
 
@@ -147,7 +151,8 @@ module _ {D : Type 0} (disk : DiskGhosts D) where
       → Type 0
   ReadSegmentRow p b x broker_tier offset (Answers DiskFault) x' broker_tier' =
       FailsToReadLog x x' × (broker_tier' ≡ broker_tier)
-  ReadSegmentRow p b x broker_tier offset (Answers (Damaged (File name) at)) x' broker_tier' = ReadsNoSegment x offset name at x' × (broker_tier' ≡ broker_tier)
+  ReadSegmentRow p b x broker_tier offset (Answers (Damaged (File name) at)) x' broker_tier' = ReadsNoSegment x offset
+      name at x' × (broker_tier' ≡ broker_tier)
   ReadSegmentRow p b x broker_tier offset (Chose copy) x' broker_tier' =
       ReadsSegment x offset copy.segment x' × IsNextCopy p b x broker_tier copy.segment copy
       × IsSomeAnd (incarnation_in x.log) (λ i. broker_tier' ≡ counted broker_tier i)
@@ -163,11 +168,12 @@ module _ {D S M : Type 0} (disk : DiskGhosts D) where
     pub row : ReadSegmentRow disk p b x broker_tier
         (copied_to x broker_tier h.registry.start) outcome node broker_tier_after
     pub form : IsPackedBy h.packed outcome
-    pub held : h' ≡ put_node h b node
+    pub partition_state : h' ≡ put_node h b node
     pub tier : t' ≡ put_broker_tier t b broker_tier_after
 
   -- copy, second turn: the lead is lost, or no segment is left to copy, or the next one is read
-  abbrev pub ChooseRow : PartitionId → PartitionState D → RemoteTier S M → ℕ → Node D → BrokerTierState → StartSnapshot → Outcome → PartitionState D → RemoteTier S M → Type 0
+  abbrev pub ChooseRow : PartitionId → PartitionState D → RemoteTier S M → ℕ → Node D → BrokerTierState → StartSnapshot
+      → Outcome → PartitionState D → RemoteTier S M → Type 0
   ChooseRow p h t b x broker_tier g outcome h' t' =
       ((KeepsLead x g → ⊥) × (outcome ≡ Answers LostLead) × (h' ≡ h) × (t' ≡ t))
       ⊎ (KeepsLead x g × (((next_segment h x broker_tier ≡ None) × (outcome ≡ Answers Level) × (h' ≡ h) × (t' ≡ t))

@@ -45,7 +45,7 @@ use Rattle.partition_commands.specs.TurnsOfElections.{Leaves}
 use Rattle.partition_world.specs.declared.tier.BrokerTierState.{BrokerTierState}
 use Rattle.partition_world.specs.declared.tier.RemoteTier.{RemoteTier}
 use Rattle.partition_world.specs.declared.actor_state.Outcome.{Outcome}
-use Rattle.partition_world.specs.declared.actor_state.Outcome.TheVariants.{Answers, Dooms}
+use Rattle.partition_world.specs.declared.actor_state.Outcome.TheVariants.{Answers, ChoosesExpired}
 use Rattle.partition_world.specs.ActorStates.{expiry_outcome}
 use Rattle.partition_world.specs.TurnsOfCopy.{KeepsLead, origin_of, LeadersFirstRow}
 
@@ -117,7 +117,7 @@ module _ {D : Type 0} where
   -- expire, second turn, where it has kept its lead: by what it came to
   abbrev pub ExpiresBy : PartitionId → PartitionState D → Node D → BrokerTierState → Keep → Outcome → PartitionState D
       → Type 0
-  ExpiresBy p h x broker_tier keep (Dooms expired_segment) h' = TakesUp p h broker_tier expired_segment h'
+  ExpiresBy p h x broker_tier keep (ChoosesExpired expired_segment) h' = TakesUp p h broker_tier expired_segment h'
   ExpiresBy p h x broker_tier keep (Answers Kept) h' =
       (due_of h broker_tier ≡ None) × (rises_to h x broker_tier keep ≡ None) × (h' ≡ h)
   ExpiresBy p h x broker_tier keep (Answers answer) h' =

@@ -17,7 +17,7 @@ pub record Whole (D S M : Type 0) : Type 0 where
   pub partition : PartitionId
   pub config : Config
   pub lists : List ActorList
-  pub held : PartitionState D
+  pub partition_state : PartitionState D
   pub tier : RemoteTier S M
   pub desk : List ActorState
   pub journal : Rolled JournalEntry
@@ -28,7 +28,7 @@ seen_as w a = record {
   partition = w.partition;
   config = w.config;
   lists = w.lists;
-  held = a;
+  partition_state = a;
   desk = desk_seen w.desk;
   journal = w.journal;
 }

@@ -36,7 +36,7 @@ pub struct ActorState {
     /// The number of its next order, or of the one that has begun.
     pub number: u32,
     /// What is kept of the order.
-    pub work: InProgress,
+    pub in_progress: InProgress,
 }
 
 /// What a turn of a command came to.
@@ -55,7 +55,7 @@ pub enum Outcome {
     /// A timestamp lookup continues at this offset with this turn.
     Dates(u64, Dating),
     /// An expiry has taken up a remote segment.
-    Dooms(ExpiredSegment),
+    ChoosesExpired(ExpiredSegment),
     /// An expiry continues with this turn.
     Deletes(Deletion),
     /// A join that restarts its log continues with this turn.
@@ -63,7 +63,7 @@ pub enum Outcome {
 }
 
 impl InProgress {
-    /// The work of a copy that has chosen its segment.
+    /// What is kept of a copy that has chosen its segment.
     pub(crate) fn chosen(self, copying: Copying) -> InProgress
         ensures { result ≡ chosen self copying }
     {
@@ -73,7 +73,7 @@ impl InProgress {
         }
     }
 
-    /// The work of a copy that continues.
+    /// What is kept of a copy that continues.
     pub(crate) fn moved(self, next: CopyStep) -> InProgress
         ensures { result ≡ moved self next }
     {
@@ -83,7 +83,7 @@ impl InProgress {
         }
     }
 
-    /// The work of a fetch that continues in the remote tier.
+    /// What is kept of a fetch that continues in the remote tier.
     pub(crate) fn sought(self, next: Search) -> InProgress
         ensures { result ≡ sought self next }
     {
@@ -95,7 +95,7 @@ impl InProgress {
         }
     }
 
-    /// The work of a timestamp lookup that continues.
+    /// What is kept of a timestamp lookup that continues.
     pub(crate) fn dated(self, cursor: u64, next: Dating) -> InProgress
         ensures { result ≡ dated self cursor next }
     {
@@ -106,7 +106,7 @@ impl InProgress {
         }
     }
 
-    /// The work of an expiry that has taken up a remote segment.
+    /// What is kept of an expiry that has taken up a remote segment.
     pub(crate) fn expired_segment(self, segment: ExpiredSegment) -> InProgress
         ensures { result ≡ expired_segment self segment }
     {
@@ -116,7 +116,7 @@ impl InProgress {
         }
     }
 
-    /// The work of an expiry that continues.
+    /// What is kept of an expiry that continues.
     pub(crate) fn deleting(self, next: Deletion) -> InProgress
         ensures { result ≡ deleting self next }
     {
@@ -128,7 +128,7 @@ impl InProgress {
         }
     }
 
-    /// The work of a join that continues to restart its log.
+    /// What is kept of a join that continues to restart its log.
     pub(crate) fn rebuilding(self, next: Rebuild) -> InProgress
         ensures { result ≡ rebuilding self next }
     {

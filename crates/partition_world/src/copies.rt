@@ -54,7 +54,8 @@ pub(crate) fn copied_to<D: Disk>(node: &Node<D>, broker_tier: &BrokerTierState, 
 
 /// Whether a closed segment comes next, after the end that the remote tier has all up to.
 fn has_next<D: Disk>(node: &Node<D>, copied: u64) -> bool
-    ensures some { result ≡ true → IsSomeAnd (candidate (closed_in node.now.log) copied node.now.known_high_watermark) (λ segment. Unit {0}) }
+    ensures some { result ≡ true → IsSomeAnd (candidate (closed_in node.now.log) copied node.now.known_high_watermark)
+        (λ segment. Unit {0}) }
     ensures none { result ≡ false → candidate (closed_in node.now.log) copied node.now.known_high_watermark ≡ None }
 {
     candidate(node.log.first_past(copied), node.known_high_watermark).is_some()
@@ -106,7 +107,8 @@ fn read_next<D: Disk>(
     requires up { is_up node.old ≡ true }
     requires next { IsSomeAnd (first_past offset (closed_in node.old.log)) (λ segment. Unit {0}) }
     requires tries { broker_tier.old.attempt < 18446744073709551615 }
-    ensures row { IfOk result (λ outcome. ReadSegmentRow D.Disk partition broker.0 node.old broker_tier.old offset outcome node.new broker_tier.new) }
+    ensures row { IfOk result (λ outcome. ReadSegmentRow D.Disk partition broker.0 node.old broker_tier.old offset
+        outcome node.new broker_tier.new) }
     ensures form { IfOk result (IsPackedBy packed) }
     ensures err { OnErr result (ReadsQuietly D.Disk node.old node.new) }
     ensures broker_tier { OnErr result (broker_tier.new ≡ broker_tier.old) }
@@ -133,12 +135,12 @@ fn read_next<D: Disk>(
 }
 
 /// Who records what a broker does.
-pub(crate) fn origin<D: Disk>(held: &PartitionState<D>, broker: BrokerId) -> EventOrigin
-    ensures { result ≡ origin_of held.now broker.0 }
+pub(crate) fn origin<D: Disk>(partition_state: &PartitionState<D>, broker: BrokerId) -> EventOrigin
+    ensures { result ≡ origin_of partition_state.now broker.0 }
 {
     EventOrigin {
         broker,
-        now: held.clock,
+        now: partition_state.clock,
     }
 }
 
@@ -148,20 +150,20 @@ impl<S: Store, M: MetaLog> RemoteTier<S, M> {
         &mut self,
         alloc: Global,
         b: usize,
-        held: &PartitionState<D>,
+        partition_state: &PartitionState<D>,
     ) -> Result<Outcome, AllocError>
-        requires node { b < length held.now.nodes }
+        requires node { b < length partition_state.now.nodes }
         requires broker_tier { b < length self.old.broker_tiers }
-        ensures row { IfOk result (λ outcome. AtNode held.now b (λ x. AtBrokerTier self.old b (λ broker_tier.
-            CopyFirstRow M.MetaLog held.now self.old b x broker_tier outcome self.new))) }
+        ensures row { IfOk result (λ outcome. AtNode partition_state.now b (λ x. AtBrokerTier self.old b (λ broker_tier.
+            CopyFirstRow M.MetaLog partition_state.now self.old b x broker_tier outcome self.new))) }
         ensures err { OnErr result
             (AtBrokerTier self.old b (λ broker_tier. HaltsRefresh M.MetaLog self.old b broker_tier self.new)) }
     {
-        let node = held.nodes.get(b);
-        if !held.copying && node.is_up() && leading(node.role).is_some() {
+        let node = partition_state.nodes.get(b);
+        if !partition_state.copying && node.is_up() && leading(node.role).is_some() {
             return Ok(Outcome::Answers(Answer::CopyOff));
         }
-        self.begin_leading(alloc, b, held)
+        self.begin_leading(alloc, b, partition_state)
     }
 
     /// Begins a leader's command on the remote tier: its view is refreshed.
@@ -169,16 +171,16 @@ impl<S: Store, M: MetaLog> RemoteTier<S, M> {
         &mut self,
         alloc: Global,
         b: usize,
-        held: &PartitionState<D>,
+        partition_state: &PartitionState<D>,
     ) -> Result<Outcome, AllocError>
-        requires node { b < length held.now.nodes }
+        requires node { b < length partition_state.now.nodes }
         requires broker_tier { b < length self.old.broker_tiers }
-        ensures row { IfOk result (λ outcome. AtNode held.now b (λ x. AtBrokerTier self.old b (λ broker_tier.
-            LeadersFirstRow M.MetaLog held.now self.old b x broker_tier outcome self.new))) }
+        ensures row { IfOk result (λ outcome. AtNode partition_state.now b (λ x. AtBrokerTier self.old b (λ broker_tier.
+            LeadersFirstRow M.MetaLog partition_state.now self.old b x broker_tier outcome self.new))) }
         ensures err { OnErr result
             (AtBrokerTier self.old b (λ broker_tier. HaltsRefresh M.MetaLog self.old b broker_tier self.new)) }
     {
-        let node = held.nodes.get(b);
+        let node = partition_state.nodes.get(b);
         if !node.is_up() {
             return Ok(Outcome::Answers(Answer::Down));
         }
@@ -186,7 +188,7 @@ impl<S: Store, M: MetaLog> RemoteTier<S, M> {
             return Ok(Outcome::Answers(Answer::NotLeader));
         }
         match self.refresh(b) {
-            Ok(()) => Ok(Outcome::Begins(held.notes(alloc, b))),
+            Ok(()) => Ok(Outcome::Begins(partition_state.notes(alloc, b))),
             Err(Trouble::Failed) => Ok(Outcome::Answers(Answer::MetaFault)),
             Err(Trouble::NoMemory) => Err(AllocError),
         }
@@ -199,26 +201,32 @@ impl<S: Store, M: MetaLog> RemoteTier<S, M> {
         partition: PartitionId,
         broker: BrokerId,
         recorded: &StartSnapshot,
-        held: &mut PartitionState<D>,
+        partition_state: &mut PartitionState<D>,
     ) -> Result<Outcome, AllocError>
-        requires node { broker.0 < length held.old.nodes }
+        requires node { broker.0 < length partition_state.old.nodes }
         requires broker_tier { broker.0 < length self.old.broker_tiers }
         requires tries { AtBrokerTier self.old broker.0 (λ broker_tier. broker_tier.attempt < 18446744073709551615) }
         ensures row { IfOk result
-            (λ outcome. AtNode held.old broker.0 (λ x. AtBrokerTier self.old broker.0 (λ broker_tier.
-            ChooseRow D.Disk partition held.old self.old broker.0 x broker_tier recorded.now outcome held.new self.new))) }
-        ensures err { OnErr result (KeepsPartition D.content D.control held.old held.new × (self.new ≡ self.old)) }
+            (λ outcome. AtNode partition_state.old broker.0 (λ x. AtBrokerTier self.old broker.0 (λ broker_tier.
+            ChooseRow D.Disk partition partition_state.old self.old broker.0 x broker_tier recorded.now outcome
+            partition_state.new self.new))) }
+        ensures err { OnErr result (KeepsPartition D.content D.control partition_state.old partition_state.new
+            × (self.new ≡ self.old)) }
     {
         let b = broker.0 as usize;
-        let node = held.nodes.get(b);
+        let node = partition_state.nodes.get(b);
         if !keeps_lead(node, recorded) {
             return Ok(Outcome::Answers(Answer::LostLead));
         }
-        let copied = copied_to(node, self.broker_tiers.get(b), held.registry.start);
+        let copied = copied_to(
+            node,
+            self.broker_tiers.get(b),
+            partition_state.registry.start,
+        );
         if !has_next(node, copied) {
             return Ok(Outcome::Answers(Answer::Level));
         }
-        self.read_segment(alloc, partition, broker, copied, held)
+        self.read_segment(alloc, partition, broker, copied, partition_state)
     }
 
     /// Reads the segment that a copy is of.
@@ -228,26 +236,27 @@ impl<S: Store, M: MetaLog> RemoteTier<S, M> {
         partition: PartitionId,
         broker: BrokerId,
         copied: u64,
-        held: &mut PartitionState<D>,
+        partition_state: &mut PartitionState<D>,
     ) -> Result<Outcome, AllocError>
-        requires node { AtNode held.old broker.0 (λ x. is_up x ≡ true) }
-        requires next { AtNode held.old broker.0 (λ x. IsSomeAnd (first_past copied (closed_in x.log)) (λ segment. Unit {0})) }
+        requires node { AtNode partition_state.old broker.0 (λ x. is_up x ≡ true) }
+        requires next { AtNode partition_state.old broker.0
+            (λ x. IsSomeAnd (first_past copied (closed_in x.log)) (λ segment. Unit {0})) }
         requires broker_tier { broker.0 < length self.old.broker_tiers }
         requires tries { AtBrokerTier self.old broker.0 (λ broker_tier. broker_tier.attempt < 18446744073709551615) }
         ensures row { IfOk result
-            (λ outcome. AtNode held.old broker.0 (λ x. AtBrokerTier self.old broker.0 (λ broker_tier.
+            (λ outcome. AtNode partition_state.old broker.0 (λ x. AtBrokerTier self.old broker.0 (λ broker_tier.
             (x' : Broker D) × (broker_tier' : Knowledge)
             × ReadSegmentRow D.Disk partition broker.0 x broker_tier copied outcome x' broker_tier'
-            × (held.new ≡ put_node held.old broker.0 x')
+            × (partition_state.new ≡ put_node partition_state.old broker.0 x')
             × (self.new ≡ put_broker_tier self.old broker.0 broker_tier')))) }
-        ensures form { IfOk result (IsPackedBy held.old.packed) }
-        ensures err { OnErr result (AtNode held.old broker.0 (λ x. (x' : Broker D) × ReadsQuietly D.Disk x x'
-            × (held.new ≡ put_node held.old broker.0 x'))) }
+        ensures form { IfOk result (IsPackedBy partition_state.old.packed) }
+        ensures err { OnErr result (AtNode partition_state.old broker.0 (λ x. (x' : Broker D) × ReadsQuietly D.Disk x x'
+            × (partition_state.new ≡ put_node partition_state.old broker.0 x'))) }
         ensures tier { OnErr result (self.new ≡ self.old) }
     {
         let b = broker.0 as usize;
-        let packed = held.packed;
-        let node = held.nodes.at_mut(b);
+        let packed = partition_state.packed;
+        let node = partition_state.nodes.at_mut(b);
         let broker_tier = self.broker_tiers.at_mut(b);
         read_next(alloc, partition, broker, copied, packed, node, broker_tier)
     }
@@ -260,22 +269,24 @@ impl<S: Store, M: MetaLog> RemoteTier<S, M> {
         recorded: &StartSnapshot,
         copying: &mut Copying,
         next: CopyStep,
-        held: &PartitionState<D>,
+        partition_state: &PartitionState<D>,
     ) -> Result<Outcome, AllocError>
-        requires node { broker.0 < length held.now.nodes }
+        requires node { broker.0 < length partition_state.now.nodes }
         requires broker_tier { broker.0 < length self.old.broker_tiers }
         ensures row { IfOk result
-            (λ outcome. AtNode held.now broker.0 (λ x. AtBrokerTier self.old broker.0 (λ broker_tier.
-            CopyOnRow S.Store M.MetaLog held.now self.old broker.0 x broker_tier recorded.now copying.old next outcome self.new))) }
+            (λ outcome. AtNode partition_state.now broker.0 (λ x. AtBrokerTier self.old broker.0 (λ broker_tier.
+            CopyOnRow S.Store M.MetaLog partition_state.now self.old broker.0 x broker_tier recorded.now copying.old
+            next outcome self.new))) }
         ensures err { OnErr result (AtBrokerTier self.old broker.0 (λ broker_tier.
-            WantsForCopy S.Store M.MetaLog held.now self.old broker.0 broker_tier copying.old next self.new)) }
+            WantsForCopy S.Store M.MetaLog partition_state.now self.old broker.0 broker_tier copying.old next
+            self.new)) }
         ensures same { copying.new ≡ copying.old }
     {
         let b = broker.0 as usize;
-        if !keeps_lead(held.nodes.get(b), recorded) {
+        if !keeps_lead(partition_state.nodes.get(b), recorded) {
             return Ok(Outcome::Answers(Answer::LostLead));
         }
-        let origin = origin(held, broker);
+        let origin = origin(partition_state, broker);
         let broker_tier = self.broker_tiers.at_mut(b);
         let turn = copy_turn(
             alloc,

@@ -73,13 +73,13 @@ fn is_due<D: Disk>(
 /// Whether the first closed segment of a broker's local log may go.
 pub(crate) fn may_trim<D: Disk>(
     alloc: Global,
-    held: &PartitionState<D>,
+    partition_state: &PartitionState<D>,
     node: &Node<D>,
     broker_tier: &BrokerTierState,
     keep: Keep,
 ) -> Result<bool, AllocError>
     requires { is_up node.now ≡ true }
-    ensures { IfOk result (λ may. IsTrue may ↔ MayTrim held.now node.now broker_tier.now keep) }
+    ensures { IfOk result (λ may. IsTrue may ↔ MayTrim partition_state.now node.now broker_tier.now keep) }
 {
     if !node.log.may_drop() {
         return Ok(false);
@@ -88,10 +88,10 @@ pub(crate) fn may_trim<D: Disk>(
     if end > node.known_high_watermark {
         return Ok(false);
     }
-    let start = held.registry.start;
+    let start = partition_state.registry.start;
     let from = node.local_start().max(start);
     if !reaches(&broker_tier.view, node.line(), node.end(), from, end) {
         return Ok(false);
     }
-    is_due(alloc, node, start, held.clock, keep)
+    is_due(alloc, node, start, partition_state.clock, keep)
 }

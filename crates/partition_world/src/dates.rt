@@ -70,17 +70,17 @@ fn resumed_with(start: u64, cursor: u64, next: SearchStep) -> SearchStep
 /// What a search asks for at this turn.
 fn asked_of<D: Disk>(
     partition: PartitionId,
-    held: &PartitionState<D>,
+    partition_state: &PartitionState<D>,
     node: &Node<D>,
     ts: i64,
 ) -> Asked
     requires { is_up node.now ≡ true }
-    ensures { result ≡ asked_of partition held.now node.now ts }
+    ensures { result ≡ asked_of partition partition_state.now node.now ts }
 {
     Asked {
         partition,
         ts,
-        start: held.registry.start,
+        start: partition_state.registry.start,
         local: node.local_start(),
         log_end: node.end(),
         mark: node.known_high_watermark,
@@ -101,19 +101,20 @@ fn is_own(asked: &Asked, cursor: u64, next: &SearchStep) -> bool
 
 /// Takes a turn of a search in a broker's local log.
 fn search_own<D: Disk>(
-    held: &mut PartitionState<D>,
+    partition_state: &mut PartitionState<D>,
     b: usize,
     asked: &Asked,
     cursor: u64,
 ) -> Result<Turn<(u64, SearchStep)>, AllocError>
-    requires up { AtNode held.old b (λ x. is_up x ≡ true) }
-    requires local { AtNode held.old b (λ x. local_of x ≤ cursor) }
+    requires up { AtNode partition_state.old b (λ x. is_up x ≡ true) }
+    requires local { AtNode partition_state.old b (λ x. local_of x ≤ cursor) }
     requires mark { cursor < asked.now.mark }
-    ensures row { IfOk result (λ turn. AtNode held.old b (λ x. SearchesOwn D.Disk held.old b x asked.now cursor turn held.new)) }
+    ensures row { IfOk result (λ turn. AtNode partition_state.old b
+        (λ x. SearchesOwn D.Disk partition_state.old b x asked.now cursor turn partition_state.new)) }
     ensures goes { IfOk result (SearchContinues cursor) }
-    ensures err { OnErr result (KeepsPartition D.content D.control held.old held.new) }
+    ensures err { OnErr result (KeepsPartition D.content D.control partition_state.old partition_state.new) }
 {
-    own_turn(&mut held.nodes.at_mut(b).log, asked, cursor)
+    own_turn(&mut partition_state.nodes.at_mut(b).log, asked, cursor)
 }
 
 impl<S: Store, M: MetaLog> RemoteTier<S, M> {
@@ -160,24 +161,25 @@ impl<S: Store, M: MetaLog> RemoteTier<S, M> {
         asked: &Asked,
         cursor: u64,
         next: &SearchStep,
-        held: &mut PartitionState<D>,
+        partition_state: &mut PartitionState<D>,
     ) -> Result<Turn<(u64, SearchStep)>, AllocError>
-        requires node { AtNode held.old b (λ x. is_up x ≡ true) }
-        requires local { AtNode held.old b (λ x. local_of x ≡ asked.now.local) }
+        requires node { AtNode partition_state.old b (λ x. is_up x ≡ true) }
+        requires local { AtNode partition_state.old b (λ x. local_of x ≡ asked.now.local) }
         requires broker_tier { b < length self.old.broker_tiers }
         requires mark { cursor < asked.now.mark }
         requires holds { IsSet cursor next.now }
-        ensures row { IfOk result (λ turn. AtNode held.old b (λ x. AtBrokerTier self.old b (λ broker_tier.
-            SearchRow D.Disk S.Store M.MetaLog held.old self.old b x broker_tier asked.now cursor next.now
-            (is_own asked.now.local cursor next.now) turn held.new self.new))) }
+        ensures row { IfOk result (λ turn. AtNode partition_state.old b (λ x. AtBrokerTier self.old b (λ broker_tier.
+            SearchRow D.Disk S.Store M.MetaLog partition_state.old self.old b x broker_tier asked.now cursor next.now
+            (is_own asked.now.local cursor next.now) turn partition_state.new self.new))) }
         ensures goes { IfOk result (SearchContinues cursor) }
-        ensures err { OnErr result (StaysOr D.Disk held.old self.old b (λ x broker_tier.
-            WantsForDate S.Store M.MetaLog self.old b broker_tier (line_of x) asked.now cursor next.now self.new) held.new self.new) }
+        ensures err { OnErr result (StaysOr D.Disk partition_state.old self.old b (λ x broker_tier.
+            WantsForDate S.Store M.MetaLog self.old b broker_tier (line_of x) asked.now cursor next.now self.new)
+            partition_state.new self.new) }
     {
         if is_own(asked, cursor, next) {
-            return search_own(held, b, asked, cursor);
+            return search_own(partition_state, b, asked, cursor);
         }
-        let line = held.nodes.get(b).line();
+        let line = partition_state.nodes.get(b).line();
         self.search_remote(alloc, b, line, asked, cursor, *next)
     }
 
@@ -191,27 +193,29 @@ impl<S: Store, M: MetaLog> RemoteTier<S, M> {
         ts: i64,
         cursor: u64,
         next: SearchStep,
-        held: &mut PartitionState<D>,
+        partition_state: &mut PartitionState<D>,
     ) -> Result<Outcome, AllocError>
-        requires node { broker.0 < length held.old.nodes }
+        requires node { broker.0 < length partition_state.old.nodes }
         requires broker_tier { broker.0 < length self.old.broker_tiers }
         requires holds { IsSet cursor next }
         ensures row { IfOk result
-            (λ outcome. AtNode held.old broker.0 (λ x. AtBrokerTier self.old broker.0 (λ broker_tier.
-            DateOnRow D.Disk S.Store M.MetaLog partition held.old self.old broker.0 x broker_tier recorded.now ts cursor next outcome held.new self.new))) }
-        ensures err { OnErr result (StaysOr D.Disk held.old self.old broker.0 (λ x broker_tier.
-            DateHalts S.Store M.MetaLog partition held.old self.old broker.0 x broker_tier ts cursor next self.new) held.new self.new) }
+            (λ outcome. AtNode partition_state.old broker.0 (λ x. AtBrokerTier self.old broker.0 (λ broker_tier.
+            DateOnRow D.Disk S.Store M.MetaLog partition partition_state.old self.old broker.0 x broker_tier
+            recorded.now ts cursor next outcome partition_state.new self.new))) }
+        ensures err { OnErr result (StaysOr D.Disk partition_state.old self.old broker.0 (λ x broker_tier.
+            DateHalts S.Store M.MetaLog partition partition_state.old self.old broker.0 x broker_tier ts cursor next
+            self.new) partition_state.new self.new) }
     {
         let b = broker.0 as usize;
-        let node = held.nodes.get(b);
-        let start = held.registry.start;
+        let node = partition_state.nodes.get(b);
+        let start = partition_state.registry.start;
         let at = resumed_at(start, cursor);
         if let Some(answer) = answer_of(node, recorded, at) {
             return Ok(Outcome::Answers(answer));
         }
-        let asked = asked_of(partition, held, node, ts);
+        let asked = asked_of(partition, partition_state, node, ts);
         let later = resumed_with(start, cursor, next);
-        let turn = self.search(alloc, b, &asked, at, &later, held)?;
+        let turn = self.search(alloc, b, &asked, at, &later, partition_state)?;
         Ok(date_outcome(turn))
     }
 }

@@ -7,7 +7,7 @@ ghost use Rattle.laws_partition.specs.Sound.{turns_left};
 ghost use Rattle.laws_partition.specs.Turn.{event_of};
 ghost use Rattle.laws_partition.specs.declared.start_snapshot.Turned.TheVariants as turned;
 ghost use Rattle.plain_log.specs.declared.journal.Event.TheVariants as event;
-ghost use Rattle.partition_world.specs.declared.actor_state.Outcome.TheVariants.{Chose, Goes, Seeks, Dates, Dooms, Deletes, Rebuilds};
+ghost use Rattle.partition_world.specs.declared.actor_state.Outcome.TheVariants.{Chose, Goes, Seeks, Dates, ChoosesExpired, Deletes, Rebuilds};
 ghost use Rattle.partition_world.specs.ActorStates.{actor_state_after, told_of, told_count, stepped_of};
 
 use crate::actor_state::{ActorState, InProgress, Outcome};
@@ -54,23 +54,29 @@ pub(crate) fn fresh_desk(alloc: Global, count: usize) -> Result<Row<ActorState>,
     for _i in 0..count {
         desk.push(ActorState {
             number: 0,
-            work: InProgress::Idle,
+            in_progress: InProgress::Idle,
         })?;
     }
     Ok(desk)
 }
 
-/// Puts a work at an actor's state.
+/// Puts what is in progress at an actor's state.
 pub(crate) fn set_actor_state(
     desk: &mut Row<ActorState>,
     place: usize,
     number: u32,
-    work: InProgress,
+    in_progress: InProgress,
 )
     requires { place < length desk.old }
-    ensures { desk.new ≡ slice_set desk.old place (record { number = number; work = work }) }
+    ensures { desk.new ≡ slice_set desk.old place (record { number = number; in_progress = in_progress }) }
 {
-    let _ = desk.replace(place, ActorState { number, work });
+    let _ = desk.replace(
+        place,
+        ActorState {
+            number,
+            in_progress,
+        },
+    );
 }
 
 /// Takes what is at an actor's state.
@@ -81,7 +87,7 @@ pub(crate) fn take_actor_state(desk: &mut Row<ActorState>, place: usize) -> Acto
 {
     let idle = ActorState {
         number: 0,
-        work: InProgress::Idle,
+        in_progress: InProgress::Idle,
     };
     desk.replace(place, idle)
 }
@@ -90,84 +96,91 @@ pub(crate) fn take_actor_state(desk: &mut Row<ActorState>, place: usize) -> Acto
 #[tactic(auto, using(crate::proofs::BrokerTierStates::set_twice))]
 fn choose_at(desk: &mut Row<ActorState>, place: usize, copying: Copying)
     requires { place < length desk.old }
-    ensures { IsSomeAnd (slice_get desk.old place) (λ actor_state. desk.new ≡ slice_set desk.old place (actor_state_after actor_state (Chose copying))) }
+    ensures { IsSomeAnd (slice_get desk.old place) (λ actor_state. desk.new
+        ≡ slice_set desk.old place (actor_state_after actor_state (Chose copying))) }
 {
     let actor_state = take_actor_state(desk, place);
     let number = actor_state.number;
-    let work = actor_state.work.chosen(copying);
-    set_actor_state(desk, place, number, work);
+    let in_progress = actor_state.in_progress.chosen(copying);
+    set_actor_state(desk, place, number, in_progress);
 }
 
 /// Makes a copy continue with a turn.
 #[tactic(auto, using(crate::proofs::BrokerTierStates::set_twice))]
 fn move_at(desk: &mut Row<ActorState>, place: usize, next: CopyStep)
     requires { place < length desk.old }
-    ensures { IsSomeAnd (slice_get desk.old place) (λ actor_state. desk.new ≡ slice_set desk.old place (actor_state_after actor_state (Goes next))) }
+    ensures { IsSomeAnd (slice_get desk.old place)
+        (λ actor_state. desk.new ≡ slice_set desk.old place (actor_state_after actor_state (Goes next))) }
 {
     let actor_state = take_actor_state(desk, place);
     let number = actor_state.number;
-    let work = actor_state.work.moved(next);
-    set_actor_state(desk, place, number, work);
+    let in_progress = actor_state.in_progress.moved(next);
+    set_actor_state(desk, place, number, in_progress);
 }
 
 /// Makes a fetch continue in the remote tier.
 #[tactic(auto, using(crate::proofs::BrokerTierStates::set_twice))]
 fn seek_at(desk: &mut Row<ActorState>, place: usize, next: Search)
     requires { place < length desk.old }
-    ensures { IsSomeAnd (slice_get desk.old place) (λ actor_state. desk.new ≡ slice_set desk.old place (actor_state_after actor_state (Seeks next))) }
+    ensures { IsSomeAnd (slice_get desk.old place)
+        (λ actor_state. desk.new ≡ slice_set desk.old place (actor_state_after actor_state (Seeks next))) }
 {
     let actor_state = take_actor_state(desk, place);
     let number = actor_state.number;
-    let work = actor_state.work.sought(next);
-    set_actor_state(desk, place, number, work);
+    let in_progress = actor_state.in_progress.sought(next);
+    set_actor_state(desk, place, number, in_progress);
 }
 
 /// Lets a timestamp lookup continue.
 #[tactic(auto, using(crate::proofs::BrokerTierStates::set_twice))]
 fn date_at(desk: &mut Row<ActorState>, place: usize, cursor: u64, next: Dating)
     requires { place < length desk.old }
-    ensures { IsSomeAnd (slice_get desk.old place) (λ actor_state. desk.new ≡ slice_set desk.old place (actor_state_after actor_state (Dates cursor next))) }
+    ensures { IsSomeAnd (slice_get desk.old place) (λ actor_state. desk.new
+        ≡ slice_set desk.old place (actor_state_after actor_state (Dates cursor next))) }
 {
     let actor_state = take_actor_state(desk, place);
     let number = actor_state.number;
-    let work = actor_state.work.dated(cursor, next);
-    set_actor_state(desk, place, number, work);
+    let in_progress = actor_state.in_progress.dated(cursor, next);
+    set_actor_state(desk, place, number, in_progress);
 }
 
 /// Makes an expiry continue with the remote segment that it has taken up.
 #[tactic(auto, using(crate::proofs::BrokerTierStates::set_twice))]
 fn doom_at(desk: &mut Row<ActorState>, place: usize, segment: ExpiredSegment)
     requires { place < length desk.old }
-    ensures { IsSomeAnd (slice_get desk.old place) (λ actor_state. desk.new ≡ slice_set desk.old place (actor_state_after actor_state (Dooms segment))) }
+    ensures { IsSomeAnd (slice_get desk.old place) (λ actor_state. desk.new
+        ≡ slice_set desk.old place (actor_state_after actor_state (ChoosesExpired segment))) }
 {
     let actor_state = take_actor_state(desk, place);
     let number = actor_state.number;
-    let work = actor_state.work.expired_segment(segment);
-    set_actor_state(desk, place, number, work);
+    let in_progress = actor_state.in_progress.expired_segment(segment);
+    set_actor_state(desk, place, number, in_progress);
 }
 
 /// Makes an expiry continue with a turn.
 #[tactic(auto, using(crate::proofs::BrokerTierStates::set_twice))]
 fn delete_at(desk: &mut Row<ActorState>, place: usize, next: Deletion)
     requires { place < length desk.old }
-    ensures { IsSomeAnd (slice_get desk.old place) (λ actor_state. desk.new ≡ slice_set desk.old place (actor_state_after actor_state (Deletes next))) }
+    ensures { IsSomeAnd (slice_get desk.old place)
+        (λ actor_state. desk.new ≡ slice_set desk.old place (actor_state_after actor_state (Deletes next))) }
 {
     let actor_state = take_actor_state(desk, place);
     let number = actor_state.number;
-    let work = actor_state.work.deleting(next);
-    set_actor_state(desk, place, number, work);
+    let in_progress = actor_state.in_progress.deleting(next);
+    set_actor_state(desk, place, number, in_progress);
 }
 
 /// Makes a join continue that restarts its log.
 #[tactic(auto, using(crate::proofs::BrokerTierStates::set_twice))]
 fn rebuild_at(desk: &mut Row<ActorState>, place: usize, next: Rebuild)
     requires { place < length desk.old }
-    ensures { IsSomeAnd (slice_get desk.old place) (λ actor_state. desk.new ≡ slice_set desk.old place (actor_state_after actor_state (Rebuilds next))) }
+    ensures { IsSomeAnd (slice_get desk.old place) (λ actor_state. desk.new
+        ≡ slice_set desk.old place (actor_state_after actor_state (Rebuilds next))) }
 {
     let actor_state = take_actor_state(desk, place);
     let number = actor_state.number;
-    let work = actor_state.work.rebuilding(next);
-    set_actor_state(desk, place, number, work);
+    let in_progress = actor_state.in_progress.rebuilding(next);
+    set_actor_state(desk, place, number, in_progress);
 }
 
 /// Where the log was cut, of a join that begins.
@@ -192,7 +205,8 @@ pub(crate) fn enter(
     requires place { place < length desk.old }
     requires few { IsSomeAnd (slice_get desk.old place) (λ actor_state. actor_state.number < 4294967295) }
     requires room { 0 < journal.old.room }
-    ensures desk { IsSomeAnd (slice_get desk.old place) (λ actor_state. desk.new ≡ slice_set desk.old place (actor_state_after actor_state outcome)) }
+    ensures desk { IsSomeAnd (slice_get desk.old place)
+        (λ actor_state. desk.new ≡ slice_set desk.old place (actor_state_after actor_state outcome)) }
     ensures entered { IsSomeAnd (slice_get desk.old place) (λ actor_state.
         journal.new.items ≡ journal.old.items ++ told_of actor actor_state.number command.now outcome) }
     ensures room { journal.new.room ≡ journal.old.room - told_count outcome }
@@ -235,7 +249,7 @@ pub(crate) fn enter(
             date_at(desk, place, cursor, next);
             Stepped::Ran
         }
-        Outcome::Dooms(segment) => {
+        Outcome::ChoosesExpired(segment) => {
             doom_at(desk, place, segment);
             Stepped::Ran
         }

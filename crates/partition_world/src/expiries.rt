@@ -34,15 +34,15 @@ use tier_base::{BrokerId, Keep, PartitionId};
 /// Where the log start offset comes to by a broker's log and view, where retention lets it rise.
 fn rises_to<D: Disk>(
     alloc: Global,
-    held: &PartitionState<D>,
+    partition_state: &PartitionState<D>,
     node: &Node<D>,
     broker_tier: &BrokerTierState,
     keep: Keep,
 ) -> Result<Option<u64>, AllocError>
     requires { is_up node.now ≡ true }
-    ensures { IfOk result (λ start. start ≡ rises_to held.now node.now broker_tier.now keep) }
+    ensures { IfOk result (λ start. start ≡ rises_to partition_state.now node.now broker_tier.now keep) }
 {
-    let (start, end) = (held.registry.start, node.end());
+    let (start, end) = (partition_state.registry.start, node.end());
     let pieces = chain(
         alloc,
         &broker_tier.view,
@@ -55,7 +55,7 @@ fn rises_to<D: Disk>(
     let closed = node.log.closed();
     let own = find_uncopied(
         alloc,
-        held.copying,
+        partition_state.copying,
         node.local_start(),
         offset,
         node.known_high_watermark,
@@ -73,7 +73,7 @@ fn rises_to<D: Disk>(
         pieces.as_slice(),
         own.as_slice(),
         rest,
-        held.clock,
+        partition_state.clock,
         keep,
     )
 }
@@ -82,34 +82,35 @@ fn rises_to<D: Disk>(
 /// broker knows.
 fn rises_within<D: Disk>(
     alloc: Global,
-    held: &PartitionState<D>,
+    partition_state: &PartitionState<D>,
     node: &Node<D>,
     broker_tier: &BrokerTierState,
     keep: Keep,
 ) -> Result<Option<u64>, AllocError>
     requires { is_up node.now ≡ true }
-    ensures is { IfOk result (λ start. start ≡ rises_to held.now node.now broker_tier.now keep) }
-    ensures within { IfOk result (λ start. IfSome start (λ n. (held.now.registry.start < n)
+    ensures is { IfOk result (λ start. start ≡ rises_to partition_state.now node.now broker_tier.now keep) }
+    ensures within { IfOk result (λ start. IfSome start (λ n. (partition_state.now.registry.start < n)
         × (n ≤ node.now.known_high_watermark))) }
 {
     a_log_start_rises_up_to_the_known_mark();
     let (_begins, _entries) = (node.line().entries(), broker_tier.view.entries());
-    rises_to(alloc, held, node, broker_tier, keep)
+    rises_to(alloc, partition_state, node, broker_tier, keep)
 }
 
 /// Raises the log start offset for a leader. Retention raises it above the log start offset, and at most to the high
 /// watermark that the leader knows, so it is refused only where another epoch has begun.
-fn raise<D: Disk>(held: &mut PartitionState<D>, role: Role, start: u64) -> Answer
+fn raise<D: Disk>(partition_state: &mut PartitionState<D>, role: Role, start: u64) -> Answer
     requires leads { leads role ≡ true }
-    requires above { held.old.registry.start < start }
-    requires within { (e : ℕ) → role ≡ Leads e → held.old.registry.epoch ≤ e → start ≤ held.old.registry.mark }
-    ensures { ExpiryRaiseRow held.old role start result held.new }
+    requires above { partition_state.old.registry.start < start }
+    requires within { (e : ℕ) → role ≡ Leads e → partition_state.old.registry.epoch ≤ e
+        → start ≤ partition_state.old.registry.mark }
+    ensures { ExpiryRaiseRow partition_state.old role start result partition_state.new }
 {
     let Some(epoch) = leading(role) else {
         // The role leads: `leads`.
         unreachable!()
     };
-    match held.registry.raise(epoch, start) {
+    match partition_state.registry.raise(epoch, start) {
         Ok(start) => Answer::Raised(start),
         Err(RegRefusal::StaleEpoch { current }) => Answer::StaleEpoch(current as u64),
         // The start is above the log start offset and within the high watermark: `above`, `within`.
@@ -123,16 +124,16 @@ impl<S: Store, M: MetaLog> RemoteTier<S, M> {
         &mut self,
         alloc: Global,
         b: usize,
-        held: &PartitionState<D>,
+        partition_state: &PartitionState<D>,
     ) -> Result<Outcome, AllocError>
-        requires node { b < length held.now.nodes }
+        requires node { b < length partition_state.now.nodes }
         requires broker_tier { b < length self.old.broker_tiers }
-        ensures row { IfOk result (λ outcome. AtNode held.now b (λ x. AtBrokerTier self.old b (λ broker_tier.
-            ExpireFirstRow M.MetaLog held.now self.old b x broker_tier outcome self.new))) }
+        ensures row { IfOk result (λ outcome. AtNode partition_state.now b (λ x. AtBrokerTier self.old b (λ broker_tier.
+            ExpireFirstRow M.MetaLog partition_state.now self.old b x broker_tier outcome self.new))) }
         ensures err { OnErr result
             (AtBrokerTier self.old b (λ broker_tier. HaltsRefresh M.MetaLog self.old b broker_tier self.new)) }
     {
-        self.begin_leading(alloc, b, held)
+        self.begin_leading(alloc, b, partition_state)
     }
 
     /// Takes up a remote segment whose deletion is due, or raises the log start offset as retention says.
@@ -143,33 +144,33 @@ impl<S: Store, M: MetaLog> RemoteTier<S, M> {
         b: usize,
         recorded: &StartSnapshot,
         keep: Keep,
-        held: &mut PartitionState<D>,
+        partition_state: &mut PartitionState<D>,
     ) -> Result<Outcome, AllocError>
-        requires node { b < length held.old.nodes }
+        requires node { b < length partition_state.old.nodes }
         requires broker_tier { b < length self.now.broker_tiers }
         requires leads { leads recorded.now.role ≡ true }
-        requires sound { SoundPartition (length held.old.nodes) held.old }
-        ensures row { IfOk result (λ outcome. AtNode held.old b (λ x. AtBrokerTier self.now b (λ broker_tier.
-            ExpireOnRow partition held.old x broker_tier recorded.now keep outcome held.new))) }
-        ensures err { OnErr result (held.new ≡ held.old) }
+        requires sound { SoundPartition (length partition_state.old.nodes) partition_state.old }
+        ensures row { IfOk result (λ outcome. AtNode partition_state.old b (λ x. AtBrokerTier self.now b (λ broker_tier.
+            ExpireOnRow partition partition_state.old x broker_tier recorded.now keep outcome partition_state.new))) }
+        ensures err { OnErr result (partition_state.new ≡ partition_state.old) }
     {
-        let node = held.nodes.get(b);
+        let node = partition_state.nodes.get(b);
         if !keeps_lead(node, recorded) {
             return Ok(Outcome::Answers(Answer::LostLead));
         }
         let broker_tier = self.broker_tiers.get(b);
-        if let Some(entry) = broker_tier.view.due(held.registry.start) {
-            return Ok(Outcome::Dooms(ExpiredSegment {
+        if let Some(entry) = broker_tier.view.due(partition_state.registry.start) {
+            return Ok(Outcome::ChoosesExpired(ExpiredSegment {
                 partition,
                 id: entry.id,
                 packed: entry.packed,
             }));
         }
-        let Some(start) = rises_within(alloc, held, node, broker_tier, keep)? else {
+        let Some(start) = rises_within(alloc, partition_state, node, broker_tier, keep)? else {
             return Ok(Outcome::Answers(Answer::Kept));
         };
         let role = node.role;
-        Ok(Outcome::Answers(raise(held, role, start)))
+        Ok(Outcome::Answers(raise(partition_state, role, start)))
     }
 
     /// Takes a later turn of an expiry: one of the deletion of its remote segment.
@@ -180,17 +181,19 @@ impl<S: Store, M: MetaLog> RemoteTier<S, M> {
         recorded: &StartSnapshot,
         expired_segment: ExpiredSegment,
         next: Deletion,
-        held: &PartitionState<D>,
+        partition_state: &PartitionState<D>,
     ) -> Result<Outcome, AllocError>
-        requires node { broker.0 < length held.now.nodes }
-        ensures row { IfOk result (λ outcome. AtNode held.now broker.0 (λ x.
-            DeleteOnRow S.Store M.MetaLog held.now self.old broker.0 x recorded.now expired_segment next outcome self.new)) }
-        ensures err { OnErr result (WantsForDeletion S.Store M.MetaLog held.now self.old broker.0 expired_segment next self.new) }
+        requires node { broker.0 < length partition_state.now.nodes }
+        ensures row { IfOk result (λ outcome. AtNode partition_state.now broker.0 (λ x.
+            DeleteOnRow S.Store M.MetaLog partition_state.now self.old broker.0 x recorded.now expired_segment next
+            outcome self.new)) }
+        ensures err { OnErr result (WantsForDeletion S.Store M.MetaLog partition_state.now self.old broker.0
+            expired_segment next self.new) }
     {
-        if !keeps_lead(held.nodes.get(broker.0 as usize), recorded) {
+        if !keeps_lead(partition_state.nodes.get(broker.0 as usize), recorded) {
             return Ok(Outcome::Answers(Answer::LostLead));
         }
-        let origin = origin(held, broker);
+        let origin = origin(partition_state, broker);
         let turn = expiry_turn(
             alloc,
             expired_segment,

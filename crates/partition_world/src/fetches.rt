@@ -25,13 +25,13 @@ use tier_fetch::{FetchRequest, FetchStep, fetch_turn};
 /// What a fetch returns before it reads, where its broker has stopped or no longer leads as it did, or the offset isn't
 /// committed or out of range.
 fn answer_of<D: Disk>(
-    held: &PartitionState<D>,
+    partition_state: &PartitionState<D>,
     node: &Node<D>,
     recorded: &StartSnapshot,
     offset: u64,
 ) -> Option<Answer>
-    ensures some { IfSome result (AnswersAtOnce held.now node.now recorded.now offset) }
-    ensures none { result ≡ None → MayServe held.now node.now recorded.now offset }
+    ensures some { IfSome result (AnswersAtOnce partition_state.now node.now recorded.now offset) }
+    ensures none { result ≡ None → MayServe partition_state.now node.now recorded.now offset }
 {
     if recorded.stops != node.stops || !node.is_up() {
         return Some(Answer::Stopped);
@@ -39,7 +39,7 @@ fn answer_of<D: Disk>(
     if recorded.role != node.role {
         return Some(Answer::NotLeader);
     }
-    let (start, end) = (held.registry.start, node.end());
+    let (start, end) = (partition_state.registry.start, node.end());
     if offset < start || offset > end {
         return Some(Answer::OutOfRange(start, end));
     }
@@ -60,20 +60,22 @@ impl<S: Store, M: MetaLog> RemoteTier<S, M> {
         next: FetchStep,
         offset: u64,
         limit: u32,
-        held: &PartitionState<D>,
+        partition_state: &PartitionState<D>,
     ) -> Result<Outcome, AllocError>
-        requires node { broker.0 < length held.now.nodes }
+        requires node { broker.0 < length partition_state.now.nodes }
         requires broker_tier { broker.0 < length self.old.broker_tiers }
         requires holds { IsPieceFor offset next }
         ensures row { IfOk result
-            (λ outcome. AtNode held.now broker.0 (λ x. AtBrokerTier self.old broker.0 (λ broker_tier.
-            FetchOnRow S.Store M.MetaLog partition held.now self.old broker.0 x broker_tier recorded.now offset limit next outcome self.new))) }
-        ensures err { OnErr result (AtNode held.now broker.0 (λ x. AtBrokerTier self.old broker.0 (λ broker_tier.
+            (λ outcome. AtNode partition_state.now broker.0 (λ x. AtBrokerTier self.old broker.0 (λ broker_tier.
+            FetchOnRow S.Store M.MetaLog partition partition_state.now self.old broker.0 x broker_tier recorded.now
+            offset limit next outcome self.new))) }
+        ensures err { OnErr result
+            (AtNode partition_state.now broker.0 (λ x. AtBrokerTier self.old broker.0 (λ broker_tier.
             WantsForFetch S.Store M.MetaLog partition self.old broker.0 x broker_tier offset limit next self.new))) }
     {
         let b = broker.0 as usize;
-        let node = held.nodes.get(b);
-        if let Some(answer) = answer_of(held, node, recorded, offset) {
+        let node = partition_state.nodes.get(b);
+        if let Some(answer) = answer_of(partition_state, node, recorded, offset) {
             return Ok(Outcome::Answers(answer));
         }
         let line = node.line();

@@ -17,14 +17,14 @@ use plain_log::Answer;
 
 /// The last offset that the remote tier has with all before it.
 fn tiered_offset<D: Disk>(
-    held: &PartitionState<D>,
+    partition_state: &PartitionState<D>,
     node: &Node<D>,
     broker_tier: &BrokerTierState,
 ) -> Option<u64>
     requires { is_up node.now ≡ true }
-    ensures { result ≡ tiered_offset held.now node.now broker_tier.now }
+    ensures { result ≡ tiered_offset partition_state.now node.now broker_tier.now }
 {
-    let start = held.registry.start;
+    let start = partition_state.registry.start;
     let end = copied_to(node, broker_tier, start);
     if end == start {
         None
@@ -39,21 +39,22 @@ impl<S: Store, M: MetaLog> RemoteTier<S, M> {
         &self,
         b: usize,
         recorded: &StartSnapshot,
-        held: &PartitionState<D>,
+        partition_state: &PartitionState<D>,
     ) -> Outcome
-        requires node { b < length held.now.nodes }
+        requires node { b < length partition_state.now.nodes }
         requires broker_tier { b < length self.now.broker_tiers }
-        ensures { AtNode held.now b
-            (λ x. AtBrokerTier self.now b (λ broker_tier. OffsetOnRow held.now x broker_tier recorded.now result)) }
+        ensures { AtNode partition_state.now b
+            (λ x. AtBrokerTier self.now b
+            (λ broker_tier. OffsetOnRow partition_state.now x broker_tier recorded.now result)) }
     {
-        let node = held.nodes.get(b);
+        let node = partition_state.nodes.get(b);
         if recorded.stops != node.stops || !node.is_up() {
             return Outcome::Answers(Answer::Stopped);
         }
         if recorded.role != node.role {
             return Outcome::Answers(Answer::NotLeader);
         }
-        match tiered_offset(held, node, self.broker_tiers.get(b)) {
+        match tiered_offset(partition_state, node, self.broker_tiers.get(b)) {
             Some(offset) => Outcome::Answers(Answer::Offset(offset)),
             None => Outcome::Answers(Answer::NoOffset),
         }

@@ -63,12 +63,12 @@ pub enum Ready {
 /// What the next turn of a command wants, of which so much is kept.
 pub(crate) fn want_of(
     alloc: Global,
-    work: &InProgress,
+    in_progress: &InProgress,
     command: &Command,
 ) -> Result<Want, AllocError>
-    ensures { IfOk result (IsWantOf command.now work.now) }
+    ensures { IfOk result (IsWantOf command.now in_progress.now) }
 {
-    match work {
+    match in_progress {
         InProgress::Copies(_, copying, _) => want_of_copy(alloc, copying),
         InProgress::Idle => match command {
             Command::Raw(bytes) => Ok(Want::Check(bytes.clone()?)),
@@ -107,22 +107,22 @@ pub(crate) fn prepared(alloc: Global, want: Want) -> Result<Ready, AllocError>
     }
 }
 
-/// The work with what is ready for it, and a check that may be of its command's bytes.
-fn with_ready(work: InProgress, ready: Ready) -> (InProgress, Option<Checked>)
-    ensures { result.0 ≡ work }
+/// What is in progress with what is ready for it, and a check that may be of its command's bytes.
+fn with_ready(in_progress: InProgress, ready: Ready) -> (InProgress, Option<Checked>)
+    ensures { result.0 ≡ in_progress }
 {
     match ready {
-        Ready::Nothing => (work, None),
-        Ready::Checked(checked) => (work, Some(checked)),
-        Ready::Bundle(bundle) => (given(work, bundle), None),
+        Ready::Nothing => (in_progress, None),
+        Ready::Checked(checked) => (in_progress, Some(checked)),
+        Ready::Bundle(bundle) => (given(in_progress, bundle), None),
     }
 }
 
 /// A copy is given a bundle, which it keeps where it is its own.
-fn given(work: InProgress, bundle: Bundle) -> InProgress
-    ensures { result ≡ work }
+fn given(in_progress: InProgress, bundle: Bundle) -> InProgress
+    ensures { result ≡ in_progress }
 {
-    match work {
+    match in_progress {
         InProgress::Copies(snapshot, copying, next) => InProgress::Copies(
             snapshot,
             copying.give(bundle),
@@ -144,38 +144,42 @@ impl<S: Store, M: MetaLog> RemoteTier<S, M> {
         desk: &mut Row<ActorState>,
         place: usize,
         ready: Ready,
-        held: &mut PartitionState<D>,
+        partition_state: &mut PartitionState<D>,
     ) -> Result<Outcome, AllocError>
-        requires node { order.now.broker.0 < length held.old.nodes }
+        requires node { order.now.broker.0 < length partition_state.old.nodes }
         requires broker_tier { order.now.broker.0 < length self.old.broker_tiers }
-        requires sound { SoundPartition (length held.old.nodes) held.old }
+        requires sound { SoundPartition (length partition_state.old.nodes) partition_state.old }
         requires fit { IsInRange order.now.command }
         requires place { place < length desk.old }
-        requires work { IsSomeAnd (slice_get desk.old place)
-            (λ actor_state. IsProgressOf order.now.command actor_state.work) }
-        requires stops { CanStop held.old order.now.broker.0 }
+        requires in_progress { IsSomeAnd (slice_get desk.old place)
+            (λ actor_state. IsProgressOf order.now.command actor_state.in_progress) }
+        requires stops { CanStop partition_state.old order.now.broker.0 }
         requires tries { AtBrokerTier self.old order.now.broker.0
             (λ broker_tier. broker_tier.attempt < 18446744073709551615) }
-        ensures row { IfOk result (λ outcome. IsSomeAnd (slice_get desk.old place) (λ actor_state. TurnRow D.Disk S.Store M.MetaLog partition
-            config held.old self.old order.now.broker.0 actor_state.work order.now.command outcome held.new self.new)) }
-        ensures err { OnErr result (IsSomeAnd (slice_get desk.old place) (λ actor_state. StaysTier D.Disk S.Store M.MetaLog partition
-            held.old self.old order.now.broker.0 actor_state.work order.now.command held.new self.new)) }
+        ensures row { IfOk result (λ outcome. IsSomeAnd (slice_get desk.old place)
+            (λ actor_state. TurnRow D.Disk S.Store M.MetaLog partition
+            config partition_state.old self.old order.now.broker.0 actor_state.in_progress order.now.command outcome
+            partition_state.new self.new)) }
+        ensures err { OnErr result (IsSomeAnd (slice_get desk.old place)
+            (λ actor_state. StaysTier D.Disk S.Store M.MetaLog partition
+            partition_state.old self.old order.now.broker.0 actor_state.in_progress order.now.command
+            partition_state.new self.new)) }
         ensures wants { OnErr result (IsTrue (takes_memory order.now.command)) }
         ensures desk { desk.new ≡ desk.old }
     {
         let actor_state = take_actor_state(desk, place);
         let number = actor_state.number;
-        let (mut work, checked) = with_ready(actor_state.work, ready);
+        let (mut in_progress, checked) = with_ready(actor_state.in_progress, ready);
         let outcome = self.turn(
             alloc,
             partition,
             config,
             order,
-            &mut work,
+            &mut in_progress,
             checked.as_ref(),
-            held,
+            partition_state,
         );
-        set_actor_state(desk, place, number, work);
+        set_actor_state(desk, place, number, in_progress);
         outcome
     }
 }

@@ -29,17 +29,17 @@ use tier_base::{BrokerId, PartitionId, Trouble};
 
 /// What a join returns before it continues, where something has come between.
 fn answer_of<D: Disk>(
-    held: &PartitionState<D>,
+    partition_state: &PartitionState<D>,
     node: &Node<D>,
     recorded: &StartSnapshot,
 ) -> Option<Answer>
-    ensures some { IfSome result (AnswersAtOnce held.now node.now recorded.now) }
-    ensures none { result ≡ None → MayRebuild held.now node.now recorded.now }
+    ensures some { IfSome result (AnswersAtOnce partition_state.now node.now recorded.now) }
+    ensures none { result ≡ None → MayRebuild partition_state.now node.now recorded.now }
 {
     if recorded.stops != node.stops || !node.is_up() {
         return Some(Answer::Stopped);
     }
-    let current = held.registry.epoch;
+    let current = partition_state.registry.epoch;
     match recorded.role {
         Role::Follows(epoch) | Role::Joined(epoch) if epoch < current => {
             return Some(Answer::StaleEpoch(current as u64));
@@ -51,7 +51,7 @@ fn answer_of<D: Disk>(
         Role::Joined(_) if recorded.end == end => {}
         _ => return Some(Answer::Passed(end)),
     }
-    let (start, wanted) = (held.registry.start, recorded.wanted.offset());
+    let (start, wanted) = (partition_state.registry.start, recorded.wanted.offset());
     if recorded.start < wanted && wanted <= start {
         return Some(Answer::BelowStart(start));
     }
@@ -86,21 +86,22 @@ impl<S: Store, M: MetaLog> RemoteTier<S, M> {
         alloc: Global,
         broker: BrokerId,
         recorded: &StartSnapshot,
-        held: &mut PartitionState<D>,
+        partition_state: &mut PartitionState<D>,
     ) -> Result<Outcome, AllocError>
-        requires node { CanStop held.old broker.0 }
+        requires node { CanStop partition_state.old broker.0 }
         requires broker_tier { broker.0 < length self.old.broker_tiers }
         ensures row { IfOk result
-            (λ outcome. AtNode held.old broker.0 (λ x. AtBrokerTier self.old broker.0 (λ broker_tier.
-            JoinSecondRow D.Disk M.MetaLog held.old self.old broker.0 x broker_tier recorded.now outcome held.new self.new))) }
-        ensures err { OnErr result (StaysOr D.Disk held.old self.old broker.0 (λ x broker_tier.
+            (λ outcome. AtNode partition_state.old broker.0 (λ x. AtBrokerTier self.old broker.0 (λ broker_tier.
+            JoinSecondRow D.Disk M.MetaLog partition_state.old self.old broker.0 x broker_tier recorded.now outcome
+            partition_state.new self.new))) }
+        ensures err { OnErr result (StaysOr D.Disk partition_state.old self.old broker.0 (λ x broker_tier.
             (recorded.now.start < recorded.now.wanted)
-            × HaltsRefresh M.MetaLog self.old broker.0 broker_tier self.new) held.new self.new) }
+            × HaltsRefresh M.MetaLog self.old broker.0 broker_tier self.new) partition_state.new self.new) }
     {
         if recorded.wanted.offset() <= recorded.start {
-            return self.begin_anew(alloc, broker, recorded, held);
+            return self.begin_anew(alloc, broker, recorded, partition_state);
         }
-        self.refresh_on(broker, recorded, held)
+        self.refresh_on(broker, recorded, partition_state)
     }
 
     /// Refreshes the follower's view.
@@ -108,17 +109,18 @@ impl<S: Store, M: MetaLog> RemoteTier<S, M> {
         &mut self,
         broker: BrokerId,
         recorded: &StartSnapshot,
-        held: &PartitionState<D>,
+        partition_state: &PartitionState<D>,
     ) -> Result<Outcome, AllocError>
-        requires node { broker.0 < length held.now.nodes }
+        requires node { broker.0 < length partition_state.now.nodes }
         requires broker_tier { broker.0 < length self.old.broker_tiers }
         ensures row { IfOk result
-            (λ outcome. AtNode held.now broker.0 (λ x. AtBrokerTier self.old broker.0 (λ broker_tier.
-            RefreshOnRow M.MetaLog held.now self.old broker.0 x broker_tier recorded.now outcome self.new))) }
-        ensures err { OnErr result (AtBrokerTier self.old broker.0 (λ broker_tier. HaltsRefresh M.MetaLog self.old broker.0 broker_tier self.new)) }
+            (λ outcome. AtNode partition_state.now broker.0 (λ x. AtBrokerTier self.old broker.0 (λ broker_tier.
+            RefreshOnRow M.MetaLog partition_state.now self.old broker.0 x broker_tier recorded.now outcome self.new))) }
+        ensures err { OnErr result (AtBrokerTier self.old broker.0
+            (λ broker_tier. HaltsRefresh M.MetaLog self.old broker.0 broker_tier self.new)) }
     {
         let b = broker.0 as usize;
-        if let Some(answer) = answer_of(held, held.nodes.get(b), recorded) {
+        if let Some(answer) = answer_of(partition_state, partition_state.nodes.get(b), recorded) {
             return Ok(Outcome::Answers(answer));
         }
         match self.refresh(b) {
@@ -135,18 +137,18 @@ impl<S: Store, M: MetaLog> RemoteTier<S, M> {
         partition: PartitionId,
         broker: BrokerId,
         recorded: &StartSnapshot,
-        held: &PartitionState<D>,
+        partition_state: &PartitionState<D>,
     ) -> Result<Outcome, AllocError>
-        requires node { broker.0 < length held.now.nodes }
+        requires node { broker.0 < length partition_state.now.nodes }
         requires broker_tier { broker.0 < length self.old.broker_tiers }
         ensures row { IfOk result
-            (λ outcome. AtNode held.now broker.0 (λ x. AtBrokerTier self.old broker.0 (λ broker_tier.
-            EpochsOnRow S.Store partition held.now self.old x broker_tier recorded.now outcome self.new))) }
+            (λ outcome. AtNode partition_state.now broker.0 (λ x. AtBrokerTier self.old broker.0 (λ broker_tier.
+            EpochsOnRow S.Store partition partition_state.now self.old x broker_tier recorded.now outcome self.new))) }
         ensures err { OnErr result (AtBrokerTier self.old broker.0 (λ broker_tier.
             WantsForRebuild S.Store partition self.old broker_tier recorded.now self.new)) }
     {
         let b = broker.0 as usize;
-        if let Some(answer) = answer_of(held, held.nodes.get(b), recorded) {
+        if let Some(answer) = answer_of(partition_state, partition_state.nodes.get(b), recorded) {
             return Ok(Outcome::Answers(answer));
         }
         let wanted = RebuildRequest {
@@ -165,15 +167,17 @@ impl<S: Store, M: MetaLog> RemoteTier<S, M> {
         broker: BrokerId,
         recorded: &StartSnapshot,
         line: &Line,
-        held: &mut PartitionState<D>,
+        partition_state: &mut PartitionState<D>,
     ) -> Result<Outcome, AllocError>
-        requires { CanStop held.old broker.0 }
-        ensures row { IfOk result (λ outcome. AtNode held.old broker.0 (λ x.
-            OwnOnRow D.Disk held.old self.old broker.0 x (with_line recorded.now line.now) Join outcome held.new self.new)) }
-        ensures err { OnErr result (KeepsPartition D.content D.control held.old held.new × (self.new ≡ self.old)) }
+        requires { CanStop partition_state.old broker.0 }
+        ensures row { IfOk result (λ outcome. AtNode partition_state.old broker.0 (λ x.
+            OwnOnRow D.Disk partition_state.old self.old broker.0 x (with_line recorded.now line.now) Join outcome
+            partition_state.new self.new)) }
+        ensures err { OnErr result (KeepsPartition D.content D.control partition_state.old partition_state.new
+            × (self.new ≡ self.old)) }
     {
         let recorded = with_line(alloc, recorded, line)?;
-        self.begin_anew(alloc, broker, &recorded, held)
+        self.begin_anew(alloc, broker, &recorded, partition_state)
     }
 
     /// Restarts the follower's log, with the leader epochs that were recorded.
@@ -182,14 +186,16 @@ impl<S: Store, M: MetaLog> RemoteTier<S, M> {
         alloc: Global,
         broker: BrokerId,
         recorded: &StartSnapshot,
-        held: &mut PartitionState<D>,
+        partition_state: &mut PartitionState<D>,
     ) -> Result<Outcome, AllocError>
-        requires { CanStop held.old broker.0 }
-        ensures row { IfOk result (λ outcome. AtNode held.old broker.0 (λ x.
-            OwnOnRow D.Disk held.old self.old broker.0 x recorded.now Join outcome held.new self.new)) }
-        ensures err { OnErr result (KeepsPartition D.content D.control held.old held.new × (self.new ≡ self.old)) }
+        requires { CanStop partition_state.old broker.0 }
+        ensures row { IfOk result (λ outcome. AtNode partition_state.old broker.0 (λ x.
+            OwnOnRow D.Disk partition_state.old self.old broker.0 x recorded.now Join outcome partition_state.new
+            self.new)) }
+        ensures err { OnErr result (KeepsPartition D.content D.control partition_state.old partition_state.new
+            × (self.new ≡ self.old)) }
     {
-        let answer = held.join_on(alloc, broker.0 as usize, recorded)?;
+        let answer = partition_state.join_on(alloc, broker.0 as usize, recorded)?;
         Ok(Outcome::Answers(answer))
     }
 }

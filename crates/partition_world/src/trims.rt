@@ -27,20 +27,20 @@ impl<S: Store, M: MetaLog> RemoteTier<S, M> {
         &mut self,
         alloc: Global,
         b: usize,
-        held: &PartitionState<D>,
+        partition_state: &PartitionState<D>,
     ) -> Result<Outcome, AllocError>
-        requires node { b < length held.now.nodes }
+        requires node { b < length partition_state.now.nodes }
         requires broker_tier { b < length self.old.broker_tiers }
-        ensures row { IfOk result (λ outcome. AtNode held.now b (λ x. AtBrokerTier self.old b (λ broker_tier.
-            TrimFirstRow M.MetaLog held.now self.old b x broker_tier outcome self.new))) }
+        ensures row { IfOk result (λ outcome. AtNode partition_state.now b (λ x. AtBrokerTier self.old b (λ broker_tier.
+            TrimFirstRow M.MetaLog partition_state.now self.old b x broker_tier outcome self.new))) }
         ensures err { OnErr result
             (AtBrokerTier self.old b (λ broker_tier. HaltsRefresh M.MetaLog self.old b broker_tier self.new)) }
     {
-        if !held.nodes.get(b).is_up() {
+        if !partition_state.nodes.get(b).is_up() {
             return Ok(Outcome::Answers(Answer::Down));
         }
         match self.refresh(b) {
-            Ok(()) => Ok(Outcome::Begins(held.notes(alloc, b))),
+            Ok(()) => Ok(Outcome::Begins(partition_state.notes(alloc, b))),
             Err(Trouble::Failed) => Ok(Outcome::Answers(Answer::MetaFault)),
             Err(Trouble::NoMemory) => Err(AllocError),
         }
@@ -53,21 +53,21 @@ impl<S: Store, M: MetaLog> RemoteTier<S, M> {
         b: usize,
         recorded: &StartSnapshot,
         keep: Keep,
-        held: &mut PartitionState<D>,
+        partition_state: &mut PartitionState<D>,
     ) -> Result<Outcome, AllocError>
-        requires node { CanStop held.old b }
+        requires node { CanStop partition_state.old b }
         requires broker_tier { b < length self.now.broker_tiers }
-        ensures row { IfOk result (λ outcome. AtNode held.old b (λ x. AtBrokerTier self.now b (λ broker_tier.
-            TrimOnRow D.Disk held.old b x broker_tier recorded.now keep outcome held.new))) }
-        ensures err { OnErr result (KeepsPartition D.content D.control held.old held.new) }
+        ensures row { IfOk result (λ outcome. AtNode partition_state.old b (λ x. AtBrokerTier self.now b (λ broker_tier.
+            TrimOnRow D.Disk partition_state.old b x broker_tier recorded.now keep outcome partition_state.new))) }
+        ensures err { OnErr result (KeepsPartition D.content D.control partition_state.old partition_state.new) }
     {
-        let node = held.nodes.get(b);
+        let node = partition_state.nodes.get(b);
         if recorded.stops != node.stops || !node.is_up() {
             return Ok(Outcome::Answers(Answer::Stopped));
         }
-        if !may_trim(alloc, held, node, self.broker_tiers.get(b), keep)? {
+        if !may_trim(alloc, partition_state, node, self.broker_tiers.get(b), keep)? {
             return Ok(Outcome::Answers(Answer::Kept));
         }
-        Ok(Outcome::Answers(held.drop_first(b)?))
+        Ok(Outcome::Answers(partition_state.drop_first(b)?))
     }
 }

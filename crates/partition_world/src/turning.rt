@@ -36,44 +36,66 @@ impl<S: Store, M: MetaLog> RemoteTier<S, M> {
         partition: PartitionId,
         config: Config,
         order: &Order,
-        work: &mut InProgress,
+        in_progress: &mut InProgress,
         known: Option<&Checked>,
-        held: &mut PartitionState<D>,
+        partition_state: &mut PartitionState<D>,
     ) -> Result<Outcome, AllocError>
-        requires node { order.now.broker.0 < length held.old.nodes }
+        requires node { order.now.broker.0 < length partition_state.old.nodes }
         requires broker_tier { order.now.broker.0 < length self.old.broker_tiers }
-        requires sound { SoundPartition (length held.old.nodes) held.old }
+        requires sound { SoundPartition (length partition_state.old.nodes) partition_state.old }
         requires fit { IsInRange order.now.command }
-        requires work { IsProgressOf order.now.command work.old }
-        requires stops { CanStop held.old order.now.broker.0 }
+        requires in_progress { IsProgressOf order.now.command in_progress.old }
+        requires stops { CanStop partition_state.old order.now.broker.0 }
         requires tries { AtBrokerTier self.old order.now.broker.0
             (λ broker_tier. broker_tier.attempt < 18446744073709551615) }
-        ensures row { IfOk result (λ outcome. TurnRow D.Disk S.Store M.MetaLog partition config held.old self.old
-            order.now.broker.0 work.old order.now.command outcome held.new self.new) }
-        ensures same { work.new ≡ work.old }
-        ensures err { OnErr result (StaysTier D.Disk S.Store M.MetaLog partition held.old self.old order.now.broker.0
-            work.old order.now.command held.new self.new) }
+        ensures row { IfOk result
+            (λ outcome. TurnRow D.Disk S.Store M.MetaLog partition config partition_state.old self.old
+            order.now.broker.0 in_progress.old order.now.command outcome partition_state.new self.new) }
+        ensures same { in_progress.new ≡ in_progress.old }
+        ensures err { OnErr result
+            (StaysTier D.Disk S.Store M.MetaLog partition partition_state.old self.old order.now.broker.0
+            in_progress.old order.now.command partition_state.new self.new) }
         ensures wants { OnErr result (IsTrue (takes_memory order.now.command)) }
     {
-        match work {
-            InProgress::Idle => self.begin(alloc, order, known, held),
+        match in_progress {
+            InProgress::Idle => self.begin(alloc, order, known, partition_state),
             InProgress::Noted(recorded) => self.go_on(
-                alloc, partition, config, order, recorded, held,
+                alloc,
+                partition,
+                config,
+                order,
+                recorded,
+                partition_state,
             ),
             InProgress::Copies(recorded, copying, next) => {
-                self.go_copying(alloc, order, recorded, copying, *next, held)
+                self.go_copying(alloc, order, recorded, copying, *next, partition_state)
             }
             InProgress::Seeks(recorded, next) => {
-                self.go_seeking(alloc, partition, order, recorded, *next, held)
+                self.go_seeking(alloc, partition, order, recorded, *next, partition_state)
             }
             InProgress::Dates(recorded, cursor, next) => {
-                self.go_dating(alloc, partition, order, recorded, *cursor, *next, held)
+                self.go_dating(
+                    alloc,
+                    partition,
+                    order,
+                    recorded,
+                    *cursor,
+                    *next,
+                    partition_state,
+                )
             }
             InProgress::Expires(recorded, expired_segment, next) => {
-                self.go_deleting(alloc, order, recorded, *expired_segment, *next, held)
+                self.go_deleting(
+                    alloc,
+                    order,
+                    recorded,
+                    *expired_segment,
+                    *next,
+                    partition_state,
+                )
             }
             InProgress::Rebuilds(recorded, next) => {
-                self.go_rebuilding(alloc, partition, order, recorded, next, held)
+                self.go_rebuilding(alloc, partition, order, recorded, next, partition_state)
             }
         }
     }
@@ -84,26 +106,29 @@ impl<S: Store, M: MetaLog> RemoteTier<S, M> {
         alloc: Global,
         order: &Order,
         known: Option<&Checked>,
-        held: &mut PartitionState<D>,
+        partition_state: &mut PartitionState<D>,
     ) -> Result<Outcome, AllocError>
-        requires node { CanStop held.old order.now.broker.0 }
+        requires node { CanStop partition_state.old order.now.broker.0 }
         requires broker_tier { order.now.broker.0 < length self.old.broker_tiers }
-        requires sound { SoundPartition (length held.old.nodes) held.old }
+        requires sound { SoundPartition (length partition_state.old.nodes) partition_state.old }
         requires fit { IsInRange order.now.command }
-        ensures row { IfOk result (λ outcome. AtNode held.old order.now.broker.0 (λ x. AtBrokerTier self.old order.now.broker.0 (λ broker_tier.
-            BeginRow D.Disk S.Store M.MetaLog held.old self.old order.now.broker.0 x broker_tier order.now.command outcome held.new self.new))) }
-        ensures err { OnErr result (StaysOr D.Disk held.old self.old order.now.broker.0 (λ x broker_tier.
-            BeginHalts M.MetaLog self.old order.now.broker.0 broker_tier order.now.command self.new) held.new self.new) }
+        ensures row { IfOk result (λ outcome. AtNode partition_state.old order.now.broker.0
+            (λ x. AtBrokerTier self.old order.now.broker.0 (λ broker_tier.
+            BeginRow D.Disk S.Store M.MetaLog partition_state.old self.old order.now.broker.0 x broker_tier
+            order.now.command outcome partition_state.new self.new))) }
+        ensures err { OnErr result (StaysOr D.Disk partition_state.old self.old order.now.broker.0 (λ x broker_tier.
+            BeginHalts M.MetaLog self.old order.now.broker.0 broker_tier order.now.command self.new)
+            partition_state.new self.new) }
         ensures wants { OnErr result (IsTrue (takes_memory order.now.command)) }
     {
         match &order.command {
-            Command::Copy => self.copy(alloc, order.broker.0 as usize, held),
-            Command::Trim => self.trim(alloc, order.broker.0 as usize, held),
-            Command::Expire => self.expire(alloc, order.broker.0 as usize, held),
+            Command::Copy => self.copy(alloc, order.broker.0 as usize, partition_state),
+            Command::Trim => self.trim(alloc, order.broker.0 as usize, partition_state),
+            Command::Expire => self.expire(alloc, order.broker.0 as usize, partition_state),
             Command::Offset(Which::LatestTiered | Which::At(_)) => {
-                self.begin_leading(alloc, order.broker.0 as usize, held)
+                self.begin_leading(alloc, order.broker.0 as usize, partition_state)
             }
-            _ => self.begin_own(alloc, order, known, held),
+            _ => self.begin_own(alloc, order, known, partition_state),
         }
     }
 
@@ -113,18 +138,20 @@ impl<S: Store, M: MetaLog> RemoteTier<S, M> {
         alloc: Global,
         order: &Order,
         known: Option<&Checked>,
-        held: &mut PartitionState<D>,
+        partition_state: &mut PartitionState<D>,
     ) -> Result<Outcome, AllocError>
-        requires node { CanStop held.old order.now.broker.0 }
-        requires sound { SoundPartition (length held.old.nodes) held.old }
+        requires node { CanStop partition_state.old order.now.broker.0 }
+        requires sound { SoundPartition (length partition_state.old.nodes) partition_state.old }
         requires fit { IsInRange order.now.command }
         requires own { IsOfTier order.now.command → ⊥ }
-        ensures row { IfOk result (λ outcome. AtNode held.old order.now.broker.0 (λ x.
-            LocalCommandRow D.Disk held.old self.old order.now.broker.0 x order.now.command outcome held.new self.new)) }
-        ensures err { OnErr result (KeepsPartition D.content D.control held.old held.new × (self.new ≡ self.old)) }
+        ensures row { IfOk result (λ outcome. AtNode partition_state.old order.now.broker.0 (λ x.
+            LocalCommandRow D.Disk partition_state.old self.old order.now.broker.0 x order.now.command outcome
+            partition_state.new self.new)) }
+        ensures err { OnErr result (KeepsPartition D.content D.control partition_state.old partition_state.new
+            × (self.new ≡ self.old)) }
         ensures wants { OnErr result (IsTrue (takes_memory order.now.command)) }
     {
-        Ok(outcome_of(held.first_turn(alloc, order, known)?))
+        Ok(outcome_of(partition_state.first_turn(alloc, order, known)?))
     }
 
     /// Carries out the second turn of a command of which its actor's state has what was recorded.
@@ -135,24 +162,34 @@ impl<S: Store, M: MetaLog> RemoteTier<S, M> {
         config: Config,
         order: &Order,
         recorded: &StartSnapshot,
-        held: &mut PartitionState<D>,
+        partition_state: &mut PartitionState<D>,
     ) -> Result<Outcome, AllocError>
-        requires node { CanStop held.old order.now.broker.0 }
+        requires node { CanStop partition_state.old order.now.broker.0 }
         requires broker_tier { order.now.broker.0 < length self.old.broker_tiers }
-        requires sound { SoundPartition (length held.old.nodes) held.old }
-        requires work { IsProgressOf order.now.command (Noted recorded.now) }
+        requires sound { SoundPartition (length partition_state.old.nodes) partition_state.old }
+        requires in_progress { IsProgressOf order.now.command (Noted recorded.now) }
         requires tries { AtBrokerTier self.old order.now.broker.0
             (λ broker_tier. broker_tier.attempt < 18446744073709551615) }
-        ensures row { IfOk result (λ outcome. AtNode held.old order.now.broker.0 (λ x. AtBrokerTier self.old order.now.broker.0 (λ broker_tier.
-            ContinuedRow D.Disk S.Store M.MetaLog partition config held.old self.old order.now.broker.0 x broker_tier recorded.now order.now.command outcome held.new self.new))) }
-        ensures err { OnErr result (StaysOr D.Disk held.old self.old order.now.broker.0 (λ x broker_tier.
-            ContinuedHalts S.Store M.MetaLog partition held.old self.old order.now.broker.0 x broker_tier recorded.now order.now.command self.new) held.new self.new) }
+        ensures row { IfOk result (λ outcome. AtNode partition_state.old order.now.broker.0
+            (λ x. AtBrokerTier self.old order.now.broker.0 (λ broker_tier.
+            ContinuedRow D.Disk S.Store M.MetaLog partition config partition_state.old self.old order.now.broker.0 x
+            broker_tier recorded.now order.now.command outcome partition_state.new self.new))) }
+        ensures err { OnErr result (StaysOr D.Disk partition_state.old self.old order.now.broker.0 (λ x broker_tier.
+            ContinuedHalts S.Store M.MetaLog partition partition_state.old self.old order.now.broker.0 x broker_tier
+            recorded.now order.now.command self.new) partition_state.new self.new) }
     {
         let b = order.broker.0 as usize;
         match &order.command {
-            Command::Copy => self.choose(alloc, partition, order.broker, recorded, held),
-            Command::Trim => self.trim_on(alloc, b, recorded, config.local_keep, held),
-            Command::Expire => self.expire_on(alloc, partition, b, recorded, config.keep, held),
+            Command::Copy => self.choose(alloc, partition, order.broker, recorded, partition_state),
+            Command::Trim => self.trim_on(alloc, b, recorded, config.local_keep, partition_state),
+            Command::Expire => self.expire_on(
+                alloc,
+                partition,
+                b,
+                recorded,
+                config.keep,
+                partition_state,
+            ),
             Command::Fetch { offset, limit } => self.fetch_on(
                 alloc,
                 partition,
@@ -161,10 +198,14 @@ impl<S: Store, M: MetaLog> RemoteTier<S, M> {
                 Search::Refresh,
                 *offset,
                 *limit,
-                held,
+                partition_state,
             ),
-            Command::Join => self.join_on(alloc, order.broker, recorded, held),
-            Command::Offset(Which::LatestTiered) => Ok(self.offset_on(b, recorded, held)),
+            Command::Join => self.join_on(alloc, order.broker, recorded, partition_state),
+            Command::Offset(Which::LatestTiered) => Ok(self.offset_on(
+                b,
+                recorded,
+                partition_state,
+            )),
             Command::Offset(Which::At(ts)) => self.date_on(
                 alloc,
                 partition,
@@ -173,9 +214,9 @@ impl<S: Store, M: MetaLog> RemoteTier<S, M> {
                 *ts,
                 0,
                 Dating::Seek,
-                held,
+                partition_state,
             ),
-            Command::Follow { .. } => Ok(Outcome::Answers(held.follow_on(b, recorded)?)),
+            Command::Follow { .. } => Ok(Outcome::Answers(partition_state.follow_on(b, recorded)?)),
             // No other command has a second turn: `work`.
             _ => unreachable!(),
         }
@@ -189,18 +230,28 @@ impl<S: Store, M: MetaLog> RemoteTier<S, M> {
         recorded: &StartSnapshot,
         copying: &mut Copying,
         next: CopyStep,
-        held: &mut PartitionState<D>,
+        partition_state: &mut PartitionState<D>,
     ) -> Result<Outcome, AllocError>
-        requires node { order.now.broker.0 < length held.old.nodes }
+        requires node { order.now.broker.0 < length partition_state.old.nodes }
         requires broker_tier { order.now.broker.0 < length self.old.broker_tiers }
-        requires work { IsProgressOf order.now.command (Copies recorded.now copying.old next) }
-        ensures row { IfOk result (λ outcome. AtNode held.old order.now.broker.0 (λ x. AtBrokerTier self.old order.now.broker.0 (λ broker_tier.
-            CopyLaterRow S.Store M.MetaLog held.old self.old order.now.broker.0 x broker_tier recorded.now copying.old next order.now.command outcome held.new self.new))) }
+        requires in_progress { IsProgressOf order.now.command (Copies recorded.now copying.old next) }
+        ensures row { IfOk result (λ outcome. AtNode partition_state.old order.now.broker.0
+            (λ x. AtBrokerTier self.old order.now.broker.0 (λ broker_tier.
+            CopyLaterRow S.Store M.MetaLog partition_state.old self.old order.now.broker.0 x broker_tier recorded.now
+            copying.old next order.now.command outcome partition_state.new self.new))) }
         ensures same { copying.new ≡ copying.old }
-        ensures err { OnErr result (StaysOr D.Disk held.old self.old order.now.broker.0 (λ x broker_tier.
-            CopyingHalts S.Store M.MetaLog held.old self.old order.now.broker.0 broker_tier copying.old next order.now.command self.new) held.new self.new) }
+        ensures err { OnErr result (StaysOr D.Disk partition_state.old self.old order.now.broker.0 (λ x broker_tier.
+            CopyingHalts S.Store M.MetaLog partition_state.old self.old order.now.broker.0 broker_tier copying.old next
+            order.now.command self.new) partition_state.new self.new) }
     {
-        self.copy_on(alloc, order.broker, recorded, copying, next, held)
+        self.copy_on(
+            alloc,
+            order.broker,
+            recorded,
+            copying,
+            next,
+            partition_state,
+        )
     }
 
     /// Carries out a turn of a fetch that continues in the remote tier.
@@ -211,16 +262,19 @@ impl<S: Store, M: MetaLog> RemoteTier<S, M> {
         order: &Order,
         recorded: &StartSnapshot,
         next: Search,
-        held: &PartitionState<D>,
+        partition_state: &PartitionState<D>,
     ) -> Result<Outcome, AllocError>
-        requires node { order.now.broker.0 < length held.now.nodes }
+        requires node { order.now.broker.0 < length partition_state.now.nodes }
         requires broker_tier { order.now.broker.0 < length self.old.broker_tiers }
-        requires work { IsProgressOf order.now.command (Seeks recorded.now next) }
-        ensures row { IfOk result (λ outcome. AtNode held.now order.now.broker.0 (λ x. AtBrokerTier self.old order.now.broker.0 (λ broker_tier.
-            SeekingRow S.Store M.MetaLog partition held.now self.old order.now.broker.0 x broker_tier recorded.now next order.now.command
-            outcome held.now self.new))) }
-        ensures err { OnErr result (StaysOr D.Disk held.now self.old order.now.broker.0 (λ x broker_tier.
-            SeekingHalts S.Store M.MetaLog partition self.old order.now.broker.0 x broker_tier next order.now.command self.new) held.now self.new) }
+        requires in_progress { IsProgressOf order.now.command (Seeks recorded.now next) }
+        ensures row { IfOk result (λ outcome. AtNode partition_state.now order.now.broker.0
+            (λ x. AtBrokerTier self.old order.now.broker.0 (λ broker_tier.
+            SeekingRow S.Store M.MetaLog partition partition_state.now self.old order.now.broker.0 x broker_tier
+            recorded.now next order.now.command
+            outcome partition_state.now self.new))) }
+        ensures err { OnErr result (StaysOr D.Disk partition_state.now self.old order.now.broker.0 (λ x broker_tier.
+            SeekingHalts S.Store M.MetaLog partition self.old order.now.broker.0 x broker_tier next order.now.command
+            self.new) partition_state.now self.new) }
     {
         match &order.command {
             Command::Fetch { offset, limit } => self.fetch_on(
@@ -231,7 +285,7 @@ impl<S: Store, M: MetaLog> RemoteTier<S, M> {
                 next,
                 *offset,
                 *limit,
-                held,
+                partition_state,
             ),
             // No other command continues as a fetch does: `work`.
             _ => unreachable!(),
@@ -247,16 +301,19 @@ impl<S: Store, M: MetaLog> RemoteTier<S, M> {
         recorded: &StartSnapshot,
         cursor: u64,
         next: Dating,
-        held: &mut PartitionState<D>,
+        partition_state: &mut PartitionState<D>,
     ) -> Result<Outcome, AllocError>
-        requires node { order.now.broker.0 < length held.old.nodes }
+        requires node { order.now.broker.0 < length partition_state.old.nodes }
         requires broker_tier { order.now.broker.0 < length self.old.broker_tiers }
-        requires work { IsProgressOf order.now.command (Dates recorded.now cursor next) }
-        ensures row { IfOk result (λ outcome. AtNode held.old order.now.broker.0 (λ x. AtBrokerTier self.old order.now.broker.0 (λ broker_tier.
-            DatingRow D.Disk S.Store M.MetaLog partition held.old self.old order.now.broker.0 x broker_tier recorded.now cursor next
-            order.now.command outcome held.new self.new))) }
-        ensures err { OnErr result (StaysOr D.Disk held.old self.old order.now.broker.0 (λ x broker_tier.
-            DatingHalts S.Store M.MetaLog partition held.old self.old order.now.broker.0 x broker_tier cursor next order.now.command self.new) held.new self.new) }
+        requires in_progress { IsProgressOf order.now.command (Dates recorded.now cursor next) }
+        ensures row { IfOk result (λ outcome. AtNode partition_state.old order.now.broker.0
+            (λ x. AtBrokerTier self.old order.now.broker.0 (λ broker_tier.
+            DatingRow D.Disk S.Store M.MetaLog partition partition_state.old self.old order.now.broker.0 x broker_tier
+            recorded.now cursor next
+            order.now.command outcome partition_state.new self.new))) }
+        ensures err { OnErr result (StaysOr D.Disk partition_state.old self.old order.now.broker.0 (λ x broker_tier.
+            DatingHalts S.Store M.MetaLog partition partition_state.old self.old order.now.broker.0 x broker_tier
+            cursor next order.now.command self.new) partition_state.new self.new) }
     {
         match &order.command {
             Command::Offset(Which::At(ts)) => self.date_on(
@@ -267,7 +324,7 @@ impl<S: Store, M: MetaLog> RemoteTier<S, M> {
                 *ts,
                 cursor,
                 next,
-                held,
+                partition_state,
             ),
             // No other command continues as a timestamp lookup does: `work`.
             _ => unreachable!(),
@@ -282,18 +339,27 @@ impl<S: Store, M: MetaLog> RemoteTier<S, M> {
         recorded: &StartSnapshot,
         expired_segment: ExpiredSegment,
         next: Deletion,
-        held: &PartitionState<D>,
+        partition_state: &PartitionState<D>,
     ) -> Result<Outcome, AllocError>
-        requires node { order.now.broker.0 < length held.now.nodes }
+        requires node { order.now.broker.0 < length partition_state.now.nodes }
         requires broker_tier { order.now.broker.0 < length self.old.broker_tiers }
-        requires work { IsProgressOf order.now.command (Expires recorded.now expired_segment next) }
-        ensures row { IfOk result (λ outcome. AtNode held.now order.now.broker.0 (λ x.
-            DeletingRow S.Store M.MetaLog held.now self.old order.now.broker.0 x recorded.now expired_segment next order.now.command
-            outcome held.now self.new)) }
-        ensures err { OnErr result (StaysOr D.Disk held.now self.old order.now.broker.0 (λ x broker_tier.
-            DeletingHalts S.Store M.MetaLog held.now self.old order.now.broker.0 expired_segment next order.now.command self.new) held.now self.new) }
+        requires in_progress { IsProgressOf order.now.command (Expires recorded.now expired_segment next) }
+        ensures row { IfOk result (λ outcome. AtNode partition_state.now order.now.broker.0 (λ x.
+            DeletingRow S.Store M.MetaLog partition_state.now self.old order.now.broker.0 x recorded.now
+            expired_segment next order.now.command
+            outcome partition_state.now self.new)) }
+        ensures err { OnErr result (StaysOr D.Disk partition_state.now self.old order.now.broker.0 (λ x broker_tier.
+            DeletingHalts S.Store M.MetaLog partition_state.now self.old order.now.broker.0 expired_segment next
+            order.now.command self.new) partition_state.now self.new) }
     {
-        self.delete_on(alloc, order.broker, recorded, expired_segment, next, held)
+        self.delete_on(
+            alloc,
+            order.broker,
+            recorded,
+            expired_segment,
+            next,
+            partition_state,
+        )
     }
 
     /// Carries out a turn of a join that restarts its log.
@@ -304,20 +370,35 @@ impl<S: Store, M: MetaLog> RemoteTier<S, M> {
         order: &Order,
         recorded: &StartSnapshot,
         next: &Rebuild,
-        held: &mut PartitionState<D>,
+        partition_state: &mut PartitionState<D>,
     ) -> Result<Outcome, AllocError>
-        requires node { CanStop held.old order.now.broker.0 }
+        requires node { CanStop partition_state.old order.now.broker.0 }
         requires broker_tier { order.now.broker.0 < length self.old.broker_tiers }
-        requires work { IsProgressOf order.now.command (Rebuilds recorded.now next.now) }
-        ensures row { IfOk result (λ outcome. AtNode held.old order.now.broker.0 (λ x. AtBrokerTier self.old order.now.broker.0 (λ broker_tier.
-            RebuildingRow D.Disk S.Store partition held.old self.old order.now.broker.0 x broker_tier recorded.now next.now order.now.command
-            outcome held.new self.new))) }
-        ensures err { OnErr result (StaysOr D.Disk held.old self.old order.now.broker.0 (λ x broker_tier.
-            RebuildingHalts S.Store partition self.old broker_tier recorded.now next.now order.now.command self.new) held.new self.new) }
+        requires in_progress { IsProgressOf order.now.command (Rebuilds recorded.now next.now) }
+        ensures row { IfOk result (λ outcome. AtNode partition_state.old order.now.broker.0
+            (λ x. AtBrokerTier self.old order.now.broker.0 (λ broker_tier.
+            RebuildingRow D.Disk S.Store partition partition_state.old self.old order.now.broker.0 x broker_tier
+            recorded.now next.now order.now.command
+            outcome partition_state.new self.new))) }
+        ensures err { OnErr result (StaysOr D.Disk partition_state.old self.old order.now.broker.0 (λ x broker_tier.
+            RebuildingHalts S.Store partition self.old broker_tier recorded.now next.now order.now.command self.new)
+            partition_state.new self.new) }
     {
         match next {
-            Rebuild::Epochs => self.read_epochs(alloc, partition, order.broker, recorded, held),
-            Rebuild::Restart(line) => self.restart(alloc, order.broker, recorded, line, held),
+            Rebuild::Epochs => self.read_epochs(
+                alloc,
+                partition,
+                order.broker,
+                recorded,
+                partition_state,
+            ),
+            Rebuild::Restart(line) => self.restart(
+                alloc,
+                order.broker,
+                recorded,
+                line,
+                partition_state,
+            ),
         }
     }
 }

@@ -49,7 +49,7 @@ pub struct World<D: Disk, S: Store, M: MetaLog> {
     partition: PartitionId,
     config: Config,
     lists: Row<ActorList>,
-    held: PartitionState<D>,
+    partition_state: PartitionState<D>,
     tier: RemoteTier<S, M>,
     desk: Row<ActorState>,
     journal: Journal,
@@ -68,15 +68,15 @@ impl<D: Disk, S: Store, M: MetaLog> Model for World<D, S, M> {
       partition = w.partition;
       config = w.config;
       lists = w.lists;
-      held = w.held;
+      partition_state = w.partition_state;
       tier = w.tier;
       desk = w.desk;
       journal = w.journal;
     } };
 
-    ghost invariant = { λ w. CanBeRun w.config w.lists w.held w.tier.broker_tiers w.desk w.journal.room
+    ghost invariant = { λ w. CanBeRun w.config w.lists w.partition_state w.tier.broker_tiers w.desk w.journal.room
         × (w.room.items ≡ []) × (w.config.brokers ≤ vec_capacity w.room)
-        × AreCounted w.lists w.held w.tier.broker_tiers w.desk (length w.journal.items) };
+        × AreCounted w.lists w.partition_state w.tier.broker_tiers w.desk (length w.journal.items) };
 }
 
 impl<D: Disk, S: Store, M: MetaLog> World<D, S, M> {
@@ -96,7 +96,8 @@ impl<D: Disk, S: Store, M: MetaLog> World<D, S, M> {
         ensures fresh { IfOk result (IsFresh D.Disk S.Store M.MetaLog partition config lists
             devices.disks.items devices.store devices.meta) }
         ensures new { IfOk result (IsNewWorld lists) }
-        ensures told { IfOk result (λ w. DisksTell D.content devices.disks.items → AllSeen D.content w.held.nodes) }
+        ensures told { IfOk result (λ w. DisksTell D.content devices.disks.items
+            → AllSeen D.content w.partition_state.nodes) }
         ensures central { IfOk result (λ w. IsSeenEmpty D.Disk S.Store M.MetaLog w
             → IsCentral D.Disk S.Store M.MetaLog (fresh_plain config) w) }
         ensures central_left { IfOk result (λ w. IsSeenEmpty D.Disk S.Store M.MetaLog w
@@ -127,7 +128,8 @@ impl<D: Disk, S: Store, M: MetaLog> World<D, S, M> {
         requires disks { AreFreshDisks D.content D.control devices.disks.items }
         ensures fresh { IfOk result (IsFresh D.Disk S.Store M.MetaLog partition config lists
             devices.disks.items devices.store devices.meta) }
-        ensures told { IfOk result (λ w. DisksTell D.content devices.disks.items → AllSeen D.content w.held.nodes) }
+        ensures told { IfOk result (λ w. DisksTell D.content devices.disks.items
+            → AllSeen D.content w.partition_state.nodes) }
         ensures err { IfErr result (λ e. RefusesDisks D.control devices.disks.items e.0.disks.items e.1) }
         ensures store { IfErr result (λ e. e.0.store ≡ devices.store) }
         ensures meta { IfErr result (λ e. e.0.meta ≡ devices.meta) }
@@ -144,8 +146,8 @@ impl<D: Disk, S: Store, M: MetaLog> World<D, S, M> {
             meta,
         } = devices;
         // The devices' plans are in force once this is done.
-        let held = match PartitionState::fresh(alloc, &mut disks, config.settings) {
-            Ok(held) => held,
+        let partition_state = match PartitionState::fresh(alloc, &mut disks, config.settings) {
+            Ok(partition_state) => partition_state,
             Err(why) => return Err((Devices { disks, store, meta }, why)),
         };
         let mut tier = RemoteTier {
@@ -158,7 +160,7 @@ impl<D: Disk, S: Store, M: MetaLog> World<D, S, M> {
             partition,
             config,
             lists,
-            held,
+            partition_state,
             tier,
             desk,
             journal,
@@ -230,8 +232,13 @@ impl<D: Disk, S: Store, M: MetaLog> World<D, S, M> {
             meta,
         } = devices;
         // The devices' plans are in force once this is done.
-        let held = match PartitionState::reopen(alloc, &mut disks, config.settings, registry) {
-            Ok(held) => held,
+        let partition_state = match PartitionState::reopen(
+            alloc,
+            &mut disks,
+            config.settings,
+            registry,
+        ) {
+            Ok(partition_state) => partition_state,
             Err(why) => return Err((Devices { disks, store, meta }, why)),
         };
         let mut tier = RemoteTier {
@@ -244,7 +251,7 @@ impl<D: Disk, S: Store, M: MetaLog> World<D, S, M> {
             partition,
             config,
             lists,
-            held,
+            partition_state,
             tier,
             desk,
             journal,
@@ -255,37 +262,37 @@ impl<D: Disk, S: Store, M: MetaLog> World<D, S, M> {
     /// The log of each broker that is up can be opened again from its disk, also after a power cut, and each broker has
     /// its tier state of the remote tier. It does nothing that is seen.
     pub fn reopens(&self)
-        ensures disks { AllReopen D.content self.now.held.nodes }
-        ensures brokers { length self.now.held.nodes ≡ self.now.config.brokers }
+        ensures disks { AllReopen D.content self.now.partition_state.nodes }
+        ensures brokers { length self.now.partition_state.nodes ≡ self.now.config.brokers }
         ensures broker_tiers { length self.now.tier.broker_tiers ≡ self.now.config.brokers }
     {
-        self.held.reopens();
+        self.partition_state.reopens();
     }
 
     /// Lends the registry.
     pub fn registry(&self) -> &Registry
-        ensures { result.now ≡ self.now.held.registry }
+        ensures { result.now ≡ self.now.partition_state.registry }
     {
-        &self.held.registry
+        &self.partition_state.registry
     }
 
     /// Gives the devices back, the disks in the list in which they came. From those of brokers that are up, or whose logs are seen, a
     /// log can be opened again, also after a power cut.
     pub fn close(self) -> Devices<D, S, M>
-        ensures disks { AreDisksOf self.held.nodes result.disks.items }
-        ensures again { DisksReopen D.content self.held.nodes result.disks.items }
+        ensures disks { AreDisksOf self.partition_state.nodes result.disks.items }
+        ensures again { DisksReopen D.content self.partition_state.nodes result.disks.items }
         ensures store { result.store ≡ self.tier.store }
         ensures meta { result.meta ≡ self.tier.meta }
         ensures count { length result.disks.items ≡ self.config.brokers }
     {
         let World {
-            held,
+            partition_state,
             tier,
             room,
             ..
         } = self;
         let RemoteTier { store, meta, .. } = tier;
-        let disks = held.close(room);
+        let disks = partition_state.close(room);
         Devices { disks, store, meta }
     }
 
@@ -335,7 +342,7 @@ impl<D: Disk, S: Store, M: MetaLog> World<D, S, M> {
             return Ok(Want::Nothing);
         }
         let order = list.orders.get(actor_state.number as usize);
-        want_of(alloc, &actor_state.work, &order.command)
+        want_of(alloc, &actor_state.in_progress, &order.command)
     }
 
     /// Makes what a turn wants, without the world. Fails only if memory runs out.
@@ -387,7 +394,7 @@ impl<D: Disk, S: Store, M: MetaLog> World<D, S, M> {
             &mut self.desk,
             place,
             ready,
-            &mut self.held,
+            &mut self.partition_state,
         ) {
             Ok(outcome) => enter(
                 &mut self.journal,

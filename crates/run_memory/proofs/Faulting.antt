@@ -145,7 +145,7 @@ module _ {D : Type 0} (control : D → Control call_code) (faults : List Fault) 
 module _ {D S M : Type 0} (disk : DiskGhosts D) (store : StoreGhosts S) (meta : MetaGhosts M) (partition : PartitionId) (config : Config) (lists : List ActorList) (faults : List Fault) (w w' : Whole D S M)
     (starts : StartsWith disk store meta partition config lists faults w) (by : HaveFailedByPlan disk store meta w w') where
   broker_met : (b : ℕ) → DiskFailed disk b w w' → DiskMet disk faults b w'
-  broker_met b fails = disk_met disk.control faults 0 b b true starts.disks w.held.nodes w'.held.nodes (omega arith) starts.planned.disk_plans starts.fresh.held.nodes by.disks fails
+  broker_met b fails = disk_met disk.control faults 0 b b true starts.disks w.partition_state.nodes w'.partition_state.nodes (omega arith) starts.planned.disk_plans starts.fresh.partition_state.nodes by.disks fails
 
   command_met : (command : Command) (b : ℕ) → DiskFailedFor disk command b w w' → DiskMetFor disk faults command b w'
   command_met (Follow limit) b fails = (fails.0, broker_met fails.0 fails.1)

@@ -15,7 +15,7 @@ use Rattle.run_memory.specs.Devices.{AreBlank}
 module _ {D S M : Type 0} (disk : DiskGhosts D) (store : StoreGhosts S) (meta : MetaGhosts M) where
   pub seen_empty : (partition : PartitionId) (config : Config) (lists : List ActorList) (disks : List D) (s : S) (m : M) (w : Whole D S M)
       → IsFresh disk store meta partition config lists disks s m w → AreBlank disk store meta disks s m
-      → (DisksTell disk.content disks → AllSeen disk.content w.held.nodes) → IsSeenEmpty disk store meta w
+      → (DisksTell disk.content disks → AllSeen disk.content w.partition_state.nodes) → IsSeenEmpty disk store meta w
   seen_empty partition config lists disks s m w fresh blank told = record {
     logs = told blank.disks_tell;
     store_tells = subst IsTrue (sym fresh.tier.objects.is_observable) blank.objects.is_observable;

@@ -37,7 +37,7 @@ module _ {D : Type 0} (control : D → Control call_code) where
 module _ {D S M : Type 0} (disk : DiskGhosts D) (store : StoreGhosts S) (meta : MetaGhosts M) where
   pub starts_scripted : (part : PartScript) (config : Config) (w : Whole D S M) → StartsWith disk store meta part.partition config part.lists part.faults w → AreScripted disk store meta w
   starts_scripted part config w starts = record {
-    disks = disks_scripted disk.control part.faults 0 true starts.disks w.held.nodes starts.planned.disk_plans starts.fresh.held.nodes;
+    disks = disks_scripted disk.control part.faults 0 true starts.disks w.partition_state.nodes starts.planned.disk_plans starts.fresh.partition_state.nodes;
     store_scripted = device_scripted (store_plan part.faults) (store.control starts.objects) (store.control w.tier.store) starts.planned.store_plan_is starts.fresh.tier.store_armed;
     meta_scripted = device_scripted (meta_plan part.faults) (meta.control starts.notes) (meta.control w.tier.meta) starts.planned.meta_plan_is starts.fresh.tier.meta_armed;
   }

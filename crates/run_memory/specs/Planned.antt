@@ -34,7 +34,7 @@ pub record IsMet {K : Type 0} {code : K → ℕ} (named : FaultDevice → FaultC
 module _ {D S M : Type 0} (disk : DiskGhosts D) (faults : List Fault) where
   -- so it is of this broker's disk
   abbrev pub DiskMet : ℕ → Whole D S M → Type 0
-  DiskMet b w = AtNode w.held b (λ x. OnDisk x.log (λ d. IsMet (disk_named b) faults (disk.control d)))
+  DiskMet b w = AtNode w.partition_state b (λ x. OnDisk x.log (λ d. IsMet (disk_named b) faults (disk.control d)))
 
   -- of a disk that a command of this broker works on: a follow also reads the log of its leader
   abbrev pub DiskMetFor : Command → ℕ → Whole D S M → Type 0
@@ -52,7 +52,8 @@ module _ {D S M : Type 0} (disk : DiskGhosts D) (store : StoreGhosts S) (meta : 
 
   -- so where the entry is such an answer of a command
   abbrev pub HasLine : JournalEntry → Type 0
-  HasLine entry = IsSomeAnd (order_of w.lists entry) (λ order. (answer : Answer) → entry.event ≡ Answers answer → MetAs order answer)
+  HasLine entry = IsSomeAnd (order_of w.lists entry)
+      (λ order. (answer : Answer) → entry.event ≡ Answers answer → MetAs order answer)
 
   -- the journal reports a fault of those devices alone of which a call was made that a fault line names
   abbrev pub FaultsArePlanned : Type 0

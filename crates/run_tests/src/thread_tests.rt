@@ -215,7 +215,7 @@ fn a_flush_that_comes_first_has_nothing_to_flush(rt: HostRuntime) {
 }
 
 /// Scripts whose commands all go to one actor of each partition, and the traces that they give in each order.
-static ROWS: [(&str, &str); 2] = [
+static CASES: [(&str, &str); 2] = [
     (
         "\
         0 0 0 append 1000,-,:a\n\
@@ -243,7 +243,7 @@ static ROWS: [(&str, &str); 2] = [
 
 /// The number of the first row whose trace isn't as it should be.
 fn first_wrong<H: AllocGlobal + Threads + Wait + Sync>(rt: &H) -> Option<usize> {
-    for (i, (script, trace)) in ROWS.iter().enumerate() {
+    for (i, (script, trace)) in CASES.iter().enumerate() {
         if run(rt, &OpenGate, script, trace) != well(0) {
             return Some(i);
         }

@@ -73,10 +73,10 @@ module _ {D S M : Type 0} (disk : DiskGhosts D) (store : StoreGhosts S) (meta : 
       }
 
   -- what a closed partition gives back is left of it
-  left_all : ClosedAreLeft disk → (w : Whole D S M) (reg : D) (back : Devices D S M) (kept : D) → AreDisksOf w.held.nodes back.disks.items → DisksReopen disk.content w.held.nodes back.disks.items
+  left_all : ClosedAreLeft disk → (w : Whole D S M) (reg : D) (back : Devices D S M) (kept : D) → AreDisksOf w.partition_state.nodes back.disks.items → DisksReopen disk.content w.partition_state.nodes back.disks.items
       → back.store ≡ w.tier.store → back.meta ≡ w.tier.meta → kept ≡ reg → MayBeLeft disk store meta w reg back.disks.items back.store back.meta kept
   left_all law w reg back kept are again stores notes same = record {
-    logs = law w.held.nodes back.disks.items back.disks.items are again (all_uncut disk.content back.disks.items);
+    logs = law w.partition_state.nodes back.disks.items back.disks.items are again (all_uncut disk.content back.disks.items);
     objects = subst (λ (k : S). IsCutStore (store.content w.tier.store) (store.content k)) (sym stores) (record { is_observable = λ yes. yes; objects = refl });
     notes = subst (λ (k : M). IsCutLog (meta.content w.tier.meta) (meta.content k)) (sym notes) (record { is_observable = λ yes. yes; left = λ l at. at });
     file = subst (λ (k : D). IsCutDisk (disk.content reg) (disk.content k)) (sym same) (uncut (disk.content reg));
@@ -84,7 +84,7 @@ module _ {D S M : Type 0} (disk : DiskGhosts D) (store : StoreGhosts S) (meta : 
 
   -- steps that didn't come to their end left what represents what is left of a state to which they led
   halted : ClosedAreLeft disk → (config : Config) (part : PartScript) (back : Devices D S M) (kept : D) (t t' : Running D S M) (why : ColdRefusal) → t.world.partition ≡ part.partition → IsNewWorld part.lists t.world
-      → IsLater disk store meta t.world t'.world → AreDisksOf t'.world.held.nodes back.disks.items → DisksReopen disk.content t'.world.held.nodes back.disks.items → back.store ≡ t'.world.tier.store
+      → IsLater disk store meta t.world t'.world → AreDisksOf t'.world.partition_state.nodes back.disks.items → DisksReopen disk.content t'.world.partition_state.nodes back.disks.items → back.store ≡ t'.world.tier.store
       → back.meta ≡ t'.world.tier.meta → kept ≡ t'.reg
       → (t'.ended ≡ false → IsTrue (disk.content t'.reg).is_observable → (opening : State) (c : IsCentralLeft disk store meta opening t'.world)
       → StandsFor disk store meta t'.world.partition back.disks.items back.store back.meta kept (cold_of (plain_in disk store meta opening t'.world c)))
@@ -107,7 +107,7 @@ module _ {D S M : Type 0} (disk : DiskGhosts D) (store : StoreGhosts S) (meta : 
       → ((p : State) → StandsFor disk store meta part.partition devices.disks.items devices.store devices.meta reg p → IsCentralLeft disk store meta p t.world)
       → (DisksTell disk.content devices.disks.items → IsBlank disk store meta devices.store devices.meta reg → IsCentralLeft disk store meta (fresh config) t.world)
       → (disk.content t'.reg).is_observable ≡ (disk.content reg).is_observable → IsLater disk store meta t.world t'.world
-      → AreDisksOf t'.world.held.nodes back.disks.items → DisksReopen disk.content t'.world.held.nodes back.disks.items → back.store ≡ t'.world.tier.store → back.meta ≡ t'.world.tier.meta → kept ≡ t'.reg
+      → AreDisksOf t'.world.partition_state.nodes back.disks.items → DisksReopen disk.content t'.world.partition_state.nodes back.disks.items → back.store ≡ t'.world.tier.store → back.meta ≡ t'.world.tier.meta → kept ≡ t'.reg
       → (t'.ended ≡ false → IsTrue (disk.content t'.reg).is_observable → (opening : State) (c : IsCentralLeft disk store meta opening t'.world)
       → StandsFor disk store meta t'.world.partition back.disks.items back.store back.meta kept (cold_of (plain_in disk store meta opening t'.world c)))
       → RunsThrough disk store meta t t' → IfErr r (λ why. HaltsSteps disk store meta t t' why) → OnErr r (IsRunStopped disk store meta config part devices reg back kept)

@@ -47,7 +47,7 @@ pub record IsOrderly (lists : List ActorList) (journal : List JournalEntry) : Ty
 module _ {D S M : Type 0} (disk : DiskGhosts D) (store : StoreGhosts S) (meta : MetaGhosts M) where
   -- these are the devices of a world
   pub record AreDevicesOf (w : Whole D S M) (disks : List D) (s : S) (m : M) : Type 0 where
-    pub disks_are : AreDisksOf w.held.nodes disks
+    pub disks_are : AreDisksOf w.partition_state.nodes disks
     pub store_is : s ≡ w.tier.store
     pub meta_is : m ≡ w.tier.meta
 
@@ -60,7 +60,8 @@ module _ {D S M : Type 0} (disk : DiskGhosts D) (store : StoreGhosts S) (meta : 
       (back : Devices D S M) (kept : D) : Type 0 where
     pub first : Running D S M
     pub last : Running D S M
-    pub starts : IsPartitionOpened disk store meta part.partition config part.lists devices.disks.items devices.store devices.meta registry first
+    pub starts : IsPartitionOpened disk store meta part.partition config part.lists devices.disks.items devices.store
+        devices.meta registry first
     pub reaches : Reaches disk store meta first.world part.schedule last.world
     pub through : RunsThrough disk store meta first last
     pub its : last.world.journal.items ≡ journal
@@ -70,10 +71,13 @@ module _ {D S M : Type 0} (disk : DiskGhosts D) (store : StoreGhosts S) (meta : 
     pub count : length back.disks.items ≡ config.brokers
     pub counted : FaultsAreCounted disk store meta first.world last.world
     pub told : FaultsAreTold disk store meta first.world last.world
-    pub log_run : (p : State) → MayBeginIn disk store meta part.partition config devices registry p → IsSafeRun p part.lists journal
-    pub central : (p : State) → MayBeginIn disk store meta part.partition config devices registry p → IsCentralLeft disk store meta p last.world
+    pub log_run : (p : State) → MayBeginIn disk store meta part.partition config devices registry p
+        → IsSafeRun p part.lists journal
+    pub central : (p : State) → MayBeginIn disk store meta part.partition config devices registry p
+        → IsCentralLeft disk store meta p last.world
     pub stand : (p : State) (at : MayBeginIn disk store meta part.partition config devices registry p)
-        → StandsFor disk store meta part.partition back.disks.items back.store back.meta kept (cold_of (log_run p at).last)
+        → StandsFor disk store meta part.partition back.disks.items back.store back.meta kept
+        (cold_of (log_run p at).last)
 
   -- the text is the trace of such a run
   pub record IsRunText (config : Config) (part : PartScript) (devices : Devices D S M) (registry : D) (text : List ℕ)

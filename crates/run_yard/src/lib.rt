@@ -7,7 +7,7 @@
 //!
 //! Over an environment each partition's devices are taken out, run on, and returned. If the environment is observable
 //! and had none of the partitions, each journal is a run of the plain log, and the environment has the devices with
-//! what the run left on them (`specs/RunsTurns.antt`).
+//! what the run left on them (`specs/Runs.antt`).
 #![tactic(auto)]
 
 mod checking;

@@ -6,7 +6,7 @@ use std::alloc::{AllocError, Global};
 use tier_base::{MemorySource, Source};
 
 /// Invalid scripts, and what is reported of them.
-static ROWS: [(&str, &str, &str); 33] = [
+static CASES: [(&str, &str, &str); 33] = [
     (
         "an unknown command",
         "# c\n0 0 0 frob\n",
@@ -453,7 +453,7 @@ fn is_explained(alloc: Global, text: &str, line: u32, why: Why, told: &str) -> b
 
 #[test]
 fn refused_lines_are_explained(rt: HostRuntime) {
-    for (name, text, told) in &ROWS {
+    for (name, text, told) in &CASES {
         assert!(rt; is_told(rt.alloc(), text, told), "{name}");
     }
 }

@@ -63,7 +63,7 @@ fn take(alloc: Global, plain: &mut Plain, step: Step) -> Result<bool, AllocError
 }
 
 /// Steps, and whether each is one.
-static ROWS: [(Step, bool); 6] = [
+static CASES: [(Step, bool); 6] = [
     (
         Step::Flush {
             broker: 1,
@@ -285,7 +285,7 @@ fn a_complete_run_is_reported(rt: HostRuntime) {
 
 #[test]
 fn steps_are_taken_in_order(rt: HostRuntime) {
-    assert_eq!(rt; run_fresh(rt.alloc(), &ROWS), ROWS.len());
+    assert_eq!(rt; run_fresh(rt.alloc(), &CASES), CASES.len());
 }
 
 #[test]

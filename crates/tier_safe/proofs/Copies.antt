@@ -27,7 +27,7 @@ use Rattle.expiry_task.specs.Turns.{note_of}
 use Rattle.plain_log.proofs.Options.{map_some}
 use Rattle.remote_view.specs.Fold.{EntriesSeen, entry_of, state_of, recorded, updated, fold}
 use Rattle.tier_safe.specs.Scene.{Scene, BrokerTierView, TierTask, Copies, Expires}
-use Rattle.tier_safe.specs.Changes.{Move, Leaves, Overtakes, Dooms, Wants, Refreshes, Lines, Asks, Finds, Skips, Reads, moved, Telling, CopyStarts, CopyEnds, ExpiryStarts, ExpiryEnds, note_for, after_telling, Storing, Puts, Undoes, Deletes, key_for, after_storing, undone, Change, Steps, Moves, Chooses, Tells, Stores, Sees, Caches, Drops, effect}
+use Rattle.tier_safe.specs.Changes.{Move, Leaves, Overtakes, ChoosesExpired, Wants, Refreshes, Lines, Asks, Finds, Skips, Reads, moved, Telling, CopyStarts, CopyEnds, ExpiryStarts, ExpiryEnds, note_for, after_telling, Storing, Puts, Undoes, Deletes, key_for, after_storing, undone, Change, Steps, Moves, Chooses, Tells, Stores, Sees, Caches, Drops, effect}
 use Rattle.tier_safe.specs.Views.{IsIdOf, IsIdUsed}
 use Rattle.tier_safe.specs.Copies.{IsEntryFor, IsPartPut, HasPutBefore, HasPutAll, CopyHasKey, CopyAt, CopyStands, CopiesStand, is_deleted}
 use Rattle.tier_safe.specs.Safe.{TierSafe}
@@ -127,7 +127,7 @@ at_gone old new es copy copying.Finish x there gone h =
 at_gone old new es copy copying.Check x there gone h = record { entry = h.entry; there = h.there; is = h.is; state = h.state }
 at_gone old new es copy (copying.Delete n) x there gone h = record { entry = h.entry; there = h.there; is = h.is; state = h.state }
 
--- an actor's state by its work
+-- an actor's state by its task
 
 abbrev pub CopyTask : Objects → List Path → List Entry → TierTask → Type 0
 CopyTask objects paths es (Copies copy next) = CopyStands objects paths es copy next
@@ -144,7 +144,7 @@ AloneTask desk a other = Unit {0}
 pub alone_actor_state : (c : Scene) (p : Plain) (a : ℕ) (copy : Copied) (next : CopyNext) → TierSafe c p → slice_get c.desk a ≡ Some (Copies copy next) → IsAlone c.desk a copy.id
 alone_actor_state c p a copy next h actor_state = λ k other then ne at e. ne (sym (h.copies.apart a k copy other next then actor_state at e))
 
--- what each work represents, after one was put in its place
+-- what each task represents, after one was put in its place
 pub copies_set : (objects : Objects) (paths : List Path) (es : List Entry) (desk : List TierTask) (a : ℕ) (w : TierTask) → CopyTask objects paths es w → AloneTask desk a w
     → ((k : ℕ) (copy : Copied) (next : CopyNext) → k ≢ a → slice_get desk k ≡ Some (Copies copy next) → CopyStands objects paths es copy next)
     → ((k j : ℕ) (copy other : Copied) (next then : CopyNext) → slice_get desk k ≡ Some (Copies copy next) → slice_get desk j ≡ Some (Copies other then) → copy.id ≡ other.id → k ≡ j)
@@ -188,18 +188,18 @@ overtaken a copy c p m h =
       key = some_keys copy.partition copy.id copy.packed;
     }
 
-moved_works : (a : ℕ) (move : Move) (c : Scene) (p : Plain) → MayMove a move c p → TierSafe c p
+moved_tasks : (a : ℕ) (move : Move) (c : Scene) (p : Plain) → MayMove a move c p → TierSafe c p
     → CopyTask c.objects p.paths (fold c.notes) (moved move) × AloneTask c.desk a (moved move)
-moved_works a Leaves c p m h = (tt, tt)
-moved_works a (Overtakes copy) c p m h = (overtaken a copy c p m h, alone_actor_state c p a copy _ h m.actor_state)
-moved_works a (Dooms b expired_segment) c p m h = (tt, tt)
-moved_works a (Wants rebuild) c p m h = (tt, tt)
-moved_works a (Refreshes rebuild) c p m h = (tt, tt)
-moved_works a (Lines rebuild line) c p m h = (tt, tt)
-moved_works a (Asks sought) c p m h = (tt, tt)
-moved_works a (Finds sought piece) c p m h = (tt, tt)
-moved_works a (Skips sought offset) c p m h = (tt, tt)
-moved_works a (Reads sought from) c p m h = (tt, tt)
+moved_tasks a Leaves c p m h = (tt, tt)
+moved_tasks a (Overtakes copy) c p m h = (overtaken a copy c p m h, alone_actor_state c p a copy _ h m.actor_state)
+moved_tasks a (ChoosesExpired b expired_segment) c p m h = (tt, tt)
+moved_tasks a (Wants rebuild) c p m h = (tt, tt)
+moved_tasks a (Refreshes rebuild) c p m h = (tt, tt)
+moved_tasks a (Lines rebuild line) c p m h = (tt, tt)
+moved_tasks a (Asks sought) c p m h = (tt, tt)
+moved_tasks a (Finds sought piece) c p m h = (tt, tt)
+moved_tasks a (Skips sought offset) c p m h = (tt, tt)
+moved_tasks a (Reads sought from) c p m h = (tt, tt)
 
 -- a new id
 
@@ -378,7 +378,7 @@ pub copies_kept : (change : Change) (c : Scene) (p : Plain) → MayAlter change 
     → CopiesStand (effect change c).objects p.paths (fold (effect change c).notes) (effect change c).desk
 copies_kept (Steps tier_views) c p m h = absurd m
 copies_kept (Moves a move) c p m h =
-    let w = moved_works a move c p m h in
+    let w = moved_tasks a move c p m h in
     copies_set c.objects p.paths (fold c.notes) c.desk a (moved move) w.0 w.1 (λ k copy next ne at. h.copies.each k copy next at) h.copies.apart
 copies_kept (Chooses a b tier_view copy) c p m h =
     copies_set c.objects p.paths (fold c.notes) c.desk a (Copies copy copying.Start)

@@ -27,11 +27,11 @@ use Rattle.expiry_task.specs.Turns.{keys as expiry_keys, delete_at}
 use Rattle.remote_view.specs.Fold.{EntriesSeen, entry_of, recorded, updated, fold}
 use Rattle.remote_view.specs.Lookup.{is_gone}
 use Rattle.tier_safe.specs.Scene.{Scene, BrokerTierView, TierTask, Copies, Expires}
-use Rattle.tier_safe.specs.Changes.{Move, Leaves, Overtakes, Dooms, Wants, Refreshes, Lines, Asks, Finds, Skips, Reads, moved, Telling, CopyStarts, CopyEnds, ExpiryStarts, ExpiryEnds, note_for, after_telling, Storing, Puts, Undoes, Deletes, after_storing, undone, Change, Steps, Moves, Chooses, Tells, Stores, Sees, Caches, Drops, effect}
+use Rattle.tier_safe.specs.Changes.{Move, Leaves, Overtakes, ChoosesExpired, Wants, Refreshes, Lines, Asks, Finds, Skips, Reads, moved, Telling, CopyStarts, CopyEnds, ExpiryStarts, ExpiryEnds, note_for, after_telling, Storing, Puts, Undoes, Deletes, after_storing, undone, Change, Steps, Moves, Chooses, Tells, Stores, Sees, Caches, Drops, effect}
 use Rattle.tier_safe.specs.Copies.{is_deleted}
 use Rattle.tier_safe.specs.Starts.{DeletedEnd, HasBegun, ExpiryHasKey, ExpiryStands, DeletionsStand}
 use Rattle.tier_safe.specs.Safe.{TierSafe}
-use Rattle.tier_safe.specs.Moves.{MayMove, MayDoom}
+use Rattle.tier_safe.specs.Moves.{MayMove, MayChooseExpired}
 use Rattle.tier_safe.specs.May.{MayAlter, MayStore, MayTell}
 use Rattle.tier_safe.proofs.Steps.{StepGoes}
 use Rattle.tier_safe.proofs.Entries.{id_in, told, told_entry, told_follows, entry_goes, prefix_goes, other_entry, fold_push}
@@ -80,7 +80,7 @@ ended_told telling a origin c p m h id before then now pre is done found ne =
           rw end low
     ]
 
--- an actor's state by its work
+-- an actor's state by its task
 
 abbrev pub ExpiryTask : List Entry → ℕ → TierTask → Type 0
 ExpiryTask es start (Expires expired_segment next) = ExpiryStands es start expired_segment next
@@ -111,8 +111,8 @@ expiry_goes es note start expired_segment next h =
       key = h.key;
     }
 
-expired_segment_work : (a b : ℕ) (expired_segment : ExpiredSegment) (c : Scene) (p : Plain) → MayDoom a b expired_segment c p → TierSafe c p → ExpiryStands (fold c.notes) p.registry.start expired_segment expiring.Start
-expired_segment_work a b expired_segment c p m h =
+expired_segment_task : (a b : ℕ) (expired_segment : ExpiredSegment) (c : Scene) (p : Plain) → MayChooseExpired a b expired_segment c p → TierSafe c p → ExpiryStands (fold c.notes) p.registry.start expired_segment expiring.Start
+expired_segment_task a b expired_segment c p m h =
     let v = h.views b m.tier_view m.tier_view_is in
     let y = prefix_goes v.before c.notes expired_segment.id m.entry v.begins (subst (λ (s : EntriesSeen). entry_of expired_segment.id s.entries ≡ Some m.entry) v.is m.there) in
     let d = both (nat_lt m.entry.end p.registry.start) (not (is_gone m.entry.state)) m.due in
@@ -122,7 +122,7 @@ expired_segment_work a b expired_segment c p m h =
 moved_expiry : (a : ℕ) (move : Move) (c : Scene) (p : Plain) → MayMove a move c p → TierSafe c p → ExpiryTask (fold c.notes) p.registry.start (moved move)
 moved_expiry a Leaves c p m h = tt
 moved_expiry a (Overtakes copy) c p m h = tt
-moved_expiry a (Dooms b expired_segment) c p m h = expired_segment_work a b expired_segment c p m h
+moved_expiry a (ChoosesExpired b expired_segment) c p m h = expired_segment_task a b expired_segment c p m h
 moved_expiry a (Wants rebuild) c p m h = tt
 moved_expiry a (Refreshes rebuild) c p m h = tt
 moved_expiry a (Lines rebuild line) c p m h = tt

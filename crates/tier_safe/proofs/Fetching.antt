@@ -22,7 +22,7 @@ use Rattle.copy_task.specs.declared.turn.CopyStep.TheVariants as copying
 use Rattle.remote_find.specs.declared.piece.Piece.{Piece}
 use Rattle.remote_view.specs.Fold.{EntriesSeen, entry_of, fold, view_of}
 use Rattle.tier_safe.specs.Scene.{Scene, BrokerTierView, Sought, TierTask, Copies, Seeks}
-use Rattle.tier_safe.specs.Changes.{Move, Leaves, Overtakes, Dooms, Wants, Refreshes, Lines, Asks, Finds, Skips, Reads, moved, Telling, CopyStarts, CopyEnds, ExpiryStarts, ExpiryEnds, note_for, after_telling, Storing, Puts, Undoes, Deletes, after_storing, undone, Change, Steps, Moves, Chooses, Tells, Stores, Sees, Caches, Drops, effect}
+use Rattle.tier_safe.specs.Changes.{Move, Leaves, Overtakes, ChoosesExpired, Wants, Refreshes, Lines, Asks, Finds, Skips, Reads, moved, Telling, CopyStarts, CopyEnds, ExpiryStarts, ExpiryEnds, note_for, after_telling, Storing, Puts, Undoes, Deletes, after_storing, undone, Change, Steps, Moves, Chooses, Tells, Stores, Sees, Caches, Drops, effect}
 use Rattle.tier_safe.specs.Lineage.{IsPathPart, DescribesPath}
 use Rattle.plain_log.specs.Grows.{BrokerGrows}
 use Rattle.tier_safe.specs.Starts.{DeletedEnd}
@@ -38,7 +38,7 @@ use Rattle.tier_safe.proofs.Lineage.{index_grows}
 use Rattle.tier_safe.proofs.IdsLaw.{followed}
 use Rattle.tier_safe.proofs.Covering.{finished_stays}
 
--- an actor's state by its work
+-- an actor's state by its task
 
 abbrev pub FetchTask : List Path → List Note → ℕ → List BrokerTierView → List Broker → TierTask → Type 0
 FetchTask paths notes start tier_views brokers (Seeks sought) =
@@ -117,7 +117,7 @@ placed a sought from c p m h tier_view x is bx =
 moved_fetch : (a : ℕ) (move : Move) (c : Scene) (p : Plain) → MayMove a move c p → TierSafe c p → FetchTask p.paths c.notes p.registry.start c.tier_views p.brokers (moved move)
 moved_fetch a Leaves c p m h = tt
 moved_fetch a (Overtakes copy) c p m h = tt
-moved_fetch a (Dooms b expired_segment) c p m h = tt
+moved_fetch a (ChoosesExpired b expired_segment) c p m h = tt
 moved_fetch a (Wants rebuild) c p m h = tt
 moved_fetch a (Refreshes rebuild) c p m h = tt
 moved_fetch a (Lines rebuild line) c p m h = tt

@@ -34,16 +34,16 @@ use Rattle.tier_safe.specs.May.{MayAlter, MayStore, MayTell}
 use Rattle.tier_safe.proofs.Steps.{StepGoes}
 use Rattle.tier_safe.proofs.Entries.{id_in, told, told_follows, told_entry, add_entry, other_entry, fold_push}
 use Rattle.tier_safe.proofs.Basics.{id_cases, one_some, not_finished, key_is}
-use Rattle.tier_safe.proofs.Lineage.{held_grows, held_same}
+use Rattle.tier_safe.proofs.Lineage.{stored_whole_grows, stored_whole_same}
 
 -- the custom metadata of a packed copy
 custom_packed : (copy : Copied) → copy.packed ≡ true → custom_of copy ≡ Some (layout_bytes (layout_of copy.parts))
 custom_packed copy packed = rw packed refl
 
 -- a copy whose objects all exist, with its entry
-pub copied_held : (objects : Objects) (paths : List Path) (copy : Copied) (entry : Entry) → IsSource paths copy → IsEntryFor copy entry → entry.id ≡ copy.id
+pub copied_stored_whole : (objects : Objects) (paths : List Path) (copy : Copied) (entry : Entry) → IsSource paths copy → IsEntryFor copy entry → entry.id ≡ copy.id
     → entry.custom ≡ custom_of copy → HasPutAll objects copy → IsStoredWhole objects paths entry
-copied_held objects paths copy entry s e id told put = record {
+copied_stored_whole objects paths copy entry s e id told put = record {
   batches = s.copied.batches;
   line = copy.line;
   interval = copy.interval;
@@ -88,10 +88,10 @@ told_custom : (broker : BrokerId) (event_ts : ℤ) (custom : Option Blob) (x : E
 told_custom broker event_ts custom x started = rw started refl
 
 -- after a metadata event of an expiry an entry of its id that is finished was so
-expired_held : (expired_segment : ExpiredSegment) (origin : EventOrigin) (state : State) (a : ℕ) (next : ExpiryNext) (c : Scene) (p : Plain) (entry : Entry) → state ≢ CopyFinished
+expired_stored_whole : (expired_segment : ExpiredSegment) (origin : EventOrigin) (state : State) (a : ℕ) (next : ExpiryNext) (c : Scene) (p : Plain) (entry : Entry) → state ≢ CopyFinished
     → slice_get c.desk a ≡ Some (Expires expired_segment next) → TierSafe c p
     → entry_of expired_segment.id (recorded (fold c.notes) (note_of expired_segment origin state)) ≡ Some entry → entry.state ≡ CopyFinished → IsStoredWhole c.objects p.paths entry
-expired_held expired_segment origin state a next c p entry ne actor_state h is done =
+expired_stored_whole expired_segment origin state a next c p entry ne actor_state h is done =
     let s = h.deletions.each a expired_segment next actor_state in
     let new = told_entry (fold c.notes) expired_segment.id origin.broker origin.now state (bare_custom expired_segment.packed) s.entry s.there in
     let one = one_some (entry_of expired_segment.id (recorded (fold c.notes) (note_of expired_segment origin state))) entry (told origin.broker origin.now state (bare_custom expired_segment.packed) s.entry) is new in
@@ -100,14 +100,14 @@ expired_held expired_segment origin state a next c p entry ne actor_state h is d
     h.finished expired_segment.id entry (subst (λ (y : Entry). entry_of expired_segment.id (fold c.notes) ≡ Some y) (sym was) s.there) done
 
 -- after a metadata event, an entry of its id is finished
-told_held : (telling : Telling) (a : ℕ) (origin : EventOrigin) (c : Scene) (p : Plain) (entry : Entry) → MayTell a telling c → TierSafe c p
+told_stored_whole : (telling : Telling) (a : ℕ) (origin : EventOrigin) (c : Scene) (p : Plain) (entry : Entry) → MayTell a telling c → TierSafe c p
     → entry_of (id_in (note_for telling origin)) (recorded (fold c.notes) (note_for telling origin)) ≡ Some entry → entry.state ≡ CopyFinished
     → IsStoredWhole c.objects p.paths entry
-told_held (CopyStarts copy) a origin c p entry m h is done =
+told_stored_whole (CopyStarts copy) a origin c p entry m h is done =
     let e = add_entry (fold c.notes) (copied_entry copy origin) refl (h.copies.each a copy _ m.actor_state).at in
     let one = one_some (entry_of copy.id (recorded (fold c.notes) (start_note copy origin))) entry (copied_entry copy origin) is e in
     absurd (cc (ap (λ (x : Entry). x.state) one, done))
-told_held (CopyEnds copy) a origin c p entry m h is done =
+told_stored_whole (CopyEnds copy) a origin c p entry m h is done =
     let s = h.copies.each a copy _ m.actor_state in
     let x = s.at.entry in
     let new = told_entry (fold c.notes) copy.id origin.broker origin.now CopyFinished (custom_of copy) x s.at.there in
@@ -115,7 +115,7 @@ told_held (CopyEnds copy) a origin c p entry m h is done =
     let f = told_follows origin.broker origin.now CopyFinished (custom_of copy) x in
     let started = told_copied origin.broker origin.now (custom_of copy) x s.at.state.0 (subst (λ (y : Entry). y.state ≡ CopyFinished) one done) in
     subst (λ (y : Entry). IsStoredWhole c.objects p.paths y) (sym one)
-    (copied_held c.objects p.paths copy (told origin.broker origin.now CopyFinished (custom_of copy) x) s.source (record {
+    (copied_stored_whole c.objects p.paths copy (told origin.broker origin.now CopyFinished (custom_of copy) x) s.source (record {
       partition = f.partition ∙ s.at.is.partition;
       start = f.start ∙ s.at.is.start;
       end = f.end ∙ s.at.is.end;
@@ -124,10 +124,10 @@ told_held (CopyEnds copy) a origin c p entry m h is done =
       max_ts = f.max_ts ∙ s.at.is.max_ts;
       packed = f.packed ∙ s.at.is.packed;
     }) (f.id ∙ found_id copy.id (fold c.notes) x s.at.there) (told_custom origin.broker origin.now (custom_of copy) x started) (s.at.state.1 started))
-told_held (ExpiryStarts expired_segment) a origin c p entry m h is done =
-    expired_held expired_segment origin DeleteStarted a _ c p entry (λ e. absurd (cc (e))) m.actor_state h is done
-told_held (ExpiryEnds expired_segment) a origin c p entry m h is done =
-    expired_held expired_segment origin DeleteFinished a _ c p entry (λ e. absurd (cc (e))) m.actor_state h is done
+told_stored_whole (ExpiryStarts expired_segment) a origin c p entry m h is done =
+    expired_stored_whole expired_segment origin DeleteStarted a _ c p entry (λ e. absurd (cc (e))) m.actor_state h is done
+told_stored_whole (ExpiryEnds expired_segment) a origin c p entry m h is done =
+    expired_stored_whole expired_segment origin DeleteFinished a _ c p entry (λ e. absurd (cc (e))) m.actor_state h is done
 
 -- the entry of a segment, by one of its keys
 under : (partition : PartitionId) (id : SegmentId) (packed : Bool) (n : ℕ) (key : ObjectKey) (es : List Entry) (x : Entry) → slice_get (keys_of partition id packed) n ≡ Some key
@@ -155,7 +155,7 @@ finished_kept (Chooses a b tier_view copy) c p m h = h.finished
 finished_kept (Tells a telling origin) c p m h = λ id entry is done.
     let new = sym (ap (entry_of id) (fold_push c.notes (note_for telling origin))) ∙ is in
     elim (id_cases (id_in (note_for telling origin)) id) [
-      | inl own ↦ told_held telling a origin c p entry m h (ap (λ (i : SegmentId). entry_of i (recorded (fold c.notes) (note_for telling origin))) own ∙ new) done
+      | inl own ↦ told_stored_whole telling a origin c p entry m h (ap (λ (i : SegmentId). entry_of i (recorded (fold c.notes) (note_for telling origin))) own ∙ new) done
       | inr other ↦ h.finished id entry (sym (other_entry (fold c.notes) (note_for telling origin) id other) ∙ new) done
     ]
 finished_kept (Stores a storing objects) c p m h = λ id entry is done.
@@ -163,7 +163,7 @@ finished_kept (Stores a storing objects) c p m h = λ id entry is done.
     let id_is = found_id id (fold c.notes) entry is in
     let apart : (key_for storing).id ≢ entry.id =
     λ e. x.2 (ap (λ (y : Entry). y.state) (one_some (entry_of id (fold c.notes)) x.0 entry (ap (λ (i : SegmentId). entry_of i (fold c.notes)) (sym (e ∙ id_is)) ∙ x.1) is) ∙ done) in
-    held_same c.objects objects p.paths entry
+    stored_whole_same c.objects objects p.paths entry
     (λ n key at. m.made.others key (λ e. apart (sym (ap (λ (k : ObjectKey). k.id) e) ∙ ap (λ (k : ObjectKey). k.id) (key_is entry.partition entry.id entry.packed n key at))))
     (h.finished id entry is done)
 finished_kept (Sees b tier_view view) c p m h = h.finished
@@ -172,4 +172,4 @@ finished_kept (Drops b tier_view start dropping) c p m h = h.finished
 
 -- so does a step
 pub finished_stepped : (tier_views : List BrokerTierView) (c : Scene) (p q : Plain) → StepGoes tier_views c p q → TierSafe c p → FinishedStand c.objects q.paths (fold c.notes)
-finished_stepped tier_views c p q m h = λ id entry is done. held_grows c.objects p.paths q.paths entry m.grows.paths (h.finished id entry is done)
+finished_stepped tier_views c p q m h = λ id entry is done. stored_whole_grows c.objects p.paths q.paths entry m.grows.paths (h.finished id entry is done)

@@ -14,7 +14,7 @@ use Rattle.copy_task.specs.declared.turn.CopyStep.{CopyStep as CopyNext}
 use Rattle.copy_task.specs.declared.turn.CopyStep.TheVariants as copying
 use Rattle.remote_view.specs.Fold.{recorded, fold}
 use Rattle.tier_safe.specs.Scene.{Scene, BrokerTierView, TierTask, Copies}
-use Rattle.tier_safe.specs.Changes.{Move, Leaves, Overtakes, Dooms, Wants, Refreshes, Lines, Asks, Finds, Skips, Reads, moved, Telling, CopyStarts, CopyEnds, ExpiryStarts, ExpiryEnds, note_for, after_telling, Storing, Puts, Undoes, Deletes, after_storing, undone, Change, Steps, Moves, Chooses, Tells, Stores, Sees, Caches, Drops, effect}
+use Rattle.tier_safe.specs.Changes.{Move, Leaves, Overtakes, ChoosesExpired, Wants, Refreshes, Lines, Asks, Finds, Skips, Reads, moved, Telling, CopyStarts, CopyEnds, ExpiryStarts, ExpiryEnds, note_for, after_telling, Storing, Puts, Undoes, Deletes, after_storing, undone, Change, Steps, Moves, Chooses, Tells, Stores, Sees, Caches, Drops, effect}
 use Rattle.tier_safe.specs.Views.{IsNamed, IsIdOf, IsChosen, IsIdUsed, IdsStand}
 use Rattle.tier_safe.specs.Safe.{TierSafe}
 use Rattle.tier_safe.specs.Follow.{IdsGo, BrokerTierGoes}
@@ -24,12 +24,12 @@ use Rattle.tier_safe.proofs.Steps.{StepGoes}
 use Rattle.tier_safe.proofs.Entries.{id_in, other_entry, fold_push}
 use Rattle.tier_safe.proofs.Basics.{id_cases}
 
--- a work's id is used already
+-- a task's id is used already
 abbrev pub UsedTask : List Entry → List TierTask → TierTask → Type 0
 UsedTask es desk (Copies copy next) = IsIdUsed es desk copy.id
 UsedTask es desk other = Unit {0}
 
--- what is used after a work was put in its place was used before
+-- what is used after a task was put in its place was used before
 used_set : (es new : List Entry) (desk : List TierTask) (a : ℕ) (w : TierTask) → ((id : SegmentId) → IsNamed new id → IsIdUsed es desk id) → UsedTask es desk w
     → (id : SegmentId) → IsIdUsed new (slice_set desk a w) id → IsIdUsed es desk id
 used_set es new desk a w named own id u = elim u [
@@ -43,7 +43,7 @@ used_set es new desk a w named own id u = elim u [
 moved_used : (a : ℕ) (move : Move) (c : Scene) (p : Plain) → MayMove a move c p → UsedTask (fold c.notes) c.desk (moved move)
 moved_used a Leaves c p m = tt
 moved_used a (Overtakes copy) c p m = inr (a, copy, _, m.actor_state, refl)
-moved_used a (Dooms b expired_segment) c p m = tt
+moved_used a (ChoosesExpired b expired_segment) c p m = tt
 moved_used a (Wants rebuild) c p m = tt
 moved_used a (Refreshes rebuild) c p m = tt
 moved_used a (Lines rebuild line) c p m = tt

@@ -32,8 +32,8 @@ describes_grows ps qs entry batches line w h = record {
   size_is = h.size_is;
 }
 
-pub held_grows : (objects : Objects) (ps qs : List Path) (entry : Entry) → PathsGrow ps qs → IsStoredWhole objects ps entry → IsStoredWhole objects qs entry
-held_grows objects ps qs entry w h = record {
+pub stored_whole_grows : (objects : Objects) (ps qs : List Path) (entry : Entry) → PathsGrow ps qs → IsStoredWhole objects ps entry → IsStoredWhole objects qs entry
+stored_whole_grows objects ps qs entry w h = record {
   batches = h.batches;
   line = h.line;
   interval = h.interval;
@@ -58,9 +58,9 @@ index_grows ps qs entry index w h = record {
 }
 
 -- the objects of an entry exist where those under its keys do
-pub held_same : (old new : Objects) (paths : List Path) (entry : Entry) → ((n : ℕ) (key : ObjectKey) → slice_get (keys_of entry.partition entry.id entry.packed) n ≡ Some key → new key ≡ old key)
+pub stored_whole_same : (old new : Objects) (paths : List Path) (entry : Entry) → ((n : ℕ) (key : ObjectKey) → slice_get (keys_of entry.partition entry.id entry.packed) n ≡ Some key → new key ≡ old key)
     → IsStoredWhole old paths entry → IsStoredWhole new paths entry
-held_same old new paths entry same h = record {
+stored_whole_same old new paths entry same h = record {
   batches = h.batches;
   line = h.line;
   interval = h.interval;

@@ -14,10 +14,10 @@ use Rattle.copy_task.specs.declared.turn.CopyStep.{CopyStep as CopyNext}
 use Rattle.expiry_task.specs.declared.turn.ExpiredSegment.{ExpiredSegment}
 use Rattle.expiry_task.specs.declared.turn.DeletionStep.{DeletionStep as ExpiryNext}
 use Rattle.tier_safe.specs.Scene.{TierTask, Copies, Expires, Scene}
-use Rattle.tier_safe.specs.Changes.{Move, Leaves, Overtakes, Dooms, Wants, Refreshes, Lines, Asks, Finds, Skips, Reads, moved, Telling, CopyStarts, CopyEnds, ExpiryStarts, ExpiryEnds, note_for, after_telling, Storing, Puts, Undoes, Deletes, after_storing, undone, key_for, made_by, Change, Steps, Moves, Chooses, Tells, Stores, Sees, Caches, Drops, effect}
+use Rattle.tier_safe.specs.Changes.{Move, Leaves, Overtakes, ChoosesExpired, Wants, Refreshes, Lines, Asks, Finds, Skips, Reads, moved, Telling, CopyStarts, CopyEnds, ExpiryStarts, ExpiryEnds, note_for, after_telling, Storing, Puts, Undoes, Deletes, after_storing, undone, key_for, made_by, Change, Steps, Moves, Chooses, Tells, Stores, Sees, Caches, Drops, effect}
 use Rattle.tier_safe.specs.Views.{AreOfPartition}
 use Rattle.tier_safe.specs.Safe.{TierSafe}
-use Rattle.tier_safe.specs.Moves.{MayMove, MayDoom}
+use Rattle.tier_safe.specs.Moves.{MayMove, MayChooseExpired}
 use Rattle.tier_safe.specs.May.{MayTell, MayStore, MayAlter}
 use Rattle.tier_safe.proofs.Entries.{id_in, other_entry, add_entry, entry_goes, prefix_goes, fold_push}
 use Rattle.tier_safe.proofs.Basics.{id_cases, some_or_none, one_some, key_is, object_at}
@@ -83,7 +83,7 @@ expiries_set partition desk a w own h k expired_segment next at = elim (get-set 
   | inr there ↦ h k expired_segment next there.1
 ]
 
-expired_segment_of : (a b : ℕ) (expired_segment : ExpiredSegment) (c : Scene) (p : Plain) → MayDoom a b expired_segment c p → TierSafe c p → expired_segment.partition ≡ c.partition
+expired_segment_of : (a b : ℕ) (expired_segment : ExpiredSegment) (c : Scene) (p : Plain) → MayChooseExpired a b expired_segment c p → TierSafe c p → expired_segment.partition ≡ c.partition
 expired_segment_of a b expired_segment c p m h =
     let v = h.views b m.tier_view m.tier_view_is in
     let there : entry_of expired_segment.id (fold v.before) ≡ Some m.entry = subst (λ (s : EntriesSeen). entry_of expired_segment.id s.entries ≡ Some m.entry) v.is m.there in
@@ -93,7 +93,7 @@ expired_segment_of a b expired_segment c p m h =
 moved_of : (move : Move) (a : ℕ) (c : Scene) (p : Plain) → MayMove a move c p → TierSafe c p → TaskOf c.partition (moved move)
 moved_of Leaves a c p m h = tt
 moved_of (Overtakes copy) a c p m h = h.partition.copied a copy _ m.actor_state
-moved_of (Dooms b expired_segment) a c p m h = expired_segment_of a b expired_segment c p m h
+moved_of (ChoosesExpired b expired_segment) a c p m h = expired_segment_of a b expired_segment c p m h
 moved_of (Wants rebuild) a c p m h = tt
 moved_of (Refreshes rebuild) a c p m h = tt
 moved_of (Lines rebuild line) a c p m h = tt
@@ -102,21 +102,21 @@ moved_of (Finds sought piece) a c p m h = tt
 moved_of (Skips sought offset) a c p m h = tt
 moved_of (Reads sought from) a c p m h = tt
 
-told_work : (telling : Telling) (a : ℕ) (c : Scene) (p : Plain) → MayTell a telling c → TierSafe c p → TaskOf c.partition (after_telling telling)
-told_work (CopyStarts copy) a c p m h = h.partition.copied a copy _ m.actor_state
-told_work (CopyEnds copy) a c p m h = h.partition.copied a copy _ m.actor_state
-told_work (ExpiryStarts expired_segment) a c p m h = h.partition.deleted a expired_segment _ m.actor_state
-told_work (ExpiryEnds expired_segment) a c p m h = tt
+told_task : (telling : Telling) (a : ℕ) (c : Scene) (p : Plain) → MayTell a telling c → TierSafe c p → TaskOf c.partition (after_telling telling)
+told_task (CopyStarts copy) a c p m h = h.partition.copied a copy _ m.actor_state
+told_task (CopyEnds copy) a c p m h = h.partition.copied a copy _ m.actor_state
+told_task (ExpiryStarts expired_segment) a c p m h = h.partition.deleted a expired_segment _ m.actor_state
+told_task (ExpiryEnds expired_segment) a c p m h = tt
 
-undone_work : (partition : PartitionId) (copy : Copied) (n : ℕ) (next : Option ObjectKey) → copy.partition ≡ partition → TaskOf partition (undone copy n next)
-undone_work partition copy n None h = tt
-undone_work partition copy n (Some key) h = h
+undone_task : (partition : PartitionId) (copy : Copied) (n : ℕ) (next : Option ObjectKey) → copy.partition ≡ partition → TaskOf partition (undone copy n next)
+undone_task partition copy n None h = tt
+undone_task partition copy n (Some key) h = h
 
-stored_work : (storing : Storing) (a : ℕ) (objects : Objects) (c : Scene) (p : Plain) → MayStore a storing objects c → TierSafe c p
+stored_task : (storing : Storing) (a : ℕ) (objects : Objects) (c : Scene) (p : Plain) → MayStore a storing objects c → TierSafe c p
     → TaskOf c.partition (after_storing storing)
-stored_work (Puts copy n key) a objects c p m h = h.partition.copied a copy _ m.actor_state
-stored_work (Undoes copy n key) a objects c p m h = undone_work c.partition copy (n + 1) (slice_get (copy_keys copy) (n + 1)) (h.partition.copied a copy _ m.actor_state)
-stored_work (Deletes expired_segment n key) a objects c p m h = h.partition.deleted a expired_segment _ m.actor_state
+stored_task (Puts copy n key) a objects c p m h = h.partition.copied a copy _ m.actor_state
+stored_task (Undoes copy n key) a objects c p m h = undone_task c.partition copy (n + 1) (slice_get (copy_keys copy) (n + 1)) (h.partition.copied a copy _ m.actor_state)
+stored_task (Deletes expired_segment n key) a objects c p m h = h.partition.deleted a expired_segment _ m.actor_state
 
 -- the actors' states after one was set
 desk_set : (c d : Scene) (a : ℕ) (w : TierTask) (p : Plain) → TierSafe c p → TaskOf c.partition w
@@ -135,10 +135,10 @@ pub partition_kept : (change : Change) (c : Scene) (p : Plain) → MayAlter chan
 partition_kept (Steps tier_views) c p m h = absurd m
 partition_kept (Moves a move) c p m h = desk_set c c a (moved move) p h (moved_of move a c p m h) h.partition.told h.partition.stored
 partition_kept (Chooses a b tier_view copy) c p m h = desk_set c c a (Copies copy _) p h m.partition h.partition.told h.partition.stored
-partition_kept (Tells a telling origin) c p m h = desk_set c (effect (Tells a telling origin) c) a (after_telling telling) p h (told_work telling a c p m h)
+partition_kept (Tells a telling origin) c p m h = desk_set c (effect (Tells a telling origin) c) a (after_telling telling) p h (told_task telling a c p m h)
     (λ id entry is. told_of telling a origin c p m h id entry (sym (ap (entry_of id) (fold_push c.notes (note_for telling origin))) ∙ is)) h.partition.stored
 partition_kept (Stores a storing objects) c p m h =
-    desk_set c (effect (Stores a storing objects) c) a (after_storing storing) p h (stored_work storing a objects c p m h) h.partition.told
+    desk_set c (effect (Stores a storing objects) c) a (after_storing storing) p h (stored_task storing a objects c p m h) h.partition.told
     (λ key bytes is. elim (object_at (key_for storing) (made_by storing) c.objects objects key m.made) [
       | inl own ↦ ap (λ (k : ObjectKey). k.partition) own.0 ∙ stored_of storing a objects c p bytes m h (sym own.1 ∙ is)
       | inr other ↦ h.partition.stored key bytes (sym other.1 ∙ is)

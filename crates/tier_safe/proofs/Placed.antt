@@ -1,4 +1,4 @@
--- The parts of a held segment are read where its entry places them, packed or not.
+-- The parts of a segment that is stored whole are read where its entry places them, packed or not.
 use Rattle.std.proofs.Common.{◌≡◌, ◌∙◌, ap, refl, ℕ, Bool, true, false, List, Option, Some}
 use Rattle.std.specs.Prelude.{option_map}
 use Rattle.tier_base.specs.declared.names.PartitionId.{PartitionId}
@@ -81,10 +81,10 @@ pack_placed objects partition id custom parts part read h t = record {
     fills Epochs r = refl
     fills Pack r = absurd r
 
--- each part of a held segment
-pub held_placed : (objects : Objects) (paths : List Path) (entry : Entry) (part : Part) → IsRead part → (h : IsStoredWhole objects paths entry)
+-- each part of such a segment
+pub stored_whole_placed : (objects : Objects) (paths : List Path) (entry : Entry) (part : Part) → IsRead part → (h : IsStoredWhole objects paths entry)
     → HasSpot objects entry.partition entry.id entry.packed entry.custom part (part_in (parts_of h.batches h.line h.interval) part)
-held_placed objects paths entry part read h = by entry.packed h.stand h.custom
+stored_whole_placed objects paths entry part read h = by entry.packed h.stand h.custom
   where
     parts : Parts
     parts = parts_of h.batches h.line h.interval

@@ -14,7 +14,7 @@ dropped_kept b tier_view x o c p both tier_view_is x_is low high =
     let h = both.tier in
     let k = h.covered b tier_view x tier_view_is x_is o low high in
     let t = covers_is k.epoch o k.covers.entry k.covers.gives in
-    let held = h.finished k.covers.id k.covers.entry k.covers.there t.finished in
+    let stored_whole = h.finished k.covers.id k.covers.entry k.covers.there t.finished in
     record {
       id = k.covers.id;
       entry = k.covers.entry;
@@ -22,8 +22,8 @@ dropped_kept b tier_view x o c p both tier_view_is x_is low high =
       partition = h.partition.told k.covers.id k.covers.entry k.covers.there;
       finished = t.finished;
       holds = (t.from, t.to);
-      held = held;
-      shares = entry_agrees p k.covers.entry held.batches held.line x.log o k.epoch s held.describes (s.brokers b x x_is).log t.from t.to
+      stored_whole = stored_whole;
+      shares = entry_agrees p k.covers.entry stored_whole.batches stored_whole.line x.log o k.epoch s stored_whole.describes (s.brokers b x x_is).log t.from t.to
           t.gives k.holds;
     }
 

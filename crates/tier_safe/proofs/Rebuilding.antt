@@ -13,7 +13,7 @@ use Rattle.remote_view.specs.Fold.{EntriesSeen, fold}
 use Rattle.copy_task.specs.Copying.{Copied, keys as copy_keys}
 use Rattle.copy_task.specs.declared.turn.CopyStep.TheVariants as copying
 use Rattle.tier_safe.specs.Scene.{Scene, BrokerTierView, Rebuild, TierTask, Copies, Rebuilds}
-use Rattle.tier_safe.specs.Changes.{Move, Leaves, Overtakes, Dooms, Wants, Refreshes, Lines, Asks, Finds, Skips, Reads, moved, Telling, CopyStarts, CopyEnds, ExpiryStarts, ExpiryEnds, note_for, after_telling, Storing, Puts, Undoes, Deletes, after_storing, undone, Change, Steps, Moves, Chooses, Tells, Stores, Sees, Caches, Drops, effect}
+use Rattle.tier_safe.specs.Changes.{Move, Leaves, Overtakes, ChoosesExpired, Wants, Refreshes, Lines, Asks, Finds, Skips, Reads, moved, Telling, CopyStarts, CopyEnds, ExpiryStarts, ExpiryEnds, note_for, after_telling, Storing, Puts, Undoes, Deletes, after_storing, undone, Change, Steps, Moves, Chooses, Tells, Stores, Sees, Caches, Drops, effect}
 use Rattle.tier_safe.specs.Lineage.{CoversLog}
 use Rattle.tier_safe.specs.Starts.{RebuildStands, RebuildsStand}
 use Rattle.tier_safe.specs.Safe.{TierSafe}
@@ -25,7 +25,7 @@ use Rattle.tier_safe.proofs.Deletions.{deletions_kept}
 use Rattle.tier_safe.proofs.IdsLaw.{followed}
 use Rattle.tier_safe.proofs.Covering.{log_goes, holding_same, covers_same}
 
--- an actor's state by its work
+-- an actor's state by its task
 
 abbrev pub RebuildTask : List Path → List Note → ℕ → List BrokerTierView → TierTask → Type 0
 RebuildTask paths notes start tier_views (Rebuilds rebuild) = RebuildStands paths notes start tier_views rebuild
@@ -90,7 +90,7 @@ lined a rebuild line c p m h =
 moved_rebuild : (a : ℕ) (move : Move) (c : Scene) (p : Plain) → MayMove a move c p → TierSafe c p → RebuildTask p.paths c.notes p.registry.start c.tier_views (moved move)
 moved_rebuild a Leaves c p m h = tt
 moved_rebuild a (Overtakes copy) c p m h = tt
-moved_rebuild a (Dooms b expired_segment) c p m h = tt
+moved_rebuild a (ChoosesExpired b expired_segment) c p m h = tt
 moved_rebuild a (Wants rebuild) c p m h = wanted a rebuild c p m h
 moved_rebuild a (Refreshes rebuild) c p m h = refreshed a rebuild c p m h
 moved_rebuild a (Lines rebuild line) c p m h = lined a rebuild line c p m h

@@ -29,7 +29,7 @@ use Rattle.remote_view.proofs.Folding.{fold_distinct}
 use Rattle.copy_task.specs.Copying.{Copied, keys as copy_keys, IsCopied, start_note}
 use Rattle.copy_task.specs.declared.turn.CopyStep.{CopyStep as CopyNext}
 use Rattle.tier_safe.specs.Scene.{TierTask, Copies, Scene}
-use Rattle.tier_safe.specs.Changes.{Move, Leaves, Overtakes, Dooms, Wants, Refreshes, Lines, Asks, Finds, Skips, Reads, moved, Telling, CopyStarts, CopyEnds, ExpiryStarts, ExpiryEnds, after_telling, note_for, Storing, Puts, Undoes, Deletes, after_storing, undone, Change, Steps, Moves, Chooses, Tells, Stores, Sees, Caches, Drops, effect}
+use Rattle.tier_safe.specs.Changes.{Move, Leaves, Overtakes, ChoosesExpired, Wants, Refreshes, Lines, Asks, Finds, Skips, Reads, moved, Telling, CopyStarts, CopyEnds, ExpiryStarts, ExpiryEnds, after_telling, note_for, Storing, Puts, Undoes, Deletes, after_storing, undone, Change, Steps, Moves, Chooses, Tells, Stores, Sees, Caches, Drops, effect}
 use Rattle.tier_safe.specs.Views.{IsNoteRight, NotesStand}
 use Rattle.tier_safe.specs.Safe.{TierSafe}
 use Rattle.tier_safe.specs.Moves.{MayMove}
@@ -135,7 +135,7 @@ ids_set desk a w own h k copy next at = elim (get-set desk a w k (Copies copy ne
 moved_id : (move : Move) (a : ℕ) (c : Scene) (p : Plain) → MayMove a move c p → NotesStand c.notes c.desk → IdTask (moved move)
 moved_id Leaves a c p m n = tt
 moved_id (Overtakes copy) a c p m n = n.ids a copy _ m.actor_state
-moved_id (Dooms b expired_segment) a c p m n = tt
+moved_id (ChoosesExpired b expired_segment) a c p m n = tt
 moved_id (Wants rebuild) a c p m n = tt
 moved_id (Refreshes rebuild) a c p m n = tt
 moved_id (Lines rebuild line) a c p m n = tt

@@ -32,9 +32,9 @@ pub record FetchReads (c : Scene) (p : Plain) (x : Broker) (piece : Piece) : Typ
   pub entry : Entry
   pub there : entry_of piece.id (fold c.notes) ≡ Some entry
   pub finished : entry.state ≡ CopyFinished
-  pub held : IsStoredWhole c.objects p.paths entry
+  pub stored_whole : IsStoredWhole c.objects p.paths entry
   pub within : (entry.start ≤ piece.from) × (piece.to ≤ entry.end + 1)
-  pub shares : Shares (whole_of held) x.log (piece.to - 1)
+  pub shares : Shares (whole_of stored_whole) x.log (piece.to - 1)
 
 -- a piece that represents a log has such a copy, while the log start offset isn't above its offset
 pub piece_reads : (offset b : ℕ) (piece : Piece) (c : Scene) (p : Plain) (x : Broker) → PlainSafe p → TierSafe c p → slice_get p.brokers b ≡ Some x
@@ -45,7 +45,7 @@ piece_reads offset b piece c p x s h x_is k past =
     let within = k.within in
     let high : offset ≤ k.entry.end = omega (arith, holds.1, within.1) in
     let done = finished_stays c.notes c.notes k.before p.registry.start offset piece.id k.entry y.0 h.deletions.ended k.begins (prefix_self c.notes) k.there k.finished past high y.1 y.2 in
-    let held = h.finished piece.id y.0 y.1 done in
+    let stored_whole = h.finished piece.id y.0 y.1 done in
     let low : piece.from ≤ piece.to - 1 = omega (arith, holds.0, holds.1) in
     let last : piece.to - 1 < piece.to = omega (arith, holds.1) in
     let map : epoch_at y.0.map (piece.to - 1) ≡ Some k.epoch = ap (λ (l : List (ℕ × ℕ)). epoch_at l (piece.to - 1)) y.2.map ∙ k.of_copy (piece.to - 1) low last in
@@ -53,9 +53,9 @@ piece_reads offset b piece c p x s h x_is k past =
       entry = y.0;
       there = y.1;
       finished = done;
-      held = held;
+      stored_whole = stored_whole;
       within = (omega (arith, within.0, y.2.start), omega (arith, within.1, y.2.end));
-      shares = entry_agrees p y.0 held.batches held.line x.log (piece.to - 1) k.epoch s held.describes (s.brokers b x x_is).log
+      shares = entry_agrees p y.0 stored_whole.batches stored_whole.line x.log (piece.to - 1) k.epoch s stored_whole.describes (s.brokers b x x_is).log
           (omega (arith, within.0, y.2.start, low)) (omega (arith, within.1, y.2.end, holds.1)) map (k.of_log (piece.to - 1) low last);
     }
 
@@ -71,34 +71,34 @@ pub fetch_from : (a : ℕ) (sought : Sought) (piece : Piece) (from : ℕ) (c : S
     → slice_get c.desk a ≡ Some (Seeks sought) → slice_get c.tier_views sought.broker ≡ Some tier_view → slice_get p.brokers sought.broker ≡ Some x
     → sought.piece ≡ Some piece → sought.from ≡ Some from → StillLeads sought x → p.registry.start ≤ sought.offset
     → (r : FetchReads c p x piece)
-    → (interval : ℕ) × (from ≡ (find (index_of r.entry.start interval (placed_from 0 r.held.batches)) sought.offset).1)
+    → (interval : ℕ) × (from ≡ (find (index_of r.entry.start interval (placed_from 0 r.stored_whole.batches)) sought.offset).1)
 fetch_from a sought piece from c p tier_view x s h actor_state tier_view_is x_is is read leads past r =
     let i = (h.fetches a sought tier_view x actor_state tier_view_is x_is).from piece from is read leads past r.entry r.there r.finished in
     let k = i.1 in
-    let one = describes_one p r.entry k.batches r.held.batches k.line r.held.line s k.describes r.held.describes in
+    let one = describes_one p r.entry k.batches r.stored_whole.batches k.line r.stored_whole.line s k.describes r.stored_whole.describes in
     let same = k.is ∙ ap (λ (b : List (List ℕ)). index_of r.entry.start k.interval (placed_from 0 b)) one in
     (k.interval, i.2 ∙ ap (λ (t : OffsetTable). (find t sought.offset).1) same)
 
 pub fetch_runs : (c : Scene) (p : Plain) (x : Broker) (piece : Piece) (offset : ℕ) (run : List (List ℕ)) → PlainSafe p → (r : FetchReads c p x piece)
-    → piece.from ≤ offset → offset < piece.to → IsPrefix run (from_offset offset r.held.batches) → end_of run ≤ piece.to → IsPrefix run (from_offset offset x.log)
+    → piece.from ≤ offset → offset < piece.to → IsPrefix run (from_offset offset r.stored_whole.batches) → end_of run ≤ piece.to → IsPrefix run (from_offset offset x.log)
 fetch_runs c p x piece offset run s r low high pre below =
-    let part = r.held.describes.part in
-    let safe = has_safe p part.epoch (whole_of r.held) s part.begins in
-    let front = consecutive_prefix 0 part.front (whole_of r.held) (r.held.batches, refl) safe.consecutive in
-    let back = from_back 0 offset part.front r.held.batches front (omega (arith, part.ends, r.within.0, low)) in
-    runs_same (whole_of r.held) x.log run offset (piece.to - 1) r.shares safe.consecutive (omega (arith, high))
+    let part = r.stored_whole.describes.part in
+    let safe = has_safe p part.epoch (whole_of r.stored_whole) s part.begins in
+    let front = consecutive_prefix 0 part.front (whole_of r.stored_whole) (r.stored_whole.batches, refl) safe.consecutive in
+    let back = from_back 0 offset part.front r.stored_whole.batches front (omega (arith, part.ends, r.within.0, low)) in
+    runs_same (whole_of r.stored_whole) x.log run offset (piece.to - 1) r.shares safe.consecutive (omega (arith, high))
     (subst (λ (l : List (List ℕ)). IsPrefix run l) (sym back) pre) (omega (arith, below, high))
 
 -- and the batch after them, where they end before the piece does
 pub fetch_next : (c : Scene) (p : Plain) (x : Broker) (piece : Piece) (offset : ℕ) (first batch : List ℕ) (run rest : List (List ℕ)) → PlainSafe p → (r : FetchReads c p x piece)
-    → piece.from ≤ offset → offset < piece.to → from_offset offset r.held.batches ≡ (first ∷ run) ++ batch ∷ rest → end_of (first ∷ run) < piece.to
+    → piece.from ≤ offset → offset < piece.to → from_offset offset r.stored_whole.batches ≡ (first ∷ run) ++ batch ∷ rest → end_of (first ∷ run) < piece.to
     → (more : List (List ℕ)) × (from_offset offset x.log ≡ (first ∷ run) ++ batch ∷ more)
 fetch_next c p x piece offset first batch run rest s r low high is below =
-    let part = r.held.describes.part in
-    let safe = has_safe p part.epoch (whole_of r.held) s part.begins in
-    let front = consecutive_prefix 0 part.front (whole_of r.held) (r.held.batches, refl) safe.consecutive in
-    let back = from_back 0 offset part.front r.held.batches front (omega (arith, part.ends, r.within.0, low)) in
-    next_same (whole_of r.held) x.log run first batch rest offset (piece.to - 1) r.shares safe.consecutive (omega (arith, high)) (back ∙ is) (omega (arith, below, high))
+    let part = r.stored_whole.describes.part in
+    let safe = has_safe p part.epoch (whole_of r.stored_whole) s part.begins in
+    let front = consecutive_prefix 0 part.front (whole_of r.stored_whole) (r.stored_whole.batches, refl) safe.consecutive in
+    let back = from_back 0 offset part.front r.stored_whole.batches front (omega (arith, part.ends, r.within.0, low)) in
+    next_same (whole_of r.stored_whole) x.log run first batch rest offset (piece.to - 1) r.shares safe.consecutive (omega (arith, high)) (back ∙ is) (omega (arith, below, high))
 
 -- what a fetch reads is its log's
 pub fetches_served : FetchesAreServed
@@ -110,7 +110,7 @@ fetches_served c p a sought piece tier_view x both actor_state tier_view_is x_is
       there = r.there;
       partition = both.tier.partition.told piece.id r.entry r.there;
       finished = r.finished;
-      held = r.held;
+      stored_whole = r.stored_whole;
       runs = λ run pre below. fetch_runs c p x piece sought.offset run both.plain r k.holds.0 k.holds.1 pre below;
       from = λ from read. fetch_from a sought piece from c p tier_view x both.plain both.tier actor_state tier_view_is x_is is read leads past r;
     }
@@ -135,21 +135,21 @@ rebuilds_served c p a r tier_view id x e both actor_state tier_view_is below fou
     let there : entry_of id (fold v.before) ≡ Some x = subst (λ (w : EntriesSeen). entry_of id w.entries ≡ Some x) v.is found in
     let y = prefix_goes v.before c.notes id x v.begins there in
     let done = finished_stays c.notes c.notes v.before p.registry.start (r.wanted - 1) id x y.0 h.deletions.ended v.begins (prefix_self c.notes) there t.finished (omega (arith, below)) t.to y.1 y.2 in
-    let held = h.finished id y.0 y.1 done in
+    let stored_whole = h.finished id y.0 y.1 done in
     let map : epoch_at y.0.map (r.wanted - 1) ≡ Some e = ap (λ (l : List (ℕ × ℕ)). epoch_at l (r.wanted - 1)) y.2.map ∙ t.gives in
     let sf = has_safe p r.epoch k.front s k.begins in
-    let sa = has_safe p held.describes.part.epoch (whole_of held) s held.describes.part.begins in
-    let m = entry_agrees p y.0 held.batches held.line k.front (r.wanted - 1) e s held.describes sf (omega (arith, t.from, y.2.start)) (omega (arith, t.to, y.2.end)) map holds in
+    let sa = has_safe p stored_whole.describes.part.epoch (whole_of stored_whole) s stored_whole.describes.part.begins in
+    let m = entry_agrees p y.0 stored_whole.batches stored_whole.line k.front (r.wanted - 1) e s stored_whole.describes sf (omega (arith, t.from, y.2.start)) (omega (arith, t.to, y.2.end)) map holds in
     let ends = k.ends in
-    let begins = shares_all (whole_of held) k.front r.wanted sf.consecutive ends (omega (arith, below)) m in
-    let high = prefix_end k.front (whole_of held) sa.consecutive begins in
+    let begins = shares_all (whole_of stored_whole) k.front r.wanted sf.consecutive ends (omega (arith, below)) m in
+    let high = prefix_end k.front (whole_of stored_whole) sa.consecutive begins in
     record {
       entry = y.0;
       there = y.1;
       partition = h.partition.told id y.0 y.1;
-      held = held;
+      stored_whole = stored_whole;
       begins = begins;
       says = λ o low.
-          map_at 0 (whole_of held) o sa.consecutive (omega arith) (omega (arith, low, ends, high))
-          ∙ holding_same 0 k.front (whole_of held) o begins (omega arith) (omega (arith, low, ends));
+          map_at 0 (whole_of stored_whole) o sa.consecutive (omega arith) (omega (arith, low, ends, high))
+          ∙ holding_same 0 k.front (whole_of stored_whole) o begins (omega arith) (omega (arith, low, ends));
     }

@@ -48,7 +48,7 @@ use Rattle.tier_safe.specs.Views.{IsViewOf}
 use Rattle.tier_safe.specs.Copies.{is_deleted}
 use Rattle.tier_safe.specs.Safe.{TierSafe}
 use Rattle.tier_safe.specs.May.{May, Mays, IsChanged}
-use Rattle.tier_safe.specs.Turns.{ShowsScene, after_turn, copy_work, expiry_work, CopyTurnsChange, ExpiryTurnsChange, RefreshesChange, HaltsChange}
+use Rattle.tier_safe.specs.Turns.{ShowsScene, after_turn, copy_tier_task, expiry_tier_task, CopyTurnsChange, ExpiryTurnsChange, RefreshesChange, HaltsChange}
 use Rattle.tier_safe.proofs.Basics.{key_cases}
 
 -- lists of works and tier views
@@ -102,11 +102,11 @@ pub as_scene : (c d e : Scene) (p : Plain) → d ≡ e → IsChanged c p d → I
 as_scene c d e p same h = record { changes = h.changes; may = h.may; is = h.is ∙ same }
 
 -- the command leaves the desk
-pub leaves : (c : Scene) (p : Plain) (a b : ℕ) (tier_view : BrokerTierView) (work : TierTask) (o : Objects) (n : List Note) (v : EntriesSeen)
-    → IsChanged c p (after_turn c a b tier_view work o n v) → IsChanged c p (after_turn c a b tier_view Free o n v)
-leaves c p a b tier_view work o n v h =
-    as_scene c (effect (Moves a Leaves) (after_turn c a b tier_view work o n v)) (after_turn c a b tier_view Free o n v) p
-    (scene_same _ _ refl refl refl refl (set_set c.desk a work Free)) (goes_on c (after_turn c a b tier_view work o n v) p (Moves a Leaves) h (refl, tt))
+pub leaves : (c : Scene) (p : Plain) (a b : ℕ) (tier_view : BrokerTierView) (tier_task : TierTask) (o : Objects) (n : List Note) (v : EntriesSeen)
+    → IsChanged c p (after_turn c a b tier_view tier_task o n v) → IsChanged c p (after_turn c a b tier_view Free o n v)
+leaves c p a b tier_view tier_task o n v h =
+    as_scene c (effect (Moves a Leaves) (after_turn c a b tier_view tier_task o n v)) (after_turn c a b tier_view Free o n v) p
+    (scene_same _ _ refl refl refl refl (set_set c.desk a tier_task Free)) (goes_on c (after_turn c a b tier_view tier_task o n v) p (Moves a Leaves) h (refl, tt))
 
 -- nothing but that
 pub left : (c : Scene) (p : Plain) (a b : ℕ) (tier_view : BrokerTierView) → slice_get c.tier_views b ≡ Some tier_view → IsChanged c p (after_turn c a b tier_view Free c.objects c.notes tier_view.view)
@@ -129,10 +129,10 @@ stores c p a b tier_view storing objects at actor_state key made =
     (scene_same _ _ refl refl refl (sym (set-same c.tier_views b tier_view at)) refl) (one_change c p (Stores a storing objects) (refl, record { actor_state = actor_state; key = key; made = made }))
 
 -- what a turn leaves is said of other names
-pub renamed : (c : Scene) (p : Plain) (a b : ℕ) (tier_view : BrokerTierView) (work other : TierTask) (o o2 : Objects) (n n2 : List Note) (v v2 : EntriesSeen) → work ≡ other → o ≡ o2 → n ≡ n2 → v ≡ v2
-    → IsChanged c p (after_turn c a b tier_view work o n v) → IsChanged c p (after_turn c a b tier_view other o2 n2 v2)
-renamed c p a b tier_view work other o o2 n n2 v v2 ew eo en ev h =
-    as_scene c (after_turn c a b tier_view work o n v) (after_turn c a b tier_view other o2 n2 v2) p
+pub renamed : (c : Scene) (p : Plain) (a b : ℕ) (tier_view : BrokerTierView) (tier_task other : TierTask) (o o2 : Objects) (n n2 : List Note) (v v2 : EntriesSeen) → tier_task ≡ other → o ≡ o2 → n ≡ n2 → v ≡ v2
+    → IsChanged c p (after_turn c a b tier_view tier_task o n v) → IsChanged c p (after_turn c a b tier_view other o2 n2 v2)
+renamed c p a b tier_view tier_task other o o2 n n2 v v2 ew eo en ev h =
+    as_scene c (after_turn c a b tier_view tier_task o n v) (after_turn c a b tier_view other o2 n2 v2) p
     (scene_same _ _ refl eo en (ap (λ (x : EntriesSeen). slice_set c.tier_views b (record tier_view { view = x })) ev) (ap (slice_set c.desk a) ew)) h
 
 -- an object that was or wasn't changed
@@ -209,52 +209,52 @@ module _ {S M : Type 0} (objects : S → store.Content) (calls : S → Control s
 
   start_turn : (c : Scene) (p : Plain) (a b : ℕ) (tier_view : BrokerTierView) (copied : Copied) (origin : EventOrigin) (turn : Turn CopyNext) (s : store.Content) (old new : M)
       → ShowsScene c a b tier_view (Copies copied copying.Start) s (notes old) tier_view.view → StartRow notes notings copied origin (Ok turn) old new
-      → IsChanged c p (after_turn c a b tier_view (copy_work copied turn) s.objects (notes new).notes tier_view.view)
+      → IsChanged c p (after_turn c a b tier_view (copy_tier_task copied turn) s.objects (notes new).notes tier_view.view)
   start_turn c p a b tier_view copied origin (Ends MetaFault) s old new h row = told_failed c p a b tier_view (CopyStarts copied) origin s old new h row
   start_turn c p a b tier_view copied origin turn s old new h row =
-      renamed c p a b tier_view _ _ s.objects s.objects (notes new).notes (notes new).notes tier_view.view tier_view.view (ap (copy_work copied) (sym row.0)) refl refl refl
+      renamed c p a b tier_view _ _ s.objects s.objects (notes new).notes (notes new).notes tier_view.view tier_view.view (ap (copy_tier_task copied) (sym row.0)) refl refl refl
       (told_went c p a b tier_view (CopyStarts copied) origin s old new h row.1)
 
   finish_turn : (c : Scene) (p : Plain) (a b : ℕ) (tier_view : BrokerTierView) (copied : Copied) (origin : EventOrigin) (turn : Turn CopyNext) (s : store.Content) (old new : M)
       → ShowsScene c a b tier_view (Copies copied copying.Finish) s (notes old) tier_view.view → FinishRow notes notings copied origin (Ok turn) old new
-      → IsChanged c p (after_turn c a b tier_view (copy_work copied turn) s.objects (notes new).notes tier_view.view)
+      → IsChanged c p (after_turn c a b tier_view (copy_tier_task copied turn) s.objects (notes new).notes tier_view.view)
   finish_turn c p a b tier_view copied origin (Ends MetaFault) s old new h row = told_failed c p a b tier_view (CopyEnds copied) origin s old new h row
   finish_turn c p a b tier_view copied origin turn s old new h row =
-      renamed c p a b tier_view _ _ s.objects s.objects (notes new).notes (notes new).notes tier_view.view tier_view.view (ap (copy_work copied) (sym row.0)) refl refl refl
+      renamed c p a b tier_view _ _ s.objects s.objects (notes new).notes (notes new).notes tier_view.view tier_view.view (ap (copy_tier_task copied) (sym row.0)) refl refl refl
       (told_went c p a b tier_view (CopyEnds copied) origin s old new h row.1)
 
   put_turn : (c : Scene) (p : Plain) (a b : ℕ) (tier_view : BrokerTierView) (copied : Copied) (n : ℕ) (o : Option ObjectKey) (turn : Turn CopyNext) (ns : meta.Content) (old new : S)
       → slice_get (copy_keys copied) n ≡ o → n < length (copy_keys copied)
       → ShowsScene c a b tier_view (Copies copied (copying.Put n)) (objects old) ns tier_view.view → PutObjectRow objects calls copied n o (Ok turn) old new
-      → IsChanged c p (after_turn c a b tier_view (copy_work copied turn) (objects new).objects ns.notes tier_view.view)
+      → IsChanged c p (after_turn c a b tier_view (copy_tier_task copied turn) (objects new).objects ns.notes tier_view.view)
   put_turn c p a b tier_view copied n None turn ns old new at low h row = absurd (let there = look (copy_keys copied) n low in cc (there.1, at))
   put_turn c p a b tier_view copied n (Some key) (Ends StoreFault) ns old new at low h row =
       stored_failed c p a b tier_view (Puts copied n key) _ old new ns h at (part_under copied key row.part row.place _ _ _ row.puts.content)
   put_turn c p a b tier_view copied n (Some key) turn ns old new at low h row =
-      renamed c p a b tier_view _ _ (objects new).objects (objects new).objects ns.notes ns.notes tier_view.view tier_view.view (ap (copy_work copied) (sym row.0)) refl refl refl
+      renamed c p a b tier_view _ _ (objects new).objects (objects new).objects ns.notes ns.notes tier_view.view tier_view.view (ap (copy_tier_task copied) (sym row.0)) refl refl refl
       (stored_went c p a b tier_view (Puts copied n key) _ old new ns h at (part_under copied key row.1.part row.1.place _ _ _ row.1.puts.content) (λ done k. k.went refl))
 
-  after_undone : (copied : Copied) (view : EntriesSeen) (n : ℕ) (next : Option ObjectKey) → undone copied n next ≡ copy_work copied (delete_at copied view n next)
+  after_undone : (copied : Copied) (view : EntriesSeen) (n : ℕ) (next : Option ObjectKey) → undone copied n next ≡ copy_tier_task copied (delete_at copied view n next)
   after_undone copied view n None = refl
   after_undone copied view n (Some key) = refl
 
   delete_turn : (c : Scene) (p : Plain) (a b : ℕ) (tier_view : BrokerTierView) (copied : Copied) (view : EntriesSeen) (n : ℕ) (o : Option ObjectKey) (turn : Turn CopyNext) (ns : meta.Content) (old new : S)
       → slice_get (copy_keys copied) n ≡ o → n < length (copy_keys copied)
       → ShowsScene c a b tier_view (Copies copied (copying.Delete n)) (objects old) ns tier_view.view → DeleteRow objects calls copied view n o turn old new
-      → IsChanged c p (after_turn c a b tier_view (copy_work copied turn) (objects new).objects ns.notes tier_view.view)
+      → IsChanged c p (after_turn c a b tier_view (copy_tier_task copied turn) (objects new).objects ns.notes tier_view.view)
   delete_turn c p a b tier_view copied view n None turn ns old new at low h row = absurd (let there = look (copy_keys copied) n low in cc (there.1, at))
   delete_turn c p a b tier_view copied view n (Some key) (Ends StoreFault) ns old new at low h row =
       stored_failed c p a b tier_view (Undoes copied n key) _ old new ns h at row.content
   delete_turn c p a b tier_view copied view n (Some key) turn ns old new at low h row =
       renamed c p a b tier_view _ _ (objects new).objects (objects new).objects ns.notes ns.notes tier_view.view tier_view.view
-      (after_undone copied view (n + 1) (slice_get (copy_keys copied) (n + 1)) ∙ ap (copy_work copied) (sym row.0)) refl refl refl
+      (after_undone copied view (n + 1) (slice_get (copy_keys copied) (n + 1)) ∙ ap (copy_tier_task copied) (sym row.0)) refl refl refl
       (stored_went c p a b tier_view (Undoes copied n key) _ old new ns h at row.1.content (λ done k. k.went refl))
 
   -- a view takes all metadata events
-  pub sees_all : (c : Scene) (p : Plain) (a b : ℕ) (tier_view : BrokerTierView) (work : TierTask) (s : store.Content) (old : M) (view : EntriesSeen) → ShowsScene c a b tier_view work s (notes old) tier_view.view → length c.notes < 2 ^ 64
+  pub sees_all : (c : Scene) (p : Plain) (a b : ℕ) (tier_view : BrokerTierView) (tier_task : TierTask) (s : store.Content) (old : M) (view : EntriesSeen) → ShowsScene c a b tier_view tier_task s (notes old) tier_view.view → length c.notes < 2 ^ 64
       → IsViewOf c.notes tier_view.view → Refreshes (notes old) tier_view.view view
-      → (view ≡ view_of c.notes) × IsChanged c p (after_turn c a b tier_view work c.objects c.notes view)
-  sees_all c p a b tier_view work s old view h few v r =
+      → (view ≡ view_of c.notes) × IsChanged c p (after_turn c a b tier_view tier_task c.objects c.notes view)
+  sees_all c p a b tier_view tier_task s old view h few v r =
       let first = prefix_taken v.before c.notes v.begins in
       let is : tier_view.view ≡ view_of (take (length v.before) (notes old).notes) =
       v.is ∙ ap view_of first ∙ ap (λ (ns : List Note). view_of (take (length v.before) ns)) h.notes_are in
@@ -263,8 +263,8 @@ module _ {S M : Type 0} (objects : S → store.Content) (calls : S → Control s
       let all : view ≡ view_of c.notes =
       refreshed (notes old) tier_view.view view (length v.before) h.meta_tells (omega (arith, few, same)) (omega (arith, within, same)) is r ∙ ap view_of (sym h.notes_are) in (
         all,
-        as_scene c (effect (Sees b tier_view view) c) (after_turn c a b tier_view work c.objects c.notes view) p
-            (scene_same _ _ refl refl refl refl (sym (set-same c.desk a work h.actor_state)))
+        as_scene c (effect (Sees b tier_view view) c) (after_turn c a b tier_view tier_task c.objects c.notes view) p
+            (scene_same _ _ refl refl refl refl (sym (set-same c.desk a tier_task h.actor_state)))
             (one_change c p (Sees b tier_view view) (refl, record { tier_view_is = h.tier_view_is; before = v.before; old = v.is; more = c.notes; new = all; grows = v.begins; begins = prefix_self c.notes })),
       )
 
@@ -292,7 +292,7 @@ module _ {S M : Type 0} (objects : S → store.Content) (calls : S → Control s
   by_state : (c : Scene) (p : Plain) (a b : ℕ) (tier_view : BrokerTierView) (copied : Copied) (view : EntriesSeen) (n : ℕ) (o : Option State) → slice_get c.tier_views b ≡ Some tier_view
       → slice_get c.desk a ≡ Some (Copies copied copying.Check) → state_of copied.id view.entries ≡ o
       → IsChanged c p (after_turn c a b tier_view (Copies copied copying.Check) c.objects c.notes view)
-      → IsChanged c p (after_turn c a b tier_view (copy_work copied (checked copied n o)) c.objects c.notes view)
+      → IsChanged c p (after_turn c a b tier_view (copy_tier_task copied (checked copied n o)) c.objects c.notes view)
   by_state c p a b tier_view copied view n None at actor_state is h = leaves c p a b tier_view _ c.objects c.notes view h
   by_state c p a b tier_view copied view n (Some CopyStarted) at actor_state is h = leaves c p a b tier_view _ c.objects c.notes view h
   by_state c p a b tier_view copied view n (Some CopyFinished) at actor_state is h = leaves c p a b tier_view _ c.objects c.notes view h
@@ -302,16 +302,16 @@ module _ {S M : Type 0} (objects : S → store.Content) (calls : S → Control s
   check_turn : (c : Scene) (p : Plain) (a b : ℕ) (tier_view : BrokerTierView) (copied : Copied) (turn : Turn CopyNext) (s : store.Content) (old new : M) (view : EntriesSeen)
       → ShowsScene c a b tier_view (Copies copied copying.Check) s (notes old) tier_view.view → length c.notes < 2 ^ 64 → IsViewOf c.notes tier_view.view
       → CheckRow notes notings copied (Ok turn) tier_view.view view old new
-      → IsChanged c p (after_turn c a b tier_view (copy_work copied turn) s.objects (notes new).notes view)
+      → IsChanged c p (after_turn c a b tier_view (copy_tier_task copied turn) s.objects (notes new).notes view)
   check_turn c p a b tier_view copied (Ends MetaFault) s old new view h few v row =
       renamed c p a b tier_view _ _ c.objects s.objects c.notes (notes new).notes tier_view.view view refl h.objects_are (h.notes_are ∙ sym row.content.notes) (sym row.view) (left c p a b tier_view h.tier_view_is)
   check_turn c p a b tier_view copied turn s old new view h few v row =
       let all = sees_all c p a b tier_view (Copies copied copying.Check) s old view h few v row.1.view in
-      renamed c p a b tier_view _ _ c.objects s.objects c.notes (notes new).notes view view (ap (copy_work copied) (sym row.0)) h.objects_are (h.notes_are ∙ sym row.1.content.notes) refl
+      renamed c p a b tier_view _ _ c.objects s.objects c.notes (notes new).notes view view (ap (copy_tier_task copied) (sym row.0)) h.objects_are (h.notes_are ∙ sym row.1.content.notes) refl
       (by_state c p a b tier_view copied view view.notes (state_of copied.id view.entries) h.tier_view_is h.actor_state refl all.1)
 
-  shown : (c : Scene) (a b : ℕ) (tier_view : BrokerTierView) (work : TierTask) (s : store.Content) (n : meta.Content) (view : EntriesSeen) → ShowsScene c a b tier_view work s n view → ShowsScene c a b tier_view work s n tier_view.view
-  shown c a b tier_view work s n view h = record {
+  shown : (c : Scene) (a b : ℕ) (tier_view : BrokerTierView) (tier_task : TierTask) (s : store.Content) (n : meta.Content) (view : EntriesSeen) → ShowsScene c a b tier_view tier_task s n view → ShowsScene c a b tier_view tier_task s n tier_view.view
+  shown c a b tier_view tier_task s n view h = record {
     objects_are = h.objects_are;
     notes_are = h.notes_are;
     store_tells = h.store_tells;
@@ -322,34 +322,34 @@ module _ {S M : Type 0} (objects : S → store.Content) (calls : S → Control s
   }
 
   -- what a copy's turn leaves of the rest
-  copied_rest : (c : Scene) (p : Plain) (a b : ℕ) (tier_view : BrokerTierView) (work : TierTask) (o : Objects) (n : List Note) (v : EntriesSeen) (new : CopyTiers S M)
+  copied_rest : (c : Scene) (p : Plain) (a b : ℕ) (tier_view : BrokerTierView) (tier_task : TierTask) (o : Objects) (n : List Note) (v : EntriesSeen) (new : CopyTiers S M)
       → o ≡ (objects new.store).objects → n ≡ (notes new.meta).notes → v ≡ new.view
-      → IsChanged c p (after_turn c a b tier_view work o n v) → IsChanged c p (after_turn c a b tier_view work (objects new.store).objects (notes new.meta).notes new.view)
-  copied_rest c p a b tier_view work o n v new eo en ev h = renamed c p a b tier_view work work o _ n _ v _ refl eo en ev h
+      → IsChanged c p (after_turn c a b tier_view tier_task o n v) → IsChanged c p (after_turn c a b tier_view tier_task (objects new.store).objects (notes new.meta).notes new.view)
+  copied_rest c p a b tier_view tier_task o n v new eo en ev h = renamed c p a b tier_view tier_task tier_task o _ n _ v _ refl eo en ev h
 
   copy_went : (copied : Copied) (origin : EventOrigin) (next : CopyNext) (turn : Turn CopyNext) (old new : CopyTiers S M) (c : Scene) (p : Plain) (a b : ℕ) (tier_view : BrokerTierView)
       → CopyTurnRow objects calls notes notings copied origin next (Ok turn) old new → ShowsScene c a b tier_view (Copies copied next) (objects old.store) (notes old.meta) old.view
       → length c.notes < 2 ^ 64 → TierSafe c p
-      → IsChanged c p (after_turn c a b tier_view (copy_work copied turn) (objects new.store).objects (notes new.meta).notes new.view)
+      → IsChanged c p (after_turn c a b tier_view (copy_tier_task copied turn) (objects new.store).objects (notes new.meta).notes new.view)
   copy_went copied origin copying.Start turn old new c p a b tier_view row h few safe =
-      copied_rest c p a b tier_view (copy_work copied turn) (objects old.store).objects (notes new.meta).notes tier_view.view new
+      copied_rest c p a b tier_view (copy_tier_task copied turn) (objects old.store).objects (notes new.meta).notes tier_view.view new
       (ap (λ (t : CopyTiers S M). (objects t.store).objects) (sym row.0)) refl (h.view_is ∙ ap (λ (t : CopyTiers S M). t.view) (sym row.0))
       (start_turn c p a b tier_view copied origin turn (objects old.store) old.meta new.meta (shown c a b tier_view _ _ _ old.view h) row.1)
   copy_went copied origin (copying.Put n) turn old new c p a b tier_view row h few safe =
-      copied_rest c p a b tier_view (copy_work copied turn) (objects new.store).objects (notes old.meta).notes tier_view.view new
+      copied_rest c p a b tier_view (copy_tier_task copied turn) (objects new.store).objects (notes old.meta).notes tier_view.view new
       refl (ap (λ (t : CopyTiers S M). (notes t.meta).notes) (sym row.0)) (h.view_is ∙ ap (λ (t : CopyTiers S M). t.view) (sym row.0))
       (put_turn c p a b tier_view copied n _ turn (notes old.meta) old.store new.store refl (safe.copies.each a copied (copying.Put n) h.actor_state).key (shown c a b tier_view _ _ _ old.view h) row.1)
   copy_went copied origin copying.Finish turn old new c p a b tier_view row h few safe =
-      copied_rest c p a b tier_view (copy_work copied turn) (objects old.store).objects (notes new.meta).notes tier_view.view new
+      copied_rest c p a b tier_view (copy_tier_task copied turn) (objects old.store).objects (notes new.meta).notes tier_view.view new
       (ap (λ (t : CopyTiers S M). (objects t.store).objects) (sym row.0)) refl (h.view_is ∙ ap (λ (t : CopyTiers S M). t.view) (sym row.0))
       (finish_turn c p a b tier_view copied origin turn (objects old.store) old.meta new.meta (shown c a b tier_view _ _ _ old.view h) row.1)
   copy_went copied origin copying.Check turn old new c p a b tier_view row h few safe =
-      copied_rest c p a b tier_view (copy_work copied turn) (objects old.store).objects (notes new.meta).notes new.view new
+      copied_rest c p a b tier_view (copy_tier_task copied turn) (objects old.store).objects (notes new.meta).notes new.view new
       (ap (λ (t : S). (objects t).objects) (sym row.0)) refl refl
       (check_turn c p a b tier_view copied turn (objects old.store) old.meta new.meta new.view (shown c a b tier_view _ _ _ old.view h) few (safe.views b tier_view h.tier_view_is)
       (subst (λ (v : EntriesSeen). CheckRow notes notings copied (Ok turn) v new.view old.meta new.meta) (sym h.view_is) row.1))
   copy_went copied origin (copying.Delete n) turn old new c p a b tier_view row h few safe =
-      copied_rest c p a b tier_view (copy_work copied turn) (objects new.store).objects (notes old.meta).notes tier_view.view new
+      copied_rest c p a b tier_view (copy_tier_task copied turn) (objects new.store).objects (notes old.meta).notes tier_view.view new
       refl (ap (λ (t : CopyTiers S M). (notes t.meta).notes) (sym row.0)) (h.view_is ∙ ap (λ (t : CopyTiers S M). t.view) (sym row.0))
       (delete_turn c p a b tier_view copied old.view n _ turn (notes old.meta) old.store new.store refl (safe.copies.each a copied (copying.Delete n) h.actor_state).key (shown c a b tier_view _ _ _ old.view h) row.1)
 
@@ -357,35 +357,35 @@ module _ {S M : Type 0} (objects : S → store.Content) (calls : S → Control s
 
   expiry_start : (c : Scene) (p : Plain) (a b : ℕ) (tier_view : BrokerTierView) (expired_segment : ExpiredSegment) (origin : EventOrigin) (turn : Turn ExpiryNext) (s : store.Content) (old new : M)
       → ShowsScene c a b tier_view (Expires expired_segment expiring.Start) s (notes old) tier_view.view → expiry.StartRow notes notings expired_segment origin (Ok turn) old new
-      → IsChanged c p (after_turn c a b tier_view (expiry_work expired_segment turn) s.objects (notes new).notes tier_view.view)
+      → IsChanged c p (after_turn c a b tier_view (expiry_tier_task expired_segment turn) s.objects (notes new).notes tier_view.view)
   expiry_start c p a b tier_view expired_segment origin (Ends MetaFault) s old new h row = told_failed c p a b tier_view (ExpiryStarts expired_segment) origin s old new h row
   expiry_start c p a b tier_view expired_segment origin turn s old new h row =
-      renamed c p a b tier_view _ _ s.objects s.objects (notes new).notes (notes new).notes tier_view.view tier_view.view (ap (expiry_work expired_segment) (sym row.0)) refl refl refl
+      renamed c p a b tier_view _ _ s.objects s.objects (notes new).notes (notes new).notes tier_view.view tier_view.view (ap (expiry_tier_task expired_segment) (sym row.0)) refl refl refl
       (told_went c p a b tier_view (ExpiryStarts expired_segment) origin s old new h row.1)
 
   expiry_finish : (c : Scene) (p : Plain) (a b : ℕ) (tier_view : BrokerTierView) (expired_segment : ExpiredSegment) (origin : EventOrigin) (turn : Turn ExpiryNext) (s : store.Content) (old new : M)
       → ShowsScene c a b tier_view (Expires expired_segment expiring.Finish) s (notes old) tier_view.view → expiry.FinishRow notes notings expired_segment origin (Ok turn) old new
-      → IsChanged c p (after_turn c a b tier_view (expiry_work expired_segment turn) s.objects (notes new).notes tier_view.view)
+      → IsChanged c p (after_turn c a b tier_view (expiry_tier_task expired_segment turn) s.objects (notes new).notes tier_view.view)
   expiry_finish c p a b tier_view expired_segment origin (Ends MetaFault) s old new h row = told_failed c p a b tier_view (ExpiryEnds expired_segment) origin s old new h row
   expiry_finish c p a b tier_view expired_segment origin turn s old new h row =
-      renamed c p a b tier_view _ _ s.objects s.objects (notes new).notes (notes new).notes tier_view.view tier_view.view (ap (expiry_work expired_segment) (sym row.0)) refl refl refl
+      renamed c p a b tier_view _ _ s.objects s.objects (notes new).notes (notes new).notes tier_view.view tier_view.view (ap (expiry_tier_task expired_segment) (sym row.0)) refl refl refl
       (told_went c p a b tier_view (ExpiryEnds expired_segment) origin s old new h row.1)
 
   expiry_delete : (c : Scene) (p : Plain) (a b : ℕ) (tier_view : BrokerTierView) (expired_segment : ExpiredSegment) (n : ℕ) (o : Option ObjectKey) (turn : Turn ExpiryNext) (ns : meta.Content) (old new : S)
       → slice_get (expiry_keys expired_segment) n ≡ o → n < length (expiry_keys expired_segment)
       → ShowsScene c a b tier_view (Expires expired_segment (expiring.Delete n)) (objects old) ns tier_view.view → expiry.DeleteRow objects calls expired_segment n o turn old new
-      → IsChanged c p (after_turn c a b tier_view (expiry_work expired_segment turn) (objects new).objects ns.notes tier_view.view)
+      → IsChanged c p (after_turn c a b tier_view (expiry_tier_task expired_segment turn) (objects new).objects ns.notes tier_view.view)
   expiry_delete c p a b tier_view expired_segment n None turn ns old new at low h row = absurd (let there = look (expiry_keys expired_segment) n low in cc (there.1, at))
   expiry_delete c p a b tier_view expired_segment n (Some key) (Ends StoreFault) ns old new at low h row =
       stored_failed c p a b tier_view (Deletes expired_segment n key) _ old new ns h at row.content
   expiry_delete c p a b tier_view expired_segment n (Some key) turn ns old new at low h row =
-      renamed c p a b tier_view _ _ (objects new).objects (objects new).objects ns.notes ns.notes tier_view.view tier_view.view (ap (expiry_work expired_segment) (sym row.0)) refl refl refl
+      renamed c p a b tier_view _ _ (objects new).objects (objects new).objects ns.notes ns.notes tier_view.view tier_view.view (ap (expiry_tier_task expired_segment) (sym row.0)) refl refl refl
       (stored_went c p a b tier_view (Deletes expired_segment n key) _ old new ns h at row.1.content (λ done k. k.went refl))
 
   expiry_went : (expired_segment : ExpiredSegment) (origin : EventOrigin) (next : ExpiryNext) (turn : Turn ExpiryNext) (old new : ExpiryTiers S M) (c : Scene) (p : Plain) (a b : ℕ) (tier_view : BrokerTierView)
       → ExpiryRow objects calls notes notings expired_segment origin next (Ok turn) old new → ShowsScene c a b tier_view (Expires expired_segment next) (objects old.store) (notes old.meta) tier_view.view
       → TierSafe c p
-      → IsChanged c p (after_turn c a b tier_view (expiry_work expired_segment turn) (objects new.store).objects (notes new.meta).notes tier_view.view)
+      → IsChanged c p (after_turn c a b tier_view (expiry_tier_task expired_segment turn) (objects new.store).objects (notes new.meta).notes tier_view.view)
   expiry_went expired_segment origin expiring.Start turn old new c p a b tier_view row h safe =
       renamed c p a b tier_view _ _ (objects old.store).objects _ (notes new.meta).notes _ tier_view.view tier_view.view refl (ap (λ (t : ExpiryTiers S M). (objects t.store).objects) (sym row.0)) refl refl
       (expiry_start c p a b tier_view expired_segment origin turn (objects old.store) old.meta new.meta h row.1)
@@ -398,11 +398,11 @@ module _ {S M : Type 0} (objects : S → store.Content) (calls : S → Control s
 
   -- turns that need memory
 
-  stays : (c : Scene) (p : Plain) (a b : ℕ) (tier_view : BrokerTierView) (work : TierTask) (s : store.Content) (n : meta.Content) (o : Objects) (ns : List Note) → ShowsScene c a b tier_view work s n tier_view.view
-      → o ≡ s.objects → ns ≡ n.notes → IsChanged c p (after_turn c a b tier_view work o ns tier_view.view)
-  stays c p a b tier_view work s n o ns h eo en =
-      as_scene c c (after_turn c a b tier_view work o ns tier_view.view) p
-      (scene_same _ _ refl (h.objects_are ∙ sym eo) (h.notes_are ∙ sym en) (sym (set-same c.tier_views b tier_view h.tier_view_is)) (sym (set-same c.desk a work h.actor_state)))
+  stays : (c : Scene) (p : Plain) (a b : ℕ) (tier_view : BrokerTierView) (tier_task : TierTask) (s : store.Content) (n : meta.Content) (o : Objects) (ns : List Note) → ShowsScene c a b tier_view tier_task s n tier_view.view
+      → o ≡ s.objects → ns ≡ n.notes → IsChanged c p (after_turn c a b tier_view tier_task o ns tier_view.view)
+  stays c p a b tier_view tier_task s n o ns h eo en =
+      as_scene c c (after_turn c a b tier_view tier_task o ns tier_view.view) p
+      (scene_same _ _ refl (h.objects_are ∙ sym eo) (h.notes_are ∙ sym en) (sym (set-same c.tier_views b tier_view h.tier_view_is)) (sym (set-same c.desk a tier_task h.actor_state)))
       (record { changes = []; may = refl; is = refl })
 
   dry_notes : (note : Note) (old new : M) → IsTrue (notes old).is_observable → AppendsToMetaLog notes notings note Dry old new → (notes new).notes ≡ (notes old).notes
@@ -431,9 +431,9 @@ module _ {S M : Type 0} (objects : S → store.Content) (calls : S → Control s
   fed_view before (note ∷ more) =
       ap (λ (v : EntriesSeen). fed_all v more) (fed_again before note) ∙ (fed_view (before ++ note ∷ []) more ∙ ap view_of (append_assoc before (note ∷ []) more))
 
-  pub sees_some : (c : Scene) (p : Plain) (a b : ℕ) (tier_view : BrokerTierView) (work : TierTask) (s : store.Content) (old : M) (view : EntriesSeen) → ShowsScene c a b tier_view work s (notes old) tier_view.view → length c.notes < 2 ^ 64
-      → IsViewOf c.notes tier_view.view → Advances (notes old) tier_view.view view → IsChanged c p (after_turn c a b tier_view work c.objects c.notes view)
-  sees_some c p a b tier_view work s old view h few v r =
+  pub sees_some : (c : Scene) (p : Plain) (a b : ℕ) (tier_view : BrokerTierView) (tier_task : TierTask) (s : store.Content) (old : M) (view : EntriesSeen) → ShowsScene c a b tier_view tier_task s (notes old) tier_view.view → length c.notes < 2 ^ 64
+      → IsViewOf c.notes tier_view.view → Advances (notes old) tier_view.view view → IsChanged c p (after_turn c a b tier_view tier_task c.objects c.notes view)
+  sees_some c p a b tier_view tier_task s old view h few v r =
       let within : length v.before ≤ length c.notes = prefix_length v.before c.notes v.begins in
       let count : tier_view.view.notes ≡ length v.before = ap (λ (w : EntriesSeen). w.notes) v.is ∙ omega (arith, few, within) in
       let rest : r.notes ++ r.rest ≡ drop (length v.before) c.notes =
@@ -442,38 +442,38 @@ module _ {S M : Type 0} (objects : S → store.Content) (calls : S → Control s
       append_assoc v.before r.notes r.rest ∙ ap (λ (ns : List Note). v.before ++ ns) rest
       ∙ ap (λ (ns : List Note). ns ++ drop (length v.before) c.notes) (prefix_taken v.before c.notes v.begins) ∙ take-append-drop (length v.before) c.notes in
       let new : view ≡ view_of (v.before ++ r.notes) = r.view ∙ ap (λ (w : EntriesSeen). fed_all w r.notes) v.is ∙ fed_view v.before r.notes in
-      as_scene c (effect (Sees b tier_view view) c) (after_turn c a b tier_view work c.objects c.notes view) p
-      (scene_same _ _ refl refl refl refl (sym (set-same c.desk a work h.actor_state)))
+      as_scene c (effect (Sees b tier_view view) c) (after_turn c a b tier_view tier_task c.objects c.notes view) p
+      (scene_same _ _ refl refl refl refl (sym (set-same c.desk a tier_task h.actor_state)))
       (one_change c p (Sees b tier_view view) (refl, record { tier_view_is = h.tier_view_is; before = v.before; old = v.is; more = v.before ++ r.notes; new = new; grows = (r.notes, refl); begins = (r.rest, whole) }))
 
-  note_dry : (note : Note) (c : Scene) (p : Plain) (a b : ℕ) (tier_view : BrokerTierView) (work : TierTask) (s : store.Content) (old new : M) → ShowsScene c a b tier_view work s (notes old) tier_view.view
-      → (new ≡ old) ⊎ AppendsToMetaLog notes notings note Dry old new → IsChanged c p (after_turn c a b tier_view work s.objects (notes new).notes tier_view.view)
-  note_dry note c p a b tier_view work s old new h (inl same) = stays c p a b tier_view work s (notes old) s.objects (notes new).notes h refl (ap (λ (m : M). (notes m).notes) same)
-  note_dry note c p a b tier_view work s old new h (inr k) = stays c p a b tier_view work s (notes old) s.objects (notes new).notes h refl (dry_notes note old new h.meta_tells k)
+  note_dry : (note : Note) (c : Scene) (p : Plain) (a b : ℕ) (tier_view : BrokerTierView) (tier_task : TierTask) (s : store.Content) (old new : M) → ShowsScene c a b tier_view tier_task s (notes old) tier_view.view
+      → (new ≡ old) ⊎ AppendsToMetaLog notes notings note Dry old new → IsChanged c p (after_turn c a b tier_view tier_task s.objects (notes new).notes tier_view.view)
+  note_dry note c p a b tier_view tier_task s old new h (inl same) = stays c p a b tier_view tier_task s (notes old) s.objects (notes new).notes h refl (ap (λ (m : M). (notes m).notes) same)
+  note_dry note c p a b tier_view tier_task s old new h (inr k) = stays c p a b tier_view tier_task s (notes old) s.objects (notes new).notes h refl (dry_notes note old new h.meta_tells k)
 
   -- whatever an actor's state has
-  pub copy_dry : (copied : Copied) (origin : EventOrigin) (next : CopyNext) (e : AllocError) (old new : CopyTiers S M) (c : Scene) (p : Plain) (a b : ℕ) (tier_view : BrokerTierView) (work : TierTask)
-      → CopyTurnRow objects calls notes notings copied origin next (Err e) old new → ShowsScene c a b tier_view work (objects old.store) (notes old.meta) old.view
+  pub copy_dry : (copied : Copied) (origin : EventOrigin) (next : CopyNext) (e : AllocError) (old new : CopyTiers S M) (c : Scene) (p : Plain) (a b : ℕ) (tier_view : BrokerTierView) (tier_task : TierTask)
+      → CopyTurnRow objects calls notes notings copied origin next (Err e) old new → ShowsScene c a b tier_view tier_task (objects old.store) (notes old.meta) old.view
       → length c.notes < 2 ^ 64 → TierSafe c p
-      → IsChanged c p (after_turn c a b tier_view work (objects new.store).objects (notes new.meta).notes new.view)
-  copy_dry copied origin copying.Start e old new c p a b tier_view work row h few safe =
-      copied_rest c p a b tier_view work (objects old.store).objects (notes new.meta).notes tier_view.view new
+      → IsChanged c p (after_turn c a b tier_view tier_task (objects new.store).objects (notes new.meta).notes new.view)
+  copy_dry copied origin copying.Start e old new c p a b tier_view tier_task row h few safe =
+      copied_rest c p a b tier_view tier_task (objects old.store).objects (notes new.meta).notes tier_view.view new
       (ap (λ (t : CopyTiers S M). (objects t.store).objects) (sym row.0)) refl (h.view_is ∙ ap (λ (t : CopyTiers S M). t.view) (sym row.0))
-      (note_dry (start_note copied origin) c p a b tier_view work (objects old.store) old.meta new.meta (shown c a b tier_view _ _ _ old.view h) row.1)
-  copy_dry copied origin (copying.Put n) e old new c p a b tier_view work row h few safe =
-      copied_rest c p a b tier_view work (objects new.store).objects (notes old.meta).notes tier_view.view new
+      (note_dry (start_note copied origin) c p a b tier_view tier_task (objects old.store) old.meta new.meta (shown c a b tier_view _ _ _ old.view h) row.1)
+  copy_dry copied origin (copying.Put n) e old new c p a b tier_view tier_task row h few safe =
+      copied_rest c p a b tier_view tier_task (objects new.store).objects (notes old.meta).notes tier_view.view new
       refl (ap (λ (t : CopyTiers S M). (notes t.meta).notes) (sym row.0)) (h.view_is ∙ ap (λ (t : CopyTiers S M). t.view) (sym row.0))
       (stays c p a b tier_view _ (objects old.store) (notes old.meta) (objects new.store).objects (notes old.meta).notes (shown c a b tier_view _ _ _ old.view h)
       (put_dry copied n (slice_get (copy_keys copied) n) e old.store new.store h.store_tells row.1) refl)
-  copy_dry copied origin copying.Finish e old new c p a b tier_view work row h few safe =
-      copied_rest c p a b tier_view work (objects old.store).objects (notes new.meta).notes tier_view.view new
+  copy_dry copied origin copying.Finish e old new c p a b tier_view tier_task row h few safe =
+      copied_rest c p a b tier_view tier_task (objects old.store).objects (notes new.meta).notes tier_view.view new
       (ap (λ (t : CopyTiers S M). (objects t.store).objects) (sym row.0)) refl (h.view_is ∙ ap (λ (t : CopyTiers S M). t.view) (sym row.0))
-      (note_dry (finish_note copied origin) c p a b tier_view work (objects old.store) old.meta new.meta (shown c a b tier_view _ _ _ old.view h) row.1)
-  copy_dry copied origin copying.Check e old new c p a b tier_view work row h few safe =
+      (note_dry (finish_note copied origin) c p a b tier_view tier_task (objects old.store) old.meta new.meta (shown c a b tier_view _ _ _ old.view h) row.1)
+  copy_dry copied origin copying.Check e old new c p a b tier_view tier_task row h few safe =
       renamed c p a b tier_view _ _ c.objects _ c.notes _ new.view new.view refl (h.objects_are ∙ ap (λ (t : S). (objects t).objects) (sym row.0)) (h.notes_are ∙ sym row.1.content.notes) refl
-      (sees_some c p a b tier_view work (objects old.store) old.meta new.view (shown c a b tier_view _ _ _ old.view h) few (safe.views b tier_view h.tier_view_is)
+      (sees_some c p a b tier_view tier_task (objects old.store) old.meta new.view (shown c a b tier_view _ _ _ old.view h) few (safe.views b tier_view h.tier_view_is)
       (subst (λ (v : EntriesSeen). Advances (notes old.meta) v new.view) (sym h.view_is) row.1.view))
-  copy_dry copied origin (copying.Delete n) e old new c p a b tier_view work row h few safe = absurd row
+  copy_dry copied origin (copying.Delete n) e old new c p a b tier_view tier_task row h few safe = absurd row
 
   pub copy_turns : CopyTurnsChange objects calls notes notings
   copy_turns copied origin next (Ok turn) old new c p a b tier_view row h few safe = copy_went copied origin next turn old new c p a b tier_view row h few safe
@@ -495,7 +495,7 @@ module _ {S M : Type 0} (objects : S → store.Content) (calls : S → Control s
   expiry_turns expired_segment origin next (Err e) old new c p a b tier_view row h safe = expiry_dry expired_segment origin next e old new c p a b tier_view row h
 
   pub refreshes : RefreshesChange notes
-  refreshes old view c p a b tier_view work s h few safe r = sees_all c p a b tier_view work s old view h few (safe.views b tier_view h.tier_view_is) r
+  refreshes old view c p a b tier_view tier_task s h few safe r = sees_all c p a b tier_view tier_task s old view h few (safe.views b tier_view h.tier_view_is) r
 
   pub halts : HaltsChange notes
-  halts old view c p a b tier_view work s h few safe r = sees_some c p a b tier_view work s old view h few (safe.views b tier_view h.tier_view_is) r
+  halts old view c p a b tier_view tier_task s h few safe r = sees_some c p a b tier_view tier_task s old view h few (safe.views b tier_view h.tier_view_is) r

@@ -39,7 +39,7 @@ use Rattle.tier_safe.specs.Scene.{BrokerTierView, Rebuild, Sought, TierTask, Fre
 pub data Move : Type 0 where
   Leaves : Move
   Overtakes : (copy : Copied) → Move
-  Dooms : (b : ℕ) → (expired_segment : ExpiredSegment) → Move
+  ChoosesExpired : (b : ℕ) → (expired_segment : ExpiredSegment) → Move
   Wants : (rebuild : Rebuild) → Move
   Refreshes : (rebuild : Rebuild) → Move
   Lines : (rebuild : Rebuild) → (line : List (ℕ × ℕ)) → Move
@@ -52,7 +52,7 @@ pub data Move : Type 0 where
 abbrev pub moved : Move → TierTask
 moved Leaves = Free
 moved (Overtakes copy) = Copies copy (copying.Delete 0)
-moved (Dooms b expired_segment) = Expires expired_segment expiring.Start
+moved (ChoosesExpired b expired_segment) = Expires expired_segment expiring.Start
 moved (Wants rebuild) = Rebuilds rebuild
 moved (Refreshes rebuild) = Rebuilds (record rebuild { refreshed = true })
 moved (Lines rebuild line) = Rebuilds (record rebuild { line = Some line })

@@ -20,7 +20,8 @@ pub record Shares (xs ys : List (List ℕ)) (offset : ℕ) : Type 0 where
   pub past : offset < end_of front
 
 -- the batches that a remote segment holds, after those of its path
-abbrev pub whole_of : {objects : Objects} {paths : List Path} {entry : Entry} → IsStoredWhole objects paths entry → List (List ℕ)
+abbrev pub whole_of : {objects : Objects} {paths : List Path} {entry : Entry} → IsStoredWhole objects paths entry
+    → List (List ℕ)
 whole_of h = h.describes.part.front ++ h.batches
 
 -- a finished copy, whose objects exist, holds the offset, and is one with the log up to it and past it
@@ -31,5 +32,5 @@ pub record IsKeptAt (c : Scene) (p : Plain) (log : List (List ℕ)) (offset : �
   pub partition : entry.partition ≡ c.partition
   pub finished : entry.state ≡ CopyFinished
   pub holds : (entry.start ≤ offset) × (offset ≤ entry.end)
-  pub held : IsStoredWhole c.objects p.paths entry
-  pub shares : Shares (whole_of held) log offset
+  pub stored_whole : IsStoredWhole c.objects p.paths entry
+  pub shares : Shares (whole_of stored_whole) log offset

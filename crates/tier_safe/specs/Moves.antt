@@ -19,7 +19,7 @@ use Rattle.copy_task.specs.Copying.{Copied}
 use Rattle.copy_task.specs.declared.turn.CopyStep.TheVariants as copying
 use Rattle.expiry_task.specs.declared.turn.ExpiredSegment.{ExpiredSegment}
 use Rattle.tier_safe.specs.Scene.{BrokerTierView, Rebuild, Sought, Free, Copies, Rebuilds, Seeks, Scene}
-use Rattle.tier_safe.specs.Changes.{Move, Leaves, Overtakes, Dooms, Wants, Refreshes, Lines, Asks, Finds, Skips, Reads}
+use Rattle.tier_safe.specs.Changes.{Move, Leaves, Overtakes, ChoosesExpired, Wants, Refreshes, Lines, Asks, Finds, Skips, Reads}
 use Rattle.tier_safe.specs.Copies.{is_deleted}
 use Rattle.tier_safe.specs.Fetches.{SeesCopy, StillLeads, PieceStands, PositionStands}
 
@@ -34,7 +34,7 @@ pub record MayOvertake (a : ℕ) (copy : Copied) (c : Scene) : Type 0 where
   pub deleted : is_deleted state ≡ true
 
 -- a broker's view shows the entry, which is due: it ends below the log start offset
-pub record MayDoom (a b : ℕ) (expired_segment : ExpiredSegment) (c : Scene) (p : Plain) : Type 0 where
+pub record MayChooseExpired (a b : ℕ) (expired_segment : ExpiredSegment) (c : Scene) (p : Plain) : Type 0 where
   pub actor_state : slice_get c.desk a ≡ Some Free
   pub tier_view : BrokerTierView
   pub tier_view_is : slice_get c.tier_views b ≡ Some tier_view
@@ -115,7 +115,7 @@ pub record MayRead (a : ℕ) (sought : Sought) (from : ℕ) (c : Scene) (p : Pla
 abbrev pub MayMove : ℕ → Move → Scene → Plain → Type 0
 MayMove a Leaves c p = Unit {0}
 MayMove a (Overtakes copy) c p = MayOvertake a copy c
-MayMove a (Dooms b expired_segment) c p = MayDoom a b expired_segment c p
+MayMove a (ChoosesExpired b expired_segment) c p = MayChooseExpired a b expired_segment c p
 MayMove a (Wants rebuild) c p = MayWant a rebuild c p
 MayMove a (Refreshes rebuild) c p = MayRefresh a rebuild c
 MayMove a (Lines rebuild line) c p = MayLine a rebuild line c p

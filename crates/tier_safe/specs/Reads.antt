@@ -43,7 +43,8 @@ pub record IsRightView (view : EntriesSeen) : Type 0 where
 -- each offset from the log start offset on that a broker's local log lacks is found in its view, where it has seen all
 -- metadata events
 abbrev pub LackingIsFound : Type 0
-LackingIsFound = (c : Scene) (p : Plain) (b : ℕ) (tier_view : BrokerTierView) (x : Broker) (line : List (ℕ × ℕ)) (offset : ℕ) → TierSafe c p
+LackingIsFound = (c : Scene) (p : Plain) (b : ℕ) (tier_view : BrokerTierView) (x : Broker) (line : List (ℕ × ℕ))
+    (offset : ℕ) → TierSafe c p
     → slice_get c.tier_views b ≡ Some tier_view → slice_get p.brokers b ≡ Some x → p.registry.start ≤ offset
     → offset < tier_view.start
     → tier_view.view ≡ view_of c.notes → TellsEpochs line x.log
@@ -52,7 +53,8 @@ LackingIsFound = (c : Scene) (p : Plain) (b : ℕ) (tier_view : BrokerTierView) 
 -- a fetch that has no piece yet, and whose broker still leads and has seen all metadata events, finds what it reads
 -- from
 abbrev pub AskedIsFound : Type 0
-AskedIsFound = (c : Scene) (p : Plain) (a : ℕ) (sought : Sought) (tier_view : BrokerTierView) (x : Broker) (line : List (ℕ × ℕ)) → TierSafe c p
+AskedIsFound = (c : Scene) (p : Plain) (a : ℕ) (sought : Sought) (tier_view : BrokerTierView) (x : Broker)
+    (line : List (ℕ × ℕ)) → TierSafe c p
     → slice_get c.desk a ≡ Some (Seeks sought) → sought.piece ≡ None
     → slice_get c.tier_views sought.broker ≡ Some tier_view
     → slice_get p.brokers sought.broker ≡ Some x → StillLeads sought x → p.registry.start ≤ sought.offset
@@ -68,12 +70,14 @@ FoundStands =
 
 -- each offset up to the end that pieces reach, one after another, is covered: a local log may drop it
 abbrev pub ReachedIsCovered : Type 0
-ReachedIsCovered = (view : EntriesSeen) (line : List (ℕ × ℕ)) (log : List (List ℕ)) (at : ℕ) → IsRightView view → TellsEpochs line log
+ReachedIsCovered = (view : EntriesSeen) (line : List (ℕ × ℕ)) (log : List (List ℕ)) (at : ℕ) → IsRightView view
+    → TellsEpochs line log
     → (o : ℕ) → at ≤ o → o < covered_to view.entries line (end_of log) at → CoversLog view.entries log o
 
 -- a rebuild that has refreshed finds the remote segment of the last offset below the wanted one
 abbrev pub WantedIsFound : Type 0
-WantedIsFound = (c : Scene) (p : Plain) (a : ℕ) (rebuild : Rebuild) (tier_view : BrokerTierView) (line : List (ℕ × ℕ)) → (h : TierSafe c p)
+WantedIsFound = (c : Scene) (p : Plain) (a : ℕ) (rebuild : Rebuild) (tier_view : BrokerTierView) (line : List (ℕ × ℕ))
+    → (h : TierSafe c p)
     → (actor_state : slice_get c.desk a ≡ Some (Rebuilds rebuild))
     → slice_get c.tier_views rebuild.broker ≡ Some tier_view
     → rebuild.refreshed ≡ true → p.registry.start < rebuild.wanted
@@ -89,16 +93,19 @@ pub record IsPieceServed (c : Scene) (p : Plain) (log : List (List ℕ)) (sought
   pub there : entry_of piece.id (fold c.notes) ≡ Some entry
   pub partition : entry.partition ≡ c.partition
   pub finished : entry.state ≡ CopyFinished
-  pub held : IsStoredWhole c.objects p.paths entry
-  pub runs : (run : List (List ℕ)) → IsPrefix run (from_offset sought.offset held.batches) → end_of run ≤ piece.to
+  pub stored_whole : IsStoredWhole c.objects p.paths entry
+  pub runs : (run : List (List ℕ)) → IsPrefix run (from_offset sought.offset stored_whole.batches)
+      → end_of run ≤ piece.to
       → IsPrefix run (from_offset sought.offset log)
   pub from : (from : ℕ) → sought.from ≡ Some from
-      → (interval : ℕ) × (from ≡ (find (index_of entry.start interval (placed_from 0 held.batches)) sought.offset).1)
+      → (interval : ℕ) × (from ≡
+      (find (index_of entry.start interval (placed_from 0 stored_whole.batches)) sought.offset).1)
 
 -- what a fetch on the desk reads is its log's, while its broker still leads and the log start offset isn't above its
 -- offset
 abbrev pub FetchesAreServed : Type 0
-FetchesAreServed = (c : Scene) (p : Plain) (a : ℕ) (sought : Sought) (piece : Piece) (tier_view : BrokerTierView) (x : Broker) → BothSafe c p
+FetchesAreServed = (c : Scene) (p : Plain) (a : ℕ) (sought : Sought) (piece : Piece) (tier_view : BrokerTierView)
+    (x : Broker) → BothSafe c p
     → slice_get c.desk a ≡ Some (Seeks sought) → slice_get c.tier_views sought.broker ≡ Some tier_view
     → slice_get p.brokers sought.broker ≡ Some x → sought.piece ≡ Some piece → StillLeads sought x
     → p.registry.start ≤ sought.offset → IsPieceServed c p x.log sought piece
@@ -109,14 +116,17 @@ pub record RebuildReads (c : Scene) (p : Plain) (front : List (List ℕ)) (wante
   pub entry : Entry
   pub there : entry_of id (fold c.notes) ≡ Some entry
   pub partition : entry.partition ≡ c.partition
-  pub held : IsStoredWhole c.objects p.paths entry
-  pub begins : IsPrefix front (whole_of held)
-  pub says : (o : ℕ) → o < wanted → epoch_at (line_of (whole_of held)) o ≡ epoch_holding front o
+  pub stored_whole : IsStoredWhole c.objects p.paths entry
+  pub begins : IsPrefix front (whole_of stored_whole)
+  pub says : (o : ℕ) → o < wanted → epoch_at (line_of (whole_of stored_whole)) o ≡ epoch_holding front o
 
 -- what a rebuild reads at the last offset below the wanted one is the path's
 abbrev pub RebuildsAreServed : Type 0
-RebuildsAreServed = (c : Scene) (p : Plain) (a : ℕ) (rebuild : Rebuild) (tier_view : BrokerTierView) (id : SegmentId) (entry : Entry) (e : ℕ)
-    → (h : BothSafe c p) → (actor_state : slice_get c.desk a ≡ Some (Rebuilds rebuild)) → slice_get c.tier_views rebuild.broker ≡ Some tier_view
-    → p.registry.start < rebuild.wanted → entry_of id tier_view.view.entries ≡ Some entry → covers e (rebuild.wanted - 1) entry ≡ true
+RebuildsAreServed = (c : Scene) (p : Plain) (a : ℕ) (rebuild : Rebuild) (tier_view : BrokerTierView) (id : SegmentId)
+    (entry : Entry) (e : ℕ)
+    → (h : BothSafe c p) → (actor_state : slice_get c.desk a ≡ Some (Rebuilds rebuild))
+    → slice_get c.tier_views rebuild.broker ≡ Some tier_view
+    → p.registry.start < rebuild.wanted → entry_of id tier_view.view.entries ≡ Some entry
+    → covers e (rebuild.wanted - 1) entry ≡ true
     → epoch_holding (h.tier.rebuilds a rebuild actor_state).front (rebuild.wanted - 1) ≡ Some e
     → RebuildReads c p (h.tier.rebuilds a rebuild actor_state).front rebuild.wanted id

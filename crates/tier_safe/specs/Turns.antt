@@ -29,7 +29,7 @@ use Rattle.tier_safe.specs.May.{IsChanged}
 use Rattle.tier_safe.specs.Safe.{TierSafe}
 
 -- the tier has what a store and a metadata log report, the view of broker b, and what actor a's state keeps
-pub record ShowsScene (c : Scene) (a b : ℕ) (tier_view : BrokerTierView) (work : TierTask) (objects : store.Content) (notes : meta.Content) (view : EntriesSeen)
+pub record ShowsScene (c : Scene) (a b : ℕ) (tier_view : BrokerTierView) (tier_task : TierTask) (objects : store.Content) (notes : meta.Content) (view : EntriesSeen)
     : Type 0 where
   pub objects_are : c.objects ≡ objects.objects
   pub notes_are : c.notes ≡ notes.notes
@@ -37,52 +37,54 @@ pub record ShowsScene (c : Scene) (a b : ℕ) (tier_view : BrokerTierView) (work
   pub meta_tells : IsTrue notes.is_observable
   pub tier_view_is : slice_get c.tier_views b ≡ Some tier_view
   pub view_is : tier_view.view ≡ view
-  pub actor_state : slice_get c.desk a ≡ Some work
+  pub actor_state : slice_get c.desk a ≡ Some tier_task
 
 -- the tier after a turn of the command in that actor's state
 abbrev pub after_turn : Scene → ℕ → ℕ → BrokerTierView → TierTask → store.Objects → List Note → EntriesSeen → Scene
-after_turn c a b tier_view work objects notes view = record {
+after_turn c a b tier_view tier_task objects notes view = record {
   partition = c.partition;
   objects = objects;
   notes = notes;
   tier_views = slice_set c.tier_views b (record tier_view { view = view });
-  desk = slice_set c.desk a work;
+  desk = slice_set c.desk a tier_task;
 }
 
 -- what a copy's actor's state has after a turn
-abbrev pub copy_work : Copied → Turn CopyNext → TierTask
-copy_work copied (Goes next) = Copies copied next
-copy_work copied (Ends answer) = Free
+abbrev pub copy_tier_task : Copied → Turn CopyNext → TierTask
+copy_tier_task copied (Goes next) = Copies copied next
+copy_tier_task copied (Ends answer) = Free
 
 -- after one that may have run out of memory, and then changed nothing
 abbrev pub copy_after : Copied → CopyNext → Result (Turn CopyNext) AllocError → TierTask
-copy_after copied next (Ok turn) = copy_work copied turn
+copy_after copied next (Ok turn) = copy_tier_task copied turn
 copy_after copied next (Err e) = Copies copied next
 
 -- what an expiry's actor's state has after a turn
-abbrev pub expiry_work : ExpiredSegment → Turn ExpiryNext → TierTask
-expiry_work expired_segment (Goes next) = Expires expired_segment next
-expiry_work expired_segment (Ends answer) = Free
+abbrev pub expiry_tier_task : ExpiredSegment → Turn ExpiryNext → TierTask
+expiry_tier_task expired_segment (Goes next) = Expires expired_segment next
+expiry_tier_task expired_segment (Ends answer) = Free
 
 -- after one that may have run out of memory
 abbrev pub expiry_after : ExpiredSegment → ExpiryNext → Result (Turn ExpiryNext) AllocError → TierTask
-expiry_after expired_segment next (Ok turn) = expiry_work expired_segment turn
+expiry_after expired_segment next (Ok turn) = expiry_tier_task expired_segment turn
 expiry_after expired_segment next (Err e) = Expires expired_segment next
 
 module _ {M : Type 0} (notes : M → meta.Content) where
   -- a refresh of a broker's view is changes, and the view has all metadata events then
   abbrev pub RefreshesChange : Type 0
-  RefreshesChange = (old : M) (view : EntriesSeen) (c : Scene) (p : Plain) (a b : ℕ) (tier_view : BrokerTierView) (work : TierTask) (objects : store.Content)
-      → ShowsScene c a b tier_view work objects (notes old) tier_view.view → length c.notes < 2 ^ 64 → TierSafe c p
+  RefreshesChange = (old : M) (view : EntriesSeen) (c : Scene) (p : Plain) (a b : ℕ) (tier_view : BrokerTierView)
+      (tier_task : TierTask) (objects : store.Content)
+      → ShowsScene c a b tier_view tier_task objects (notes old) tier_view.view → length c.notes < 2 ^ 64 → TierSafe c p
       → Refreshes (notes old) tier_view.view view
-      → (view ≡ view_of c.notes) × IsChanged c p (after_turn c a b tier_view work c.objects c.notes view)
+      → (view ≡ view_of c.notes) × IsChanged c p (after_turn c a b tier_view tier_task c.objects c.notes view)
 
   -- so is one that ran out of memory
   abbrev pub HaltsChange : Type 0
-  HaltsChange = (old : M) (view : EntriesSeen) (c : Scene) (p : Plain) (a b : ℕ) (tier_view : BrokerTierView) (work : TierTask) (objects : store.Content)
-      → ShowsScene c a b tier_view work objects (notes old) tier_view.view → length c.notes < 2 ^ 64 → TierSafe c p
+  HaltsChange = (old : M) (view : EntriesSeen) (c : Scene) (p : Plain) (a b : ℕ) (tier_view : BrokerTierView)
+      (tier_task : TierTask) (objects : store.Content)
+      → ShowsScene c a b tier_view tier_task objects (notes old) tier_view.view → length c.notes < 2 ^ 64 → TierSafe c p
       → Advances (notes old) tier_view.view view
-      → IsChanged c p (after_turn c a b tier_view work c.objects c.notes view)
+      → IsChanged c p (after_turn c a b tier_view tier_task c.objects c.notes view)
 
 module _ {S M : Type 0} (objects : S → store.Content) (calls : S → Control store_call.call_code)
     (notes : M → meta.Content) (notings : M → Control meta_call.call_code) where

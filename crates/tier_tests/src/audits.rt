@@ -92,7 +92,7 @@ struct Row {
 /// Of index entries: one for each batch; then the second one's position isn't where its batch begins. Of moments: the
 /// second batch is no later than the first. Of a packed copy the one object has its time index at 138, and its epochs
 /// at 150.
-static ROWS: [Row; 24] = [
+static CASES: [Row; 24] = [
     Row {
         part: Part::Log,
         how: How::Right,
@@ -465,7 +465,7 @@ fn failing(alloc: Global, store: Option<(StoreCall, u32)>, meta: Option<(MetaCal
 
 #[test]
 fn one_object_at_a_time(rt: HostRuntime) {
-    for (i, one) in ROWS.iter().enumerate() {
+    for (i, one) in CASES.iter().enumerate() {
         assert_eq!(rt; came_of(rt.alloc(), one), one.came, "row {i}");
     }
 }

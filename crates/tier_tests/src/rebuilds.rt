@@ -145,7 +145,7 @@ fn row(
 
 /// The wanted offset, the leader's line, the epochs that are there, and those that are read. Of the offset 4, of none
 /// below 0, and of epoch 3 there is no copy.
-static ROWS: [(u64, &str, Option<&str>, &str, Came); 10] = [
+static CASES: [(u64, &str, Option<&str>, &str, Came); 10] = [
     (
         4,
         "0\n2\n0 0\n1 2\n",
@@ -214,7 +214,7 @@ static ROWS: [(u64, &str, Option<&str>, &str, Came); 10] = [
 
 #[test]
 fn epochs_are_read_up_to_the_offset(rt: HostRuntime) {
-    for (offset, leaders, epochs, text, came) in &ROWS {
+    for (offset, leaders, epochs, text, came) in &CASES {
         let told = row(rt.alloc(), *offset, leaders, *epochs, text);
         assert_eq!(rt; told, Ok(*came), "offset {offset}");
     }

@@ -6,7 +6,7 @@ use std::test::Fail;
 use tier_base::Blob;
 
 /// Scripts and their traces, and the line that is printed.
-static ROWS: [(&[(&str, &str)], &str); 15] = [
+static CASES: [(&[(&str, &str)], &str); 15] = [
     (
         &[("0 0 0 flush\n", "0 0 0 = Ok 0\n")],
         "a whole run of the plain log",
@@ -117,7 +117,7 @@ fn told(alloc: Global, rows: &[(&str, &str)]) -> Result<String, AllocError> {
 
 #[test]
 fn verdict_rows(rt: HostRuntime) -> Result<(), Fail> {
-    for (rows, line) in &ROWS {
+    for (rows, line) in &CASES {
         let text = told(rt.alloc(), rows)?;
         assert_eq!(rt; text.as_str(), *line);
     }

@@ -9,7 +9,7 @@ use Rattle.partition_world.proofs.expiries.rises_within.Goals as goal
 
 pub returns-clause-within : goal.returns-clause-within
 returns-clause-within g c =
-    let h = c.args.held.now in
+    let h = c.args.partition_state.now in
     let x = c.args.node.now in
     let broker_tier = c.args.broker_tier.now in
     let pieces = pieces_of h x broker_tier in

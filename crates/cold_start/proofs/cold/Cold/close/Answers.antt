@@ -22,5 +22,5 @@ returns-clause-cold g c =
 
 pub returns-clause-again : goal.returns-clause-again
 returns-clause-again g c =
-    let P : Running g.row.D.Denot g.row.S.Denot g.row.M.Denot → Type 0 = λ t. DisksReopen g.D.Disk.content t.world.held.nodes c.close.result.disks.items in
+    let P : Running g.row.D.Denot g.row.S.Denot g.row.M.Denot → Type 0 = λ t. DisksReopen g.D.Disk.content t.world.partition_state.nodes c.close.result.disks.items in
     subst P c.self.view_is c.close.ensures.again

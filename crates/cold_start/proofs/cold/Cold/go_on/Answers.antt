@@ -33,7 +33,7 @@ returns-in-Err-keep_registry-clause-stand g c = λ p h.
 
 pub invariant_of-result : goal.invariant_of-result
 invariant_of-result g c =
-    let same = c.in-Ok-reopen.ensures.reopened.held.registry_is in
+    let same = c.in-Ok-reopen.ensures.reopened.partition_state.registry_is in
     let long = ap (λ (r : Registry). length r.replicas) same in
     let count = c.in-Ok-of.ensures.count in
     let rules = c.requires.rules in
@@ -41,13 +41,13 @@ invariant_of-result g c =
       unarmed = c.keep_registry.ensures.control.armed ∙ c.requires.registry;
       some = (let some = rules.some in omega (arith, long, count, some));
       few = (let few = rules.few in omega (arith, long, count, few));
-      file = λ going. subst (λ (r : Registry). KeepsFile (g.D.Disk.content c.keep_registry.new.disk) r) (sym c.in-Ok-reopen.ensures.reopened.held.registry_is) c.in-Ok-keep_registry.ensures.kept;
+      file = λ going. subst (λ (r : Registry). KeepsFile (g.D.Disk.content c.keep_registry.new.disk) r) (sym c.in-Ok-reopen.ensures.reopened.partition_state.registry_is) c.in-Ok-keep_registry.ensures.kept;
     }
 
 pub returns-in-Ok-reopen-clause-cold : goal.returns-in-Ok-reopen-clause-cold
 returns-in-Ok-reopen-clause-cold g c = λ told opening.
     let w = c.in-Ok-reopen.world in
-    let same = c.in-Ok-reopen.ensures.reopened.held.registry_is in
+    let same = c.in-Ok-reopen.ensures.reopened.partition_state.registry_is in
     let kept = subst (λ (r : Registry). KeepsFile (g.D.Disk.content c.keep_registry.new.disk) r) (sym same) c.in-Ok-keep_registry.ensures.kept in
     let long = ap (λ (r : Registry). length r.replicas) same in
     let count = c.in-Ok-of.ensures.count in

@@ -9,7 +9,7 @@ use Rattle.cold_start.proofs.cold.Cold.leaves.Goals as goal
 
 pub returns-clause-file : goal.returns-clause-file
 returns-clause-file g c =
-    let P : Running g.row.D.Denot g.row.S.Denot g.row.M.Denot → Type 0 = λ t. t.ended ≡ false → KeepsFile (g.D.Disk.content t.reg) t.world.held.registry in
+    let P : Running g.row.D.Denot g.row.S.Denot g.row.M.Denot → Type 0 = λ t. t.ended ≡ false → KeepsFile (g.D.Disk.content t.reg) t.world.partition_state.registry in
     subst P c.self.view_is c.self.invariant.file
 
 pub returns-clause-unarmed : goal.returns-clause-unarmed

@@ -3,8 +3,8 @@ use Rattle.registry.specs.Registry.{fresh_registry}
 use Rattle.partition_commands.proofs.FreshDisks.{refuses_same}
 use Rattle.partition_commands.proofs.partition_state.PartitionState.fresh.Goals as goal
 
-pub returns-clause-held : goal.returns-clause-held
-returns-clause-held g c = record {
+pub returns-clause-partition_state : goal.returns-clause-partition_state
+returns-clause-partition_state g c = record {
   registry = c.in-Ok.ensures ∙ ap fresh_registry (omega (arith, c.len-count.ensures));
   nodes = c.arm.ensures.nodes c.args.disks.now.items c.requires.disks (rw c.from_vec-nodes.ensures c.in_ok-nodes.ensures.nodes);
   clock = refl;

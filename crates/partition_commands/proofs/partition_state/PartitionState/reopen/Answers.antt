@@ -5,8 +5,8 @@ use Rattle.partition_commands.specs.Cold.{cold_node}
 use Rattle.partition_commands.proofs.ColdDisks.{cold_shown}
 use Rattle.partition_commands.proofs.partition_state.PartitionState.reopen.Goals as goal
 
-pub returns-clause-held : goal.returns-clause-held
-returns-clause-held g c =
+pub returns-clause-partition_state : goal.returns-clause-partition_state
+returns-clause-partition_state g c =
     let down = map (cold_node c.args.settings) c.args.disks.now.items in
     record {
       registry_is = refl;
@@ -19,4 +19,4 @@ returns-clause-held g c =
 
 pub returns-clause-seen : goal.returns-clause-seen
 returns-clause-seen g c = λ ss shows.
-    cold_shown g.D.Disk.content g.D.Disk.control c.args.settings c.args.registry c.args.disks.now.items _ ss (returns-clause-held g c) shows
+    cold_shown g.D.Disk.content g.D.Disk.control c.args.settings c.args.registry c.args.disks.now.items _ ss (returns-clause-partition_state g c) shows

@@ -6,8 +6,8 @@ use Rattle.partition_world.proofs.world.World.close.Goals as goal
 
 pub returns-clause-count : goal.returns-clause-count
 returns-clause-count g c =
-    long c.self.inside.held.nodes c.close-disks.result.items c.close-disks.ensures.disks
-    ∙ (c.self.invariant.0.held.count ∙ ap (λ (w : Whole g.row.D.Denot g.row.S.Denot g.row.M.Denot). w.config.brokers) c.self.view_is)
+    long c.self.inside.partition_state.nodes c.close-disks.result.items c.close-disks.ensures.disks
+    ∙ (c.self.invariant.0.partition_state.count ∙ ap (λ (w : Whole g.row.D.Denot g.row.S.Denot g.row.M.Denot). w.config.brokers) c.self.view_is)
   where
     long : (xs : List (Node g.row.D.Denot)) (disks : List g.row.D.Denot) → AreDisksOf xs disks → length disks ≡ length xs
     long [] [] are = refl

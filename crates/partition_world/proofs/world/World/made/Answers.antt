@@ -8,7 +8,7 @@ use Rattle.partition_commands.proofs.Unstopped.{fresh_stops}
 use Rattle.partition_world.specs.declared.tier.BrokerTierState.{BrokerTierState}
 use Rattle.partition_world.specs.Fresh.{fresh_broker_tier}
 use Rattle.partition_world.proofs.Rooms.{few_entries}
-use Rattle.partition_world.proofs.WorldFresh.{fresh_actor_states, fresh_works, fresh_left, fresh_counted}
+use Rattle.partition_world.proofs.WorldFresh.{fresh_actor_states, fresh_in_progress, fresh_left, fresh_counted}
 use Rattle.partition_world.proofs.world.World.made.Goals as goal
 
 pub returns-in_default-clause-err : goal.returns-in_default-clause-err
@@ -29,15 +29,15 @@ invariant_of-result g c =
       record {
         config_fits = c.requires.brokers;
         fit = c.requires.fit;
-        held = fresh_sound g.D.Disk.control c.args.config.brokers c.args.devices.disks.items c.in-Ok-fresh.held c.requires.count c.in-Ok-fresh.ensures.held;
+        partition_state = fresh_sound g.D.Disk.control c.args.config.brokers c.args.devices.disks.items c.in-Ok-fresh.partition_state c.requires.count c.in-Ok-fresh.ensures.partition_state;
         sided = ap (λ (k : List BrokerTierState). length k) (c.arm.ensures.broker_tiers ∙ c.in-Ok-fresh_broker_tiers.ensures) ∙ length_replicate c.args.config.brokers fresh_broker_tier;
         actor_states = fresh_actor_states c.args.lists count c.in-Ok.desk (ap (λ (k : List ActorList). length k) same) books.desk_is;
-        works = fresh_works c.args.lists count c.in-Ok.desk books.desk_is;
+        works = fresh_in_progress c.args.lists count c.in-Ok.desk books.desk_is;
         room = omega (arith, fresh_left c.args.lists count c.in-Ok.desk books.desk_is, books.room, ap (λ (k : List ActorList). turns_left k []) same);
       },
       c.in-Ok-fresh.ensures.none,
       omega (arith, disks.0, disks.1, c.requires.count, c.fresh.ensures.room),
-      fresh_counted c.args.config c.args.lists c.in-Ok-fresh.held c.arm.new.self.broker_tiers c.in-Ok.desk (length c.in-Ok.journal.items) count c.args.config.brokers c.requires.fit
-          (fresh_stops g.D.Disk.control c.args.devices.disks.items c.in-Ok-fresh.held c.in-Ok-fresh.ensures.held)
+      fresh_counted c.args.config c.args.lists c.in-Ok-fresh.partition_state c.arm.new.self.broker_tiers c.in-Ok.desk (length c.in-Ok.journal.items) count c.args.config.brokers c.requires.fit
+          (fresh_stops g.D.Disk.control c.args.devices.disks.items c.in-Ok-fresh.partition_state c.in-Ok-fresh.ensures.partition_state)
           (c.arm.ensures.broker_tiers ∙ c.in-Ok-fresh_broker_tiers.ensures) books.desk_is (ap (λ k. length k) books.empty),
     )

@@ -7,7 +7,7 @@ use Rattle.partition_commands.proofs.Unstopped.{cold_stops}
 use Rattle.partition_world.specs.declared.tier.BrokerTierState.{BrokerTierState}
 use Rattle.partition_world.specs.Fresh.{fresh_broker_tier}
 use Rattle.partition_world.proofs.Rooms.{few_entries}
-use Rattle.partition_world.proofs.WorldFresh.{fresh_actor_states, fresh_works, fresh_left, fresh_counted}
+use Rattle.partition_world.proofs.WorldFresh.{fresh_actor_states, fresh_in_progress, fresh_left, fresh_counted}
 use Rattle.partition_world.proofs.world.World.made_anew.Goals as goal
 
 pub fresh_books-requires : goal.fresh_books-requires
@@ -22,15 +22,15 @@ invariant_of-result g c =
       record {
         config_fits = c.requires.brokers;
         fit = c.requires.fit;
-        held = cold_sound g.D.Disk.content g.D.Disk.control c.args.config.brokers c.args.config.settings c.args.registry c.args.devices.disks.items c.in-Ok-reopen.held c.requires.count c.requires.replicas c.requires.epoch c.in-Ok-reopen.ensures.held;
+        partition_state = cold_sound g.D.Disk.content g.D.Disk.control c.args.config.brokers c.args.config.settings c.args.registry c.args.devices.disks.items c.in-Ok-reopen.partition_state c.requires.count c.requires.replicas c.requires.epoch c.in-Ok-reopen.ensures.partition_state;
         sided = ap (λ (k : List BrokerTierState). length k) (c.arm.ensures.broker_tiers ∙ c.in-Ok-fresh_broker_tiers.ensures) ∙ length_replicate c.args.config.brokers fresh_broker_tier;
         actor_states = fresh_actor_states c.args.lists count c.in-Ok.desk (ap (λ (k : List ActorList). length k) same) books.desk_is;
-        works = fresh_works c.args.lists count c.in-Ok.desk books.desk_is;
+        works = fresh_in_progress c.args.lists count c.in-Ok.desk books.desk_is;
         room = omega (arith, fresh_left c.args.lists count c.in-Ok.desk books.desk_is, books.room, ap (λ (k : List ActorList). turns_left k []) same);
       },
       c.in-Ok-reopen.ensures.none,
       omega (arith, disks.0, disks.1, c.requires.count, c.reopen.ensures.room),
-      fresh_counted c.args.config c.args.lists c.in-Ok-reopen.held c.arm.new.self.broker_tiers c.in-Ok.desk (length c.in-Ok.journal.items) count c.args.config.brokers c.requires.fit
-          (cold_stops g.D.Disk.content g.D.Disk.control c.args.config.settings c.args.registry c.args.devices.disks.items c.in-Ok-reopen.held c.in-Ok-reopen.ensures.held)
+      fresh_counted c.args.config c.args.lists c.in-Ok-reopen.partition_state c.arm.new.self.broker_tiers c.in-Ok.desk (length c.in-Ok.journal.items) count c.args.config.brokers c.requires.fit
+          (cold_stops g.D.Disk.content g.D.Disk.control c.args.config.settings c.args.registry c.args.devices.disks.items c.in-Ok-reopen.partition_state c.in-Ok-reopen.ensures.partition_state)
           (c.arm.ensures.broker_tiers ∙ c.in-Ok-fresh_broker_tiers.ensures) books.desk_is (ap (λ k. length k) books.empty),
     )
