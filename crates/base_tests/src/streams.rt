@@ -3,7 +3,7 @@
 use std::alloc::{AllocError, Global};
 use std::io::Write;
 use tier_base::{
-    Blob, Failed, MemorySink, MemorySource, ReadRefusal, Roll, Row, Sink, Source, StdSink,
+    Blob, Failed, MemorySink, MemorySource, ReadRefusal, Reserved, Items, Sink, Source, StdSink,
     StdSource, Trouble, read_all, write_all,
 };
 
@@ -20,14 +20,14 @@ enum Step {
     Holds(&'static [u64]),
 }
 
-fn replace(row: &mut Row<u64>, i: usize, item: u64) -> Option<u64> {
+fn replace(row: &mut Items<u64>, i: usize, item: u64) -> Option<u64> {
     if i >= row.len() {
         return None;
     }
     Some(row.replace(i, item))
 }
 
-fn write(row: &mut Row<u64>, i: usize, item: u64) -> bool {
+fn write(row: &mut Items<u64>, i: usize, item: u64) -> bool {
     if i >= row.len() {
         return false;
     }
@@ -35,20 +35,20 @@ fn write(row: &mut Row<u64>, i: usize, item: u64) -> bool {
     true
 }
 
-fn get(row: &Row<u64>, i: usize) -> Option<u64> {
+fn get(row: &Items<u64>, i: usize) -> Option<u64> {
     if i >= row.len() {
         return None;
     }
     Some(*row.get(i))
 }
 
-fn is_row(row: &Row<u64>, items: &[u64]) -> bool {
+fn is_row(row: &Items<u64>, items: &[u64]) -> bool {
     let counted = (row.len(), row.is_empty()) == (items.len(), items.is_empty());
     counted & (row.as_slice() == items)
 }
 
 /// Makes a call, and returns whether it went as the row says.
-fn call(row: &mut Row<u64>, step: Step) -> bool {
+fn call(row: &mut Items<u64>, step: Step) -> bool {
     match step {
         Step::Push(item) => row.push(item).is_ok(),
         Step::Replace(i, item, old) => replace(row, i, item) == Some(old),
@@ -60,7 +60,7 @@ fn call(row: &mut Row<u64>, step: Step) -> bool {
 }
 
 /// Makes calls, and returns how many went well at first.
-fn run(row: &mut Row<u64>, steps: &[Step]) -> usize {
+fn run(row: &mut Items<u64>, steps: &[Step]) -> usize {
     for (i, step) in steps.iter().enumerate() {
         if !call(row, *step) {
             return i;
@@ -71,9 +71,9 @@ fn run(row: &mut Row<u64>, steps: &[Step]) -> usize {
 
 /// Makes calls of a new list, and returns how many went well at first, and how many items are passed on.
 fn run_new(alloc: Global, steps: &[Step]) -> (usize, usize) {
-    let mut row = Row::new(alloc);
+    let mut row = Items::new(alloc);
     let well = run(&mut row, steps);
-    (well, Row::from_vec(row.into_vec()).len())
+    (well, Items::from_vec(row.into_vec()).len())
 }
 
 /// The calls of a list.
@@ -96,7 +96,7 @@ fn a_row_has_what_was_put_into_it(rt: HostRuntime) {
 }
 
 /// Puts two items into the room that is made for them.
-fn put_two(roll: &mut Roll<u64>) -> bool {
+fn put_two(roll: &mut Reserved<u64>) -> bool {
     match roll.reserve(2) {
         Ok(()) => {
             roll.put(8);
@@ -109,7 +109,7 @@ fn put_two(roll: &mut Roll<u64>) -> bool {
 
 /// Whether a list takes two items.
 fn takes_two(alloc: Global) -> (bool, usize, bool) {
-    let mut roll = Roll::new(alloc);
+    let mut roll = Reserved::new(alloc);
     let put = put_two(&mut roll);
     (put, roll.len(), roll.items() == [8, 9].as_slice())
 }

@@ -1,7 +1,7 @@
 -- A partition as a power cut leaves it is beside the state that is left.
 use Rattle.std.proofs.Common.{◌≡◌, ◌∙◌, sym, ap, subst, refl, ℕ, zero, suc, ◌==◌, List, [], ◌∷◌, length, slice_get, Some, None, Bool, true, false, cond}
 use Rattle.std.specs.Prelude.{ℤ, map, replicate}
-use Rattle.tier_base.specs.Roll.{Rolled}
+use Rattle.tier_base.specs.Reserved.{ReservedItems}
 use Rattle.log_terms.proofs.Logs.{ends_at_zero}
 use Rattle.plain_log.specs.declared.command.ActorList.{ActorList}
 use Rattle.plain_log.specs.declared.command.Order.{Order}
@@ -71,7 +71,7 @@ cold_lines h clock paths broken s = record {
 pub cold_actor_state : (p : State) (l : ActorList) (actor_state : ActorProgress) → fresh_actor_state ≡ actor_state → ProgressMatches (cold_of p) l actor_state
 cold_actor_state p l actor_state is = subst (ProgressMatches (cold_of p) l) is (record { actor = rw (none_recorded l.orders) refl; snapshot = λ g snapshot. absurd cc })
 
-abbrev pub cold_central : (opening : State) (w : Whole) (clock : ℤ) (lists : List ActorList) (journal : Rolled JournalEntry) (c : IsCentral opening w) → AreRising lists → journal.items ≡ []
+abbrev pub cold_central : (opening : State) (w : Whole) (clock : ℤ) (lists : List ActorList) (journal : ReservedItems JournalEntry) (c : IsCentral opening w) → AreRising lists → journal.items ≡ []
     → IsCentral (cold_of c.plain) (cold_whole w clock lists journal)
 cold_central opening w clock lists journal c rising empty = record {
   plain = cold_of c.plain;

@@ -1,7 +1,7 @@
 -- A power cut of everything between two turns.
 use Rattle.std.proofs.Common.{◌≡◌, ◌∙◌, inl, sym, ap, subst, refl, ℕ, zero, suc, ◌+◌, ◌<◌, List, [], ◌∷◌, length, slice_get, Some, None, Option}
 use Rattle.std.specs.Prelude.{◌^◌, pos, map, replicate}
-use Rattle.tier_base.specs.Roll.{Rolled}
+use Rattle.tier_base.specs.Reserved.{ReservedItems}
 use Rattle.tier_base.specs.declared.plain.Settings.{Settings}
 use Rattle.disk_model.specs.Content.{Content}
 use Rattle.disk_model.specs.declared.disk.Disk.{Ghosts as DiskGhosts}
@@ -93,7 +93,7 @@ idle_dated p None = tt
 idle_dated p (Some order) = tt
 
 module _ {D S M : Type 0} (disk : DiskGhosts D) (store : StoreGhosts S) (meta : MetaGhosts M) where
-  module _ (opening : State) (config : Config) (w : Whole D S M) (lists : List ActorList) (journal : Rolled JournalEntry) (disks : List D) (s : S) (m : M) (l : List Note)
+  module _ (opening : State) (config : Config) (w : Whole D S M) (lists : List ActorList) (journal : ReservedItems JournalEntry) (disks : List D) (s : S) (m : M) (l : List Note)
       (cut : LeaveDisks disk.content w.partition_state.nodes disks) (kept : IsCutStore (store.content w.tier.store) (store.content s)) (told : IsCutLog (meta.content w.tier.meta) (meta.content m))
       (rising : AreRising lists) (empty : journal.items ≡ []) (low : length l + notes_left lists (replicate (length lists) fresh_actor_state) < 2 ^ 64)
       (k : IsCentral disk store (resolved meta) opening (whole_with w l)) where
@@ -137,7 +137,7 @@ module _ {D S M : Type 0} (disk : DiskGhosts D) (store : StoreGhosts S) (meta : 
       → a.central.plain ≡ b.central.plain
   same_plain opening w l x a b = let is : Some a.central.plain ≡ Some b.central.plain = sym a.central.replays ∙ b.central.replays in cc (is)
 
-  pub power_cut : (opening : State) (config : Config) (w : Whole D S M) (lists : List ActorList) (journal : Rolled JournalEntry) (disks : List D) (s : S) (m : M) (c : IsCentralLeft disk store meta opening w)
+  pub power_cut : (opening : State) (config : Config) (w : Whole D S M) (lists : List ActorList) (journal : ReservedItems JournalEntry) (disks : List D) (s : S) (m : M) (c : IsCentralLeft disk store meta opening w)
       → LeaveDisks disk.content w.partition_state.nodes disks → IsCutStore (store.content w.tier.store) (store.content s) → IsCutLog (meta.content w.tier.meta) (meta.content m)
       → AreRising lists → journal.items ≡ [] → ((l : List Note) → Left (meta.content m) l → length l + notes_left lists (replicate (length lists) fresh_actor_state) < 2 ^ 64)
       → IsCentralLeft disk store meta (cold_of (plain_in disk store meta opening w c)) (reopened config w lists journal disks s m)

@@ -1,6 +1,6 @@
 -- What a power cut of everything leaves of a partition and its tier, beside the plain state that cold_state says.
 use Rattle.std.specs.Prelude.{ℤ, false, List, [], length, map, replicate}
-use Rattle.tier_base.specs.Roll.{Rolled}
+use Rattle.tier_base.specs.Reserved.{ReservedItems}
 use Rattle.plain_log.specs.declared.command.ActorList.{ActorList}
 use Rattle.plain_log.specs.declared.journal.JournalEntry.{JournalEntry}
 use Rattle.laws_partition.specs.Seen.{Node, SeenPartition}
@@ -28,7 +28,7 @@ abbrev pub cold_partition_state : SeenPartition → ℤ → SeenPartition
 cold_partition_state h clock = record h { nodes = map cold_node h.nodes; clock = clock }
 
 -- a world that begins there with these lists and this journal
-abbrev pub cold_whole : Whole → ℤ → List ActorList → Rolled JournalEntry → Whole
+abbrev pub cold_whole : Whole → ℤ → List ActorList → ReservedItems JournalEntry → Whole
 cold_whole w clock lists journal = record w {
   lists = lists;
   partition_state = cold_partition_state w.partition_state clock;

@@ -1,7 +1,7 @@
 -- What a power cut of everything leaves of a world, where it comes between two turns.
 use Rattle.std.specs.Prelude.{◌≡◌, ◌+◌, ◌^◌, ◌<◌, pos, true, false, List, [], ◌∷◌, length, map, replicate, IsTrue, refl}
 use Rattle.std.proofs.Common.{inl}
-use Rattle.tier_base.specs.Roll.{Rolled}
+use Rattle.tier_base.specs.Reserved.{ReservedItems}
 use Rattle.tier_base.specs.declared.plain.Settings.{Settings}
 use Rattle.disk_model.specs.Content.{Content, Files, Image}
 use Rattle.disk_model.specs.declared.disk.Disk.{Ghosts as DiskGhosts}
@@ -77,7 +77,7 @@ module _ {D : Type 0} where
 
 module _ {D S M : Type 0} where
   -- a world with a registry that begins over these devices, with these lists and this journal
-  abbrev pub reopened : Config → Whole D S M → List ActorList → Rolled JournalEntry → List D → S → M → Whole D S M
+  abbrev pub reopened : Config → Whole D S M → List ActorList → ReservedItems JournalEntry → List D → S → M → Whole D S M
   reopened config w lists journal disks s m = record {
     partition = w.partition;
     config = config;
@@ -103,7 +103,7 @@ module _ {D S M : Type 0} (disk : DiskGhosts D) (store : StoreGhosts S) (meta : 
   -- for what is left of the plain state
   abbrev pub PowerCutKeepsCentral : Type 0
   PowerCutKeepsCentral = (opening : State) (config : Config) (w : Whole D S M) (lists : List ActorList)
-      (journal : Rolled JournalEntry)
+      (journal : ReservedItems JournalEntry)
       (disks : List D) (s : S) (m : M) (c : IsCentralLeft disk store meta opening w)
       → LeaveDisks disk.content w.partition_state.nodes disks
       → IsCutStore (store.content w.tier.store) (store.content s) → IsCutLog (meta.content w.tier.meta) (meta.content m)

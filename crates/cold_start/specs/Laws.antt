@@ -1,6 +1,6 @@
 -- The laws of what a power cut leaves.
 use Rattle.std.specs.Prelude.{◌≡◌, ◌≤◌, ℕ, ℤ, List, [], Some, length, slice_get, map}
-use Rattle.tier_base.specs.Roll.{Rolled}
+use Rattle.tier_base.specs.Reserved.{ReservedItems}
 use Rattle.disk_model.specs.declared.disk.Disk.{Ghosts as DiskGhosts}
 use Rattle.object_store.specs.declared.store.Store.{Ghosts as StoreGhosts}
 use Rattle.meta_log.specs.declared.log.MetaLog.{Ghosts as MetaGhosts}
@@ -31,7 +31,7 @@ ColdTierIsSafe = (c : Scene) (p : State) (desk : List TierTask) → IsDeskFree d
 
 -- a partition that has the central fact for some opening state has it, as a power cut leaves it, for the state that is left
 abbrev pub ColdIsCentral : Type 0
-ColdIsCentral = (opening : State) (w : Whole) (clock : ℤ) (lists : List ActorList) (journal : Rolled JournalEntry)
+ColdIsCentral = (opening : State) (w : Whole) (clock : ℤ) (lists : List ActorList) (journal : ReservedItems JournalEntry)
     (c : IsCentral opening w)
     → AreRising lists → journal.items ≡ [] → IsCentral (cold_of c.plain) (cold_whole w clock lists journal)
 

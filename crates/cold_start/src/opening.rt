@@ -37,7 +37,7 @@ use plain_log::{ActorList, Config, Registry};
 use registry::RegView;
 use registry_disk::{find_registry, keep_registry};
 use std::alloc::Global;
-use tier_base::{FileName, PartitionId, Row, Trouble};
+use tier_base::{FileName, PartitionId, Items, Trouble};
 
 /// No log has as many metadata events: each takes 33 bytes at least of a file whose length is below 2^63.
 const NOTES_BOUND: u64 = 1 << 59;
@@ -132,7 +132,7 @@ impl<D: Disk, S: Store, M: MetaLog> Cold<D, S, M> {
         alloc: Global,
         partition: PartitionId,
         config: Config,
-        lists: Row<ActorList>,
+        lists: Items<ActorList>,
         devices: Devices<D, S, M>,
         reg: D,
     ) -> Result<Cold<D, S, M>, (Devices<D, S, M>, D, ColdRefusal)>
@@ -187,7 +187,7 @@ impl<D: Disk, S: Store, M: MetaLog> Cold<D, S, M> {
         alloc: Global,
         partition: PartitionId,
         config: Config,
-        lists: Row<ActorList>,
+        lists: Items<ActorList>,
         devices: Devices<D, S, M>,
         reg: D,
     ) -> Result<Cold<D, S, M>, (Devices<D, S, M>, D, ColdRefusal)>
@@ -276,7 +276,7 @@ impl<D: Disk, S: Store, M: MetaLog> Cold<D, S, M> {
         alloc: Global,
         partition: PartitionId,
         config: Config,
-        lists: Row<ActorList>,
+        lists: Items<ActorList>,
         devices: Devices<D, S, M>,
         reg: D,
         view: RegView,

@@ -7,7 +7,7 @@ ghost use Rattle.device_yard.specs.YardContent.{Rise};
 use std::alloc::{AllocError, Global};
 use std::collections::BTreeSet;
 use std::marker::Model;
-use tier_base::{PartitionId, Row};
+use tier_base::{PartitionId, Items};
 
 /// Partitions in rising order.
 #[derive(Drop)]
@@ -47,11 +47,11 @@ impl PartitionSet {
     }
 
     /// Makes the list of them. Fails only if memory runs out.
-    pub fn to_row(&self) -> Result<Row<PartitionId>, AllocError>
+    pub fn to_row(&self) -> Result<Items<PartitionId>, AllocError>
         ensures are { IfOk result (λ row. row ≡ self.now) }
         ensures rise { IfOk result Rise }
     {
-        let mut row = Row::new(self.alloc);
+        let mut row = Items::new(self.alloc);
         for partition in &self.found {
             row.push(*partition)?;
         }

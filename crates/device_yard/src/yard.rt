@@ -13,7 +13,7 @@ ghost use Rattle.device_yard.specs.YardContent.{YardContent, Same, DiskIs, Store
 use disk_model::Disk;
 use meta_log::MetaLog;
 use object_store::Store;
-use tier_base::{Blob, BrokerId, PartitionId, Row, Trouble};
+use tier_base::{Blob, BrokerId, PartitionId, Items, Trouble};
 
 /// Where the devices of partitions come from, and where they come back to. A call that answers `Failed` has provided
 /// nothing and leaves what is held as it was.
@@ -43,7 +43,7 @@ pub trait Yard {
             (IsFirstName (IsNameInYard Self.D.content Self.S.content Self.M.content (held self.old))) };
 
     /// Names the partitions in use, in rising order.
-    fn partitions(&mut self) -> Result<Row<PartitionId>, Trouble>
+    fn partitions(&mut self) -> Result<Items<PartitionId>, Trouble>
         ensures control { AsksYard (fate_of result) (control self.old) (control self.new) }
         ensures plan { CountsCall (fate_of result) (plan self.old) (plan self.new) }
         ensures held { Same Self.D.content Self.S.content Self.M.content

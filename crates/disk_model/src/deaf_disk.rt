@@ -16,7 +16,7 @@ use crate::disk::Disk;
 use bytes::Bytes;
 use std::alloc::{AllocError, Global};
 use std::mem;
-use tier_base::{Failed, FaultPlan, FileName, Row, Trouble, give};
+use tier_base::{Failed, FaultPlan, FileName, Items, Trouble, give};
 
 /// A disk that isn't observable.
 #[derive(Drop)]
@@ -113,7 +113,7 @@ impl Disk for DeafDisk {
         self.faults.note(DiskCall::Remove, ending)
     }
 
-    fn list(&mut self) -> Result<Row<FileName>, Trouble> {
+    fn list(&mut self) -> Result<Items<FileName>, Trouble> {
         let ending = self.faults.ending(DiskCall::List);
         let names = names_of(self.alloc, &self.files)?;
         give(self.faults.note(DiskCall::List, ending), names)
@@ -195,8 +195,8 @@ fn share_from(
 }
 
 /// Names the files.
-fn names_of(alloc: Global, files: &[(FileName, Bytes)]) -> Result<Row<FileName>, AllocError> {
-    let mut names = Row::new(alloc);
+fn names_of(alloc: Global, files: &[(FileName, Bytes)]) -> Result<Items<FileName>, AllocError> {
+    let mut names = Items::new(alloc);
     for file in files {
         names.push(file.0)?;
     }

@@ -13,7 +13,7 @@ ghost use Rattle.disk_model.specs.Content.{Content, Lawful, Files, Image, Change
 
 use bytes::Bytes;
 use std::alloc::AllocError;
-use tier_base::{Failed, FileName, Row, Trouble};
+use tier_base::{Failed, FileName, Items, Trouble};
 
 /// The files of a local log or of a metadata log, by name. After `Failed` the call's file reads as before or as if
 /// the call was done, and the other files as before; after a failed sync nothing is promised to be durable. A
@@ -105,7 +105,7 @@ pub trait Disk: Drop {
             (content self.old) (content self.new) };
 
     /// Lists the names of the files.
-    fn list(&mut self) -> Result<Row<FileName>, Trouble>
+    fn list(&mut self) -> Result<Items<FileName>, Trouble>
         ensures control { RanQuietly Listing (fate_of result)
             (control self.old) (control self.new) }
         ensures room { spare self.new ≡ spare self.old }

@@ -15,7 +15,7 @@ use crate::shelf::Shelf;
 use bytes::Bytes;
 use std::alloc::{AllocError, Global};
 use std::marker::Model;
-use tier_base::{FileName, Row};
+use tier_base::{FileName, Items};
 
 /// What was done to a file. A replacement is kept as what differs from the file of before, and is sure where it
 /// answered `Ok`.
@@ -167,7 +167,7 @@ impl History {
     }
 
     /// Names the files.
-    pub fn names(&self) -> Result<Row<FileName>, AllocError>
+    pub fn names(&self) -> Result<Items<FileName>, AllocError>
         ensures { IfOk result (λ names. NamesAllHeld (reads self.now.past) names) }
     {
         self.shelf.names(self.alloc)

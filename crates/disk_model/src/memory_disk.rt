@@ -20,7 +20,7 @@ use crate::history::History;
 use bytes::Bytes;
 use std::alloc::{AllocError, Global};
 use std::mem;
-use tier_base::{Failed, FaultPlan, FileName, Row, Trouble, give};
+use tier_base::{Failed, FaultPlan, FileName, Items, Trouble, give};
 
 /// A disk in memory.
 #[derive(Drop)]
@@ -190,7 +190,7 @@ impl Disk for MemoryDisk {
         self.faults.note(DiskCall::Remove, ending)
     }
 
-    fn list(&mut self) -> Result<Row<FileName>, Trouble> {
+    fn list(&mut self) -> Result<Items<FileName>, Trouble> {
         let ending = self.faults.ending(DiskCall::List);
         let names = self.history.names()?;
         give(self.faults.note(DiskCall::List, ending), names)

@@ -15,7 +15,7 @@ use crate::file_bytes::FileBytes;
 use bytes::Bytes;
 use std::alloc::{AllocError, Global};
 use std::collections::BTreeMap;
-use tier_base::{FileName, Row};
+use tier_base::{FileName, Items};
 
 /// The files.
 #[derive(Drop)]
@@ -149,7 +149,7 @@ impl Shelf {
     }
 
     /// Names the files: log segments by their base offset, then the others.
-    pub fn names(&self, alloc: Global) -> Result<Row<FileName>, AllocError>
+    pub fn names(&self, alloc: Global) -> Result<Items<FileName>, AllocError>
         ensures names { IfOk result (λ names. names ≡ names_on self.now) }
         ensures sorted { OnOk result (IsStrictlySortedBy nat_cmp (keys self.now.logs)) }
     {
@@ -355,11 +355,11 @@ fn read_at(
     }
 }
 
-fn log_names(alloc: Global, logs: &BTreeMap<u64, FileBytes>) -> Result<Row<FileName>, AllocError>
+fn log_names(alloc: Global, logs: &BTreeMap<u64, FileBytes>) -> Result<Items<FileName>, AllocError>
     ensures names { IfOk result (λ names. names ≡ map Log (keys logs.now)) }
     ensures sorted { OnOk result (IsStrictlySortedBy nat_cmp (keys logs.now)) }
 {
-    let mut names = Row::new(alloc);
+    let mut names = Items::new(alloc);
     for base in logs.keys() {
         names.push(FileName::Log(*base))?;
     }

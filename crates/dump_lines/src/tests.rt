@@ -6,12 +6,12 @@ use crate::{Ending, Show, ShowRefusal, Shown, Style, batch_line, dump, text_of};
 use record_batch::BatchRefusal;
 use std::alloc::{AllocError, Global};
 use std::test::Fail;
-use tier_base::{MemorySource, Row};
+use tier_base::{MemorySource, Items};
 
 /// Keeps the batches that are shown.
 #[derive(Drop)]
 struct Kept {
-    batches: Row<Shown>,
+    batches: Items<Shown>,
 }
 
 impl Show for Kept {
@@ -54,10 +54,10 @@ fn bytes_of(alloc: Global, cut: usize) -> Result<Vec<u8>, AllocError> {
 }
 
 /// Dumps bytes.
-fn ended(alloc: Global, bytes: Vec<u8>) -> (Row<Shown>, End) {
+fn ended(alloc: Global, bytes: Vec<u8>) -> (Items<Shown>, End) {
     let mut source = MemorySource::new(bytes, Vec::new(alloc));
     let mut kept = Kept {
-        batches: Row::new(alloc),
+        batches: Items::new(alloc),
     };
     let end = match dump(alloc, &mut source, &mut kept) {
         Ok(Ending::End { position }) => End::At(position),

@@ -17,7 +17,7 @@ use bytes::Bytes;
 use std::fs::{self, File, OpenFile, OpenOptions};
 use std::io::{self, ErrorKind};
 use std::rt::Files;
-use tier_base::{FileName, Row};
+use tier_base::{FileName, Items};
 
 /// A folder.
 #[derive(Drop)]
@@ -134,7 +134,7 @@ impl<R: Files + AllocGlobal + Clone + Drop> Folder<R> {
     }
 
     /// Names the files.
-    pub fn list(&self) -> io::Result<Row<FileName>> {
+    pub fn list(&self) -> io::Result<Items<FileName>> {
         list(&self.rt, self.place.folder())
     }
 

@@ -15,7 +15,7 @@ use std::alloc::AllocError;
 use std::io::{self, ErrorKind};
 use std::mem;
 use std::rt::Files;
-use tier_base::{Failed, FileName, Row, Trouble, give};
+use tier_base::{Failed, FileName, Items, Trouble, give};
 
 /// A disk whose files are in a folder. It isn't observable, and every failure of the system is a fault. No call of it
 /// is planned to fail, and each may.
@@ -116,7 +116,7 @@ impl<R: Files + AllocGlobal + Clone + Drop> Disk for FolderDisk<R> {
         self.tally.note(DiskCall::Remove, outcome)
     }
 
-    fn list(&mut self) -> Result<Row<FileName>, Trouble> {
+    fn list(&mut self) -> Result<Items<FileName>, Trouble> {
         let names = told(self.folder.list());
         self.tally.note_any(DiskCall::List, names)
     }

@@ -12,7 +12,7 @@ use bytes::Bytes;
 use device_tally::Tally;
 use object_store::{Store, StoreCall};
 use std::rt::Files;
-use tier_base::{Failed, ObjectKey, PartitionId, Row, Trouble, give};
+use tier_base::{Failed, ObjectKey, PartitionId, Items, Trouble, give};
 
 /// A store of one partition's objects, each a file of a folder. It isn't observable, and every failure of the system is
 /// a fault. No call of it is planned to fail, and each may.
@@ -84,7 +84,7 @@ impl<R: Files + AllocGlobal + Clone + Drop> Store for FolderStore<R> {
         self.tally.note(StoreCall::Delete, outcome)
     }
 
-    fn keys(&mut self) -> Result<Row<ObjectKey>, Trouble> {
+    fn keys(&mut self) -> Result<Items<ObjectKey>, Trouble> {
         let keys = told(self.objects.keys());
         self.tally.note_any(StoreCall::Keys, keys)
     }

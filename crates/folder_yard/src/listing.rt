@@ -10,7 +10,7 @@ use std::alloc::Global;
 use std::fs::{self, DirEntry};
 use std::io::{self, ErrorKind};
 use std::rt::Files;
-use tier_base::{FileName, ObjectKey, PartitionId, Row};
+use tier_base::{FileName, ObjectKey, PartitionId, Items};
 
 /// How the name of a file ends that is written and not yet put in its place.
 pub const UNFINISHED: &str = ".new";
@@ -22,8 +22,8 @@ const ENDING: usize = 4;
 pub fn list<R: Files + AllocGlobal + Clone + Drop>(
     rt: &R,
     folder: &str,
-) -> io::Result<Row<FileName>> {
-    let mut names = Row::new(rt.alloc());
+) -> io::Result<Items<FileName>> {
+    let mut names = Items::new(rt.alloc());
     for entry in fs::read_dir(rt, folder)? {
         if let Some(name) = name_of(entry)? {
             names.push(name)?;
@@ -47,8 +47,8 @@ pub fn list_objects<R: Files + AllocGlobal + Clone + Drop>(
     rt: &R,
     folder: &str,
     partition: PartitionId,
-) -> io::Result<Row<ObjectKey>> {
-    let mut keys = Row::new(rt.alloc());
+) -> io::Result<Items<ObjectKey>> {
+    let mut keys = Items::new(rt.alloc());
     for entry in fs::read_dir(rt, folder)? {
         if let Some(key) = key_of(partition, entry)? {
             keys.push(key)?;

@@ -11,7 +11,7 @@ use bytes::Bytes;
 use std::fs::{self, File, OpenFile};
 use std::io::{self, ErrorKind};
 use std::rt::Files;
-use tier_base::{ObjectKey, PartitionId, Row};
+use tier_base::{ObjectKey, PartitionId, Items};
 
 /// A folder of objects.
 #[derive(Drop)]
@@ -70,7 +70,7 @@ impl<R: Files + AllocGlobal + Clone + Drop> Objects<R> {
     }
 
     /// Names the objects.
-    pub fn keys(&self) -> io::Result<Row<ObjectKey>> {
+    pub fn keys(&self) -> io::Result<Items<ObjectKey>> {
         list_objects(&self.rt, self.place.folder(), self.partition)
     }
 }

@@ -10,18 +10,18 @@ use std::alloc::Global;
 use std::fs::{self, DirEntry};
 use std::io::{self, ErrorKind};
 use std::rt::Files;
-use tier_base::{PartitionId, Row};
+use tier_base::{PartitionId, Items};
 
 /// Names them in rising order. An absent folder has none.
 pub fn partitions<R: Files + AllocGlobal + Clone + Drop>(
     rt: &R,
     folder: &str,
-) -> io::Result<Row<PartitionId>>
+) -> io::Result<Items<PartitionId>>
     ensures rise { IfOk result Rise }
 {
     let entries = match fs::read_dir(rt, folder) {
         Ok(entries) => entries,
-        Err(error) if error.kind() == ErrorKind::NotFound => return Ok(Row::new(rt.alloc())),
+        Err(error) if error.kind() == ErrorKind::NotFound => return Ok(Items::new(rt.alloc())),
         Err(error) => return Err(error),
     };
     let mut found = PartitionSet::new(rt.alloc());

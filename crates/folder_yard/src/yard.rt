@@ -24,7 +24,7 @@ use std::alloc::{AllocError, Global};
 use std::fs::{File, TryLockError};
 use std::io::{self, ErrorKind};
 use std::rt::Files;
-use tier_base::{Blob, BrokerId, PartitionId, Row, Trouble};
+use tier_base::{Blob, BrokerId, PartitionId, Items, Trouble};
 
 /// An environment whose devices are in a folder. It isn't observable, and drops a device that comes back: what it held
 /// is in the folder.
@@ -112,7 +112,7 @@ impl<R: Files<File = File> + AllocGlobal + Clone + Drop> FolderYard<R> {
     }
 
     /// The partitions in use.
-    fn find_partitions(&mut self) -> io::Result<Row<PartitionId>>
+    fn find_partitions(&mut self) -> io::Result<Items<PartitionId>>
         ensures rise { IfOk result Rise }
         ensures counts { self.new.counts ≡ self.old.counts }
     {
@@ -242,7 +242,7 @@ impl<R: Files<File = File> + AllocGlobal + Clone + Drop> Yard for FolderYard<R> 
         self.counts.name(found)
     }
 
-    fn partitions(&mut self) -> Result<Row<PartitionId>, Trouble> {
+    fn partitions(&mut self) -> Result<Items<PartitionId>, Trouble> {
         let found = told(self.find_partitions());
         self.counts.ask(found)
     }

@@ -1,7 +1,7 @@
 -- A world as contracts see it.
 use Rattle.std.specs.Prelude.{List}
 use Rattle.tier_base.specs.declared.names.PartitionId.{PartitionId}
-use Rattle.tier_base.specs.Roll.{Rolled}
+use Rattle.tier_base.specs.Reserved.{ReservedItems}
 use Rattle.plain_log.specs.declared.command.ActorList.{ActorList}
 use Rattle.plain_log.specs.declared.command.Config.{Config}
 use Rattle.plain_log.specs.declared.journal.JournalEntry.{JournalEntry}
@@ -15,4 +15,4 @@ pub record Whole : Type 0 where
   pub lists : List ActorList
   pub partition_state : SeenPartition
   pub desk : List ActorProgress
-  pub journal : Rolled JournalEntry
+  pub journal : ReservedItems JournalEntry

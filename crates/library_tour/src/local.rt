@@ -9,7 +9,7 @@ use disk_model::Disk;
 use local_log::LocalLog;
 use record_batch::{Rec, build};
 use std::alloc::Global;
-use tier_base::{Blob, Row, Settings};
+use tier_base::{Blob, Items, Settings};
 
 /// The leader epoch of every batch here.
 const EPOCH: u32 = 0;
@@ -55,7 +55,7 @@ pub fn append<D: Disk>(alloc: Global, log: &mut LocalLog<D>, value: &str) -> Res
         ts: 1_700_000_000_000,
         key: None,
         value: Some(Blob::from_slice(alloc, value.as_bytes())?),
-        headers: Row::new(alloc),
+        headers: Items::new(alloc),
     };
     let batch = build(alloc, log.end(), EPOCH, [rec].as_slice())?;
     ensure!(

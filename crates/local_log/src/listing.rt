@@ -11,7 +11,7 @@ use epoch_line::Line;
 use log_manifest::{Extent, Manifest, SegmentList, encode};
 use segment_file::Growing;
 use std::alloc::{AllocError, Global};
-use tier_base::Row;
+use tier_base::Items;
 
 /// The extent of a segment.
 pub(crate) fn extent_of(segment: &Growing) -> Extent
@@ -30,7 +30,7 @@ fn extents(alloc: Global, closed: &[Growing], active: &Growing) -> Result<Segmen
     requires active { IsLaidOut active.now }
     ensures { IfOk result (λ list. list ≡ map extent_of (closed.now ++ active.now ∷ [])) }
 {
-    let mut list = Row::new(alloc);
+    let mut list = Items::new(alloc);
     for segment in closed {
         list.push(extent_of(segment))?;
     }

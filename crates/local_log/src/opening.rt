@@ -31,7 +31,7 @@ use log_manifest::{Extent, Manifest, ManifestRefusal, decode, encode};
 use log_steps::rewrite;
 use segment_file::Growing;
 use std::alloc::{AllocError, Global};
-use tier_base::Row;
+use tier_base::Items;
 
 /// The manifest as it is written again, and the next one.
 #[derive(Drop)]
@@ -88,7 +88,7 @@ pub(crate) fn open_log<D: Disk>(
 }
 
 /// Reads the manifest and the names of the files, and makes room for what follows.
-fn study<D: Disk>(alloc: Global, disk: &mut D) -> Result<(Plan, Row<FileName>), OpenRefusal>
+fn study<D: Disk>(alloc: Global, disk: &mut D) -> Result<(Plan, Items<FileName>), OpenRefusal>
     ensures content { Keeps (D.content disk.old) (D.content disk.new) }
     ensures plan { IfOk result (λ x. IsPlanOf (D.content disk.old) x.0) }
     ensures names { IfOk result (λ x. IsTrue (D.content disk.old).is_observable
@@ -162,7 +162,7 @@ fn plan_first(alloc: Global) -> Result<Plan, OpenRefusal>
     ensures plan { IfOk result (λ plan. IsPlan None plan) }
     ensures err { IfErr result IsDry }
 {
-    let mut segments = Row::new(alloc);
+    let mut segments = Items::new(alloc);
     segments.push(Extent { base: 0, len: 0 })?;
     let manifest = Manifest {
         incarnation: 1,

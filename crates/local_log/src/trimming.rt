@@ -20,7 +20,7 @@ use epoch_line::Line;
 use log_manifest::{Extent, Manifest, SegmentList, encode};
 use segment_file::Growing;
 use std::alloc::{AllocError, Global};
-use tier_base::{Failed, Row};
+use tier_base::{Failed, Items};
 
 /// What is left of a segment up to an offset.
 fn front_of(segment: &Growing, end: u64) -> Extent
@@ -50,7 +50,7 @@ fn extents_of(alloc: Global, segments: &[Growing]) -> Result<SegmentList, AllocE
     requires { Each IsLaidOut segments.now }
     ensures { IfOk result (λ list. list ≡ map extent_of segments.now) }
 {
-    let mut list = Row::new(alloc);
+    let mut list = Items::new(alloc);
     for segment in segments {
         list.push(extent_of(segment))?;
     }

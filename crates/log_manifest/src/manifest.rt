@@ -1,7 +1,7 @@
 //! A manifest and its parts. specs/Rules.antt has its rules.
 
 use epoch_line::Line;
-use tier_base::Row;
+use tier_base::Items;
 
 /// What of a log segment is durable.
 #[derive(Clone, Copy, Debug, PartialEq, Eq)]
@@ -13,7 +13,7 @@ pub struct Extent {
 }
 
 /// The segments of a log, from its local log start offset on. The last one is the open one.
-pub type SegmentList = Row<Extent>;
+pub type SegmentList = Items<Extent>;
 
 /// What a log has after a crash.
 #[derive(Debug, Drop)]

@@ -12,7 +12,7 @@ use crate::manifest::{Extent, Front, Manifest, SegmentList};
 use crate::refusal::ManifestRefusal;
 use epoch_line::Line;
 use std::alloc::Global;
-use tier_base::{OFFSET_LIMIT, Row};
+use tier_base::{OFFSET_LIMIT, Items};
 
 /// The first four bytes.
 const TAG: u32 = 0x544C_4D31;
@@ -139,7 +139,7 @@ fn segments(
     ensures { Answers (λ x. (x.0, x.1.now)) result
         (items_at (segment_at start) count 20 None bytes.now) }
 {
-    let mut segments = Row::new(alloc);
+    let mut segments = Items::new(alloc);
     let mut last = None;
     let mut rest = bytes;
     for i in 0..count {

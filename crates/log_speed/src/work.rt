@@ -14,7 +14,7 @@ use std::alloc::Global;
 use std::fmt;
 use std::rt::Clock;
 use std::time::Instant;
-use tier_base::{Blob, Row, Settings};
+use tier_base::{Blob, Items, Settings};
 
 /// How many appends go before a flush.
 const EVERY: u32 = 100;
@@ -65,7 +65,7 @@ fn batch_of(alloc: Global, value: u32) -> Result<Vec<u8>> {
         ts: 1_700_000_000_000,
         key: None,
         value: Some(Blob::from_slice(alloc, bytes.as_slice())?),
-        headers: Row::new(alloc),
+        headers: Items::new(alloc),
     };
     Ok(build(alloc, 0, 0, [rec].as_slice())?)
 }

@@ -4,7 +4,7 @@
 use crate::vectors::{FIRST, HEADER, SECOND, THREE, WRAPPED};
 use record_batch::{BuildRefusal, Rec, build, check, records, stamp};
 use std::alloc::{AllocError, Global};
-use tier_base::{Blob, Row};
+use tier_base::{Blob, Items};
 
 /// The worked batches, in order.
 fn worked(number: usize) -> &'static [u8] {
@@ -22,35 +22,35 @@ static WORKED: [(u64, u32, &str); 5] = [
     (
         0,
         0,
-        "[Rec { ts: 1000, key: None, value: Some(Blob { bytes: [97] }), headers: Row { items: [] } }]",
+        "[Rec { ts: 1000, key: None, value: Some(Blob { bytes: [97] }), headers: Items { items: [] } }]",
     ),
     (
         1,
         0,
-        "[Rec { ts: 1000, key: None, value: Some(Blob { bytes: [98] }), headers: Row { items: [] } }]",
+        "[Rec { ts: 1000, key: None, value: Some(Blob { bytes: [98] }), headers: Items { items: [] } }]",
     ),
     (
         0,
         0,
         "\
-        [Rec { ts: 5, key: Some(Blob { bytes: [107] }), value: None, headers: Row { items: [Header { key: Blob { \
+        [Rec { ts: 5, key: Some(Blob { bytes: [107] }), value: None, headers: Items { items: [Header { key: Blob { \
         bytes: [104] }, value: None }] } }]",
     ),
     (
         0,
         0,
         "\
-        [Rec { ts: 1000, key: None, value: Some(Blob { bytes: [97] }), headers: Row { items: [] } }, Rec { ts: 1000, \
-        key: None, value: Some(Blob { bytes: [98] }), headers: Row { items: [] } }, Rec { ts: 1000, key: None, \
-        value: Some(Blob { bytes: [99] }), headers: Row { items: [] } }]",
+        [Rec { ts: 1000, key: None, value: Some(Blob { bytes: [97] }), headers: Items { items: [] } }, Rec { ts: 1000, \
+        key: None, value: Some(Blob { bytes: [98] }), headers: Items { items: [] } }, Rec { ts: 1000, key: None, \
+        value: Some(Blob { bytes: [99] }), headers: Items { items: [] } }]",
     ),
     (
         (1 << 40) + 1,
         7,
         "\
-        [Rec { ts: -9223372036854775808, key: None, value: Some(Blob { bytes: [] }), headers: Row { items: [] } }, \
+        [Rec { ts: -9223372036854775808, key: None, value: Some(Blob { bytes: [] }), headers: Items { items: [] } }, \
         Rec { ts: 9223372036854775807, key: Some(Blob { bytes: [] }), value: Some(Blob { bytes: [120] }), headers: \
-        Row { items: [Header { key: Blob { bytes: [] }, value: Some(Blob { bytes: [] }) }, Header { key: Blob { \
+        Items { items: [Header { key: Blob { bytes: [] }, value: Some(Blob { bytes: [] }) }, Header { key: Blob { \
         bytes: [110] }, value: Some(Blob { bytes: [118, 119] }) }] } }]",
     ),
 ];
@@ -145,7 +145,7 @@ fn rec_of(alloc: Global, value: Blob) -> Rec {
         ts: 0,
         key: None,
         value: Some(value),
-        headers: Row::new(alloc),
+        headers: Items::new(alloc),
     }
 }
 

@@ -8,7 +8,7 @@ use bytes::Bytes;
 use record_batch::{Head, Rec, build};
 use segment_file::{BadAt, Closed, ClosedRefusal, Found, Growing, take_run, walk};
 use std::alloc::{AllocError, Global};
-use tier_base::{Row, Stop};
+use tier_base::{Items, Stop};
 
 /// The record of a timestamp, with neither key nor value.
 fn rec_of(alloc: Global, ts: i64) -> Rec {
@@ -16,7 +16,7 @@ fn rec_of(alloc: Global, ts: i64) -> Rec {
         ts,
         key: None,
         value: None,
-        headers: Row::new(alloc),
+        headers: Items::new(alloc),
     }
 }
 

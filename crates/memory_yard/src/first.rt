@@ -6,7 +6,7 @@ ghost use Rattle.device_yard.specs.YardContent.{IsNameUpTo, IsFirstName};
 ghost use Rattle.memory_yard.specs.First.{name_of, IsNameIn, IsFirstWith, AreWithout, PushesUnless};
 
 use std::alloc::{AllocError, Global};
-use tier_base::{Blob, PartitionId, Row};
+use tier_base::{Blob, PartitionId, Items};
 
 /// The name of a partition.
 fn name_of(alloc: Global, partition: PartitionId) -> Result<String, AllocError>
@@ -49,10 +49,10 @@ pub fn without(
     alloc: Global,
     partitions: &[PartitionId],
     others: &[PartitionId],
-) -> Result<Row<PartitionId>, AllocError>
+) -> Result<Items<PartitionId>, AllocError>
     ensures { IfOk result (AreWithout partitions.now others.now) }
 {
-    let mut row = Row::new(alloc);
+    let mut row = Items::new(alloc);
     for partition in partitions {
         push_unless(&mut row, others, *partition)?;
     }
@@ -61,7 +61,7 @@ pub fn without(
 
 /// Adds a partition to a row, unless it is in a list.
 fn push_unless(
-    row: &mut Row<PartitionId>,
+    row: &mut Items<PartitionId>,
     others: &[PartitionId],
     partition: PartitionId,
 ) -> Result<(), AllocError>

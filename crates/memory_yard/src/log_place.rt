@@ -20,7 +20,7 @@ use segment_meta::Note;
 use std::alloc::{AllocError, Global};
 use std::marker::Model;
 use std::mem;
-use tier_base::{Row, Trouble};
+use tier_base::{Items, Trouble};
 
 /// A log, or its disk alone.
 #[derive(Drop)]
@@ -149,7 +149,7 @@ fn has_notes(alloc: Global, disk: MemoryDisk) -> (LogPlace, Result<bool, AllocEr
 }
 
 /// Whether a read that can't fail found metadata events.
-fn are_some(found: Result<Row<Note>, Trouble>) -> Result<bool, AllocError>
+fn are_some(found: Result<Items<Note>, Trouble>) -> Result<bool, AllocError>
     requires { fate_of found ≢ Fault }
     ensures answer { IfOk result (λ answer. IfOk found (λ notes. IsTrue answer ↔ (notes ≢ []))) }
     ensures went { OnOk result (fate_of found ≡ Went) }

@@ -10,7 +10,7 @@ use meta_log::MetaLog;
 use meta_log_file::DiskLog;
 use segment_meta::Note;
 use std::marker::Model;
-use tier_base::{Row, Trouble};
+use tier_base::{Items, Trouble};
 
 /// A metadata log over a disk in memory.
 #[derive(Drop)]
@@ -36,7 +36,7 @@ impl MetaLog for MemoryNotes {
         self.log.append(note)
     }
 
-    fn read(&mut self, at: u64) -> Result<Row<Note>, Trouble> {
+    fn read(&mut self, at: u64) -> Result<Items<Note>, Trouble> {
         self.log.read(at)
     }
 

@@ -26,7 +26,7 @@ use disk_model::{Disk, MemoryDisk};
 use meta_log_file::DiskLog;
 use object_store::MemoryStore;
 use std::alloc::{AllocError, Global};
-use tier_base::{Blob, BrokerId, PartitionId, Row, Trouble};
+use tier_base::{Blob, BrokerId, PartitionId, Items, Trouble};
 
 /// An environment whose devices are in memory. A device that came back is provided with what it held, and an empty one
 /// where none did; the devices' own calls can't fail, but by a fuse. Beside the names of its partitions it has those of
@@ -217,7 +217,7 @@ impl MemoryYard {
     }
 
     /// Counts a call that finds the partitions in use.
-    fn find_partitions(&mut self) -> Result<Row<PartitionId>, Trouble>
+    fn find_partitions(&mut self) -> Result<Items<PartitionId>, Trouble>
         ensures fails { (fate_of result ≡ Fault) ↔ Contains self.old.plan.failing (next_of (plan_of self.old.plan)) }
         ensures plan { self.new.plan ≡ record self.old.plan { calls = next_of (plan_of self.old.plan) } }
         ensures counts { self.new.counts ≡ self.old.counts }
@@ -244,7 +244,7 @@ impl MemoryYard {
     }
 
     /// The partitions that have an object or a metadata event, and no registry.
-    fn bare(&mut self) -> Result<Row<PartitionId>, AllocError>
+    fn bare(&mut self) -> Result<Items<PartitionId>, AllocError>
         ensures plan { self.new.plan ≡ self.old.plan }
         ensures counts { self.new.counts ≡ self.old.counts }
         ensures held { SameYardContent (⟦<MemoryYard as Yard>⟧.held self.old) (⟦<MemoryYard as Yard>⟧.held self.new) }
@@ -256,7 +256,7 @@ impl MemoryYard {
     }
 
     /// The partitions that have an object or a metadata event.
-    fn tiers(&mut self) -> Result<Row<PartitionId>, AllocError>
+    fn tiers(&mut self) -> Result<Items<PartitionId>, AllocError>
         ensures plan { self.new.plan ≡ self.old.plan }
         ensures counts { self.new.counts ≡ self.old.counts }
         ensures held { SameYardContent (⟦<MemoryYard as Yard>⟧.held self.old) (⟦<MemoryYard as Yard>⟧.held self.new) }
@@ -270,7 +270,7 @@ impl MemoryYard {
     }
 
     /// The partitions that have a registry's file.
-    fn kept(&mut self) -> Result<Row<PartitionId>, AllocError>
+    fn kept(&mut self) -> Result<Items<PartitionId>, AllocError>
         ensures plan { self.new.plan ≡ self.old.plan }
         ensures counts { self.new.counts ≡ self.old.counts }
         ensures held { SameYardContent (⟦<MemoryYard as Yard>⟧.held self.old) (⟦<MemoryYard as Yard>⟧.held self.new) }
@@ -286,7 +286,7 @@ impl MemoryYard {
     }
 
     /// The partitions in use.
-    fn used(&mut self) -> Result<Row<PartitionId>, AllocError>
+    fn used(&mut self) -> Result<Items<PartitionId>, AllocError>
         ensures plan { self.new.plan ≡ self.old.plan }
         ensures counts { self.new.counts ≡ self.old.counts }
         ensures held { SameYardContent (⟦<MemoryYard as Yard>⟧.held self.old) (⟦<MemoryYard as Yard>⟧.held self.new) }
@@ -319,7 +319,7 @@ impl Yard for MemoryYard {
         self.counts.name(found)
     }
 
-    fn partitions(&mut self) -> Result<Row<PartitionId>, Trouble> {
+    fn partitions(&mut self) -> Result<Items<PartitionId>, Trouble> {
         let found = self.find_partitions();
         self.counts.ask(found)
     }

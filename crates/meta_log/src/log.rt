@@ -11,7 +11,7 @@ ghost use Rattle.meta_log.specs.Call.{call_code};
 ghost use Rattle.meta_log.specs.Content.{Content, AreNotes, LeavesTold, AppendsNote, Keeps};
 
 use segment_meta::Note;
-use tier_base::{Row, Trouble};
+use tier_base::{Items, Trouble};
 
 /// The metadata events of a partition's remote segments, in order. After an `append` that returns `Failed` its event
 /// is at the end or nowhere, all earlier ones stay, and any call may follow.
@@ -33,7 +33,7 @@ pub trait MetaLog: Drop {
 
     /// Returns the events from a position on, none if the log ends there or before. After that a power cut leaves
     /// exactly the events that the log has.
-    fn read(&mut self, at: u64) -> Result<Row<Note>, Trouble>
+    fn read(&mut self, at: u64) -> Result<Items<Note>, Trouble>
         ensures control { RanQuietly Read (fate_of result) (control self.old) (control self.new) }
         ensures content { Keeps (content self.old) (content self.new) }
         ensures left { IsTrue (content self.old).is_observable → OnOk result (LeavesTold (content self.new)) }

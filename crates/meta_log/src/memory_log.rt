@@ -16,7 +16,7 @@ use crate::log::MetaLog;
 use crate::notes::Notes;
 use segment_meta::Note;
 use std::alloc::Global;
-use tier_base::{FaultPlan, Row, Trouble, give};
+use tier_base::{FaultPlan, Items, Trouble, give};
 
 /// A metadata log in memory.
 #[derive(Drop)]
@@ -87,7 +87,7 @@ impl MetaLog for MemoryLog {
         give(self.faults.note(MetaCall::Append, ending), at)
     }
 
-    fn read(&mut self, at: u64) -> Result<Row<Note>, Trouble> {
+    fn read(&mut self, at: u64) -> Result<Items<Note>, Trouble> {
         let ending = self.faults.ending(MetaCall::Read);
         let notes = self.notes.read(at as usize)?;
         give(self.faults.note(MetaCall::Read, ending), notes)

@@ -8,7 +8,7 @@ use crate::copying::copied;
 use segment_meta::Note;
 use std::alloc::{AllocError, Global};
 use std::marker::Model;
-use tier_base::Row;
+use tier_base::Items;
 
 /// Events, the oldest first.
 #[derive(Drop)]
@@ -67,7 +67,7 @@ impl Notes {
     }
 
     /// Copies the events from a place on.
-    pub fn read(&self, at: usize) -> Result<Row<Note>, AllocError>
+    pub fn read(&self, at: usize) -> Result<Items<Note>, AllocError>
         ensures notes { IfOk result (λ notes. notes ≡ drop at self.now) }
         ensures rules { IfOk result AreNotes }
     {
@@ -76,11 +76,11 @@ impl Notes {
     }
 }
 
-fn copied_all(alloc: Global, notes: &[Note]) -> Result<Row<Note>, AllocError>
+fn copied_all(alloc: Global, notes: &[Note]) -> Result<Items<Note>, AllocError>
     requires { AreNotes notes.now }
     ensures { IfOk result (λ copies. copies ≡ notes.now) }
 {
-    let mut copies = Row::new(alloc);
+    let mut copies = Items::new(alloc);
     for note in notes {
         copies.push(copied(alloc, note)?)?;
     }

@@ -28,7 +28,7 @@ use meta_log::{MetaCall, MetaLog};
 use segment_meta::Note;
 use std::alloc::Global;
 use std::marker::Model;
-use tier_base::{Row, Trouble};
+use tier_base::{Items, Trouble};
 
 /// A metadata log over a disk, which has no other files of its names. No call of it is planned to fail. A call fails
 /// only where the disk fails, or returns what is invalid.
@@ -174,7 +174,7 @@ impl<D: Disk> MetaLog for DiskLog<D> {
         self.tally.note_any(MetaCall::Append, outcome)
     }
 
-    fn read(&mut self, at: u64) -> Result<Row<Note>, Trouble>
+    fn read(&mut self, at: u64) -> Result<Items<Note>, Trouble>
         ensures control { RanQuietly Read (fate_of result)
             (⟦<DiskLog<D> as MetaLog>⟧.control self.old) (⟦<DiskLog<D> as MetaLog>⟧.control self.new) }
         ensures content { Keeps (⟦<DiskLog<D> as MetaLog>⟧.content self.old)

@@ -20,7 +20,7 @@ use bytes::Bytes;
 use disk_model::{Disk, FileName};
 use segment_meta::Note;
 use std::alloc::{AllocError, Global};
-use tier_base::{Row, Trouble};
+use tier_base::{Items, Trouble};
 
 /// Gives the events from a number on.
 pub fn read<D: Disk>(
@@ -28,7 +28,7 @@ pub fn read<D: Disk>(
     disk: &mut D,
     marks: &mut Marks,
     from: u64,
-) -> Result<Row<Note>, Trouble>
+) -> Result<Items<Note>, Trouble>
     requires { HasNotes (D.content disk.old) marks.old.ends.items marks.old.tail }
     ensures has { HasNotes (D.content disk.new) marks.new.ends.items marks.new.tail }
     ensures sure { OnOk result (IsSure marks.new.tail) }
@@ -50,7 +50,7 @@ pub fn read<D: Disk>(
     settle(disk, marks)?;
     let many = marks.ends.len();
     if from >= many as u64 {
-        return Ok(Row::new(alloc));
+        return Ok(Items::new(alloc));
     }
     read_from(alloc, disk, marks, from as usize)
 }
@@ -61,7 +61,7 @@ fn read_from<D: Disk>(
     disk: &mut D,
     marks: &Marks,
     from: usize,
-) -> Result<Row<Note>, Trouble>
+) -> Result<Items<Note>, Trouble>
     requires within { from ≤ length marks.now.ends.items }
     requires has { HasNotes (D.content disk.old) marks.now.ends.items marks.now.tail }
     requires sure { IsSure marks.now.tail }
@@ -92,7 +92,7 @@ fn notes_of_file(
     alloc: Global,
     file: &Option<Bytes>,
     size: u64,
-) -> Result<Option<Row<Note>>, AllocError>
+) -> Result<Option<Items<Note>>, AllocError>
     ensures { IfOk result (λ notes. ReadsSpan size (bytes_in file.now) notes) }
 {
     match file {
@@ -102,7 +102,7 @@ fn notes_of_file(
 }
 
 /// The events that bytes are, if they have this size and are such.
-fn span(alloc: Global, bytes: &[u8], size: u64) -> Result<Option<Row<Note>>, AllocError>
+fn span(alloc: Global, bytes: &[u8], size: u64) -> Result<Option<Items<Note>>, AllocError>
     ensures { IfOk result (λ notes. ReadsSpan size bytes.now notes) }
 {
     if bytes.len() as u64 != size {

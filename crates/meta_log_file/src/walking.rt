@@ -8,13 +8,13 @@ use crate::framing::first;
 use crate::refusal::NotesRefusal;
 use segment_meta::Note;
 use std::alloc::{AllocError, Global};
-use tier_base::Row;
+use tier_base::Items;
 
 /// The events that bytes are, if they are such.
-pub fn notes_in(alloc: Global, bytes: &[u8]) -> Result<Option<Row<Note>>, AllocError>
+pub fn notes_in(alloc: Global, bytes: &[u8]) -> Result<Option<Items<Note>>, AllocError>
     ensures { IfOk result (λ notes. ReadsAll bytes.now notes) }
 {
-    let mut notes = Row::new(alloc);
+    let mut notes = Items::new(alloc);
     let mut rest = bytes;
     while !rest.is_empty() {
         let Some((note, behind)) = first(alloc, rest)? else {

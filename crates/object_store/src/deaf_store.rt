@@ -14,7 +14,7 @@ use crate::handing::{end_get, part};
 use crate::store::Store;
 use bytes::Bytes;
 use std::alloc::{AllocError, Global};
-use tier_base::{Failed, FaultPlan, ObjectKey, Row, Trouble, give};
+use tier_base::{Failed, FaultPlan, ObjectKey, Items, Trouble, give};
 
 /// A store that isn't observable.
 #[derive(Drop)]
@@ -68,7 +68,7 @@ impl Store for DeafStore {
         self.faults.note(StoreCall::Delete, ending)
     }
 
-    fn keys(&mut self) -> Result<Row<ObjectKey>, Trouble> {
+    fn keys(&mut self) -> Result<Items<ObjectKey>, Trouble> {
         let ending = self.faults.ending(StoreCall::Keys);
         let keys = keys_of(self.alloc, &self.objects)?;
         give(self.faults.note(StoreCall::Keys, ending), keys)
@@ -139,8 +139,8 @@ fn share_part(
 }
 
 /// Names the objects.
-fn keys_of(alloc: Global, objects: &[(ObjectKey, Bytes)]) -> Result<Row<ObjectKey>, AllocError> {
-    let mut keys = Row::new(alloc);
+fn keys_of(alloc: Global, objects: &[(ObjectKey, Bytes)]) -> Result<Items<ObjectKey>, AllocError> {
+    let mut keys = Items::new(alloc);
     for object in objects {
         keys.push(object.0)?;
     }

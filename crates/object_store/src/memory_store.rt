@@ -18,7 +18,7 @@ use crate::shelf::Shelf;
 use crate::store::Store;
 use bytes::Bytes;
 use std::alloc::Global;
-use tier_base::{Failed, FaultPlan, ObjectKey, Row, Trouble, give};
+use tier_base::{Failed, FaultPlan, ObjectKey, Items, Trouble, give};
 
 /// A store in memory.
 #[derive(Drop)]
@@ -108,7 +108,7 @@ impl Store for MemoryStore {
         self.faults.note(StoreCall::Delete, ending)
     }
 
-    fn keys(&mut self) -> Result<Row<ObjectKey>, Trouble> {
+    fn keys(&mut self) -> Result<Items<ObjectKey>, Trouble> {
         let ending = self.faults.ending(StoreCall::Keys);
         let keys = self.shelf.keys(self.alloc)?;
         give(self.faults.note(StoreCall::Keys, ending), keys)

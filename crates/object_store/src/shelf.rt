@@ -12,7 +12,7 @@ use crate::slot::{Slot, key_at, slot_of};
 use bytes::Bytes;
 use std::alloc::{AllocError, Global};
 use std::collections::BTreeMap;
-use tier_base::{ObjectKey, Row};
+use tier_base::{ObjectKey, Items};
 
 /// The objects.
 #[derive(Drop)]
@@ -81,18 +81,18 @@ impl Shelf {
     }
 
     /// Names the objects.
-    pub fn keys(&self, alloc: Global) -> Result<Row<ObjectKey>, AllocError>
+    pub fn keys(&self, alloc: Global) -> Result<Items<ObjectKey>, AllocError>
         ensures { IfOk result (λ keys. NamesAllHeld (objects_on self.now) keys) }
     {
         self.in_order(alloc)
     }
 
     /// Names the objects in the order of their slots.
-    fn in_order(&self, alloc: Global) -> Result<Row<ObjectKey>, AllocError>
+    fn in_order(&self, alloc: Global) -> Result<Items<ObjectKey>, AllocError>
         ensures keys { IfOk result (λ keys. keys ≡ keys_on self.now) }
         ensures sorted { OnOk result (IsStrictlySortedBy slot_cmp (keys self.now.objects)) }
     {
-        let mut keys = Row::new(alloc);
+        let mut keys = Items::new(alloc);
         for slot in self.objects.keys() {
             keys.push(key_at(slot))?;
         }

@@ -11,7 +11,7 @@ ghost use Rattle.tier_base.specs.Told.{NamesAllHeld, replaced, removed, last_rea
 ghost use Rattle.object_store.specs.Content.{Content, Changes, Keeps};
 
 use bytes::Bytes;
-use tier_base::{Failed, ObjectKey, Row, Trouble};
+use tier_base::{Failed, ObjectKey, Items, Trouble};
 
 /// The objects of a partition's remote segments, by key. After `Failed` the call's object is as before or as if the
 /// call was done, the others are as before, and any call may follow.
@@ -56,7 +56,7 @@ pub trait Store: Drop {
             (content self.old) (content self.new) };
 
     /// Lists the keys of the objects.
-    fn keys(&mut self) -> Result<Row<ObjectKey>, Trouble>
+    fn keys(&mut self) -> Result<Items<ObjectKey>, Trouble>
         ensures control { RanQuietly Keys (fate_of result) (control self.old) (control self.new) }
         ensures content { Keeps (content self.old) (content self.new) }
         ensures keys { IsTrue (content self.old).is_observable

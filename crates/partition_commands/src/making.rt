@@ -21,7 +21,7 @@ use disk_model::Disk;
 use local_log::CreateRefusal;
 use plain_log::{Registry, Role};
 use std::alloc::{AllocError, Global};
-use tier_base::{Row, Settings, Trouble};
+use tier_base::{Items, Settings, Trouble};
 
 /// A broker that is up and has joined epoch 0, with an empty log.
 fn follower<D: Disk>(
@@ -171,7 +171,7 @@ fn set_down<D: Disk>(
 }
 
 /// Puts the plans of the brokers' disks in force.
-fn arm<D: Disk>(nodes: &mut Row<Node<D>>)
+fn arm<D: Disk>(nodes: &mut Items<Node<D>>)
     ensures nodes { (disks : List D) → AreFreshDisks D.content D.control disks
         → AreMadeFrom D.control true disks nodes.old
         → AreFreshFrom D.control true disks nodes.new }
@@ -232,7 +232,7 @@ impl<D: Disk> PartitionState<D> {
             return Err(WorldRefusal::NoMemory);
         };
         let nodes = brokers(alloc, disks, settings)?;
-        let mut nodes = Row::from_vec(nodes);
+        let mut nodes = Items::from_vec(nodes);
         arm(&mut nodes);
         Ok(PartitionState {
             registry,
@@ -262,7 +262,7 @@ impl<D: Disk> PartitionState<D> {
     {
         let mut nodes = Vec::with_capacity(alloc, disks.len())?;
         set_down(alloc, disks, settings, &mut nodes);
-        let mut nodes = Row::from_vec(nodes);
+        let mut nodes = Items::from_vec(nodes);
         arm(&mut nodes);
         Ok(PartitionState {
             registry,

@@ -20,7 +20,7 @@ use laws_partition::{LocalStart, StartSnapshot, Taken, Turned};
 use plain_log::{Answer, Command, Order, Registry, Role};
 use record_batch::Checked;
 use std::alloc::{AllocError, Global};
-use tier_base::{Row, Settings};
+use tier_base::{Items, Settings};
 
 /// A broker over a disk, which is up as long as its log is open.
 #[derive(Drop)]
@@ -39,7 +39,7 @@ pub struct Node<D: Disk> {
 #[derive(Drop)]
 pub struct PartitionState<D: Disk> {
     pub registry: Registry,
-    pub nodes: Row<Node<D>>,
+    pub nodes: Items<Node<D>>,
     pub clock: i64,
     pub copying: bool,
     pub packed: bool,

@@ -2,7 +2,7 @@
 use Rattle.std.specs.Prelude.{◌≡◌, ◌≤◌, List, [], None, replicate, length, IsTrue}
 use Rattle.tier_base.specs.declared.names.PartitionId.{PartitionId}
 use Rattle.tier_base.specs.declared.object_key.ObjectKey.{ObjectKey}
-use Rattle.tier_base.specs.Roll.{Rolled}
+use Rattle.tier_base.specs.Reserved.{ReservedItems}
 use Rattle.disk_model.specs.declared.disk.Disk.{Ghosts as DiskGhosts}
 use Rattle.object_store.specs.declared.store.Store.{Ghosts as StoreGhosts}
 use Rattle.object_store.specs.Content as store
@@ -25,7 +25,7 @@ abbrev pub fresh_actor_state : ActorState
 fresh_actor_state = record { number = 0; in_progress = Idle }
 
 -- an empty journal with room for all entries of the lists, and an actor's state at the front of each list
-pub record AreFreshBooks (lists : List ActorList) (journal : Rolled JournalEntry)
+pub record AreFreshBooks (lists : List ActorList) (journal : ReservedItems JournalEntry)
     (desk : List ActorState) : Type 0 where
   pub empty : journal.items ≡ []
   pub room : entries_left lists [] ≤ journal.room

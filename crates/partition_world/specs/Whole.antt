@@ -1,7 +1,7 @@
 -- A world as contracts see it.
 use Rattle.std.specs.Prelude.{List}
 use Rattle.tier_base.specs.declared.names.PartitionId.{PartitionId}
-use Rattle.tier_base.specs.Roll.{Rolled}
+use Rattle.tier_base.specs.Reserved.{ReservedItems}
 use Rattle.plain_log.specs.declared.command.ActorList.{ActorList}
 use Rattle.plain_log.specs.declared.command.Config.{Config}
 use Rattle.plain_log.specs.declared.journal.JournalEntry.{JournalEntry}
@@ -20,7 +20,7 @@ pub record Whole (D S M : Type 0) : Type 0 where
   pub partition_state : PartitionState D
   pub tier : RemoteTier S M
   pub desk : List ActorState
-  pub journal : Rolled JournalEntry
+  pub journal : ReservedItems JournalEntry
 
 -- the world with its partition as it is seen, without the remote tier
 abbrev pub seen_as : {D S M : Type 0} → Whole D S M → seen.SeenPartition → seen_whole.Whole

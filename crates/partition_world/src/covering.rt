@@ -15,7 +15,7 @@ use remote_view::View;
 use retention_rule::local_due;
 use segment_file::Growing;
 use std::alloc::{AllocError, Global};
-use tier_base::{Item, Keep, Row};
+use tier_base::{Item, Keep, Items};
 
 /// Whether pieces of remote segments reach up to a top, one after another, from a place on.
 fn reaches(view: &View, line: &Line, log_end: u64, at: u64, top: u64) -> bool
@@ -39,10 +39,10 @@ fn reaches(view: &View, line: &Line, log_end: u64, at: u64, top: u64) -> bool
 }
 
 /// What retention asks about closed segments.
-fn items(alloc: Global, closed: &[Growing]) -> Result<Row<Item>, AllocError>
+fn items(alloc: Global, closed: &[Growing]) -> Result<Items<Item>, AllocError>
     ensures { IfOk result (λ items. items ≡ map item_of closed.now) }
 {
-    let mut items = Row::new(alloc);
+    let mut items = Items::new(alloc);
     for segment in closed {
         items.push(Item {
             // One without batches may end at 0.

@@ -17,7 +17,7 @@ use laws_partition::{StartSnapshot, Stepped};
 use plain_log::{ActorList, Command, Event, Journal, JournalEntry};
 use rebuild_task::RebuildStep as Rebuild;
 use std::alloc::{AllocError, Global};
-use tier_base::{ActorId, Row};
+use tier_base::{ActorId, Items};
 use tier_fetch::FetchStep as Search;
 use time_find::SearchStep as Dating;
 
@@ -47,10 +47,10 @@ pub(crate) fn count_entries(lists: &[ActorList]) -> usize
 }
 
 /// Makes a desk where no list has begun.
-pub(crate) fn fresh_desk(alloc: Global, count: usize) -> Result<Row<ActorState>, AllocError>
+pub(crate) fn fresh_desk(alloc: Global, count: usize) -> Result<Items<ActorState>, AllocError>
     ensures { IfOk result (λ desk. desk ≡ replicate count fresh_actor_state) }
 {
-    let mut desk = Row::new(alloc);
+    let mut desk = Items::new(alloc);
     for _i in 0..count {
         desk.push(ActorState {
             number: 0,
@@ -62,7 +62,7 @@ pub(crate) fn fresh_desk(alloc: Global, count: usize) -> Result<Row<ActorState>,
 
 /// Puts what is in progress at an actor's state.
 pub(crate) fn set_actor_state(
-    desk: &mut Row<ActorState>,
+    desk: &mut Items<ActorState>,
     place: usize,
     number: u32,
     in_progress: InProgress,
@@ -80,7 +80,7 @@ pub(crate) fn set_actor_state(
 }
 
 /// Takes what is at an actor's state.
-pub(crate) fn take_actor_state(desk: &mut Row<ActorState>, place: usize) -> ActorState
+pub(crate) fn take_actor_state(desk: &mut Items<ActorState>, place: usize) -> ActorState
     requires { place < length desk.old }
     ensures actor_state { slice_get desk.old place ≡ Some result }
     ensures desk { desk.new ≡ slice_set desk.old place fresh_actor_state }
@@ -94,7 +94,7 @@ pub(crate) fn take_actor_state(desk: &mut Row<ActorState>, place: usize) -> Acto
 
 /// Makes a copy continue with the segment that it has chosen.
 #[tactic(auto, using(crate::proofs::BrokerTierStates::set_twice))]
-fn choose_at(desk: &mut Row<ActorState>, place: usize, copying: Copying)
+fn choose_at(desk: &mut Items<ActorState>, place: usize, copying: Copying)
     requires { place < length desk.old }
     ensures { IsSomeAnd (slice_get desk.old place) (λ actor_state. desk.new
         ≡ slice_set desk.old place (actor_state_after actor_state (Chose copying))) }
@@ -107,7 +107,7 @@ fn choose_at(desk: &mut Row<ActorState>, place: usize, copying: Copying)
 
 /// Makes a copy continue with a turn.
 #[tactic(auto, using(crate::proofs::BrokerTierStates::set_twice))]
-fn move_at(desk: &mut Row<ActorState>, place: usize, next: CopyStep)
+fn move_at(desk: &mut Items<ActorState>, place: usize, next: CopyStep)
     requires { place < length desk.old }
     ensures { IsSomeAnd (slice_get desk.old place)
         (λ actor_state. desk.new ≡ slice_set desk.old place (actor_state_after actor_state (Goes next))) }
@@ -120,7 +120,7 @@ fn move_at(desk: &mut Row<ActorState>, place: usize, next: CopyStep)
 
 /// Makes a fetch continue in the remote tier.
 #[tactic(auto, using(crate::proofs::BrokerTierStates::set_twice))]
-fn seek_at(desk: &mut Row<ActorState>, place: usize, next: Search)
+fn seek_at(desk: &mut Items<ActorState>, place: usize, next: Search)
     requires { place < length desk.old }
     ensures { IsSomeAnd (slice_get desk.old place)
         (λ actor_state. desk.new ≡ slice_set desk.old place (actor_state_after actor_state (Seeks next))) }
@@ -133,7 +133,7 @@ fn seek_at(desk: &mut Row<ActorState>, place: usize, next: Search)
 
 /// Lets a timestamp lookup continue.
 #[tactic(auto, using(crate::proofs::BrokerTierStates::set_twice))]
-fn date_at(desk: &mut Row<ActorState>, place: usize, cursor: u64, next: Dating)
+fn date_at(desk: &mut Items<ActorState>, place: usize, cursor: u64, next: Dating)
     requires { place < length desk.old }
     ensures { IsSomeAnd (slice_get desk.old place) (λ actor_state. desk.new
         ≡ slice_set desk.old place (actor_state_after actor_state (Dates cursor next))) }
@@ -146,7 +146,7 @@ fn date_at(desk: &mut Row<ActorState>, place: usize, cursor: u64, next: Dating)
 
 /// Makes an expiry continue with the remote segment that it has taken up.
 #[tactic(auto, using(crate::proofs::BrokerTierStates::set_twice))]
-fn doom_at(desk: &mut Row<ActorState>, place: usize, segment: ExpiredSegment)
+fn doom_at(desk: &mut Items<ActorState>, place: usize, segment: ExpiredSegment)
     requires { place < length desk.old }
     ensures { IsSomeAnd (slice_get desk.old place) (λ actor_state. desk.new
         ≡ slice_set desk.old place (actor_state_after actor_state (ChoosesExpired segment))) }
@@ -159,7 +159,7 @@ fn doom_at(desk: &mut Row<ActorState>, place: usize, segment: ExpiredSegment)
 
 /// Makes an expiry continue with a turn.
 #[tactic(auto, using(crate::proofs::BrokerTierStates::set_twice))]
-fn delete_at(desk: &mut Row<ActorState>, place: usize, next: Deletion)
+fn delete_at(desk: &mut Items<ActorState>, place: usize, next: Deletion)
     requires { place < length desk.old }
     ensures { IsSomeAnd (slice_get desk.old place)
         (λ actor_state. desk.new ≡ slice_set desk.old place (actor_state_after actor_state (Deletes next))) }
@@ -172,7 +172,7 @@ fn delete_at(desk: &mut Row<ActorState>, place: usize, next: Deletion)
 
 /// Makes a join continue that restarts its log.
 #[tactic(auto, using(crate::proofs::BrokerTierStates::set_twice))]
-fn rebuild_at(desk: &mut Row<ActorState>, place: usize, next: Rebuild)
+fn rebuild_at(desk: &mut Items<ActorState>, place: usize, next: Rebuild)
     requires { place < length desk.old }
     ensures { IsSomeAnd (slice_get desk.old place) (λ actor_state. desk.new
         ≡ slice_set desk.old place (actor_state_after actor_state (Rebuilds next))) }
@@ -196,7 +196,7 @@ fn cut_of(command: &Command, snapshot: &StartSnapshot) -> Option<u64>
 /// Enters what a turn came to into the journal and at the desk.
 pub(crate) fn enter(
     journal: &mut Journal,
-    desk: &mut Row<ActorState>,
+    desk: &mut Items<ActorState>,
     place: usize,
     actor: ActorId,
     command: &Command,

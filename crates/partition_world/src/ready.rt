@@ -31,7 +31,7 @@ use record_batch::Checked;
 use segment_bundle::Bundle;
 use segment_file::Closed;
 use std::alloc::{AllocError, Global};
-use tier_base::{PartitionId, Row};
+use tier_base::{PartitionId, Items};
 
 /// What an actor's next turn would have made ready.
 #[derive(Drop)]
@@ -141,7 +141,7 @@ impl<S: Store, M: MetaLog> RemoteTier<S, M> {
         partition: PartitionId,
         config: Config,
         order: &Order,
-        desk: &mut Row<ActorState>,
+        desk: &mut Items<ActorState>,
         place: usize,
         ready: Ready,
         partition_state: &mut PartitionState<D>,

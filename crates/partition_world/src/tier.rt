@@ -9,7 +9,7 @@ use index_cache::IndexCache;
 use meta_log::MetaLog;
 use object_store::Store;
 use remote_view::View;
-use tier_base::{Row, Trouble};
+use tier_base::{Items, Trouble};
 use view_refresh::refresh;
 
 /// What a broker knows of the remote tier. It outlives the broker's stops.
@@ -30,7 +30,7 @@ pub struct BrokerTierState {
 pub struct RemoteTier<S: Store, M: MetaLog> {
     pub store: S,
     pub meta: M,
-    pub broker_tiers: Row<BrokerTierState>,
+    pub broker_tiers: Items<BrokerTierState>,
 }
 
 /// The devices of a partition: a disk for each broker, in their order, the remote store, and the remote log metadata.

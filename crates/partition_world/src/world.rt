@@ -38,7 +38,7 @@ use plain_log::{ActorList, Config, Journal, Registry};
 use remote_view::View;
 use std::alloc::{AllocError, Global};
 use std::marker::Model;
-use tier_base::{ActorId, PartitionId, Row};
+use tier_base::{ActorId, PartitionId, Items};
 
 /// How many remote segments' indexes a broker keeps.
 const INDEXES: usize = 64;
@@ -48,10 +48,10 @@ const INDEXES: usize = 64;
 pub struct World<D: Disk, S: Store, M: MetaLog> {
     partition: PartitionId,
     config: Config,
-    lists: Row<ActorList>,
+    lists: Items<ActorList>,
     partition_state: PartitionState<D>,
     tier: RemoteTier<S, M>,
-    desk: Row<ActorState>,
+    desk: Items<ActorState>,
     journal: Journal,
     /// Room for the disks, which the brokers have until the world is closed.
     room: Vec<D>,
@@ -86,7 +86,7 @@ impl<D: Disk, S: Store, M: MetaLog> World<D, S, M> {
         alloc: Global,
         partition: PartitionId,
         config: Config,
-        lists: Row<ActorList>,
+        lists: Items<ActorList>,
         devices: Devices<D, S, M>,
     ) -> Result<World<D, S, M>, (Devices<D, S, M>, WorldRefusal)>
         requires brokers { IsConfig config }
@@ -119,7 +119,7 @@ impl<D: Disk, S: Store, M: MetaLog> World<D, S, M> {
         alloc: Global,
         partition: PartitionId,
         config: Config,
-        lists: Row<ActorList>,
+        lists: Items<ActorList>,
         devices: Devices<D, S, M>,
     ) -> Result<World<D, S, M>, (Devices<D, S, M>, WorldRefusal)>
         requires brokers { IsConfig config }
@@ -175,7 +175,7 @@ impl<D: Disk, S: Store, M: MetaLog> World<D, S, M> {
         alloc: Global,
         partition: PartitionId,
         config: Config,
-        lists: Row<ActorList>,
+        lists: Items<ActorList>,
         devices: Devices<D, S, M>,
         registry: Registry,
     ) -> Result<World<D, S, M>, (Devices<D, S, M>, AllocError)>
@@ -205,7 +205,7 @@ impl<D: Disk, S: Store, M: MetaLog> World<D, S, M> {
         alloc: Global,
         partition: PartitionId,
         config: Config,
-        lists: Row<ActorList>,
+        lists: Items<ActorList>,
         devices: Devices<D, S, M>,
         registry: Registry,
     ) -> Result<World<D, S, M>, (Devices<D, S, M>, AllocError)>
@@ -410,7 +410,7 @@ impl<D: Disk, S: Store, M: MetaLog> World<D, S, M> {
 }
 
 /// Makes an empty journal with room for all entries, and a desk where no list has begun.
-fn fresh_books(alloc: Global, lists: &[ActorList]) -> Result<(Journal, Row<ActorState>), AllocError>
+fn fresh_books(alloc: Global, lists: &[ActorList]) -> Result<(Journal, Items<ActorState>), AllocError>
     requires few { entries_left lists.now [] < 2 ^ 64 }
     ensures { IfOk result (λ books. AreFreshBooks lists.now books.0 books.1) }
 {
@@ -421,10 +421,10 @@ fn fresh_books(alloc: Global, lists: &[ActorList]) -> Result<(Journal, Row<Actor
 }
 
 /// Makes the tier states of so many brokers, which know of no remote segment.
-fn fresh_broker_tiers(alloc: Global, count: u16) -> Result<Row<BrokerTierState>, AllocError>
+fn fresh_broker_tiers(alloc: Global, count: u16) -> Result<Items<BrokerTierState>, AllocError>
     ensures { IfOk result (λ broker_tiers. broker_tiers ≡ replicate count fresh_broker_tier) }
 {
-    let mut broker_tiers = Row::new(alloc);
+    let mut broker_tiers = Items::new(alloc);
     for _i in 0..count {
         broker_tiers.push(BrokerTierState {
             view: View::new(alloc),

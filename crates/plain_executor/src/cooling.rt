@@ -5,7 +5,7 @@ ghost use Rattle.cold_state.specs.Cold.{cold_broker, cold_of};
 
 use plain_log::{Broker, Role, State};
 use std::alloc::Global;
-use tier_base::Row;
+use tier_base::Items;
 
 /// Takes a broker down as if it had never stopped.
 fn take_down(x: &mut Broker)
@@ -18,7 +18,7 @@ fn take_down(x: &mut Broker)
 }
 
 /// Takes all of them down.
-fn take_all_down(brokers: &mut Row<Broker>)
+fn take_all_down(brokers: &mut Items<Broker>)
     ensures { brokers.new ≡ map cold_broker brokers.old }
 {
     for b in 0..brokers.len() {
@@ -31,5 +31,5 @@ pub(crate) fn cool(p: &mut State, alloc: Global)
     ensures { p.new ≡ cold_of p.old }
 {
     take_all_down(&mut p.brokers);
-    p.actors = Row::new(alloc);
+    p.actors = Items::new(alloc);
 }

@@ -6,7 +6,7 @@ ghost use Rattle.plain_log.specs.declared.state.Role.TheVariants as role;
 
 use plain_log::{Broker, Config, Path, Registry, Role, State};
 use std::alloc::{AllocError, Global};
-use tier_base::Row;
+use tier_base::Items;
 
 /// A broker that is up, with an empty log.
 fn broker(alloc: Global, role: Role) -> Broker
@@ -16,7 +16,7 @@ fn broker(alloc: Global, role: Role) -> Broker
         up: true,
         stops: 0,
         role,
-        log: Row::new(alloc),
+        log: Items::new(alloc),
         flushed_end: 0,
         loose: false,
         known_high_watermark: 0,
@@ -24,11 +24,11 @@ fn broker(alloc: Global, role: Role) -> Broker
 }
 
 /// The leader, and others that have joined it.
-fn brokers(alloc: Global, others: u16) -> Result<Row<Broker>, AllocError>
+fn brokers(alloc: Global, others: u16) -> Result<Items<Broker>, AllocError>
     ensures { IfOk result (λ brokers.
         brokers ≡ fresh_broker (role.Leads 0) ∷ replicate others (fresh_broker (role.Joined 0))) }
 {
-    let mut brokers = Row::new(alloc);
+    let mut brokers = Items::new(alloc);
     brokers.push(broker(alloc, Role::Leads(0)))?;
     for _ in 0..others {
         brokers.push(broker(alloc, Role::Joined(0)))?;
@@ -37,13 +37,13 @@ fn brokers(alloc: Global, others: u16) -> Result<Row<Broker>, AllocError>
 }
 
 /// The path of epoch 0, which has no batch.
-fn paths(alloc: Global) -> Result<Row<Path>, AllocError>
+fn paths(alloc: Global) -> Result<Items<Path>, AllocError>
     ensures { IfOk result (λ paths. paths ≡ record { epoch = 0; log = [] } ∷ []) }
 {
-    let mut paths = Row::new(alloc);
+    let mut paths = Items::new(alloc);
     paths.push(Path {
         epoch: 0,
-        log: Row::new(alloc),
+        log: Items::new(alloc),
     })?;
     Ok(paths)
 }
@@ -59,11 +59,11 @@ pub(crate) fn state(alloc: Global, config: &Config) -> Result<State, AllocError>
     let paths = paths(alloc)?;
     Ok(State {
         registry,
-        committed: Row::new(alloc),
+        committed: Items::new(alloc),
         paths,
-        broken: Row::new(alloc),
+        broken: Items::new(alloc),
         unclean: false,
         brokers,
-        actors: Row::new(alloc),
+        actors: Items::new(alloc),
     })
 }

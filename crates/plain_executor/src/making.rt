@@ -24,7 +24,7 @@ use bytes::Bytes;
 use plain_log::{Broker, Command, Path, Role, State};
 use record_batch::{BuildRefusal, Rec, build, stamp};
 use std::alloc::{AllocError, Global};
-use tier_base::{BrokerId, Row};
+use tier_base::{BrokerId, Items};
 
 /// Stops a broker.
 pub(crate) fn stop(x: &mut Broker)
@@ -80,7 +80,7 @@ fn find(paths: &[Path], epoch: u32) -> Option<usize>
 }
 
 /// Puts a batch at the end of the first path of this epoch, where there is one.
-fn lengthen(paths: &mut Row<Path>, epoch: u32, batch: Bytes) -> Result<(), AllocError>
+fn lengthen(paths: &mut Items<Path>, epoch: u32, batch: Bytes) -> Result<(), AllocError>
     ensures ok { OnOk result (paths.new ≡ longer paths.old epoch batch) }
     ensures err { OnErr result (paths.new ≡ paths.old) }
 {

@@ -21,7 +21,7 @@ use crate::deciding::decide;
 use plain_log::{Actor, Answer, Command, Event, JournalEntry, Order, PlainSnapshot, State, Which};
 use std::alloc::{AllocError, Global};
 use std::mem;
-use tier_base::{ActorId, Row};
+use tier_base::{ActorId, Items};
 
 /// Whether two questions for an offset are one.
 fn is_which(which: &Which, other: &Which) -> bool
@@ -144,19 +144,19 @@ fn commit(
         p.new ≡ with_actor id.0 actor (changed p.old order.now.broker.0 x s order.now.command change))) }
     ensures err { OnErr result (p.new ≡ p.old) }
 {
-    let mut actors = mem::replace(&mut p.actors, Row::new(alloc)).into_vec();
+    let mut actors = mem::replace(&mut p.actors, Items::new(alloc)).into_vec();
     if actors.reserve(id.0 as usize + 1).is_err() {
-        p.actors = Row::from_vec(actors);
+        p.actors = Items::from_vec(actors);
         return Err(AllocError);
     }
     match alter(p, alloc, order, change) {
         Ok(()) => {
             put_actor(&mut actors, id.0 as usize, actor);
-            p.actors = Row::from_vec(actors);
+            p.actors = Items::from_vec(actors);
             Ok(())
         }
         Err(_) => {
-            p.actors = Row::from_vec(actors);
+            p.actors = Items::from_vec(actors);
             Err(AllocError)
         }
     }

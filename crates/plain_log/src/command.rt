@@ -2,7 +2,7 @@
 
 use bytes::Bytes;
 use record_batch::Rec;
-use tier_base::{ActorId, BrokerId, Keep, Row, Settings};
+use tier_base::{ActorId, BrokerId, Keep, Items, Settings};
 
 /// What a partition is made with.
 #[derive(Clone, Copy, Debug, PartialEq, Eq)]
@@ -36,7 +36,7 @@ pub enum Which {
 #[derive(Debug, Drop)]
 pub enum Command {
     /// The leader appends the batch of these records.
-    Append(Row<Rec>),
+    Append(Items<Rec>),
     /// The leader appends these bytes, where they are a batch.
     Raw(Bytes),
     /// The broker makes its log flushed up to its end.
@@ -95,7 +95,7 @@ pub struct Order {
 #[derive(Debug, Drop)]
 pub struct ActorList {
     pub actor: ActorId,
-    pub orders: Row<Order>,
+    pub orders: Items<Order>,
 }
 
 /// How far a schedule steps an actor.

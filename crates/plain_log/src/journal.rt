@@ -1,7 +1,7 @@
 //! What happened to a partition: one entry for each command that began or was answered.
 
 use crate::answer::Answer;
-use tier_base::{ActorId, Roll};
+use tier_base::{ActorId, Reserved};
 
 /// What an entry says of its command.
 #[derive(Debug, Drop)]
@@ -22,4 +22,4 @@ pub struct JournalEntry {
 }
 
 /// The entries in the order in which they came.
-pub type Journal = Roll<JournalEntry>;
+pub type Journal = Reserved<JournalEntry>;

@@ -3,7 +3,7 @@
 use crate::command::Order;
 use registry::Registry;
 use shared_log::Batches;
-use tier_base::Row;
+use tier_base::Items;
 
 /// What a broker does, and in which leader epoch.
 #[derive(Clone, Copy, Debug, PartialEq, Eq)]
@@ -74,12 +74,12 @@ pub struct State {
     /// What is committed: the batches below the high watermark.
     pub committed: Batches,
     /// The paths of the epochs whose lead was taken.
-    pub paths: Row<Path>,
+    pub paths: Items<Path>,
     /// The epochs in which taking the lead broke off.
-    pub broken: Row<u32>,
+    pub broken: Items<u32>,
     /// An unclean election was answered with a new epoch.
     pub unclean: bool,
-    pub brokers: Row<Broker>,
+    pub brokers: Items<Broker>,
     /// The actors by their number; those past the end have not begun.
-    pub actors: Row<Actor>,
+    pub actors: Items<Actor>,
 }

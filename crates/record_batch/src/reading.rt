@@ -12,7 +12,7 @@ use crate::head::{HEAD_SIZE, Head, fields_of, u32_at};
 use crate::parts::{Front, blob, body_front, header, varint};
 use crate::rec::{Header, HeaderList, Rec};
 use std::alloc::{AllocError, Global};
-use tier_base::{Blob, Row};
+use tier_base::{Blob, Items};
 
 /// Why nothing was read.
 #[derive(Debug, Drop)]
@@ -57,7 +57,7 @@ fn header_of(alloc: Global, bytes: &[u8]) -> Result<(Header, &[u8]), ReadStop>
 fn headers_of(alloc: Global, count: u32, bytes: &[u8]) -> Result<(HeaderList, &[u8]), ReadStop>
     ensures { GivesView (λ x. headers_shown x.0 x.1.now) result (headers_at count bytes.now) }
 {
-    let mut headers = Row::new(alloc);
+    let mut headers = Items::new(alloc);
     let mut rest = bytes;
     for _ in 0..count {
         let (header, after) = header_of(alloc, rest)?;

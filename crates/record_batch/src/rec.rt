@@ -1,6 +1,6 @@
 //! A record, and the headers that it carries.
 
-use tier_base::{Blob, Row};
+use tier_base::{Blob, Items};
 
 /// A name and a value, which a producer adds to a record.
 #[derive(Debug, Drop)]
@@ -10,7 +10,7 @@ pub struct Header {
 }
 
 /// The headers of a record, in their order.
-pub type HeaderList = Row<Header>;
+pub type HeaderList = Items<Header>;
 
 /// A record: when it was made, and what it holds.
 #[derive(Debug, Drop)]

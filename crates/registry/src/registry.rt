@@ -8,7 +8,7 @@ ghost use Rattle.registry.specs.Calls.{after_elect, after_unclean, after_ack, af
 use crate::refusal::RegRefusal;
 use crate::replicas::{all_out, mark_over, reset};
 use std::alloc::{AllocError, Global};
-use tier_base::{BrokerId, Row};
+use tier_base::{BrokerId, Items};
 
 /// The greatest leader epoch: Kafka's is a signed number of 32 bits.
 const LAST_EPOCH: u32 = 2_147_483_647;
@@ -32,7 +32,7 @@ pub struct Registry {
     /// The log start offset.
     pub start: u64,
     /// The brokers in order, 8 at most.
-    pub replicas: Row<Replica>,
+    pub replicas: Items<Replica>,
 }
 
 impl Registry {
@@ -56,7 +56,7 @@ impl Registry {
         requires few { brokers ≤ 8 }
         ensures { IfOk result (λ registry. registry ≡ fresh_registry brokers) }
     {
-        let mut replicas = Row::new(alloc);
+        let mut replicas = Items::new(alloc);
         for _ in 0..brokers {
             replicas.push(Replica {
                 in_sync: true,

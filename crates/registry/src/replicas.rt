@@ -4,7 +4,7 @@ ghost use Rattle.std.specs.Prelude.{◌≡◌, Some, None, min, option_map, unwr
 ghost use Rattle.registry.specs.Replicas.{least_acked as least_of, mark_over as mark_of, renewed as renewed_with, reset_acks, all_out as all_outside};
 
 use crate::registry::Replica;
-use tier_base::Row;
+use tier_base::Items;
 
 /// The least acknowledged end of the replicas in sync.
 fn least_acked(replicas: &[Replica]) -> Option<u64>
@@ -54,7 +54,7 @@ fn renewed(replica: &Replica, mark: u64) -> Replica
 }
 
 /// Begins a new epoch: those in sync have acknowledged the high watermark, the others nothing.
-pub(crate) fn reset(replicas: &mut Row<Replica>, mark: u64)
+pub(crate) fn reset(replicas: &mut Items<Replica>, mark: u64)
     ensures { replicas.new ≡ reset_acks mark replicas.old }
 {
     for at in 0..replicas.len() {
@@ -64,7 +64,7 @@ pub(crate) fn reset(replicas: &mut Row<Replica>, mark: u64)
 }
 
 /// Takes every replica out of those in sync, and forgets what they acknowledged.
-pub(crate) fn all_out(replicas: &mut Row<Replica>)
+pub(crate) fn all_out(replicas: &mut Items<Replica>)
     ensures { replicas.new ≡ all_outside replicas.old }
 {
     for at in 0..replicas.len() {

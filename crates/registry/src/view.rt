@@ -5,7 +5,7 @@ ghost use Rattle.registry.specs.View.{has_bit as is_set, eight, sync_bits as bit
 
 use crate::registry::{Registry, Replica};
 use std::alloc::{AllocError, Global};
-use tier_base::{BrokerId, Row};
+use tier_base::{BrokerId, Items};
 
 /// What a registry holds. The module View of specs/ has its rules, which a file of it keeps.
 #[derive(Clone, Copy, Debug, PartialEq, Eq)]
@@ -95,7 +95,7 @@ impl Registry {
         ensures is { IfOk result (λ registry. registry ≡ registry_of view.now) }
         ensures count { IfOk result (λ registry. length registry.replicas ≡ view.now.brokers) }
     {
-        let mut replicas = Row::new(alloc);
+        let mut replicas = Items::new(alloc);
         for b in 0..view.brokers {
             replicas.push(replica(view, b))?;
         }

@@ -17,12 +17,12 @@ use crate::tread::Tread;
 use segment_meta::Entry;
 use std::alloc::{AllocError, Global};
 use std::marker::Model;
-use tier_base::{Row, SegmentId};
+use tier_base::{Items, SegmentId};
 
 /// A stair, and a range of offsets that all have a tread. Treads that were taken off its front stay in the list.
 #[derive(Drop)]
 pub(crate) struct EpochRanges {
-    treads: Row<Tread>,
+    treads: Items<Tread>,
     gone: usize,
     run: Span,
 }
@@ -80,7 +80,7 @@ impl EpochRanges {
         ensures { result ≡ [] }
     {
         EpochRanges {
-            treads: Row::new(alloc),
+            treads: Items::new(alloc),
             gone: 0,
             run: Span { from: 0, to: 0 },
         }
@@ -99,7 +99,7 @@ impl EpochRanges {
     {
         let treads = Vec::from_slice(alloc, self.treads())?;
         Ok(EpochRanges {
-            treads: Row::from_vec(treads),
+            treads: Items::from_vec(treads),
             gone: 0,
             run: self.run,
         })

@@ -17,7 +17,7 @@ use crate::spans::Span;
 use crate::tread::Tread;
 use segment_meta::Entry;
 use std::alloc::{AllocError, Global};
-use tier_base::{Row, SegmentId};
+use tier_base::{Items, SegmentId};
 
 /// Whether a tread ends at an offset, and is of a segment.
 fn joins(last: &Tread, from: u64, id: &SegmentId) -> bool
@@ -27,7 +27,7 @@ fn joins(last: &Tread, from: u64, id: &SegmentId) -> bool
 }
 
 /// Puts a range of a segment after a stair. One that is empty changes nothing.
-fn put(stair: &mut Row<Tread>, from: u64, to: u64, id: SegmentId) -> Result<(), AllocError>
+fn put(stair: &mut Items<Tread>, from: u64, to: u64, id: SegmentId) -> Result<(), AllocError>
     requires rises { RisesAlong stair.old }
     requires ends { EndsBy from stair.old }
     ensures { OnOk result (IsPut from to id stair.old stair.new) }
@@ -51,7 +51,7 @@ fn put(stair: &mut Row<Tread>, from: u64, to: u64, id: SegmentId) -> Result<(), 
 
 /// Puts a tread after a stair, with another segment in a range of it.
 fn put_split(
-    stair: &mut Row<Tread>,
+    stair: &mut Items<Tread>,
     tread: &Tread,
     span: Span,
     id: SegmentId,
@@ -83,12 +83,12 @@ pub(crate) fn lay(
     stair: &[Tread],
     entry: &Entry,
     span: Span,
-) -> Result<Row<Tread>, AllocError>
+) -> Result<Items<Tread>, AllocError>
     requires rises { RisesAlong stair.now }
     requires ordered { span.from ≤ span.to }
     ensures { IfOk result (λ laid. IsSegmentLaid known.now entry.now span stair.now laid) }
 {
-    let mut laid = Row::new(alloc);
+    let mut laid = Items::new(alloc);
     let mut at = 0;
     for tread in stair {
         let from = span.from.max(at).min(tread.from);

@@ -8,17 +8,17 @@ use crate::lookup::is_readable;
 use crate::tread::Tread;
 use segment_meta::Entry;
 use std::alloc::{AllocError, Global};
-use tier_base::{Row, SegmentId};
+use tier_base::{Items, SegmentId};
 
 /// The treads of other segments.
 pub(crate) fn lifted(
     alloc: Global,
     stair: &[Tread],
     id: &SegmentId,
-) -> Result<Row<Tread>, AllocError>
+) -> Result<Items<Tread>, AllocError>
     ensures { IfOk result (λ treads. treads ≡ filter (of_others id.now) stair.now) }
 {
-    let mut treads = Row::new(alloc);
+    let mut treads = Items::new(alloc);
     for tread in stair {
         if !is_same(&tread.id, id) {
             treads.push(*tread)?;

@@ -12,7 +12,7 @@ use crate::epoch_ranges::EpochRanges;
 use crate::tread::Tread;
 use std::alloc::{AllocError, Global};
 use std::collections::BTreeMap;
-use tier_base::{Row, SegmentId};
+use tier_base::{Items, SegmentId};
 
 /// An epoch's stair.
 #[derive(Drop)]
@@ -143,7 +143,7 @@ impl Stairs {
     }
 
     /// Replaces stairs for which there is room.
-    pub fn replace_all(&mut self, stairs: Row<Stair>)
+    pub fn replace_all(&mut self, stairs: Items<Stair>)
         requires { HaveRoom self.old stairs }
         ensures { (e : ℕ) → stair_on self.new e ≡ replaced stairs e (stair_on self.old e) }
     {

@@ -19,7 +19,7 @@ use crate::spans::span_of;
 use crate::stairs::{Stair, Stairs};
 use segment_meta::Entry;
 use std::alloc::{AllocError, Global};
-use tier_base::{Row, State};
+use tier_base::{Items, State};
 
 /// Lays an entry over a stair where it gives the stair's epoch.
 fn lay_in(
@@ -94,7 +94,7 @@ pub(crate) fn fresh(
     stairs: &mut Stairs,
     entry: &Entry,
     state: State,
-) -> Result<Row<Stair>, AllocError>
+) -> Result<Items<Stair>, AllocError>
     requires kept { AreEntriesValid known.now }
     requires distinct { AreDistinct known.now }
     requires stairs { (epoch : ℕ) → IsStair known.now epoch (stair_on stairs.old epoch) }
@@ -104,7 +104,7 @@ pub(crate) fn fresh(
     ensures ok { IfOk result (λ fresh. (broker : BrokerId) (event_ts : ℤ) (custom : Option (List ℕ))
         → AreFreshStairs (changed entry.now.id (updated broker event_ts state custom) known.now) stairs.new fresh) }
 {
-    let mut fresh = Row::new(alloc);
+    let mut fresh = Items::new(alloc);
     if !is_readable(entry.state) && !is_readable(state) {
         return Ok(fresh);
     }

@@ -18,14 +18,14 @@ use partition_world::{
 use plain_log::{ActorList, Config, fresh_is_safe, replays_keep_safe};
 use script_lang::{Fault, PartScript};
 use std::alloc::{AllocError, Global};
-use tier_base::{PartitionId, Row};
+use tier_base::{PartitionId, Items};
 
 /// Makes a partition's world, over empty devices in memory with these faults.
 pub fn fresh_world(
     alloc: Global,
     partition: PartitionId,
     config: Config,
-    lists: Row<ActorList>,
+    lists: Items<ActorList>,
     faults: &[Fault],
 ) -> Result<World<MemoryDisk, MemoryStore, MemoryLog>, AllocError>
     requires config { IsConfig config }

@@ -9,7 +9,7 @@ use crate::words::{Choice, Form, choice_of, command};
 use run_story::{Moment, Story, Tracked, tell_run};
 use std::alloc::{AllocError, Global};
 use std::{fs, io};
-use tier_base::Row;
+use tier_base::Items;
 
 /// The most bytes that a script may have.
 const SCRIPT_LIMIT: usize = 16_777_216;
@@ -114,7 +114,7 @@ fn add_run(
     choice: &Choice,
     run: usize,
     names: (&str, &str),
-    states: &mut Row<Tracked>,
+    states: &mut Items<Tracked>,
     drawn: &mut usize,
 ) -> io::Result<Option<u8>> {
     let Some(script) = text_of(rt, names.0)? else {
@@ -143,7 +143,7 @@ fn add_run(
 /// Draws all runs, and returns the status.
 fn draw(rt: &HostRuntime, choice: &Choice, names: &[&str]) -> io::Result<u8> {
     let mut out = String::new(rt.alloc());
-    let mut states = Row::new(rt.alloc());
+    let mut states = Items::new(rt.alloc());
     let mut drawn: usize = 0;
     if choice.form == Form::Page {
         push_head(&mut out)?;

@@ -2,7 +2,7 @@
 
 use crate::log_state::LogState;
 use crate::marks::Mark;
-use tier_base::{ActorId, BrokerId, Row};
+use tier_base::{ActorId, BrokerId, Items};
 
 /// An entry of a trace, and the partition after it.
 #[derive(Debug, Drop)]
@@ -19,5 +19,5 @@ pub struct Moment {
     pub log_start: u64,
     pub high_watermark: u64,
     /// The log of each broker.
-    pub logs: Row<LogState>,
+    pub logs: Items<LogState>,
 }

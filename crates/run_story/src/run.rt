@@ -17,7 +17,7 @@ use plain_log::{Config, JournalEntry};
 use script_lang::{PartScript, Script, ScriptRefusal, Why, parse};
 use std::alloc::{AllocError, Global};
 use thiserror::Error;
-use tier_base::{PartitionId, Row};
+use tier_base::{PartitionId, Items};
 use trace_text::{PartJournal, TraceRefusal, read};
 
 /// What happened to a partition in a run.
@@ -25,7 +25,7 @@ use trace_text::{PartJournal, TraceRefusal, read};
 pub struct Story {
     pub partition: PartitionId,
     /// One for each entry of the partition's journal, in order.
-    pub moments: Row<Moment>,
+    pub moments: Items<Moment>,
     /// The segments that the remote tier has had.
     pub remote: Vec<RemoteSegment>,
     /// Where leader epochs start in the leaders' logs.
@@ -131,7 +131,7 @@ fn tell_part(
 fn story_with(
     alloc: Global,
     partition: PartitionId,
-    moments: Row<Moment>,
+    moments: Items<Moment>,
     tracked: &Tracked,
 ) -> Result<Story, StoryRefusal>
     ensures { IfOk result (λ story. (story.partition ≡ partition) × (story.moments ≡ moments)) }
@@ -172,7 +172,7 @@ fn check_brokers(
 fn reach(
     alloc: Global,
     config: &Config,
-    states: &mut Row<Tracked>,
+    states: &mut Items<Tracked>,
     at: usize,
 ) -> Result<(), AllocError>
     requires config { IsConfig config.now }
@@ -195,12 +195,12 @@ fn tell_parts(
     script: &Script,
     journals: &[PartJournal],
     lines: &[&str],
-    states: &mut Row<Tracked>,
-) -> Result<Row<Story>, StoryRefusal>
+    states: &mut Items<Tracked>,
+) -> Result<Items<Story>, StoryRefusal>
     requires { IsFit script.now }
     ensures { IfOk result (λ stories. AreStories script.now.config states.old (map told journals.now) script.now.parts stories) }
 {
-    let mut stories = Row::new(alloc);
+    let mut stories = Items::new(alloc);
     for (at, part) in script.parts.as_slice().iter().enumerate() {
         reach(alloc, &script.config, states, at)?;
         let tracked = states.at_mut(at);
@@ -240,8 +240,8 @@ pub fn tell_run(
     alloc: Global,
     script: &str,
     trace: &str,
-    states: &mut Row<Tracked>,
-) -> Result<Row<Story>, StoryRefusal>
+    states: &mut Items<Tracked>,
+) -> Result<Items<Story>, StoryRefusal>
     requires { length script.now < 2 ^ 32 - 1 }
     ensures { IfOk result (λ stories. HasStories script.now trace.now states.old stories) }
 {

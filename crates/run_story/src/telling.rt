@@ -8,7 +8,7 @@ use crate::tracked::Tracked;
 use plain_log::{Config, JournalEntry};
 use script_lang::PartScript;
 use std::alloc::Global;
-use tier_base::Row;
+use tier_base::Items;
 
 /// Why a journal has no moments.
 #[derive(Clone, Copy, Debug, PartialEq, Eq)]
@@ -35,13 +35,13 @@ pub fn tell(
     journal: &[JournalEntry],
     lines: &[&str],
     tracked: &mut Tracked,
-) -> Result<Row<Moment>, TellRefusal>
+) -> Result<Items<Moment>, TellRefusal>
     requires { AreListsFor config.now part.now.lists }
     ensures { Tells part.now.lists tracked.old.plain journal.now tracked.new.plain result }
 {
     let _brokers = config.brokers;
     let lists = part.lists.as_slice();
-    let mut moments = Row::new(alloc);
+    let mut moments = Items::new(alloc);
     for (place, entry) in journal.iter().enumerate() {
         let line = line_at(lines, place);
         match tracked.advance(alloc, lists, entry, line, moments.as_slice()) {

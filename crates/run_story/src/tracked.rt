@@ -19,7 +19,7 @@ use crate::text::shown;
 use plain_executor::{Plain, find_order};
 use plain_log::{ActorList, Answer, Config, Event, JournalEntry, Order};
 use std::alloc::{AllocError, Global};
-use tier_base::{BrokerId, Row};
+use tier_base::{BrokerId, Items};
 
 /// A partition between two entries.
 #[derive(Debug, Drop)]
@@ -105,10 +105,10 @@ fn logs_after(
     order: &Order,
     is_begun: bool,
     event: &Event,
-) -> Result<Row<LogState>, AllocError>
+) -> Result<Items<LogState>, AllocError>
     ensures { IfOk result (λ logs. map (λ log. log.end) logs ≡ map (λ (x : BrokerIs). end_of x.log) plain.now.brokers) }
 {
-    let mut logs = Row::new(alloc);
+    let mut logs = Items::new(alloc);
     for broker in 0..plain.count() {
         let log = log_after(before, broker, order, is_begun, event);
         let end = end(plain, broker)?;
@@ -223,7 +223,7 @@ fn moment(
     order: &Order,
     entry: &JournalEntry,
     line: &str,
-    logs: Row<LogState>,
+    logs: Items<LogState>,
 ) -> Result<Moment, AllocError>
     ensures { IfOk result (λ m. IsMomentOf order.now entry.now plain.now logs m) }
 {

@@ -12,7 +12,7 @@ use plain_executor::{Plain, find_order, replay};
 use plain_log::{ActorList, Answer, Config, Event, JournalEntry, Order};
 use std::alloc::{AllocError, Global};
 use std::marker::Model;
-use tier_base::{BrokerId, PartitionId, Row};
+use tier_base::{BrokerId, PartitionId, Items};
 use trace_text::answer_name;
 
 /// What a partition's journal comes to.
@@ -21,7 +21,7 @@ use trace_text::answer_name;
 /// several partitions.
 #[derive(Debug, Drop)]
 pub struct Told {
-    answers: Row<Given>,
+    answers: Items<Given>,
     bytes: u128,
     end: End,
 }
@@ -43,7 +43,7 @@ impl Told {
         ensures { result ≡ record { answers = []; bytes = 0; end = end } }
     {
         Told {
-            answers: Row::new(alloc),
+            answers: Items::new(alloc),
             bytes: 0,
             end,
         }

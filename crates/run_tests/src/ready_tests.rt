@@ -18,7 +18,7 @@ use script_lang::{PartScript, parse};
 use segment_bundle::Bundle;
 use segment_file::Closed;
 use std::alloc::Global;
-use tier_base::{ActorId, PartitionId, Row};
+use tier_base::{ActorId, PartitionId, Items};
 use trace_text::print;
 
 /// A world over devices in memory.
@@ -74,7 +74,7 @@ enum Handed {
 }
 
 /// The world of the only partition.
-fn only_world(alloc: Global, config: Config, parts: Row<PartScript>) -> Option<MemoryWorld>
+fn only_world(alloc: Global, config: Config, parts: Items<PartScript>) -> Option<MemoryWorld>
     requires config { IsConfig config }
     requires fit { All (λ part. AreListsFor config part.lists) parts }
 {

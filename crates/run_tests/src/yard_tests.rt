@@ -15,7 +15,7 @@ use plain_log::Config;
 use run_yard::{YardRefusal, run_in_yard, run_on};
 use script_lang::{PartScript, Script, parse};
 use std::alloc::Global;
-use tier_base::{MemorySink, MemorySource, Planned, Row};
+use tier_base::{MemorySink, MemorySource, Planned, Items};
 use tiered_call::tiered_in_order;
 
 /// How a run ends.
@@ -51,7 +51,7 @@ fn over_a_yard(
     alloc: Global,
     failing: Vec<u32>,
     config: Config,
-    parts: Row<PartScript>,
+    parts: Items<PartScript>,
     trace: &str,
 ) -> (End, u64, usize)
     requires config { IsConfig config }

@@ -17,7 +17,7 @@ use partition_world::{Ready, World, ends_are_complete, reaches_in_turn, reaches_
 use plain_log::{Journal, fresh_is_safe, replays_keep_safe};
 use std::alloc::{AllocError, Global};
 use std::marker::Model;
-use tier_base::{ActorId, PartitionId, Row};
+use tier_base::{ActorId, PartitionId, Items};
 
 /// A partition of a script in the middle of a run.
 #[derive(Drop)]
@@ -26,7 +26,7 @@ pub struct Traced<D: Disk, S: Store, M: MetaLog> {
     place: usize,
     partition: PartitionId,
     world: World<D, S, M>,
-    turns: Row<ActorId>,
+    turns: Items<ActorId>,
     ended: bool,
 }
 
@@ -64,7 +64,7 @@ impl<D: Disk, S: Store, M: MetaLog> Traced<D, S, M> {
             place,
             partition,
             world,
-            turns: Row::new(alloc),
+            turns: Items::new(alloc),
             ended: false,
         }
     }

@@ -20,7 +20,7 @@ use device_yard::Yard;
 use plain_log::Config;
 use script_lang::PartScript;
 use std::alloc::{AllocError, Global};
-use tier_base::Row;
+use tier_base::Items;
 
 /// Runs a partition over its devices in the environment, and returns the trace.
 fn run_part<Y: Yard>(
@@ -77,7 +77,7 @@ fn run_parts<Y: Yard>(
     alloc: Global,
     yard: &mut Y,
     config: Config,
-    parts: Row<PartScript>,
+    parts: Items<PartScript>,
 ) -> Result<Vec<u8>, YardRefusal>
     requires config { IsConfig config }
     requires fit { All (λ part. AreListsFor config part.lists) parts }
@@ -114,7 +114,7 @@ pub fn run_in_yard<Y: Yard>(
     alloc: Global,
     yard: &mut Y,
     config: Config,
-    parts: Row<PartScript>,
+    parts: Items<PartScript>,
 ) -> Result<Vec<u8>, YardRefusal>
     requires config { IsConfig config }
     requires fit { All (λ part. AreListsFor config part.lists) parts }

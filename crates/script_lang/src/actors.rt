@@ -6,13 +6,13 @@ ghost use Rattle.script_lang.specs.Script.{idle, slot_at, with_order};
 use plain_log::Order;
 use std::alloc::{AllocError, Global};
 use std::marker::Model;
-use tier_base::{ActorId, PartitionId, Row};
+use tier_base::{ActorId, PartitionId, Items};
 
 /// The partition and the orders of an actor.
 #[derive(Debug, Drop)]
 pub struct Slot {
     pub partition: Option<PartitionId>,
-    pub orders: Row<Order>,
+    pub orders: Items<Order>,
 }
 
 /// The 64 actors, which contracts see as a list.
@@ -41,7 +41,7 @@ impl Actors {
         for _ in 0u32..64 {
             slots.push(Slot {
                 partition: None,
-                orders: Row::new(alloc),
+                orders: Items::new(alloc),
             })?;
         }
         Ok(Actors { slots })

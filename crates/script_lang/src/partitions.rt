@@ -10,7 +10,7 @@ use crate::script::PartScript;
 use plain_log::{ActorList, Order, Pace};
 use std::alloc::{AllocError, Global};
 use std::marker::Model;
-use tier_base::{ActorId, PartitionId, Row};
+use tier_base::{ActorId, PartitionId, Items};
 
 /// The 64 partitions, which contracts see as a list.
 #[derive(Drop)]
@@ -33,15 +33,15 @@ fn empty(alloc: Global, partition: u16) -> PartScript
 {
     PartScript {
         partition: PartitionId(partition),
-        lists: Row::new(alloc),
-        schedule: Row::new(alloc),
-        faults: Row::new(alloc),
+        lists: Items::new(alloc),
+        schedule: Items::new(alloc),
+        faults: Items::new(alloc),
     }
 }
 
 impl PartScript {
     /// Appends an actor's list, and lets the schedule step the actor to its end.
-    fn put_list(&mut self, actor: ActorId, orders: Row<Order>) -> Result<(), AllocError>
+    fn put_list(&mut self, actor: ActorId, orders: Items<Order>) -> Result<(), AllocError>
         requires { length orders ≤ 65536 }
         ensures { OnOk result (self.new ≡ part_with self.old actor.0 orders) }
     {
@@ -114,7 +114,7 @@ impl Partitions {
     }
 
     /// Adds each actor's list to its partition, and returns the first `count` partitions.
-    pub fn with_lists(self, actors: Actors, count: u16) -> Result<Row<PartScript>, AllocError>
+    pub fn with_lists(self, actors: Actors, count: u16) -> Result<Items<PartScript>, AllocError>
         requires { (a : ℕ) → length (slot_at actors a).orders ≤ 65536 }
         ensures { IfOk result (λ parts. parts ≡ take count (parts_with_lists self 0 actors)) }
     {
@@ -126,6 +126,6 @@ impl Partitions {
         }
         let mut parts = partitions.parts;
         parts.truncate(count as usize);
-        Ok(Row::from_vec(parts))
+        Ok(Items::from_vec(parts))
     }
 }

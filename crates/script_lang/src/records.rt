@@ -13,7 +13,7 @@ use crate::words::{Words, is};
 use hex::FromHexError;
 use record_batch::{Header, HeaderList, Rec};
 use std::alloc::Global;
-use tier_base::{Blob, Row};
+use tier_base::{Blob, Items};
 
 fn is_letter(byte: u8) -> bool
     ensures { result ≡ is_letter byte }
@@ -116,11 +116,11 @@ fn record(alloc: Global, word: &[u8]) -> Result<Rec, LineRefusal>
 }
 
 /// Reads the records in the words that are left.
-pub fn records(alloc: Global, words: Words) -> Result<Row<Rec>, LineRefusal>
+pub fn records(alloc: Global, words: Words) -> Result<Items<Rec>, LineRefusal>
     ensures { AnswersReading result (records_in [] words.entry) }
 {
     let mut words = words;
-    let mut recs = Row::new(alloc);
+    let mut recs = Items::new(alloc);
     while let Ok(word) = words.first(Why::Word) {
         recs.push(record(alloc, word)?)?;
     }

@@ -6,7 +6,7 @@ ghost use Rattle.plain_executor.specs.Fits.{AreFor, IsBuildableAppend};
 use plain_executor::{Plain, first_refused, is_complete, is_complete_run, is_run};
 use plain_log::{ActorList, Answer, Command, Config, Event, JournalEntry, Order};
 use std::alloc::{AllocError, Global};
-use tier_base::{ActorId, BrokerId, Keep, Row, Settings};
+use tier_base::{ActorId, BrokerId, Keep, Items, Settings};
 
 /// Two brokers.
 fn config() -> Config
@@ -161,7 +161,7 @@ fn told_fresh(alloc: Global) -> Option<(Option<(u128, u64)>, (u64, u64, u32, usi
 fn flushes(alloc: Global, actor: u16, count: u32) -> Result<ActorList, AllocError>
     ensures { IfOk result (λ list. All (λ order. IsBuildableAppend order.command) list.orders) }
 {
-    let mut orders = Row::new(alloc);
+    let mut orders = Items::new(alloc);
     for _ in 0..count {
         orders.push(Order {
             broker: BrokerId(1),
@@ -175,18 +175,18 @@ fn flushes(alloc: Global, actor: u16, count: u32) -> Result<ActorList, AllocErro
 }
 
 /// The lists of two actors: two orders of actor 0, and one of actor 2.
-fn lists(alloc: Global) -> Result<Row<ActorList>, AllocError>
+fn lists(alloc: Global) -> Result<Items<ActorList>, AllocError>
     ensures { IfOk result (λ lists. AreFor lists) }
 {
-    let mut lists = Row::new(alloc);
+    let mut lists = Items::new(alloc);
     lists.push(flushes(alloc, 0, 2)?)?;
     lists.push(flushes(alloc, 2, 1)?)?;
     Ok(lists)
 }
 
 /// A journal of answers to flushes, each of an actor and with a number and an end.
-fn journal(alloc: Global, answers: &[(u16, u32, u64)]) -> Result<Row<JournalEntry>, AllocError> {
-    let mut journal = Row::new(alloc);
+fn journal(alloc: Global, answers: &[(u16, u32, u64)]) -> Result<Items<JournalEntry>, AllocError> {
+    let mut journal = Items::new(alloc);
     for (actor, number, end) in answers {
         journal.push(JournalEntry {
             actor: ActorId(*actor),

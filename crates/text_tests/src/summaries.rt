@@ -6,7 +6,7 @@ ghost use Rattle.plain_executor.specs.Fits.{AreFor, IsBuildableAppend};
 use plain_log::{ActorList, Answer, Command, Config, Event, JournalEntry, Order};
 use run_summary::{End, Given, Told, summary, tell};
 use std::alloc::{AllocError, Global};
-use tier_base::{ActorId, BrokerId, Keep, PartitionId, Row, Settings};
+use tier_base::{ActorId, BrokerId, Keep, PartitionId, Items, Settings};
 
 /// Two brokers.
 fn config() -> Config
@@ -29,7 +29,7 @@ fn list(alloc: Global) -> Result<ActorList, AllocError>
     ensures { IfOk result (λ list. All (λ order. IsBuildableAppend order.command) list.orders) }
 {
     let broker = BrokerId(0);
-    let mut orders = Row::new(alloc);
+    let mut orders = Items::new(alloc);
     orders.push(Order {
         broker,
         command: Command::Fetch {
@@ -48,10 +48,10 @@ fn list(alloc: Global) -> Result<ActorList, AllocError>
 }
 
 /// The list alone.
-fn lists(alloc: Global) -> Result<Row<ActorList>, AllocError>
+fn lists(alloc: Global) -> Result<Items<ActorList>, AllocError>
     ensures { IfOk result (λ lists. AreFor lists) }
 {
-    let mut lists = Row::new(alloc);
+    let mut lists = Items::new(alloc);
     lists.push(list(alloc)?)?;
     Ok(lists)
 }
@@ -66,8 +66,8 @@ fn entry(number: u32, answer: Answer) -> JournalEntry {
 }
 
 /// The answers to the fetch and to the flush, which has this end.
-fn journal(alloc: Global, flushed: u64) -> Result<Row<JournalEntry>, AllocError> {
-    let mut journal = Row::new(alloc);
+fn journal(alloc: Global, flushed: u64) -> Result<Items<JournalEntry>, AllocError> {
+    let mut journal = Items::new(alloc);
     journal.push(entry(0, Answer::Empty))?;
     journal.push(entry(1, Answer::OkAt(flushed)))?;
     Ok(journal)
@@ -147,8 +147,8 @@ const SECOND: End = End {
 };
 
 /// Two partitions.
-fn parts(alloc: Global) -> Result<Row<Told>, AllocError> {
-    let mut parts = Row::new(alloc);
+fn parts(alloc: Global) -> Result<Items<Told>, AllocError> {
+    let mut parts = Items::new(alloc);
     parts.push(part(alloc, &ANSWERS, FIRST)?)?;
     parts.push(part(alloc, &ANSWERS[5..], SECOND)?)?;
     Ok(parts)
@@ -173,7 +173,7 @@ fn is_summed(alloc: Global, parts: &[Told], wanted: &str) -> bool {
 }
 
 /// Whether this is the summary of these.
-fn sums_up(alloc: Global, parts: Result<Row<Told>, AllocError>, wanted: &str) -> bool {
+fn sums_up(alloc: Global, parts: Result<Items<Told>, AllocError>, wanted: &str) -> bool {
     match parts {
         Ok(parts) => is_summed(alloc, parts.as_slice(), wanted),
         Err(_) => false,
@@ -190,8 +190,8 @@ fn a_summary_is_worked_out(rt: HostRuntime) {
 static LARGEST: [(&str, &str, u64); 2] = [("fetch", "Run", u64::MAX), ("fetch", "Run", u64::MAX)];
 
 /// Two partitions that returned such runs.
-fn largest_parts(alloc: Global) -> Result<Row<Told>, AllocError> {
-    let mut parts = Row::new(alloc);
+fn largest_parts(alloc: Global) -> Result<Items<Told>, AllocError> {
+    let mut parts = Items::new(alloc);
     parts.push(part(alloc, &LARGEST, FIRST)?)?;
     parts.push(part(alloc, &LARGEST, SECOND)?)?;
     Ok(parts)

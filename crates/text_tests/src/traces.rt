@@ -351,7 +351,7 @@ fn invalid_texts_are_refused(rt: HostRuntime) {
 
 /// A journal of one entry.
 static ENTRY: &str = concat!(
-    "[PartJournal { partition: PartitionId(5), journal: Roll { items: [",
+    "[PartJournal { partition: PartitionId(5), journal: Reserved { items: [",
     "JournalEntry { actor: ActorId(3), number: 7, event: Answers(OkAt(1)) }] } }]"
 );
 

@@ -6,6 +6,6 @@ pub mod Laws
 pub mod Layout
 pub mod Nexts
 pub mod Number
-pub mod Roll
+pub mod Reserved
 pub mod Stream
 pub mod Told

@@ -21,7 +21,7 @@ use meta_log::MetaLog;
 use object_store::{ObjectKey, Store};
 use remote_view::View;
 use std::alloc::Global;
-use tier_base::{Row, Trouble};
+use tier_base::{Items, Trouble};
 use view_refresh::refresh;
 
 /// Takes away what copies and deletions left that were never finished, and counts the objects that it took. No command
@@ -85,7 +85,7 @@ fn read_view<M: MetaLog>(alloc: Global, meta: &mut M) -> Result<View, SweepRefus
 }
 
 /// Lists the objects.
-fn list<S: Store>(store: &mut S) -> Result<Row<ObjectKey>, SweepRefusal>
+fn list<S: Store>(store: &mut S) -> Result<Items<ObjectKey>, SweepRefusal>
     ensures keys { IsTrue (S.content store.old).is_observable
         → IfOk result (λ keys. NamesAllHeld (S.content store.old).objects keys) }
     ensures content { objects.Keeps (S.content store.old) (S.content store.new) }

@@ -23,7 +23,7 @@ use run_memory::run_partition;
 use run_summary::{Told, summary, tell};
 use script_lang::{PartScript, ScriptRefusal, Why, parse};
 use std::alloc::{AllocError, Global};
-use tier_base::{Row, Sink, write_all};
+use tier_base::{Items, Sink, write_all};
 
 /// Runs a partition, and returns what its journal comes to.
 fn tell_part(alloc: Global, config: Config, part: PartScript) -> Result<Told, AllocError>
@@ -51,7 +51,7 @@ fn tell_part(alloc: Global, config: Config, part: PartScript) -> Result<Told, Al
 fn tell_parts(
     alloc: Global,
     config: Config,
-    parts: Row<PartScript>,
+    parts: Items<PartScript>,
 ) -> Result<Vec<Told>, AllocError>
     requires config { IsConfig config }
     requires fit { All (λ part. AreListsFor config part.lists) parts }

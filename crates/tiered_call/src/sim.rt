@@ -21,7 +21,7 @@ use run_memory::run_partition;
 use run_yard::joined;
 use script_lang::{PartScript, ScriptRefusal, Why, parse};
 use std::alloc::{AllocError, Global};
-use tier_base::{ReadRefusal, Row, Sink, Source, read_all, write_all};
+use tier_base::{ReadRefusal, Items, Sink, Source, read_all, write_all};
 use trace_text::print;
 
 /// The most bytes that a script may have.
@@ -47,7 +47,7 @@ fn run_part(
 }
 
 /// Runs each partition, in rising order.
-fn run_parts(alloc: Global, config: Config, parts: Row<PartScript>) -> Result<Vec<u8>, AllocError>
+fn run_parts(alloc: Global, config: Config, parts: Items<PartScript>) -> Result<Vec<u8>, AllocError>
     requires config { IsConfig config }
     requires fit { All (λ part. AreListsFor config part.lists) parts }
     requires ends { All StepsToEnds parts }

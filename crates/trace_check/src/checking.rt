@@ -11,14 +11,14 @@ use crate::verdict::{Flaw, Verdict};
 use plain_executor::Plain;
 use script_lang::{ScriptRefusal, parse};
 use std::alloc::{AllocError, Global};
-use tier_base::Row;
+use tier_base::Items;
 use trace_text::{TraceRefusal, one_text_one_trace, print_is_read, read};
 
 /// Judges a trace, from the states that the runs before it left, and leaves those that it leaves.
 fn judge_pair(
     alloc: Global,
     pair: &Pair,
-    states: &mut Row<Plain>,
+    states: &mut Items<Plain>,
 ) -> Result<Option<Flaw>, AllocError>
     requires { length pair.now.script < 2 ^ 32 - 1 }
     ensures { IfOk result (λ found. IsPairJudged states.old pair.now states.new found) }
@@ -46,7 +46,7 @@ pub fn check(alloc: Global, pairs: &[Pair]) -> Result<Verdict, AllocError>
 {
     print_is_read();
     one_text_one_trace();
-    let mut states = Row::new(alloc);
+    let mut states = Items::new(alloc);
     for (before, pair) in pairs.iter().enumerate() {
         if let Some(flaw) = judge_pair(alloc, pair, &mut states)? {
             return Ok(Verdict::Flawed {

@@ -14,7 +14,7 @@ use plain_executor::{Plain, is_complete, take_all};
 use plain_log::{Config, JournalEntry};
 use script_lang::{PartScript, Script};
 use std::alloc::{AllocError, Global};
-use tier_base::{PartitionId, Row};
+use tier_base::{PartitionId, Items};
 use trace_text::PartJournal;
 
 /// The journal of a partition.
@@ -100,7 +100,7 @@ fn judge_part(
 fn reach(
     alloc: Global,
     config: &Config,
-    states: &mut Row<Plain>,
+    states: &mut Items<Plain>,
     at: usize,
 ) -> Result<(), AllocError>
     requires config { IsConfig config.now }
@@ -119,7 +119,7 @@ fn judge_parts(
     alloc: Global,
     script: &Script,
     journals: &[PartJournal],
-    states: &mut Row<Plain>,
+    states: &mut Items<Plain>,
 ) -> Result<Option<Flaw>, AllocError>
     requires { IsFit script.now }
     ensures { IfOk result (λ found. ArePartsJudged script.now states.old (map told journals.now) states.new found) }
@@ -151,7 +151,7 @@ pub fn judge(
     alloc: Global,
     script: &Script,
     journals: &[PartJournal],
-    states: &mut Row<Plain>,
+    states: &mut Items<Plain>,
 ) -> Result<Option<Flaw>, AllocError>
     requires { IsFit script.now }
     ensures { IfOk result (λ found. AreJudged script.now states.old (map told journals.now) states.new found) }

@@ -10,7 +10,7 @@ use crate::reading::line;
 use crate::refusal::TraceRefusal;
 use crate::words::front_len;
 use std::alloc::Global;
-use tier_base::Row;
+use tier_base::Items;
 
 /// Returns the first line and what follows its LF, or `None` if there is no LF.
 fn first_line(bytes: &[u8]) -> Option<(&[u8], &[u8])>
@@ -25,7 +25,7 @@ fn first_line(bytes: &[u8]) -> Option<(&[u8], &[u8])>
 
 /// Reads a trace, and returns the partitions' journals in order. It goes over the bytes once and copies only the
 /// bytes of runs. Fails at the first invalid line, or if it is out of memory.
-pub fn read(alloc: Global, bytes: &[u8]) -> Result<Row<PartJournal>, TraceRefusal>
+pub fn read(alloc: Global, bytes: &[u8]) -> Result<Items<PartJournal>, TraceRefusal>
     ensures { ReadsTrace bytes.now result }
 {
     let mut parts = Parts::new(alloc);

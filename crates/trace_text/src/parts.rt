@@ -8,12 +8,12 @@ use crate::line::{Line, PartJournal};
 use plain_log::Journal;
 use std::alloc::{AllocError, Global};
 use std::mem;
-use tier_base::{PartitionId, Roll, Row};
+use tier_base::{PartitionId, Reserved, Items};
 
 /// The journals so far: the complete ones, and the one that the next line may extend.
 #[derive(Drop)]
 pub struct Parts {
-    pub done: Row<PartJournal>,
+    pub done: Items<PartJournal>,
     pub last: Option<PartitionId>,
     pub journal: Journal,
 }
@@ -25,9 +25,9 @@ impl Parts {
         ensures none { parts_of result ≡ [] }
     {
         Parts {
-            done: Row::new(alloc),
+            done: Items::new(alloc),
             last: None,
-            journal: Roll::new(alloc),
+            journal: Reserved::new(alloc),
         }
     }
 
@@ -36,7 +36,7 @@ impl Parts {
         ensures { OnOk result (HasBegun self.old self.new line) }
     {
         self.last = Some(line.partition);
-        self.journal = Roll::new(alloc);
+        self.journal = Reserved::new(alloc);
         self.journal.reserve(1)?;
         self.journal.put(line.entry);
         Ok(())
@@ -59,7 +59,7 @@ impl Parts {
             self.journal.put(line.entry);
             return Ok(true);
         }
-        let journal = mem::replace(&mut self.journal, Roll::new(alloc));
+        let journal = mem::replace(&mut self.journal, Reserved::new(alloc));
         self.done.push(PartJournal {
             partition: last,
             journal,
@@ -69,7 +69,7 @@ impl Parts {
     }
 
     /// Returns the journals.
-    pub fn finish(self) -> Result<Row<PartJournal>, AllocError>
+    pub fn finish(self) -> Result<Items<PartJournal>, AllocError>
         ensures { IfOk result (λ parts. map told parts ≡ parts_of self) }
     {
         let Parts {

@@ -8,7 +8,7 @@ use meta_log::MetaLog;
 use remote_view::View;
 use segment_meta::Note;
 use std::alloc::AllocError;
-use tier_base::{Row, Trouble};
+use tier_base::{Items, Trouble};
 
 /// Reads on in the metadata log: adds all events to the view that it hasn't read yet. After `NoMemory` it may have
 /// added some of them.
@@ -28,7 +28,7 @@ pub fn refresh<M: MetaLog>(view: &mut View, meta: &mut M) -> Result<(), Trouble>
 }
 
 /// Feeds a view these events. Where memory runs out it has some of them.
-fn feed_all(view: &mut View, notes: Row<Note>) -> Result<(), AllocError>
+fn feed_all(view: &mut View, notes: Items<Note>) -> Result<(), AllocError>
     requires { AreNotes notes }
     ensures ok { OnOk result (view.new ≡ fed_all view.old notes) }
     ensures err { OnErr result ((k : ℕ) × (view.new ≡ fed_all view.old (take k notes))) }

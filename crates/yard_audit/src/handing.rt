@@ -13,7 +13,7 @@ use crate::refusal::RoundRefusal;
 use device_yard::Yard;
 use meta_log::MetaLog;
 use object_store::Store;
-use tier_base::{PartitionId, Row};
+use tier_base::{PartitionId, Items};
 
 /// What the tier of a partition is on.
 #[derive(Drop)]
@@ -23,7 +23,7 @@ pub(crate) struct Tools<S: Store, M: MetaLog> {
 }
 
 /// Names the partitions in use, in rising order.
-pub(crate) fn list<Y: Yard>(yard: &mut Y) -> Result<Row<PartitionId>, RoundRefusal>
+pub(crate) fn list<Y: Yard>(yard: &mut Y) -> Result<Items<PartitionId>, RoundRefusal>
     ensures all { IfOk result (AreAll Y.D.content Y.S.content Y.M.content (Y.held yard.old)) }
     ensures rest { IsTrue (Y.held yard.old).is_observable
         → YardRests Y.D.content Y.S.content Y.M.content (Y.held yard.old) (Y.held yard.new) }

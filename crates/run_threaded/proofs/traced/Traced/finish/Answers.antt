@@ -1,5 +1,5 @@
 use Rattle.std.proofs.Common.{◌≡◌, ◌∙◌, sym, ap, subst, ℕ, List}
-use Rattle.tier_base.specs.Roll.{Rolled}
+use Rattle.tier_base.specs.Reserved.{ReservedItems}
 use Rattle.tier_base.specs.declared.names.PartitionId.{PartitionId}
 use Rattle.plain_log.specs.declared.journal.JournalEntry.{JournalEntry}
 use Rattle.partition_world.specs.Whole.{Whole}
@@ -17,4 +17,4 @@ returns g c =
     subst (λ (k : List ℕ). IsThreadedRun g.D.Disk g.S.Store g.M.MetaLog k c.args.self.now.place (c.args.self.now.partition.0, c.journal.result.now.items)) same.script
     (subst (λ (n : ℕ). IsThreadedRun g.D.Disk g.S.Store g.M.MetaLog t.script n (c.args.self.now.partition.0, c.journal.result.now.items)) same.place
     (subst (λ (k : PartitionId). IsThreadedRun g.D.Disk g.S.Store g.M.MetaLog t.script t.place (k.0, c.journal.result.now.items)) same.partition
-    (subst (λ (j : Rolled JournalEntry). IsThreadedRun g.D.Disk g.S.Store g.M.MetaLog t.script t.place (t.partition.0, j.items)) (sym last) run)))
+    (subst (λ (j : ReservedItems JournalEntry). IsThreadedRun g.D.Disk g.S.Store g.M.MetaLog t.script t.place (t.partition.0, j.items)) (sym last) run)))

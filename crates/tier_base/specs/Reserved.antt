@@ -2,6 +2,6 @@
 use Rattle.std.specs.Prelude.{ℕ, List}
 
 -- the items, and how many more can be put without memory
-pub record Rolled (T : Type 0) : Type 0 where
+pub record ReservedItems (T : Type 0) : Type 0 where
   pub items : List T
   pub room : ℕ

@@ -3,7 +3,7 @@
 ghost use Rattle.std.specs.Prelude.{◌≡◌, ◌<◌, ◌++◌, ◌∷◌, [], ◌↔◌, length, slice_get, slice_set, OnOk, OnErr, Some, IsTrue, IsNone};
 ghost use Rattle.std.specs.Option.{option_to_list};
 ghost use Rattle.std.specs.Borrow.{Lends, sem};
-ghost use Rattle.tier_base.specs.contracts.row.Row.{the_row};
+ghost use Rattle.tier_base.specs.contracts.items.Items.{the_row};
 
 use std::alloc::{AllocError, Global};
 use std::marker::Model;
@@ -11,11 +11,11 @@ use std::mem;
 
 /// A list.
 #[derive(Debug, Drop)]
-pub struct Row<T> {
+pub struct Items<T> {
     items: Vec<T>,
 }
 
-impl<T> Model for Row<T> {
+impl<T> Model for Items<T> {
     ghost use Rattle.std.specs.Prelude.{List};
 
     ghost Value = { List T };
@@ -23,21 +23,21 @@ impl<T> Model for Row<T> {
     ghost view = { λ s. s.items.items };
 }
 
-impl<T> Row<T> {
+impl<T> Items<T> {
     /// Makes an empty list. It takes no memory yet.
-    pub fn new(alloc: Global) -> Row<T>
+    pub fn new(alloc: Global) -> Items<T>
         ensures { result ≡ [] }
     {
-        Row {
+        Items {
             items: Vec::new(alloc),
         }
     }
 
     /// Takes the items over, without memory.
-    pub fn from_vec(items: Vec<T>) -> Row<T>
+    pub fn from_vec(items: Vec<T>) -> Items<T>
         ensures { result ≡ items.items }
     {
-        Row { items }
+        Items { items }
     }
 
     /// Gives the items back, without memory.
@@ -95,7 +95,7 @@ impl<T> Row<T> {
     }
 }
 
-impl<T: Drop> Row<T> {
+impl<T: Drop> Items<T> {
     /// Puts an item at the end. Fails only if memory runs out.
     pub fn push(&mut self, item: T) -> Result<(), AllocError>
         ensures ok { OnOk result (self.new ≡ self.old ++ item ∷ []) }

@@ -10,15 +10,15 @@ use std::marker::Model;
 
 /// A list with room for more.
 #[derive(Debug, Drop)]
-pub struct Roll<T> {
+pub struct Reserved<T> {
     items: Vec<T>,
 }
 
-impl<T> Model for Roll<T> {
+impl<T> Model for Reserved<T> {
     ghost use Rattle.std.specs.Prelude.{vec_len, vec_capacity, ◌-◌};
-    ghost use Rattle.tier_base.specs.Roll.{Rolled};
+    ghost use Rattle.tier_base.specs.Reserved.{ReservedItems};
 
-    ghost Value = { Rolled T };
+    ghost Value = { ReservedItems T };
 
     ghost view = { λ s. record {
       items = s.items.items;
@@ -26,12 +26,12 @@ impl<T> Model for Roll<T> {
     } };
 }
 
-impl<T> Roll<T> {
+impl<T> Reserved<T> {
     /// Makes an empty list. It takes no memory yet.
-    pub fn new(alloc: Global) -> Roll<T>
+    pub fn new(alloc: Global) -> Reserved<T>
         ensures { result.items ≡ [] }
     {
-        Roll {
+        Reserved {
             items: Vec::new(alloc),
         }
     }
