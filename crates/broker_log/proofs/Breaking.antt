@@ -10,7 +10,9 @@ use Rattle.log_steps.specs.Reopens.{Reopens}
 use Rattle.local_log.specs.Log.{Log, committed, flushed_log}
 use Rattle.local_log.specs.Cutting.{OpensAs, OpensAsOr}
 use Rattle.broker_log.specs.Seen.{LogSeen, Back, Up, Down, OpensBetween, back_of, returning, returns, OpensAfterStop, IsBack, IsSeenSound, ShowsOpen}
-use Rattle.broker_log.specs.Turns.{Breaks, BreaksUnsaved, StopsBroker, loosened, torn}
+use Rattle.broker_log.specs.Effects.{loosened, torn}
+use Rattle.broker_log.specs.Failure.{Breaks, BreaksUnsaved}
+use Rattle.broker_log.specs.Open.{StopsBroker}
 use Rattle.broker_log.proofs.Between.{between_as, between_same}
 use Rattle.broker_log.proofs.Showing.{image_as}
 use Rattle.broker_log.proofs.Local.{opened_as, local_low, local_ends, up_local, back_stands, kept_stands}

@@ -12,7 +12,10 @@ use Rattle.local_log.specs.Coheres.{Coheres}
 use Rattle.local_log.specs.Cutting.{cut, cut_at, cut_point, restarted, all_of, OpensAsOr}
 use Rattle.local_log.proofs.Pieces.{up_to_all}
 use Rattle.broker_log.specs.Seen.{LogSeen, Up, Down, OpensBetween, layout_of, IsBack, returning, ShowsOpen}
-use Rattle.broker_log.specs.Turns.{CutsLog, BreaksIf, MayCutLog, IsEndUpTo, cut_to, cut_back, cut_end_at, torn}
+use Rattle.broker_log.specs.Effects.{MayCutLog, cut_to, cut_back, torn}
+use Rattle.broker_log.specs.Failure.{BreaksIf}
+use Rattle.broker_log.specs.Write.{CutsLog, cut_end_at}
+use Rattle.broker_log.specs.Read.{IsEndUpTo}
 use Rattle.broker_log.proofs.Breaking.{most, torn_back, torn_most, torn_kept, image_or}
 use Rattle.broker_log.proofs.Local.{opened_as, from_rest, begins_at, up_whole, up_end, kept_stands}
 

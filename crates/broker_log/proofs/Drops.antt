@@ -13,7 +13,9 @@ use Rattle.local_log.specs.Cutting.{OpensAsOr}
 use Rattle.local_log.specs.Dropping.{start_behind, IsFirstFlushed, SpansFirst, dropped as dropped_log}
 use Rattle.local_log.specs.Stored.{end_of as end_of_segment}
 use Rattle.broker_log.specs.Seen.{LogSeen, Up, Down, OpensBetween, layout_of, returning, ShowsOpen}
-use Rattle.broker_log.specs.Turns.{DropsFirst, DropBreaks, dropped, kept_line}
+use Rattle.broker_log.specs.Effects.{dropped, kept_line}
+use Rattle.broker_log.specs.Failure.{DropBreaks}
+use Rattle.broker_log.specs.Write.{DropsFirst}
 use Rattle.broker_log.proofs.Breaking.{most, loosened_kept, image_or}
 use Rattle.broker_log.proofs.Local.{opened_as, from_up, parts_at, from_local, up_whole, kept_stands}
 

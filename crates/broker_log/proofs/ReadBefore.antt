@@ -9,7 +9,7 @@ use Rattle.local_log.specs.Reading.{IsCutOut, piece_of}
 use Rattle.local_log.specs.declared.reading.RunOut.{RunOut}
 use Rattle.local_log.proofs.CheckedBefore.{cut_checked}
 use Rattle.broker_log.specs.Seen.{LogState, Up, Down, Away, WhileUp, OnDisk}
-use Rattle.broker_log.specs.Turns.{ReadsRun}
+use Rattle.broker_log.specs.Read.{ReadsRun}
 
 module _ {D : Type 0} (content : D → Content) (control : D → Control call_code) (offset limit mark : ℕ) (out : RunOut) where
   on_disk : (log : Log D) (new : LogState D) → OnDisk new (λ d. IsCutOut log.line (control d).last_read offset limit mark (piece_of log offset) out) → AreChecked out.bytes

@@ -10,7 +10,9 @@ use Rattle.local_log.specs.Log.{Log, LogBecomes}
 use Rattle.local_log.specs.Coheres.{Coheres}
 use Rattle.local_log.specs.Cutting.{restarted as restarted_log, all_of, OpensAsOr}
 use Rattle.broker_log.specs.Seen.{LogSeen, Back, Up, Down, OpensBetween, layout_of, IsBack, returning, ShowsOpen}
-use Rattle.broker_log.specs.Turns.{LeadsTo, Restarts, RestartBreaks, restarted, unbuilt}
+use Rattle.broker_log.specs.Effects.{LeadsTo, restarted, unbuilt}
+use Rattle.broker_log.specs.Failure.{RestartBreaks}
+use Rattle.broker_log.specs.Write.{Restarts}
 use Rattle.broker_log.proofs.Breaking.{most, image_or}
 use Rattle.broker_log.proofs.Local.{opened_as, from_end, up_up, local_ends}
 

@@ -19,7 +19,8 @@ use Rattle.broker_log.specs.Seen.{LogSeen, Back, Up, Down, ChangesSeen, LogStays
 use Rattle.local_log.specs.declared.refusal.OpenRefusal.TheVariants.{Damaged}
 use Rattle.local_log.specs.Refusing.{IsSoundCause}
 use Rattle.local_log.specs.declared.refusal.OpenRefusal.{OpenRefusal}
-use Rattle.broker_log.specs.Turns.{opened, OpensWith, ComesBackAs as ComesAt, LeadsTo, read_behind, Unopened}
+use Rattle.broker_log.specs.Effects.{opened, OpensWith, ComesBackAs as ComesAt, LeadsTo}
+use Rattle.broker_log.specs.Open.{read_behind, Unopened}
 use Rattle.broker_log.proofs.Between.{between_opening}
 use Rattle.broker_log.proofs.Local.{opened_as, parts_at, up_up, from_rest}
 use Rattle.log_terms.proofs.Logs.{end_append, consecutive_prefix, prefix_end, up_to_prefix, up_to_end}

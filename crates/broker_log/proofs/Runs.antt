@@ -22,7 +22,7 @@ use Rattle.local_log.specs.declared.refusal.ReadRefusal.{ReadRefusal}
 use Rattle.local_log.specs.declared.refusal.ReadRefusal.TheVariants.{Damaged}
 use Rattle.local_log.specs.Reading.{segment_at, IsRunOf, IsEdge, IsCutOut, RunFails, IsOfDevice, ReadOnce, piece_of, passes}
 use Rattle.broker_log.specs.Seen.{LogSeen, Up, LogStays, ShowsOpen}
-use Rattle.broker_log.specs.Turns.{IsRunInLog, IsSegmentOf, ReadsRun, Misreads, StopIs}
+use Rattle.broker_log.specs.Read.{IsRunInLog, IsSegmentOf, ReadsRun, Misreads, StopIs}
 use Rattle.broker_log.proofs.Between.{between_kept}
 use Rattle.broker_log.proofs.Showing.{stays_by}
 use Rattle.broker_log.proofs.Local.{from_local, up_end}

@@ -20,7 +20,8 @@ use Rattle.local_log.specs.Log.{Log, LogBecomes, committed, flushed_log}
 use Rattle.local_log.specs.Coheres.{Coheres, SegmentsHold}
 use Rattle.local_log.specs.Cutting.{OpensAs}
 use Rattle.broker_log.specs.Seen.{LogSeen, Up, LogStays, OpensBetween, layout_of, returns, ShowsOpen}
-use Rattle.broker_log.specs.Turns.{Appends, Settles, Rolls, settled, with_batches, first_in}
+use Rattle.broker_log.specs.Effects.{settled, with_batches}
+use Rattle.broker_log.specs.Write.{Appends, Settles, Rolls, first_in}
 use Rattle.broker_log.proofs.Between.{between_as}
 use Rattle.broker_log.proofs.Local.{opened_as, local_low, up_local}
 

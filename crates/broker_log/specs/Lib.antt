@@ -1,3 +1,7 @@
 pub mod Seen
 pub mod Inside
-pub mod Turns
+pub mod Effects
+pub mod Failure
+pub mod Write
+pub mod Read
+pub mod Open

@@ -24,7 +24,11 @@ ghost use Rattle.local_log.specs.declared.refusal.RollRefusal.TheVariants as rol
 ghost use Rattle.local_log.specs.declared.refusal.ReadRefusal.TheVariants as reading;
 ghost use Rattle.local_log.specs.declared.refusal.OpenRefusal.TheVariants as opening;
 ghost use Rattle.broker_log.specs.Seen.{LogSeen, Down, ShowsSeen, ChangesSeen, LogStays, WhileUp, OnDisk, Lasting, Faulted, NoFault, OneFault, is_up, end_in, flushed_end_in, line_in, local_in, incarnation_in, closed_in, layout_in, settings_in};
-ghost use Rattle.broker_log.specs.Turns.{IsNewBrokerLog, Appends, Settles, CutsLog, MayCutLog, cut_back, DropsFirst, DropBreaks, Restarts, RestartBreaks, IsSegmentOf, Breaks, BreaksIf, BreaksUnsaved, loosened, torn, IsEndUpTo, Rolls, ReadsRun, Misreads, Unopened, IsSpent, StopsBroker, ComesUp};
+ghost use Rattle.broker_log.specs.Effects.{MayCutLog, cut_back, loosened, torn};
+ghost use Rattle.broker_log.specs.Failure.{DropBreaks, RestartBreaks, Breaks, BreaksIf, BreaksUnsaved};
+ghost use Rattle.broker_log.specs.Write.{IsNewBrokerLog, Appends, Settles, CutsLog, DropsFirst, Restarts, Rolls};
+ghost use Rattle.broker_log.specs.Read.{IsSegmentOf, IsEndUpTo, ReadsRun, Misreads};
+ghost use Rattle.broker_log.specs.Open.{Unopened, IsSpent, StopsBroker, ComesUp};
 ghost use Rattle.log_steps.specs.Fronts.{Each};
 ghost use Rattle.local_log.specs.Dropping.{IsFirstFlushed};
 ghost use Rattle.local_log.specs.Reading.{IsClosedFrom, ClosedFails};

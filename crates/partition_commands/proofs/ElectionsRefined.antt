@@ -18,7 +18,7 @@ use Rattle.plain_log.specs.declared.state.Role.TheVariants.{Leads as LeadsIn, Fo
 use Rattle.plain_log.specs.State.{acking}
 use Rattle.broker_log.specs.Seen.{LogState, ShowsSeen, is_up as is_open}
 use Rattle.broker_log.specs.Seen as log
-use Rattle.broker_log.specs.Turns.{settled, loosened}
+use Rattle.broker_log.specs.Effects.{settled, loosened}
 use Rattle.laws_partition.specs.Seen as seen
 use Rattle.laws_partition.specs.Partition as seen_partition
 use Rattle.laws_partition.specs.RowsOfElections as seen_rows

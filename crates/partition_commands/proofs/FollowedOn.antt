@@ -18,7 +18,7 @@ use Rattle.partition_commands.specs.Partition.{is_up, end_of, line_of, local_of,
 use Rattle.partition_commands.specs.TurnsOfLog.{Notes}
 use Rattle.partition_commands.specs.TurnsOfFollowers.{IsCurrent, GoesOn, Extends, ExtendRow, FollowOnRow, Takes, TakeRow, FollowRow}
 use Rattle.partition_commands.proofs.Shown.{some_at}
-use Rattle.broker_log.specs.Turns.{ReadsRun}
+use Rattle.broker_log.specs.Read.{ReadsRun}
 use Rattle.laws_partition.specs.declared.start_snapshot.Turned.{Turned}
 use Rattle.laws_partition.specs.declared.start_snapshot.Turned.TheVariants.{Answers, Begins}
 use Rattle.plain_log.specs.declared.answer.Place.TheVariants.{File}

@@ -32,7 +32,7 @@ use Rattle.plain_log.specs.State.{followed, joined as joined_role, leads_in}
 use Rattle.plain_log.proofs.Options.{when_some, both}
 use Rattle.broker_log.specs.Seen.{LogState, ShowsSeen, is_up as is_open}
 use Rattle.broker_log.specs.Seen as log
-use Rattle.broker_log.specs.Turns.{LeadsTo, with_batches, cut_to, cut_back, MayCutLog, restarted, unbuilt}
+use Rattle.broker_log.specs.Effects.{LeadsTo, with_batches, cut_to, cut_back, MayCutLog, restarted, unbuilt}
 use Rattle.laws_partition.specs.declared.start_snapshot.StartSnapshot.{StartSnapshot}
 use Rattle.laws_partition.specs.declared.start_snapshot.Turned.{Turned}
 use Rattle.laws_partition.specs.declared.start_snapshot.Turned.TheVariants.{Answers, Begins}

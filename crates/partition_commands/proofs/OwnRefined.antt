@@ -13,7 +13,8 @@ use Rattle.plain_log.specs.RowsOfLog.{offset_limit}
 use Rattle.local_log.specs.Run.{lined}
 use Rattle.broker_log.specs.Seen.{LogState, Up, Down as Closed, Away, ShowsSeen, end_in, is_up as is_open}
 use Rattle.broker_log.specs.Seen as log
-use Rattle.broker_log.specs.Turns.{with_batches, settled, opened as opened_log, dropped, kept_line, ComesBackAs, OpensWith, loosened}
+use Rattle.broker_log.specs.Effects.{with_batches, settled, opened as opened_log, dropped, kept_line, ComesBackAs}
+use Rattle.broker_log.specs.Effects.{OpensWith, loosened}
 use Rattle.laws_partition.specs.Seen as seen
 use Rattle.laws_partition.proofs.BoolTests.{some_of}
 use Rattle.laws_partition.specs.Partition as seen_partition

@@ -15,8 +15,8 @@ use Rattle.segment_file.specs.Run.{Fits}
 use Rattle.plain_log.specs.Fetch.{is_within}
 use Rattle.local_log.specs.declared.reading.RunOut.{RunOut}
 use Rattle.broker_log.specs.Seen.{LogState, LogSeen}
-use Rattle.broker_log.specs.Turns.{IsRunInLog}
-use Rattle.broker_log.specs.Turns as turns
+use Rattle.broker_log.specs.Read.{IsRunInLog}
+use Rattle.broker_log.specs.Read as reads
 use Rattle.laws_partition.specs.Log.{IsLineFor, HasBytes, epoch_in, IsRunOf}
 use Rattle.laws_partition.specs.Log as seen
 use Rattle.laws_partition.proofs.BoolTests.{le_true}
@@ -111,7 +111,7 @@ bytes_next n [] c some = tt
 bytes_next n ([] ∷ rest) c some = absurd (let zero_is = none_base in omega (arith, c.0, zero_is, some))
 bytes_next n ((byte ∷ batch) ∷ rest) c some = omega arith
 
-stop_seen : (stop : Stop) (run rest : List (List ℕ)) (next limit mark : ℕ) → next ≡ end_of run → turns.StopIs stop run rest next limit mark → seen.StopIs stop run rest limit mark
+stop_seen : (stop : Stop) (run rest : List (List ℕ)) (next limit mark : ℕ) → next ≡ end_of run → reads.StopIs stop run rest next limit mark → seen.StopIs stop run rest limit mark
 stop_seen Mark run rest next limit mark is h = sym is ∙ h
 stop_seen Piece run rest next limit mark is h = λ e. h (is ∙ e)
 stop_seen Limit run [] next limit mark is h = absurd h
@@ -126,7 +126,7 @@ same_epochs e (batch ∷ run) all = (ap (λ (k : ℕ). Some k) all.0, same_epoch
 pub run_shown : {D : Type 0} (kept : LogState D) (s : LogSeen) (offset limit mark : ℕ) (out : RunOut) → IsConsecutive 0 s.batches → IsLineFor s.line s.batches → (r : IsRunInLog kept s offset limit mark out) → IsRunOf s.batches offset limit mark out.stop r.run
 run_shown kept s offset limit mark out c line r = go r.run r.rest r.some r.parts r.next_is r.fits r.stop_is
   where
-    go : (run rest : List (List ℕ)) → run ≢ [] → from_offset offset s.batches ≡ run ++ rest → out.next ≡ end_from offset run → Fits limit run → turns.StopIs out.stop run rest out.next limit mark
+    go : (run rest : List (List ℕ)) → run ≢ [] → from_offset offset s.batches ≡ run ++ rest → out.next ≡ end_from offset run → Fits limit run → reads.StopIs out.stop run rest out.next limit mark
         → IsRunOf s.batches offset limit mark out.stop run
     go [] rest some parts next fits stop = absurd (some refl)
     go (first ∷ run) rest some parts next fits stop =

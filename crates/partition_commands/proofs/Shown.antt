@@ -12,7 +12,7 @@ use Rattle.registry.specs.declared.registry.Registry.{Registry}
 use Rattle.plain_log.specs.State.{leads_in}
 use Rattle.broker_log.specs.Seen.{LogState, Up, Down, Away, ShowsSeen, LogStays, is_up as is_open, end_in, flushed_end_in, line_in, local_in}
 use Rattle.broker_log.specs.Seen as log
-use Rattle.broker_log.specs.Turns.{loosened, torn}
+use Rattle.broker_log.specs.Effects.{loosened, torn}
 use Rattle.laws_partition.specs.Seen as seen
 use Rattle.laws_partition.specs.Partition as seen_partition
 use Rattle.laws_partition.proofs.BoolTests.{some_of}

@@ -11,7 +11,7 @@ use Rattle.registry.specs.Registry.{fresh_registry}
 use Rattle.plain_log.specs.declared.state.Role.{Role}
 use Rattle.plain_log.specs.declared.state.Role.TheVariants.{Leads, Joined}
 use Rattle.broker_log.specs.Seen.{LogSeen, ShowsSeen, OnDisk, end_in, flushed_end_in, line_in, layout_in}
-use Rattle.broker_log.specs.Turns.{first_layout}
+use Rattle.broker_log.specs.Write.{first_layout}
 use Rattle.partition_commands.specs.declared.partition_state.Node.{Node}
 use Rattle.partition_commands.specs.declared.partition_state.PartitionState.{PartitionState}
 use Rattle.partition_commands.specs.declared.refusal.WorldRefusal.{WorldRefusal}

@@ -16,9 +16,9 @@ use Rattle.registry.specs.Calls.{when}
 use Rattle.plain_log.specs.declared.state.Role.TheVariants.{Idle}
 use Rattle.plain_log.specs.State.{leads_in}
 use Rattle.broker_log.specs.Seen.{LogState, ShowsSeen, LogStays, WhileUp, OnDisk, Lasting, OneFault, Quiet, is_up as is_open, end_in, flushed_end_in, line_in, local_in, layout_in}
-use Rattle.broker_log.specs.Turns.{Misreads}
+use Rattle.broker_log.specs.Read.{Misreads}
 use Rattle.broker_log.specs.Seen as log
-use Rattle.broker_log.specs.Turns as turns
+use Rattle.broker_log.specs.Failure as failures
 use Rattle.laws_partition.specs.Seen as seen
 use Rattle.partition_commands.specs.declared.partition_state.Node.{Node}
 use Rattle.partition_commands.specs.declared.partition_state.PartitionState.{PartitionState}
@@ -143,7 +143,7 @@ module _ {D : Type 0} (content : D → Content) (control : D → Control call_co
   pub record BreaksNode (h : PartitionState D) (b : ℕ) (x : Node D) (makes : log.LogSeen → log.LogSeen)
       (h' : PartitionState D) : Type 0 where
     pub kept : LogState D
-    pub breaks : turns.Breaks content x.log kept makes
+    pub breaks : failures.Breaks content x.log kept makes
     pub cause : OneFault control x.log kept
     pub lasts : Lasting control x.log kept
     pub after : h' ≡ put_node h b (record (stopped x) { log = kept })

@@ -13,7 +13,7 @@ use Rattle.plain_log.specs.declared.command.Command.{Command}
 use Rattle.plain_log.specs.declared.command.Command.TheVariants.{Follow, Join, Trim}
 use Rattle.broker_log.specs.Seen.{ShowsSeen}
 use Rattle.broker_log.specs.Seen as log
-use Rattle.broker_log.specs.Turns.{LeadsTo}
+use Rattle.broker_log.specs.Effects.{LeadsTo}
 use Rattle.laws_partition.specs.declared.start_snapshot.StartSnapshot.{StartSnapshot}
 use Rattle.laws_partition.specs.Partition.{the_leader}
 use Rattle.laws_partition.specs.Log.{epoch_in}

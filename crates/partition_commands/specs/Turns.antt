@@ -19,7 +19,7 @@ use Rattle.plain_log.specs.declared.command.Which.TheVariants.{Earliest, Latest,
 use Rattle.plain_log.specs.State.{leads}
 use Rattle.plain_log.specs.RowsOfReads.{is_long}
 use Rattle.broker_log.specs.Seen.{LogState, Quiet}
-use Rattle.broker_log.specs.Turns.{StopsBroker, ComesUp, Unopened, IsSpent}
+use Rattle.broker_log.specs.Open.{StopsBroker, ComesUp, Unopened, IsSpent}
 use Rattle.laws_partition.specs.declared.start_snapshot.StartSnapshot.{StartSnapshot}
 use Rattle.laws_partition.specs.declared.start_snapshot.Turned.{Turned}
 use Rattle.laws_partition.specs.declared.start_snapshot.Turned.TheVariants.{Answers, Begins}

@@ -18,7 +18,8 @@ use Rattle.plain_log.specs.declared.answer.Answer.TheVariants.{Ok, OkAt, Down, N
 use Rattle.plain_log.specs.declared.state.Role.TheVariants.{Leads as LeadsIn, Follows as FollowsIn}
 use Rattle.plain_log.specs.State.{leads, acking, epoch_in}
 use Rattle.broker_log.specs.Seen.{LogState, WhileUp, Quiet}
-use Rattle.broker_log.specs.Turns.{Settles, loosened}
+use Rattle.broker_log.specs.Effects.{loosened}
+use Rattle.broker_log.specs.Write.{Settles}
 use Rattle.partition_commands.specs.declared.partition_state.Node.{Node}
 use Rattle.partition_commands.specs.declared.partition_state.PartitionState.{PartitionState}
 use Rattle.partition_commands.specs.Partition.{is_up, end_of, flushed_end_of, line_of, put_node, BreaksNode}

@@ -13,7 +13,7 @@ use Rattle.plain_log.specs.declared.answer.Tier.TheVariants.{Local}
 use Rattle.tier_base.specs.declared.plain.Stop.{Stop}
 use Rattle.plain_log.specs.State.{leads}
 use Rattle.broker_log.specs.Seen.{LogState, Quiet}
-use Rattle.broker_log.specs.Turns.{ReadsRun}
+use Rattle.broker_log.specs.Read.{ReadsRun}
 use Rattle.partition_commands.specs.declared.partition_state.Node.{Node}
 use Rattle.partition_commands.specs.declared.partition_state.PartitionState.{PartitionState}
 use Rattle.partition_commands.specs.Partition.{is_up, end_of, local_of, put_node, NodeReadFails, NodeHasDamage}

@@ -19,8 +19,11 @@ use Rattle.plain_log.specs.declared.answer.Place.TheVariants.{File}
 use Rattle.plain_log.specs.declared.state.Role.TheVariants.{Joined}
 use Rattle.plain_log.specs.State.{followed, joined}
 use Rattle.broker_log.specs.Seen.{LogState, WhileUp, Quiet}
-use Rattle.broker_log.specs.Turns.{Appends, CutsLog, ReadsRun, IsEndUpTo, BreaksIf, Restarts, RestartBreaks, cut_back, torn}
-use Rattle.broker_log.specs.Turns as turns
+use Rattle.broker_log.specs.Effects.{cut_back, torn}
+use Rattle.broker_log.specs.Failure.{BreaksIf, RestartBreaks}
+use Rattle.broker_log.specs.Write.{Appends, CutsLog, Restarts}
+use Rattle.broker_log.specs.Read.{ReadsRun, IsEndUpTo}
+use Rattle.broker_log.specs.Effects as effects
 use Rattle.laws_partition.specs.declared.start_snapshot.StartSnapshot.{StartSnapshot}
 use Rattle.laws_partition.specs.declared.start_snapshot.Turned.{Turned}
 use Rattle.laws_partition.specs.declared.start_snapshot.Turned.TheVariants.{Answers, Begins}
@@ -93,7 +96,7 @@ module _ {D : Type 0} (content : D → Content) (control : D → Control call_co
   abbrev pub CutRow : PartitionState D → ℕ → Node D → ℕ → ℕ → Answer → PartitionState D → Type 0
   CutRow h b x epoch met (Cut n) h' = CutsNode h b x epoch met n h'
   CutRow h b x epoch met (DiskFaultAt n) h' = IsEndUpTo content x.log met n
-      × BreaksBy content control h b x (λ old new. BreaksIf content old new (turns.MayCutLog met) (λ s. torn s (cut_back s met))) h'
+      × BreaksBy content control h b x (λ old new. BreaksIf content old new (effects.MayCutLog met) (λ s. torn s (cut_back s met))) h'
   CutRow h b x epoch met other h' = ⊥
 
   -- what a join's actor's state has after its first turn, where the logs meet below the leader's local log

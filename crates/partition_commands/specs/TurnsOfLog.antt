@@ -18,7 +18,9 @@ use Rattle.plain_log.specs.RowsOfLog.{offset_limit}
 use Rattle.local_log.specs.Dropping.{IsFirstFlushed}
 use Rattle.local_log.specs.Stored.{size_of}
 use Rattle.broker_log.specs.Seen.{LogState, back_of, WhileUp, Quiet}
-use Rattle.broker_log.specs.Turns.{Appends, Settles, Rolls, DropsFirst, DropBreaks, loosened}
+use Rattle.broker_log.specs.Effects.{loosened}
+use Rattle.broker_log.specs.Failure.{DropBreaks}
+use Rattle.broker_log.specs.Write.{Appends, Settles, Rolls, DropsFirst}
 use Rattle.laws_partition.specs.declared.start_snapshot.StartSnapshot.{StartSnapshot}
 use Rattle.laws_partition.specs.declared.start_snapshot.Turned.{Turned}
 use Rattle.laws_partition.specs.declared.start_snapshot.Turned.TheVariants.{Answers, Begins}

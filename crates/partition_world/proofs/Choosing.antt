@@ -26,7 +26,7 @@ use Rattle.plain_log.specs.declared.state.State.{State}
 use Rattle.plain_log.specs.Safe.{is_leaders}
 use Rattle.broker_log.specs.Seen.{LogState, Up, Down, Away, ShowsSeen, incarnation_in}
 use Rattle.broker_log.specs.Seen as log
-use Rattle.broker_log.specs.Turns.{IsSegmentOf}
+use Rattle.broker_log.specs.Read.{IsSegmentOf}
 use Rattle.laws_partition.specs.declared.start_snapshot.StartSnapshot.{StartSnapshot}
 use Rattle.laws_partition.specs.Partition.{broker_of}
 use Rattle.laws_partition.specs.Seen as seen

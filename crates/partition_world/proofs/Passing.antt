@@ -19,7 +19,7 @@ use Rattle.segment_file.specs.Growing.{Grown, end_after, latest_from, latest_ts}
 use Rattle.local_log.specs.Coheres.{SegmentsHold}
 use Rattle.local_log.specs.Stored.{end_of as segment_end}
 use Rattle.broker_log.specs.Seen.{LogState, Up, Down, Away, LogSeen, ShowsSeen, LogStays, closed_in, is_up}
-use Rattle.broker_log.specs.Turns.{IsRunInLog}
+use Rattle.broker_log.specs.Read.{IsRunInLog}
 use Rattle.plain_log.specs.declared.answer.Answer.{Answer}
 use Rattle.plain_log.specs.declared.answer.Answer.TheVariants.{DiskFault, Damaged, Offset}
 use Rattle.plain_log.specs.declared.answer.Place.TheVariants.{File}

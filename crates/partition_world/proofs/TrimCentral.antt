@@ -19,7 +19,7 @@ use Rattle.plain_log.specs.declared.state.State.{State}
 use Rattle.registry.specs.declared.registry.Registry.{Registry}
 use Rattle.broker_log.specs.Seen as log
 use Rattle.broker_log.specs.Seen.{ShowsSeen, closed_in}
-use Rattle.broker_log.specs.Turns.{loosened, kept_line}
+use Rattle.broker_log.specs.Effects.{loosened, kept_line}
 use Rattle.laws_partition.specs.declared.start_snapshot.StartSnapshot.{StartSnapshot}
 use Rattle.laws_partition.specs.Partition as seen_partition
 use Rattle.laws_partition.specs.RowsOfLog as seen_log

@@ -35,7 +35,7 @@ use Rattle.plain_log.specs.declared.answer.Place.TheVariants.{File}
 use Rattle.plain_log.specs.State.{leads}
 use Rattle.tier_safe.specs.Views.{IsIdOf}
 use Rattle.broker_log.specs.Seen.{LogState, LogSeen, ShowsSeen, LogStays, WhileUp, OnDisk, Lasting, NoFault, OneFault, closed_in, incarnation_in}
-use Rattle.broker_log.specs.Turns.{IsSegmentOf}
+use Rattle.broker_log.specs.Read.{IsSegmentOf}
 use Rattle.laws_partition.specs.declared.start_snapshot.StartSnapshot.{StartSnapshot}
 use Rattle.partition_commands.specs.declared.partition_state.Node.{Node}
 use Rattle.partition_commands.specs.declared.partition_state.PartitionState.{PartitionState}

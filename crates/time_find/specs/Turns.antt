@@ -36,7 +36,7 @@ use Rattle.tier_base.specs.declared.plain.FileName.{FileName}
 use Rattle.local_log.specs.Reading.{segment_at, is_edge}
 use Rattle.local_log.specs.declared.reading.RunOut.{RunOut}
 use Rattle.broker_log.specs.Seen.{LogState, LogStays, WhileUp, OnDisk, Lasting, OneFault, Quiet, closed_in}
-use Rattle.broker_log.specs.Turns.{ReadsRun, Misreads}
+use Rattle.broker_log.specs.Read.{ReadsRun, Misreads}
 use Rattle.remote_view.specs.Fold.{EntriesSeen, entry_of}
 use Rattle.remote_find.specs.declared.piece.Piece.{Piece}
 use Rattle.view_refresh.specs.Refreshing.{Refreshed, Unread, Halted}

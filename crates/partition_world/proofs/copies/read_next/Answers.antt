@@ -6,7 +6,7 @@ use Rattle.local_log.specs.Reading.{IsClosedFrom, ClosedFails, IsOfDevice}
 use Rattle.local_log.specs.declared.refusal.ReadRefusal.{ReadRefusal}
 use Rattle.local_log.specs.declared.refusal.ReadRefusal.TheVariants.{Damaged}
 use Rattle.broker_log.specs.Seen.{LogSeen, ShowsSeen, WhileUp, OnDisk}
-use Rattle.broker_log.specs.Turns.{IsSegmentOf}
+use Rattle.broker_log.specs.Read.{IsSegmentOf}
 use Rattle.tier_safe.specs.Views.{IsIdOf}
 use Rattle.partition_world.specs.Tier.{next_of, counted}
 use Rattle.partition_commands.proofs.Writes.{never}

@@ -1,5 +1,5 @@
 use Rattle.std.proofs.Common.{◌∙◌, ap, refl, subst, ℕ, Err}
-use Rattle.broker_log.specs.Turns.{ReadsRun, Misreads}
+use Rattle.broker_log.specs.Read.{ReadsRun, Misreads}
 use Rattle.partition_commands.specs.TurnsOfFetch.{MayGive}
 use Rattle.partition_commands.proofs.Staying.{at_node, stays_at, has_read}
 use Rattle.partition_commands.proofs.Writes.{never}

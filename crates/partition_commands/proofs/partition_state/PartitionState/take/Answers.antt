@@ -1,5 +1,5 @@
 use Rattle.std.proofs.Common.{◌∙◌, ap, refl, subst, ℕ, Err}
-use Rattle.broker_log.specs.Turns.{Misreads}
+use Rattle.broker_log.specs.Read.{Misreads}
 use Rattle.broker_log.proofs.ReadBefore.{reads_checked}
 use Rattle.partition_commands.specs.TurnsOfFollowers.{MayTake}
 use Rattle.partition_commands.proofs.Putting.{of_node}
