@@ -9,7 +9,8 @@
 -- last group are too short; 5 or 10 bytes with no last group are too long.
 --
 -- Source: Kafka's ByteUtils, after the varints of Protocol Buffers.
-use Rattle.std.specs.Prelude.{ℕ, zero, suc, ◌+◌, ◌*◌, ◌/◌, ◌%◌, ◌^◌, ◌==◌, ◌<◌, ◌≤◌, nat_lt, if◌then◌else◌, ℤ, pos, negsuc, List, [], ◌∷◌, length, take, All, Result, Ok, Err}
+use Rattle.std.specs.Prelude.{ℕ, zero, suc, ◌+◌, ◌*◌, ◌/◌, ◌%◌, ◌^◌, ◌==◌, ◌<◌, ◌≤◌, nat_lt, if◌then◌else◌, ℤ}
+use Rattle.std.specs.Prelude.{pos, negsuc, List, [], ◌∷◌, length, take, All, Result, Ok, Err}
 use Rattle.batch_prims.specs.declared.refusal.VarRefusal.{VarRefusal}
 use Rattle.batch_prims.specs.declared.refusal.VarRefusal.TheVariants.{Short, TooLong}
 

@@ -4,7 +4,8 @@
 //! groups are laid out first and appended at once, so running out of memory leaves none of them behind.
 
 ghost use Rattle.std.specs.Prelude.{◌≡◌, ◌<◌, ◌≤◌, ◌^◌, ◌++◌, length, take, drop, IfOk, OnOk, OnErr, IsErrOf, ◌↔◌};
-ghost use Rattle.batch_prims.specs.Varint.{seen, low_bits, groups_at, EndsInside, HasNoLast, shortest, varint_at, varlong_at, varint_bytes, varlong_bytes};
+ghost use Rattle.batch_prims.specs.Varint.{seen, low_bits, groups_at, EndsInside, HasNoLast, shortest};
+ghost use Rattle.batch_prims.specs.Varint.{varint_at, varlong_at, varint_bytes, varlong_bytes};
 
 use crate::refusal::VarRefusal;
 use crate::zigzag::{decoded_32, decoded_64, encoded};

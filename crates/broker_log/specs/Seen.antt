@@ -8,11 +8,12 @@
 --   Shows content kept s      the log, or its disk, is seen so
 --   Goes content old new R    a call makes this of what is seen
 --   Stays content old new     a call leaves what is seen, and the plain facts
---   LeavesBetween .. old new  whatever a crash in the course of a call leaves is opened as before the call or as after it
+--   LeavesBetween .. old new  whatever a crash in the course of a call leaves opens as before the call or as after it
 --
 -- Of a disk that isn't observable nothing is seen. A log that is up also has its end, its flushed end and its leader
 -- epochs, and its layout: how it is in segments, whose batches it has. Its settings last as long as the broker.
-use Rattle.std.specs.Prelude.{◌≡◌, ◌⊎◌, ◌≤◌, [], ◌∷◌, ℕ, Bool, true, false, List, ◌++◌, Option, Some, None, IsTrue, IsSomeAnd}
+use Rattle.std.specs.Prelude.{◌≡◌, ◌⊎◌, ◌≤◌, [], ◌∷◌, ℕ, Bool, true, false, List}
+use Rattle.std.specs.Prelude.{◌++◌, Option, Some, None, IsTrue, IsSomeAnd}
 use Rattle.tier_base.specs.declared.plain.Settings.{Settings}
 use Rattle.tier_base.specs.Device.{Control, Lasts}
 use Rattle.tier_base.specs.Counts.{counted, Rose}
@@ -241,8 +242,8 @@ abbrev pub OpensLater : Content → Files → Type 0
 OpensLater d c = (x : Files) × Image d x
     × ((o : Opened) → Opens x o → (i : ℕ) × (o.incarnation ≤ i) × Opens c (record o { incarnation = i }))
 
--- Of an observable disk, from which a log could be opened after any crash before: a crash at any moment between leaves files
--- that open as an image of before does, or as one of now.
+-- Of an observable disk, from which a log could be opened after any crash before: a crash at any moment between
+-- leaves files that open as an image of before does, or as one of now.
 abbrev pub OpensBetween : Content → Content → Type 0
 OpensBetween d d' = IsTrue d.is_observable → Reopens d → LeavesOnly d d' (λ c. OpensLater d c ⊎ OpensLater d' c)
 

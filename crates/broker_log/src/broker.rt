@@ -1,6 +1,7 @@
 //! A broker's log and its calls.
 
-ghost use Rattle.std.specs.Prelude.{◌≡◌, ◌≢◌, ◌⊎◌, ◌↔◌, ◌≤◌, ◌<◌, ◌^◌, ◌+◌, ℕ, List, true, false, IfOk, OnOk, OnErr, IsTrue, IsErrOf};
+ghost use Rattle.std.specs.Prelude.{◌≡◌, ◌≢◌, ◌⊎◌, ◌↔◌, ◌≤◌, ◌<◌, ◌^◌, ◌+◌, ℕ, List, true};
+ghost use Rattle.std.specs.Prelude.{false, IfOk, OnOk, OnErr, IsTrue, IsErrOf};
 ghost use Rattle.std.specs.Prelude.{length, Some, None, Ok, Err, IsOk, IfErr, IfSome, option_map};
 ghost use Rattle.tier_base.specs.declared.plain.FileName.{FileName};
 ghost use Rattle.tier_base.specs.Counts.{counted, Rose};
@@ -23,7 +24,9 @@ ghost use Rattle.local_log.specs.declared.refusal.AppendRefusal.TheVariants as a
 ghost use Rattle.local_log.specs.declared.refusal.RollRefusal.TheVariants as roll;
 ghost use Rattle.local_log.specs.declared.refusal.ReadRefusal.TheVariants as reading;
 ghost use Rattle.local_log.specs.declared.refusal.OpenRefusal.TheVariants as opening;
-ghost use Rattle.broker_log.specs.Seen.{LogSeen, Down, ShowsSeen, ChangesSeen, LogStays, WhileUp, OnDisk, Lasting, Faulted, NoFault, OneFault, is_up, end_in, flushed_end_in, line_in, local_in, incarnation_in, closed_in, layout_in, settings_in};
+ghost use Rattle.broker_log.specs.Seen.{LogSeen, Down, ShowsSeen, ChangesSeen, LogStays, WhileUp, OnDisk, Lasting};
+ghost use Rattle.broker_log.specs.Seen.{Faulted, NoFault, OneFault, is_up, end_in, flushed_end_in, line_in, local_in};
+ghost use Rattle.broker_log.specs.Seen.{incarnation_in, closed_in, layout_in, settings_in};
 ghost use Rattle.broker_log.specs.Effects.{MayCutLog, cut_back, loosened, torn};
 ghost use Rattle.broker_log.specs.Failure.{DropBreaks, RestartBreaks, Breaks, BreaksIf, BreaksUnsaved};
 ghost use Rattle.broker_log.specs.Write.{IsNewBrokerLog, Appends, Settles, CutsLog, DropsFirst, Restarts, Rolls};

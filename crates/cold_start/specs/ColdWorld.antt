@@ -77,7 +77,8 @@ module _ {D : Type 0} where
 
 module _ {D S M : Type 0} where
   -- a world with a registry that begins over these devices, with these lists and this journal
-  abbrev pub reopened : Config → Whole D S M → List ActorList → ReservedItems JournalEntry → List D → S → M → Whole D S M
+  abbrev pub reopened : Config → Whole D S M → List ActorList → ReservedItems JournalEntry → List D → S → M
+      → Whole D S M
   reopened config w lists journal disks s m = record {
     partition = w.partition;
     config = config;
@@ -99,8 +100,8 @@ module _ {D S M : Type 0} (disk : DiskGhosts D) (store : StoreGhosts S) (meta : 
   abbrev pub plain_in : (opening : State) (w : Whole D S M) → IsCentralLeft disk store meta opening w → State
   plain_in opening w c = (c (meta.content w.tier.meta).notes (inl refl)).central.plain
 
-  -- after a power cut of everything between two turns a world that begins with the registry over what is left has the central fact
-  -- for what is left of the plain state
+  -- after a power cut of everything between two turns a world that begins with the registry over what is left has the
+  -- central fact for what is left of the plain state
   abbrev pub PowerCutKeepsCentral : Type 0
   PowerCutKeepsCentral = (opening : State) (config : Config) (w : Whole D S M) (lists : List ActorList)
       (journal : ReservedItems JournalEntry)
@@ -147,7 +148,8 @@ module _ {D S M : Type 0} (disk : DiskGhosts D) (store : StoreGhosts S) (meta : 
       → Reaches disk store meta v schedule v' → IsSafeRunFrom (cold_of (plain_in opening w c)) lists v'.journal.items
 
 module _ {D : Type 0} (disk : DiskGhosts D) where
-  -- the disks that a partition gives back are such as a power cut may leave, and so are those that a power cut leaves of them
+  -- the disks that a partition gives back are such as a power cut may leave, and so are those that a power cut leaves
+  -- of them
   abbrev pub ClosedAreLeft : Type 0
   ClosedAreLeft = (nodes : List (Node D)) (disks nows : List D) → AreDisksOf nodes disks
       → DisksReopen disk.content nodes disks

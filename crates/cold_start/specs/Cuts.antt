@@ -13,11 +13,13 @@ use Rattle.cold_start.specs.ColdWorld.{IsCutDisk, IsCutLog}
 module _ {D : Type 0} (disk : DiskGhosts D) where
   -- a disk that crashed
   abbrev pub CrashedDiskIsCut : Type 0
-  CrashedDiskIsCut = (old new : D) → Crashes (disk.content old) (disk.content new) → IsCutDisk (disk.content old) (disk.content new)
+  CrashedDiskIsCut =
+      (old new : D) → Crashes (disk.content old) (disk.content new) → IsCutDisk (disk.content old) (disk.content new)
 
   -- one that is provided with each file that it had
   abbrev pub KeptDiskIsCut : Type 0
-  KeptDiskIsCut = (old new : D) → KeepsFiles (disk.content old) (disk.content new) → IsCutDisk (disk.content old) (disk.content new)
+  KeptDiskIsCut =
+      (old new : D) → KeepsFiles (disk.content old) (disk.content new) → IsCutDisk (disk.content old) (disk.content new)
 
   -- a metadata log on a disk that a power cut left of another log's: it leaves no metadata events that can't be opened
   -- from there
@@ -29,4 +31,5 @@ module _ {D : Type 0} (disk : DiskGhosts D) where
 
 -- a metadata log that is provided with each metadata event that it had
 abbrev pub KeptLogIsCut : {M : Type 0} (meta : MetaGhosts M) → Type 0
-KeptLogIsCut {M = M} meta = (old new : M) → KeepsNotes (meta.content old) (meta.content new) → IsCutLog (meta.content old) (meta.content new)
+KeptLogIsCut {M = M} meta =
+    (old new : M) → KeepsNotes (meta.content old) (meta.content new) → IsCutLog (meta.content old) (meta.content new)

@@ -29,9 +29,11 @@ abbrev pub ColdTierIsSafe : Type 0
 ColdTierIsSafe = (c : Scene) (p : State) (desk : List TierTask) → IsDeskFree desk → TierSafe c p
     → TierSafe (cold_scene c desk) (cold_of p)
 
--- a partition that has the central fact for some opening state has it, as a power cut leaves it, for the state that is left
+-- a partition that has the central fact for some opening state has it, as a power cut leaves it, for the state that
+-- is left
 abbrev pub ColdIsCentral : Type 0
-ColdIsCentral = (opening : State) (w : Whole) (clock : ℤ) (lists : List ActorList) (journal : ReservedItems JournalEntry)
+ColdIsCentral =
+    (opening : State) (w : Whole) (clock : ℤ) (lists : List ActorList) (journal : ReservedItems JournalEntry)
     (c : IsCentral opening w)
     → AreRising lists → journal.items ≡ [] → IsCentral (cold_of c.plain) (cold_whole w clock lists journal)
 

@@ -3,15 +3,15 @@
 --   form                       says
 --   IsCutSince old now new     a disk after it: it has the files that one moment since old left, and no others
 --   LeaveSince xs ys disks     so has each broker's
---   IsLeftSince v r0 w r ..    a power cut of everything may leave these devices of a partition in the course of the step
+--   IsLeftSince v r0 w r ..    a power cut of everything may leave these devices in the course of the step
 --   LeavesDuring opening ..    they represent what is left of the plain state before the step, or of that after it
 --   GoesSafely t t'            a step of an actor, in the course of which that holds
 --   GoesThrough us t t'        such steps lead from t to t' through these
 --   RunsThrough t t'           so through some
 --   StepsWorkOnOne             a step works on one device at most
 --
--- Several devices have no common clock, so whatever moments their files are of may come together. A step works on one device at most:
--- that alone decides whether it's the state before or after it.
+-- Several devices have no common clock, so whatever moments their files are of may come together. A step works on one
+-- device at most: that alone decides whether it's the state before or after it.
 use Rattle.std.specs.Prelude.{◌≡◌, ◌⊎◌, ℕ, List, [], ◌∷◌, Some, slice_get, slice_set, IsTrue}
 use Rattle.tier_base.specs.declared.plain.FileName.{FileName}
 use Rattle.disk_model.specs.Content.{Content, Files, Image}
@@ -33,7 +33,8 @@ use Rattle.cold_start.specs.Stands.{StandsFor}
 use Rattle.cold_start.specs.Stepping.{Ends, logs_of}
 use Rattle.cold_start.specs.declared.refusal.ColdRefusal.{ColdRefusal}
 
--- a disk after a power cut at some moment since: it has the files that were left then, and a further cut leaves no others
+-- a disk after a power cut at some moment since: it has the files that were left then, and a further cut leaves no
+-- others
 pub record IsCutSince (old now new : Content) : Type 0 where
   pub is_observable : IsTrue old.is_observable → IsTrue new.is_observable
   pub files : Files
@@ -62,7 +63,8 @@ module _ {D : Type 0} (content : D → Content) where
     pub between : LeavesBetween content old.log kept
 
 module _ {D S M : Type 0} (disk : DiskGhosts D) (store : StoreGhosts S) (meta : MetaGhosts M) where
-  -- One broker's log changes at most. Where one does, nothing else is called; where none does, the store or the metadata log is as it was.
+  -- One broker's log changes at most. Where one does, nothing else is called; where none does, the store or the
+  -- metadata log is as it was.
   abbrev pub WorksOnOne : Whole D S M → Whole D S M → Type 0
   WorksOnOne w w' =
       (ChangesLog disk.content w.partition_state.nodes w'.partition_state.nodes
@@ -75,8 +77,10 @@ module _ {D S M : Type 0} (disk : DiskGhosts D) (store : StoreGhosts S) (meta : 
   StepsWorkOnOne = (w : Whole D S M) (a : ℕ) (stepped : Stepped) (w' : Whole D S M)
       → Steps disk store meta w a stepped w' → WorksOnOne w w'
 
-  -- a power cut of everything may leave these of an open partition's devices in the course of a step from this world to that
-  pub record IsLeftSince (v : Whole D S M) (reg : D) (w : Whole D S M) (now : D) (disks : List D) (s : S) (m : M) (r : D) : Type 0 where
+  -- a power cut of everything may leave these of an open partition's devices in the course of a step from this world
+  -- to that
+  pub record IsLeftSince (v : Whole D S M) (reg : D) (w : Whole D S M) (now : D) (disks : List D) (s : S) (m : M)
+      (r : D) : Type 0 where
     pub logs : LeaveSince disk.content v.partition_state.nodes w.partition_state.nodes disks
     pub objects : IsCutStore (store.content v.tier.store) (store.content s)
         ⊎ IsCutStore (store.content w.tier.store) (store.content s)

@@ -6,7 +6,8 @@
 --   IsPartitionOpened .. t        one of these
 --   says asked view      what the registry's file makes of an opening that asks for so many brokers
 --   OpeningHasCause .. why      a refusal comes of this
-use Rattle.std.specs.Prelude.{◌≡◌, ◌≢◌, ◌≤◌, ◌⊎◌, ◌==◌, ℕ, List, [], ◌∷◌, length, false, if◌then◌else◌, Option, Some, None, Ok, Err, IsTrue}
+use Rattle.std.specs.Prelude.{◌≡◌, ◌≢◌, ◌≤◌, ◌⊎◌, ◌==◌, ℕ, List, [], ◌∷◌, length, false}
+use Rattle.std.specs.Prelude.{if◌then◌else◌, Option, Some, None, Ok, Err, IsTrue}
 use Rattle.std.specs.declared.result.Result.{Result}
 use Rattle.tier_base.specs.Counts.{Rose}
 use Rattle.tier_base.specs.Device.{Control, Lasts}
@@ -41,7 +42,8 @@ use Rattle.partition_world.specs.Fresh.{IsFresh}
 use Rattle.partition_world.specs.Whole.{Whole}
 use Rattle.cold_start.specs.Running.{Running}
 use Rattle.cold_start.specs.declared.refusal.ColdRefusal.{ColdRefusal}
-use Rattle.cold_start.specs.declared.refusal.ColdRefusal.TheVariants.{RegistryFault, DeviceFault, BadRegistry, Brokers, NoMemory}
+use Rattle.cold_start.specs.declared.refusal.ColdRefusal.TheVariants.{RegistryFault, DeviceFault}
+use Rattle.cold_start.specs.declared.refusal.ColdRefusal.TheVariants.{BadRegistry, Brokers, NoMemory}
 
 module _ {D : Type 0} (control : D → Control call_code) where
   -- a disk's plan isn't in force, and no call is counted
@@ -99,7 +101,8 @@ says asked (Ok view) = if view.brokers == asked then None else Some (Brokers vie
 
 module _ {D S M : Type 0} (disk : DiskGhosts D) (store : StoreGhosts S) (meta : MetaGhosts M) where
   -- there was no registry: the world is fresh, over disks whose files were removed
-  pub record Starts (partition : PartitionId) (config : Config) (lists : List ActorList) (disks : List D) (s : S) (m : M) (reg : D)
+  pub record Starts (partition : PartitionId) (config : Config) (lists : List ActorList) (disks : List D) (s : S)
+      (m : M) (reg : D)
       (t : Running D S M) : Type 0 where
     pub none : IsTrue (disk.content reg).is_observable → (disk.content reg).files RegistryName ≡ None
     pub cleared : List D
@@ -110,7 +113,8 @@ module _ {D S M : Type 0} (disk : DiskGhosts D) (store : StoreGhosts S) (meta : 
     pub fresh : IsFresh disk store meta partition config lists cleared s recorded t.world
 
   -- the registry was read: the world is reopened with it, over the disks as they were
-  pub record BeginsFromRegistry (partition : PartitionId) (config : Config) (lists : List ActorList) (disks : List D) (s : S) (m : M) (reg : D)
+  pub record BeginsFromRegistry (partition : PartitionId) (config : Config) (lists : List ActorList) (disks : List D)
+      (s : S) (m : M) (reg : D)
       (t : Running D S M) : Type 0 where
     pub view : RegView
     pub read : view_in (disk.control t.reg).last_read ≡ Ok view
@@ -128,7 +132,8 @@ module _ {D S M : Type 0} (disk : DiskGhosts D) (store : StoreGhosts S) (meta : 
 
 module _ {D M : Type 0} (disk : DiskGhosts D) (meta : MetaGhosts M) where
   -- A refusal comes of this. The first device list is as it was passed in, the second as it is given back.
-  pub record OpeningHasCause (config : Config) (disks : List D) (m : M) (reg : D) (nows : List D) (n : M) (r : D) (why : ColdRefusal)
+  pub record OpeningHasCause (config : Config) (disks : List D) (m : M) (reg : D) (nows : List D) (n : M) (r : D)
+      (why : ColdRefusal)
       : Type 0 where
     pub registry_fault : why ≡ RegistryFault → Rose (disk.control reg).faults (disk.control r).faults
     pub device_fault : why ≡ DeviceFault → OneFailed disk.control disks nows
@@ -147,7 +152,8 @@ module _ {D M : Type 0} (disk : DiskGhosts D) (meta : MetaGhosts M) where
 
 module _ {D S M : Type 0} (disk : DiskGhosts D) (meta : MetaGhosts M) where
   -- what comes back with a refusal: after a device's fault no device is armed
-  pub record DevicesComeBack (disks : List D) (s : S) (m : M) (reg : D) (nows : List D) (t : S) (n : M) (r : D) (why : ColdRefusal)
+  pub record DevicesComeBack (disks : List D) (s : S) (m : M) (reg : D) (nows : List D) (t : S) (n : M) (r : D)
+      (why : ColdRefusal)
       : Type 0 where
     pub count : length nows ≡ length disks
     pub registry : Lasts (disk.control reg) (disk.control r)
@@ -157,7 +163,8 @@ module _ {D S M : Type 0} (disk : DiskGhosts D) (meta : MetaGhosts M) where
 
 module _ {D S M : Type 0} (disk : DiskGhosts D) where
   -- a fresh world whose registry couldn't be written is closed, and the disk has the registry's file or none
-  pub record GivesBack (w : Whole D S M) (reg : D) (disks : List D) (s : S) (m : M) (r : D) (why : ColdRefusal) : Type 0 where
+  pub record GivesBack (w : Whole D S M) (reg : D) (disks : List D) (s : S) (m : M) (r : D)
+      (why : ColdRefusal) : Type 0 where
     pub disks_are : AreDisksOf w.partition_state.nodes disks
     pub again : DisksReopen disk.content w.partition_state.nodes disks
     pub store_is : s ≡ w.tier.store

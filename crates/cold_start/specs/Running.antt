@@ -17,9 +17,10 @@ pub record Running (D S M : Type 0) : Type 0 where
   -- the registry couldn't be kept, and all that is left to do is to close the partition
   pub ended : Bool
 
--- The registry's disk isn't armed, and the registry has a replica for each of 1 to 8 brokers. Until the partition has ended a power cut
--- leaves the file of its registry there.
-pub record IsRunningSound {D S M : Type 0} (content : D → Content) (control : D → Control call_code) (t : Running D S M) : Type 0 where
+-- The registry's disk isn't armed, and the registry has a replica for each of 1 to 8 brokers. Until the partition has
+-- ended a power cut leaves the file of its registry there.
+pub record IsRunningSound {D S M : Type 0} (content : D → Content) (control : D → Control call_code)
+    (t : Running D S M) : Type 0 where
   pub unarmed : (control t.reg).armed ≡ false
   pub some : 1 ≤ length t.world.partition_state.registry.replicas
   pub few : length t.world.partition_state.registry.replicas ≤ 8

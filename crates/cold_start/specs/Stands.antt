@@ -1,7 +1,7 @@
 -- What the devices of a partition represent while it isn't open, and what a power cut leaves of those of one that is.
 --
 --   form                   says
---   StandsFor .. p         the devices, with whatever metadata events a power cut now may leave, are those of the plain state p
+--   StandsFor .. p         the devices, with whatever metadata events a power cut may leave, are those of the state p
 --   IsBlank ..             they hold nothing of a partition: no registry, no object and no metadata event
 --   MayBeLeft w reg ..        a power cut of everything may leave these devices of an open partition
 --   LeavesCold w reg       whatever it leaves represents what is left of the plain state that the journal has come to

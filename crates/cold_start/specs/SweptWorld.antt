@@ -27,8 +27,8 @@ with_devices w s m = record {
 }
 
 module _ {D S M : Type 0} (disk : DiskGhosts D) (store : StoreGhosts S) (meta : MetaGhosts M) where
-  -- where no command has begun, a world whose store and metadata log are as a sweep leaves them, done or refused, has the central fact
-  -- for the opening state that it had it for
+  -- where no command has begun, a world whose store and metadata log are as a sweep leaves them, done or refused, has
+  -- the central fact for the opening state that it had it for
   abbrev pub SweepKeepsCentral : Type 0
   SweepKeepsCentral = (opening : State) (w : Whole D S M) (s : S) (m : M) → IsCentralLeft disk store meta opening w
       → w.desk ≡ replicate (length w.lists) fresh_actor_state

@@ -48,7 +48,8 @@ impl<D: Disk, S: Store, M: MetaLog> Model for Cold<D, S, M> {
 
     ghost view = { λ t. record { world = t.world; reg = t.reg; ended = t.ended } };
 
-    ghost invariant = { λ t. IsRunningSound D.content D.control (record { world = t.world; reg = t.reg; ended = t.ended }) };
+    ghost invariant =
+        { λ t. IsRunningSound D.content D.control (record { world = t.world; reg = t.reg; ended = t.ended }) };
 }
 
 /// What a step returns whose registry couldn't be kept.
@@ -97,8 +98,8 @@ impl<D: Disk, S: Store, M: MetaLog> Cold<D, S, M> {
         let _world = &self.world;
     }
 
-    /// Takes the next turn of an actor's commands. Where it changed the registry, the registry's file is replaced before the
-    /// answer; where that fails the partition has ended.
+    /// Takes the next turn of an actor's commands. Where it changed the registry, the registry's file is replaced
+    /// before the answer; where that fails the partition has ended.
     pub fn step(&mut self, alloc: Global, actor: ActorId) -> Result<Stepped, ColdRefusal>
         requires { self.old.ended ≡ false }
         ensures steps { IfOk result (λ stepped. Steps D.Disk S.Store M.MetaLog self.old.world actor.0 stepped
@@ -119,7 +120,8 @@ impl<D: Disk, S: Store, M: MetaLog> Cold<D, S, M> {
         ensures either { OnErr result (IsTrue (D.content self.new.reg).is_observable → (opening : State)
             → LeavesOneOf D.Disk S.Store M.MetaLog opening self.old.world self.new.world self.new.reg) }
 
-        // So does what a power cut leaves at any moment since the step began, whatever moment each device's files are of.
+        // So does what a power cut leaves at any moment since the step began, whatever moment each device's files are
+        // of.
         ensures during { IsTrue (D.content self.old.reg).is_observable → (opening : State)
             → LeavesDuring D.Disk S.Store M.MetaLog opening self.old.world self.old.reg self.new.world self.new.reg }
     {

@@ -1,7 +1,8 @@
 //! Laws of what a power cut leaves. Each is the contract of a function that does nothing: calling it
 //! cites the law.
 
-ghost use Rattle.cold_start.specs.ColdWorld.{PowerCutKeepsCentral, PowerCutLeavesCold, PowerCutKeepsCold, RunsGoOn, ClosedAreLeft};
+ghost use Rattle.cold_start.specs.ColdWorld.{PowerCutKeepsCentral, PowerCutLeavesCold};
+ghost use Rattle.cold_start.specs.ColdWorld.{PowerCutKeepsCold, RunsGoOn, ClosedAreLeft};
 ghost use Rattle.cold_start.specs.Cuts.{CrashedDiskIsCut, KeptDiskIsCut, KeptLogIsCut, ReopenedLogIsCut};
 ghost use Rattle.cold_start.specs.FileLaws.{FileLaws};
 ghost use Rattle.cold_start.specs.Laws.{ColdTierIsSafe, ColdIsCentral, ColdBrokerTiersAreSeen, RegistriesKeepRules};

@@ -7,7 +7,8 @@
 //! Before that the metadata log is read past the greatest number of events that a log can have. If that read succeeds,
 //! the events that it finds are the only ones that a power cut can leave.
 
-ghost use Rattle.std.specs.Prelude.{◌≡◌, ◌⊎◌, ◌≤◌, ◌^◌, ℕ, false, Ok, Some, None, IsTrue, IsErrOf, OnOk, IfOk, IfErr, length};
+ghost use Rattle.std.specs.Prelude.{◌≡◌, ◌⊎◌, ◌≤◌, ◌^◌, ℕ, false, Ok, Some, None};
+ghost use Rattle.std.specs.Prelude.{IsTrue, IsErrOf, OnOk, IfOk, IfErr, length};
 ghost use Rattle.tier_base.specs.Counts.{Rose};
 ghost use Rattle.tier_base.specs.Device.{Lasts};
 ghost use Rattle.tier_base.specs.declared.fault.Trouble.TheVariants.{Failed};
@@ -23,7 +24,9 @@ ghost use Rattle.partition_commands.specs.Fresh.{AreFreshDisks, DisksTell, OneFa
 ghost use Rattle.partition_world.specs.Fresh.{IsNewWorld};
 ghost use Rattle.partition_world.specs.Left.{IsCentralLeft};
 ghost use Rattle.cold_state.specs.Cold.{cold_of};
-ghost use Rattle.cold_start.specs.Opening.{IsGone, AreUnarmed, AllLast, Starts, BeginsFromRegistry, IsPartitionOpened, OpeningHasCause, DevicesComeBack, GivesBack, refusal_of_world, refusal_of_device};
+ghost use Rattle.cold_start.specs.Opening.{IsGone, AreUnarmed, AllLast, Starts, BeginsFromRegistry};
+ghost use Rattle.cold_start.specs.Opening.{IsPartitionOpened, OpeningHasCause, DevicesComeBack, GivesBack};
+ghost use Rattle.cold_start.specs.Opening.{refusal_of_world, refusal_of_device};
 ghost use Rattle.cold_start.specs.Stands.{StandsFor, IsBlank, LeavesCold};
 
 use crate::cold::{Cold, registry_refusal};
@@ -126,8 +129,8 @@ fn settle_notes<M: MetaLog>(meta: &mut M) -> Result<(), Trouble>
 }
 
 impl<D: Disk, S: Store, M: MetaLog> Cold<D, S, M> {
-    /// Opens a partition over its devices and the disk of its registry. From then on the planned calls of the brokers' disks, the
-    /// store and the metadata log fail. A refusal gives the devices back.
+    /// Opens a partition over its devices and the disk of its registry. From then on the planned calls of the
+    /// brokers' disks, the store and the metadata log fail. A refusal gives the devices back.
     pub fn open(
         alloc: Global,
         partition: PartitionId,

@@ -51,7 +51,8 @@ fn run_until<D: Disk, S: Store, M: MetaLog>(
 ) -> Result<(), ColdRefusal>
     requires { cold.old.ended ≡ false }
     ensures later { IsLater D.Disk S.Store M.MetaLog cold.old.world cold.new.world }
-    ensures reaches { OnOk result ((turns : ℕ) × GoesUntil D.Disk S.Store M.MetaLog cold.old.world actor.0 number turns cold.new.world) }
+    ensures reaches { OnOk result ((turns : ℕ)
+        × GoesUntil D.Disk S.Store M.MetaLog cold.old.world actor.0 number turns cold.new.world) }
     ensures going { OnOk result (cold.new.ended ≡ false) }
     ensures err { IfErr result (λ why. HaltsSteps D.Disk S.Store M.MetaLog cold.old cold.new why) }
     ensures control { Lasts (D.control cold.old.reg) (D.control cold.new.reg) }
@@ -117,8 +118,8 @@ fn run_pace<D: Disk, S: Store, M: MetaLog>(
     }
 }
 
-/// Steps the actors as a schedule says. After a refusal the turns so far have been taken. Where the registry couldn't be kept
-/// the partition has ended, and the file is that of the world before the last turn or after it.
+/// Steps the actors as a schedule says. After a refusal the turns so far have been taken. Where the registry couldn't
+/// be kept the partition has ended, and the file is that of the world before the last turn or after it.
 pub fn run_cold<D: Disk, S: Store, M: MetaLog>(
     alloc: Global,
     cold: &mut Cold<D, S, M>,
@@ -132,7 +133,8 @@ pub fn run_cold<D: Disk, S: Store, M: MetaLog>(
     ensures control { Lasts (D.control cold.old.reg) (D.control cold.new.reg) }
     ensures is_observable { (D.content cold.new.reg).is_observable ≡ (D.content cold.old.reg).is_observable }
 
-    // A power cut at any moment of the run comes in the course of a step, and leaves the state before or after that one.
+    // A power cut at any moment of the run comes in the course of a step, and leaves the state before or after that
+    // one.
     ensures during { RunsThrough D.Disk S.Store M.MetaLog cold.old cold.new }
 {
     for pace in schedule {

@@ -71,14 +71,16 @@ module _ {M : Type 0} (notes : M → meta.Content) (calls : M → Control meta_c
   abbrev pub StartRow : Copied → EventOrigin → Result (Turn CopyStep) AllocError → M → M → Type 0
   StartRow copy origin (Ok (Ends MetaFault)) old new =
       AppendsToMetaLog notes calls (start_note copy origin) Fault old new
-  StartRow copy origin (Ok turn) old new = (turn ≡ Goes (Put 0)) × AppendsToMetaLog notes calls (start_note copy origin) Went old new
+  StartRow copy origin (Ok turn) old new =
+      (turn ≡ Goes (Put 0)) × AppendsToMetaLog notes calls (start_note copy origin) Went old new
   StartRow copy origin (Err e) old new = (new ≡ old) ⊎ AppendsToMetaLog notes calls (start_note copy origin) Dry old new
 
   -- it is whole
   abbrev pub FinishRow : Copied → EventOrigin → Result (Turn CopyStep) AllocError → M → M → Type 0
   FinishRow copy origin (Ok (Ends MetaFault)) old new =
       AppendsToMetaLog notes calls (finish_note copy origin) Fault old new
-  FinishRow copy origin (Ok turn) old new = (turn ≡ Goes Check) × AppendsToMetaLog notes calls (finish_note copy origin) Went old new
+  FinishRow copy origin (Ok turn) old new =
+      (turn ≡ Goes Check) × AppendsToMetaLog notes calls (finish_note copy origin) Went old new
   FinishRow copy origin (Err e) old new =
       (new ≡ old) ⊎ AppendsToMetaLog notes calls (finish_note copy origin) Dry old new
 
@@ -126,7 +128,8 @@ module _ {S M : Type 0} (objects : S → store.Content) (calls : S → Control s
   CopyTurnRow copy origin Start result old new =
       (new ≡ record old { meta = new.meta }) × StartRow notes notings copy origin result old.meta new.meta
   CopyTurnRow copy origin (Put n) result old new =
-      (new ≡ record old { store = new.store }) × PutObjectRow objects calls copy n (slice_get (keys copy) n) result old.store new.store
+      (new ≡ record old { store = new.store })
+      × PutObjectRow objects calls copy n (slice_get (keys copy) n) result old.store new.store
   CopyTurnRow copy origin Finish result old new =
       (new ≡ record old { meta = new.meta }) × FinishRow notes notings copy origin result old.meta new.meta
   CopyTurnRow copy origin Check result old new =

@@ -3,7 +3,8 @@
 ghost use Rattle.std.specs.Prelude.{◌≡◌, slice_get};
 ghost use Rattle.remote_view.specs.Fold.{state_of};
 ghost use Rattle.copy_task.specs.Copying.{keys};
-ghost use Rattle.copy_task.specs.Turns.{Tiers, put_at, delete_at, overtaken, checked, StartRow, PutObjectRow, FinishRow, CheckRow, DeleteRow, CopyTurnRow};
+ghost use Rattle.copy_task.specs.Turns.{Tiers, put_at, delete_at, overtaken, checked, StartRow};
+ghost use Rattle.copy_task.specs.Turns.{PutObjectRow, FinishRow, CheckRow, DeleteRow, CopyTurnRow};
 
 use crate::copying::Copying;
 use crate::turn::CopyStep;

@@ -40,7 +40,8 @@ fn open_spoilt(alloc: Global, file: FileName, at: usize) -> Result<(), NotesRefu
     }
 }
 
-/// The bytes of a file from a place up to another, and where a log is damaged of which one of them is another, if it is.
+/// The bytes of a file from a place up to another, and where a log is damaged of which one of them is another, if it
+/// is.
 static SPOILT: [(&str, FileName, usize, usize, Option<u64>); 11] = [
     ("length, version and kind", FileName::Notes, 0, 6, Some(0)),
     ("id and partition", FileName::Notes, 6, 24, None),

@@ -1,7 +1,7 @@
 -- The calls of an environment that are to fail, where they are observable.
 --
--- `first_name`, `partitions`, `disk`, `store`, `meta` and `registry` are counted together, from 1. The four `keep` calls can't
--- fail and aren't counted.
+-- `first_name`, `partitions`, `disk`, `store`, `meta` and `registry` are counted together, from 1. The four `keep`
+-- calls can't fail and aren't counted.
 use Rattle.std.specs.Prelude.{◌≡◌, ◌↔◌, ℕ, ◌+◌, ◌-◌, ◌^◌, min, Bool, IsTrue, List, Contains, Option, Some, None}
 use Rattle.tier_base.specs.Device.{Fate, Fault}
 
@@ -20,7 +20,8 @@ next_of plan = min (plan.calls + 1) (2 ^ 32 - 1)
 -- a call that ended so: where there is a plan, it failed exactly where the plan has its number
 abbrev pub CountsCall : Fate → Option Plan → Option Plan → Type 0
 CountsCall fate None new = new ≡ None
-CountsCall fate (Some plan) new = ((fate ≡ Fault) ↔ Contains plan.failing (next_of plan)) × (new ≡ Some (record plan { calls = next_of plan }))
+CountsCall fate (Some plan) new =
+    ((fate ≡ Fault) ↔ Contains plan.failing (next_of plan)) × (new ≡ Some (record plan { calls = next_of plan }))
 
 -- a call that opens what it provides: it fails where the plan has its number, and else only where opening fails
 abbrev pub CountsOpening : Fate → Option Plan → Option Plan → Type 0

@@ -15,7 +15,8 @@
 -- Its names are the strangers' ones, and `p` with the number of each partition that has an object or a metadata event
 -- and no registry: of such a partition nobody can say what its brokers' logs had. The first of them is the least in the
 -- order of their bytes.
-use Rattle.std.specs.Prelude.{◌≡◌, ◌≢◌, ◌⊎◌, ◌↔◌, ℕ, ◌<◌, ◌≤◌, Bool, List, [], ◌∷◌, ◌++◌, codes, decimal, Option, Some, None, IsTrue, IsSome}
+use Rattle.std.specs.Prelude.{◌≡◌, ◌≢◌, ◌⊎◌, ◌↔◌, ℕ, ◌<◌, ◌≤◌, Bool, List, [], ◌∷◌, ◌++◌}
+use Rattle.std.specs.Prelude.{codes, decimal, Option, Some, None, IsTrue, IsSome}
 use Rattle.tier_base.specs.declared.names.PartitionId.{PartitionId}
 use Rattle.tier_base.specs.declared.names.BrokerId.{BrokerId}
 use Rattle.tier_base.specs.declared.plain.FileName.{FileName}
@@ -145,10 +146,12 @@ module _ {D S M : Type 0} (files : D → disk.Content) (objects : S → store.Co
   pub record Same (old new : YardContent D S M) : Type 0 where
     pub is_observable : new.is_observable ≡ old.is_observable
     pub strays : new.strays ≡ old.strays
-    pub disks : (p : PartitionId) (b : BrokerId) → Both (λ d e. disk.Keeps (files d) (files e)) (old.disks p b) (new.disks p b)
+    pub disks : (p : PartitionId) (b : BrokerId)
+        → Both (λ d e. disk.Keeps (files d) (files e)) (old.disks p b) (new.disks p b)
     pub stores : (p : PartitionId) → Both (λ s t. store.Keeps (objects s) (objects t)) (old.stores p) (new.stores p)
     pub logs : (p : PartitionId) → Both (λ m n. log.Keeps (notes m) (notes n)) (old.logs p) (new.logs p)
-    pub registries : (p : PartitionId) → Both (λ d e. disk.Keeps (files d) (files e)) (old.registries p) (new.registries p)
+    pub registries : (p : PartitionId) → Both (λ d e. disk.Keeps (files d) (files e)) (old.registries p)
+        (new.registries p)
 
   -- a name that is in the environment
   abbrev pub IsNameInYard : YardContent D S M → List ℕ → Type 0

@@ -4,7 +4,8 @@
 ghost use Rattle.std.specs.Prelude.{◌≡◌, ◌↔◌, ◌+◌, ◌<◌, ◌≤◌, ◌^◌, if◌then◌else◌, Ok, None, IfOk, OnOk};
 ghost use Rattle.tier_base.specs.Counts.{counted};
 ghost use Rattle.tier_base.specs.Device.{Fault, fate_of};
-ghost use Rattle.device_yard.specs.Control.{IsFreshYard, NamesFirst, AsksYard, Hands, Withdraws, TakesBack, TakesRegistry};
+ghost use Rattle.device_yard.specs.Control.{IsFreshYard, NamesFirst, AsksYard, Hands};
+ghost use Rattle.device_yard.specs.Control.{Withdraws, TakesBack, TakesRegistry};
 
 use crate::came::Came;
 use crate::read_registry::ReadRegistry;

@@ -8,7 +8,9 @@ ghost use Rattle.tier_base.specs.Device.{fate_of, IsFreshDevice};
 ghost use Rattle.device_yard.specs.declared.came.Came.{Came};
 ghost use Rattle.device_yard.specs.Control.{Control, NamesFirst, AsksYard, Hands, TakesBack, TakesRegistry};
 ghost use Rattle.device_yard.specs.Plan.{Plan, CountsCall, CountsOpening};
-ghost use Rattle.device_yard.specs.YardContent.{YardContent, Same, DiskIs, StoreIs, LogIs, RegistryIs, IsOut, HoldsDisk, IsNameInYard, IsFirstName, AreUsed, Rise, HandsDisk, HandsStore, HandsLog};
+ghost use Rattle.device_yard.specs.YardContent.{YardContent, Same, DiskIs, StoreIs, LogIs, RegistryIs};
+ghost use Rattle.device_yard.specs.YardContent.{IsOut, HoldsDisk, IsNameInYard, IsFirstName, AreUsed};
+ghost use Rattle.device_yard.specs.YardContent.{Rise, HandsDisk, HandsStore, HandsLog};
 
 use disk_model::Disk;
 use meta_log::MetaLog;

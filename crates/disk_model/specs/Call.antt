@@ -1,7 +1,8 @@
 -- The kinds of call of a disk, distinguished by a number.
 use Rattle.std.specs.Prelude.{ℕ}
 use Rattle.disk_model.specs.declared.call.DiskCall.{DiskCall}
-use Rattle.disk_model.specs.declared.call.DiskCall.TheVariants.{Append, Sync, Read, Cut, Replace, Remove, List as Listing}
+use Rattle.disk_model.specs.declared.call.DiskCall.TheVariants.{Append, Sync, Read, Cut, Replace}
+use Rattle.disk_model.specs.declared.call.DiskCall.TheVariants.{Remove, List as Listing}
 
 -- the number of a kind
 abbrev pub call_code : DiskCall → ℕ

@@ -16,7 +16,8 @@
 --   remove    removed                Gone: as before, or none
 --
 -- The bytes that are synced stay: each image after a call is one of before with that file changed so.
-use Rattle.std.specs.Prelude.{◌≡◌, ◌⊎◌, ℕ, ◌≤◌, Bool, true, List, ◌++◌, take, drop, if◌then◌else◌, Option, Some, None, option_map, IsTrue, IsSome}
+use Rattle.std.specs.Prelude.{◌≡◌, ◌⊎◌, ℕ, ◌≤◌, Bool, true, List, ◌++◌, take, drop}
+use Rattle.std.specs.Prelude.{if◌then◌else◌, Option, Some, None, option_map, IsTrue, IsSome}
 use Rattle.tier_base.specs.declared.plain.FileName.{FileName}
 use Rattle.tier_base.specs.Told.{OnlyAt, bytes_in}
 

@@ -1,5 +1,6 @@
 -- A disk in memory is a disk: as it reads it is one of its images, and so is what its crash leaves.
-use Rattle.std.specs.Prelude.{◌≡◌, ℕ, ◌≤◌, Bool, true, false, List, [], ◌∷◌, length, take, Option, Some, None, refl, if◌then◌else◌, MatchBool}
+use Rattle.std.specs.Prelude.{◌≡◌, ℕ, ◌≤◌, Bool, true, false, List, [], ◌∷◌, length, take}
+use Rattle.std.specs.Prelude.{Option, Some, None, refl, if◌then◌else◌, MatchBool}
 use Rattle.std.proofs.Common.{sym, ap, inl, inr}
 use Rattle.std.proofs.Math.Nat.{le_trans}
 use Rattle.std.proofs.lemmas.List.{append-nil}
@@ -7,8 +8,10 @@ use Rattle.std.proofs.lemmas.Bool.{false≢true}
 use Rattle.std.specs.Bool.{OnTrue}
 use Rattle.tier_base.specs.declared.plain.FileName.{FileName}
 use Rattle.tier_base.specs.Told.{bytes_in}
-use Rattle.disk_model.specs.Content.{Lawful, Files, Image, appended, HasGrown, cut_to, CutBack, Swapped, Gone, BeginsWith}
-use Rattle.disk_model.specs.Steps.{Step, Append, Sync, Cut, Replace, Remove, Crash, same_name, reads, safe, LeftOf, LeftAfter, LeftSince, content_of}
+use Rattle.disk_model.specs.Content.{Lawful, Files, Image, appended, HasGrown, cut_to}
+use Rattle.disk_model.specs.Content.{CutBack, Swapped, Gone, BeginsWith}
+use Rattle.disk_model.specs.Steps.{Step, Append, Sync, Cut, Replace, Remove, Crash, same_name}
+use Rattle.disk_model.specs.Steps.{reads, safe, LeftOf, LeftAfter, LeftSince, content_of}
 
 -- what the last step left may be left by a crash now
 pub now_left : (past : List Step) (c : Files) → LeftAfter past c → LeftSince past (length past) c

@@ -5,11 +5,14 @@
 //! done or not. One that runs out of memory changes nothing.
 
 ghost use Rattle.std.specs.Prelude.{◌≡◌, ◌+◌, ◌≤◌, List, [], ℕ, drop, IfOk, OnOk, IsTrue, Some, option_map};
-ghost use Rattle.tier_base.specs.Device.{Control, Ran, RanQuietly, MayBeDone, NoCalls, Arms, FailsAsPlanned, fate_of, failing};
-ghost use Rattle.disk_model.specs.declared.call.DiskCall.TheVariants.{Append, Sync, Read, Cut, Replace, Remove, List as Listing};
+ghost use Rattle.tier_base.specs.Device.{Control, Ran, RanQuietly, MayBeDone, NoCalls, Arms};
+ghost use Rattle.tier_base.specs.Device.{FailsAsPlanned, fate_of, failing};
+ghost use Rattle.disk_model.specs.declared.call.DiskCall.TheVariants.{Append, Sync, Read, Cut, Replace};
+ghost use Rattle.disk_model.specs.declared.call.DiskCall.TheVariants.{Remove, List as Listing};
 ghost use Rattle.disk_model.specs.Call.{call_code};
 ghost use Rattle.tier_base.specs.Told.{NamesAllHeld, replaced, removed, last_read_after};
-ghost use Rattle.disk_model.specs.Content.{Content, Lawful, Files, Image, Changes, Keeps, appended, HasGrown, cut_to, CutBack, Swapped, Gone, BeginsWith, part_of};
+ghost use Rattle.disk_model.specs.Content.{Content, Lawful, Files, Image, Changes, Keeps, appended, HasGrown};
+ghost use Rattle.disk_model.specs.Content.{cut_to, CutBack, Swapped, Gone, BeginsWith, part_of};
 
 use bytes::Bytes;
 use std::alloc::AllocError;

@@ -4,7 +4,8 @@
 //! `remove` use room that was promised by `reserve`. A crash takes no room: the next event records that there was one
 //! before it.
 
-ghost use Rattle.std.specs.Prelude.{◌≡◌, ◌+◌, ◌≤◌, ◌<◌, ◌++◌, ◌∷◌, [], false, IfOk, OnOk, OnErr, drop, option_map, vec_len, vec_capacity};
+ghost use Rattle.std.specs.Prelude.{◌≡◌, ◌+◌, ◌≤◌, ◌<◌, ◌++◌, ◌∷◌, [], false, IfOk, OnOk};
+ghost use Rattle.std.specs.Prelude.{OnErr, drop, option_map, vec_len, vec_capacity};
 ghost use Rattle.tier_base.specs.Told.{NamesAllHeld};
 ghost use Rattle.disk_model.specs.Content.{part_of};
 ghost use Rattle.disk_model.specs.Steps.{Append, Sync, Cut, Replace, Remove, reads};

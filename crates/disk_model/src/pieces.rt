@@ -5,7 +5,8 @@
 //! stay shared with their other owners. Who asks for all bytes by their number, as a copy of a segment does, may keep
 //! them, and may ask again: then they become one piece.
 
-ghost use Rattle.std.specs.Prelude.{◌≡◌, ◌≤◌, ◌<◌, ◌^◌, ◌+◌, ◌-◌, ◌++◌, ℕ, List, [], length, take, drop, IfOk, OnOk, OnErr};
+ghost use Rattle.std.specs.Prelude.{◌≡◌, ◌≤◌, ◌<◌, ◌^◌, ◌+◌, ◌-◌, ◌++◌, ℕ, List, []};
+ghost use Rattle.std.specs.Prelude.{length, take, drop, IfOk, OnOk, OnErr};
 ghost use Rattle.disk_model.specs.Content.{part_of};
 ghost use Rattle.disk_model.specs.Pieces.{joined, AreEnded};
 

@@ -61,7 +61,8 @@ fn last_of(one: &Shown) -> u64
     last_offset(&one.head).cast_unsigned()
 }
 
-/// What a batch says of an entry of an offset index: nothing if the entry is of a later batch, else whether it is right.
+/// What a batch says of an entry of an offset index: nothing if the entry is of a later batch, else whether it is
+/// right.
 fn offset_verdict(base: u64, entry: IndexEntry, one: &Shown) -> Option<bool>
     ensures { result ≡ verdict_of_offset base entry one.now }
 {

@@ -3,7 +3,8 @@
 -- A line is the list of its entries, leader epoch and start offset.
 --
 -- Source: KIP-101, the leader epoch checkpoint. Kafka keeps an epoch in an i32 and an offset in an i64.
-use Rattle.std.specs.Prelude.{◌≡◌, ℕ, ◌^◌, ◌<◌, ◌≤◌, ◌==◌, ◌&&◌, nat_le, nat_lt, if◌then◌else◌, List, [], ◌∷◌, ◌++◌, filter, Some, None, option_map}
+use Rattle.std.specs.Prelude.{◌≡◌, ℕ, ◌^◌, ◌<◌, ◌≤◌, ◌==◌, ◌&&◌, nat_le, nat_lt, if◌then◌else◌}
+use Rattle.std.specs.Prelude.{List, [], ◌∷◌, ◌++◌, filter, Some, None, option_map}
 use Rattle.std.specs.declared.option.Option.{Option}
 use Rattle.log_terms.specs.Line.{epoch_at}
 

@@ -1,6 +1,7 @@
 //! What a line says, from its entries. They rise in both columns, so that halving finds each place.
 
-ghost use Rattle.std.specs.Prelude.{◌≡◌, ◌≤◌, ◌<◌, ◌^◌, ◌↔◌, ◌++◌, ◌∷◌, [], IsTrue, nat_le, nat_lt, ◌&&◌, length, take, drop, filter, IfOk};
+ghost use Rattle.std.specs.Prelude.{◌≡◌, ◌≤◌, ◌<◌, ◌^◌, ◌↔◌, ◌++◌, ◌∷◌, [], IsTrue, nat_le};
+ghost use Rattle.std.specs.Prelude.{nat_lt, ◌&&◌, length, take, drop, filter, IfOk};
 ghost use Rattle.log_terms.specs.Line.{epoch_at};
 ghost use Rattle.epoch_line.specs.Line.{IsLine, last_epoch, start_or, end_of, within};
 

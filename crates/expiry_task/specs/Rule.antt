@@ -9,7 +9,8 @@
 -- Source: Kafka's retention.ms and retention.bytes, which count the remote log and what of the local log isn't
 -- copied. A segment that is still to be copied never goes by them (KIP-405); where copying is disabled (KIP-950)
 -- nothing is.
-use Rattle.std.specs.Prelude.{ℕ, zero, suc, ◌-◌, ◌&&◌, ◌||◌, Bool, nat_lt, nat_le, if◌then◌else◌, List, [], ◌∷◌, ◌++◌, map, filter, sum, Option, Some, None}
+use Rattle.std.specs.Prelude.{ℕ, zero, suc, ◌-◌, ◌&&◌, ◌||◌, Bool, nat_lt, nat_le, if◌then◌else◌}
+use Rattle.std.specs.Prelude.{List, [], ◌∷◌, ◌++◌, map, filter, sum, Option, Some, None}
 use Rattle.std.specs.Prelude.{slice_get, ℤ, pos}
 use Rattle.tier_base.specs.declared.plain.Item.{Item}
 use Rattle.tier_base.specs.declared.plain.Keep.{Keep}

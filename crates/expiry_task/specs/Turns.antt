@@ -52,7 +52,8 @@ delete_at n (Some key) = Delete n
 module _ {M : Type 0} (notes : M → meta.Content) (calls : M → Control meta_call.call_code) where
   -- the deletion starts
   abbrev pub StartRow : ExpiredSegment → EventOrigin → Result (Turn DeletionStep) AllocError → M → M → Type 0
-  StartRow expired_segment origin (Ok (Ends MetaFault)) old new = AppendsToMetaLog notes calls (note_of expired_segment origin DeleteStarted) Fault old new
+  StartRow expired_segment origin (Ok (Ends MetaFault)) old new =
+      AppendsToMetaLog notes calls (note_of expired_segment origin DeleteStarted) Fault old new
   StartRow expired_segment origin (Ok turn) old new =
       (turn ≡ Goes (Delete 0)) × AppendsToMetaLog notes calls
       (note_of expired_segment origin DeleteStarted) Went old new
@@ -61,7 +62,8 @@ module _ {M : Type 0} (notes : M → meta.Content) (calls : M → Control meta_c
 
   -- no object exists any more
   abbrev pub FinishRow : ExpiredSegment → EventOrigin → Result (Turn DeletionStep) AllocError → M → M → Type 0
-  FinishRow expired_segment origin (Ok (Ends MetaFault)) old new = AppendsToMetaLog notes calls (note_of expired_segment origin DeleteFinished) Fault old new
+  FinishRow expired_segment origin (Ok (Ends MetaFault)) old new =
+      AppendsToMetaLog notes calls (note_of expired_segment origin DeleteFinished) Fault old new
   FinishRow expired_segment origin (Ok turn) old new =
       (turn ≡ Ends (Deleted expired_segment.id))
       × AppendsToMetaLog notes calls (note_of expired_segment origin DeleteFinished) Went old new

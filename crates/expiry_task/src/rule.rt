@@ -1,7 +1,8 @@
 //! How far retention raises the log start offset.
 
 ghost use Rattle.std.specs.Prelude.{◌≡◌, IfOk, map};
-ghost use Rattle.expiry_task.specs.Rule.{items_of, item_of, all_items, all_ends, end_from, end_behind, uncopied, uncopied_of, is_within, bytes_past, rest_behind, end_of_first, raised_to};
+ghost use Rattle.expiry_task.specs.Rule.{items_of, item_of, all_items, all_ends, end_from, end_behind, uncopied};
+ghost use Rattle.expiry_task.specs.Rule.{uncopied_of, is_within, bytes_past, rest_behind, end_of_first, raised_to};
 ghost use Rattle.tier_base.specs.Counts.{counted};
 ghost use Rattle.remote_view.specs.Fold.{entry_of};
 

@@ -68,8 +68,8 @@ fn key_of<R: Files + Drop>(
     }
 }
 
-/// Removes the files of a log, and the objects, that were never put in their place. Other files stay, also where they end
-/// so.
+/// Removes the files of a log, and the objects, that were never put in their place. Other files stay, also where they
+/// end so.
 pub fn remove_unfinished<R: Files + AllocGlobal + Clone + Drop>(
     rt: &R,
     folder: &str,

@@ -1,7 +1,9 @@
 //! The names of a broker's files as text, both ways. The module Name of specs/ has the grammar.
 
-ghost use Rattle.std.specs.Prelude.{◌≡◌, ◌+◌, ◌<◌, ◌≤◌, ◌^◌, ◌++◌, ◌↔◌, ℕ, codes, length, IsTrue, string_bytes, string_len, string_capacity};
-ghost use Rattle.folder_yard.specs.Name.{digits_of, base_text, file_text, ReadsBase, ReadsLogName, ReadsFixed, ReadsName};
+ghost use Rattle.std.specs.Prelude.{◌≡◌, ◌+◌, ◌<◌, ◌≤◌, ◌^◌, ◌++◌, ◌↔◌, ℕ, codes, length, IsTrue};
+ghost use Rattle.std.specs.Prelude.{string_bytes, string_len, string_capacity};
+ghost use Rattle.folder_yard.specs.Name.{digits_of, base_text, file_text, ReadsBase};
+ghost use Rattle.folder_yard.specs.Name.{ReadsLogName, ReadsFixed, ReadsName};
 
 use tier_base::FileName;
 

@@ -1,7 +1,7 @@
 //! The objects of a partition in a folder, through the calls of the system: each object is one file.
 //!
-//! An object is written beside its place, synced, and put there by a rename, so that a reader finds a whole one. A name that
-//! is new or gone stays so once the folder is synced.
+//! An object is written beside its place, synced, and put there by a rename, so that a reader finds a whole one. A
+//! name that is new or gone stays so once the folder is synced.
 
 use crate::listing::{UNFINISHED, list_objects, remove_unfinished};
 use crate::making::{make_folder, sync_folder};

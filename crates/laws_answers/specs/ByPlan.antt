@@ -37,7 +37,8 @@ module _ {D S M : Type 0} (disk : DiskGhosts D) (store : StoreGhosts S) (meta : 
     pub store_scripted : IsTrue (store.control w.tier.store).scripted
     pub meta_scripted : IsTrue (meta.control w.tier.meta).scripted
 
-  -- its devices have the plans that they had in that world, and as many of their calls failed as these name of those made
+  -- its devices have the plans that they had in that world, and as many of their calls failed as these name of those
+  -- made
   pub record HaveFailedByPlan (w w' : Whole D S M) : Type 0 where
     pub disks : DisksFailedByPlan disk.control w.partition_state.nodes w'.partition_state.nodes
     pub store_fails : FailedByPlan (store.control w.tier.store) (store.control w'.tier.store)

@@ -26,13 +26,15 @@ use Rattle.remote_view.specs.Fold.{state_of, fold}
 use Rattle.copy_task.specs.Copying.{Copied}
 use Rattle.plain_log.specs.State.{leads}
 use Rattle.plain_log.specs.declared.answer.Answer.{Answer}
-use Rattle.plain_log.specs.declared.answer.Answer.TheVariants.{Down, NotLeader, CopyOff, MetaFault, LostLead, Level, DiskFault, StoreFault, Overtaken, CopiedSegment}
+use Rattle.plain_log.specs.declared.answer.Answer.TheVariants.{Down, NotLeader, CopyOff, MetaFault, LostLead, Level}
+use Rattle.plain_log.specs.declared.answer.Answer.TheVariants.{DiskFault, StoreFault, Overtaken, CopiedSegment}
 use Rattle.tier_safe.specs.Copies.{is_deleted}
 use Rattle.laws_partition.specs.declared.start_snapshot.StartSnapshot.{StartSnapshot}
 use Rattle.partition_commands.specs.declared.partition_state.Node.{Node}
 use Rattle.partition_commands.specs.Partition.{is_up}
 use Rattle.partition_world.specs.declared.actor_state.InProgress.{InProgress}
-use Rattle.partition_world.specs.declared.actor_state.InProgress.TheVariants.{Idle, Noted, Copies, Seeks, Dates, Expires, Rebuilds}
+use Rattle.partition_world.specs.declared.actor_state.InProgress.TheVariants.{Idle, Noted, Copies, Seeks}
+use Rattle.partition_world.specs.declared.actor_state.InProgress.TheVariants.{Dates, Expires, Rebuilds}
 use Rattle.partition_world.specs.declared.tier.BrokerTierState.{BrokerTierState}
 use Rattle.partition_world.specs.TurnsOfCopy.{KeepsLead, next_segment}
 use Rattle.partition_world.specs.Whole.{Whole}

@@ -27,7 +27,8 @@ use Rattle.meta_log.specs.declared.log.MetaLog.{Ghosts as MetaGhosts}
 use Rattle.tier_fetch.specs.declared.turn.FetchStep.{FetchStep}
 use Rattle.tier_fetch.specs.declared.turn.FetchStep.TheVariants.{Refresh, Index, Log}
 use Rattle.plain_log.specs.declared.answer.Answer.{Answer}
-use Rattle.plain_log.specs.declared.answer.Answer.TheVariants.{Down, NotLeader, OutOfRange, Empty, DiskFault, MetaFault, StoreFault, Run}
+use Rattle.plain_log.specs.declared.answer.Answer.TheVariants.{Down, NotLeader, OutOfRange, Empty}
+use Rattle.plain_log.specs.declared.answer.Answer.TheVariants.{DiskFault, MetaFault, StoreFault, Run}
 use Rattle.plain_log.specs.declared.answer.Tier.TheVariants.{Local, Remote}
 use Rattle.plain_log.specs.State.{leads}
 use Rattle.broker_log.specs.Seen.{ShowsSeen}

@@ -13,7 +13,7 @@
 --             BelowStart          the log start offset has reached the wanted offset since
 --             MetaFault           at the refresh, a call of the metadata log failed in this turn
 --             StoreFault          at the line, a call of the store did
---             DiskFault, Rebuilt  at the restart, a call of the broker's disk did; the log restarts at the wanted offset
+--             DiskFault, Rebuilt  at the restart, a call of the broker's disk did; the log restarts where it should
 --
 -- No other answer has a cause.
 use Rattle.std.specs.Prelude.{◌≡◌, ◌≢◌, ◌⊎◌, ℕ, ◌<◌, ◌≤◌, true, false, None, Some}
@@ -22,7 +22,8 @@ use Rattle.object_store.specs.declared.store.Store.{Ghosts as StoreGhosts}
 use Rattle.meta_log.specs.declared.log.MetaLog.{Ghosts as MetaGhosts}
 use Rattle.rebuild_task.specs.declared.turn.RebuildStep.TheVariants.{Epochs, Restart}
 use Rattle.plain_log.specs.declared.answer.Answer.{Answer}
-use Rattle.plain_log.specs.declared.answer.Answer.TheVariants.{Down, NotFollower, StaleEpoch, NoLeader, Cut, DiskFaultAt, MetaFault, StoreFault, Rebuilt}
+use Rattle.plain_log.specs.declared.answer.Answer.TheVariants.{Down, NotFollower, StaleEpoch, NoLeader, Cut}
+use Rattle.plain_log.specs.declared.answer.Answer.TheVariants.{DiskFaultAt, MetaFault, StoreFault, Rebuilt}
 use Rattle.plain_log.specs.State.{followed}
 use Rattle.laws_partition.specs.declared.start_snapshot.StartSnapshot.{StartSnapshot}
 use Rattle.partition_commands.specs.declared.partition_state.Node.{Node}

@@ -29,7 +29,8 @@ use Rattle.object_store.specs.declared.store.Store.{Ghosts as StoreGhosts}
 use Rattle.meta_log.specs.declared.log.MetaLog.{Ghosts as MetaGhosts}
 use Rattle.plain_log.specs.State.{leads}
 use Rattle.plain_log.specs.declared.answer.Answer.{Answer}
-use Rattle.plain_log.specs.declared.answer.Answer.TheVariants.{Down, NotLeader, Offset, MetaFault, StoreFault, DiskFault, Damaged, Stopped, NoOffset}
+use Rattle.plain_log.specs.declared.answer.Answer.TheVariants.{Down, NotLeader, Offset, MetaFault, StoreFault}
+use Rattle.plain_log.specs.declared.answer.Answer.TheVariants.{DiskFault, Damaged, Stopped, NoOffset}
 use Rattle.plain_log.specs.declared.command.Which.{Which}
 use Rattle.plain_log.specs.declared.command.Which.TheVariants.{LatestTiered, At}
 use Rattle.plain_log.specs.RowsOfReads.{is_long}

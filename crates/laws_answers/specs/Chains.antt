@@ -37,7 +37,8 @@ module _ {D S M : Type 0} where
     pub is : w.journal.items
         ≡ before ++ record { actor = actor; number = number; event = event.Answers answer } ∷ after
 
-  -- where the actor's next turn is one of the command at this place, under this number, this holds of its state and its order
+  -- where the actor's next turn is one of the command at this place, under this number, this holds of its state and
+  -- its order
   abbrev pub AtTurnsOf : ℕ → ℕ → Whole D S M → ℕ → (ActorState → Order → Type 0) → Type 0
   AtTurnsOf place number w a P =
       (l : ActorList) (actor_state : ActorState) (order : Order) → IsNextOrder w a place l actor_state order

@@ -1,7 +1,8 @@
 -- What is known of what a fetch has found, beside the central fact.
 --
--- The piece ends where a batch of the leader's log does: of the path of the epoch that its broker led when the fetch began. And
--- what it is to read of the segment's log is what the offset index of that segment's batches shows to be needed, all of it.
+-- The piece ends where a batch of the leader's log does: of the path of the epoch that its broker led when the fetch
+-- began. And what it is to read of the segment's log is what the offset index of that segment's batches shows to be
+-- needed, all of it.
 --
 -- Both were so when they were found, and continue to be: paths only grow, and a remote segment's entry keeps what it
 -- says of.
@@ -44,7 +45,8 @@ pub record PieceEnds (paths : List Path) (epoch : ℕ) (piece : Piece) : Type 0 
 
 -- the span is the one that the index of the piece's segment gives, whose copy was finished after the first so many
 -- metadata events
-pub record SpanIsOf (paths : List Path) (notes : List Note) (offset limit : ℕ) (piece : Piece) (span : Span) : Type 0 where
+pub record SpanIsOf (paths : List Path) (notes : List Note) (offset limit : ℕ) (piece : Piece)
+    (span : Span) : Type 0 where
   pub before : List Note
   pub begins : IsPrefix before notes
   pub entry : Entry

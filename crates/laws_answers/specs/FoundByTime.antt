@@ -1,7 +1,8 @@
 -- What is known of what a timestamp lookup has found, beside the central fact.
 --
--- The piece ends where a batch of the leader's log does, and what it is to read of the segment's log is what the offset index of that
--- segment's batches shows to be needed from where it reads on, as a fetch without a limit has it.
+-- The piece ends where a batch of the leader's log does, and what it is to read of the segment's log is what the
+-- offset index of that segment's batches shows to be needed from where it reads on, as a fetch without a limit has
+-- it.
 --
 -- Source: KIP-405, lookups by timestamp below the local log start offset.
 use Rattle.std.specs.Prelude.{◌≡◌, ℕ, ℤ, List, Some, unwrap_or}

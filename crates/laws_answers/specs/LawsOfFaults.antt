@@ -17,13 +17,16 @@ use Rattle.laws_answers.specs.ByPlan.{AreScripted, HaveFailedByPlan}
 module _ {D S M : Type 0} (disk : DiskGhosts D) (store : StoreGhosts S) (meta : MetaGhosts M) where
   -- whatever a schedule reaches from a new world, over any devices: each fault that is reported is counted
   abbrev pub ReachesCounted : Type 0
-  ReachesCounted = (config : Config) (lists : List ActorList) (w : Whole D S M) (schedule : List Pace) (w' : Whole D S M)
-      → AreListsFor config lists → IsNewWorld lists w → Reaches disk store meta w schedule w' → FaultsAreCounted disk store meta w w'
+  ReachesCounted =
+      (config : Config) (lists : List ActorList) (w : Whole D S M) (schedule : List Pace) (w' : Whole D S M)
+      → AreListsFor config lists → IsNewWorld lists w → Reaches disk store meta w schedule w'
+      → FaultsAreCounted disk store meta w w'
 
   -- and as many are reported of each device as its count has risen by
   abbrev pub ReachesTold : Type 0
   ReachesTold = (config : Config) (lists : List ActorList) (w : Whole D S M) (schedule : List Pace) (w' : Whole D S M)
-      → AreListsFor config lists → IsNewWorld lists w → Reaches disk store meta w schedule w' → FaultsAreTold disk store meta w w'
+      → AreListsFor config lists → IsNewWorld lists w → Reaches disk store meta w schedule w'
+      → FaultsAreTold disk store meta w w'
 
   -- over devices of which the plans alone decide which calls fail: as many failed as they name of those that were made
   abbrev pub ReachesByPlan : Type 0

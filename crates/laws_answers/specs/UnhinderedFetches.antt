@@ -15,8 +15,8 @@ use Rattle.partition_world.specs.Whole.{Whole}
 use Rattle.laws_answers.specs.Chains.{AtTurnsOf, TurnMeetsNoFault}
 use Rattle.laws_answers.specs.CausesOfFetches.{MayServe}
 
--- an answer is a run: of one batch, which holds the offset, or of several from that one on, which fit the limit; the fetch's row
--- pins which batches they are
+-- an answer is a run: of one batch, which holds the offset, or of several from that one on, which fit the limit; the
+-- fetch's row pins which batches they are
 pub record IsFetchServed (offset limit : ℕ) (answer : Answer) : Type 0 where
   pub tier : Tier
   pub size : ℕ

@@ -1,6 +1,7 @@
 //! Laws of tiers that a run leaves, each the contract of a function that does nothing.
 
-ghost use Rattle.laws_audit.specs.Laws.{SafeIsReadable, SafeHasLeftAtMost, SweptIsWhole, SweepKeepsCold, WholeSweepKeepsCold};
+ghost use Rattle.laws_audit.specs.Laws.{SafeIsReadable, SafeHasLeftAtMost, SweptIsWhole};
+ghost use Rattle.laws_audit.specs.Laws.{SweepKeepsCold, WholeSweepKeepsCold};
 
 /// In a tier that is safe each object's id has an entry, and each finished copy is readable.
 pub fn a_safe_tier_is_readable()

@@ -1,5 +1,6 @@
 -- The central fact, which holds between any two turns: the world is the plain log after the world's own journal.
-use Rattle.std.specs.Prelude.{◌≡◌, ◌≢◌, ℕ, ◌<◌, ◌≤◌, Option, Some, List, ◌++◌, length, map, slice_get, option_map, is_some, Bool, ◌||◌, true, IsOk, All}
+use Rattle.std.specs.Prelude.{◌≡◌, ◌≢◌, ℕ, ◌<◌, ◌≤◌, Option, Some, List, ◌++◌, length, map}
+use Rattle.std.specs.Prelude.{slice_get, option_map, is_some, Bool, ◌||◌, true, IsOk, All}
 use Rattle.std.specs.Option.{option_and_then}
 use mathlib.Core.List.{IsPrefix}
 use Rattle.log_terms.specs.Line.{line_of}

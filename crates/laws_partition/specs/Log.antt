@@ -2,7 +2,8 @@
 --
 -- A run begins with the batch that holds an offset, and has batches of one leader epoch that end at or below a bound
 -- and fit a limit, but at least one.
-use Rattle.std.specs.Prelude.{◌≡◌, ◌≢◌, ℕ, ◌+◌, ◌==◌, ◌<◌, ◌≤◌, ◌⊎◌, true, if◌then◌else◌, List, [], ◌∷◌, ◌++◌, length, Option, Some, None, All}
+use Rattle.std.specs.Prelude.{◌≡◌, ◌≢◌, ℕ, ◌+◌, ◌==◌, ◌<◌, ◌≤◌, ◌⊎◌, true, if◌then◌else◌, List}
+use Rattle.std.specs.Prelude.{[], ◌∷◌, ◌++◌, length, Option, Some, None, All}
 use Rattle.std.specs.Option.{ForSome}
 use Rattle.tier_base.specs.declared.plain.Stop.{Stop}
 use Rattle.tier_base.specs.declared.plain.Stop.TheVariants.{Mark, Piece, Limit}

@@ -1,5 +1,6 @@
 -- What the turns of commands work on, and how it is seen as a part of the plain log.
-use Rattle.std.specs.Prelude.{ℕ, ◌+◌, ◌&&◌, nat_lt, if◌then◌else◌, false, List, Option, Some, is_some, slice_get, slice_set, IsSomeAnd}
+use Rattle.std.specs.Prelude.{ℕ, ◌+◌, ◌&&◌, nat_lt, if◌then◌else◌, false, List, Option}
+use Rattle.std.specs.Prelude.{Some, is_some, slice_get, slice_set, IsSomeAnd}
 use Rattle.std.specs.Option.{option_and_then}
 use Rattle.plain_log.specs.declared.command.Order.{Order}
 use Rattle.plain_log.specs.declared.state.Broker.{Broker}
@@ -50,12 +51,14 @@ broken x back = record (stopped x) { loose = Some back }
 -- a node after a cut that failed, which was to make this come back: the smaller end is flushed
 abbrev pub torn : Node → Back → Node
 torn x back =
-    if nat_lt back.0 x.flushed_end then record (stopped x) { flushed_end = back.0; saved = back.1; local = back.2; loose = Some (back_of x) }
+    if nat_lt back.0 x.flushed_end then record (stopped x)
+        { flushed_end = back.0; saved = back.1; local = back.2; loose = Some (back_of x) }
     else broken x back
 
 -- the registry's leader, where it is up and leads the registry's epoch
 abbrev pub the_leader : SeenPartition → Option Node
-the_leader h = option_and_then (λ y. when (y.up && leads_in h.registry.epoch y.role) y) (slice_get h.nodes h.registry.leader.0)
+the_leader h =
+    option_and_then (λ y. when (y.up && leads_in h.registry.epoch y.role) y) (slice_get h.nodes h.registry.leader.0)
 
 -- what was recorded of the order's command
 abbrev pub recorded_of : Order → StartSnapshot → PlainSnapshot

@@ -2,14 +2,18 @@
 -- partition.
 --
 -- A row says for each answer exactly when it is given, the tests in their order, and the partition afterwards. Follow,
--- trim, copy, expire, some joins, some fetches, and the offsets of the remote tier and of a timestamp take more than one turn.
+-- trim, copy, expire, some joins, some fetches, and the offsets of the remote tier and of a timestamp take more than
+-- one turn.
 use Rattle.std.specs.Prelude.{◌≡◌, ◌⊎◌, ◌<◌, ℕ, ℤ, true, false, Option, None, Some}
 use Rattle.log_terms.specs.Log.{end_of, up_to}
 use Rattle.record_batch.specs.Build.{built}
 use Rattle.plain_log.specs.declared.answer.Answer.{Answer}
 use Rattle.plain_log.specs.declared.answer.Answer.TheVariants.{Ok, Down, IsUp, DiskFault, LastIncarnation, Up}
 use Rattle.plain_log.specs.declared.command.Command.{Command}
-use Rattle.plain_log.specs.declared.command.Command.TheVariants.{Append, Raw, Flush, Roll, Elect, Unclean, Learn, Join, Follow, Copy, Trim, Expire, Ack, Shrink, Expand, Raise, Clock, Stop as StopCommand, Up as UpCommand, Fetch, Pack, Copying, Offset}
+use Rattle.plain_log.specs.declared.command.Command.TheVariants.{Append, Raw, Flush, Roll, Elect, Unclean, Learn, Join}
+use Rattle.plain_log.specs.declared.command.Command.TheVariants.{Follow, Copy, Trim, Expire, Ack, Shrink, Expand, Raise}
+use Rattle.plain_log.specs.declared.command.Command.TheVariants.{Clock, Stop as StopCommand, Up as UpCommand, Fetch}
+use Rattle.plain_log.specs.declared.command.Command.TheVariants.{Pack, Copying, Offset}
 use Rattle.plain_log.specs.declared.command.Which.TheVariants.{LatestTiered, At}
 use Rattle.laws_partition.specs.declared.start_snapshot.StartSnapshot.{StartSnapshot}
 use Rattle.laws_partition.specs.declared.start_snapshot.Turned.{Turned}

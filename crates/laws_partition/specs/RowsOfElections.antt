@@ -12,7 +12,10 @@ use Rattle.registry.specs.declared.refusal.RegRefusal.TheVariants as Reg
 use Rattle.registry.specs.Replicas.{AtReplica}
 use Rattle.registry.specs.Calls.{after_elect, after_unclean, after_ack, after_shrink, after_expand, after_raise}
 use Rattle.plain_log.specs.declared.answer.Answer.{Answer}
-use Rattle.plain_log.specs.declared.answer.Answer.TheVariants.{Ok, OkAt, Down, NotLeader, LastEpoch, NotInSync, DownBroker, BehindStart, Known, Follows, NeedsElection, DiskFault, Leads, NotJoined, StaleEpoch, IsLeader, Behind, NotAbove, AboveMark}
+use Rattle.plain_log.specs.declared.answer.Answer.TheVariants.{Ok, OkAt, Down, NotLeader, LastEpoch, NotInSync}
+use Rattle.plain_log.specs.declared.answer.Answer.TheVariants.{DownBroker, BehindStart, Known, Follows, NeedsElection}
+use Rattle.plain_log.specs.declared.answer.Answer.TheVariants.{DiskFault, Leads, NotJoined, StaleEpoch, IsLeader}
+use Rattle.plain_log.specs.declared.answer.Answer.TheVariants.{Behind, NotAbove, AboveMark}
 use Rattle.plain_log.specs.declared.state.Role.TheVariants.{Leads as LeadsIn, Follows as FollowsIn}
 use Rattle.plain_log.specs.State.{leads, acking, epoch_in}
 use Rattle.laws_partition.specs.Seen.{Node, SeenPartition}
@@ -36,9 +39,12 @@ answer_of (Reg.AboveMark mark) = AboveMark mark
 
 -- elect
 abbrev pub ElectRow : SeenPartition → ℕ → Node → Answer → SeenPartition → Type 0
-ElectRow h b x LastEpoch h' = AtReplica h.registry b (λ s. Leaves h (after_elect h.registry b s x.up (Err Reg.LastEpoch)) h')
-ElectRow h b x NotInSync h' = AtReplica h.registry b (λ s. Leaves h (after_elect h.registry b s x.up (Err Reg.NotInSync)) h')
-ElectRow h b x DownBroker h' = AtReplica h.registry b (λ s. Leaves h (after_elect h.registry b s x.up (Err Reg.DownBroker)) h')
+ElectRow h b x LastEpoch h' =
+    AtReplica h.registry b (λ s. Leaves h (after_elect h.registry b s x.up (Err Reg.LastEpoch)) h')
+ElectRow h b x NotInSync h' =
+    AtReplica h.registry b (λ s. Leaves h (after_elect h.registry b s x.up (Err Reg.NotInSync)) h')
+ElectRow h b x DownBroker h' =
+    AtReplica h.registry b (λ s. Leaves h (after_elect h.registry b s x.up (Err Reg.DownBroker)) h')
 ElectRow h b x (OkAt n) h' = AtReplica h.registry b (λ s. Leaves h (after_elect h.registry b s x.up (Done n)) h')
 ElectRow h b x other h' = ⊥
 
@@ -83,10 +89,12 @@ LearnRow h b x (Leads n) h' =
     × (h' ≡ put_node h b (led h x n))
 LearnRow h b x DiskFault h' =
     (x.up ≡ true) × ¬ IsKnown h x × (h.registry.leader.0 ≡ b) × IsNew x h.registry.epoch
-    × (h' ≡ put_node h b (broken x (end_of x.log.batches, assign x.log.line h.registry.epoch (end_of x.log.batches), x.local)))
+    × (h' ≡ put_node h b (broken x (end_of x.log.batches, assign x.log.line h.registry.epoch (end_of x.log.batches),
+      x.local)))
 LearnRow h b x other h' = ⊥
 
--- the partition after an acknowledgement, which leaves this registry: the broker knows the high watermark, as far as its log goes
+-- the partition after an acknowledgement, which leaves this registry: the broker knows the high watermark, as far as
+-- its log goes
 abbrev pub acked : SeenPartition → ℕ → Node → Registry → SeenPartition
 acked h b x r =
     record (put_node h b (record x { known_high_watermark = min r.mark (end_of x.log.batches) })) { registry = r }
@@ -111,7 +119,8 @@ ShrinkRow h b other h' = ⊥
 
 -- expand
 abbrev pub ExpandRow : SeenPartition → ℕ → Node → Answer → SeenPartition → Type 0
-ExpandRow h b x DownBroker h' = AtReplica h.registry b (λ s. Leaves h (after_expand h.registry b s x.up (Err Reg.DownBroker)) h')
+ExpandRow h b x DownBroker h' =
+    AtReplica h.registry b (λ s. Leaves h (after_expand h.registry b s x.up (Err Reg.DownBroker)) h')
 ExpandRow h b x (Behind ack mark) h' =
     AtReplica h.registry b (λ s. Leaves h (after_expand h.registry b s x.up (Err (Reg.Behind ack mark))) h')
 ExpandRow h b x Ok h' = AtReplica h.registry b (λ s. Leaves h (after_expand h.registry b s x.up (Done tt)) h')
@@ -122,11 +131,14 @@ abbrev pub RaiseRow : SeenPartition → ℕ → Node → ℕ → Answer → Seen
 RaiseRow h b x wanted Down h' = (x.up ≡ false) × (h' ≡ h)
 RaiseRow h b x wanted NotLeader h' = (x.up ≡ true) × (leads x.role ≡ false) × (h' ≡ h)
 RaiseRow h b x wanted (StaleEpoch n) h' =
-    (x.up ≡ true) × ((e : ℕ) × (x.role ≡ LeadsIn e) × Leaves h (after_raise h.registry e wanted (Err (Reg.StaleEpoch n))) h')
+    (x.up ≡ true) × ((e : ℕ) × (x.role ≡ LeadsIn e)
+      × Leaves h (after_raise h.registry e wanted (Err (Reg.StaleEpoch n))) h')
 RaiseRow h b x wanted (NotAbove start) h' =
-    (x.up ≡ true) × ((e : ℕ) × (x.role ≡ LeadsIn e) × Leaves h (after_raise h.registry e wanted (Err (Reg.NotAbove start))) h')
+    (x.up ≡ true) × ((e : ℕ) × (x.role ≡ LeadsIn e)
+      × Leaves h (after_raise h.registry e wanted (Err (Reg.NotAbove start))) h')
 RaiseRow h b x wanted (AboveMark mark) h' =
-    (x.up ≡ true) × ((e : ℕ) × (x.role ≡ LeadsIn e) × Leaves h (after_raise h.registry e wanted (Err (Reg.AboveMark mark))) h')
+    (x.up ≡ true) × ((e : ℕ) × (x.role ≡ LeadsIn e)
+      × Leaves h (after_raise h.registry e wanted (Err (Reg.AboveMark mark))) h')
 RaiseRow h b x wanted (OkAt start) h' =
     (x.up ≡ true) × ((e : ℕ) × (x.role ≡ LeadsIn e) × Leaves h (after_raise h.registry e wanted (Done start)) h')
 RaiseRow h b x wanted other h' = ⊥

@@ -7,7 +7,8 @@
 --
 -- A follow takes a run of the leader's local log at its first turn, which an actor's state has, and puts as much of it
 -- at the end of its own at the second as fits one segment.
-use Rattle.std.specs.Prelude.{◌≡◌, ◌≢◌, ℕ, ◌^◌, ◌<◌, ◌≤◌, true, false, min, List, ◌++◌, length, Option, None, Some, IsSome, IsSomeAnd, IsOk, All}
+use Rattle.std.specs.Prelude.{◌≡◌, ◌≢◌, ℕ, ◌^◌, ◌<◌, ◌≤◌, true, false, min, List, ◌++◌}
+use Rattle.std.specs.Prelude.{length, Option, None, Some, IsSome, IsSomeAnd, IsOk, All}
 use Rattle.tier_base.specs.declared.plain.Stop.{Stop}
 use Rattle.log_terms.specs.Batch.{epoch_of}
 use Rattle.log_terms.specs.Line.{line_of}
@@ -16,7 +17,10 @@ use Rattle.epoch_line.specs.Line.{cut_end}
 use Rattle.epoch_line.specs.Meet.{IsMeetBelow}
 use Rattle.record_batch.specs.Check.{checked}
 use Rattle.plain_log.specs.declared.answer.Answer.{Answer}
-use Rattle.plain_log.specs.declared.answer.Answer.TheVariants.{Down, NotFollower, StaleEpoch, NoLeader, Cut, DiskFault, DiskFaultAt, NotJoined, Level, Moved, Stopped, Passed, BelowStart, MetaFault, StoreFault, Damaged, Rebuilt, TooManySegments, Copied}
+use Rattle.plain_log.specs.declared.answer.Answer.TheVariants.{Down, NotFollower, StaleEpoch, NoLeader, Cut, DiskFault}
+use Rattle.plain_log.specs.declared.answer.Answer.TheVariants.{DiskFaultAt, NotJoined, Level, Moved, Stopped, Passed}
+use Rattle.plain_log.specs.declared.answer.Answer.TheVariants.{BelowStart, MetaFault, StoreFault, Damaged, Rebuilt}
+use Rattle.plain_log.specs.declared.answer.Answer.TheVariants.{TooManySegments, Copied}
 use Rattle.plain_log.specs.declared.state.Role.TheVariants.{Joined}
 use Rattle.plain_log.specs.State.{followed, joined}
 use Rattle.laws_partition.specs.declared.start_snapshot.StartSnapshot.{StartSnapshot}
@@ -53,8 +57,8 @@ cut_node x e n = record x {
 abbrev pub cut_back : Node → ℕ → Back
 cut_back x n = (end_of (up_to n x.log.batches), (cut_at x.log n).line, min x.local (end_of (up_to n x.log.batches)))
 
--- what a join's actor's state has after its first turn, where the logs meet below the leader's local log: what was recorded of the
--- log that was cut, and where the leader's local log begins
+-- what a join's actor's state has after its first turn, where the logs meet below the leader's local log: what was
+-- recorded of the log that was cut, and where the leader's local log begins
 pub record Wants (h : SeenPartition) (x y : Node) (g : StartSnapshot) : Type 0 where
   pub stops : g.stops ≡ x.stops
   pub role : g.role ≡ x.role
@@ -68,12 +72,14 @@ pub record Wants (h : SeenPartition) (x y : Node) (g : StartSnapshot) : Type 0 w
 abbrev pub JoinRow : SeenPartition → ℕ → Node → Turned → SeenPartition → Type 0
 JoinRow h b x (Answers Down) h' = (x.up ≡ false) × (h' ≡ h)
 JoinRow h b x (Answers NotFollower) h' = (x.up ≡ true) × (followed x.role ≡ None) × (h' ≡ h)
-JoinRow h b x (Answers (StaleEpoch n)) h' = (x.up ≡ true) × IsStale h (followed x.role) × (n ≡ h.registry.epoch) × (h' ≡ h)
+JoinRow h b x (Answers (StaleEpoch n)) h' =
+    (x.up ≡ true) × IsStale h (followed x.role) × (n ≡ h.registry.epoch) × (h' ≡ h)
 JoinRow h b x (Answers NoLeader) h' = (x.up ≡ true) × IsCurrent h (followed x.role) × (the_leader h ≡ None) × (h' ≡ h)
 JoinRow h b x (Answers (Cut n)) h' = (x.up ≡ true) × IsCurrent h (followed x.role) × IsSomeAnd (the_leader h) (λ y.
     (e m : ℕ) × (followed x.role ≡ Some e) × IsMeet x y m × (n ≡ end_of (up_to m x.log.batches)) × (y.local ≤ n)
     × (h' ≡ put_node h b (cut_node x e m)))
-JoinRow h b x (Answers (DiskFaultAt n)) h' = (x.up ≡ true) × IsCurrent h (followed x.role) × IsSomeAnd (the_leader h) (λ y.
+JoinRow h b x (Answers (DiskFaultAt n)) h' =
+    (x.up ≡ true) × IsCurrent h (followed x.role) × IsSomeAnd (the_leader h) (λ y.
     (e m : ℕ) × (followed x.role ≡ Some e) × IsMeet x y m × (n ≡ end_of (up_to m x.log.batches))
     × (h' ≡ put_node h b (torn x (cut_back x m))))
 JoinRow h b x (Begins g) h' = (x.up ≡ true) × IsCurrent h (followed x.role) × IsSomeAnd (the_leader h) (λ y.
@@ -81,7 +87,8 @@ JoinRow h b x (Begins g) h' = (x.up ≡ true) × IsCurrent h (followed x.role) �
     × (h' ≡ put_node h b (cut_node x e m)))
 JoinRow h b x other h' = ⊥
 
--- what a follow's actor's state has after its first turn: what was recorded, and a run of the leader's log from the follower's end on
+-- what a follow's actor's state has after its first turn: what was recorded, and a run of the leader's log from the
+-- follower's end on
 pub record Takes (h : SeenPartition) (x y : Node) (limit : ℕ) (g : StartSnapshot) : Type 0 where
   pub stops : g.stops ≡ x.stops
   pub role : g.role ≡ x.role
@@ -150,7 +157,8 @@ FromLeader h n P = AtNode h h.registry.leader.0 (λ y. P (up_to n y.log.batches)
 -- join, later turns: of the remote tier nothing is seen but that it failed, which comes as it is
 abbrev pub JoinOnRow : SeenPartition → ℕ → Node → StartSnapshot → Answer → SeenPartition → Type 0
 JoinOnRow h b x g Stopped h' = (g.stops ≢ x.stops) × (h' ≡ h)
-JoinOnRow h b x g (StaleEpoch n) h' = (g.stops ≡ x.stops) × IsStale h (followed g.role) × (n ≡ h.registry.epoch) × (h' ≡ h)
+JoinOnRow h b x g (StaleEpoch n) h' =
+    (g.stops ≡ x.stops) × IsStale h (followed g.role) × (n ≡ h.registry.epoch) × (h' ≡ h)
 JoinOnRow h b x g (Passed n) h' = GoesOn h x g × (n ≡ end_of x.log.batches) × (IsAsCut x g → ⊥) × (h' ≡ h)
 JoinOnRow h b x g (BelowStart start) h' = GoesOn h x g × IsAsCut x g × (start ≡ h.registry.start)
     × (g.start < g.wanted) × (g.wanted ≤ start) × (h' ≡ h)
@@ -167,14 +175,18 @@ JoinOnRow h b x g other h' = ⊥
 abbrev pub FollowRow : SeenPartition → ℕ → Node → ℕ → Turned → SeenPartition → Type 0
 FollowRow h b x limit (Answers Down) h' = (x.up ≡ false) × (h' ≡ h)
 FollowRow h b x limit (Answers NotJoined) h' = (x.up ≡ true) × (joined x.role ≡ None) × (h' ≡ h)
-FollowRow h b x limit (Answers (StaleEpoch n)) h' = (x.up ≡ true) × IsStale h (joined x.role) × (n ≡ h.registry.epoch) × (h' ≡ h)
-FollowRow h b x limit (Answers NoLeader) h' = (x.up ≡ true) × IsCurrent h (joined x.role) × (the_leader h ≡ None) × (h' ≡ h)
+FollowRow h b x limit (Answers (StaleEpoch n)) h' =
+    (x.up ≡ true) × IsStale h (joined x.role) × (n ≡ h.registry.epoch) × (h' ≡ h)
+FollowRow h b x limit (Answers NoLeader) h' =
+    (x.up ≡ true) × IsCurrent h (joined x.role) × (the_leader h ≡ None) × (h' ≡ h)
 FollowRow h b x limit (Answers Level) h' = (x.up ≡ true) × IsCurrent h (joined x.role)
     × IsSomeAnd (the_leader h) (λ y. end_of y.log.batches ≤ end_of x.log.batches) × (h' ≡ h)
 FollowRow h b x limit (Answers (Moved n)) h' = (x.up ≡ true) × IsCurrent h (joined x.role)
-    × IsSomeAnd (the_leader h) (λ y. (end_of x.log.batches < end_of y.log.batches) × (end_of x.log.batches < y.local) × (n ≡ y.local)) × (h' ≡ h)
+    × IsSomeAnd (the_leader h) (λ y. (end_of x.log.batches < end_of y.log.batches) × (end_of x.log.batches < y.local)
+      × (n ≡ y.local)) × (h' ≡ h)
 FollowRow h b x limit (Answers DiskFault) h' = (x.up ≡ true) × IsCurrent h (joined x.role)
-    × IsSomeAnd (the_leader h) (λ y. (end_of x.log.batches < end_of y.log.batches) × (y.local ≤ end_of x.log.batches)) × (h' ≡ h)
+    × IsSomeAnd (the_leader h) (λ y. (end_of x.log.batches < end_of y.log.batches) × (y.local ≤ end_of x.log.batches))
+    × (h' ≡ h)
 FollowRow h b x limit (Begins g) h' = (x.up ≡ true) × IsCurrent h (joined x.role)
     × IsSomeAnd (the_leader h) (λ y. (end_of x.log.batches < end_of y.log.batches) × (y.local ≤ end_of x.log.batches)
     × Takes h x y limit g) × (h' ≡ h)
@@ -183,7 +195,8 @@ FollowRow h b x limit other h' = ⊥
 -- follow, second turn
 abbrev pub FollowOnRow : SeenPartition → ℕ → Node → StartSnapshot → Answer → SeenPartition → Type 0
 FollowOnRow h b x g Stopped h' = (g.stops ≢ x.stops) × (h' ≡ h)
-FollowOnRow h b x g (StaleEpoch n) h' = (g.stops ≡ x.stops) × IsStale h (followed g.role) × (n ≡ h.registry.epoch) × (h' ≡ h)
+FollowOnRow h b x g (StaleEpoch n) h' =
+    (g.stops ≡ x.stops) × IsStale h (followed g.role) × (n ≡ h.registry.epoch) × (h' ≡ h)
 FollowOnRow h b x g (Passed n) h' = GoesOn h x g × (n ≡ end_of x.log.batches) × (CanExtend x g → ⊥) × (h' ≡ h)
 FollowOnRow h b x g TooManySegments h' = GoesOn h x g × CanExtend x g × (h' ≡ h)
 FollowOnRow h b x g DiskFault h' = GoesOn h x g × CanExtend x g × (h' ≡ put_node h b (broken x (back_of x)))

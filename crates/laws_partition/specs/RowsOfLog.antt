@@ -10,7 +10,9 @@ use Rattle.log_terms.specs.Log.{EndsAt, end_of, joined}
 use Rattle.record_batch.specs.Check.{checked}
 use Rattle.record_batch.specs.Stamp.{stamped}
 use Rattle.plain_log.specs.declared.answer.Answer.{Answer}
-use Rattle.plain_log.specs.declared.answer.Answer.TheVariants.{OkAt, OkSpan, Down, NotLeader, Refused, LastOffset, TooManySegments, EmptySegment, DiskFault, OutOfRange, Empty, Run, Stopped, MetaFault, Kept, Dropped}
+use Rattle.plain_log.specs.declared.answer.Answer.TheVariants.{OkAt, OkSpan, Down, NotLeader, Refused, LastOffset}
+use Rattle.plain_log.specs.declared.answer.Answer.TheVariants.{TooManySegments, EmptySegment, DiskFault, OutOfRange}
+use Rattle.plain_log.specs.declared.answer.Answer.TheVariants.{Empty, Run, Stopped, MetaFault, Kept, Dropped}
 use Rattle.plain_log.specs.declared.answer.Tier.TheVariants.{Local}
 use Rattle.plain_log.specs.declared.state.Role.TheVariants.{Leads}
 use Rattle.plain_log.specs.State.{leads}
@@ -30,11 +32,13 @@ end_with x batch = end_of x.log.batches + last_offset_delta_of batch + 1
 abbrev pub AppendRow : SeenPartition → ℕ → Node → List ℕ → Answer → SeenPartition → Type 0
 AppendRow h b x batch Down h' = (x.up ≡ false) × (h' ≡ h)
 AppendRow h b x batch NotLeader h' = (x.up ≡ true) × (leads x.role ≡ false) × (h' ≡ h)
-AppendRow h b x batch LastOffset h' = (x.up ≡ true) × (leads x.role ≡ true) × (offset_limit < end_with x batch) × (h' ≡ h)
+AppendRow h b x batch LastOffset h' =
+    (x.up ≡ true) × (leads x.role ≡ true) × (offset_limit < end_with x batch) × (h' ≡ h)
 AppendRow h b x batch TooManySegments h' =
     (x.up ≡ true) × (leads x.role ≡ true) × (end_with x batch ≤ offset_limit) × (h' ≡ h)
 AppendRow h b x batch DiskFault h' =
-    (x.up ≡ true) × (leads x.role ≡ true) × (end_with x batch ≤ offset_limit) × (h' ≡ put_node h b (broken x (back_of x)))
+    (x.up ≡ true) × (leads x.role ≡ true) × (end_with x batch ≤ offset_limit)
+    × (h' ≡ put_node h b (broken x (back_of x)))
 AppendRow h b x batch (OkSpan base last e) h' =
     (x.up ≡ true) × (x.role ≡ Leads e) × (end_with x batch ≤ offset_limit) × (base ≡ end_of x.log.batches)
     × (last ≡ base + last_offset_delta_of batch)
@@ -93,7 +97,8 @@ TrimOnRow h b x g Stopped h' = (g.stops ≢ x.stops) × (h' ≡ h)
 TrimOnRow h b x g Kept h' = (g.stops ≡ x.stops) × (h' ≡ h)
 TrimOnRow h b x g DiskFault h' = (g.stops ≡ x.stops) × (x.up ≡ true)
     × ((start : ℕ) × MayStartAt x start × (h' ≡ put_node h b (broken x (x.flushed_end, kept_line x, start))))
-TrimOnRow h b x g (Dropped base last) h' = (g.stops ≡ x.stops) × (x.up ≡ true) × (base ≡ x.local) × MayStartAt x (last + 1)
+TrimOnRow h b x g (Dropped base last) h' =
+    (g.stops ≡ x.stops) × (x.up ≡ true) × (base ≡ x.local) × MayStartAt x (last + 1)
     × (h' ≡ put_node h b (record x { local = last + 1; saved = kept_line x }))
 TrimOnRow h b x g other h' = ⊥
 
@@ -119,7 +124,8 @@ FetchRow h x offset limit NotLeader h' = (x.up ≡ true) × (leads x.role ≡ fa
 FetchRow h x offset limit (OutOfRange start end) h' =
     (x.up ≡ true) × (leads x.role ≡ true) × ((offset < start) ⊎ (end < offset)) × (start ≡ h.registry.start)
     × (end ≡ end_of x.log.batches) × (h' ≡ h)
-FetchRow h x offset limit Empty h' = (x.up ≡ true) × (leads x.role ≡ true) × IsInLog h x offset × (x.known_high_watermark ≤ offset) × (h' ≡ h)
+FetchRow h x offset limit Empty h' =
+    (x.up ≡ true) × (leads x.role ≡ true) × IsInLog h x offset × (x.known_high_watermark ≤ offset) × (h' ≡ h)
 FetchRow h x offset limit DiskFault h' =
     (x.up ≡ true) × (leads x.role ≡ true) × IsLocal h x offset × (offset < x.known_high_watermark) × (h' ≡ h)
 FetchRow h x offset limit (Run tier size stop bytes) h' =

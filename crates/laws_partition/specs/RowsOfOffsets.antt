@@ -7,7 +7,8 @@
 use Rattle.std.specs.Prelude.{◌≡◌, ℕ, ℤ, max, true, false, Option, Some, None}
 use Rattle.log_terms.specs.Log.{up_to, from_offset}
 use Rattle.plain_log.specs.declared.answer.Answer.{Answer}
-use Rattle.plain_log.specs.declared.answer.Answer.TheVariants.{Down, NotLeader, Stopped, MetaFault, StoreFault, DiskFault, Damaged, Offset, NoOffset}
+use Rattle.plain_log.specs.declared.answer.Answer.TheVariants.{Down, NotLeader, Stopped, MetaFault, StoreFault}
+use Rattle.plain_log.specs.declared.answer.Answer.TheVariants.{DiskFault, Damaged, Offset, NoOffset}
 use Rattle.plain_log.specs.declared.command.Which.{Which}
 use Rattle.plain_log.specs.declared.command.Which.TheVariants.{Earliest, Latest, EarliestLocal}
 use Rattle.plain_log.specs.RowsOfReads.{first_at}

@@ -1,5 +1,5 @@
--- What a turn of a command comes to that works on the remote tier: copy, expire, and a fetch below the local log. Whether
--- segments are copied at all isn't seen.
+-- What a turn of a command comes to that works on the remote tier: copy, expire, and a fetch below the local log.
+-- Whether segments are copied at all isn't seen.
 --
 -- Of the remote tier nothing is seen here: how its calls end, and what is there, is answered as it comes. Each of these
 -- commands records where it begins, and continues as long as its broker leads as it did. The turns between the first
@@ -8,7 +8,10 @@ use Rattle.std.specs.Prelude.{◌≡◌, ◌⊎◌, ℕ, ◌<◌, ◌≤◌, tru
 use Rattle.log_terms.specs.Log.{end_of}
 use Rattle.registry.specs.Calls.{after_raise}
 use Rattle.plain_log.specs.declared.answer.Answer.{Answer}
-use Rattle.plain_log.specs.declared.answer.Answer.TheVariants.{Down, NotLeader, MetaFault, StoreFault, DiskFault, Damaged, LostLead, Level, Overtaken, CopiedSegment, CopyOff, Kept, StaleEpoch, Raised, Deleted, Stopped, OutOfRange, Empty, Run}
+use Rattle.plain_log.specs.declared.answer.Answer.TheVariants.{Down, NotLeader, MetaFault, StoreFault, DiskFault}
+use Rattle.plain_log.specs.declared.answer.Answer.TheVariants.{Damaged, LostLead, Level, Overtaken, CopiedSegment}
+use Rattle.plain_log.specs.declared.answer.Answer.TheVariants.{CopyOff, Kept, StaleEpoch, Raised, Deleted, Stopped}
+use Rattle.plain_log.specs.declared.answer.Answer.TheVariants.{OutOfRange, Empty, Run}
 use Rattle.plain_log.specs.declared.state.Role.TheVariants.{Leads}
 use Rattle.plain_log.specs.State.{leads, epoch_in}
 use Rattle.laws_partition.specs.declared.start_snapshot.StartSnapshot.{StartSnapshot}
@@ -29,8 +32,8 @@ pub record KeepsLead (x : Node) (g : StartSnapshot) : Type 0 where
 abbrev pub GoesLeading : SeenPartition → Node → StartSnapshot → SeenPartition → Type 0
 GoesLeading h x g h' = KeepsLead x g × (h' ≡ h)
 
--- copy, expire, and the offsets up to which the remote tier has the log and of a timestamp, first turn: the leader's view of that tier
--- is refreshed
+-- copy, expire, and the offsets up to which the remote tier has the log and of a timestamp, first turn: the leader's
+-- view of that tier is refreshed
 abbrev pub LeadersRow : SeenPartition → Node → Turned → SeenPartition → Type 0
 LeadersRow h x (Answers Down) h' = (x.up ≡ false) × (h' ≡ h)
 LeadersRow h x (Answers NotLeader) h' = (x.up ≡ true) × (leads x.role ≡ false) × (h' ≡ h)
@@ -75,7 +78,8 @@ ExpireOnRow h x g other h' = ⊥
 -- fetch, first turn, of an offset below the local log: it is looked for in the remote tier
 abbrev pub FetchBegins : SeenPartition → Node → ℕ → StartSnapshot → SeenPartition → Type 0
 FetchBegins h x offset g h' =
-    (x.up ≡ true) × (leads x.role ≡ true) × IsInLog h x offset × (offset < x.known_high_watermark) × (offset < x.local) × Notes h x g × (h' ≡ h)
+    (x.up ≡ true) × (leads x.role ≡ true) × IsInLog h x offset × (offset < x.known_high_watermark) × (offset < x.local)
+    × Notes h x g × (h' ≡ h)
 
 -- the broker leads as it did, and knows that the offset is committed
 pub record ServesCommitted (h : SeenPartition) (x : Node) (g : StartSnapshot) (offset : ℕ) : Type 0 where
@@ -88,7 +92,8 @@ abbrev pub FetchOnRow : SeenPartition → Node → ℕ → ℕ → StartSnapshot
 FetchOnRow h x offset limit g Stopped h' = ((g.stops ≡ x.stops) × (x.up ≡ true) → ⊥) × (h' ≡ h)
 FetchOnRow h x offset limit g NotLeader h' = (g.stops ≡ x.stops) × (x.up ≡ true) × (g.role ≡ x.role → ⊥) × (h' ≡ h)
 FetchOnRow h x offset limit g (OutOfRange start end) h' =
-    KeepsLead x g × ((offset < start) ⊎ (end < offset)) × (start ≡ h.registry.start) × (end ≡ end_of x.log.batches) × (h' ≡ h)
+    KeepsLead x g × ((offset < start) ⊎ (end < offset)) × (start ≡ h.registry.start) × (end ≡ end_of x.log.batches)
+    × (h' ≡ h)
 FetchOnRow h x offset limit g Empty h' =
     KeepsLead x g × IsInLog h x offset × (x.known_high_watermark ≤ offset) × (h' ≡ h)
 FetchOnRow h x offset limit g (Run tier size stop bytes) h' =

@@ -1,5 +1,6 @@
 -- What a partition keeps whatever its journal, and how many turns are left of its lists.
-use Rattle.std.specs.Prelude.{◌≡◌, ℕ, ◌+◌, ◌-◌, ◌*◌, ◌^◌, ◌<◌, ◌≤◌, Some, None, true, false, List, [], ◌∷◌, length, slice_get, is_some, if◌then◌else◌}
+use Rattle.std.specs.Prelude.{◌≡◌, ℕ, ◌+◌, ◌-◌, ◌*◌, ◌^◌, ◌<◌, ◌≤◌, Some, None, true, false, List}
+use Rattle.std.specs.Prelude.{[], ◌∷◌, length, slice_get, is_some, if◌then◌else◌}
 use Rattle.log_terms.specs.Log.{EndsAt, end_of, up_to}
 use Rattle.epoch_line.specs.Line.{IsLine, last_epoch}
 use Rattle.plain_log.specs.declared.command.ActorList.{ActorList}

@@ -26,22 +26,26 @@ seen_all rebuild = record rebuild { refreshed = true }
 module _ {M : Type 0} (notes : M → meta.Content) where
   -- a refresh of the view of a rebuild's broker is changes
   abbrev pub RebuildRefreshes : Type 0
-  RebuildRefreshes = (old : M) (view : EntriesSeen) (c : Scene) (p : Plain) (a : ℕ) (rebuild : Rebuild) (tier_view : BrokerTierView) (objects : store.Content)
-      → ShowsScene c a rebuild.broker tier_view (Rebuilds rebuild) objects (notes old) tier_view.view → length c.notes < 2 ^ 64 → TierSafe c p
+  RebuildRefreshes = (old : M) (view : EntriesSeen) (c : Scene) (p : Plain) (a : ℕ) (rebuild : Rebuild)
+      (tier_view : BrokerTierView) (objects : store.Content)
+      → ShowsScene c a rebuild.broker tier_view (Rebuilds rebuild) objects (notes old) tier_view.view
+      → length c.notes < 2 ^ 64 → TierSafe c p
       → Refreshes (notes old) tier_view.view view
       → IsChanged c p (after_turn c a rebuild.broker tier_view (Rebuilds (seen_all rebuild)) c.objects c.notes view)
 
 module _ {S : Type 0} (objects : S → store.Content) (calls : S → Control store_call.call_code) where
   -- the leader epochs that are read is the one by which the segment was looked up
   abbrev pub LinesArePaths : Type 0
-  LinesArePaths = (wanted : RebuildRequest) (line read : List (ℕ × ℕ)) (view : EntriesSeen) (old new : S) (c : Scene) (p : Plain) (a : ℕ)
+  LinesArePaths = (wanted : RebuildRequest) (line read : List (ℕ × ℕ)) (view : EntriesSeen) (old new : S) (c : Scene)
+      (p : Plain) (a : ℕ)
       (rebuild : Rebuild) (tier_view : BrokerTierView)
       → RebuildRow objects calls wanted line view (Ok (Goes (Restart read))) old new
       → IsToRead c p a rebuild tier_view wanted line (objects old) view → read ≡ line
 
   -- no damage is reported of
   abbrev pub NothingIsDamaged : Type 0
-  NothingIsDamaged = (wanted : RebuildRequest) (line : List (ℕ × ℕ)) (view : EntriesSeen) (place : Place) (at : ℕ) (old new : S) (c : Scene)
+  NothingIsDamaged = (wanted : RebuildRequest) (line : List (ℕ × ℕ)) (view : EntriesSeen) (place : Place) (at : ℕ)
+      (old new : S) (c : Scene)
       (p : Plain) (a : ℕ) (rebuild : Rebuild) (tier_view : BrokerTierView)
       → RebuildRow objects calls wanted line view (Ok (Ends (Damaged place at))) old new
       → IsToRead c p a rebuild tier_view wanted line (objects old) view → ⊥

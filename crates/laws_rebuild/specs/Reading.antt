@@ -14,7 +14,8 @@ use Rattle.tier_safe.specs.Scene.{BrokerTierView, Rebuild, Rebuilds, Scene}
 use Rattle.tier_safe.specs.Safe.{BothSafe}
 
 -- actor a's rebuild is at that turn, in a tier that shows these objects and this view
-pub record IsToRead (c : Scene) (p : Plain) (a : ℕ) (rebuild : Rebuild) (tier_view : BrokerTierView) (wanted : RebuildRequest) (line : List (ℕ × ℕ))
+pub record IsToRead (c : Scene) (p : Plain) (a : ℕ) (rebuild : Rebuild) (tier_view : BrokerTierView)
+    (wanted : RebuildRequest) (line : List (ℕ × ℕ))
     (objects : Content) (view : EntriesSeen) : Type 0 where
   pub safe : BothSafe c p
   pub actor_state : slice_get c.desk a ≡ Some (Rebuilds rebuild)

@@ -41,7 +41,8 @@ module _ {S M : Type 0} (objects : S → store.Content) (calls : S → Control s
   -- damage that a turn reports is of a segment's log
   abbrev pub DamageIsOfLogs : Type 0
   DamageIsOfLogs =
-      (wanted : FetchRequest) (line : List (ℕ × ℕ)) (next : FetchStep) (place : Place) (at : ℕ) (old new : Tiers S M) (c : Scene) (p : Plain)
+      (wanted : FetchRequest) (line : List (ℕ × ℕ)) (next : FetchStep) (place : Place) (at : ℕ) (old new : Tiers S M)
+      (c : Scene) (p : Plain)
       (a b : ℕ) (tier_view : BrokerTierView) (x : Broker) (stops epoch : ℕ)
       → RemoteFetchRow objects calls notes notings wanted line next (Ok (Ends (Damaged place at))) old new
       → IsAtTurn c p a b tier_view x stops epoch wanted line next (objects old.store)

@@ -32,7 +32,8 @@ pub record IsRunBytes (log : List (List ℕ)) (offset limit mark size : ℕ) (st
   pub size_is : size ≡ length bytes
 
 -- the run comes from the remote segment whose piece was found, and is the log's
-pub record ServesRun (log : List (List ℕ)) (wanted : FetchRequest) (next : FetchStep) (tier : Tier) (size : ℕ) (stop : Stop) (bytes : List ℕ)
+pub record ServesRun (log : List (List ℕ)) (wanted : FetchRequest) (next : FetchStep) (tier : Tier) (size : ℕ)
+    (stop : Stop) (bytes : List ℕ)
     : Type 0 where
   pub piece : Piece
   pub found : piece_of next ≡ Some piece

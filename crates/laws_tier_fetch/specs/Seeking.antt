@@ -3,7 +3,8 @@
 -- A broker serves a fetch still where it leads the epoch that it led when the fetch began, without a stop between, and
 -- the log start offset isn't above the offset. Whoever takes a turn tests both first; the turn goes by the line and the
 -- end of that broker's log.
-use Rattle.std.specs.Prelude.{◌≡◌, ℕ, ◌^◌, ◌<◌, ◌≤◌, List, length, map, Option, Some, None, Ok, Err, slice_get, slice_set}
+use Rattle.std.specs.Prelude.{◌≡◌, ℕ, ◌^◌, ◌<◌, ◌≤◌, List, length, map, Option}
+use Rattle.std.specs.Prelude.{Some, None, Ok, Err, slice_get, slice_set}
 use Rattle.std.specs.declared.result.Result.{Result}
 use Rattle.std.specs.declared.alloc.AllocError.{AllocError}
 use Rattle.tier_base.specs.declared.names.SegmentId.{SegmentId}

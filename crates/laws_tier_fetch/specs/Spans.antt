@@ -21,7 +21,9 @@ read_in batches span = take span.most (drop span.from (joined batches))
 
 -- no place of them is bad
 abbrev pub SpansHoldRuns : Type 0
-SpansHoldRuns = (base interval : ℕ) (batches : List (List ℕ)) (offset limit mark end at : ℕ) → IsSegment base batches → base ≤ offset
+SpansHoldRuns = (base interval : ℕ) (batches : List (List ℕ)) (offset limit mark end at : ℕ) → IsSegment base batches
+    → base ≤ offset
     → offset < min mark end → EndsIn base batches (min mark end) → EndsIn base batches end
-    → IsBadAt (read_in batches (span_of (index_of base interval (placed_from 0 batches)) offset limit end)) offset limit (min mark end) at
+    → IsBadAt (read_in batches (span_of (index_of base interval (placed_from 0 batches)) offset limit end)) offset limit
+    (min mark end) at
     → ⊥

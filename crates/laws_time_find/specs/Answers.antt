@@ -39,8 +39,10 @@ use Rattle.laws_time_find.specs.Searching.{IsAtSearch}
 -- come to its end, which is past the offset
 abbrev pub RunsAreSearched : Type 0
 RunsAreSearched = (asked : Asked) (offset at limit : ℕ) (log run : List (List ℕ)) (stop : Stop) → IsConsecutive 0 log
-    → HasPassed asked.ts asked.start log offset → asked.start ≤ offset → IsRunOf log offset limit asked.mark stop run → AreAllChecked run
-    → (IsSearched asked offset (joined run) (Ends (Offset at)) → first_at asked.ts asked.start (from_offset asked.start (up_to asked.mark log)) ≡ Some at)
+    → HasPassed asked.ts asked.start log offset → asked.start ≤ offset → IsRunOf log offset limit asked.mark stop run
+    → AreAllChecked run
+    → (IsSearched asked offset (joined run) (Ends (Offset at))
+      → first_at asked.ts asked.start (from_offset asked.start (up_to asked.mark log)) ≡ Some at)
     × (IsSearched asked offset (joined run) (Goes (at, Seek)) → HasPassed asked.ts asked.start log at × (offset < at))
 
 -- damage of the log of the segment that was to be read: it is reported of the object that has it
@@ -63,7 +65,8 @@ module _ {S M : Type 0} (objects : S → store.Content) (calls : S → Control s
       (c : Scene) (p : Plain) (a b : ℕ) (tier_view : BrokerTierView) (x : Broker) (stops epoch : ℕ)
       → TimeRow objects calls notes notings asked line cursor next (Ok (Goes (at, then))) old new
       → IsBelowLocal asked cursor next → IsSet cursor next
-      → IsAtSearch c p a b tier_view x stops epoch asked line cursor next (objects old.store) (notes old.meta) old.view old.cache
+      → IsAtSearch c p a b tier_view x stops epoch asked line cursor next (objects old.store)
+      (notes old.meta) old.view old.cache
       → IsDatedTo asked.ts p.registry.start x.log at then × (cursor ≤ at) × (then ≡ Seek → cursor < at)
 
   -- an offset that a turn answers is that of the timestamp
@@ -71,8 +74,10 @@ module _ {S M : Type 0} (objects : S → store.Content) (calls : S → Control s
   SearchesAreRight =
       (asked : Asked) (line : List (ℕ × ℕ)) (cursor at : ℕ) (next : SearchStep) (old new : Tiers S M)
       (c : Scene) (p : Plain) (a b : ℕ) (tier_view : BrokerTierView) (x : Broker) (stops epoch : ℕ)
-      → TimeRow objects calls notes notings asked line cursor next (Ok (Ends (Offset at))) old new → IsBelowLocal asked cursor next → IsSet cursor next
-      → IsAtSearch c p a b tier_view x stops epoch asked line cursor next (objects old.store) (notes old.meta) old.view old.cache
+      → TimeRow objects calls notes notings asked line cursor next (Ok (Ends (Offset at))) old new
+      → IsBelowLocal asked cursor next → IsSet cursor next
+      → IsAtSearch c p a b tier_view x stops epoch asked line cursor next (objects old.store)
+      (notes old.meta) old.view old.cache
       → offset_at p x asked.ts ≡ Some at
 
   -- damage that a turn reports is of a segment's log, which the turn was to read
@@ -80,7 +85,9 @@ module _ {S M : Type 0} (objects : S → store.Content) (calls : S → Control s
   SearchDamageIsOfLogs =
       (asked : Asked) (line : List (ℕ × ℕ)) (cursor at : ℕ) (next : SearchStep) (place : Place) (old new : Tiers S M)
       (c : Scene) (p : Plain) (a b : ℕ) (tier_view : BrokerTierView) (x : Broker) (stops epoch : ℕ)
-      → TimeRow objects calls notes notings asked line cursor next (Ok (Ends (Damaged place at))) old new → IsBelowLocal asked cursor next
+      → TimeRow objects calls notes notings asked line cursor next (Ok (Ends (Damaged place at))) old new
+      → IsBelowLocal asked cursor next
       → IsSet cursor next
-      → IsAtSearch c p a b tier_view x stops epoch asked line cursor next (objects old.store) (notes old.meta) old.view old.cache
+      → IsAtSearch c p a b tier_view x stops epoch asked line cursor next (objects old.store)
+      (notes old.meta) old.view old.cache
       → IsOfLog asked next place

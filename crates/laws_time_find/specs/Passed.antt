@@ -43,5 +43,6 @@ PassedHasNone = (ts : ℤ) (start mark cursor : ℕ) (log : List (List ℕ)) →
 
 -- it stays so as the log grows and the log start offset rises
 abbrev pub PassedIsKept : Type 0
-PassedIsKept = (ts : ℤ) (start later offset : ℕ) (log more : List (List ℕ)) → HasPassed ts start log offset → IsPrefix log more
+PassedIsKept =
+    (ts : ℤ) (start later offset : ℕ) (log more : List (List ℕ)) → HasPassed ts start log offset → IsPrefix log more
     → IsConsecutive 0 more → start ≤ later → HasPassed ts later more offset

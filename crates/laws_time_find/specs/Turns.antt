@@ -36,7 +36,9 @@ module _ {S M : Type 0} (objects : S → store.Content) (calls : S → Control s
       (asked : Asked) (line : List (ℕ × ℕ)) (cursor : ℕ) (next : SearchStep)
       (result : Result (Turn (ℕ × SearchStep)) AllocError) (old new : Tiers S M)
       (c : Scene) (p : Plain) (a b : ℕ) (tier_view : BrokerTierView) (x : Broker) (stops epoch : ℕ)
-      → TimeRow objects calls notes notings asked line cursor next result old new → IsBelowLocal asked cursor next → IsSet cursor next
-      → IsAtSearch c p a b tier_view x stops epoch asked line cursor next (objects old.store) (notes old.meta) old.view old.cache
+      → TimeRow objects calls notes notings asked line cursor next result old new → IsBelowLocal asked cursor next
+      → IsSet cursor next
+      → IsAtSearch c p a b tier_view x stops epoch asked line cursor next (objects old.store)
+      (notes old.meta) old.view old.cache
       → IsChanged c p (after_fetch c a b tier_view (search_after b stops epoch cursor next result)
       (objects new.store).objects (notes new.meta).notes new.view new.cache)

@@ -118,8 +118,8 @@ impl<S: Store, M: MetaLog> Remote<S, M> {
         Ok(())
     }
 
-    /// Refreshes the view, and finds the remote segment that has an offset of the log. The log's own leader epochs decide:
-    /// another leader may have copied other batches under the same offsets.
+    /// Refreshes the view, and finds the remote segment that has an offset of the log. The log's own leader epochs
+    /// decide: another leader may have copied other batches under the same offsets.
     pub fn find<L: Disk>(&mut self, log: &LocalLog<L>, offset: u64) -> Result<Piece> {
         refresh(&mut self.view, &mut self.meta)?;
         find(&self.view, log.line(), log.end(), offset).context("the tier doesn't have this offset")
@@ -127,7 +127,8 @@ impl<S: Store, M: MetaLog> Remote<S, M> {
 
     /// Refreshes the view, and returns up to which offset the tier has the log without a gap.
     fn covered<L: Disk>(&mut self, log: &LocalLog<L>) -> Result<u64>
-        ensures { IfOk result (λ end. end ≡ covered_to self.new.view.entries log.now.line log.now.end log.now.local_start) }
+        ensures { IfOk result (λ end. end ≡ covered_to self.new.view.entries log.now.line log.now.end
+            log.now.local_start) }
     {
         refresh(&mut self.view, &mut self.meta)?;
         Ok(covered_to(&self.view, log.line(), log.end(), log.local_start()))
@@ -194,7 +195,8 @@ fn is_first_below(closed: &[Growing], offset: u64) -> bool
     }
 }
 
-/// Drops the first local segment, if it is flushed and ends at or below an offset. Returns its first and its last offset.
+/// Drops the first local segment, if it is flushed and ends at or below an offset. Returns its first and its last
+/// offset.
 fn drop_below<L: Disk>(log: &mut LocalLog<L>, covered: u64) -> Result<(u64, u64)>
     ensures span { IfOk result (λ span. SpansFirst log.old.closed span) }
     ensures covered { OnOk result (IsFirstFlushed covered log.old.closed) }

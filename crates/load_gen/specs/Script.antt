@@ -38,7 +38,8 @@ drawn k x = x / 65536 % k
 unfoldable pub row_of : ℕ → Row
 row_of c =
     if nat_lt c 6 then Append else if nat_lt c 7 then Follow else if nat_lt c 8 then Join else if nat_lt c 10 then Flush
-    else if nat_lt c 12 then Copy else if nat_lt c 14 then Trim else if nat_lt c 15 then Expire else if nat_lt c 19 then Fetch else Clock
+    else if nat_lt c 12 then Copy else if nat_lt c 14 then Trim else if nat_lt c 15 then Expire else if nat_lt c 19 then
+        Fetch else Clock
 
 -- front = actor SP partition SP broker SP
 unfoldable pub front : ℕ → ℕ → ℕ → List ℕ
@@ -59,7 +60,8 @@ hex_run (suc n) b = hex_digit (b / 16) ∷ hex_digit (b % 16) ∷ hex_run n b
 
 -- the lines of a row in the turn i, at the partition p, x being the state after what the row draws
 unfoldable pub lines_of : Row → ℕ → ℕ → ℕ → List ℕ
-lines_of Append i p x = line (4 * p) p 0 (codes "append " ++ decimal i ++ codes ",-,x" ++ hex_run (drawn 200 x + 1) (i % 256))
+lines_of Append i p x =
+    line (4 * p) p 0 (codes "append " ++ decimal i ++ codes ",-,x" ++ hex_run (drawn 200 x + 1) (i % 256))
 lines_of Follow i p x = line (4 * p + 1) p (drawn 2 x + 1) (codes "follow 8192")
 lines_of Join i p x = line (4 * p + 1) p (drawn 2 x + 1) (codes "join")
 lines_of Flush i p x = line (4 * p + 1) p (drawn 3 x) (codes "flush") ++ line (4 * p + 1) p (drawn 3 x) (codes "ack")
@@ -100,7 +102,8 @@ turns (suc n) i x = turn i x ++ turns n (suc i) (after_turn x)
 -- the lines before the first turn
 unfoldable pub options : List ℕ
 options =
-    codes "brokers 3" ++ 10 ∷ codes "partitions 4" ++ 10 ∷ codes "segment_bytes 4096" ++ 10 ∷ codes "retention_bytes 65536" ++ 10 ∷
+    codes "brokers 3" ++ 10 ∷ codes "partitions 4" ++ 10 ∷ codes "segment_bytes 4096"
+    ++ 10 ∷ codes "retention_bytes 65536" ++ 10 ∷
     codes "local_retention_bytes 8192" ++ 10 ∷ []
 
 -- the script of a number

@@ -9,7 +9,8 @@
 --
 -- Commands: append, flush, ack, join, follow, copy, trim, expire, clock, fetch. Words are separated by one space, a
 -- line ends with LF, and a number is decimal digits.
-use Rattle.std.specs.Prelude.{ℕ, ◌==◌, ◌&&◌, nat_eq, nat_lt, if◌then◌else◌, Bool, true, false, List, [], ◌∷◌, ◌++◌, codes, count_by}
+use Rattle.std.specs.Prelude.{ℕ, ◌==◌, ◌&&◌, nat_eq, nat_lt, if◌then◌else◌, Bool, true}
+use Rattle.std.specs.Prelude.{false, List, [], ◌∷◌, ◌++◌, codes, count_by}
 use Rattle.std.specs.List.{flat_map}
 use Rattle.std.specs.Fmt.{decimal}
 use Rattle.std.specs.Cmp.Lexicographic.{pointwise}
@@ -29,8 +30,8 @@ pub record Ended : Type 0 where
 -- the commands in their order
 abbrev pub commands : List (List ℕ)
 commands =
-    codes "append" ∷ codes "flush" ∷ codes "ack" ∷ codes "join" ∷ codes "follow" ∷ codes "copy" ∷ codes "trim" ∷ codes "expire" ∷
-    codes "clock" ∷ codes "fetch" ∷ []
+    codes "append" ∷ codes "flush" ∷ codes "ack" ∷ codes "join" ∷ codes "follow" ∷ codes "copy" ∷ codes "trim" ∷
+    codes "expire" ∷ codes "clock" ∷ codes "fetch" ∷ []
 
 -- two words are the same
 abbrev pub same : List ℕ → List ℕ → Bool
@@ -68,7 +69,8 @@ answer_lines answers command = flat_map (answer_line answers command) (words_of 
 -- line = "partition" SP P SP "end" SP E SP "mark" SP M SP "start" SP S LF
 abbrev pub end_line : Ended → List ℕ
 end_line e =
-    codes "partition " ++ decimal e.partition ++ codes " end " ++ decimal e.log_end ++ codes " mark " ++ decimal e.mark ++
+    codes "partition " ++ decimal e.partition ++ codes " end " ++ decimal e.log_end ++ codes " mark "
+    ++ decimal e.mark ++
     codes " start " ++ decimal e.start ++ 10 ∷ []
 
 -- the summary of these answers, of runs with so many bytes, and of partitions that ended so

@@ -3,7 +3,8 @@
 -- Where a batch holds the offset the log ends at that batch's base. A cut to the base of a segment leaves it as the
 -- empty open one, and the segment before it closed. A cut below the local start leaves an empty log at the offset
 -- itself.
-use Rattle.std.specs.Prelude.{◌≡◌, ◌≢◌, ◌⊎◌, ℕ, ◌+◌, nat_le, nat_lt, if◌then◌else◌, List, [], ◌∷◌, ◌++◌, map, None, IsTrue, true, Result, OnErr, IsErrOf}
+use Rattle.std.specs.Prelude.{◌≡◌, ◌≢◌, ◌⊎◌, ℕ, ◌+◌, nat_le, nat_lt, if◌then◌else◌, List, [], ◌∷◌}
+use Rattle.std.specs.Prelude.{◌++◌, map, None, IsTrue, true, Result, OnErr, IsErrOf}
 use Rattle.tier_base.specs.declared.plain.FileName.{FileName}
 use Rattle.tier_base.specs.declared.plain.FileName.TheVariants as file
 use Rattle.tier_base.specs.declared.fault.Trouble.{Trouble}
@@ -126,7 +127,8 @@ module _ {D : Type 0} where
     pub is_observable : (content new.disk).is_observable ≡ (content before.disk).is_observable
 
 -- an error leaves the log and its images as they were where memory is out, and a broken log where the disk failed
-pub record StaysOrBreaks {D T : Type 0} (content : D → Content) (old new : Log D) (result : Result T Trouble) : Type 0 where
+pub record StaysOrBreaks {D T : Type 0} (content : D → Content) (old new : Log D)
+    (result : Result T Trouble) : Type 0 where
   pub others : OnErr result (IsErrOf result fault.NoMemory ⊎ IsErrOf result fault.Failed)
   pub no_memory : IsErrOf result fault.NoMemory → LogBecomes content old new
   pub no_image : IsErrOf result fault.NoMemory → (c : Files) → Image (content new.disk) c → Image (content old.disk) c

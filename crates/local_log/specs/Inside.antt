@@ -67,6 +67,7 @@ module _ {D : Type 0} (content : D → Content) where
     pub line_within : Each (λ (entry : ℕ × ℕ). entry.1 ≤ end_of log.active) log.line
     pub flushed_end_within : log.flushed_end ≤ end_of log.active
     pub has : log.broken ≡ false
-        → DiskHasLog (content log.disk) log.incarnation log.local_start log.closed.items log.active log.line log.flushed_end
+        → DiskHasLog (content log.disk) log.incarnation log.local_start log.closed.items log.active log.line
+        log.flushed_end
     -- a broken log can be opened again too
     pub reopens : Reopens (content log.disk)

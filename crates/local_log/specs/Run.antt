@@ -3,7 +3,8 @@
 -- The log rolls before an append where the open segment isn't empty and would pass the settings' segment_bytes, or
 -- where the batch's last offset less the segment's base would pass 2,147,483,647. A batch larger than segment_bytes is
 -- alone in a segment.
-use Rattle.std.specs.Prelude.{◌≡◌, ◌≢◌, ℕ, ◌+◌, ◌-◌, ◌^◌, ◌==◌, ◌&&◌, ◌||◌, nat_lt, nat_le, Bool, false, if◌then◌else◌, List, [], ◌∷◌, ◌++◌, length, Option, Some, None, unwrap_or, IsOk}
+use Rattle.std.specs.Prelude.{◌≡◌, ◌≢◌, ℕ, ◌+◌, ◌-◌, ◌^◌, ◌==◌, ◌&&◌, ◌||◌, nat_lt, nat_le, Bool, false}
+use Rattle.std.specs.Prelude.{if◌then◌else◌, List, [], ◌∷◌, ◌++◌, length, Option, Some, None, unwrap_or, IsOk}
 use Rattle.std.specs.Int.{w32}
 use Rattle.log_terms.specs.Batch.{field_at, base_of, last_of, epoch_of}
 use Rattle.log_terms.specs.Log.{joined, IsConsecutive, end_from}

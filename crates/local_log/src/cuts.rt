@@ -5,7 +5,8 @@
 //! the old one. After that the files after the end are removed, from the last to the first, and the last one is cut.
 //! What a crash brings back of them is in no manifest.
 
-ghost use Rattle.std.specs.Prelude.{◌≡◌, ◌⊎◌, ◌+◌, ◌≤◌, ◌<◌, ℕ, length, false, true, OnOk, OnErr, IfOk, IsErrOf, IsTrue};
+ghost use Rattle.std.specs.Prelude.{◌≡◌, ◌⊎◌, ◌+◌, ◌≤◌, ◌<◌, ℕ, length, false, true};
+ghost use Rattle.std.specs.Prelude.{OnOk, OnErr, IfOk, IsErrOf, IsTrue};
 ghost use Rattle.disk_model.specs.Content.{LeavesOnly, Image, Files, Keeps};
 ghost use Rattle.tier_base.specs.declared.fault.Trouble.TheVariants as fault;
 ghost use Rattle.tier_base.specs.Counts.{counted, Rose};
@@ -16,7 +17,9 @@ ghost use Rattle.log_manifest.specs.Spelling.{manifest_bytes};
 ghost use Rattle.log_steps.specs.Opens.{Opens};
 ghost use Rattle.local_log.specs.Listing.{front_to, manifest_of};
 ghost use Rattle.local_log.specs.Log.{LogBecomes};
-ghost use Rattle.local_log.specs.Cutting.{closed_by, open_by, cut_point, shortened, settled, cut, restarted, cut_at, IsLeftUpTo, all_of, opened_to, Cutting, OpensEither, LogBreaks, OpensAs, OpensAsOr, LeavesBeforeOrNow, StaysOrBreaks};
+ghost use Rattle.local_log.specs.Cutting.{closed_by, open_by, cut_point, shortened, settled, cut, restarted, cut_at};
+ghost use Rattle.local_log.specs.Cutting.{IsLeftUpTo, all_of, opened_to, Cutting, OpensEither, LogBreaks, OpensAs};
+ghost use Rattle.local_log.specs.Cutting.{OpensAsOr, LeavesBeforeOrNow, StaysOrBreaks};
 
 use crate::log::{LocalLog, refused};
 use crate::seeking::end_by;

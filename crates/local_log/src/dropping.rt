@@ -3,7 +3,8 @@
 //! The manifest without it is written first, and then its file is removed. The new manifest lists no more than the
 //! old one, so what isn't flushed stays so.
 
-ghost use Rattle.std.specs.Prelude.{◌≡◌, ◌⊎◌, ◌+◌, ◌≤◌, ◌<◌, ◌∷◌, ℕ, [], length, false, true, OnOk, OnErr, IfOk, IsErrOf};
+ghost use Rattle.std.specs.Prelude.{◌≡◌, ◌⊎◌, ◌+◌, ◌≤◌, ◌<◌, ◌∷◌, ℕ, [], length};
+ghost use Rattle.std.specs.Prelude.{false, true, OnOk, OnErr, IfOk, IsErrOf};
 ghost use Rattle.disk_model.specs.Content.{LeavesOnly, Image, Files};
 ghost use Rattle.tier_base.specs.declared.fault.Trouble.TheVariants as fault;
 ghost use Rattle.tier_base.specs.Counts.{counted, Rose};

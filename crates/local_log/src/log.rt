@@ -4,7 +4,8 @@
 //! be closed; opening it again finds what was flushed. Running out of memory is noticed before the first change, or
 //! changes nothing that a crash could leave.
 
-ghost use Rattle.std.specs.Prelude.{◌≡◌, ◌⊎◌, ◌↔◌, ◌+◌, ◌≤◌, ◌<◌, ◌^◌, ◌++◌, ◌∷◌, List, [], ℕ, length, false, true, None, IfOk, IfErr, OnOk, OnErr, IsTrue, IsFalse, IsErrOf};
+ghost use Rattle.std.specs.Prelude.{◌≡◌, ◌⊎◌, ◌↔◌, ◌+◌, ◌≤◌, ◌<◌, ◌^◌, ◌++◌, ◌∷◌, List, [], ℕ, length, false};
+ghost use Rattle.std.specs.Prelude.{true, None, IfOk, IfErr, OnOk, OnErr, IsTrue, IsFalse, IsErrOf};
 ghost use Rattle.disk_model.specs.Content.{LeavesOnly, Image, Files, Keeps};
 ghost use Rattle.tier_base.specs.Counts.{counted, Rose};
 ghost use Rattle.tier_base.specs.Device.{Lasts, Arms, fate_of};
@@ -29,7 +30,8 @@ ghost use Rattle.local_log.specs.Cutting.{OpensAs, OpensAsOr, LeavesBeforeOrNow}
 ghost use Rattle.local_log.specs.Refusing.{IsSoundCause, IsOfManifest};
 ghost use Rattle.local_log.specs.Opening.{IsOpenLog, IsLogOf, Lists, HoldsLast, OpenFails, OpenFailsIn};
 ghost use Rattle.local_log.specs.Cutting.{whole_log};
-ghost use Rattle.local_log.specs.Log.{IsNewLog, committed, Committing, AreSettings, LogBecomes, OpensFlushed, flushed_log, Creating, first_log};
+ghost use Rattle.local_log.specs.Log.{IsNewLog, committed, Committing, AreSettings, LogBecomes};
+ghost use Rattle.local_log.specs.Log.{OpensFlushed, flushed_log, Creating, first_log};
 
 use crate::listing::listing;
 use crate::opening::open_log;

@@ -4,7 +4,8 @@
 //! one that lists more than there is. Then the segments are read and checked, and the manifest is written under the
 //! next incarnation. What was read was synced before, so each image then opens as it, whatever the disk held.
 
-ghost use Rattle.std.specs.Prelude.{◌≡◌, ◌≢◌, ◌+◌, ◌*◌, ◌<◌, ◌≤◌, ◌^◌, ◌++◌, ◌∷◌, ℕ, List, [], length, Some, None, Ok, IfOk, IfErr, OnOk, IsErrOf, IsTrue};
+ghost use Rattle.std.specs.Prelude.{◌≡◌, ◌≢◌, ◌+◌, ◌*◌, ◌<◌, ◌≤◌, ◌^◌, ◌++◌, ◌∷◌, ℕ, List, []};
+ghost use Rattle.std.specs.Prelude.{length, Some, None, Ok, IfOk, IfErr, OnOk, IsErrOf, IsTrue};
 ghost use Rattle.tier_base.specs.Counts.{counted, Rose};
 ghost use Rattle.tier_base.specs.Device.{Lasts};
 ghost use Rattle.tier_base.specs.Told.{NamesAllHeld, bytes_in};
@@ -19,8 +20,10 @@ ghost use Rattle.local_log.specs.declared.refusal.OpenRefusal.TheVariants.{DiskF
 ghost use Rattle.local_log.specs.Refusing.{IsDry, IsSoundCause, IsOfManifest};
 ghost use Rattle.local_log.specs.Stored.{end_of, chain_end};
 ghost use Rattle.local_log.specs.Parsing.{IsParsed, ParseFails};
-ghost use Rattle.local_log.specs.Opening.{HoldsLast, SegmentFails, ReadsTo, ReadFails, ReadFailsIn, OpenFails, OpenFailsIn};
-ghost use Rattle.local_log.specs.Planning.{IsPlan, IsPlanOf, PlanFails, FileFails, StudyFails, AreSegmentsRead, IsSegmentRead, IsLogOpened};
+ghost use Rattle.local_log.specs.Opening.{HoldsLast, SegmentFails, ReadsTo, ReadFails};
+ghost use Rattle.local_log.specs.Opening.{ReadFailsIn, OpenFails, OpenFailsIn};
+ghost use Rattle.local_log.specs.Planning.{IsPlan, IsPlanOf, PlanFails, FileFails, StudyFails};
+ghost use Rattle.local_log.specs.Planning.{AreSegmentsRead, IsSegmentRead, IsLogOpened};
 
 use crate::parsing::{damaged, parse};
 use crate::refusal::OpenRefusal;

@@ -6,7 +6,8 @@
 //! bytes are checked without what memory keeps. Last, the batches' leader epochs are compared with the log's, because
 //! no checksum covers them.
 
-ghost use Rattle.std.specs.Prelude.{◌≡◌, ◌≢◌, ◌<◌, ◌≤◌, ◌+◌, ℕ, None, option_map, min, false, true, ◌^◌, ◌↔◌, IfOk, IfErr, IfSome, IsOk, IsErrOf, IsTrue};
+ghost use Rattle.std.specs.Prelude.{◌≡◌, ◌≢◌, ◌<◌, ◌≤◌, ◌+◌, ℕ, None, option_map, min, false, true};
+ghost use Rattle.std.specs.Prelude.{◌^◌, ◌↔◌, IfOk, IfErr, IfSome, IsOk, IsErrOf, IsTrue};
 ghost use Rattle.tier_base.specs.declared.fault.Trouble.TheVariants as fault;
 ghost use Rattle.tier_base.specs.Counts.{counted, Rose};
 ghost use Rattle.tier_base.specs.Device.{Lasts, Ran, fate_of};
@@ -16,7 +17,9 @@ ghost use Rattle.disk_model.specs.declared.call.DiskCall.TheVariants.{Read};
 ghost use Rattle.disk_model.specs.Content.{LeavesOnly, Keeps, part_of};
 ghost use Rattle.local_log.specs.declared.refusal.ReadRefusal.TheVariants.{DiskFault};
 ghost use Rattle.local_log.specs.Log.{LogBecomes, OpensFlushed};
-ghost use Rattle.local_log.specs.Reading.{first_past, segment_at, piece_of, is_edge, ReadOnce, IsCutOut, IsRunOf, IsEdge, RunFails, CutFails, IsOfDevice, IsClosedFrom, ClosedFails, IsPartOf, IsSegmentFront, FrontFails};
+ghost use Rattle.local_log.specs.Reading.{first_past, segment_at, piece_of, is_edge, ReadOnce, IsCutOut};
+ghost use Rattle.local_log.specs.Reading.{IsRunOf, IsEdge, RunFails, CutFails, IsOfDevice, IsClosedFrom};
+ghost use Rattle.local_log.specs.Reading.{ClosedFails, IsPartOf, IsSegmentFront, FrontFails};
 
 use crate::epochs::first_stray;
 use crate::log::LocalLog;

@@ -3,7 +3,8 @@
 //! The manifest with the one empty segment is written first: from then on no crash brings back the old log. Only then
 //! are the old segments' files removed, the open one's too, so that the new open segment begins without bytes.
 
-ghost use Rattle.std.specs.Prelude.{◌≡◌, ◌⊎◌, ◌+◌, ◌≤◌, ◌<◌, ◌^◌, ◌++◌, ◌∷◌, ℕ, [], length, false, true, OnOk, OnErr, IsErrOf};
+ghost use Rattle.std.specs.Prelude.{◌≡◌, ◌⊎◌, ◌+◌, ◌≤◌, ◌<◌, ◌^◌, ◌++◌, ◌∷◌, ℕ, []};
+ghost use Rattle.std.specs.Prelude.{length, false, true, OnOk, OnErr, IsErrOf};
 ghost use Rattle.disk_model.specs.Content.{LeavesOnly, Image, Files};
 ghost use Rattle.tier_base.specs.declared.fault.Trouble.TheVariants as fault;
 ghost use Rattle.tier_base.specs.Counts.{counted, Rose};
@@ -15,7 +16,8 @@ ghost use Rattle.log_steps.specs.Opens.{Opens};
 ghost use Rattle.log_steps.specs.Runs.{Runs};
 ghost use Rattle.local_log.specs.Listing.{manifest_of};
 ghost use Rattle.local_log.specs.Log.{LogBecomes};
-ghost use Rattle.local_log.specs.Cutting.{names_of, restarted, all_of, OpensEither, OpensAsOr, LeavesBeforeOrNow, StaysOrBreaks};
+ghost use Rattle.local_log.specs.Cutting.{names_of, restarted, all_of, OpensEither, OpensAsOr};
+ghost use Rattle.local_log.specs.Cutting.{LeavesBeforeOrNow, StaysOrBreaks};
 ghost use Rattle.local_log.specs.Renewing.{Renews};
 
 use crate::listing::listing;
@@ -89,7 +91,8 @@ impl<D: Disk> LocalLog<D> {
     fn begin_at(&mut self, bytes: &[u8], active: Growing, line: Line) -> Result<(), Trouble>
         requires unbroken { self.old.broken ≡ false }
         requires low { active.base ≤ 2 ^ 62 }
-        requires fresh { active ≡ record { base = active.base; interval = self.old.settings.index_interval; batches = [] } }
+        requires fresh { active
+            ≡ record { base = active.base; interval = self.old.settings.index_interval; batches = [] } }
         requires line { IsLine line }
         requires within { Each (λ (entry : ℕ × ℕ). entry.1 ≤ active.base) line }
         requires room { length self.old.closed + 1 ≤ D.spare self.old.disk }

@@ -1,7 +1,8 @@
 //! A run of batches on its way into a log: how much of it fits one segment, and what it makes of the segment and of the
 //! leader epochs. Its batches were checked before, so only their heads are read.
 
-ghost use Rattle.std.specs.Prelude.{◌≡◌, ◌+◌, ◌≤◌, ◌<◌, ◌^◌, List, ℕ, ◌||◌, nat_le, IsOk, IfOk, OnErr, Ok, length, drop};
+ghost use Rattle.std.specs.Prelude.{◌≡◌, ◌+◌, ◌≤◌, ◌<◌, ◌^◌, List, ℕ, ◌||◌, nat_le};
+ghost use Rattle.std.specs.Prelude.{IsOk, IfOk, OnErr, Ok, length, drop};
 ghost use Rattle.std.specs.Int.{w32, w64, cast_unsigned};
 ghost use Rattle.std.specs.Option.{ForSome};
 ghost use Rattle.record_batch.specs.Check.{headed};

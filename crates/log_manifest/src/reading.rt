@@ -5,7 +5,8 @@
 
 ghost use Rattle.std.specs.Prelude.{◌≡◌, ◌≤◌, ◌^◌, ℕ, IfOk, None};
 ghost use Rattle.log_manifest.specs.Rules.{IsManifest};
-ghost use Rattle.log_manifest.specs.Reading.{front_at, base_may, len_may, segment_at, epoch_may, start_may, entry_at, items_at, manifest_in, seen, Answers};
+ghost use Rattle.log_manifest.specs.Reading.{front_at, base_may, len_may, segment_at, epoch_may, start_may};
+ghost use Rattle.log_manifest.specs.Reading.{entry_at, items_at, manifest_in, seen, Answers};
 
 use crate::fields::{bad, read_u32, read_u64};
 use crate::manifest::{Extent, Front, Manifest, SegmentList};

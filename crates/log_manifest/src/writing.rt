@@ -3,7 +3,8 @@
 ghost use Rattle.std.specs.Prelude.{◌≡◌, ◌≤◌, ◌++◌, length, OnOk, IfOk};
 ghost use Rattle.std.specs.Int.{w32, w64, to_be_bytes};
 ghost use Rattle.log_manifest.specs.Rules.{IsManifest};
-ghost use Rattle.log_manifest.specs.Spelling.{front_bytes, segment_bytes, segments_bytes, entry_bytes, entries_bytes, manifest_bytes};
+ghost use Rattle.log_manifest.specs.Spelling.{front_bytes, segment_bytes, segments_bytes};
+ghost use Rattle.log_manifest.specs.Spelling.{entry_bytes, entries_bytes, manifest_bytes};
 
 use crate::manifest::{Extent, Manifest};
 use std::alloc::{AllocError, Global};

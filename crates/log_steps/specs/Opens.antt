@@ -1,7 +1,8 @@
 -- What an image opens as: its manifest gates the length of each segment, and the fronts are read as batches.
 --
 -- An image without a manifest opens as the empty log at 0, with incarnation 0, which no manifest can hold.
-use Rattle.std.specs.Prelude.{◌≡◌, ℕ, ◌+◌, ◌-◌, ◌≤◌, ◌<◌, ◌^◌, List, [], ◌∷◌, ◌++◌, length, Option, Some, None, Result, Ok, Err, IsOk}
+use Rattle.std.specs.Prelude.{◌≡◌, ℕ, ◌+◌, ◌-◌, ◌≤◌, ◌<◌, ◌^◌, List, [], ◌∷◌, ◌++◌}
+use Rattle.std.specs.Prelude.{length, Option, Some, None, Result, Ok, Err, IsOk}
 use Rattle.tier_base.specs.declared.plain.FileName.TheVariants as file
 use Rattle.log_terms.specs.Batch.{base_of, last_of, epoch_of}
 use Rattle.log_terms.specs.Log.{IsConsecutive, end_from, joined}

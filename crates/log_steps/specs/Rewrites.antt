@@ -88,7 +88,8 @@ pub record Rewritten (now : List ℕ) (old : Content) (c : Files) : Type 0 where
   pub manifest : (c file.Manifest ≡ image file.Manifest) ⊎ (c file.Manifest ≡ Some now)
 
 -- the manifest is written again, the listed files are cut, and others of these names are removed
-pub record Rewrites (now : List ℕ) (es : List Extent) (names : List FileName) (fate : Fate) (old new : Content) : Type 0 where
+pub record Rewrites (now : List ℕ) (es : List Extent) (names : List FileName) (fate : Fate)
+    (old new : Content) : Type 0 where
   pub is_observable : new.is_observable ≡ old.is_observable
   pub since : LeavesOnly old new (Rewriting now es old)
   pub under : fate ≡ Went → (c : Files) → Image new c → Underway now es old c
@@ -96,7 +97,8 @@ pub record Rewrites (now : List ℕ) (es : List Extent) (names : List FileName) 
   pub files : fate ≡ Went → IsTrue old.is_observable → Each (λ e. log_at new.files e ≡ front old.files e) es
   pub absent : fate ≡ Went → IsTrue old.is_observable → (b : ℕ) → IsUnlisted es b → old.files (file.Log b) ≡ None
       → new.files (file.Log b) ≡ None
-  pub gone : fate ≡ Went → IsTrue old.is_observable → (b : ℕ) → IsUnlisted es b → In (file.Log b) names → new.files (file.Log b) ≡ None
+  pub gone : fate ≡ Went → IsTrue old.is_observable → (b : ℕ) → IsUnlisted es b → In (file.Log b) names
+      → new.files (file.Log b) ≡ None
   -- each image has the fronts as they read
   pub synced : fate ≡ Went → (c : Files) → Image new c → Each (KeepsFront new.files c) es
   -- no file was cut, or each image has the manifest

@@ -7,7 +7,8 @@ ghost use Rattle.tier_base.specs.Device.{fate_of, failing};
 ghost use Rattle.disk_model.specs.Content.{LeavesOnly};
 ghost use Rattle.log_steps.specs.Fronts.{Rising};
 ghost use Rattle.log_steps.specs.Runs.{Runs};
-ghost use Rattle.log_steps.specs.Rewrites.{Restores, RestoresAll, AfterCuts, Removes, RemovesOne, IsUnlisted, IsOther, Rewrites};
+ghost use Rattle.log_steps.specs.Rewrites.{Restores, RestoresAll, AfterCuts, Removes};
+ghost use Rattle.log_steps.specs.Rewrites.{RemovesOne, IsUnlisted, IsOther, Rewrites};
 
 use disk_model::{Disk, FileName};
 use log_manifest::Extent;

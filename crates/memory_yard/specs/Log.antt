@@ -12,7 +12,8 @@ use Rattle.memory_yard.specs.declared.log_place.Kept.TheVariants as kept
 -- the log, or a disk alone as a log that counts nothing
 abbrev pub log_of : Kept → NoteLog MemoryDisk
 log_of (kept.Log log) = log
-log_of (kept.Bare d) = record { disk = d; counts = record { armed = false; counts = []; faults = 0 }; ends = []; tail = Loose }
+log_of (kept.Bare d) =
+    record { disk = d; counts = record { armed = false; counts = []; faults = 0 }; ends = []; tail = Loose }
 
 -- what it reports
 abbrev pub told : NoteLog MemoryDisk → Content

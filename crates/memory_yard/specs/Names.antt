@@ -8,10 +8,12 @@ use Rattle.disk_model.specs.contracts.memory_disk.MemoryDiskDisk.TheImpl as disk
 use Rattle.object_store.specs.contracts.memory_store.MemoryStoreStore.TheImpl as store
 use Rattle.tier_base.specs.Told.{In}
 use Rattle.memory_yard.specs.Log.{told}
-use Rattle.device_yard.specs.YardContent.{YardContent, Same, IsNameInYard, IsFirstName, AreUsed, HasTier, HasRegistry, IsBare}
+use Rattle.device_yard.specs.YardContent.{YardContent, Same, IsNameInYard, IsFirstName}
+use Rattle.device_yard.specs.YardContent.{AreUsed, HasTier, HasRegistry, IsBare}
 
 -- no name and no content has changed
-abbrev pub SameYardContent : YardContent MemoryDisk MemoryStore (NoteLog MemoryDisk) → YardContent MemoryDisk MemoryStore (NoteLog MemoryDisk) → Type 0
+abbrev pub SameYardContent : YardContent MemoryDisk MemoryStore (NoteLog MemoryDisk)
+    → YardContent MemoryDisk MemoryStore (NoteLog MemoryDisk) → Type 0
 SameYardContent old new = Same (disk.ghosts).content (store.ghosts).content told old new
 
 -- the partitions in use
@@ -28,7 +30,8 @@ HaveTiers held list = (p : PartitionId) → HasTier (disk.ghosts).content (store
 
 -- the partitions that have a registry's file
 abbrev pub HaveRegistries : YardContent MemoryDisk MemoryStore (NoteLog MemoryDisk) → List PartitionId → Type 0
-HaveRegistries held list = (p : PartitionId) → HasRegistry (disk.ghosts).content (store.ghosts).content told held p ↔ In p list
+HaveRegistries held list =
+    (p : PartitionId) → HasRegistry (disk.ghosts).content (store.ghosts).content told held p ↔ In p list
 
 -- the partitions that have an object or a metadata event, and no registry
 abbrev pub AreBare : YardContent MemoryDisk MemoryStore (NoteLog MemoryDisk) → List PartitionId → Type 0

@@ -1,5 +1,6 @@
 -- Devices on a shelf by their places.
-use Rattle.std.specs.Prelude.{◌≡◌, ◌≢◌, ℕ, ◌<◌, length, Bool, true, false, if◌then◌else◌, List, [], ◌∷◌, slice_get, Option, Some, None, IsSomeAnd}
+use Rattle.std.specs.Prelude.{◌≡◌, ◌≢◌, ℕ, ◌<◌, length, Bool, true, false, if◌then◌else◌, List}
+use Rattle.std.specs.Prelude.{[], ◌∷◌, slice_get, Option, Some, None, IsSomeAnd}
 use Rattle.tier_base.specs.declared.names.PartitionId.{PartitionId}
 use Rattle.device_yard.specs.YardContent.{IsThereWith, Both}
 use Rattle.memory_yard.specs.declared.slot.Slot.{Slot}
@@ -22,7 +23,8 @@ module _ {K T : Type 0} (same : K → K → Bool) where
 
   -- no two slots are of one place
   abbrev pub AreSlotsDistinct : List (Slot K T) → Type 0
-  AreSlotsDistinct slots = (i j : ℕ) (a b : Slot K T) → slice_get slots i ≡ Some a → slice_get slots j ≡ Some b → same a.place b.place ≡ true → i ≡ j
+  AreSlotsDistinct slots = (i j : ℕ) (a b : Slot K T) → slice_get slots i ≡ Some a → slice_get slots j ≡ Some b
+      → same a.place b.place ≡ true → i ≡ j
 
   -- none of the first n slots is of the place
   abbrev pub IsAbsentBelow : ℕ → K → List (Slot K T) → Type 0
@@ -31,7 +33,8 @@ module _ {K T : Type 0} (same : K → K → Bool) where
   -- where the place has its slot, if it has one
   abbrev pub IsSlotOf : K → List (Slot K T) → Option ℕ → Type 0
   IsSlotOf place slots None = (n : ℕ) → IsAbsentBelow n place slots
-  IsSlotOf place slots (Some i) = (i < length slots) × ((s : Slot K T) → slice_get slots i ≡ Some s → same s.place place ≡ true)
+  IsSlotOf place slots (Some i) =
+      (i < length slots) × ((s : Slot K T) → slice_get slots i ≡ Some s → same s.place place ≡ true)
 
 -- a slot with the device that it had, whose content is the same
 pub record SlotKeeps {K T : Type 0} (keeps : T → T → Type 0) (old new : Slot K T) : Type 0 where

@@ -13,7 +13,9 @@ use Rattle.memory_yard.specs.Place.{same_partition, same_disk}
 use Rattle.memory_yard.specs.Crash.{DropsUnsynced}
 
 -- the strays, and what is on the shelves
-abbrev pub held_by : List (List ℕ) → List (Slot DiskPlace MemoryDisk) → List (Slot PartitionId MemoryStore) → List (Slot PartitionId (NoteLog MemoryDisk)) → List (Slot PartitionId MemoryDisk) → YardContent MemoryDisk MemoryStore (NoteLog MemoryDisk)
+abbrev pub held_by : List (List ℕ) → List (Slot DiskPlace MemoryDisk) → List (Slot PartitionId MemoryStore)
+    → List (Slot PartitionId (NoteLog MemoryDisk)) → List (Slot PartitionId MemoryDisk)
+    → YardContent MemoryDisk MemoryStore (NoteLog MemoryDisk)
 held_by strays disks stores logs registries = record {
   is_observable = true;
   strays = strays;

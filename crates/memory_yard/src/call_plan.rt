@@ -7,8 +7,8 @@ ghost use Rattle.memory_yard.specs.Calls.{plan_of};
 use std::marker::Model;
 use tier_base::Failed;
 
-/// The numbers of calls that are to fail, counted from 1, and how many calls were made. With a fuse a device may fail as it is
-/// opened.
+/// The numbers of calls that are to fail, counted from 1, and how many calls were made. With a fuse a device may fail
+/// as it is opened.
 #[derive(Drop)]
 pub struct CallPlan {
     failing: Vec<u32>,

@@ -1,5 +1,5 @@
-//! What is kept of a metadata log that came back: the log, or its disk alone where the log couldn't be opened again, or where
-//! a crash took what wasn't synced.
+//! What is kept of a metadata log that came back: the log, or its disk alone where the log couldn't be opened again,
+//! or where a crash took what wasn't synced.
 
 ghost use Rattle.std.specs.Prelude.{◌≡◌, ◌≢◌, ◌↔◌, [], IfOk, IfErr, OnOk, IfSome, IsTrue};
 ghost use Rattle.std.specs.Option.{option_copied};

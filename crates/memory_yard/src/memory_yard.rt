@@ -1,12 +1,14 @@
 //! An environment in memory, some of whose calls are to fail.
 
-ghost use Rattle.std.specs.Prelude.{◌≡◌, ◌≤◌, ◌↔◌, Some, None, IfSome, true, false, IfOk, OnOk, OnErr, IsTrue, Contains};
+ghost use Rattle.std.specs.Prelude.{◌≡◌, ◌≤◌, ◌↔◌, Some, None, IfSome, true, false};
+ghost use Rattle.std.specs.Prelude.{IfOk, OnOk, OnErr, IsTrue, Contains};
 ghost use Rattle.std.specs.Option.{option_copied};
 ghost use Rattle.tier_base.specs.Device.{Fault, fate_of, IsFreshDevice};
 ghost use Rattle.tier_base.specs.Told.{In};
 ghost use Rattle.device_yard.specs.Control as control;
 ghost use Rattle.device_yard.specs.Plan.{Plan, CountsCall, next_of};
-ghost use Rattle.device_yard.specs.YardContent.{IsFirstName, IsNameInYard, AreUsed, Rise, Same, DiskIs, RegistryIs, IsOut, HandsDisk, HandsStore, HandsLog};
+ghost use Rattle.device_yard.specs.YardContent.{IsFirstName, IsNameInYard, AreUsed, Rise, Same, DiskIs};
+ghost use Rattle.device_yard.specs.YardContent.{RegistryIs, IsOut, HandsDisk, HandsStore, HandsLog};
 ghost use Rattle.disk_model.specs.MemoryFiles.{fuse_of};
 ghost use Rattle.memory_yard.specs.Calls.{plan_of};
 ghost use Rattle.memory_yard.specs.First.{IsFirstWith};
@@ -54,7 +56,8 @@ impl MemoryYard {
     pub fn new(alloc: Global, strays: Vec<Blob>, plan: Vec<u32>) -> MemoryYard
         ensures fresh { control.IsFreshYard (⟦<MemoryYard as Yard>⟧.control result) }
         ensures named { (⟦<MemoryYard as Yard>⟧.control result).named ≡ None }
-        ensures plan { ⟦<MemoryYard as Yard>⟧.plan result ≡ Some (record { calls = 0; failing = plan.items; alone = true }) }
+        ensures plan { ⟦<MemoryYard as Yard>⟧.plan result
+            ≡ Some (record { calls = 0; failing = plan.items; alone = true }) }
         ensures held { IsEmptyYard strays.items (⟦<MemoryYard as Yard>⟧.held result) }
         ensures fuse { result.plan.fuse ≡ None }
     {
@@ -159,7 +162,8 @@ impl MemoryYard {
         ensures stores { self.new.stores.slots ≡ self.old.stores.slots }
         ensures logs { self.new.logs.slots ≡ self.old.logs.slots }
         ensures registries { self.new.registries.slots ≡ self.old.registries.slots }
-        ensures room { OnOk result (HasRoom self.new.counts.out self.new.disks.room self.new.stores.room self.new.logs.room self.new.registries.room) }
+        ensures room { OnOk result (HasRoom self.new.counts.out self.new.disks.room self.new.stores.room
+            self.new.logs.room self.new.registries.room) }
         ensures strays { self.new.strays ≡ self.old.strays }
         ensures counts { self.new.counts ≡ self.old.counts }
         ensures plan { self.new.plan ≡ self.old.plan }
@@ -194,7 +198,8 @@ impl MemoryYard {
         ensures stores { self.new.stores.slots ≡ self.old.stores.slots }
         ensures logs { self.new.logs.slots ≡ self.old.logs.slots }
         ensures registries { self.new.registries.slots ≡ self.old.registries.slots }
-        ensures room { OnOk result (HasRoom self.new.counts.out self.new.disks.room self.new.stores.room self.new.logs.room self.new.registries.room) }
+        ensures room { OnOk result (HasRoom self.new.counts.out self.new.disks.room self.new.stores.room
+            self.new.logs.room self.new.registries.room) }
         ensures strays { self.new.strays ≡ self.old.strays }
         ensures counts { self.new.counts ≡ self.old.counts }
     {
@@ -338,7 +343,8 @@ impl Yard for MemoryYard {
             HandsDisk ⟦<MemoryDisk as Disk>⟧.content ((⟦<MemoryYard as Yard>⟧.held self.old).disks partition broker)
             (⟦<MemoryDisk as Disk>⟧.content disk)) }
         ensures out { IsTrue (⟦<MemoryYard as Yard>⟧.held self.old).is_observable → OnOk result
-            (DiskIs partition broker None (⟦<MemoryYard as Yard>⟧.held self.old) (⟦<MemoryYard as Yard>⟧.held self.new)) }
+            (DiskIs partition broker None (⟦<MemoryYard as Yard>⟧.held self.old)
+              (⟦<MemoryYard as Yard>⟧.held self.new)) }
         ensures err { IsTrue (⟦<MemoryYard as Yard>⟧.held self.old).is_observable → OnErr result
             (SameYardContent (⟦<MemoryYard as Yard>⟧.held self.old) (⟦<MemoryYard as Yard>⟧.held self.new)) }
 

@@ -64,7 +64,8 @@ impl<D: Disk> DiskLog<D> {
         ensures durable { IfOk result (λ log. (c : Files) → Image (D.content log.disk) c
             → OpensWithNotes c (⟦<DiskLog<D> as MetaLog>⟧.content log).notes) }
         // A power cut then leaves no events but those that one before may have left.
-        ensures left { IfOk result (λ log. IsTrue (D.content disk).is_observable → Reopens (D.content disk) → (notes : List Note)
+        ensures left { IfOk result (λ log. IsTrue (D.content disk).is_observable → Reopens (D.content disk)
+            → (notes : List Note)
             → Left (⟦<DiskLog<D> as MetaLog>⟧.content log) notes → MayOpenWith (D.content disk) notes) }
         ensures control { IfOk result (λ log. Lasts (D.control disk) (D.control log.disk)) }
         ensures control_err { IfErr result (λ e. Lasts (D.control disk) (D.control e.0)) }

@@ -1,6 +1,8 @@
-//! Making sure of the gate after an append that wasn't Ok: it is replaced by what it reads, so that a crash leaves it there.
+//! Making sure of the gate after an append that wasn't Ok: it is replaced by what it reads, so that a crash leaves it
+//! there.
 
-ghost use Rattle.std.specs.Prelude.{◌≡◌, ◌≢◌, ◌⊎◌, ◌↔◌, ◌<◌, ◌++◌, ◌∷◌, [], ℕ, Some, None, IsTrue, OnOk, IfOk, IfSome, vec_len, vec_capacity};
+ghost use Rattle.std.specs.Prelude.{◌≡◌, ◌≢◌, ◌⊎◌, ◌↔◌, ◌<◌, ◌++◌, ◌∷◌, [], ℕ, Some, None};
+ghost use Rattle.std.specs.Prelude.{IsTrue, OnOk, IfOk, IfSome, vec_len, vec_capacity};
 ghost use Rattle.tier_base.specs.Device.{Fault, Lasts, fate_of};
 ghost use Rattle.tier_base.specs.Told.{bytes_in};
 ghost use Rattle.tier_base.specs.declared.plain.FileName.TheVariants as file;

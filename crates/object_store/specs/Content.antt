@@ -31,9 +31,11 @@ abbrev pub MadeAt : ObjectKey → (Option (List ℕ) → Option (List ℕ)) → 
 MadeAt key made old new = OnlyAt key (λ before after. after ≡ made before) old new
 
 -- a call that changes one object, where it was done
-pub record Changes (key : ObjectKey) (made : Option (List ℕ) → Option (List ℕ)) (may_be_done : Bool → Type 0) (old new : Content) : Type 0 where
+pub record Changes (key : ObjectKey) (made : Option (List ℕ) → Option (List ℕ)) (may_be_done : Bool → Type 0)
+    (old new : Content) : Type 0 where
   pub is_observable : new.is_observable ≡ old.is_observable
-  pub objects : IsTrue old.is_observable → (done : Bool) × may_be_done done × MadeAt key (made_if done made) old.objects new.objects
+  pub objects : IsTrue old.is_observable → (done : Bool) × may_be_done done
+      × MadeAt key (made_if done made) old.objects new.objects
 
 -- a call that changes no object
 pub record Keeps (old new : Content) : Type 0 where

@@ -2,7 +2,8 @@
 --
 -- The one object of a packed segment has the parts one after another, in the order of `Part`. The custom metadata of
 -- the segment's entry gives their layout, so where each is. Where it reports none, no part has a place.
-use Rattle.std.specs.Prelude.{ℕ, ◌+◌, ◌-◌, min, nat_lt, if◌then◌else◌, Bool, true, false, List, [], ◌∷◌, length, take, drop, Option, Some, None, option_map}
+use Rattle.std.specs.Prelude.{ℕ, ◌+◌, ◌-◌, min, nat_lt, if◌then◌else◌, Bool, true, false, List, []}
+use Rattle.std.specs.Prelude.{◌∷◌, length, take, drop, Option, Some, None, option_map}
 use Rattle.tier_base.specs.declared.names.PartitionId.{PartitionId}
 use Rattle.tier_base.specs.declared.names.SegmentId.{SegmentId}
 use Rattle.tier_base.specs.declared.plain.Part.{Part}
@@ -19,7 +20,8 @@ key_of partition id part = record { partition = partition; id = id; part = part 
 -- the keys of all parts that are by themselves
 abbrev pub own_keys : PartitionId → SegmentId → List ObjectKey
 own_keys partition id =
-    key_of partition id Log ∷ key_of partition id Index ∷ key_of partition id TimeIndex ∷ key_of partition id Epochs ∷ []
+    key_of partition id Log ∷ key_of partition id Index ∷ key_of partition id TimeIndex ∷ key_of partition id
+    Epochs ∷ []
 
 -- the keys of a segment's objects, by whether it is packed
 abbrev pub keys_of : PartitionId → SegmentId → Bool → List ObjectKey
@@ -84,4 +86,5 @@ short_of spot bytes = short_at spot.at spot.len (length bytes)
 
 -- where some of it are lacking, at most so many from a place in the part on, of which the object has these
 abbrev pub short_in : Spot → ℕ → ℕ → List ℕ → Option ℕ
-short_in spot from most bytes = short_at (spot.at + from) (option_map (λ len. min most (len - from)) spot.len) (length bytes)
+short_in spot from most bytes =
+    short_at (spot.at + from) (option_map (λ len. min most (len - from)) spot.len) (length bytes)

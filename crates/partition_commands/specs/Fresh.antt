@@ -25,7 +25,8 @@ DisksTell content (disk ∷ disks) = IsTrue (content disk).is_observable × Disk
 
 -- an empty log with these leader epochs, as it is seen
 abbrev pub empty_seen : List (ℕ × ℕ) → LogSeen
-empty_seen line = record { batches = []; line = line; flushed_end = 0; saved = line; local = 0; loose = None; incarnation = 1 }
+empty_seen line =
+    record { batches = []; line = line; flushed_end = 0; saved = line; local = 0; loose = None; incarnation = 1 }
 
 -- the brokers' logs are seen, and empty
 abbrev pub AllSeen : {D : Type 0} → (D → Content) → List (Node D) → Type 0
@@ -43,8 +44,8 @@ module _ {D : Type 0} (content : D → Content) (control : D → Control call_co
   AreFreshDisks [] = Unit {0}
   AreFreshDisks (disk ∷ disks) = IsFreshDisk disk × AreFreshDisks disks
 
--- the given disk's plan is in force, and no call is counted yet; one of which no call could fail has failed none, and fails
--- none where its plan rules it and is empty
+-- the given disk's plan is in force, and no call is counted yet; one of which no call could fail has failed none, and
+-- fails none where its plan rules it and is empty
 pub record IsArmed (given now : Control call_code) : Type 0 where
   pub plan : now.plan ≡ given.plan
   pub armed : IsTrue now.armed
@@ -133,7 +134,8 @@ module _ {D : Type 0} (control : D → Control call_code) where
   -- the disks are back, in their order, and no plan is in force
   abbrev pub ComeBack : List D → List D → Type 0
   ComeBack [] [] = Unit {0}
-  ComeBack (disk ∷ disks) (now ∷ nows) = Lasts (control disk) (control now) × ((control now).armed ≡ false) × ComeBack disks nows
+  ComeBack (disk ∷ disks) (now ∷ nows) =
+      Lasts (control disk) (control now) × ((control now).armed ≡ false) × ComeBack disks nows
   ComeBack [] (now ∷ nows) = ⊥
   ComeBack (disk ∷ disks) [] = ⊥
 
@@ -152,7 +154,8 @@ module _ {D : Type 0} (control : D → Control call_code) where
   AreInfallibleDisks [] = Unit {0}
   AreInfallibleDisks (disk ∷ disks) = IsInfallible (control disk) × AreInfallibleDisks disks
 
-  -- brokers over these disks: broker 0 leads epoch 0, the others have joined it, and all are in sync; segments are copied, none packed
+  -- brokers over these disks: broker 0 leads epoch 0, the others have joined it, and all are in sync; segments are
+  -- copied, none packed
   pub record IsFreshPartition (disks : List D) (h : PartitionState D) : Type 0 where
     pub registry : h.registry ≡ fresh_registry (length disks)
     pub nodes : AreFreshFrom true disks h.nodes

@@ -23,7 +23,8 @@ use Rattle.partition_commands.specs.Turns.{Row}
 module _ {D : Type 0} (content : D → Content) (control : D → Control call_code) where
   -- over observable disks each row is one of the partition as it is seen
   abbrev pub RowsAreSeen : Type 0
-  RowsAreSeen = (h : PartitionState D) (a : seen.SeenPartition) (b : ℕ) (x : Node D) (s : log.LogSeen) (snapshot : Option StartSnapshot) (command : Command)
+  RowsAreSeen = (h : PartitionState D) (a : seen.SeenPartition) (b : ℕ) (x : Node D) (s : log.LogSeen)
+      (snapshot : Option StartSnapshot) (command : Command)
       (turned : Turned) (h' : PartitionState D) → Sees content h a b x s → Knows a (node_of x s)
       → ((g : StartSnapshot) → snapshot ≡ Some g → KnowsSnapshot a (node_of x s) command g)
       → Row content control h b x snapshot command turned h'
@@ -38,19 +39,22 @@ module _ {D : Type 0} (content : D → Content) (control : D → Control call_co
 
   -- over any disks each of them lasts over each row
   abbrev pub RowsLast : Type 0
-  RowsLast = (h : PartitionState D) (b : ℕ) (x : Node D) (snapshot : Option StartSnapshot) (command : Command) (turned : Turned) (h' : PartitionState D)
+  RowsLast = (h : PartitionState D) (b : ℕ) (x : Node D) (snapshot : Option StartSnapshot) (command : Command)
+      (turned : Turned) (h' : PartitionState D)
       → slice_get h.nodes b ≡ Some x → HaveDisks h.nodes → Row content control h b x snapshot command turned h'
       → DisksLast control h.nodes h'.nodes
 
   -- over any disks one call of a disk fails over a row that reports a fault of one, and none over any other
   abbrev pub RowsCountFaults : Type 0
-  RowsCountFaults = (h : PartitionState D) (b : ℕ) (x : Node D) (snapshot : Option StartSnapshot) (command : Command) (turned : Turned) (h' : PartitionState D)
+  RowsCountFaults = (h : PartitionState D) (b : ℕ) (x : Node D) (snapshot : Option StartSnapshot) (command : Command)
+      (turned : Turned) (h' : PartitionState D)
       → slice_get h.nodes b ≡ Some x → HaveDisks h.nodes → Row content control h b x snapshot command turned h'
       → DisksCount control command b (is_answered is_of_disk turned) h.nodes h'.nodes
 
   -- over disks of which no call can fail each row leaves them so, and reports no fault
   abbrev pub RowsStayInfallible : Type 0
-  RowsStayInfallible = (h : PartitionState D) (b : ℕ) (x : Node D) (snapshot : Option StartSnapshot) (command : Command) (turned : Turned) (h' : PartitionState D)
+  RowsStayInfallible = (h : PartitionState D) (b : ℕ) (x : Node D) (snapshot : Option StartSnapshot) (command : Command)
+      (turned : Turned) (h' : PartitionState D)
       → slice_get h.nodes b ≡ Some x → AreInfallible control h.nodes
       → Row content control h b x snapshot command turned h'
       → AreInfallible control h'.nodes × HasNoFault (event_of turned command)

@@ -1,8 +1,10 @@
 -- What the turns of commands work on where each broker's log is on a disk, and how it is seen.
 --
--- The rows over disks say what a turn does to the logs by the words of a broker's log; where the disks are observable, it is a row of
--- the partition as it is seen. The disks' plans last over every turn, and infallible ones stay so.
-use Rattle.std.specs.Prelude.{◌≡◌, ℕ, ◌+◌, ◌-◌, ◌^◌, ◌<◌, ◌≤◌, ◌&&◌, ◌⊎◌, Bool, true, List, [], ◌∷◌, length, Option, unwrap_or, option_map, slice_get, slice_set, IsSomeAnd, IsTrue}
+-- The rows over disks say what a turn does to the logs by the words of a broker's log; where the disks are
+-- observable, it is a row of the partition as it is seen. The disks' plans last over every turn, and infallible ones
+-- stay so.
+use Rattle.std.specs.Prelude.{◌≡◌, ℕ, ◌+◌, ◌-◌, ◌^◌, ◌<◌, ◌≤◌, ◌&&◌, ◌⊎◌, Bool, true, List, [], ◌∷◌, length}
+use Rattle.std.specs.Prelude.{Option, unwrap_or, option_map, slice_get, slice_set, IsSomeAnd, IsTrue}
 use Rattle.std.specs.Option.{option_and_then}
 use Rattle.tier_base.specs.Device.{Control, Went, Ran}
 use Rattle.tier_base.specs.declared.plain.FileName.{FileName}
@@ -15,7 +17,8 @@ use Rattle.local_log.specs.Stored.{size_of}
 use Rattle.registry.specs.Calls.{when}
 use Rattle.plain_log.specs.declared.state.Role.TheVariants.{Idle}
 use Rattle.plain_log.specs.State.{leads_in}
-use Rattle.broker_log.specs.Seen.{LogState, ShowsSeen, LogStays, WhileUp, OnDisk, Lasting, OneFault, Quiet, is_up as is_open, end_in, flushed_end_in, line_in, local_in, layout_in}
+use Rattle.broker_log.specs.Seen.{LogState, ShowsSeen, LogStays, WhileUp, OnDisk, Lasting, OneFault, Quiet}
+use Rattle.broker_log.specs.Seen.{is_up as is_open, end_in, flushed_end_in, line_in, local_in, layout_in}
 use Rattle.broker_log.specs.Read.{Misreads}
 use Rattle.broker_log.specs.Seen as log
 use Rattle.broker_log.specs.Failure as failures
@@ -59,7 +62,8 @@ module _ {D : Type 0} where
 
   -- the registry's leader, where it is up and leads the registry's epoch
   abbrev pub the_leader : PartitionState D → Option (Node D)
-  the_leader h = option_and_then (λ y. when (is_up y && leads_in h.registry.epoch y.role) y) (slice_get h.nodes h.registry.leader.0)
+  the_leader h = option_and_then (λ y. when (is_up y && leads_in h.registry.epoch y.role) y)
+      (slice_get h.nodes h.registry.leader.0)
 
   -- the log has as many segments as it may, and the run begins another
   abbrev pub IsFull : Node D → List ℕ → Type 0
@@ -110,7 +114,8 @@ module _ {D : Type 0} (control : D → Control call_code) where
 module _ {D : Type 0} (content : D → Content) (control : D → Control call_code) where
   -- a broker's log is as it was, whatever its disk was asked, and no call of the disk failed
   abbrev pub LogRests : PartitionState D → ℕ → Node D → PartitionState D → Type 0
-  LogRests h b x h' = (kept : LogState D) × LogStays content x.log kept × Quiet control x.log kept × (h' ≡ put_node h b (record x { log = kept }))
+  LogRests h b x h' = (kept : LogState D) × LogStays content x.log kept × Quiet control x.log kept
+      × (h' ≡ put_node h b (record x { log = kept }))
 
   -- a broker's disk failed in a read, and the log is as it was
   abbrev pub NodeReadFails : PartitionState D → ℕ → Node D → PartitionState D → Type 0
@@ -119,7 +124,8 @@ module _ {D : Type 0} (content : D → Content) (control : D → Control call_co
       × (h' ≡ put_node h b (record x { log = kept }))
 
   -- a read of a broker's log found damage there, and the log is as it was
-  pub record NodeHasDamage (h : PartitionState D) (b : ℕ) (x : Node D) (offset limit mark : ℕ) (name : FileName) (at : ℕ) (h' : PartitionState D) : Type 0 where
+  pub record NodeHasDamage (h : PartitionState D) (b : ℕ) (x : Node D) (offset limit mark : ℕ) (name : FileName)
+      (at : ℕ) (h' : PartitionState D) : Type 0 where
     pub kept : LogState D
     pub misreads : Misreads content control x.log kept offset limit mark name at
     pub ran : HasReadAtMark control x.log kept mark

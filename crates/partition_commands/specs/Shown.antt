@@ -1,7 +1,7 @@
 -- How a turn over observable disks is seen, and what has to be known of the partition for that.
 --
--- What is known follows from the central fact of the partition that is seen, for the node of the turn and for what its state
--- keeps of a command that has begun.
+-- What is known follows from the central fact of the partition that is seen, for the node of the turn and for what
+-- its state keeps of a command that has begun.
 use Rattle.std.specs.Prelude.{◌≡◌, ◌≤◌, ℕ, List, Some, true, slice_get, All, IsOk}
 use mathlib.Core.List.{IsPrefix}
 use Rattle.disk_model.specs.Content.{Content}

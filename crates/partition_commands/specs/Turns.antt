@@ -2,18 +2,22 @@
 -- does to the partition.
 --
 -- A row says for each answer the tests before it, in their order, its own, and the partition afterwards. A fault of a
--- broker's disk in a write stops the broker. Follow and some joins take two turns. What a later turn of a fetch comes to, which
--- only begins here, the remote tier has a part in.
+-- broker's disk in a write stops the broker. Follow and some joins take two turns. What a later turn of a fetch comes
+-- to, which only begins here, the remote tier has a part in.
 use Rattle.std.specs.Prelude.{◌≡◌, ℕ, ℤ, max, Bool, true, false, Option, None, Some}
 use Rattle.tier_base.specs.Device.{Control}
 use Rattle.disk_model.specs.Call.{call_code}
 use Rattle.disk_model.specs.Content.{Content}
 use Rattle.record_batch.specs.Build.{built}
 use Rattle.plain_log.specs.declared.answer.Answer.{Answer}
-use Rattle.plain_log.specs.declared.answer.Answer.TheVariants.{Ok, Down, NotLeader, IsUp, DiskFault, Damaged, LastIncarnation, Up, Offset as OffsetAnswer}
+use Rattle.plain_log.specs.declared.answer.Answer.TheVariants.{Ok, Down, NotLeader, IsUp, DiskFault, Damaged}
+use Rattle.plain_log.specs.declared.answer.Answer.TheVariants.{LastIncarnation, Up, Offset as OffsetAnswer}
 use Rattle.plain_log.specs.declared.answer.Place.TheVariants.{File}
 use Rattle.plain_log.specs.declared.command.Command.{Command}
-use Rattle.plain_log.specs.declared.command.Command.TheVariants.{Append, Raw, Flush, Roll, Elect, Unclean, Learn, Join, Follow, Copy, Trim, Expire, Ack, Shrink, Expand, Raise, Clock, Stop as StopCommand, Up as UpCommand, Fetch, Pack, Copying, Offset}
+use Rattle.plain_log.specs.declared.command.Command.TheVariants.{Append, Raw, Flush, Roll, Elect, Unclean, Learn, Join}
+use Rattle.plain_log.specs.declared.command.Command.TheVariants.{Follow, Copy, Trim, Expire, Ack, Shrink, Expand, Raise}
+use Rattle.plain_log.specs.declared.command.Command.TheVariants.{Clock, Stop as StopCommand, Up as UpCommand, Fetch}
+use Rattle.plain_log.specs.declared.command.Command.TheVariants.{Pack, Copying, Offset}
 use Rattle.plain_log.specs.declared.command.Which.{Which}
 use Rattle.plain_log.specs.declared.command.Which.TheVariants.{Earliest, Latest, EarliestLocal, LatestTiered, At}
 use Rattle.plain_log.specs.State.{leads}
@@ -28,7 +32,8 @@ use Rattle.partition_commands.specs.declared.partition_state.PartitionState.{Par
 use Rattle.partition_commands.specs.Partition.{is_up, local_of, stopped, put_node, NodeReadFails}
 use Rattle.partition_commands.specs.TurnsOfLog.{AppendRow, RawRow, FlushRow, RollRow, TrimRow, TrimOnRow}
 use Rattle.partition_commands.specs.TurnsOfFetch.{FetchTurn}
-use Rattle.partition_commands.specs.TurnsOfElections.{ElectRow, UncleanRow, LearnRow, AckRow, ShrinkRow, ExpandRow, RaiseRow}
+use Rattle.partition_commands.specs.TurnsOfElections.{ElectRow, UncleanRow, LearnRow, AckRow}
+use Rattle.partition_commands.specs.TurnsOfElections.{ShrinkRow, ExpandRow, RaiseRow}
 use Rattle.partition_commands.specs.TurnsOfFollowers.{JoinRow, JoinOnRow, FollowRow, FollowOnRow}
 
 -- the offset is known at once, without the remote tier
@@ -111,7 +116,8 @@ module _ {D : Type 0} (content : D → Content) (control : D → Control call_co
       (is_up x ≡ false) × ((kept : LogState D) × ComesUp content x.log kept n × Quiet control x.log kept
       × (h' ≡ put_node h b (record x { log = kept })))
   UpRow h b x DiskFault h' = (is_up x ≡ false) × NodeReadFails content control h b x h'
-  UpRow h b x (Damaged (File name) at) h' = (is_up x ≡ false) × ((kept : LogState D) × Unopened content control x.log kept name at
+  UpRow h b x (Damaged (File name) at) h' =
+      (is_up x ≡ false) × ((kept : LogState D) × Unopened content control x.log kept name at
       × Quiet control x.log kept × (h' ≡ put_node h b (record x { log = kept })))
   UpRow h b x LastIncarnation h' = (is_up x ≡ false) × ((kept : LogState D) × IsSpent content control x.log kept
       × Quiet control x.log kept × (h' ≡ put_node h b (record x { log = kept })))

@@ -1,5 +1,5 @@
--- What a turn of a command to the registry comes to over disks, and of one that learns of it: elect, unclean, learn, ack,
--- shrink, expand, raise.
+-- What a turn of a command to the registry comes to over disks, and of one that learns of it: elect, unclean, learn,
+-- ack, shrink, expand, raise.
 --
 -- The registry's own calls say what it answers and what it is afterwards.
 use Rattle.std.specs.Prelude.{◌≡◌, ◌≢◌, ℕ, ◌<◌, true, false, Option, Some, None, Ok as Done, Err, IsSomeAnd, min}
@@ -14,7 +14,10 @@ use Rattle.registry.specs.declared.refusal.RegRefusal.TheVariants as Reg
 use Rattle.registry.specs.Replicas.{AtReplica}
 use Rattle.registry.specs.Calls.{after_elect, after_unclean, after_ack, after_shrink, after_expand, after_raise}
 use Rattle.plain_log.specs.declared.answer.Answer.{Answer}
-use Rattle.plain_log.specs.declared.answer.Answer.TheVariants.{Ok, OkAt, Down, NotLeader, DiskFault, LastEpoch, NotInSync, DownBroker, BehindStart, Known, Follows, NeedsElection, Leads, NotJoined, StaleEpoch, IsLeader, Behind, NotAbove, AboveMark}
+use Rattle.plain_log.specs.declared.answer.Answer.TheVariants.{Ok, OkAt, Down, NotLeader, DiskFault, LastEpoch}
+use Rattle.plain_log.specs.declared.answer.Answer.TheVariants.{NotInSync, DownBroker, BehindStart, Known, Follows}
+use Rattle.plain_log.specs.declared.answer.Answer.TheVariants.{NeedsElection, Leads, NotJoined, StaleEpoch, IsLeader}
+use Rattle.plain_log.specs.declared.answer.Answer.TheVariants.{Behind, NotAbove, AboveMark}
 use Rattle.plain_log.specs.declared.state.Role.TheVariants.{Leads as LeadsIn, Follows as FollowsIn}
 use Rattle.plain_log.specs.State.{leads, acking, epoch_in}
 use Rattle.broker_log.specs.Seen.{LogState, WhileUp, Quiet}
@@ -31,9 +34,12 @@ module _ {D : Type 0} where
 
   -- elect
   abbrev pub ElectRow : PartitionState D → ℕ → Node D → Answer → PartitionState D → Type 0
-  ElectRow h b x LastEpoch h' = AtReplica h.registry b (λ s. Leaves h (after_elect h.registry b s (is_up x) (Err Reg.LastEpoch)) h')
-  ElectRow h b x NotInSync h' = AtReplica h.registry b (λ s. Leaves h (after_elect h.registry b s (is_up x) (Err Reg.NotInSync)) h')
-  ElectRow h b x DownBroker h' = AtReplica h.registry b (λ s. Leaves h (after_elect h.registry b s (is_up x) (Err Reg.DownBroker)) h')
+  ElectRow h b x LastEpoch h' =
+      AtReplica h.registry b (λ s. Leaves h (after_elect h.registry b s (is_up x) (Err Reg.LastEpoch)) h')
+  ElectRow h b x NotInSync h' =
+      AtReplica h.registry b (λ s. Leaves h (after_elect h.registry b s (is_up x) (Err Reg.NotInSync)) h')
+  ElectRow h b x DownBroker h' =
+      AtReplica h.registry b (λ s. Leaves h (after_elect h.registry b s (is_up x) (Err Reg.DownBroker)) h')
   ElectRow h b x (OkAt n) h' = AtReplica h.registry b (λ s. Leaves h (after_elect h.registry b s (is_up x) (Done n)) h')
   ElectRow h b x other h' = ⊥
 
@@ -62,14 +68,16 @@ module _ {D : Type 0} where
 
   -- shrink
   abbrev pub ShrinkRow : PartitionState D → ℕ → Answer → PartitionState D → Type 0
-  ShrinkRow h b NotInSync h' = AtReplica h.registry b (λ s. Leaves h (after_shrink h.registry b s (Err Reg.NotInSync)) h')
+  ShrinkRow h b NotInSync h' =
+      AtReplica h.registry b (λ s. Leaves h (after_shrink h.registry b s (Err Reg.NotInSync)) h')
   ShrinkRow h b IsLeader h' = AtReplica h.registry b (λ s. Leaves h (after_shrink h.registry b s (Err Reg.IsLeader)) h')
   ShrinkRow h b Ok h' = AtReplica h.registry b (λ s. Leaves h (after_shrink h.registry b s (Done tt)) h')
   ShrinkRow h b other h' = ⊥
 
   -- expand
   abbrev pub ExpandRow : PartitionState D → ℕ → Node D → Answer → PartitionState D → Type 0
-  ExpandRow h b x DownBroker h' = AtReplica h.registry b (λ s. Leaves h (after_expand h.registry b s (is_up x) (Err Reg.DownBroker)) h')
+  ExpandRow h b x DownBroker h' =
+      AtReplica h.registry b (λ s. Leaves h (after_expand h.registry b s (is_up x) (Err Reg.DownBroker)) h')
   ExpandRow h b x (Behind ack mark) h' =
       AtReplica h.registry b (λ s. Leaves h (after_expand h.registry b s (is_up x) (Err (Reg.Behind ack mark))) h')
   ExpandRow h b x Ok h' = AtReplica h.registry b (λ s. Leaves h (after_expand h.registry b s (is_up x) (Done tt)) h')
@@ -80,11 +88,14 @@ module _ {D : Type 0} where
   RaiseRow h b x wanted Down h' = (is_up x ≡ false) × (h' ≡ h)
   RaiseRow h b x wanted NotLeader h' = (is_up x ≡ true) × (leads x.role ≡ false) × (h' ≡ h)
   RaiseRow h b x wanted (StaleEpoch n) h' =
-      (is_up x ≡ true) × ((e : ℕ) × (x.role ≡ LeadsIn e) × Leaves h (after_raise h.registry e wanted (Err (Reg.StaleEpoch n))) h')
+      (is_up x ≡ true) × ((e : ℕ) × (x.role ≡ LeadsIn e)
+        × Leaves h (after_raise h.registry e wanted (Err (Reg.StaleEpoch n))) h')
   RaiseRow h b x wanted (NotAbove start) h' =
-      (is_up x ≡ true) × ((e : ℕ) × (x.role ≡ LeadsIn e) × Leaves h (after_raise h.registry e wanted (Err (Reg.NotAbove start))) h')
+      (is_up x ≡ true) × ((e : ℕ) × (x.role ≡ LeadsIn e)
+        × Leaves h (after_raise h.registry e wanted (Err (Reg.NotAbove start))) h')
   RaiseRow h b x wanted (AboveMark mark) h' =
-      (is_up x ≡ true) × ((e : ℕ) × (x.role ≡ LeadsIn e) × Leaves h (after_raise h.registry e wanted (Err (Reg.AboveMark mark))) h')
+      (is_up x ≡ true) × ((e : ℕ) × (x.role ≡ LeadsIn e)
+        × Leaves h (after_raise h.registry e wanted (Err (Reg.AboveMark mark))) h')
   RaiseRow h b x wanted (OkAt start) h' =
       (is_up x ≡ true) × ((e : ℕ) × (x.role ≡ LeadsIn e) × Leaves h (after_raise h.registry e wanted (Done start)) h')
   RaiseRow h b x wanted other h' = ⊥
@@ -102,7 +113,8 @@ module _ {D : Type 0} where
       AtReplica h.registry b (λ s. Leaves h
       (after_ack h.registry b s e (flushed_end_of x) (Err (Reg.StaleEpoch n))) h'))
   AckRow h b x (OkAt mark) h' = (is_up x ≡ true) × IsSomeAnd (acking x.role) (λ e.
-      AtReplica h.registry b (λ s. IsSomeAnd (after_ack h.registry b s e (flushed_end_of x) (Done mark)) (λ r. Acks h b x r h')))
+      AtReplica h.registry b (λ s. IsSomeAnd (after_ack h.registry b s e (flushed_end_of x) (Done mark))
+        (λ r. Acks h b x r h')))
   AckRow h b x other h' = ⊥
 
 module _ {D : Type 0} (content : D → Content) (control : D → Control call_code) where

@@ -1,12 +1,13 @@
--- What the first turn of a fetch comes to over disks: the run at an offset of the leader's log, up to the high watermark
--- that the broker knows. An offset below the local log is recorded, and looked for in the remote tier.
+-- What the first turn of a fetch comes to over disks: the run at an offset of the leader's log, up to the high
+-- watermark that the broker knows. An offset below the local log is recorded, and looked for in the remote tier.
 use Rattle.std.specs.Prelude.{◌≡◌, ℕ, ◌<◌, ◌≤◌, ◌⊎◌, true, false, List, length}
 use Rattle.tier_base.specs.Device.{Control}
 use Rattle.disk_model.specs.Call.{call_code}
 use Rattle.disk_model.specs.Content.{Content}
 use Rattle.local_log.specs.declared.reading.RunOut.{RunOut}
 use Rattle.plain_log.specs.declared.answer.Answer.{Answer}
-use Rattle.plain_log.specs.declared.answer.Answer.TheVariants.{Down, NotLeader, DiskFault, Damaged, OutOfRange, Empty, Run}
+use Rattle.plain_log.specs.declared.answer.Answer.TheVariants.{Down, NotLeader, DiskFault, Damaged}
+use Rattle.plain_log.specs.declared.answer.Answer.TheVariants.{OutOfRange, Empty, Run}
 use Rattle.plain_log.specs.declared.answer.Place.TheVariants.{File}
 use Rattle.plain_log.specs.declared.answer.Tier.{Tier}
 use Rattle.plain_log.specs.declared.answer.Tier.TheVariants.{Local}
@@ -33,7 +34,8 @@ module _ {D : Type 0} where
 
 module _ {D : Type 0} (content : D → Content) (control : D → Control call_code) where
   -- the bytes are those of a run that was read at the offset
-  pub record GivesRun (h : PartitionState D) (b : ℕ) (x : Node D) (offset limit : ℕ) (tier : Tier) (size : ℕ) (stop : Stop) (bytes : List ℕ) (h' : PartitionState D) : Type 0 where
+  pub record GivesRun (h : PartitionState D) (b : ℕ) (x : Node D) (offset limit : ℕ) (tier : Tier) (size : ℕ)
+      (stop : Stop) (bytes : List ℕ) (h' : PartitionState D) : Type 0 where
     pub kept : LogState D
     pub out : RunOut
     pub reads : ReadsRun content control x.log kept offset limit x.known_high_watermark out
@@ -48,7 +50,8 @@ module _ {D : Type 0} (content : D → Content) (control : D → Control call_co
   abbrev pub GiveRow : PartitionState D → ℕ → Node D → ℕ → ℕ → Answer → PartitionState D → Type 0
   GiveRow h b x offset limit (Run tier size stop bytes) h' = GivesRun h b x offset limit tier size stop bytes h'
   GiveRow h b x offset limit DiskFault h' = NodeReadFails content control h b x h'
-  GiveRow h b x offset limit (Damaged (File name) at) h' = NodeHasDamage content control h b x offset limit x.known_high_watermark name at h'
+  GiveRow h b x offset limit (Damaged (File name) at) h' =
+      NodeHasDamage content control h b x offset limit x.known_high_watermark name at h'
   GiveRow h b x offset limit other h' = ⊥
 
   -- fetch: nothing that is seen changes

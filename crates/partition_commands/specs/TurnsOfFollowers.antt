@@ -3,7 +3,8 @@
 -- A follower's log meets the leader's where their leader epochs still agree. A follow reads a run of the leader's log
 -- at its first turn, which an actor's state has, and puts of it at the end of its own at the second what fits one
 -- segment.
-use Rattle.std.specs.Prelude.{◌≡◌, ◌≢◌, ◌⊎◌, ℕ, ◌+◌, ◌^◌, ◌<◌, ◌≤◌, true, false, min, List, Option, None, Some, IsSome, IsSomeAnd}
+use Rattle.std.specs.Prelude.{◌≡◌, ◌≢◌, ◌⊎◌, ℕ, ◌+◌, ◌^◌, ◌<◌, ◌≤◌, true, false, min}
+use Rattle.std.specs.Prelude.{List, Option, None, Some, IsSome, IsSomeAnd}
 use Rattle.tier_base.specs.Device.{Control}
 use Rattle.disk_model.specs.Call.{call_code}
 use Rattle.disk_model.specs.Content.{Content}
@@ -14,7 +15,9 @@ use Rattle.epoch_line.specs.Meet.{IsMeetBelow}
 use Rattle.local_log.specs.Run.{IsRunFor}
 use Rattle.local_log.specs.declared.reading.RunOut.{RunOut}
 use Rattle.plain_log.specs.declared.answer.Answer.{Answer}
-use Rattle.plain_log.specs.declared.answer.Answer.TheVariants.{Down, NotFollower, StaleEpoch, NoLeader, Cut, NotJoined, Level, Moved, Stopped, Passed, BelowStart, Rebuilt, Copied, TooManySegments, DiskFault, DiskFaultAt, Damaged}
+use Rattle.plain_log.specs.declared.answer.Answer.TheVariants.{Down, NotFollower, StaleEpoch, NoLeader, Cut, NotJoined}
+use Rattle.plain_log.specs.declared.answer.Answer.TheVariants.{Level, Moved, Stopped, Passed, BelowStart, Rebuilt}
+use Rattle.plain_log.specs.declared.answer.Answer.TheVariants.{Copied, TooManySegments, DiskFault, DiskFaultAt, Damaged}
 use Rattle.plain_log.specs.declared.answer.Place.TheVariants.{File}
 use Rattle.plain_log.specs.declared.state.Role.TheVariants.{Joined}
 use Rattle.plain_log.specs.State.{followed, joined}
@@ -30,7 +33,8 @@ use Rattle.laws_partition.specs.declared.start_snapshot.Turned.TheVariants.{Answ
 use Rattle.partition_commands.specs.declared.partition_state.Node.{Node}
 use Rattle.partition_commands.specs.declared.partition_state.PartitionState.{PartitionState}
 use Rattle.laws_partition.specs.Taken.{parts}
-use Rattle.partition_commands.specs.Partition.{is_up, end_of, line_of, local_of, put_node, the_leader, IsFull, NodeReadFails, NodeHasDamage, BreaksBy}
+use Rattle.partition_commands.specs.Partition.{is_up, end_of, line_of, local_of, put_node, the_leader}
+use Rattle.partition_commands.specs.Partition.{IsFull, NodeReadFails, NodeHasDamage, BreaksBy}
 use Rattle.partition_commands.specs.TurnsOfLog.{BreaksUnsaved}
 
 module _ {D : Type 0} where
@@ -96,7 +100,8 @@ module _ {D : Type 0} (content : D → Content) (control : D → Control call_co
   abbrev pub CutRow : PartitionState D → ℕ → Node D → ℕ → ℕ → Answer → PartitionState D → Type 0
   CutRow h b x epoch met (Cut n) h' = CutsNode h b x epoch met n h'
   CutRow h b x epoch met (DiskFaultAt n) h' = IsEndUpTo content x.log met n
-      × BreaksBy content control h b x (λ old new. BreaksIf content old new (effects.MayCutLog met) (λ s. torn s (cut_back s met))) h'
+      × BreaksBy content control h b x (λ old new. BreaksIf content old new (effects.MayCutLog met)
+        (λ s. torn s (cut_back s met))) h'
   CutRow h b x epoch met other h' = ⊥
 
   -- what a join's actor's state has after its first turn, where the logs meet below the leader's local log
@@ -114,11 +119,14 @@ module _ {D : Type 0} (content : D → Content) (control : D → Control call_co
   abbrev pub JoinRow : PartitionState D → ℕ → Node D → Turned → PartitionState D → Type 0
   JoinRow h b x (Answers Down) h' = (is_up x ≡ false) × (h' ≡ h)
   JoinRow h b x (Answers NotFollower) h' = (is_up x ≡ true) × (followed x.role ≡ None) × (h' ≡ h)
-  JoinRow h b x (Answers (StaleEpoch n)) h' = (is_up x ≡ true) × IsStale h (followed x.role) × (n ≡ h.registry.epoch) × (h' ≡ h)
-  JoinRow h b x (Answers NoLeader) h' = (is_up x ≡ true) × IsCurrent h (followed x.role) × (the_leader h ≡ None) × (h' ≡ h)
+  JoinRow h b x (Answers (StaleEpoch n)) h' =
+      (is_up x ≡ true) × IsStale h (followed x.role) × (n ≡ h.registry.epoch) × (h' ≡ h)
+  JoinRow h b x (Answers NoLeader) h' =
+      (is_up x ≡ true) × IsCurrent h (followed x.role) × (the_leader h ≡ None) × (h' ≡ h)
   JoinRow h b x (Answers (Cut n)) h' = (is_up x ≡ true) × IsCurrent h (followed x.role) × IsSomeAnd (the_leader h) (λ y.
       (e m : ℕ) × (followed x.role ≡ Some e) × IsMeet x y m × (local_of y ≤ n) × CutRow h b x e m (Cut n) h')
-  JoinRow h b x (Answers (DiskFaultAt n)) h' = (is_up x ≡ true) × IsCurrent h (followed x.role) × IsSomeAnd (the_leader h) (λ y.
+  JoinRow h b x (Answers (DiskFaultAt n)) h' =
+      (is_up x ≡ true) × IsCurrent h (followed x.role) × IsSomeAnd (the_leader h) (λ y.
       (e m : ℕ) × (followed x.role ≡ Some e) × IsMeet x y m × CutRow h b x e m (DiskFaultAt n) h')
   JoinRow h b x (Begins g) h' = (is_up x ≡ true) × IsCurrent h (followed x.role) × IsSomeAnd (the_leader h) (λ y.
       (e m : ℕ) × (followed x.role ≡ Some e) × IsMeet x y m × Wants h b x y e m g h')
@@ -135,16 +143,19 @@ module _ {D : Type 0} (content : D → Content) (control : D → Control call_co
   -- join, later turns
   abbrev pub JoinOnRow : PartitionState D → ℕ → Node D → StartSnapshot → Answer → PartitionState D → Type 0
   JoinOnRow h b x g Stopped h' = ((g.stops ≢ x.stops) ⊎ (is_up x ≡ false)) × (h' ≡ h)
-  JoinOnRow h b x g (StaleEpoch n) h' = (g.stops ≡ x.stops) × IsStale h (followed g.role) × (n ≡ h.registry.epoch) × (h' ≡ h)
+  JoinOnRow h b x g (StaleEpoch n) h' =
+      (g.stops ≡ x.stops) × IsStale h (followed g.role) × (n ≡ h.registry.epoch) × (h' ≡ h)
   JoinOnRow h b x g (Passed n) h' = GoesOn h x g × (n ≡ end_of x) × (IsAsCut x g → ⊥) × (h' ≡ h)
   JoinOnRow h b x g (BelowStart start) h' = GoesOn h x g × IsAsCut x g × (start ≡ h.registry.start)
       × (g.start < g.wanted) × (g.wanted ≤ start) × (h' ≡ h)
   JoinOnRow h b x g (DiskFaultAt n) h' = MayRebuild h x g × (n ≡ g.wanted)
       × BreaksBy content control h b x (λ old new. RestartBreaks content old new n (cut_end g.line (n + 1))) h'
-  JoinOnRow h b x g (Rebuilt n) h' = MayRebuild h x g × (n ≡ g.wanted) × RestartsNode h b x n (cut_end g.line (n + 1)) h'
+  JoinOnRow h b x g (Rebuilt n) h' =
+      MayRebuild h x g × (n ≡ g.wanted) × RestartsNode h b x n (cut_end g.line (n + 1)) h'
   JoinOnRow h b x g other h' = ⊥
 
-  -- what a follow's actor's state has after its first turn: what was recorded, and a run of the leader's log from the follower's end on
+  -- what a follow's actor's state has after its first turn: what was recorded, and a run of the leader's log from the
+  -- follower's end on
   pub record Takes (h : PartitionState D) (x y : Node D) (limit : ℕ) (g : StartSnapshot)
       (h' : PartitionState D) : Type 0 where
     pub stops : g.stops ≡ x.stops
@@ -159,7 +170,8 @@ module _ {D : Type 0} (content : D → Content) (control : D → Control call_co
     pub after : h' ≡ put_node h h.registry.leader.0 (record y { log = kept })
 
   -- a run of the leader's log beside what was recorded
-  pub record TakesRun (h : PartitionState D) (l : ℕ) (y : Node D) (recorded : StartSnapshot) (limit : ℕ) (g : StartSnapshot) (h' : PartitionState D) : Type 0 where
+  pub record TakesRun (h : PartitionState D) (l : ℕ) (y : Node D) (recorded : StartSnapshot) (limit : ℕ)
+      (g : StartSnapshot) (h' : PartitionState D) : Type 0 where
     pub kept : LogState D
     pub out : RunOut
     pub reads : ReadsRun content control y.log kept recorded.end limit (end_of y) out
@@ -186,7 +198,8 @@ module _ {D : Type 0} (content : D → Content) (control : D → Control call_co
   FollowRow h b x limit (Answers Level) h' = (is_up x ≡ true) × IsCurrent h (joined x.role)
       × IsSomeAnd (the_leader h) (λ y. end_of y ≤ end_of x) × (h' ≡ h)
   FollowRow h b x limit (Answers DiskFault) h' = (is_up x ≡ true) × IsCurrent h (joined x.role)
-      × IsSomeAnd (the_leader h) (λ y. (end_of x < end_of y) × (local_of y ≤ end_of x) × NodeReadFails content control h h.registry.leader.0 y h')
+      × IsSomeAnd (the_leader h) (λ y. (end_of x < end_of y) × (local_of y ≤ end_of x)
+        × NodeReadFails content control h h.registry.leader.0 y h')
   FollowRow h b x limit (Answers (Moved n)) h' = (is_up x ≡ true) × IsCurrent h (joined x.role)
       × IsSomeAnd (the_leader h) (λ y. (end_of x < end_of y) × (end_of x < local_of y) × (n ≡ local_of y)) × (h' ≡ h)
   FollowRow h b x limit (Answers (Damaged (File name) at)) h' = (is_up x ≡ true) × IsCurrent h (joined x.role)
@@ -209,7 +222,8 @@ module _ {D : Type 0} (content : D → Content) (control : D → Control call_co
   -- a run that can be put there
   abbrev pub ExtendRow : PartitionState D → ℕ → Node D → List ℕ → Answer → PartitionState D → Type 0
   ExtendRow h b x run TooManySegments h' = (last_of run < 2 ^ 62) × IsFull x run × (h' ≡ h)
-  ExtendRow h b x run DiskFault h' = (last_of run < 2 ^ 62) × (IsFull x run → ⊥) × BreaksUnsaved content control h b x h'
+  ExtendRow h b x run DiskFault h' =
+      (last_of run < 2 ^ 62) × (IsFull x run → ⊥) × BreaksUnsaved content control h b x h'
   ExtendRow h b x run (Passed n) h' = (2 ^ 62 ≤ last_of run) × (n ≡ end_of x) × (h' ≡ h)
   ExtendRow h b x run (Copied n) h' = (last_of run < 2 ^ 62) × (IsFull x run → ⊥) × Extends h b x run n h'
   ExtendRow h b x run other h' = ⊥
@@ -217,11 +231,13 @@ module _ {D : Type 0} (content : D → Content) (control : D → Control call_co
   -- follow, second turn
   abbrev pub FollowOnRow : PartitionState D → ℕ → Node D → StartSnapshot → Answer → PartitionState D → Type 0
   FollowOnRow h b x g Stopped h' = ((g.stops ≢ x.stops) ⊎ (is_up x ≡ false)) × (h' ≡ h)
-  FollowOnRow h b x g (StaleEpoch n) h' = (g.stops ≡ x.stops) × IsStale h (followed g.role) × (n ≡ h.registry.epoch) × (h' ≡ h)
+  FollowOnRow h b x g (StaleEpoch n) h' =
+      (g.stops ≡ x.stops) × IsStale h (followed g.role) × (n ≡ h.registry.epoch) × (h' ≡ h)
   FollowOnRow h b x g (Passed n) h' = GoesOn h x g × (n ≡ end_of x) × (CanExtend x g → ⊥) × (h' ≡ h)
   FollowOnRow h b x g TooManySegments h' = GoesOn h x g × CanExtend x g × IsFull x (joined_bytes g.batches) × (h' ≡ h)
   FollowOnRow h b x g DiskFault h' =
       GoesOn h x g × CanExtend x g × (IsFull x (joined_bytes g.batches) → ⊥) × BreaksUnsaved content control h b x h'
   FollowOnRow h b x g (Copied n) h' =
-      GoesOn h x g × CanExtend x g × (IsFull x (joined_bytes g.batches) → ⊥) × Extends h b x (joined_bytes g.batches) n h'
+      GoesOn h x g × CanExtend x g × (IsFull x (joined_bytes g.batches) → ⊥)
+      × Extends h b x (joined_bytes g.batches) n h'
   FollowOnRow h b x g other h' = ⊥

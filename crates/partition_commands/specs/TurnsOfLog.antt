@@ -11,7 +11,9 @@ use Rattle.epoch_line.specs.Line.{last_epoch}
 use Rattle.record_batch.specs.Check.{checked}
 use Rattle.record_batch.specs.Stamp.{stamped}
 use Rattle.plain_log.specs.declared.answer.Answer.{Answer}
-use Rattle.plain_log.specs.declared.answer.Answer.TheVariants.{OkAt, OkSpan, Down, NotLeader, Refused, LastOffset, TooManySegments, EmptySegment, DiskFault, Stopped, Kept as Remains, Dropped}
+use Rattle.plain_log.specs.declared.answer.Answer.TheVariants.{OkAt, OkSpan, Down, NotLeader, Refused, LastOffset}
+use Rattle.plain_log.specs.declared.answer.Answer.TheVariants.{TooManySegments, EmptySegment, DiskFault, Stopped}
+use Rattle.plain_log.specs.declared.answer.Answer.TheVariants.{Kept as Remains, Dropped}
 use Rattle.plain_log.specs.declared.state.Role.TheVariants.{Leads}
 use Rattle.plain_log.specs.State.{leads}
 use Rattle.plain_log.specs.RowsOfLog.{offset_limit}
@@ -95,7 +97,8 @@ module _ {D : Type 0} (content : D → Content) (control : D → Control call_co
   abbrev pub AppendRow : PartitionState D → ℕ → Node D → List ℕ → Answer → PartitionState D → Type 0
   AppendRow h b x batch Down h' = (is_up x ≡ false) × (h' ≡ h)
   AppendRow h b x batch NotLeader h' = (is_up x ≡ true) × (leads x.role ≡ false) × (h' ≡ h)
-  AppendRow h b x batch LastOffset h' = (is_up x ≡ true) × (leads x.role ≡ true) × (offset_limit < end_with x batch) × (h' ≡ h)
+  AppendRow h b x batch LastOffset h' =
+      (is_up x ≡ true) × (leads x.role ≡ true) × (offset_limit < end_with x batch) × (h' ≡ h)
   AppendRow h b x batch TooManySegments h' =
       (is_up x ≡ true) × (leads x.role ≡ true) × (end_with x batch ≤ offset_limit) × FindsNone x batch × (h' ≡ h)
   AppendRow h b x batch DiskFault h' =
@@ -103,14 +106,16 @@ module _ {D : Type 0} (content : D → Content) (control : D → Control call_co
       × BreaksUnsaved h b x h'
   AppendRow h b x batch (OkSpan base last e) h' =
       (is_up x ≡ true) × (x.role ≡ Leads e) × (end_with x batch ≤ offset_limit) × (base ≡ end_of x)
-      × (last ≡ base + last_offset_delta_of batch) × (IsFull x (stamped batch base e) → ⊥) × NodeGains h b x (stamped batch base e) h'
+      × (last ≡ base + last_offset_delta_of batch) × (IsFull x (stamped batch base e) → ⊥)
+      × NodeGains h b x (stamped batch base e) h'
   AppendRow h b x batch other h' = ⊥
 
   -- raw: bytes from outside are appended where they are a batch, and else refused with the first test that they fail
   abbrev pub RawRow : PartitionState D → ℕ → Node D → List ℕ → Answer → PartitionState D → Type 0
   RawRow h b x bytes Down h' = AppendRow h b x bytes Down h'
   RawRow h b x bytes NotLeader h' = AppendRow h b x bytes NotLeader h'
-  RawRow h b x bytes (Refused cause) h' = (is_up x ≡ true) × (leads x.role ≡ true) × (checked bytes ≡ Err cause) × (h' ≡ h)
+  RawRow h b x bytes (Refused cause) h' =
+      (is_up x ≡ true) × (leads x.role ≡ true) × (checked bytes ≡ Err cause) × (h' ≡ h)
   RawRow h b x bytes LastOffset h' = IsOk (checked bytes) × AppendRow h b x bytes LastOffset h'
   RawRow h b x bytes TooManySegments h' = IsOk (checked bytes) × AppendRow h b x bytes TooManySegments h'
   RawRow h b x bytes DiskFault h' = IsOk (checked bytes) × AppendRow h b x bytes DiskFault h'
@@ -120,7 +125,8 @@ module _ {D : Type 0} (content : D → Content) (control : D → Control call_co
   -- flush: all of the log is flushed
   abbrev pub FlushRow : PartitionState D → ℕ → Node D → Answer → PartitionState D → Type 0
   FlushRow h b x Down h' = (is_up x ≡ false) × (h' ≡ h)
-  FlushRow h b x DiskFault h' = (is_up x ≡ true) × BreaksNode content control h b x (λ s. loosened s (end_of_log s.batches, s.line, s.local)) h'
+  FlushRow h b x DiskFault h' =
+      (is_up x ≡ true) × BreaksNode content control h b x (λ s. loosened s (end_of_log s.batches, s.line, s.local)) h'
   FlushRow h b x (OkAt n) h' = (is_up x ≡ true) × ((kept : LogState D) × Settles content x.log kept (λ line end. line) n
       × Quiet control x.log kept × (h' ≡ put_node h b (record x { log = kept })))
   FlushRow h b x other h' = ⊥
@@ -157,5 +163,6 @@ module _ {D : Type 0} (content : D → Content) (control : D → Control call_co
   TrimOnRow h b x g Stopped h' = ((g.stops ≢ x.stops) ⊎ (is_up x ≡ false)) × (h' ≡ h)
   TrimOnRow h b x g Remains h' = (g.stops ≡ x.stops) × (h' ≡ h)
   TrimOnRow h b x g DiskFault h' = (g.stops ≡ x.stops) × (is_up x ≡ true) × DropRow h b x DiskFault h'
-  TrimOnRow h b x g (Dropped base last) h' = (g.stops ≡ x.stops) × (is_up x ≡ true) × DropRow h b x (Dropped base last) h'
+  TrimOnRow h b x g (Dropped base last) h' =
+      (g.stops ≡ x.stops) × (is_up x ≡ true) × DropRow h b x (Dropped base last) h'
   TrimOnRow h b x g other h' = ⊥

@@ -1,10 +1,12 @@
-//! Commands to the registry, and those by which a broker learns of it: elect, unclean, learn, ack, shrink, expand, raise.
+//! Commands to the registry, and those by which a broker learns of it: elect, unclean, learn, ack, shrink, expand,
+//! raise.
 
 ghost use Rattle.std.specs.Prelude.{◌≡◌, ◌<◌, ◌^◌, true, false, length, IfOk, OnErr};
 ghost use Rattle.std.specs.Option.{ForSome};
 ghost use Rattle.laws_partition.specs.RowsOfElections.{answer_of};
 ghost use Rattle.partition_commands.specs.Partition.{AtNode, CanStop, KeepsPartition};
-ghost use Rattle.partition_commands.specs.TurnsOfElections.{MayLead, LeadRow, ElectRow, UncleanRow, LearnRow, AckRow, ShrinkRow, ExpandRow, RaiseRow};
+ghost use Rattle.partition_commands.specs.TurnsOfElections.{MayLead, LeadRow, ElectRow, UncleanRow, LearnRow};
+ghost use Rattle.partition_commands.specs.TurnsOfElections.{AckRow, ShrinkRow, ExpandRow, RaiseRow};
 ghost use Rattle.partition_commands.specs.Sound.{SoundPartition};
 
 use crate::partition_state::PartitionState;
@@ -93,7 +95,8 @@ impl<D: Disk> PartitionState<D> {
         requires node { CanStop self.old b }
         requires few { epoch < 2 ^ 31 }
         requires new { AtNode self.old b (λ x. MayLead x epoch) }
-        ensures row { IfOk result (λ answer. AtNode self.old b (λ x. LeadRow D.content D.control self.old b x epoch answer self.new)) }
+        ensures row { IfOk result (λ answer. AtNode self.old b
+            (λ x. LeadRow D.content D.control self.old b x epoch answer self.new)) }
         ensures err { OnErr result (KeepsPartition D.content D.control self.old self.new) }
     {
         let mark = self.registry.mark;

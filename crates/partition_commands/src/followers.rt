@@ -4,9 +4,11 @@
 //! segment, if nothing has come between. The batches are checked once, when they are read: that they were is kept with
 //! them between the turns, and the second turn reads only their heads.
 
-ghost use Rattle.std.specs.Prelude.{◌≡◌, ◌<◌, ◌≤◌, true, false, length, IfOk, OnErr, IsSomeAnd, IsTrue, ◌↔◌, option_copied};
+ghost use Rattle.std.specs.Prelude.{◌≡◌, ◌<◌, ◌≤◌, true, false, length, IfOk, OnErr};
+ghost use Rattle.std.specs.Prelude.{IsSomeAnd, IsTrue, ◌↔◌, option_copied};
 ghost use Rattle.partition_commands.specs.Partition.{AtNode, CanStop, KeepsPartition, the_leader, is_up};
-ghost use Rattle.partition_commands.specs.TurnsOfFollowers.{IsMeet, MayCutNode, CutRow, JoinRow, JoinOnRow, MayTake, TakeRow, FollowRow, MayExtend, ExtendRow, FollowOnRow};
+ghost use Rattle.partition_commands.specs.TurnsOfFollowers.{IsMeet, MayCutNode, CutRow, JoinRow, JoinOnRow, MayTake};
+ghost use Rattle.partition_commands.specs.TurnsOfFollowers.{TakeRow, FollowRow, MayExtend, ExtendRow, FollowOnRow};
 
 use crate::partition_state::{Node, PartitionState};
 use crate::roles::{followed, joined};
@@ -49,7 +51,8 @@ impl<D: Disk> PartitionState<D> {
     /// follower is to restart its own, where that begins.
     pub(crate) fn join(&mut self, alloc: Global, b: usize) -> Result<Turned, AllocError>
         requires { CanStop self.old b }
-        ensures row { IfOk result (λ turned. AtNode self.old b (λ x. JoinRow D.content D.control self.old b x turned self.new)) }
+        ensures row { IfOk result (λ turned. AtNode self.old b
+            (λ x. JoinRow D.content D.control self.old b x turned self.new)) }
         ensures err { OnErr result (KeepsPartition D.content D.control self.old self.new) }
     {
         let node = self.nodes.get(b);
@@ -94,7 +97,8 @@ impl<D: Disk> PartitionState<D> {
         snapshot: &StartSnapshot,
     ) -> Result<Answer, AllocError>
         requires { CanStop self.old b }
-        ensures row { IfOk result (λ answer. AtNode self.old b (λ x. JoinOnRow D.content D.control self.old b x snapshot.now answer self.new)) }
+        ensures row { IfOk result (λ answer. AtNode self.old b
+            (λ x. JoinOnRow D.content D.control self.old b x snapshot.now answer self.new)) }
         ensures err { OnErr result (KeepsPartition D.content D.control self.old self.new) }
     {
         let node = self.nodes.get(b);
@@ -130,7 +134,8 @@ impl<D: Disk> PartitionState<D> {
     fn cut(&mut self, b: usize, epoch: u32, met: u64) -> Result<Answer, AllocError>
         requires node { CanStop self.old b }
         requires up { AtNode self.old b (λ x. MayCutNode x met) }
-        ensures row { IfOk result (λ answer. AtNode self.old b (λ x. CutRow D.content D.control self.old b x epoch met answer self.new)) }
+        ensures row { IfOk result (λ answer. AtNode self.old b
+            (λ x. CutRow D.content D.control self.old b x epoch met answer self.new)) }
         ensures err { OnErr result (KeepsPartition D.content D.control self.old self.new) }
     {
         let node = self.nodes.at_mut(b);
@@ -157,7 +162,8 @@ impl<D: Disk> PartitionState<D> {
         limit: u32,
     ) -> Result<Turned, AllocError>
         requires { b < length self.old.nodes }
-        ensures row { IfOk result (λ turned. AtNode self.old b (λ x. FollowRow D.content D.control self.old b x limit turned self.new)) }
+        ensures row { IfOk result (λ turned. AtNode self.old b
+            (λ x. FollowRow D.content D.control self.old b x limit turned self.new)) }
         ensures err { OnErr result (KeepsPartition D.content D.control self.old self.new) }
     {
         let node = self.nodes.get(b);
@@ -222,7 +228,8 @@ impl<D: Disk> PartitionState<D> {
     #[tactic(auto, using(crate::proofs::Writes::set_same))]
     pub fn follow_on(&mut self, b: usize, snapshot: &StartSnapshot) -> Result<Answer, AllocError>
         requires { CanStop self.old b }
-        ensures row { IfOk result (λ answer. AtNode self.old b (λ x. FollowOnRow D.content D.control self.old b x snapshot.now answer self.new)) }
+        ensures row { IfOk result (λ answer. AtNode self.old b
+            (λ x. FollowOnRow D.content D.control self.old b x snapshot.now answer self.new)) }
         ensures err { OnErr result (KeepsPartition D.content D.control self.old self.new) }
     {
         let node = self.nodes.get(b);
@@ -247,7 +254,8 @@ impl<D: Disk> PartitionState<D> {
     fn extend(&mut self, b: usize, run: &[u8]) -> Result<Answer, AllocError>
         requires node { CanStop self.old b }
         requires fits { AtNode self.old b (λ x. MayExtend x run.now) }
-        ensures row { IfOk result (λ answer. AtNode self.old b (λ x. ExtendRow D.content D.control self.old b x run.now answer self.new)) }
+        ensures row { IfOk result (λ answer. AtNode self.old b
+            (λ x. ExtendRow D.content D.control self.old b x run.now answer self.new)) }
         ensures err { OnErr result (KeepsPartition D.content D.control self.old self.new) }
     {
         let node = self.nodes.at_mut(b);

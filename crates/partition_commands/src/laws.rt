@@ -1,6 +1,7 @@
 //! Laws of the rows. Each is the contract of a function that does nothing: calling it cites the law.
 
-ghost use Rattle.partition_commands.specs.Laws.{RowsAreSeen, RowsKeepSound, RowsLast, RowsCountFaults, RowsStayInfallible};
+ghost use Rattle.partition_commands.specs.Laws.{RowsAreSeen, RowsKeepSound, RowsLast};
+ghost use Rattle.partition_commands.specs.Laws.{RowsCountFaults, RowsStayInfallible};
 
 use disk_model::Disk;
 

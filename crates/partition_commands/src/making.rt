@@ -1,18 +1,23 @@
 //! A partition's brokers over fresh disks.
 //!
-//! The disks' planned calls fail from the moment on at which all brokers are made, and nothing that can fail comes after
-//! that. So a refusal gives the disks back as they came, but for the calls that they were asked.
+//! The disks' planned calls fail from the moment on at which all brokers are made, and nothing that can fail comes
+//! after that. So a refusal gives the disks back as they came, but for the calls that they were asked.
 
-ghost use Rattle.std.specs.Prelude.{◌≡◌, ◌≤◌, ◌+◌, ◌++◌, map, true, false, [], List, length, vec_capacity, IfOk, OnOk, IfErr, OnErr, IsErrOf, IsTrue};
+ghost use Rattle.std.specs.Prelude.{◌≡◌, ◌≤◌, ◌+◌, ◌++◌, map, true, false, [], List, length};
+ghost use Rattle.std.specs.Prelude.{vec_capacity, IfOk, OnOk, IfErr, OnErr, IsErrOf, IsTrue};
 ghost use Rattle.local_log.specs.Log.{AreSettings};
 ghost use Rattle.tier_base.specs.declared.plain.Settings.{Settings as Options};
 ghost use Rattle.broker_log.specs.Seen.{LogSeen, ShowsSeen, OnDisk, Lasting, Faulted, layout_in};
 ghost use Rattle.partition_commands.specs.declared.refusal.WorldRefusal.TheVariants as refusal;
 ghost use Rattle.partition_commands.specs.Partition.{line_of};
 ghost use Rattle.partition_commands.specs.Disks.{AllReopen};
-ghost use Rattle.partition_commands.specs.Cold.{ShowDisks, DisksReopen, AreColdOver, IsColdPartition, cold_node, partition_back};
+ghost use Rattle.partition_commands.specs.Cold.{ShowDisks, DisksReopen, AreColdOver};
+ghost use Rattle.partition_commands.specs.Cold.{IsColdPartition, cold_node, partition_back};
 ghost use Rattle.partition_commands.specs.Partition.{ShowsPartition};
-ghost use Rattle.partition_commands.specs.Fresh.{IsFreshDisk, AreFreshDisks, DisksTell, IsFreshNode, IsMadeOver, AreMadeFrom, AreFreshFrom, IsFreshPartition, AllSeen, IsNodeLaid, AreNodesLaid, AddsNode, AreDisksOf, RefusesOver, RefusesDisks, empty_seen};
+ghost use Rattle.partition_commands.specs.Fresh.{IsFreshDisk, AreFreshDisks, DisksTell, IsFreshNode, IsMadeOver};
+ghost use Rattle.partition_commands.specs.Fresh.{AreMadeFrom, AreFreshFrom, IsFreshPartition, AllSeen, IsNodeLaid};
+ghost use Rattle.partition_commands.specs.Fresh.{AreNodesLaid, AddsNode, AreDisksOf, RefusesOver, RefusesDisks};
+ghost use Rattle.partition_commands.specs.Fresh.{empty_seen};
 
 use crate::partition_state::{Node, PartitionState};
 use crate::refusal::WorldRefusal;
@@ -208,8 +213,8 @@ impl<D: Disk> Node<D> {
 }
 
 impl<D: Disk> PartitionState<D> {
-    /// Makes a partition whose brokers have these disks, and none is left there. The first leads epoch 0, the others have
-    /// joined it, and all are in sync. From then on the disks' planned calls fail.
+    /// Makes a partition whose brokers have these disks, and none is left there. The first leads epoch 0, the others
+    /// have joined it, and all are in sync. From then on the disks' planned calls fail.
     pub fn fresh(
         alloc: Global,
         disks: &mut Vec<D>,
@@ -273,7 +278,8 @@ impl<D: Disk> PartitionState<D> {
         })
     }
 
-    /// The log of each broker that is up can be opened again from its disk, also after a power cut. It does nothing that is seen.
+    /// The log of each broker that is up can be opened again from its disk, also after a power cut. It does nothing
+    /// that is seen.
     pub fn reopens(&self)
         ensures { AllReopen D.content self.now.nodes }
     {
@@ -282,8 +288,8 @@ impl<D: Disk> PartitionState<D> {
         }
     }
 
-    /// Gives the brokers' disks back, in their order, in the room that they came from. From those of brokers that are up, or whose
-    /// logs are seen, a log can be opened again, also after a power cut.
+    /// Gives the brokers' disks back, in their order, in the room that they came from. From those of brokers that are
+    /// up, or whose logs are seen, a log can be opened again, also after a power cut.
     pub fn close(self, room: Vec<D>) -> Vec<D>
         requires none { room.items ≡ [] }
         requires room { length self.nodes ≤ vec_capacity room }

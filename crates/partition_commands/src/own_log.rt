@@ -7,7 +7,8 @@ ghost use Rattle.record_batch.specs.Build.{built, IsBuildable};
 ghost use Rattle.record_batch.specs.Check.{checked};
 ghost use Rattle.record_batch.specs.Stamp.{stamped, SetsBaseAndEpoch};
 ghost use Rattle.partition_commands.specs.Partition.{AtNode, CanStop, KeepsPartition};
-ghost use Rattle.partition_commands.specs.TurnsOfLog.{AppendRow, RawRow, MayPut, PutBatchRow, FlushRow, RollRow, MayDropFirst, DropRow};
+ghost use Rattle.partition_commands.specs.TurnsOfLog.{AppendRow, RawRow, MayPut, PutBatchRow, FlushRow};
+ghost use Rattle.partition_commands.specs.TurnsOfLog.{RollRow, MayDropFirst, DropRow};
 ghost use Rattle.partition_commands.specs.TurnsOfFetch.{MayGive, GiveRow, FetchTurn};
 ghost use Rattle.partition_commands.specs.Sound.{SoundPartition};
 
@@ -84,7 +85,8 @@ impl<D: Disk> PartitionState<D> {
         self.put(b, batch.as_slice(), base, end - 1, epoch)
     }
 
-    /// Appends bytes from outside to the leader's log, where they are a batch. What is known of the check of equal bytes is used.
+    /// Appends bytes from outside to the leader's log, where they are a batch. What is known of the check of equal
+    /// bytes is used.
     pub(crate) fn raw(
         &mut self,
         alloc: Global,
@@ -151,7 +153,8 @@ impl<D: Disk> PartitionState<D> {
     /// Makes all of a broker's log flushed.
     pub(crate) fn flush(&mut self, b: usize) -> Result<Answer, AllocError>
         requires { CanStop self.old b }
-        ensures row { IfOk result (λ answer. AtNode self.old b (λ x. FlushRow D.content D.control self.old b x answer self.new)) }
+        ensures row { IfOk result (λ answer. AtNode self.old b
+            (λ x. FlushRow D.content D.control self.old b x answer self.new)) }
         ensures err { OnErr result (KeepsPartition D.content D.control self.old self.new) }
     {
         if !self.nodes.get(b).is_up() {
@@ -172,7 +175,8 @@ impl<D: Disk> PartitionState<D> {
     #[tactic(auto, using(crate::proofs::Writes::set_same))]
     pub(crate) fn roll(&mut self, b: usize) -> Result<Answer, AllocError>
         requires { CanStop self.old b }
-        ensures row { IfOk result (λ answer. AtNode self.old b (λ x. RollRow D.content D.control self.old b x answer self.new)) }
+        ensures row { IfOk result (λ answer. AtNode self.old b
+            (λ x. RollRow D.content D.control self.old b x answer self.new)) }
         ensures err { OnErr result (KeepsPartition D.content D.control self.old self.new) }
     {
         if !self.nodes.get(b).is_up() {
@@ -195,7 +199,8 @@ impl<D: Disk> PartitionState<D> {
     pub fn drop_first(&mut self, b: usize) -> Result<Answer, AllocError>
         requires node { CanStop self.old b }
         requires may { AtNode self.old b MayDropFirst }
-        ensures row { IfOk result (λ answer. AtNode self.old b (λ x. DropRow D.content D.control self.old b x answer self.new)) }
+        ensures row { IfOk result (λ answer. AtNode self.old b
+            (λ x. DropRow D.content D.control self.old b x answer self.new)) }
         ensures err { OnErr result (KeepsPartition D.content D.control self.old self.new) }
     {
         let node = self.nodes.at_mut(b);

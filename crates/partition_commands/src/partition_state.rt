@@ -8,7 +8,8 @@ ghost use Rattle.broker_log.specs.Seen.{line_in, incarnation_in, settings_in};
 ghost use Rattle.epoch_line.specs.Line.{last_epoch};
 ghost use Rattle.plain_log.specs.Orders.{IsInRange};
 ghost use Rattle.laws_partition.specs.declared.start_snapshot.Turned.TheVariants.{Answers};
-ghost use Rattle.partition_commands.specs.Partition.{AtNode, CanStop, KeepsPartition, stopped, is_up, end_of, flushed_end_of, line_of, local_of, open_size_of};
+ghost use Rattle.partition_commands.specs.Partition.{AtNode, CanStop, KeepsPartition, stopped, is_up, end_of};
+ghost use Rattle.partition_commands.specs.Partition.{flushed_end_of, line_of, local_of, open_size_of};
 ghost use Rattle.partition_commands.specs.Turns.{IsOfTier, takes_memory, FirstRow};
 ghost use Rattle.partition_commands.specs.TurnsOfLog.{Notes};
 ghost use Rattle.partition_commands.specs.Sound.{SoundPartition};
@@ -34,8 +35,8 @@ pub struct Node<D: Disk> {
     pub known_high_watermark: u64,
 }
 
-/// The registry, the brokers, the partition's clock in milliseconds, whether segments are copied to the remote tier, and
-/// whether those that are chosen for it are packed, so that each has one object there.
+/// The registry, the brokers, the partition's clock in milliseconds, whether segments are copied to the remote tier,
+/// and whether those that are chosen for it are packed, so that each has one object there.
 #[derive(Drop)]
 pub struct PartitionState<D: Disk> {
     pub registry: Registry,

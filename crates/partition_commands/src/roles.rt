@@ -1,7 +1,8 @@
 //! What a role says.
 
 ghost use Rattle.std.specs.Prelude.{◌≡◌};
-ghost use Rattle.plain_log.specs.State.{leading as leading_in, followed as followed_in, joined as joined_in, acking as acking_in, epoch_in as epoch_of};
+ghost use Rattle.plain_log.specs.State.{leading as leading_in, followed as followed_in, joined as joined_in};
+ghost use Rattle.plain_log.specs.State.{acking as acking_in, epoch_in as epoch_of};
 
 use plain_log::Role;
 

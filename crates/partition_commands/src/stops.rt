@@ -28,7 +28,8 @@ impl<D: Disk> PartitionState<D> {
     /// Lets a broker start with what it has flushed.
     pub(crate) fn up(&mut self, b: usize) -> Result<Answer, AllocError>
         requires { b < length self.old.nodes }
-        ensures row { IfOk result (λ answer. AtNode self.old b (λ x. UpRow D.content D.control self.old b x answer self.new)) }
+        ensures row { IfOk result (λ answer. AtNode self.old b
+            (λ x. UpRow D.content D.control self.old b x answer self.new)) }
         ensures err { OnErr result (KeepsPartition D.content D.control self.old self.new) }
     {
         if self.nodes.get(b).is_up() {

@@ -23,7 +23,8 @@ use Rattle.laws_partition.specs.declared.actor_progress.Stepped.{Stepped}
 use Rattle.laws_partition.specs.declared.actor_progress.Stepped.TheVariants.{Ran, Done}
 use Rattle.laws_partition.specs.Turn.{event_of}
 use Rattle.partition_world.specs.declared.actor_state.Outcome.{Outcome}
-use Rattle.partition_world.specs.declared.actor_state.Outcome.TheVariants.{Answers, Begins, Chose, Goes, Seeks, Dates, ChoosesExpired, Deletes, Rebuilds}
+use Rattle.partition_world.specs.declared.actor_state.Outcome.TheVariants.{Answers, Begins, Chose, Goes, Seeks, Dates}
+use Rattle.partition_world.specs.declared.actor_state.Outcome.TheVariants.{ChoosesExpired, Deletes, Rebuilds}
 use Rattle.partition_world.specs.declared.actor_state.ActorState.{ActorState}
 use Rattle.partition_world.specs.declared.actor_state.InProgress.{InProgress}
 use Rattle.partition_world.specs.declared.actor_state.InProgress.TheVariants as in_progress

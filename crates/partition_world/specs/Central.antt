@@ -3,7 +3,8 @@
 -- The world, as its partition is seen, is the plain log after the world's own journal; the remote tier, as it is seen
 -- beside that state of the plain log, keeps its safety rules; the leader epochs that joins have read in the tier are
 -- those that they recorded; and timestamp lookups have gone through their brokers' logs as far as they have come.
-use Rattle.std.specs.Prelude.{◌≡◌, ℕ, ◌+◌, ◌-◌, ◌*◌, ◌^◌, ◌<◌, length, true, List, [], ◌∷◌, Option, Some, None, unwrap_or, slice_get, IsTrue}
+use Rattle.std.specs.Prelude.{◌≡◌, ℕ, ◌+◌, ◌-◌, ◌*◌, ◌^◌, ◌<◌, length, true, List, [], ◌∷◌}
+use Rattle.std.specs.Prelude.{Option, Some, None, unwrap_or, slice_get, IsTrue}
 use Rattle.disk_model.specs.declared.disk.Disk.{Ghosts as DiskGhosts}
 use Rattle.object_store.specs.declared.store.Store.{Ghosts as StoreGhosts}
 use Rattle.meta_log.specs.declared.log.MetaLog.{Ghosts as MetaGhosts}
@@ -28,14 +29,16 @@ use Rattle.laws_partition.specs.Central as seen_central
 use Rattle.laws_tier_turns.specs.BrokerTiers.{tier_views_of, BrokerTierModel as BrokerTierIsSeen}
 use Rattle.laws_tier_turns.specs.TierTasks.{rebuild_of, tier_task_of as tier_task_seen}
 use Rattle.partition_commands.specs.Partition.{ShowsPartition}
-use Rattle.tier_safe.specs.Scene.{Scene, TierTask, Free, Copies as CopiesSeen, Expires as ExpiresSeen, Rebuilds as RebuildsSeen, Seeks as SeeksSeen}
+use Rattle.tier_safe.specs.Scene.{Scene, TierTask, Free, Copies as CopiesSeen, Expires as ExpiresSeen}
+use Rattle.tier_safe.specs.Scene.{Rebuilds as RebuildsSeen, Seeks as SeeksSeen}
 use Rattle.tier_safe.specs.Safe.{TierSafe}
 use Rattle.laws_tier_fetch.specs.Seeking.{sought_of, indexes_in}
 use Rattle.laws_time_find.specs.Passed.{IsDatedTo}
 use Rattle.laws_time_find.specs.Searching.{search_of}
 use Rattle.partition_world.specs.declared.actor_state.ActorState.{ActorState}
 use Rattle.partition_world.specs.declared.actor_state.InProgress.{InProgress}
-use Rattle.partition_world.specs.declared.actor_state.InProgress.TheVariants.{Idle, Noted, Copies, Seeks, Dates, Expires, Rebuilds}
+use Rattle.partition_world.specs.declared.actor_state.InProgress.TheVariants.{Idle, Noted, Copies, Seeks}
+use Rattle.partition_world.specs.declared.actor_state.InProgress.TheVariants.{Dates, Expires, Rebuilds}
 use Rattle.partition_world.specs.declared.tier.BrokerTierState.{BrokerTierState}
 use Rattle.partition_world.specs.Whole.{Whole, seen_as}
 

@@ -2,7 +2,7 @@
 --
 --   form                      says
 --   IsReopened .. w           it was made over these devices, which were armed and asked nothing else
---   StandCold p .. l          the devices, with these metadata events, are those of a partition in the plain state p, all brokers down
+--   StandCold p .. l          the devices, with these metadata events, are those of the plain state p, all brokers down
 --   ReopensCentral            such a world has the central fact for each plain state that its devices represent
 use Rattle.std.specs.Prelude.{◌≡◌, ◌^◌, ◌<◌, List, [], length, map, replicate, IsTrue}
 use Rattle.tier_base.specs.declared.names.PartitionId.{PartitionId}
@@ -42,7 +42,8 @@ scene_back partition objects notes logs = record {
 
 module _ {D S M : Type 0} (disk : DiskGhosts D) (store : StoreGhosts S) (meta : MetaGhosts M) where
   -- this was made over devices that were used before
-  pub record IsReopened (partition : PartitionId) (config : Config) (lists : List ActorList) (registry : Registry) (disks : List D)
+  pub record IsReopened (partition : PartitionId) (config : Config) (lists : List ActorList) (registry : Registry)
+      (disks : List D)
       (s : S) (m : M) (w : Whole D S M) : Type 0 where
     pub partition_is : w.partition ≡ partition
     pub config_is : w.config ≡ config
@@ -56,7 +57,8 @@ module _ {D S M : Type 0} (disk : DiskGhosts D) (store : StoreGhosts S) (meta : 
 
   -- The devices and the registry are those of a partition in this plain state, whose brokers are all down and where no
   -- command has begun, and of a remote tier with these metadata events.
-  pub record StandCold (partition : PartitionId) (registry : Registry) (disks : List D) (s : S) (m : M) (p : State) (l : List Note)
+  pub record StandCold (partition : PartitionId) (registry : Registry) (disks : List D) (s : S) (m : M) (p : State)
+      (l : List Note)
       : Type 0 where
     -- how the brokers' logs are seen
     pub logs : List LogSeen
@@ -71,7 +73,8 @@ module _ {D S M : Type 0} (disk : DiskGhosts D) (store : StoreGhosts S) (meta : 
     pub tier : TierSafe (scene_back partition (store.content s).objects l logs) p
 
   -- they do with whatever metadata events a power cut now may leave, and a view could count as many more
-  pub record AreCold (partition : PartitionId) (registry : Registry) (disks : List D) (s : S) (m : M) (p : State) : Type 0 where
+  pub record AreCold (partition : PartitionId) (registry : Registry) (disks : List D) (s : S) (m : M)
+      (p : State) : Type 0 where
     pub stand : (l : List Note) → Left (meta.content m) l → StandCold partition registry disks s m p l
     pub few : (l : List Note) → Left (meta.content m) l → length l < 2 ^ 63
 

@@ -48,7 +48,8 @@ IsEmptyStore content = IsTrue content.is_observable → (key : ObjectKey) → co
 abbrev pub IsEmptyLog : meta.Content → Type 0
 IsEmptyLog content = IsTrue content.is_observable → content.notes ≡ []
 
--- nothing has happened yet, whatever the devices: each list is at its front, the journal is empty, and each broker has its disk
+-- nothing has happened yet, whatever the devices: each list is at its front, the journal is empty, and each broker
+-- has its disk
 pub record IsNewWorld {D S M : Type 0} (lists : List ActorList) (w : Whole D S M) : Type 0 where
   pub lists_are : w.lists ≡ lists
   pub desk : w.desk ≡ replicate (length lists) fresh_actor_state
@@ -57,7 +58,8 @@ pub record IsNewWorld {D S M : Type 0} (lists : List ActorList) (w : Whole D S M
 
 module _ {D S M : Type 0} (disk : DiskGhosts D) (store : StoreGhosts S) (meta : MetaGhosts M) where
   -- nothing has happened
-  pub record IsFresh (partition : PartitionId) (config : Config) (lists : List ActorList) (disks : List D) (s : S) (m : M)
+  pub record IsFresh (partition : PartitionId) (config : Config) (lists : List ActorList) (disks : List D) (s : S)
+      (m : M)
       (w : Whole D S M) : Type 0 where
     pub partition_is : w.partition ≡ partition
     pub config_is : w.config ≡ config

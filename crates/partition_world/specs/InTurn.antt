@@ -1,5 +1,6 @@
 -- In which order a journal reports each actor's commands.
-use Rattle.std.specs.Prelude.{◌≡◌, ℕ, ◌+◌, ◌<◌, ◌==◌, if◌then◌else◌, Bool, true, false, List, [], ◌∷◌, length, Option, Some, None, IsSomeAnd}
+use Rattle.std.specs.Prelude.{◌≡◌, ℕ, ◌+◌, ◌<◌, ◌==◌, if◌then◌else◌, Bool, true, false, List}
+use Rattle.std.specs.Prelude.{[], ◌∷◌, length, Option, Some, None, IsSomeAnd}
 use Rattle.plain_log.specs.declared.command.ActorList.{ActorList}
 use Rattle.plain_log.specs.declared.journal.Event.{Event}
 use Rattle.plain_log.specs.declared.journal.Event.TheVariants.{Begins, Answers}
@@ -17,8 +18,8 @@ next_after (Begins cut) n false = Some (n, true)
 next_after (Begins cut) n true = None
 next_after (Answers answer) n snapshot = Some (n + 1, false)
 
--- the entries of a list of so many commands, from the n-th one on, which has begun or not: a command that begins is answered
--- by the next entry
+-- the entries of a list of so many commands, from the n-th one on, which has begun or not: a command that begins is
+-- answered by the next entry
 abbrev pub AreInTurn : ℕ → ℕ → Bool → List JournalEntry → Type 0
 AreInTurn count n snapshot [] = Unit {0}
 AreInTurn count n snapshot (entry ∷ entries) = (entry.number ≡ n) × (n < count)

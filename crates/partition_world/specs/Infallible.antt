@@ -20,7 +20,8 @@ module _ {K : Type 0} {code : K → ℕ} where
     pub infallible : IsInfallible c
 
 -- no call of the devices can fail, and nothing has failed
-pub record IsUnfailing {D S M : Type 0} (disk : DiskGhosts D) (store : StoreGhosts S) (meta : MetaGhosts M) (w : Whole D S M)
+pub record IsUnfailing {D S M : Type 0} (disk : DiskGhosts D) (store : StoreGhosts S) (meta : MetaGhosts M)
+    (w : Whole D S M)
     : Type 0 where
   pub infallible : AreInfallible disk.control w.partition_state.nodes
   pub store_infallible : IsInfallible (store.control w.tier.store)

@@ -7,7 +7,8 @@ use Rattle.partition_commands.specs.Disks.{DisksLast}
 use Rattle.partition_world.specs.Whole.{Whole}
 
 -- each device has lasted: its plan is as it was, and its count of faults hasn't fallen
-pub record HaveLasted {D S M : Type 0} (disk : DiskGhosts D) (store : StoreGhosts S) (meta : MetaGhosts M) (w w' : Whole D S M)
+pub record HaveLasted {D S M : Type 0} (disk : DiskGhosts D) (store : StoreGhosts S) (meta : MetaGhosts M)
+    (w w' : Whole D S M)
     : Type 0 where
   pub disks : DisksLast disk.control w.partition_state.nodes w'.partition_state.nodes
   pub store_lasts : Lasts (store.control w.tier.store) (store.control w'.tier.store)

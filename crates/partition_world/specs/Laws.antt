@@ -41,11 +41,13 @@ pub record IsCompleteRun {D S M : Type 0} (w : Whole D S M) : Type 0 where
 module _ {D S M : Type 0} (disk : DiskGhosts D) (store : StoreGhosts S) (meta : MetaGhosts M) where
   -- where the central fact holds of a world whose actors are at their ends, its journal is a complete run
   abbrev pub EndsAreComplete : Type 0
-  EndsAreComplete = (w : Whole D S M) → IsCentral disk store meta (fresh w.config) w → ((a : ℕ) → IsAtEnd w a) → IsCompleteRun w
+  EndsAreComplete =
+      (w : Whole D S M) → IsCentral disk store meta (fresh w.config) w → ((a : ℕ) → IsAtEnd w a) → IsCompleteRun w
 
   -- each step keeps the central fact
   abbrev pub StepsKeepCentral : Type 0
-  StepsKeepCentral = (w : Whole D S M) (a : ℕ) (stepped : Stepped) (w' : Whole D S M) → Steps disk store meta w a stepped w'
+  StepsKeepCentral =
+      (w : Whole D S M) (a : ℕ) (stepped : Stepped) (w' : Whole D S M) → Steps disk store meta w a stepped w'
       → KeepsCentral disk store meta w w'
 
   -- it holds of a fresh world whose logs, objects and metadata events are seen
@@ -74,18 +76,21 @@ module _ {D S M : Type 0} (disk : DiskGhosts D) (store : StoreGhosts S) (meta : 
   -- whatever a schedule reaches from a new world, over any devices: its journal reports each actor's commands in turn
   abbrev pub ReachesInTurn : Type 0
   ReachesInTurn = (config : Config) (lists : List ActorList) (w : Whole D S M) (schedule : List Pace) (w' : Whole D S M)
-      → AreListsFor config lists → IsNewWorld lists w → Reaches disk store meta w schedule w' → IsInTurn w'.lists w'.journal.items
+      → AreListsFor config lists → IsNewWorld lists w → Reaches disk store meta w schedule w'
+      → IsInTurn w'.lists w'.journal.items
 
   -- and where each actor is at its end, it answers every command of every list, once and in their order
   abbrev pub EndsAreAnswered : Type 0
-  EndsAreAnswered = (config : Config) (lists : List ActorList) (w : Whole D S M) (schedule : List Pace) (w' : Whole D S M)
+  EndsAreAnswered =
+      (config : Config) (lists : List ActorList) (w : Whole D S M) (schedule : List Pace) (w' : Whole D S M)
       → AreListsFor config lists → IsNewWorld lists w → Reaches disk store meta w schedule w' → ((a : ℕ) → IsAtEnd w' a)
       → IsComplete w'.lists w'.journal.items
 
   -- in a world that a schedule reaches from one that is reopened, the journal is a run of the plain log from each plain
   -- state that the devices represented
   abbrev pub ReopenedRuns : Type 0
-  ReopenedRuns = (partition : PartitionId) (config : Config) (lists : List ActorList) (registry : Registry) (disks : List D) (s : S)
+  ReopenedRuns = (partition : PartitionId) (config : Config) (lists : List ActorList) (registry : Registry)
+      (disks : List D) (s : S)
       (m : M) (w : Whole D S M) (schedule : List Pace) (w' : Whole D S M) (p : State) → AreListsFor config lists
       → IsReopened disk store meta partition config lists registry disks s m w
       → AreCold disk store meta partition registry disks s m p → Reaches disk store meta w schedule w'
@@ -93,12 +98,15 @@ module _ {D S M : Type 0} (disk : DiskGhosts D) (store : StoreGhosts S) (meta : 
 
   -- a world that is reopened is on devices of which no call can fail, where none is planned to
   abbrev pub ReopenedIsUnfailing : Type 0
-  ReopenedIsUnfailing = (partition : PartitionId) (config : Config) (lists : List ActorList) (registry : Registry) (disks : List D)
+  ReopenedIsUnfailing =
+      (partition : PartitionId) (config : Config) (lists : List ActorList) (registry : Registry) (disks : List D)
       (s : S) (m : M) (w : Whole D S M) → IsReopened disk store meta partition config lists registry disks s m w
-      → AreUnplanned disk.control disks → IsUnplanned (store.control s) → IsUnplanned (meta.control m) → IsUnfailing disk store meta w
+      → AreUnplanned disk.control disks → IsUnplanned (store.control s) → IsUnplanned (meta.control m)
+      → IsUnfailing disk store meta w
 
   -- a fresh world is on devices of which no call can fail, where none is planned to
   abbrev pub FreshIsUnfailing : Type 0
-  FreshIsUnfailing = (partition : PartitionId) (config : Config) (lists : List ActorList) (disks : List D) (s : S) (m : M)
+  FreshIsUnfailing =
+      (partition : PartitionId) (config : Config) (lists : List ActorList) (disks : List D) (s : S) (m : M)
       (w : Whole D S M) → IsFresh disk store meta partition config lists disks s m w → AreUnplanned disk.control disks
       → IsUnplanned (store.control s) → IsUnplanned (meta.control m) → IsUnfailing disk store meta w

@@ -1,7 +1,7 @@
 -- The central fact with whatever metadata events a power cut may leave.
 --
 --   form                     says
---   resolved meta            a metadata log beside metadata events: those are what it reports, and what a power cut leaves
+--   resolved meta            a metadata log beside events: those are what it reports, and what a power cut leaves
 --   whole_with w l           the world with its metadata log beside these metadata events
 --   IsCentralLeft opening w  with each list of metadata events that a power cut now may leave, the central fact holds
 use Rattle.std.specs.Prelude.{ℕ, List}

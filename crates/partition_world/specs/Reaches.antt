@@ -30,7 +30,8 @@ module _ {D S M : Type 0} (disk : DiskGhosts D) (store : StoreGhosts S) (meta : 
   -- the actor takes so many turns, and no more than it must, to have answered so many of its commands
   abbrev pub GoesUntil : Whole D S M → ℕ → ℕ → ℕ → Whole D S M → Type 0
   GoesUntil w a number zero w' = HasAnswered w a number × (w' ≡ w)
-  GoesUntil w a number (suc turns) w' = (HasAnswered w a number → ⊥) × ((v : Whole D S M) × TakesTurn w a v × GoesUntil v a number turns w')
+  GoesUntil w a number (suc turns) w' =
+      (HasAnswered w a number → ⊥) × ((v : Whole D S M) × TakesTurn w a v × GoesUntil v a number turns w')
 
   -- one item of a schedule
   abbrev pub Paces : Whole D S M → Pace → Whole D S M → Type 0

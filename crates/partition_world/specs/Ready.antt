@@ -1,4 +1,5 @@
--- What an actor's next turn would have made ready, and what is made of that. A turn comes to the same whatever is ready.
+-- What an actor's next turn would have made ready, and what is made of that. A turn comes to the same whatever is
+-- ready.
 use Rattle.std.specs.Prelude.{◌≡◌, ℕ, List}
 use Rattle.plain_log.specs.declared.command.ActorList.{ActorList}
 use Rattle.plain_log.specs.declared.command.Command.{Command}

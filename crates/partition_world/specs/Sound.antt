@@ -19,7 +19,8 @@ use Rattle.time_find.specs.declared.turn.SearchStep.{SearchStep as Dating}
 use Rattle.time_find.specs.Turns.{IsSet}
 use Rattle.partition_world.specs.declared.actor_state.ActorState.{ActorState}
 use Rattle.partition_world.specs.declared.actor_state.InProgress.{InProgress}
-use Rattle.partition_world.specs.declared.actor_state.InProgress.TheVariants.{Idle, Noted, Copies, Seeks, Dates, Expires, Rebuilds}
+use Rattle.partition_world.specs.declared.actor_state.InProgress.TheVariants.{Idle, Noted, Copies, Seeks}
+use Rattle.partition_world.specs.declared.actor_state.InProgress.TheVariants.{Dates, Expires, Rebuilds}
 use Rattle.partition_world.specs.declared.tier.BrokerTierState.{BrokerTierState}
 use Rattle.partition_world.specs.ActorStates.{desk_seen}
 
@@ -64,7 +65,8 @@ AreInProgress lists desk =
 
 -- its lists can be run, each broker has a tier state of the tier, and the journal has room for each entry that is left:
 -- a beginning and an answer of each order
-pub record CanBeRun {D : Type 0} (config : Config) (lists : List ActorList) (h : PartitionState D) (broker_tiers : List BrokerTierState) (desk : List ActorState)
+pub record CanBeRun {D : Type 0} (config : Config) (lists : List ActorList) (h : PartitionState D)
+    (broker_tiers : List BrokerTierState) (desk : List ActorState)
     (free : ℕ) : Type 0 where
   pub config_fits : IsConfig config
   pub fit : AreListsFor config lists
@@ -89,10 +91,11 @@ abbrev pub HaveTried : ℕ → List BrokerTierState → Type 0
 HaveTried m broker_tiers =
     (b : ℕ) (broker_tier : BrokerTierState) → slice_get broker_tiers b ≡ Some broker_tier → broker_tier.attempt ≤ m
 
--- the journal has so many entries, and with those that are left never more than 64 actors with 2^32 orders of two entries each. It
--- bounds how often a broker has stopped, since a command that stops one is answered, and how many copies one has tried, since each
--- has begun
-pub record AreCounted {D : Type 0} (lists : List ActorList) (h : PartitionState D) (broker_tiers : List BrokerTierState) (desk : List ActorState) (entered : ℕ)
+-- the journal has so many entries, and with those that are left never more than 64 actors with 2^32 orders of two
+-- entries each. It bounds how often a broker has stopped, since a command that stops one is answered, and how many
+-- copies one has tried, since each has begun
+pub record AreCounted {D : Type 0} (lists : List ActorList) (h : PartitionState D) (broker_tiers : List BrokerTierState)
+    (desk : List ActorState) (entered : ℕ)
     : Type 0 where
   pub few : entered + entries_left lists (desk_seen desk) ≤ 549755813888
   pub stopped : HaveStopped entered h.nodes

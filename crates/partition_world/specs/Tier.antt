@@ -1,4 +1,5 @@
--- A partition's remote tier: the store and the metadata log, which no broker has for itself, and what each broker knows.
+-- A partition's remote tier: the store and the metadata log, which no broker has for itself, and what each broker
+-- knows.
 use Rattle.std.specs.Prelude.{◌≡◌, ℕ, ◌+◌, ◌==◌, if◌then◌else◌, slice_get, slice_set, IsSomeAnd}
 use Rattle.object_store.specs.declared.store.Store.{Ghosts as StoreGhosts}
 use Rattle.object_store.specs.Content.{Keeps as KeepsObjects}

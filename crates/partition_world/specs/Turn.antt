@@ -53,8 +53,8 @@ module _ {D S M : Type 0} (disk : DiskGhosts D) (store : StoreGhosts S) (meta : 
     pub config : w'.config ≡ w.config
     pub lists : w'.lists ≡ w.lists
 
-  -- there was no memory for the actor's next order: nothing that is seen has changed, but for what the turn's own calls of the tier
-  -- may leave. The command is one that takes memory
+  -- there was no memory for the actor's next order: nothing that is seen has changed, but for what the turn's own
+  -- calls of the tier may leave. The command is one that takes memory
   pub record StaysWhole (w : Whole D S M) (a : ℕ) (w' : Whole D S M) : Type 0 where
     pub place : ℕ
     pub list : ActorList

@@ -1,6 +1,7 @@
 -- A turn of a command of any kind, over all devices.
 --
--- Commands on brokers' logs and the registry leave the remote tier as it is (the crate `partition_commands` has their rows).
+-- Commands on brokers' logs and the registry leave the remote tier as it is (the crate `partition_commands` has their
+-- rows).
 use Rattle.std.specs.Prelude.{◌≡◌, ◌⊎◌, ◌<◌, ◌≤◌, ℕ, ℤ}
 use Rattle.disk_model.specs.declared.disk.Disk.{Ghosts as DiskGhosts}
 use Rattle.object_store.specs.declared.store.Store.{Ghosts as StoreGhosts}
@@ -33,7 +34,8 @@ use Rattle.partition_world.specs.declared.tier.RemoteTier.{RemoteTier}
 use Rattle.partition_world.specs.declared.actor_state.Outcome.{Outcome}
 use Rattle.partition_world.specs.declared.actor_state.Outcome.TheVariants.{Answers}
 use Rattle.partition_world.specs.declared.actor_state.InProgress.{InProgress}
-use Rattle.partition_world.specs.declared.actor_state.InProgress.TheVariants.{Idle, Noted, Copies, Seeks, Dates, Expires, Rebuilds}
+use Rattle.partition_world.specs.declared.actor_state.InProgress.TheVariants.{Idle, Noted, Copies, Seeks}
+use Rattle.partition_world.specs.declared.actor_state.InProgress.TheVariants.{Dates, Expires, Rebuilds}
 use Rattle.partition_world.specs.Tier.{AtBrokerTier, HaltsRefresh}
 use Rattle.partition_world.specs.ActorStates.{outcome_of}
 use Rattle.partition_world.specs.TurnsOfCopy.{CopyFirstRow, ChooseRow, CopyOnRow, WantsForCopy}
@@ -171,8 +173,8 @@ module _ {D S M : Type 0} (disk : DiskGhosts D) (store : StoreGhosts S) (meta : 
       AtNode h b (λ x. AtBrokerTier t b
       (λ broker_tier. Row p config h t b x broker_tier in_progress command outcome h' t'))
 
--- What a turn leaves that finds no memory: what its own calls of the tier may leave, by its command and by what its actor's state has.
--- A turn that makes none leaves the tier as it was.
+-- What a turn leaves that finds no memory: what its own calls of the tier may leave, by its command and by what its
+-- actor's state has. A turn that makes none leaves the tier as it was.
 module _ {S M : Type 0} (meta : MetaGhosts M) where
   -- a command's first turn has refreshed its broker's view in part
   abbrev pub BeginHalts : RemoteTier S M → ℕ → BrokerTierState → Command → RemoteTier S M → Type 0

@@ -8,7 +8,8 @@
 -- A broker that has stopped, or has another role than at the first turn, has lost its lead. Of the broker's log only
 -- the second turn takes notice, and reads it. Where segments aren't copied no copy begins; one that has begun
 -- continues.
-use Rattle.std.specs.Prelude.{◌≡◌, ◌⊎◌, ℕ, ◌-◌, ◌^◌, ◌<◌, ◌&&◌, Bool, true, false, max, Option, Some, None, Ok, Err, IsSomeAnd}
+use Rattle.std.specs.Prelude.{◌≡◌, ◌⊎◌, ℕ, ◌-◌, ◌^◌, ◌<◌, ◌&&◌, Bool, true, false}
+use Rattle.std.specs.Prelude.{max, Option, Some, None, Ok, Err, IsSomeAnd}
 use Rattle.std.specs.declared.alloc.AllocError.{AllocError}
 use Rattle.tier_base.specs.declared.names.PartitionId.{PartitionId}
 use Rattle.tier_base.specs.declared.plain.FileName.{FileName}
@@ -30,11 +31,13 @@ use Rattle.copy_task.specs.Copying.{Copied, IsCopied}
 use Rattle.copy_task.specs.Turns.{Tiers, CopyTurnRow}
 use Rattle.copy_task.specs.declared.turn.CopyStep.{CopyStep}
 use Rattle.plain_log.specs.declared.turn.Turn.{Turn}
-use Rattle.plain_log.specs.declared.answer.Answer.TheVariants.{Down, NotLeader, CopyOff, MetaFault, LostLead, Level, DiskFault, Damaged}
+use Rattle.plain_log.specs.declared.answer.Answer.TheVariants.{Down, NotLeader, CopyOff, MetaFault}
+use Rattle.plain_log.specs.declared.answer.Answer.TheVariants.{LostLead, Level, DiskFault, Damaged}
 use Rattle.plain_log.specs.declared.answer.Place.TheVariants.{File}
 use Rattle.plain_log.specs.State.{leads}
 use Rattle.tier_safe.specs.Views.{IsIdOf}
-use Rattle.broker_log.specs.Seen.{LogState, LogSeen, ShowsSeen, LogStays, WhileUp, OnDisk, Lasting, NoFault, OneFault, closed_in, incarnation_in}
+use Rattle.broker_log.specs.Seen.{LogState, LogSeen, ShowsSeen, LogStays, WhileUp, OnDisk, Lasting}
+use Rattle.broker_log.specs.Seen.{NoFault, OneFault, closed_in, incarnation_in}
 use Rattle.broker_log.specs.Read.{IsSegmentOf}
 use Rattle.laws_partition.specs.declared.start_snapshot.StartSnapshot.{StartSnapshot}
 use Rattle.partition_commands.specs.declared.partition_state.Node.{Node}
@@ -69,7 +72,8 @@ module _ {D : Type 0} where
   origin_of h b = record { broker = record { 0 = b }; now = h.clock }
 
   -- what the node's next copy is of: this segment, under the next id
-  pub record IsNextCopy (p : PartitionId) (b : ℕ) (x : Node D) (broker_tier : BrokerTierState) (segment : ClosedSegment) (copy : Copied) : Type 0 where
+  pub record IsNextCopy (p : PartitionId) (b : ℕ) (x : Node D) (broker_tier : BrokerTierState) (segment : ClosedSegment)
+      (copy : Copied) : Type 0 where
     pub is : IsCopied copy
     pub segment_is : copy.segment ≡ segment
     pub partition_is : copy.partition ≡ p
@@ -160,7 +164,8 @@ module _ {D : Type 0} (disk : DiskGhosts D) where
 
 module _ {D S M : Type 0} (disk : DiskGhosts D) where
   -- there is a segment to copy, and it is read
-  pub record ReadsNext (p : PartitionId) (h : PartitionState D) (t : RemoteTier S M) (b : ℕ) (x : Node D) (broker_tier : BrokerTierState) (outcome : Outcome)
+  pub record ReadsNext (p : PartitionId) (h : PartitionState D) (t : RemoteTier S M) (b : ℕ) (x : Node D)
+      (broker_tier : BrokerTierState) (outcome : Outcome)
       (h' : PartitionState D) (t' : RemoteTier S M) : Type 0 where
     pub there : IsSomeAnd (next_segment h x broker_tier) (λ segment. Unit {0})
     pub node : Node D
@@ -197,7 +202,8 @@ module _ {D S M : Type 0} (store : StoreGhosts S) (meta : MetaGhosts M) where
     }) b (record broker_tier { view = view })
 
   -- it ran out of memory
-  pub record WantsForCopy (h : PartitionState D) (t : RemoteTier S M) (b : ℕ) (broker_tier : BrokerTierState) (copy : Copied) (next : CopyStep) (t' : RemoteTier S M)
+  pub record WantsForCopy (h : PartitionState D) (t : RemoteTier S M) (b : ℕ) (broker_tier : BrokerTierState)
+      (copy : Copied) (next : CopyStep) (t' : RemoteTier S M)
       : Type 0 where
     pub view : View
     pub error : AllocError

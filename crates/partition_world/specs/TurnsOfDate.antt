@@ -6,7 +6,8 @@
 -- log, or below it and for a piece that was found there among the remote segments.
 --
 -- Source: Kafka's ListOffsets by timestamp, which KIP-405 extends to remote segments.
-use Rattle.std.specs.Prelude.{◌≡◌, ◌≢◌, ℕ, ◌<◌, ◌≤◌, ◌^◌, max, nat_lt, nat_le, if◌then◌else◌, ℤ, Bool, true, false, List, Ok, Err}
+use Rattle.std.specs.Prelude.{◌≡◌, ◌≢◌, ℕ, ◌<◌, ◌≤◌, ◌^◌, max, nat_lt, nat_le}
+use Rattle.std.specs.Prelude.{if◌then◌else◌, ℤ, Bool, true, false, List, Ok, Err}
 use Rattle.std.specs.declared.alloc.AllocError.{AllocError}
 use Rattle.tier_base.specs.declared.names.PartitionId.{PartitionId}
 use Rattle.disk_model.specs.declared.disk.Disk.{Ghosts as DiskGhosts}
@@ -77,23 +78,27 @@ module _ {D : Type 0} (disk : DiskGhosts D) where
 
 module _ {S M : Type 0} (store : StoreGhosts S) (meta : MetaGhosts M) where
   -- a turn among the remote segments, and nothing else changes
-  pub record SearchesRemote (t : RemoteTier S M) (b : ℕ) (broker_tier : BrokerTierState) (line : List (ℕ × ℕ)) (asked : Asked) (cursor : ℕ) (next : SearchStep)
+  pub record SearchesRemote (t : RemoteTier S M) (b : ℕ) (broker_tier : BrokerTierState) (line : List (ℕ × ℕ))
+      (asked : Asked) (cursor : ℕ) (next : SearchStep)
       (turn : Turn (ℕ × SearchStep)) (t' : RemoteTier S M) : Type 0 where
     pub view : View
     pub cache : Cache
     pub row : TimeRow store.content store.control meta.content meta.control asked line cursor next (Ok turn)
         (fetch_tiers broker_tier.view broker_tier.cache t) (fetch_tiers view cache t')
-    pub after : t' ≡ put_broker_tier (record t { store = t'.store; meta = t'.meta }) b (record broker_tier { view = view; cache = cache })
+    pub after : t' ≡ put_broker_tier (record t { store = t'.store; meta = t'.meta }) b
+        (record broker_tier { view = view; cache = cache })
 
   -- it ran out of memory
-  pub record WantsForDate (t : RemoteTier S M) (b : ℕ) (broker_tier : BrokerTierState) (line : List (ℕ × ℕ)) (asked : Asked) (cursor : ℕ) (next : SearchStep)
+  pub record WantsForDate (t : RemoteTier S M) (b : ℕ) (broker_tier : BrokerTierState) (line : List (ℕ × ℕ))
+      (asked : Asked) (cursor : ℕ) (next : SearchStep)
       (t' : RemoteTier S M) : Type 0 where
     pub view : View
     pub cache : Cache
     pub error : AllocError
     pub row : TimeRow store.content store.control meta.content meta.control asked line cursor next (Err error)
         (fetch_tiers broker_tier.view broker_tier.cache t) (fetch_tiers view cache t')
-    pub after : t' ≡ put_broker_tier (record t { store = t'.store; meta = t'.meta }) b (record broker_tier { view = view; cache = cache })
+    pub after : t' ≡ put_broker_tier (record t { store = t'.store; meta = t'.meta }) b
+        (record broker_tier { view = view; cache = cache })
 
 module _ {D S M : Type 0} (disk : DiskGhosts D) (store : StoreGhosts S) (meta : MetaGhosts M) where
   -- a turn of a search from a cursor on, in the local log or not
@@ -105,18 +110,22 @@ module _ {D S M : Type 0} (disk : DiskGhosts D) (store : StoreGhosts S) (meta : 
       SearchesRemote store meta t b broker_tier (line_of x) asked cursor next turn t' × (h' ≡ h)
 
   -- the broker leads as it did, and the search continues where it is resumed, below the known high watermark
-  pub record SearchesOn (p : PartitionId) (h : PartitionState D) (t : RemoteTier S M) (b : ℕ) (x : Node D) (broker_tier : BrokerTierState) (g : StartSnapshot) (ts : ℤ)
+  pub record SearchesOn (p : PartitionId) (h : PartitionState D) (t : RemoteTier S M) (b : ℕ) (x : Node D)
+      (broker_tier : BrokerTierState) (g : StartSnapshot) (ts : ℤ)
       (cursor : ℕ) (next : SearchStep) (turn : Turn (ℕ × SearchStep)) (h' : PartitionState D) (t' : RemoteTier S M)
       : Type 0 where
     pub keeps : KeepsLead x g
     pub below : resumed_at h.registry.start cursor < x.known_high_watermark
     -- an offset has 64 bits
     pub fits : resumed_at h.registry.start cursor < 2 ^ 64
-    pub row : SearchRow h t b x broker_tier (asked_of p h x ts) (resumed_at h.registry.start cursor) (resumed_with h.registry.start cursor next)
-        (is_own (local_of x) (resumed_at h.registry.start cursor) (resumed_with h.registry.start cursor next)) turn h' t'
+    pub row : SearchRow h t b x broker_tier (asked_of p h x ts) (resumed_at h.registry.start cursor)
+        (resumed_with h.registry.start cursor next)
+        (is_own (local_of x) (resumed_at h.registry.start cursor) (resumed_with h.registry.start cursor next)) turn h'
+        t'
 
   -- offset of a timestamp, a later turn of one that has come to this cursor with this
-  abbrev pub DateOnRow : PartitionId → PartitionState D → RemoteTier S M → ℕ → Node D → BrokerTierState → StartSnapshot → ℤ → ℕ → SearchStep → Outcome → PartitionState D → RemoteTier S M → Type 0
+  abbrev pub DateOnRow : PartitionId → PartitionState D → RemoteTier S M → ℕ → Node D → BrokerTierState → StartSnapshot
+      → ℤ → ℕ → SearchStep → Outcome → PartitionState D → RemoteTier S M → Type 0
   DateOnRow p h t b x broker_tier g ts cursor next (Answers Stopped) h' t' = HasStopped x g × (h' ≡ h) × (t' ≡ t)
   DateOnRow p h t b x broker_tier g ts cursor next (Answers NotLeader) h' t' =
       (g.stops ≡ x.stops) × (is_up x ≡ true) × (g.role ≢ x.role) × (h' ≡ h) × (t' ≡ t)

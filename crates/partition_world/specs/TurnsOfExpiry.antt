@@ -11,8 +11,9 @@
 -- what its local log has. Where segments aren't copied any more, so that the local log continues where the pieces end,
 -- its closed segments count as they do. Local logs stay as they are.
 --
--- Source: KIP-405, where the leader alone deletes remote segments, and by the retention of the whole log moves its start; and
--- KIP-950, by which a topic whose tiered storage is disabled for writing keeps what it has there under the same retention.
+-- Source: KIP-405, where the leader alone deletes remote segments, and by the retention of the whole log moves its
+-- start; and KIP-950, by which a topic whose tiered storage is disabled for writing keeps what it has there under the
+-- same retention.
 use Rattle.std.specs.Prelude.{◌≡◌, ◌⊎◌, ℕ, List, Option, Some, None, option_map, unwrap_or, Ok, Err}
 use Rattle.std.specs.declared.alloc.AllocError.{AllocError}
 use Rattle.tier_base.specs.declared.names.PartitionId.{PartitionId}
@@ -145,7 +146,8 @@ module _ {D S M : Type 0} (store : StoreGhosts S) (meta : MetaGhosts M) where
     pub after : t' ≡ record t { store = t'.store; meta = t'.meta }
 
   -- it ran out of memory
-  pub record WantsForDeletion (h : PartitionState D) (t : RemoteTier S M) (b : ℕ) (expired_segment : ExpiredSegment) (next : DeletionStep) (t' : RemoteTier S M) : Type 0 where
+  pub record WantsForDeletion (h : PartitionState D) (t : RemoteTier S M) (b : ℕ) (expired_segment : ExpiredSegment)
+      (next : DeletionStep) (t' : RemoteTier S M) : Type 0 where
     pub error : AllocError
     pub row : ExpiryRow store.content store.control meta.content meta.control expired_segment (origin_of h b) next
         (Err error)

@@ -51,7 +51,8 @@ module _ {D : Type 0} where
 
   -- what the fetch asks for at this turn
   abbrev pub wanted_of : PartitionId → Node D → ℕ → ℕ → FetchRequest
-  wanted_of p x offset limit = record { partition = p; offset = offset; limit = limit; log_end = end_of x; mark = x.known_high_watermark }
+  wanted_of p x offset limit =
+      record { partition = p; offset = offset; limit = limit; log_end = end_of x; mark = x.known_high_watermark }
 
 -- what a turn of a fetch changes
 abbrev pub fetch_tiers : {S M : Type 0} → View → Cache → RemoteTier S M → Tiers S M
@@ -59,26 +60,33 @@ fetch_tiers view cache t = record { view = view; cache = cache; store = t.store;
 
 module _ {D S M : Type 0} (store : StoreGhosts S) (meta : MetaGhosts M) where
   -- a turn of the fetch's row, and nothing else changes
-  pub record GoesOnFetch (p : PartitionId) (t : RemoteTier S M) (b : ℕ) (x : Node D) (broker_tier : BrokerTierState) (offset limit : ℕ) (next : FetchStep)
+  pub record GoesOnFetch (p : PartitionId) (t : RemoteTier S M) (b : ℕ) (x : Node D) (broker_tier : BrokerTierState)
+      (offset limit : ℕ) (next : FetchStep)
       (turn : Turn FetchStep) (t' : RemoteTier S M) : Type 0 where
     pub view : View
     pub cache : Cache
-    pub row : RemoteFetchRow store.content store.control meta.content meta.control (wanted_of p x offset limit) (line_of x) next (Ok turn)
+    pub row : RemoteFetchRow store.content store.control meta.content meta.control (wanted_of p x offset limit)
+        (line_of x) next (Ok turn)
         (fetch_tiers broker_tier.view broker_tier.cache t) (fetch_tiers view cache t')
-    pub after : t' ≡ put_broker_tier (record t { store = t'.store; meta = t'.meta }) b (record broker_tier { view = view; cache = cache })
+    pub after : t' ≡ put_broker_tier (record t { store = t'.store; meta = t'.meta }) b
+        (record broker_tier { view = view; cache = cache })
 
   -- it ran out of memory
-  pub record WantsForFetch (p : PartitionId) (t : RemoteTier S M) (b : ℕ) (x : Node D) (broker_tier : BrokerTierState) (offset limit : ℕ) (next : FetchStep)
+  pub record WantsForFetch (p : PartitionId) (t : RemoteTier S M) (b : ℕ) (x : Node D) (broker_tier : BrokerTierState)
+      (offset limit : ℕ) (next : FetchStep)
       (t' : RemoteTier S M) : Type 0 where
     pub view : View
     pub cache : Cache
     pub error : AllocError
-    pub row : RemoteFetchRow store.content store.control meta.content meta.control (wanted_of p x offset limit) (line_of x) next (Err error)
+    pub row : RemoteFetchRow store.content store.control meta.content meta.control (wanted_of p x offset limit)
+        (line_of x) next (Err error)
         (fetch_tiers broker_tier.view broker_tier.cache t) (fetch_tiers view cache t')
-    pub after : t' ≡ put_broker_tier (record t { store = t'.store; meta = t'.meta }) b (record broker_tier { view = view; cache = cache })
+    pub after : t' ≡ put_broker_tier (record t { store = t'.store; meta = t'.meta }) b
+        (record broker_tier { view = view; cache = cache })
 
   -- fetch, a later turn
-  abbrev pub FetchOnRow : PartitionId → PartitionState D → RemoteTier S M → ℕ → Node D → BrokerTierState → StartSnapshot → ℕ → ℕ → FetchStep → Outcome → RemoteTier S M → Type 0
+  abbrev pub FetchOnRow : PartitionId → PartitionState D → RemoteTier S M → ℕ → Node D → BrokerTierState → StartSnapshot
+      → ℕ → ℕ → FetchStep → Outcome → RemoteTier S M → Type 0
   FetchOnRow p h t b x broker_tier g offset limit next (Answers Stopped) t' = HasStopped x g × (t' ≡ t)
   FetchOnRow p h t b x broker_tier g offset limit next (Answers NotLeader) t' =
       (g.stops ≡ x.stops) × (is_up x ≡ true) × (g.role ≢ x.role) × (t' ≡ t)

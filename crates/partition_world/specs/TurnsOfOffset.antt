@@ -34,7 +34,8 @@ module _ {D : Type 0} where
   -- is there
   abbrev pub tiered_offset : PartitionState D → Node D → BrokerTierState → Option ℕ
   tiered_offset h x broker_tier =
-      if copied_to x broker_tier h.registry.start == h.registry.start then None else Some (copied_to x broker_tier h.registry.start - 1)
+      if copied_to x broker_tier h.registry.start == h.registry.start then None else Some
+      (copied_to x broker_tier h.registry.start - 1)
 
   -- the answer of its second turn, where it has kept its lead
   abbrev pub TellsTiered : PartitionState D → Node D → BrokerTierState → Answer → Type 0

@@ -10,8 +10,8 @@
 -- second turn restarts the log at once, with the leader's leader epochs. The tests are repeated at each turn, in their
 -- order. What the last turn comes to the crate `partition_commands` says, of what was recorded.
 --
--- Source: KIP-405, where a follower whose fetch offset has moved to tiered storage truncates its log, builds its leader epochs out
--- of remote storage, and fetches on from the leader's local log start offset.
+-- Source: KIP-405, where a follower whose fetch offset has moved to tiered storage truncates its log, builds its
+-- leader epochs out of remote storage, and fetches on from the leader's local log start offset.
 use Rattle.std.specs.Prelude.{◌≡◌, ◌⊎◌, ℕ, ◌<◌, ◌≤◌, List, [], Ok, Err}
 use Rattle.std.specs.declared.alloc.AllocError.{AllocError}
 use Rattle.tier_base.specs.declared.names.PartitionId.{PartitionId}

@@ -40,14 +40,16 @@ item_of segment = record { last = segment_end segment - 1; size = size_of segmen
 module _ {D : Type 0} where
   -- the local rule of retention takes the first closed segment, at this time, where the log starts so
   abbrev pub IsDue : Node D → ℕ → ℤ → Keep → Type 0
-  IsDue x start now keep = WhileUp x.log (λ log. local_due (map item_of log.closed) (size_of log.active) now keep start ≡ true)
+  IsDue x start now keep =
+      WhileUp x.log (λ log. local_due (map item_of log.closed) (size_of log.active) now keep start ≡ true)
 
   -- the first closed segment of the local log may go
   pub record MayTrim (h : PartitionState D) (x : Node D) (broker_tier : BrokerTierState) (keep : Keep) : Type 0 where
     pub flushed_end : MayDropFirst x
     pub known_high_watermark : IsSomeAnd (slice_get (closed_in x.log) 0)
         (λ segment. segment_end segment ≤ x.known_high_watermark)
-    pub copied : IsSomeAnd (slice_get (closed_in x.log) 0) (λ segment. segment_end segment ≤ copied_to x broker_tier h.registry.start)
+    pub copied : IsSomeAnd (slice_get (closed_in x.log) 0)
+        (λ segment. segment_end segment ≤ copied_to x broker_tier h.registry.start)
     pub due : IsDue x h.registry.start h.clock keep
 
 -- trim, first turn

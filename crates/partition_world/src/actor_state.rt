@@ -1,7 +1,9 @@
 //! How far an actor has come, what is kept of its command between two turns, and what a turn came to.
 
 ghost use Rattle.std.specs.Prelude.{◌≡◌};
-ghost use Rattle.partition_world.specs.ActorStates.{chosen, moved, sought, dated, expired_segment, deleting, rebuilding, outcome_of, copy_outcome, fetch_outcome, date_outcome, expiry_outcome, rebuild_outcome};
+ghost use Rattle.partition_world.specs.ActorStates.{chosen, moved, sought, dated, expired_segment, deleting};
+ghost use Rattle.partition_world.specs.ActorStates.{rebuilding, outcome_of, copy_outcome, fetch_outcome};
+ghost use Rattle.partition_world.specs.ActorStates.{date_outcome, expiry_outcome, rebuild_outcome};
 
 use copy_task::{CopyStep, Copying};
 use expiry_task::{DeletionStep as Deletion, ExpiredSegment};
@@ -16,7 +18,8 @@ use time_find::SearchStep as Dating;
 pub enum InProgress {
     /// Nothing: it hasn't begun.
     Idle,
-    /// What was recorded where it began. A follow has its run there, and a copy or an expiry has yet to choose its segment.
+    /// What was recorded where it began. A follow has its run there, and a copy or an expiry has yet to choose its
+    /// segment.
     Noted(StartSnapshot),
     /// A copy of a segment, and what it does next.
     Copies(StartSnapshot, Copying, CopyStep),

@@ -3,7 +3,8 @@
 //! The first turn refreshes the leader's view, the second chooses a closed segment and reads it; from the third on the
 //! copy makes a call of a device in each. A broker that has stopped, or has another role, has lost its lead.
 
-ghost use Rattle.std.specs.Prelude.{◌≡◌, ◌↔◌, ◌<◌, ◌&&◌, true, false, None, Some, length, IfOk, OnErr, IsSomeAnd, IsTrue};
+ghost use Rattle.std.specs.Prelude.{◌≡◌, ◌↔◌, ◌<◌, ◌&&◌, true, false, None, Some};
+ghost use Rattle.std.specs.Prelude.{length, IfOk, OnErr, IsSomeAnd, IsTrue};
 ghost use Rattle.tier_safe.specs.Views.{IsIdOf};
 ghost use Rattle.broker_log.specs.Seen.{closed_in, incarnation_in};
 ghost use Rattle.local_log.specs.Reading.{first_past};
@@ -15,7 +16,9 @@ ghost use Rattle.partition_commands.specs.declared.partition_state.Node.{Node as
 ghost use Rattle.partition_commands.specs.Partition.{AtNode, KeepsPartition, is_up, line_of, put_node};
 ghost use Rattle.partition_world.specs.declared.tier.BrokerTierState.{BrokerTierState as Knowledge};
 ghost use Rattle.partition_world.specs.Tier.{AtBrokerTier, next_of, put_broker_tier, HaltsRefresh};
-ghost use Rattle.partition_world.specs.TurnsOfCopy.{KeepsLead, copied_to, IsPackedBy, LeadersFirstRow, CopyFirstRow, ChooseRow, ReadSegmentRow, ReadsQuietly, CopyOnRow, tiers_of, origin_of, WantsForCopy};
+ghost use Rattle.partition_world.specs.TurnsOfCopy.{KeepsLead, copied_to, IsPackedBy, LeadersFirstRow};
+ghost use Rattle.partition_world.specs.TurnsOfCopy.{CopyFirstRow, ChooseRow, ReadSegmentRow, ReadsQuietly};
+ghost use Rattle.partition_world.specs.TurnsOfCopy.{CopyOnRow, tiers_of, origin_of, WantsForCopy};
 
 use crate::actor_state::{Outcome, copy_outcome};
 use crate::tier::{BrokerTierState, RemoteTier};
@@ -94,7 +97,8 @@ fn id_of(partition: PartitionId, broker: BrokerId, incarnation: u32, attempt: u6
     segment_id(partition, broker, incarnation, attempt)
 }
 
-/// Reads the first closed segment that ends past an offset, for a copy under the broker's next id, which is to be packed or not.
+/// Reads the first closed segment that ends past an offset, for a copy under the broker's next id, which is to be
+/// packed or not.
 fn read_next<D: Disk>(
     alloc: Global,
     partition: PartitionId,

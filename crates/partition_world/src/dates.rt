@@ -11,7 +11,8 @@ ghost use Rattle.partition_commands.specs.Partition.{AtNode, KeepsPartition, is_
 ghost use Rattle.partition_world.specs.Tier.{AtBrokerTier};
 ghost use Rattle.partition_world.specs.Turns.{DateHalts, StaysOr};
 ghost use Rattle.partition_world.specs.TurnsOfCopy.{KeepsLead};
-ghost use Rattle.partition_world.specs.TurnsOfDate.{resumed_at, resumed_with, is_own, asked_of, AnswersAtOnce, SearchesOwn, SearchesRemote, WantsForDate, SearchRow, DateOnRow};
+ghost use Rattle.partition_world.specs.TurnsOfDate.{resumed_at, resumed_with, is_own, asked_of, AnswersAtOnce};
+ghost use Rattle.partition_world.specs.TurnsOfDate.{SearchesOwn, SearchesRemote, WantsForDate, SearchRow, DateOnRow};
 
 use crate::actor_state::{Outcome, date_outcome};
 use crate::tier::RemoteTier;
@@ -153,7 +154,8 @@ impl<S: Store, M: MetaLog> RemoteTier<S, M> {
     }
 
     /// Takes a turn of a search from a cursor on.
-    #[tactic(auto, using(crate::proofs::DateRows::own_row, crate::proofs::DateRows::remote_row, crate::proofs::DateRows::remote_stays))]
+    #[tactic(auto, using(crate::proofs::DateRows::own_row, crate::proofs::DateRows::remote_row,
+        crate::proofs::DateRows::remote_stays))]
     fn search<D: Disk>(
         &mut self,
         alloc: Global,

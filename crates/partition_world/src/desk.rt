@@ -1,13 +1,15 @@
 //! The commands in progress: an actor's state for each list, in the order of the lists.
 
-ghost use Rattle.std.specs.Prelude.{◌≡◌, ◌≢◌, ◌<◌, ◌-◌, ◌^◌, ◌++◌, ℕ, length, replicate, slice_get, slice_set, Some, None, IfSome, IfOk, IsSomeAnd, []};
+ghost use Rattle.std.specs.Prelude.{◌≡◌, ◌≢◌, ◌<◌, ◌-◌, ◌^◌, ◌++◌, ℕ, length, replicate, slice_get};
+ghost use Rattle.std.specs.Prelude.{slice_set, Some, None, IfSome, IfOk, IsSomeAnd, []};
 ghost use Rattle.plain_log.specs.declared.command.ActorList.{ActorList};
 ghost use Rattle.partition_world.specs.Fresh.{fresh_actor_state};
 ghost use Rattle.laws_partition.specs.Sound.{turns_left};
 ghost use Rattle.laws_partition.specs.Turn.{event_of};
 ghost use Rattle.laws_partition.specs.declared.start_snapshot.Turned.TheVariants as turned;
 ghost use Rattle.plain_log.specs.declared.journal.Event.TheVariants as event;
-ghost use Rattle.partition_world.specs.declared.actor_state.Outcome.TheVariants.{Chose, Goes, Seeks, Dates, ChoosesExpired, Deletes, Rebuilds};
+ghost use Rattle.partition_world.specs.declared.actor_state.Outcome.TheVariants.{Chose, Goes, Seeks, Dates};
+ghost use Rattle.partition_world.specs.declared.actor_state.Outcome.TheVariants.{ChoosesExpired, Deletes, Rebuilds};
 ghost use Rattle.partition_world.specs.ActorStates.{actor_state_after, told_of, told_count, stepped_of};
 
 use crate::actor_state::{ActorState, InProgress, Outcome};

@@ -11,7 +11,8 @@ ghost use Rattle.plain_log.specs.State.{leads};
 ghost use Rattle.partition_commands.specs.Partition.{AtNode, is_up};
 ghost use Rattle.partition_commands.specs.Sound.{SoundPartition};
 ghost use Rattle.partition_world.specs.Tier.{AtBrokerTier, HaltsRefresh};
-ghost use Rattle.partition_world.specs.TurnsOfExpiry.{rises_to, ExpiryRaiseRow, ExpireFirstRow, ExpireOnRow, DeleteOnRow, WantsForDeletion};
+ghost use Rattle.partition_world.specs.TurnsOfExpiry.{rises_to, ExpiryRaiseRow, ExpireFirstRow};
+ghost use Rattle.partition_world.specs.TurnsOfExpiry.{ExpireOnRow, DeleteOnRow, WantsForDeletion};
 
 use crate::actor_state::{Outcome, expiry_outcome};
 use crate::copies::{keeps_lead, origin};

@@ -3,7 +3,9 @@
 ghost use Rattle.partition_world.specs.Left.{StepsKeepCentralLeft, LeftIsCentral, FreshIsCentralLeft};
 ghost use Rattle.partition_world.specs.Answered.{TurnsAnswerFaults, HaltsMeetNoFault};
 ghost use Rattle.partition_world.specs.Cold.{ReopensCentral};
-ghost use Rattle.partition_world.specs.Laws.{StepsKeepCentral, FreshIsCentral, ReachesLater, EndsAreComplete, ReachesInTurn, EndsAreAnswered, ReopenedRuns, ReachesLasting, ReachesUnfailing, FreshIsUnfailing, ReopenedIsUnfailing};
+ghost use Rattle.partition_world.specs.Laws.{StepsKeepCentral, FreshIsCentral, ReachesLater, EndsAreComplete};
+ghost use Rattle.partition_world.specs.Laws.{ReachesInTurn, EndsAreAnswered, ReopenedRuns, ReachesLasting};
+ghost use Rattle.partition_world.specs.Laws.{ReachesUnfailing, FreshIsUnfailing, ReopenedIsUnfailing};
 
 use disk_model::Disk;
 use meta_log::MetaLog;

@@ -40,8 +40,8 @@ pub enum Want {
     Nothing,
     /// The check of these bytes: the turn is the first of a `raw`.
     Check(Bytes),
-    /// The bundle of this segment: the turn is one of a copy that has none yet. The line is that of the broker's log as the segment was
-    /// chosen, the interval that of its indexes in bytes.
+    /// The bundle of this segment: the turn is one of a copy that has none yet. The line is that of the broker's log
+    /// as the segment was chosen, the interval that of its indexes in bytes.
     Bundle {
         closed: Closed,
         line: Line,

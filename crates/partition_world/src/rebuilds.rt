@@ -11,7 +11,8 @@ ghost use Rattle.plain_log.specs.declared.command.Command.TheVariants.{Join};
 ghost use Rattle.partition_commands.specs.Partition.{AtNode, CanStop, KeepsPartition};
 ghost use Rattle.partition_commands.specs.TurnsOfFollowers.{MayRebuild};
 ghost use Rattle.partition_world.specs.Tier.{AtBrokerTier, HaltsRefresh};
-ghost use Rattle.partition_world.specs.TurnsOfRebuild.{with_line, AnswersAtOnce, RefreshOnRow, EpochsOnRow, WantsForRebuild};
+ghost use Rattle.partition_world.specs.TurnsOfRebuild.{with_line, AnswersAtOnce, RefreshOnRow};
+ghost use Rattle.partition_world.specs.TurnsOfRebuild.{EpochsOnRow, WantsForRebuild};
 ghost use Rattle.partition_world.specs.Turns.{OwnOnRow, JoinSecondRow, StaysOr};
 
 use crate::actor_state::{Outcome, rebuild_outcome};
@@ -115,7 +116,8 @@ impl<S: Store, M: MetaLog> RemoteTier<S, M> {
         requires broker_tier { broker.0 < length self.old.broker_tiers }
         ensures row { IfOk result
             (λ outcome. AtNode partition_state.now broker.0 (λ x. AtBrokerTier self.old broker.0 (λ broker_tier.
-            RefreshOnRow M.MetaLog partition_state.now self.old broker.0 x broker_tier recorded.now outcome self.new))) }
+            RefreshOnRow M.MetaLog partition_state.now self.old broker.0 x broker_tier recorded.now outcome
+            self.new))) }
         ensures err { OnErr result (AtBrokerTier self.old broker.0
             (λ broker_tier. HaltsRefresh M.MetaLog self.old broker.0 broker_tier self.new)) }
     {

@@ -22,7 +22,8 @@ fn run_until<D: Disk, S: Store, M: MetaLog>(
     number: u32,
 ) -> Result<(), AllocError>
     ensures later { IsLater D.Disk S.Store M.MetaLog world.old world.new }
-    ensures reaches { OnOk result ((turns : ℕ) × GoesUntil D.Disk S.Store M.MetaLog world.old actor.0 number turns world.new) }
+    ensures reaches { OnOk result ((turns : ℕ)
+        × GoesUntil D.Disk S.Store M.MetaLog world.old actor.0 number turns world.new) }
 {
     while !world.has_answered(actor, number) {
         match world.step(alloc, actor) {

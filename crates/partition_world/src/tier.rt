@@ -2,7 +2,8 @@
 
 ghost use Rattle.std.specs.Prelude.{◌≡◌, ◌<◌, length, OnOk, OnErr, IsErrOf};
 ghost use Rattle.tier_base.specs.declared.fault.Trouble.TheVariants.{Failed, NoMemory};
-ghost use Rattle.partition_world.specs.Tier.{next_of, counted, AtBrokerTier, RefreshesBroker, FailsToRead, HaltsRefresh, IsArmedTier};
+ghost use Rattle.partition_world.specs.Tier.{next_of, counted, AtBrokerTier, RefreshesBroker};
+ghost use Rattle.partition_world.specs.Tier.{FailsToRead, HaltsRefresh, IsArmedTier};
 
 use disk_model::Disk;
 use index_cache::IndexCache;
@@ -79,7 +80,8 @@ impl<S: Store, M: MetaLog> RemoteTier<S, M> {
         requires { b < length self.old.broker_tiers }
         ensures ok { OnOk result (AtBrokerTier self.old b
             (λ broker_tier. RefreshesBroker M.MetaLog self.old b broker_tier self.new)) }
-        ensures failed { IsErrOf result Failed → AtBrokerTier self.old b (λ broker_tier. FailsToRead M.MetaLog self.old broker_tier self.new) }
+        ensures failed { IsErrOf result Failed → AtBrokerTier self.old b
+            (λ broker_tier. FailsToRead M.MetaLog self.old broker_tier self.new) }
         ensures dry { IsErrOf result NoMemory
             → AtBrokerTier self.old b (λ broker_tier. HaltsRefresh M.MetaLog self.old b broker_tier self.new) }
     {

@@ -1,8 +1,8 @@
 //! The turns of a trim: the first closed segment of a broker's local log goes, where retention takes it and the remote
 //! tier has all of it.
 //!
-//! The first turn refreshes the broker's view, the second one tests the segment and drops it. A broker that follows trims
-//! as one that leads.
+//! The first turn refreshes the broker's view, the second one tests the segment and drops it. A broker that follows
+//! trims as one that leads.
 
 ghost use Rattle.std.specs.Prelude.{◌≡◌, ◌<◌, length, IfOk, OnErr};
 ghost use Rattle.partition_commands.specs.Partition.{AtNode, CanStop, KeepsPartition};

@@ -6,9 +6,13 @@ ghost use Rattle.partition_commands.specs.Partition.{AtNode, CanStop, KeepsParti
 ghost use Rattle.partition_commands.specs.Sound.{SoundPartition};
 ghost use Rattle.partition_world.specs.Tier.{AtBrokerTier};
 ghost use Rattle.partition_commands.specs.Turns.{IsOfTier, takes_memory};
-ghost use Rattle.partition_world.specs.declared.actor_state.InProgress.TheVariants.{Noted, Copies, Seeks, Dates, Expires, Rebuilds};
+ghost use Rattle.partition_world.specs.declared.actor_state.InProgress.TheVariants.{Noted, Copies, Seeks, Dates};
+ghost use Rattle.partition_world.specs.declared.actor_state.InProgress.TheVariants.{Expires, Rebuilds};
 ghost use Rattle.partition_world.specs.Sound.{IsProgressOf};
-ghost use Rattle.partition_world.specs.Turns.{LocalCommandRow, BeginRow, ContinuedRow, CopyLaterRow, SeekingRow, DatingRow, DeletingRow, RebuildingRow, TurnRow, BeginHalts, ContinuedHalts, CopyingHalts, SeekingHalts, DatingHalts, DeletingHalts, RebuildingHalts, StaysOr, StaysTier};
+ghost use Rattle.partition_world.specs.Turns.{LocalCommandRow, BeginRow, ContinuedRow, CopyLaterRow, SeekingRow};
+ghost use Rattle.partition_world.specs.Turns.{DatingRow, DeletingRow, RebuildingRow, TurnRow, BeginHalts};
+ghost use Rattle.partition_world.specs.Turns.{ContinuedHalts, CopyingHalts, SeekingHalts, DatingHalts};
+ghost use Rattle.partition_world.specs.Turns.{DeletingHalts, RebuildingHalts, StaysOr, StaysTier};
 
 use crate::actor_state::{InProgress, Outcome, outcome_of};
 use crate::tier::RemoteTier;
@@ -28,8 +32,8 @@ use tier_fetch::FetchStep as Search;
 use time_find::SearchStep as Dating;
 
 impl<S: Store, M: MetaLog> RemoteTier<S, M> {
-    /// Carries out a turn of a command, of which so much is kept. What is known of a check is used where it is of the command's bytes;
-    /// a copy keeps the bundle that the turn made.
+    /// Carries out a turn of a command, of which so much is kept. What is known of a check is used where it is of the
+    /// command's bytes; a copy keeps the bundle that the turn made.
     pub(crate) fn turn<D: Disk>(
         &mut self,
         alloc: Global,

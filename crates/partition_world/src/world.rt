@@ -7,7 +7,8 @@ ghost use Rattle.tier_base.specs.Device.{Lasts};
 ghost use Rattle.plain_log.specs.Fresh.{fresh as fresh_plain};
 ghost use Rattle.plain_log.specs.Orders.{AreListsFor, IsConfig};
 ghost use Rattle.laws_partition.specs.Sound.{turns_left as entries_left};
-ghost use Rattle.partition_commands.specs.Fresh.{AreFreshDisks, AreInfallibleDisks, AreDisksOf, DisksTell, AllSeen, RefusesDisks};
+ghost use Rattle.partition_commands.specs.Fresh.{AreFreshDisks, AreInfallibleDisks, AreDisksOf};
+ghost use Rattle.partition_commands.specs.Fresh.{DisksTell, AllSeen, RefusesDisks};
 ghost use Rattle.partition_commands.specs.declared.refusal.WorldRefusal.TheVariants as refusal;
 ghost use Rattle.partition_world.specs.Fresh.{IsFresh, IsNewWorld, IsSeenEmpty, AreFreshBooks, fresh_broker_tier};
 ghost use Rattle.plain_log.specs.declared.state.State.{State};
@@ -276,8 +277,8 @@ impl<D: Disk, S: Store, M: MetaLog> World<D, S, M> {
         &self.partition_state.registry
     }
 
-    /// Gives the devices back, the disks in the list in which they came. From those of brokers that are up, or whose logs are seen, a
-    /// log can be opened again, also after a power cut.
+    /// Gives the devices back, the disks in the list in which they came. From those of brokers that are up, or whose
+    /// logs are seen, a log can be opened again, also after a power cut.
     pub fn close(self) -> Devices<D, S, M>
         ensures disks { AreDisksOf self.partition_state.nodes result.disks.items }
         ensures again { DisksReopen D.content self.partition_state.nodes result.disks.items }
@@ -361,7 +362,8 @@ impl<D: Disk, S: Store, M: MetaLog> World<D, S, M> {
         self.step_with(alloc, actor, Ready::Nothing)
     }
 
-    /// Takes the next turn of an actor's commands. What is ready is used where it is of what the turn works on, and dropped otherwise.
+    /// Takes the next turn of an actor's commands. What is ready is used where it is of what the turn works on, and
+    /// dropped otherwise.
     pub fn step_with(&mut self, alloc: Global, actor: ActorId, ready: Ready) -> Stepped
         ensures steps { Steps D.Disk S.Store M.MetaLog self.old actor.0 result self.new }
         ensures central { KeepsCentral D.Disk S.Store M.MetaLog self.old self.new }

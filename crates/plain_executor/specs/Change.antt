@@ -1,5 +1,6 @@
 -- The state after each change that a step makes: p before it, b the broker, x that broker, s its replica.
-use Rattle.std.specs.Prelude.{◌≡◌, ◌<◌, ℕ, Bool, true, false, min, List, [], ◌∷◌, length, take, Option, Some, None, IfSome, unwrap_or, slice_get}
+use Rattle.std.specs.Prelude.{◌≡◌, ◌<◌, ℕ, Bool, true, false, min, List, [], ◌∷◌, length}
+use Rattle.std.specs.Prelude.{take, Option, Some, None, IfSome, unwrap_or, slice_get}
 use Rattle.registry.specs.declared.registry.Replica.{Replica}
 use Rattle.registry.specs.Registry.{elected, elected_alone, shrunk, expanded, started}
 use Rattle.record_batch.specs.Build.{built}
@@ -18,7 +19,9 @@ use Rattle.plain_log.specs.RowsOfLog.{gained}
 use Rattle.plain_log.specs.RowsOfElections.{led}
 use Rattle.plain_log.specs.RowsOfReplicas.{acknowledged}
 use Rattle.plain_executor.specs.declared.change.Change.{Change}
-use Rattle.plain_executor.specs.declared.change.Change.TheVariants.{Same, Breaks, Gains, Flushes, Stops, Opens, Elects, Restarts, Follows, BreaksLead, Leads, Acks, Shrinks, Expands, Starts, Cuts, Extends, BreaksLonger}
+use Rattle.plain_executor.specs.declared.change.Change.TheVariants.{Same, Breaks, Gains, Flushes, Stops, Opens, Elects}
+use Rattle.plain_executor.specs.declared.change.Change.TheVariants.{Restarts, Follows, BreaksLead, Leads, Acks, Shrinks}
+use Rattle.plain_executor.specs.declared.change.Change.TheVariants.{Expands, Starts, Cuts, Extends, BreaksLonger}
 
 -- the batch that a command brings, at no place yet
 abbrev pub batch_in : Command → List ℕ
@@ -32,7 +35,8 @@ path_in p e = unwrap_or (path_of p.paths e) []
 
 -- the broker's log cut to so many batches, which end at n, where it has joined the leader of epoch e
 abbrev pub cut : Broker → ℕ → ℕ → ℕ → Broker
-cut x e count n = record x { role = role.Joined e; log = take count x.log; flushed_end = n; known_high_watermark = min x.known_high_watermark n }
+cut x e count n = record x { role = role.Joined e; log = take count x.log; flushed_end = n; known_high_watermark = min
+    x.known_high_watermark n }
 
 -- the broker acknowledges its flushed end, and the first batches of the current path, so many, are what is committed
 abbrev pub acked : State → ℕ → Broker → Replica → ℕ → State
@@ -45,7 +49,8 @@ changed p b x s command (Breaks flushed_end) = breaks p b (record x { flushed_en
 changed p b x s command (Gains base e) = gained p b x e (stamped (batch_in command) base e)
 changed p b x s command (Flushes n) = put_broker p b (record x { flushed_end = n })
 changed p b x s command Stops = put_broker p b (stopped x)
-changed p b x s command (Opens count n) = put_broker p b (record x { up = true; log = take count x.log; flushed_end = n; loose = false })
+changed p b x s command (Opens count n) =
+    put_broker p b (record x { up = true; log = take count x.log; flushed_end = n; loose = false })
 changed p b x s command Elects = set_registry p (elected p.registry b)
 changed p b x s command (Restarts count) =
     set_registry (record p { committed = take count x.log; unclean = true }) (elected_alone p.registry b x.flushed_end)
@@ -57,7 +62,8 @@ changed p b x s command Shrinks = set_registry p (shrunk p.registry b s)
 changed p b x s command Expands = set_registry p (expanded p.registry b s)
 changed p b x s command (Starts start) = set_registry p (started p.registry start)
 changed p b x s command (Cuts e count n) = put_broker p b (cut x e count n)
-changed p b x s command (Extends e count flushed_end) = put_broker p b (record x { log = take count (path_in p e); flushed_end = flushed_end })
+changed p b x s command (Extends e count flushed_end) =
+    put_broker p b (record x { log = take count (path_in p e); flushed_end = flushed_end })
 changed p b x s command (BreaksLonger e count) = breaks p b (record x { log = take count (path_in p e) })
 
 -- the question is for the offset of a timestamp
@@ -72,19 +78,23 @@ NoneBefore paths e at = (k : ℕ) (path : Path) → k < at → slice_get paths k
 -- the place of the first path of the epoch
 abbrev pub IsPathAt : List Path → ℕ → Option ℕ → Type 0
 IsPathAt paths e None = NoneBefore paths e (length paths)
-IsPathAt paths e (Some at) = NoneBefore paths e at × (at < length paths) × IfSome (slice_get paths at) (λ path. path.epoch ≡ e)
+IsPathAt paths e (Some at) =
+    NoneBefore paths e at × (at < length paths) × IfSome (slice_get paths at) (λ path. path.epoch ≡ e)
 
 -- this holds of the broker and of its replica
 abbrev pub AtBroker : State → ℕ → (Broker → Replica → Type 0) → Type 0
-AtBroker p b P = (x : Broker) (s : Replica) → slice_get p.brokers b ≡ Some x → slice_get p.registry.replicas b ≡ Some s → P x s
+AtBroker p b P =
+    (x : Broker) (s : Replica) → slice_get p.brokers b ≡ Some x → slice_get p.registry.replicas b ≡ Some s → P x s
 
 -- the log of each follower that has joined begins its leader's path
 abbrev pub AreJoined : State → Type 0
-AreJoined p = (b : ℕ) (x : Broker) (e : ℕ) → slice_get p.brokers b ≡ Some x → x.role ≡ role.Joined e → HasOnPath p.paths e x.log
+AreJoined p = (b : ℕ) (x : Broker) (e : ℕ) → slice_get p.brokers b ≡ Some x → x.role ≡ role.Joined e
+    → HasOnPath p.paths e x.log
 
 -- where both logs have the same batch at a place, they have the same ones before it
 abbrev pub AreMatching : List (List ℕ) → List (List ℕ) → Type 0
-AreMatching log other = (k : ℕ) (batch : List ℕ) → slice_get log k ≡ Some batch → slice_get other k ≡ Some batch → take k log ≡ take k other
+AreMatching log other =
+    (k : ℕ) (batch : List ℕ) → slice_get log k ≡ Some batch → slice_get other k ≡ Some batch → take k log ≡ take k other
 
 -- the broker's log matches each path
 abbrev pub MatchesPaths : State → Broker → Type 0

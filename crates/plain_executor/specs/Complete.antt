@@ -26,5 +26,6 @@ pub record IsCompleteRun (config : Config) (lists : List ActorList) (journal : L
 
 -- a run is complete exactly where each actor is at the end of its list after it
 abbrev pub RunsEndComplete : Type 0
-RunsEndComplete = (config : Config) (lists : List ActorList) (journal : List JournalEntry) (run : IsPlainRun config lists journal)
+RunsEndComplete =
+    (config : Config) (lists : List ActorList) (journal : List JournalEntry) (run : IsPlainRun config lists journal)
     → IsComplete lists journal ↔ AreAtEnd lists run.last

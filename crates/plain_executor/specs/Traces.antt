@@ -8,7 +8,8 @@ use Rattle.plain_log.specs.Fresh.{fresh}
 use Rattle.plain_log.specs.Runs.{replay, entry_step, IsPlainRun}
 
 -- the entries before this place are a run, and the one that is there is no step after it
-pub record IsFirstRefused (config : Config) (lists : List ActorList) (journal : List JournalEntry) (place : ℕ) : Type 0 where
+pub record IsFirstRefused (config : Config) (lists : List ActorList) (journal : List JournalEntry)
+    (place : ℕ) : Type 0 where
   pub state : State
   pub entry : JournalEntry
   pub run : replay lists (fresh config) (take place journal) ≡ Some state
@@ -21,7 +22,8 @@ IsRunVerdict config lists journal None = IsPlainRun config lists journal
 IsRunVerdict config lists journal (Some place) = IsFirstRefused config lists journal place
 
 -- the entries before this place lead from p to q, and the one that is there is no step after q
-pub record IsRefusedAt (lists : List ActorList) (p : State) (journal : List JournalEntry) (q : State) (place : ℕ) : Type 0 where
+pub record IsRefusedAt (lists : List ActorList) (p : State) (journal : List JournalEntry) (q : State)
+    (place : ℕ) : Type 0 where
   pub entry : JournalEntry
   pub run : replay lists p (take place journal) ≡ Some q
   pub entry_is : slice_get journal place ≡ Some entry

@@ -110,7 +110,8 @@ fn break_longer(
     requires broker { b < length p.old.brokers }
     requires stops { EachCanStop p.old b }
     requires joined { AreJoined p.old }
-    ensures ok { OnOk result (AtBroker p.old b (λ x s. p.new ≡ breaks p.old b (record x { log = take count (path_in p.old epoch) }))) }
+    ensures ok { OnOk result (AtBroker p.old b
+        (λ x s. p.new ≡ breaks p.old b (record x { log = take count (path_in p.old epoch) }))) }
     ensures err { OnErr result (p.new ≡ p.old) }
 {
     let Some(path) = path(p.paths.as_slice(), epoch) else {

@@ -50,7 +50,8 @@ pub fn is_complete(
 /// Whether a run that ends so is complete.
 fn ends_complete(alloc: Global, plain: &Plain, lists: &[ActorList]) -> Result<bool, AllocError>
     ensures { IfOk result (λ is. (config : ConfigIs) (journal : List Entry)
-        → replay_of lists.now (fresh config) journal ≡ Some plain.now → IsTrue is ↔ IsCompleteRun config lists.now journal) }
+        → replay_of lists.now (fresh config) journal ≡ Some plain.now
+        → IsTrue is ↔ IsCompleteRun config lists.now journal) }
 {
     runs_end_complete();
     let counts = count_orders(alloc, lists)?;

@@ -2,7 +2,8 @@
 //!
 //! Both lists of counts are by the actors' numbers, so that each entry of a journal is looked at once.
 
-ghost use Rattle.std.specs.Prelude.{◌≡◌, ◌↔◌, ◌++◌, ◌∷◌, [], ℕ, List, length, slice_index, false, IsTrue, IfOk, OnOk, if◌then◌else◌, ◌==◌};
+ghost use Rattle.std.specs.Prelude.{◌≡◌, ◌↔◌, ◌++◌, ◌∷◌, [], ℕ, List, length, slice_index};
+ghost use Rattle.std.specs.Prelude.{false, IsTrue, IfOk, OnOk, if◌then◌else◌, ◌==◌};
 ghost use Rattle.plain_log.specs.declared.journal.JournalEntry.{JournalEntry as EntryIs};
 ghost use Rattle.plain_executor.specs.Complete.{AreAnswered, AreCounts};
 

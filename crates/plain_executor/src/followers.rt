@@ -9,7 +9,8 @@ ghost use Rattle.plain_log.specs.declared.command.Command.{Command};
 ghost use Rattle.plain_log.specs.Ends.{common};
 ghost use Rattle.plain_log.specs.Fetch.{is_within};
 ghost use Rattle.plain_log.specs.State.{path_of};
-ghost use Rattle.plain_log.specs.RowsOfFollowers.{is_current, may_follow, cut_to, goes_on, extended, was_passed, rebuilt, copied, later_row, join_row, follow_row};
+ghost use Rattle.plain_log.specs.RowsOfFollowers.{is_current, may_follow, cut_to, goes_on, extended, was_passed};
+ghost use Rattle.plain_log.specs.RowsOfFollowers.{rebuilt, copied, later_row, join_row, follow_row};
 ghost use Rattle.plain_executor.specs.Change.{AreMatching, MatchesPaths, changed, cut, path_in};
 
 use crate::change::{Change, given};
@@ -70,7 +71,8 @@ fn is_going_on(p: &State, x: &Broker, recorded: &PlainSnapshot) -> bool
 fn longer_to(p: &State, x: &Broker, n: u64) -> Option<(u32, usize)>
     requires { (e : ℕ) (path : List (List ℕ)) → path_of p.now.paths e ≡ Some path → IsConsecutive 0 path }
     ensures within { IfSome result (λ at. at.1 ≤ length (path_in p.now at.0)) }
-    ensures is { extended p.now x.now n ≡ option_map (λ at. record x.now { log = take at.1 (path_in p.now at.0) }) result }
+    ensures is { extended p.now x.now n ≡ option_map
+        (λ at. record x.now { log = take at.1 (path_in p.now at.0) }) result }
 {
     let epoch = followed_in(x.role)?;
     let path = path(p.paths.as_slice(), epoch)?;
@@ -107,7 +109,8 @@ fn later(p: &State, x: &Broker, recorded: &PlainSnapshot, answer: &Answer) -> bo
 /// How the log is restarted at n.
 fn rebuilt_to(p: &State, x: &Broker, recorded: &PlainSnapshot, n: u64) -> Option<(u32, usize)>
     requires { (e : ℕ) (path : List (List ℕ)) → path_of p.now.paths e ≡ Some path → IsConsecutive 0 path }
-    ensures { rebuilt p.now x.now recorded.now n ≡ option_map (λ at. record x.now { log = take at.1 (path_in p.now at.0) }) result }
+    ensures { rebuilt p.now x.now recorded.now n
+        ≡ option_map (λ at. record x.now { log = take at.1 (path_in p.now at.0) }) result }
 {
     let at = longer_to(p, x, n)?;
     if is_going_on(p, x, recorded) && !was_passed_by(p, recorded, n) {
@@ -194,7 +197,8 @@ pub(crate) fn join(
     requires paths { (e : ℕ) (path : List (List ℕ)) → path_of p.now.paths e ≡ Some path → IsConsecutive 0 path }
     requires matches { MatchesPaths p.now x.now }
     ensures { (s : Replica) (command : Command)
-        → join_row p.now b x.now (option_copied recorded.entry) answer.now ≡ option_map (changed p.now b x.now s command) result }
+        → join_row p.now b x.now (option_copied recorded.entry) answer.now
+        ≡ option_map (changed p.now b x.now s command) result }
 {
     match recorded {
         None => join_first(p, b, x, answer),
@@ -252,7 +256,8 @@ fn copied_to(
     n: u64,
 ) -> Option<(u32, usize)>
     requires { (e : ℕ) (path : List (List ℕ)) → path_of p.now.paths e ≡ Some path → IsConsecutive 0 path }
-    ensures { copied p.now x.now recorded.now limit n ≡ option_map (λ at. record x.now { log = take at.1 (path_in p.now at.0) }) result }
+    ensures { copied p.now x.now recorded.now limit n
+        ≡ option_map (λ at. record x.now { log = take at.1 (path_in p.now at.0) }) result }
 {
     let (epoch, count) = longer_to(p, x, n)?;
     let path = path(p.paths.as_slice(), epoch)?;
@@ -273,7 +278,8 @@ pub(crate) fn follow(
 ) -> Option<Change>
     requires { (e : ℕ) (path : List (List ℕ)) → path_of p.now.paths e ≡ Some path → IsConsecutive 0 path }
     ensures { (b : ℕ) (s : Replica) (command : Command)
-        → follow_row p.now b x.now limit (option_copied recorded.entry) answer.now ≡ option_map (changed p.now b x.now s command) result }
+        → follow_row p.now b x.now limit (option_copied recorded.entry) answer.now
+        ≡ option_map (changed p.now b x.now s command) result }
 {
     match recorded {
         None => given(follow_first(p, x, answer), Change::Same),
@@ -291,7 +297,8 @@ fn follow_later(
 ) -> Option<Change>
     requires { (e : ℕ) (path : List (List ℕ)) → path_of p.now.paths e ≡ Some path → IsConsecutive 0 path }
     ensures { (b : ℕ) (s : Replica) (command : Command)
-        → follow_row p.now b x.now limit (Some recorded.now) answer.now ≡ option_map (changed p.now b x.now s command) result }
+        → follow_row p.now b x.now limit (Some recorded.now) answer.now
+        ≡ option_map (changed p.now b x.now s command) result }
 {
     match answer {
         Answer::TooManySegments => given(is_going_on(p, x, recorded), Change::Same),

@@ -1,6 +1,7 @@
 //! The rows of commands to a broker's own log, and of its stops.
 
-ghost use Rattle.std.specs.Prelude.{◌≡◌, ◌==◌, ◌&&◌, ◌+◌, ℕ, List, ◌-◌, ◌≤◌, take, length, option_map, Result, Ok, Err, Some, IsOk};
+ghost use Rattle.std.specs.Prelude.{◌≡◌, ◌==◌, ◌&&◌, ◌+◌, ℕ, List, ◌-◌, ◌≤◌, take, length};
+ghost use Rattle.std.specs.Prelude.{option_map, Result, Ok, Err, Some, IsOk};
 ghost use Rattle.log_terms.specs.Batch.{last_offset_delta_of};
 ghost use Rattle.log_terms.specs.Log.{end_of, up_to, IsConsecutive};
 ghost use Rattle.record_batch.specs.Check.{checked};
@@ -10,7 +11,8 @@ ghost use Rattle.registry.specs.declared.registry.Replica.{Replica};
 ghost use Rattle.plain_log.specs.declared.state.State.{State};
 ghost use Rattle.plain_log.specs.declared.command.Command.{Command};
 ghost use Rattle.plain_log.specs.Causes.{same_cause};
-ghost use Rattle.plain_log.specs.RowsOfLog.{has_room, append_row, raw_row, flush_row, roll_row, stop_row, up_row, may_open_at};
+ghost use Rattle.plain_log.specs.RowsOfLog.{has_room, append_row, raw_row, flush_row};
+ghost use Rattle.plain_log.specs.RowsOfLog.{roll_row, stop_row, up_row, may_open_at};
 ghost use Rattle.plain_executor.specs.Change.{changed, batch_in};
 
 use crate::bytes_of::last_delta;

@@ -3,7 +3,8 @@
 //! What takes memory comes first, so that a change for which there is none leaves the state as it was. A count of stops
 //! has 64 bits: a broker whose count is at its end isn't changed.
 
-ghost use Rattle.std.specs.Prelude.{◌≡◌, ◌<◌, ◌≤◌, ◌^◌, ◌-◌, ◌++◌, ◌∷◌, true, false, take, length, Some, slice_get, slice_set, OnOk, OnErr, IfOk};
+ghost use Rattle.std.specs.Prelude.{◌≡◌, ◌<◌, ◌≤◌, ◌^◌, ◌-◌, ◌++◌, ◌∷◌, true, false, take};
+ghost use Rattle.std.specs.Prelude.{length, Some, slice_get, slice_set, OnOk, OnErr, IfOk};
 ghost use mathlib.Core.List.{IsPrefix};
 ghost use Rattle.registry.specs.Registry.{epoch_limit, elected};
 ghost use Rattle.record_batch.specs.Build.{built, IsBuildable};

@@ -47,7 +47,8 @@ pub(crate) fn restart(
     requires replica { broker.0 < length p.old.registry.replicas }
     requires epoch { p.old.registry.epoch ≤ epoch_limit }
     ensures ok { OnOk result (AtBroker p.old broker.0 (λ x s. p.new
-        ≡ set_registry (record p.old { committed = take count x.log; unclean = true }) (elected_alone p.old.registry broker.0 x.flushed_end))) }
+        ≡ set_registry (record p.old { committed = take count x.log; unclean = true })
+        (elected_alone p.old.registry broker.0 x.flushed_end))) }
     ensures err { OnErr result (p.new ≡ p.old) }
 {
     let x = p.brokers.get(broker.0 as usize);

@@ -4,7 +4,8 @@ ghost use Rattle.std.specs.Prelude.{◌≡◌, ◌≤◌, ◌+◌, ◌^◌, ◌<
 ghost use Rattle.std.specs.Option.{option_copied};
 ghost use Rattle.log_terms.specs.Log.{IsConsecutive, joined, from_offset, end_of};
 ghost use Rattle.registry.specs.Calls.{when};
-ghost use Rattle.plain_log.specs.Fetch.{is_on, serves, in_range, gives_run, fitting, run_of, is_within, stops_rightly, is_run};
+ghost use Rattle.plain_log.specs.Fetch.{is_on, serves, in_range, gives_run, fitting, run_of};
+ghost use Rattle.plain_log.specs.Fetch.{is_within, stops_rightly, is_run};
 ghost use Rattle.plain_executor.specs.Change.{is_timed};
 ghost use Rattle.plain_log.specs.RowsOfReads.{fetch_row, offset_row, offset_at, first_at, is_offset_of, is_long};
 

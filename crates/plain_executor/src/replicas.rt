@@ -1,6 +1,7 @@
 //! The rows of acknowledgements, and of the replicas in sync.
 
-ghost use Rattle.std.specs.Prelude.{◌≡◌, ◌<◌, ◌&&◌, not, true, is_some, ℕ, List, length, min, Some, slice_get, slice_set, option_map, unwrap_or, if◌then◌else◌};
+ghost use Rattle.std.specs.Prelude.{◌≡◌, ◌<◌, ◌&&◌, not, true, is_some, ℕ, List, length, min, Some};
+ghost use Rattle.std.specs.Prelude.{slice_get, slice_set, option_map, unwrap_or, if◌then◌else◌};
 ghost use Rattle.log_terms.specs.Log.{IsConsecutive};
 ghost use Rattle.registry.specs.Replicas.{least_acked};
 ghost use Rattle.registry.specs.Registry.{with_ack};

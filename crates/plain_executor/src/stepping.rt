@@ -1,6 +1,7 @@
 //! A step of the state: an entry of a journal is tested, and what it changes is made.
 
-ghost use Rattle.std.specs.Prelude.{◌≡◌, ◌<◌, ◌≤◌, ◌+◌, ℕ, vec_len, vec_capacity, length, Some, slice_get, IfOk, OnOk, OnErr, is_some, option_map};
+ghost use Rattle.std.specs.Prelude.{◌≡◌, ◌<◌, ◌≤◌, ◌+◌, ℕ, vec_len, vec_capacity, length, Some};
+ghost use Rattle.std.specs.Prelude.{slice_get, IfOk, OnOk, OnErr, is_some, option_map};
 ghost use Rattle.std.specs.Option.{option_copied};
 ghost use Rattle.registry.specs.Calls.{when};
 ghost use Rattle.registry.specs.Registry.{epoch_limit};
@@ -175,7 +176,8 @@ fn answer(
     requires broker { order.now.broker.0 < length p.old.brokers }
     requires replica { order.now.broker.0 < length p.old.registry.replicas }
     ensures ok { IfOk result (λ taken. AtBroker p.old order.now.broker.0 (λ x s.
-        Stepped p.old p.new (event_step p.old id.0 (actor_at p.old.actors id.0) order.now x s (event.Answers answer.now)) taken)) }
+        Stepped p.old p.new (event_step p.old id.0 (actor_at p.old.actors id.0) order.now x s
+          (event.Answers answer.now)) taken)) }
     ensures err { OnErr result (p.new ≡ p.old) }
 {
     let Some(change) = decided(p, order, id, answer) else {
@@ -230,7 +232,8 @@ fn begin(
     requires broker { order.now.broker.0 < length p.old.brokers }
     requires replica { order.now.broker.0 < length p.old.registry.replicas }
     ensures ok { IfOk result (λ taken. AtBroker p.old order.now.broker.0 (λ x s.
-        Stepped p.old p.new (event_step p.old id.0 (actor_at p.old.actors id.0) order.now x s (event.Begins cut)) taken)) }
+        Stepped p.old p.new (event_step p.old id.0 (actor_at p.old.actors id.0) order.now x s (event.Begins cut))
+        taken)) }
     ensures err { OnErr result (p.new ≡ p.old) }
 {
     if has_begun(p, id.0 as usize) {

@@ -8,7 +8,8 @@ ghost use Rattle.registry.specs.declared.refusal.RegRefusal.TheVariants as refus
 ghost use Rattle.plain_log.specs.declared.command.Command.{Command};
 ghost use Rattle.plain_log.specs.declared.state.Broker.{Broker};
 ghost use Rattle.plain_log.specs.State.{left_by};
-ghost use Rattle.plain_log.specs.RowsOfTiers.{copy_row, trim_row, expire_row, raise_row, raised_by, silent_row, keeps_lead};
+ghost use Rattle.plain_log.specs.RowsOfTiers.{copy_row, trim_row, expire_row, raise_row};
+ghost use Rattle.plain_log.specs.RowsOfTiers.{raised_by, silent_row, keeps_lead};
 ghost use Rattle.plain_executor.specs.Change.{changed};
 
 use crate::change::{Change, given};
@@ -58,7 +59,8 @@ pub(crate) fn trim(
     answer: &Answer,
 ) -> Option<Change>
     ensures { (s : Replica) (command : Command)
-        → trim_row p.now b x.now (option_copied recorded.entry) answer.now ≡ option_map (changed p.now b x.now s command) result }
+        → trim_row p.now b x.now (option_copied recorded.entry) answer.now
+        ≡ option_map (changed p.now b x.now s command) result }
 {
     match recorded {
         None => match answer {
@@ -81,7 +83,8 @@ pub(crate) fn trim(
 /// Whether the registry answers a raise of the log start offset so.
 fn is_raise(p: &State, epoch: u32, wanted: u64, answer: Result<u64, RegRefusal>) -> Option<Change>
     ensures { (b : ℕ) (x : Broker) (s : Replica) (command : Command)
-        → left_by p.now (after_raise p.now.registry epoch wanted answer) ≡ option_map (changed p.now b x s command) result }
+        → left_by p.now (after_raise p.now.registry epoch wanted answer)
+        ≡ option_map (changed p.now b x s command) result }
 {
     let r = &p.registry;
     let stale = epoch < r.epoch;
@@ -119,7 +122,8 @@ fn raised(p: &State, x: &Broker, wanted: u64, answer: Result<u64, RegRefusal>) -
 /// What a raise changes whose epoch is stale.
 fn raise_stale(p: &State, x: &Broker, wanted: u64, n: u64) -> Option<Change>
     ensures { (b : ℕ) (s : Replica) (command : Command)
-        → raised_by p.now x.now wanted (Err (refusal.StaleEpoch n)) ≡ option_map (changed p.now b x.now s command) result }
+        → raised_by p.now x.now wanted (Err (refusal.StaleEpoch n))
+        ≡ option_map (changed p.now b x.now s command) result }
 {
     let stale = is_stale_in(p, leading_in(x.role));
     given(
@@ -136,7 +140,8 @@ pub(crate) fn expire(
     answer: &Answer,
 ) -> Option<Change>
     ensures { (b : ℕ) (s : Replica) (command : Command)
-        → expire_row p.now x.now (option_copied recorded.entry) answer.now ≡ option_map (changed p.now b x.now s command) result }
+        → expire_row p.now x.now (option_copied recorded.entry) answer.now
+        ≡ option_map (changed p.now b x.now s command) result }
 {
     match recorded {
         None => match answer {

@@ -1,7 +1,8 @@
 -- Why bytes are no batch: when two causes are one, with the numbers that they report.
 use Rattle.std.specs.Prelude.{◌==◌, ◌&&◌, Bool, true, false}
 use Rattle.record_batch.specs.declared.refusal.BatchRefusal.{BatchRefusal}
-use Rattle.record_batch.specs.declared.refusal.BatchRefusal.TheVariants.{Short, BadMagic, BadLength, BadCrc, Compressed, Transactional, Control, BadRecords}
+use Rattle.record_batch.specs.declared.refusal.BatchRefusal.TheVariants.{Short, BadMagic, BadLength, BadCrc, Compressed}
+use Rattle.record_batch.specs.declared.refusal.BatchRefusal.TheVariants.{Transactional, Control, BadRecords}
 
 -- two causes are one
 abbrev pub same_cause : BatchRefusal → BatchRefusal → Bool

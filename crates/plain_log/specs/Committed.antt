@@ -25,7 +25,8 @@ restarts command event = false
 
 -- the entry is no such answer
 abbrev pub IsNoRestart : List ActorList → JournalEntry → Type 0
-IsNoRestart lists entry = (order : Order) → order_of lists entry ≡ Some order → restarts order.command entry.event ≡ false
+IsNoRestart lists entry =
+    (order : Order) → order_of lists entry ≡ Some order → restarts order.command entry.event ≡ false
 
 -- the bytes are batches of the log, one after another, from the one on that holds the offset
 pub record IsPartAt (offset : ℕ) (bytes : List ℕ) (log : List (List ℕ)) : Type 0 where
@@ -40,8 +41,10 @@ pub record IsPartAt (offset : ℕ) (bytes : List ℕ) (log : List (List ℕ)) : 
 
 -- where the entry answers a fetch with a run, the run is a part of the list
 abbrev pub IsCommittedRun : List ActorList → List (List ℕ) → JournalEntry → Type 0
-IsCommittedRun lists committed entry = (order : Order) (offset limit : ℕ) (tier : Tier) (size : ℕ) (stop : Stop) (bytes : List ℕ)
-    → order_of lists entry ≡ Some order → order.command ≡ Fetch offset limit → entry.event ≡ Answers (Run tier size stop bytes)
+IsCommittedRun lists committed entry =
+    (order : Order) (offset limit : ℕ) (tier : Tier) (size : ℕ) (stop : Stop) (bytes : List ℕ)
+    → order_of lists entry ≡ Some order → order.command ≡ Fetch offset limit
+    → entry.event ≡ Answers (Run tier size stop bytes)
     → IsPartAt offset bytes committed
 
 -- one list of consecutive batches from offset 0 on, of which each run that a fetch was given is a part
@@ -52,12 +55,15 @@ pub record IsCommitted (lists : List ActorList) (journal : List JournalEntry) : 
 
 -- the bytes are batches of the log that a leader of some epoch has, from the one on that holds the offset
 abbrev pub IsPartOfPath : List Path → ℕ → List ℕ → Type 0
-IsPartOfPath paths offset bytes = (e : ℕ) × (log : List (List ℕ)) × (path_of paths e ≡ Some log) × IsPartAt offset bytes log
+IsPartOfPath paths offset bytes =
+    (e : ℕ) × (log : List (List ℕ)) × (path_of paths e ≡ Some log) × IsPartAt offset bytes log
 
 -- where the entry answers a fetch with a run, the run is a part of one of the paths
 abbrev pub IsRunOfPath : List ActorList → List Path → JournalEntry → Type 0
-IsRunOfPath lists paths entry = (order : Order) (offset limit : ℕ) (tier : Tier) (size : ℕ) (stop : Stop) (bytes : List ℕ)
-    → order_of lists entry ≡ Some order → order.command ≡ Fetch offset limit → entry.event ≡ Answers (Run tier size stop bytes)
+IsRunOfPath lists paths entry =
+    (order : Order) (offset limit : ℕ) (tier : Tier) (size : ℕ) (stop : Stop) (bytes : List ℕ)
+    → order_of lists entry ≡ Some order → order.command ≡ Fetch offset limit
+    → entry.event ≡ Answers (Run tier size stop bytes)
     → IsPartOfPath paths offset bytes
 
 -- a list of consecutive batches from offset 0 on for each leader epoch; each run that a fetch was given is a part of

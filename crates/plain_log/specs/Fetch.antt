@@ -2,7 +2,8 @@
 --
 -- A run begins with the batch that holds the offset, ends at or below the high watermark that the broker knows, has at
 -- least one batch, and otherwise only as many as fit the limit.
-use Rattle.std.specs.Prelude.{ℕ, ◌+◌, ◌-◌, ◌==◌, ◌&&◌, not, nat_lt, nat_le, Bool, true, false, List, [], ◌∷◌, length, take, Option, Some, None, if◌then◌else◌, bytes_eq}
+use Rattle.std.specs.Prelude.{ℕ, ◌+◌, ◌-◌, ◌==◌, ◌&&◌, not, nat_lt, nat_le, Bool, true, false, List, []}
+use Rattle.std.specs.Prelude.{◌∷◌, length, take, Option, Some, None, if◌then◌else◌, bytes_eq}
 use Rattle.tier_base.specs.declared.plain.Stop.{Stop}
 use Rattle.tier_base.specs.declared.plain.Stop.TheVariants.{Mark, Piece, Limit}
 use Rattle.log_terms.specs.Log.{end_of, joined, from_offset}

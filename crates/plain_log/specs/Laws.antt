@@ -62,4 +62,5 @@ RunsAreCommitted = (config : Config) (lists : List ActorList) (journal : List Jo
 
 -- whatever the elections, each run that a fetch was given is a part of the log of one leader epoch
 abbrev pub RunsAreLed : Type 0
-RunsAreLed = (config : Config) (lists : List ActorList) (journal : List JournalEntry) → IsPlainRun config lists journal → IsLed lists journal
+RunsAreLed = (config : Config) (lists : List ActorList) (journal : List JournalEntry) → IsPlainRun config lists journal
+    → IsLed lists journal

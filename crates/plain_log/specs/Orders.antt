@@ -2,7 +2,9 @@
 use Rattle.std.specs.Prelude.{◌≤◌, ◌<◌, ◌^◌, ◌≤ℤ◌, ◌<ℤ◌, pos, List, [], ◌∷◌, length, All}
 use Rattle.record_batch.specs.Build.{IsBuildable}
 use Rattle.plain_log.specs.declared.command.Command.{Command}
-use Rattle.plain_log.specs.declared.command.Command.TheVariants.{Append, Raw, Flush, Roll, Elect, Unclean, Learn, Join, Follow, Trim, Copy, Expire, Ack, Shrink, Expand, Raise, Clock, Stop, Up, Fetch, Pack, Copying, Offset}
+use Rattle.plain_log.specs.declared.command.Command.TheVariants.{Append, Raw, Flush, Roll, Elect, Unclean, Learn, Join}
+use Rattle.plain_log.specs.declared.command.Command.TheVariants.{Follow, Trim, Copy, Expire, Ack, Shrink, Expand, Raise}
+use Rattle.plain_log.specs.declared.command.Command.TheVariants.{Clock, Stop, Up, Fetch, Pack, Copying, Offset}
 use Rattle.plain_log.specs.declared.command.Order.{Order}
 use Rattle.plain_log.specs.declared.command.ActorList.{ActorList}
 use Rattle.plain_log.specs.declared.command.Config.{Config}

@@ -9,7 +9,9 @@ use Rattle.record_batch.specs.Build.{built}
 use Rattle.record_batch.specs.Check.{checked}
 use Rattle.plain_log.specs.declared.answer.Answer.{Answer}
 use Rattle.plain_log.specs.declared.command.Command.{Command}
-use Rattle.plain_log.specs.declared.command.Command.TheVariants.{Append, Raw, Flush, Roll, Elect, Unclean, Learn, Join, Follow, Ack, Shrink, Expand, Copy, Trim, Expire, Raise, Clock, Stop, Up, Fetch, Pack, Copying, Offset}
+use Rattle.plain_log.specs.declared.command.Command.TheVariants.{Append, Raw, Flush, Roll, Elect, Unclean, Learn, Join}
+use Rattle.plain_log.specs.declared.command.Command.TheVariants.{Follow, Ack, Shrink, Expand, Copy, Trim, Expire, Raise}
+use Rattle.plain_log.specs.declared.command.Command.TheVariants.{Clock, Stop, Up, Fetch, Pack, Copying, Offset}
 use Rattle.plain_log.specs.declared.state.State.{State}
 use Rattle.plain_log.specs.declared.state.Broker.{Broker}
 use Rattle.plain_log.specs.declared.state.PlainSnapshot.{PlainSnapshot}

@@ -5,13 +5,16 @@
 --   learn     Down, Known, Follows, NeedsElection, DiskFault, Leads
 --
 -- An epoch is led by one broker, and once: a leader that lost its lead needs another election.
-use Rattle.std.specs.Prelude.{ℕ, ◌==◌, ◌&&◌, ◌||◌, not, Bool, true, false, ◌∷◌, Option, None, Ok, Err, slice_set, option_map, unwrap_or}
+use Rattle.std.specs.Prelude.{ℕ, ◌==◌, ◌&&◌, ◌||◌, not, Bool, true, false, ◌∷◌, Option}
+use Rattle.std.specs.Prelude.{None, Ok, Err, slice_set, option_map, unwrap_or}
 use Rattle.log_terms.specs.Log.{end_of, up_to}
 use Rattle.registry.specs.declared.registry.Replica.{Replica}
 use Rattle.registry.specs.declared.refusal.RegRefusal.TheVariants as refusal
 use Rattle.registry.specs.Calls.{when, after_elect, after_unclean}
 use Rattle.plain_log.specs.declared.answer.Answer.{Answer}
-use Rattle.plain_log.specs.declared.answer.Answer.TheVariants.{OkAt, Down, LastEpoch, NotInSync, DownBroker, BehindStart, Known, Follows as FollowsAnswer, NeedsElection, DiskFault, Leads as LeadsAnswer}
+use Rattle.plain_log.specs.declared.answer.Answer.TheVariants.{OkAt, Down, LastEpoch, NotInSync, DownBroker}
+use Rattle.plain_log.specs.declared.answer.Answer.TheVariants.{BehindStart, Known, Follows as FollowsAnswer}
+use Rattle.plain_log.specs.declared.answer.Answer.TheVariants.{NeedsElection, DiskFault, Leads as LeadsAnswer}
 use Rattle.plain_log.specs.declared.state.State.{State}
 use Rattle.plain_log.specs.declared.state.Broker.{Broker}
 use Rattle.plain_log.specs.declared.state.Role.TheVariants.{Leads, Follows}

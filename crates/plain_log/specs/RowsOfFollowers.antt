@@ -7,12 +7,16 @@
 --
 -- A join that cuts below the leader's local log continues to further turns, the last of which restarts the log. The
 -- plain log sees that as the leader's path up to there.
-use Rattle.std.specs.Prelude.{ℕ, ◌==◌, ◌&&◌, not, nat_lt, nat_le, min, Bool, length, drop, Option, Some, None, option_map, unwrap_or, is_some, is_none}
+use Rattle.std.specs.Prelude.{ℕ, ◌==◌, ◌&&◌, not, nat_lt, nat_le, min, Bool, length, drop, Option}
+use Rattle.std.specs.Prelude.{Some, None, option_map, unwrap_or, is_some, is_none}
 use Rattle.std.specs.Option.{option_and_then}
 use Rattle.log_terms.specs.Log.{end_of, up_to}
 use Rattle.registry.specs.Calls.{when}
 use Rattle.plain_log.specs.declared.answer.Answer.{Answer}
-use Rattle.plain_log.specs.declared.answer.Answer.TheVariants.{Down, TooManySegments, DiskFault, DiskFaultAt, NotFollower, StaleEpoch, NoLeader, Cut, Stopped, Passed, BelowStart, MetaFault, StoreFault, Damaged, Rebuilt, NotJoined, Level, Moved, Copied}
+use Rattle.plain_log.specs.declared.answer.Answer.TheVariants.{Down, TooManySegments, DiskFault, DiskFaultAt}
+use Rattle.plain_log.specs.declared.answer.Answer.TheVariants.{NotFollower, StaleEpoch, NoLeader, Cut, Stopped, Passed}
+use Rattle.plain_log.specs.declared.answer.Answer.TheVariants.{BelowStart, MetaFault, StoreFault, Damaged, Rebuilt}
+use Rattle.plain_log.specs.declared.answer.Answer.TheVariants.{NotJoined, Level, Moved, Copied}
 use Rattle.plain_log.specs.declared.state.State.{State}
 use Rattle.plain_log.specs.declared.state.Broker.{Broker}
 use Rattle.plain_log.specs.declared.state.PlainSnapshot.{PlainSnapshot}
@@ -69,7 +73,8 @@ later_row p x recorded Stopped = when (not (recorded.stops == x.stops)) p
 later_row p x recorded (StaleEpoch n) =
     when ((recorded.stops == x.stops) && is_stale p (followed recorded.role) && (n == p.registry.epoch)) p
 later_row p x recorded (Passed n) =
-    when ((recorded.stops == x.stops) && not (is_stale p (followed recorded.role)) && (n == end_of x.log) && not (n == recorded.end)) p
+    when ((recorded.stops == x.stops) && not (is_stale p (followed recorded.role)) && (n == end_of x.log)
+      && not (n == recorded.end)) p
 later_row p x recorded other = None
 
 -- the log comes to where it meets the leader's
@@ -88,7 +93,8 @@ join_row p b x (Some recorded) MetaFault = when (goes_on p x recorded) p
 join_row p b x (Some recorded) StoreFault = when (goes_on p x recorded) p
 join_row p b x (Some recorded) (Damaged place at) = when (goes_on p x recorded) p
 join_row p b x (Some recorded) (DiskFaultAt n) = option_map (breaks p b) (rebuilt p x recorded n)
-join_row p b x (Some recorded) (Rebuilt n) = option_map (λ y. put_broker p b (record y { flushed_end = n })) (rebuilt p x recorded n)
+join_row p b x (Some recorded) (Rebuilt n) =
+    option_map (λ y. put_broker p b (record y { flushed_end = n })) (rebuilt p x recorded n)
 join_row p b x (Some recorded) other = later_row p x recorded other
 
 -- the log end offset of the leader, where it leads

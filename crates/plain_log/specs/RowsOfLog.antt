@@ -9,7 +9,8 @@
 --
 -- The plain log has no segments: it takes TooManySegments and EmptySegment as they come. A disk fault breaks the
 -- broker, but for one of `up`.
-use Rattle.std.specs.Prelude.{ℕ, ◌+◌, ◌==◌, ◌&&◌, not, nat_le, Bool, List, [], ◌∷◌, ◌++◌, Option, None, Result, Ok, Err, if◌then◌else◌, slice_set, true, false}
+use Rattle.std.specs.Prelude.{ℕ, ◌+◌, ◌==◌, ◌&&◌, not, nat_le, Bool, List, [], ◌∷◌, ◌++◌, Option, None}
+use Rattle.std.specs.Prelude.{Result, Ok, Err, if◌then◌else◌, slice_set, true, false}
 use Rattle.log_terms.specs.Batch.{last_offset_delta_of}
 use Rattle.log_terms.specs.Log.{end_of, up_to}
 use Rattle.record_batch.specs.Check.{Batch}
@@ -17,7 +18,9 @@ use Rattle.record_batch.specs.Stamp.{stamped}
 use Rattle.record_batch.specs.declared.refusal.BatchRefusal.{BatchRefusal}
 use Rattle.registry.specs.Calls.{when}
 use Rattle.plain_log.specs.declared.answer.Answer.{Answer}
-use Rattle.plain_log.specs.declared.answer.Answer.TheVariants.{Ok as OkAnswer, OkAt, OkSpan, Down, NotLeader, Refused, LastOffset, TooManySegments, DiskFault, EmptySegment, Damaged, IsUp, LastIncarnation, Up}
+use Rattle.plain_log.specs.declared.answer.Answer.TheVariants.{Ok as OkAnswer, OkAt, OkSpan, Down, NotLeader, Refused}
+use Rattle.plain_log.specs.declared.answer.Answer.TheVariants.{LastOffset, TooManySegments, DiskFault, EmptySegment}
+use Rattle.plain_log.specs.declared.answer.Answer.TheVariants.{Damaged, IsUp, LastIncarnation, Up}
 use Rattle.plain_log.specs.declared.state.State.{State}
 use Rattle.plain_log.specs.declared.state.Broker.{Broker}
 use Rattle.plain_log.specs.Causes.{same_cause}
@@ -47,7 +50,8 @@ append_row p b x batch LastOffset = when (x.up && leads x.role && not (has_room 
 append_row p b x batch TooManySegments = when (x.up && leads x.role && has_room x batch) p
 append_row p b x batch DiskFault = when (x.up && leads x.role && has_room x batch) (breaks p b x)
 append_row p b x batch (OkSpan base last e) =
-    when (x.up && leads_in e x.role && has_room x batch && (base == end_of x.log) && (last == base + last_offset_delta_of batch))
+    when (x.up && leads_in e x.role && has_room x batch && (base == end_of x.log)
+      && (last == base + last_offset_delta_of batch))
     (gained p b x e (stamped batch base e))
 append_row p b x batch other = None
 

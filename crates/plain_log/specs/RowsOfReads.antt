@@ -8,12 +8,15 @@
 --
 -- Nothing changes. A device's fault exists only where there would be a run or, of a question of several turns, where
 -- the broker still leads.
-use Rattle.std.specs.Prelude.{ℕ, ◌==◌, ◌&&◌, not, nat_le, max, int_lt, ℤ, Bool, true, false, List, [], ◌∷◌, Option, Some, None, if◌then◌else◌}
+use Rattle.std.specs.Prelude.{ℕ, ◌==◌, ◌&&◌, not, nat_le, max, int_lt, ℤ, Bool, true, false}
+use Rattle.std.specs.Prelude.{List, [], ◌∷◌, Option, Some, None, if◌then◌else◌}
 use Rattle.log_terms.specs.Batch.{base_of, max_ts_of}
 use Rattle.log_terms.specs.Log.{end_of, up_to, from_offset}
 use Rattle.registry.specs.Calls.{when}
 use Rattle.plain_log.specs.declared.answer.Answer.{Answer}
-use Rattle.plain_log.specs.declared.answer.Answer.TheVariants.{Down, NotLeader, DiskFault, Stopped, MetaFault, StoreFault, Damaged, OutOfRange, Empty, Run, Offset, NoOffset}
+use Rattle.plain_log.specs.declared.answer.Answer.TheVariants.{Down, NotLeader, DiskFault, Stopped, MetaFault}
+use Rattle.plain_log.specs.declared.answer.Answer.TheVariants.{StoreFault, Damaged, OutOfRange, Empty, Run, Offset}
+use Rattle.plain_log.specs.declared.answer.Answer.TheVariants.{NoOffset}
 use Rattle.plain_log.specs.declared.command.Which.{Which}
 use Rattle.plain_log.specs.declared.command.Which.TheVariants.{Earliest, Latest, LatestTiered, At}
 use Rattle.plain_log.specs.declared.state.State.{State}
@@ -47,7 +50,8 @@ is_long other = false
 -- the base of the first batch whose greatest timestamp isn't earlier, or the log start offset where that is greater
 abbrev pub first_at : ℤ → ℕ → List (List ℕ) → Option ℕ
 first_at ts start [] = None
-first_at ts start (batch ∷ log) = if int_lt (max_ts_of batch) ts then first_at ts start log else Some (max (base_of batch) start)
+first_at ts start (batch ∷ log) =
+    if int_lt (max_ts_of batch) ts then first_at ts start log else Some (max (base_of batch) start)
 
 -- the offset of a timestamp: among the batches from the log start offset to the high watermark that the leader knows
 abbrev pub offset_at : State → Broker → ℤ → Option ℕ
@@ -72,7 +76,8 @@ offset_row p x which None Down = when (not x.up) p
 offset_row p x which None MetaFault = when (serves x None && is_long which) p
 offset_row p x which None (Offset n) = when (serves x None && not (is_long which) && is_offset_of p x which (Some n)) p
 offset_row p x which (Some recorded) Stopped = when (not (is_on x (Some recorded))) p
-offset_row p x which (Some recorded) (Offset n) = when (serves x (Some recorded) && is_long which && is_offset_of p x which (Some n)) p
+offset_row p x which (Some recorded) (Offset n) =
+    when (serves x (Some recorded) && is_long which && is_offset_of p x which (Some n)) p
 offset_row p x which (Some recorded) NoOffset =
     when (serves x (Some recorded) && is_long which && is_offset_of p x which None) p
 offset_row p x (At ts) (Some recorded) MetaFault = when (serves x (Some recorded)) p

@@ -11,7 +11,8 @@ use Rattle.registry.specs.declared.refusal.RegRefusal.TheVariants as refusal
 use Rattle.registry.specs.Registry.{with_ack}
 use Rattle.registry.specs.Calls.{when, after_shrink, after_expand}
 use Rattle.plain_log.specs.declared.answer.Answer.{Answer}
-use Rattle.plain_log.specs.declared.answer.Answer.TheVariants.{Ok as OkAnswer, OkAt, Down, NotInSync, DownBroker, StaleEpoch, NotJoined, IsLeader, Behind}
+use Rattle.plain_log.specs.declared.answer.Answer.TheVariants.{Ok as OkAnswer, OkAt, Down, NotInSync, DownBroker}
+use Rattle.plain_log.specs.declared.answer.Answer.TheVariants.{StaleEpoch, NotJoined, IsLeader, Behind}
 use Rattle.plain_log.specs.declared.state.State.{State}
 use Rattle.plain_log.specs.declared.state.Broker.{Broker}
 use Rattle.plain_log.specs.State.{acking, path_of, is_stale, left_by}
@@ -29,7 +30,8 @@ acknowledged p b x s path = record p {
 -- the broker may acknowledge, and the high watermark is then this one
 abbrev pub may_ack : State → ℕ → Broker → Replica → ℕ → Bool
 may_ack p b x s mark =
-    x.up && is_some (acking x.role) && not (is_stale p (acking x.role)) && (mark == (with_ack p.registry b s x.flushed_end).mark)
+    x.up && is_some (acking x.role) && not (is_stale p (acking x.role))
+    && (mark == (with_ack p.registry b s x.flushed_end).mark)
 
 -- the broker acknowledges its flushed end
 abbrev pub ack_row : State → ℕ → Broker → Replica → Answer → Option State

@@ -1,7 +1,7 @@
 -- Commands to the tiers, of which the plain log sees the log start offset alone.
 --
---   copy     first Down, NotLeader, CopyOff, MetaFault; then LostLead, Level, DiskFault, Damaged, MetaFault, StoreFault,
---            Overtaken, CopiedSegment
+--   copy     first Down, NotLeader, CopyOff, MetaFault; then LostLead, Level, DiskFault, Damaged, MetaFault,
+--            StoreFault, Overtaken, CopiedSegment
 --   trim     first Down, MetaFault; then Stopped, Kept, DiskFault, Dropped
 --   expire   first Down, NotLeader, MetaFault; then LostLead, Kept, StaleEpoch, Raised, MetaFault, StoreFault, Deleted
 --   raise    Down, NotLeader, StaleEpoch, NotAbove, AboveMark, OkAt
@@ -12,7 +12,10 @@ use Rattle.registry.specs.declared.refusal.RegRefusal.{RegRefusal}
 use Rattle.registry.specs.declared.refusal.RegRefusal.TheVariants as refusal
 use Rattle.registry.specs.Calls.{when, after_raise}
 use Rattle.plain_log.specs.declared.answer.Answer.{Answer}
-use Rattle.plain_log.specs.declared.answer.Answer.TheVariants.{Ok as OkAnswer, OkAt, Down, NotLeader, DiskFault, StaleEpoch, Stopped, MetaFault, StoreFault, Damaged, Level, CopiedSegment, LostLead, Overtaken, Kept, Dropped, Raised, Deleted, NotAbove, AboveMark, CopyOff}
+use Rattle.plain_log.specs.declared.answer.Answer.TheVariants.{Ok as OkAnswer, OkAt, Down, NotLeader, DiskFault}
+use Rattle.plain_log.specs.declared.answer.Answer.TheVariants.{StaleEpoch, Stopped, MetaFault, StoreFault, Damaged}
+use Rattle.plain_log.specs.declared.answer.Answer.TheVariants.{Level, CopiedSegment, LostLead, Overtaken, Kept, Dropped}
+use Rattle.plain_log.specs.declared.answer.Answer.TheVariants.{Raised, Deleted, NotAbove, AboveMark, CopyOff}
 use Rattle.plain_log.specs.declared.state.State.{State}
 use Rattle.plain_log.specs.declared.state.Broker.{Broker}
 use Rattle.plain_log.specs.declared.state.PlainSnapshot.{PlainSnapshot}

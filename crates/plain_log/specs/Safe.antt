@@ -1,5 +1,6 @@
 -- The safety rules: what holds of every state that the plain log reaches.
-use Rattle.std.specs.Prelude.{◌≡◌, ℕ, ◌≤◌, ◌<◌, Some, List, [], ◌∷◌, ◌++◌, length, slice_get, Bool, true, false, unwrap_or}
+use Rattle.std.specs.Prelude.{◌≡◌, ℕ, ◌≤◌, ◌<◌, Some, List, [], ◌∷◌, ◌++◌, length}
+use Rattle.std.specs.Prelude.{slice_get, Bool, true, false, unwrap_or}
 use mathlib.Core.List.{IsPrefix}
 use Rattle.log_terms.specs.Batch.{epoch_of}
 use Rattle.log_terms.specs.Log.{IsConsecutive, end_of, EndsAt}
@@ -111,7 +112,8 @@ pub record PlainSafe (p : State) : Type 0 where
       → KnownSafe p.unclean p.registry.epoch p.registry.mark p.committed x
   pub one_leader : (b c : ℕ) (x y : Broker) (e : ℕ) → slice_get p.brokers b ≡ Some x → slice_get p.brokers c ≡ Some y
       → x.role ≡ Leads e → y.role ≡ Leads e → b ≡ c
-  pub acks : (b : ℕ) (x : Broker) (s : Replica) → slice_get p.brokers b ≡ Some x → slice_get p.registry.replicas b ≡ Some s
+  pub acks : (b : ℕ) (x : Broker) (s : Replica) → slice_get p.brokers b ≡ Some x
+      → slice_get p.registry.replicas b ≡ Some s
       → AckSafe (current p.paths p.registry.epoch p.committed) p.registry.mark x s
   pub leader : (s : Replica) → slice_get p.registry.replicas p.registry.leader.0 ≡ Some s → s.in_sync ≡ true
   pub leader_within : p.registry.leader.0 < length p.registry.replicas

@@ -2,7 +2,8 @@
 --
 -- An entry is its actor's next command, by its number, or the answer to the command that has begun. The row of the
 -- command decides the answer (Rows); the actor's number rises with each answer and with nothing else.
-use Rattle.std.specs.Prelude.{ℕ, ◌+◌, ◌==◌, ◌&&◌, nat_lt, int_le, Bool, true, false, Option, Some, None, slice_get, is_none, option_map}
+use Rattle.std.specs.Prelude.{ℕ, ◌+◌, ◌==◌, ◌&&◌, nat_lt, int_le, Bool, true, false}
+use Rattle.std.specs.Prelude.{Option, Some, None, slice_get, is_none, option_map}
 use Rattle.std.specs.Option.{option_and_then}
 use Rattle.log_terms.specs.Log.{end_of}
 use Rattle.registry.specs.declared.registry.Replica.{Replica}
@@ -58,7 +59,8 @@ same_command command other = false
 
 -- what is recorded where the order's command begins
 abbrev pub recorded_of : State → Order → Broker → PlainSnapshot
-recorded_of p order x = record { order = order; stops = x.stops; role = x.role; end = end_of x.log; start = p.registry.start }
+recorded_of p order x =
+    record { order = order; stops = x.stops; role = x.role; end = end_of x.log; start = p.registry.start }
 
 -- a command that has begun is the recorded one
 abbrev pub is_recorded : Option PlainSnapshot → Order → Bool
@@ -79,11 +81,13 @@ event_step p a y order x s (Answers answer) =
 -- the entry has the actor's next number, and is of the command that has begun, if one has
 abbrev pub next_actor : State → Order → JournalEntry → Option Actor
 next_actor p order entry =
-    when ((entry.number == (actor_at p.actors entry.actor.0).number) && is_recorded (actor_at p.actors entry.actor.0).snapshot order)
+    when ((entry.number == (actor_at p.actors entry.actor.0).number)
+      && is_recorded (actor_at p.actors entry.actor.0).snapshot order)
     (actor_at p.actors entry.actor.0)
 
 -- the next state, or none where the entry isn't allowed
 abbrev pub step : State → Order → JournalEntry → Option State
 step p order entry =
-    option_and_then (λ x. option_and_then (λ s. option_and_then (λ y. event_step p entry.actor.0 y order x s entry.event)
+    option_and_then (λ x. option_and_then (λ s. option_and_then
+      (λ y. event_step p entry.actor.0 y order x s entry.event)
     (next_actor p order entry)) (slice_get p.registry.replicas order.broker.0)) (slice_get p.brokers order.broker.0)

@@ -1,6 +1,7 @@
 //! Laws of the plain log. Each is the contract of a function that does nothing: calling it cites the law.
 
-ghost use Rattle.plain_log.specs.Laws.{StepsKeepSafe, StepsGrow, ReplaysKeepSafe, FreshIsSafe, EpochsNeverFall, RunsAnswerInOrder, CommittedGrows, CommittedStays, RunsAreCommitted, RunsAreLed};
+ghost use Rattle.plain_log.specs.Laws.{StepsKeepSafe, StepsGrow, ReplaysKeepSafe, FreshIsSafe, EpochsNeverFall};
+ghost use Rattle.plain_log.specs.Laws.{RunsAnswerInOrder, CommittedGrows, CommittedStays, RunsAreCommitted, RunsAreLed};
 
 /// Each step keeps the safety rules.
 pub fn steps_keep_safe()

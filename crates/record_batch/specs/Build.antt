@@ -2,7 +2,8 @@
 --
 -- No compression, no transaction, no producer: attributes 0, and -1 in each of the producer's fields. The head's places
 -- are in the module Head, a record's grammar in Record.
-use Rattle.std.specs.Prelude.{◌≡◌, ℕ, ◌+◌, ◌-◌, ◌<◌, ◌≤◌, ℤ, pos, List, [], ◌∷◌, ◌++◌, length, replicate, All, FitsSigned, ◌^◌}
+use Rattle.std.specs.Prelude.{◌≡◌, ℕ, ◌+◌, ◌-◌, ◌<◌, ◌≤◌, ℤ, pos, List, [], ◌∷◌, ◌++◌}
+use Rattle.std.specs.Prelude.{length, replicate, All, FitsSigned, ◌^◌}
 use Rattle.std.specs.Int.{w32, w64, to_be_bytes, cast_unsigned, int_wrapping_sub, int_max}
 use Rattle.batch_prims.specs.Crc.{crc32c}
 use Rattle.log_terms.specs.Batch.{base_of, epoch_of, last_offset_delta_of}

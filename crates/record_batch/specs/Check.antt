@@ -16,7 +16,9 @@
 --
 -- 49 = 61 - 12 is the batch_length of a head alone, and 1,048,564 = 1,048,576 - 12 that of the largest batch.
 -- Unsigned, a negative batch_length is above 1,048,564, and a negative records_count above 2,147,483,647.
-use Rattle.std.specs.Prelude.{◌≡◌, ◌<◌, ◌≤◌, ℕ, zero, suc, ◌+◌, ◌-◌, ◌/◌, ◌%◌, ◌^◌, ◌==◌, nat_lt, Bool, false, not, if◌then◌else◌, ℤ, pos, negsuc, List, [], ◌∷◌, length, drop, map, slice_index, Option, Some, None, Result, Ok, Err, IsOk}
+use Rattle.std.specs.Prelude.{◌≡◌, ◌<◌, ◌≤◌, ℕ, zero, suc, ◌+◌, ◌-◌, ◌/◌, ◌%◌, ◌^◌, ◌==◌, nat_lt, Bool}
+use Rattle.std.specs.Prelude.{false, not, if◌then◌else◌, ℤ, pos, negsuc, List, [], ◌∷◌, length, drop, map}
+use Rattle.std.specs.Prelude.{slice_index, Option, Some, None, Result, Ok, Err, IsOk}
 use Rattle.std.specs.List.{AllByRecursion}
 use Rattle.std.specs.Int.{w16, w32, w64, cast_unsigned, int_wrapping_add}
 use Rattle.batch_prims.specs.Crc.{crc32c}
@@ -27,7 +29,8 @@ use Rattle.record_batch.specs.declared.rec.Rec.{Rec}
 use Rattle.record_batch.specs.declared.refusal.HeadRefusal.{HeadRefusal}
 use Rattle.record_batch.specs.declared.refusal.HeadRefusal.TheVariants as head_cause
 use Rattle.record_batch.specs.declared.refusal.BatchRefusal.{BatchRefusal}
-use Rattle.record_batch.specs.declared.refusal.BatchRefusal.TheVariants.{Short, BadMagic, BadLength, BadCrc, Compressed, Transactional, Control, BadRecords}
+use Rattle.record_batch.specs.declared.refusal.BatchRefusal.TheVariants.{Short, BadMagic, BadLength, BadCrc, Compressed}
+use Rattle.record_batch.specs.declared.refusal.BatchRefusal.TheVariants.{Transactional, Control, BadRecords}
 use Rattle.record_batch.specs.Head.{head_of}
 use Rattle.record_batch.specs.Record.{DeltaRec, record_at}
 
@@ -45,7 +48,8 @@ unfoldable pub sum_refusal : List ℕ → Option BatchRefusal
 sum_refusal bytes =
     if nat_lt (length bytes) (12 + field_at w32 8 bytes) then Some Short
     else if nat_lt (12 + field_at w32 8 bytes) (length bytes) then Some BadLength
-    else if not (field_at w32 17 bytes == crc32c (drop 21 bytes)) then Some (BadCrc (field_at w32 17 bytes) (crc32c (drop 21 bytes)))
+    else if not (field_at w32 17 bytes == crc32c (drop 21 bytes)) then Some
+        (BadCrc (field_at w32 17 bytes) (crc32c (drop 21 bytes)))
     else None
 
 -- tests 6 to 8, on the attributes

@@ -16,7 +16,8 @@
 -- A negative length of a record or of a header's key, a negative count, and bytes that end too early are invalid.
 --
 -- Source: Kafka's record format, magic 2.
-use Rattle.std.specs.Prelude.{ℕ, zero, suc, nat_lt, if◌then◌else◌, ℤ, pos, negsuc, List, [], ◌∷◌, ◌++◌, length, take, drop, Option, Some, None, Result, Ok, Err}
+use Rattle.std.specs.Prelude.{ℕ, zero, suc, nat_lt, if◌then◌else◌, ℤ, pos, negsuc, List, [], ◌∷◌, ◌++◌}
+use Rattle.std.specs.Prelude.{length, take, drop, Option, Some, None, Result, Ok, Err}
 use Rattle.batch_prims.specs.Varint.{varint_at, varlong_at, varint_bytes, varlong_bytes}
 use Rattle.record_batch.specs.declared.rec.Header.{Header}
 

@@ -18,7 +18,8 @@ fault_in (Err e) = Some e
 
 -- a front of these parts
 abbrev pub front_of : ℤ → ℤ → Option (List ℕ) → Option (List ℕ) → DeltaFront
-front_of ts_delta offset_delta key value = record { ts_delta = ts_delta; offset_delta = offset_delta; key = key; value = value }
+front_of ts_delta offset_delta key value =
+    record { ts_delta = ts_delta; offset_delta = offset_delta; key = key; value = value }
 
 -- a front, and what follows it
 abbrev pub front_behind : DeltaFront → List ℕ → DeltaFront × List ℕ

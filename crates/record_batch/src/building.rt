@@ -3,11 +3,13 @@
 //! The size is reckoned first, so that a batch that would be too large takes no memory. The bytes are then written in
 //! order into one vector, with the checksum's place left open, which is filled at the end.
 
-ghost use Rattle.std.specs.Prelude.{◌≡◌, ◌+◌, ◌-◌, ◌^◌, ◌<◌, ◌≤◌, ◌↔◌, [], ◌∷◌, ◌++◌, length, take, drop, replicate, All, FitsSigned, Ok, OnOk, IfOk, IsErrOf};
+ghost use Rattle.std.specs.Prelude.{◌≡◌, ◌+◌, ◌-◌, ◌^◌, ◌<◌, ◌≤◌, ◌↔◌, [], ◌∷◌, ◌++◌, length, take, drop};
+ghost use Rattle.std.specs.Prelude.{replicate, All, FitsSigned, Ok, OnOk, IfOk, IsErrOf};
 ghost use Rattle.std.specs.Int.{w64};
 ghost use Rattle.batch_prims.specs.Crc.{crc32c as sum_of};
 ghost use Rattle.log_terms.specs.Batch.{max_ts_of};
-ghost use Rattle.record_batch.specs.Build.{greatest_ts as greatest_ts_of, u32_bytes, ts_bytes, no_producer, early_head, late_head, covered, built, IsBuildable, IsTooLarge, HeadTells, HaveWidths};
+ghost use Rattle.record_batch.specs.Build.{greatest_ts as greatest_ts_of, u32_bytes, ts_bytes, no_producer, early_head};
+ghost use Rattle.record_batch.specs.Build.{late_head, covered, built, IsBuildable, IsTooLarge, HeadTells, HaveWidths};
 ghost use Rattle.record_batch.specs.declared.rec.Rec.{Rec};
 ghost use Rattle.record_batch.specs.Check.{checked};
 ghost use Rattle.record_batch.specs.Head.{head_of};
@@ -94,7 +96,8 @@ fn push_late_head(out: &mut Vec<u8>, recs: &[Rec]) -> Result<(), AllocError>
 }
 
 /// The batch with nothing in the checksum's place, in one allocation of its size.
-#[tactic(auto, using(crate::proofs::Counts::buildable_few, crate::proofs::Counts::length_built), unfolding(crate::specs::Build::all_bytes))]
+#[tactic(auto, using(crate::proofs::Counts::buildable_few, crate::proofs::Counts::length_built),
+    unfolding(crate::specs::Build::all_bytes))]
 fn unsealed(alloc: Global, size: usize, recs: &[Rec]) -> Result<Vec<u8>, AllocError>
     requires buildable { IsBuildable recs.now }
     requires size { size ≡ length (built recs.now) }

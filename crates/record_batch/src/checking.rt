@@ -3,7 +3,8 @@
 ghost use Rattle.std.specs.Prelude.{◌≡◌, ◌≤◌, length, IfNone, IsOk, OnOk};
 ghost use Rattle.std.specs.Int.{w32};
 ghost use Rattle.log_terms.specs.Batch.{field_at};
-ghost use Rattle.record_batch.specs.Check.{head_refusal, sum_refusal, flag_refusal, count_refusal, of_head, checked, head_in, headed};
+ghost use Rattle.record_batch.specs.Check.{head_refusal, sum_refusal, flag_refusal};
+ghost use Rattle.record_batch.specs.Check.{count_refusal, of_head, checked, head_in, headed};
 
 use crate::head::{HEAD_SIZE, Head, fields_of, u16_at, u32_at};
 use crate::refusal::{BatchRefusal, HeadRefusal};

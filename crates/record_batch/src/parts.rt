@@ -87,7 +87,8 @@ pub(crate) fn optional(bytes: &[u8]) -> Option<(Option<&[u8]>, &[u8])>
 /// A header's key and value.
 #[tactic(auto, unfolding(crate::specs::Record::header_at))]
 pub(crate) fn header(bytes: &[u8]) -> Option<((&[u8], Option<&[u8]>), &[u8])>
-    ensures { option_map (λ x. header_shown x.0.0.now (option_map (λ y. y.now) x.0.1) x.1.now) result ≡ header_at bytes.now }
+    ensures { option_map (λ x. header_shown x.0.0.now (option_map (λ y. y.now) x.0.1) x.1.now) result
+        ≡ header_at bytes.now }
 {
     let Some((key, rest)) = blob(bytes) else {
         return None;

@@ -2,7 +2,8 @@
 
 ghost use Rattle.std.specs.Prelude.{◌≡◌, length, IfOk, IsSome, IsOk, Ok, Some};
 ghost use Rattle.std.specs.Option.{option_map};
-ghost use Rattle.record_batch.specs.Record.{header_at, header_shown, headers_at, header_list_at, headers_shown, with_headers, body_at, record_at};
+ghost use Rattle.record_batch.specs.Record.{header_at, header_shown, headers_at, header_list_at};
+ghost use Rattle.record_batch.specs.Record.{headers_shown, with_headers, body_at, record_at};
 ghost use Rattle.record_batch.specs.Check.{ts_in, rec_in, rec_shown, records_from, checked};
 ghost use Rattle.record_batch.specs.Head.{head_of};
 ghost use Rattle.record_batch.specs.Walk.{front_of};
@@ -93,7 +94,8 @@ fn ts_of(head: Head, delta: i64) -> i64
 
 /// A record of a batch with this head.
 fn owned(alloc: Global, head: Head, front: Front, headers: HeaderList) -> Result<Rec, AllocError>
-    ensures { IfOk result (λ rec. rec ≡ rec_in head (with_headers (front_of front.entry.ts_delta front.entry.offset_delta
+    ensures { IfOk result (λ rec. rec ≡ rec_in head
+        (with_headers (front_of front.entry.ts_delta front.entry.offset_delta
         (option_map (λ y. y.now) front.entry.key) (option_map (λ y. y.now) front.entry.value)) headers)) }
 {
     let key = copied(alloc, front.key)?;

@@ -5,7 +5,8 @@
 
 ghost use Rattle.std.specs.Prelude.{◌≡◌, ◌+◌, ◌^◌, ◌<◌, ◌≤◌, length, pos, IfSome};
 ghost use Rattle.batch_prims.specs.Varint.{to_zigzag, groups_of, varint_bytes, varlong_bytes};
-ghost use Rattle.record_batch.specs.Record.{blob_bytes, optional_bytes, header_bytes, headers_bytes, header_list_bytes, body_bytes, record_bytes, records_bytes};
+ghost use Rattle.record_batch.specs.Record.{blob_bytes, optional_bytes, header_bytes, headers_bytes};
+ghost use Rattle.record_batch.specs.Record.{header_list_bytes, body_bytes, record_bytes, records_bytes};
 ghost use Rattle.record_batch.specs.Build.{delta_of, deltas_from, built};
 ghost use Rattle.record_batch.specs.Size.{IsSize};
 
@@ -79,7 +80,8 @@ fn blob_size(blob: &Blob) -> Option<usize>
     allowed(varint_size(len as u32) + len)
 }
 
-#[tactic(auto, unfolding(crate::specs::Record::optional_bytes, batch_prims::specs::Varint::varint_bytes, batch_prims::specs::Varint::shortest))]
+#[tactic(auto, unfolding(crate::specs::Record::optional_bytes, batch_prims::specs::Varint::varint_bytes,
+    batch_prims::specs::Varint::shortest))]
 fn optional_size(value: &Option<Blob>) -> Option<usize>
     ensures { IsSize result (length (optional_bytes value.now)) }
 {

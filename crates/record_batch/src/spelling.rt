@@ -4,7 +4,8 @@
 
 ghost use Rattle.std.specs.Prelude.{◌≡◌, ◌^◌, ◌<◌, ◌≤◌, ◌++◌, length, pos, OnOk};
 ghost use Rattle.batch_prims.specs.Varint.{varint_bytes};
-ghost use Rattle.record_batch.specs.Record.{blob_bytes, optional_bytes, header_bytes, headers_bytes, header_list_bytes, body_bytes, record_bytes, records_bytes};
+ghost use Rattle.record_batch.specs.Record.{blob_bytes, optional_bytes, header_bytes, headers_bytes};
+ghost use Rattle.record_batch.specs.Record.{header_list_bytes, body_bytes, record_bytes, records_bytes};
 ghost use Rattle.record_batch.specs.Build.{delta_of, deltas_from};
 
 use crate::rec::{Header, Rec};

@@ -3,11 +3,13 @@
 -- It gives none where the call isn't answered so. The tests of a call are in the order in which they are made: a later
 -- answer comes only where no earlier one does. A refusal leaves the registry as it was. r is the registry before the
 -- call, b the broker, s that broker's replica.
-use Rattle.std.specs.Prelude.{ℕ, ◌+◌, ◌==◌, ◌&&◌, not, nat_lt, nat_le, Bool, true, false, Option, Some, None, Result, Ok, Err}
+use Rattle.std.specs.Prelude.{ℕ, ◌+◌, ◌==◌, ◌&&◌, not, nat_lt, nat_le, Bool, true}
+use Rattle.std.specs.Prelude.{false, Option, Some, None, Result, Ok, Err}
 use Rattle.registry.specs.declared.registry.Replica.{Replica}
 use Rattle.registry.specs.declared.registry.Registry.{Registry}
 use Rattle.registry.specs.declared.refusal.RegRefusal.{RegRefusal}
-use Rattle.registry.specs.declared.refusal.RegRefusal.TheVariants.{LastEpoch, NotInSync, DownBroker, BehindStart, StaleEpoch, IsLeader, Behind, NotAbove, AboveMark}
+use Rattle.registry.specs.declared.refusal.RegRefusal.TheVariants.{LastEpoch, NotInSync, DownBroker, BehindStart}
+use Rattle.registry.specs.declared.refusal.RegRefusal.TheVariants.{StaleEpoch, IsLeader, Behind, NotAbove, AboveMark}
 use Rattle.registry.specs.Registry.{epoch_limit, elected, elected_alone, with_ack, shrunk, expanded, started}
 
 -- a value where the test holds
@@ -58,7 +60,8 @@ after_shrink r b s other = None
 -- the broker, which is up or not, comes to the replicas in sync; one of them stays one
 abbrev pub after_expand : Registry → ℕ → Replica → Bool → Result (Unit {0}) RegRefusal → Option Registry
 after_expand r b s up (Err DownBroker) = when (not up) r
-after_expand r b s up (Err (Behind ack mark)) = when (up && nat_lt s.acked r.mark && (ack == s.acked) && (mark == r.mark)) r
+after_expand r b s up (Err (Behind ack mark)) =
+    when (up && nat_lt s.acked r.mark && (ack == s.acked) && (mark == r.mark)) r
 after_expand r b s up (Ok done) = when (up && nat_le r.mark s.acked) (expanded r b s)
 after_expand r b s up other = None
 
@@ -70,5 +73,6 @@ after_raise r epoch wanted (Err (NotAbove start)) =
 after_raise r epoch wanted (Err (AboveMark mark)) =
     when (not (is_stale r epoch) && nat_lt r.start wanted && nat_lt r.mark wanted && (mark == r.mark)) r
 after_raise r epoch wanted (Ok start) =
-    when (not (is_stale r epoch) && nat_lt r.start wanted && nat_le wanted r.mark && (start == wanted)) (started r wanted)
+    when (not (is_stale r epoch) && nat_lt r.start wanted && nat_le wanted r.mark && (start == wanted))
+    (started r wanted)
 after_raise r epoch wanted other = None

@@ -2,7 +2,8 @@
 --
 -- A broker acknowledges its flushed end. The high watermark is the greatest offset that every replica in sync has
 -- acknowledged, and never falls.
-use Rattle.std.specs.Prelude.{ℕ, min, max, true, false, List, [], ◌∷◌, map, Option, Some, None, if◌then◌else◌, slice_get, IsSomeAnd, option_map, unwrap_or}
+use Rattle.std.specs.Prelude.{ℕ, min, max, true, false, List, [], ◌∷◌, map, Option, Some, None}
+use Rattle.std.specs.Prelude.{if◌then◌else◌, slice_get, IsSomeAnd, option_map, unwrap_or}
 use Rattle.registry.specs.declared.registry.Replica.{Replica}
 use Rattle.registry.specs.declared.registry.Registry.{Registry}
 

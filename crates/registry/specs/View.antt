@@ -1,5 +1,6 @@
 -- A registry as plain numbers, and what they must say.
-use Rattle.std.specs.Prelude.{◌≡◌, ℕ, suc, ◌+◌, ◌-◌, ◌*◌, ◌^◌, ◌/◌, ◌%◌, ◌==◌, ◌<◌, ◌≤◌, Bool, true, if◌then◌else◌, All, List, [], ◌∷◌, ◌++◌, length, map, drop, replicate}
+use Rattle.std.specs.Prelude.{◌≡◌, ℕ, suc, ◌+◌, ◌-◌, ◌*◌, ◌^◌, ◌/◌, ◌%◌, ◌==◌, ◌<◌, ◌≤◌, Bool, true}
+use Rattle.std.specs.Prelude.{if◌then◌else◌, All, List, [], ◌∷◌, ◌++◌, length, map, drop, replicate}
 use Rattle.registry.specs.declared.registry.Replica.{Replica}
 use Rattle.registry.specs.declared.registry.Registry.{Registry}
 use Rattle.registry.specs.declared.view.RegView.{RegView}
@@ -60,7 +61,8 @@ view_of r = record {
 
 -- so many replicas, by who is in sync and by what each acknowledged
 abbrev pub replicas_of : ℕ → ℕ → List ℕ → List Replica
-replicas_of (suc more) bits (end ∷ ends) = record { in_sync = bits % 2 == 1; acked = end } ∷ replicas_of more (bits / 2) ends
+replicas_of (suc more) bits (end ∷ ends) =
+    record { in_sync = bits % 2 == 1; acked = end } ∷ replicas_of more (bits / 2) ends
 replicas_of count bits ends = []
 
 -- the registry of a view

@@ -157,7 +157,8 @@ impl Registry {
     /// the broker leads or has joined. `RegRefusal` has the causes of a failure.
     pub fn ack(&mut self, broker: BrokerId, epoch: u32, flushed_end: u64) -> Result<u64, RegRefusal>
         requires { broker.0 < length self.old.replicas }
-        ensures is { AtReplica self.old broker.0 (λ s. after_ack self.old broker.0 s epoch flushed_end result ≡ Some self.new) }
+        ensures is { AtReplica self.old broker.0
+            (λ s. after_ack self.old broker.0 s epoch flushed_end result ≡ Some self.new) }
         ensures count { length self.new.replicas ≡ length self.old.replicas }
         ensures err { OnErr result (self.new ≡ self.old) }
     {

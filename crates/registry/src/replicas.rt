@@ -1,7 +1,8 @@
 //! All replicas of a registry at once: the high watermark over them, and what an election makes of them.
 
 ghost use Rattle.std.specs.Prelude.{◌≡◌, Some, None, min, option_map, unwrap_or, if◌then◌else◌};
-ghost use Rattle.registry.specs.Replicas.{least_acked as least_of, mark_over as mark_of, renewed as renewed_with, reset_acks, all_out as all_outside};
+ghost use Rattle.registry.specs.Replicas.{least_acked as least_of, mark_over as mark_of};
+ghost use Rattle.registry.specs.Replicas.{renewed as renewed_with, reset_acks, all_out as all_outside};
 
 use crate::registry::Replica;
 use tier_base::Items;

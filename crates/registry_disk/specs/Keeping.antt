@@ -39,13 +39,15 @@ KeepsFile d r = (c : Files) → Image d c → c RegistryName ≡ Some (registry_
 
 -- whatever it leaves has the file of one of these
 abbrev pub KeepsOneOf : Content → Registry → Registry → Type 0
-KeepsOneOf d r s = (c : Files) → Image d c → (c RegistryName ≡ Some (registry_bytes r)) ⊎ (c RegistryName ≡ Some (registry_bytes s))
+KeepsOneOf d r s =
+    (c : Files) → Image d c → (c RegistryName ≡ Some (registry_bytes r)) ⊎ (c RegistryName ≡ Some (registry_bytes s))
 
 -- this registry's file was put in the place of the old one, or that is there still
 pub record Replaces (r : Registry) (old new : Content) : Type 0 where
   pub is_observable : new.is_observable ≡ old.is_observable
   pub reads : IsTrue old.is_observable → Swapped (registry_bytes r) (old.files RegistryName) (new.files RegistryName)
-  pub images : (c : Files) → Image new c → (d : Files) × Image old d × Swapped (registry_bytes r) (d RegistryName) (c RegistryName)
+  pub images : (c : Files) → Image new c → (d : Files) × Image old d
+      × Swapped (registry_bytes r) (d RegistryName) (c RegistryName)
 
 -- the old one is there still
 pub record Refrains (old new : Content) : Type 0 where
@@ -62,6 +64,7 @@ abbrev pub Finds : Content → Control call_code → Control call_code → Resul
 Finds d c c' (Ok None) = IsTrue d.is_observable → d.files RegistryName ≡ None
 Finds d c c' (Ok (Some view)) =
     IsView view × (view_in c'.last_read ≡ Ok view) × (IsTrue d.is_observable → d.files RegistryName ≡ Some c'.last_read)
-Finds d c c' (Err (find.Bad at)) = (view_in c'.last_read ≡ Err (file.Bad at)) × (IsTrue d.is_observable → d.files RegistryName ≡ Some c'.last_read)
+Finds d c c' (Err (find.Bad at)) =
+    (view_in c'.last_read ≡ Err (file.Bad at)) × (IsTrue d.is_observable → d.files RegistryName ≡ Some c'.last_read)
 Finds d c c' (Err find.Fault) = Rose c.faults c'.faults
 Finds d c c' (Err find.NoMemory) = Unit {0}

@@ -35,8 +35,8 @@ pub fn find_registry<D: Disk>(disk: &mut D) -> Result<Option<RegView>, FindRefus
     }
 }
 
-/// Puts a registry's file in the place of the one that the disk has. After `Failed` it has the old or the new one, and where
-/// there was no memory the old one.
+/// Puts a registry's file in the place of the one that the disk has. After `Failed` it has the old or the new one,
+/// and where there was no memory the old one.
 pub fn keep_registry<D: Disk>(
     alloc: Global,
     disk: &mut D,

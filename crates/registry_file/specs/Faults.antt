@@ -1,6 +1,7 @@
 -- What the place of a refusal says: as far as there the bytes can continue as a view's file, and with the field that
 -- begins there they can't.
-use Rattle.std.specs.Prelude.{◌≡◌, ℕ, ◌+◌, ◌-◌, ◌%◌, ◌==◌, ◌<◌, ◌≤◌, nat_lt, if◌then◌else◌, List, ◌++◌, length, take, Ok}
+use Rattle.std.specs.Prelude.{◌≡◌, ℕ, ◌+◌, ◌-◌, ◌%◌, ◌==◌, ◌<◌, ◌≤◌, nat_lt}
+use Rattle.std.specs.Prelude.{if◌then◌else◌, List, ◌++◌, length, take, Ok}
 use Rattle.registry.specs.declared.view.RegView.{RegView}
 use Rattle.registry_file.specs.Reading.{view_in}
 

@@ -4,7 +4,8 @@
 -- A fault is the place of the first field that is missing, is cut or breaks a rule, or of the first byte that follows
 -- the last field. A rule on two fields is broken at the later of them. The places are those of the table in the module
 -- Spelling.
-use Rattle.std.specs.Prelude.{ℕ, zero, suc, ◌+◌, ◌*◌, ◌^◌, ◌==◌, ◌&&◌, nat_le, nat_lt, Bool, if◌then◌else◌, List, [], ◌∷◌, length, take, drop, Result, Ok, Err}
+use Rattle.std.specs.Prelude.{ℕ, zero, suc, ◌+◌, ◌*◌, ◌^◌, ◌==◌, ◌&&◌, nat_le, nat_lt, Bool}
+use Rattle.std.specs.Prelude.{if◌then◌else◌, List, [], ◌∷◌, length, take, drop, Result, Ok, Err}
 use Rattle.std.specs.Int.{Width, w16, w32, w64, byte_len, from_be_bytes}
 use Rattle.registry.specs.declared.view.RegView.{RegView}
 use Rattle.registry.specs.View.{has_bit, eight}

@@ -5,7 +5,8 @@
 
 ghost use Rattle.std.specs.Prelude.{◌≡◌, ◌≤◌, ◌<◌, ◌^◌, IfOk};
 ghost use Rattle.registry.specs.View.{IsView};
-ghost use Rattle.registry_file.specs.Reading.{sync_may as sync_may_be, front_at, marks_at, end_at, eight_at, joined as joined_of, view_in, seen};
+ghost use Rattle.registry_file.specs.Reading.{sync_may as sync_may_be, front_at, marks_at, end_at, eight_at};
+ghost use Rattle.registry_file.specs.Reading.{joined as joined_of, view_in, seen};
 
 use crate::fields::{read_u8, read_u16, read_u32, read_u64};
 use crate::parts::{Front, Marks};

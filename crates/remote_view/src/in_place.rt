@@ -71,7 +71,8 @@ pub(crate) fn lay_behind(
 pub(crate) fn take_first(stairs: &mut Stairs, spread: Spread, entry: &Entry, state: State) -> bool
     requires kept { IsEntryValid entry.now }
     requires rises { (epoch : ℕ) → RisesAlong (stair_on stairs.old epoch) }
-    requires ends { (epoch o : ℕ) → entry.now.end + 1 ≤ o → in_place entry.now.id None (id_at (stair_on stairs.old epoch) o)
+    requires ends { (epoch o : ℕ) → entry.now.end + 1 ≤ o
+        → in_place entry.now.id None (id_at (stair_on stairs.old epoch) o)
         ≡ id_at (stair_on stairs.old epoch) o }
     ensures { IsTakenFirst result spread.alone state entry.now stairs.old stairs.new }
 {

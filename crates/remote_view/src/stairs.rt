@@ -3,7 +3,8 @@
 //! What replaces a stair is put where room was made for it before, which takes no memory. So all the stairs that an
 //! event changes are made first, and then they replace the old ones together.
 
-ghost use Rattle.std.specs.Prelude.{◌≡◌, ◌≢◌, ◌≤◌, ◌++◌, ◌∷◌, ℕ, [], true, None, OnOk, OnErr, IfOk, if◌then◌else◌, ◌==◌};
+ghost use Rattle.std.specs.Prelude.{◌≡◌, ◌≢◌, ◌≤◌, ◌++◌, ◌∷◌, ℕ, [], true, None, OnOk};
+ghost use Rattle.std.specs.Prelude.{OnErr, IfOk, if◌then◌else◌, ◌==◌};
 ghost use Rattle.remote_view.specs.Stairs.{id_at, RisesAlong, IsEndFrom};
 ghost use Rattle.remote_view.specs.Laying.{in_place, IsLifted, IsTaken};
 ghost use Rattle.remote_view.specs.Storing.{stair_on, has_room, replaced, HaveRoom};

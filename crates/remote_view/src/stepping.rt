@@ -6,7 +6,8 @@
 ghost use Rattle.std.specs.Prelude.{◌≡◌, ℕ, ℤ, true, List, Option, Some, is_some, OnOk, IfOk};
 ghost use Rattle.tier_base.specs.declared.names.BrokerId.{BrokerId};
 ghost use Rattle.segment_meta.specs.Steps.{next_state};
-ghost use Rattle.remote_view.specs.Fold.{entry_of, changed, updated, IsEntryValid, AreEntriesValid, AreDistinct, others};
+ghost use Rattle.remote_view.specs.Fold.{entry_of, changed, updated, IsEntryValid};
+ghost use Rattle.remote_view.specs.Fold.{AreEntriesValid, AreDistinct, others};
 ghost use Rattle.remote_view.specs.Stairs.{RisesAlong, IsStair};
 ghost use Rattle.remote_view.specs.Laying.{IsLaidIn};
 ghost use Rattle.remote_view.specs.Storing.{stair_on, AreFreshStairs};

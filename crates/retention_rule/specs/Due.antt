@@ -6,7 +6,8 @@
 --
 -- Source: retention.ms and retention.bytes as Kafka's UnifiedLog applies them; both comparisons are Kafka's. The rule
 -- is the same for remote segments. There Kafka's remote log manager also takes a segment whose age equals the limit.
-use Rattle.std.specs.Prelude.{ℕ, ◌+◌, ℤ, pos, ◌-ℤ◌, ◌&&◌, ◌||◌, Bool, false, nat_lt, int_le, int_lt, if◌then◌else◌, List, [], ◌∷◌, sum_by}
+use Rattle.std.specs.Prelude.{ℕ, ◌+◌, ℤ, pos, ◌-ℤ◌, ◌&&◌, ◌||◌, Bool, false, nat_lt, int_le}
+use Rattle.std.specs.Prelude.{int_lt, if◌then◌else◌, List, [], ◌∷◌, sum_by}
 use Rattle.tier_base.specs.declared.plain.Item.{Item}
 use Rattle.tier_base.specs.declared.plain.Keep.{Keep}
 

@@ -1,8 +1,8 @@
 -- Runs over an environment one after another.
 --
 --   form                 says
---   StandsIn n held p q  whatever the environment provides of the partition, with so many disks, represents the plain state q
---   RunsFromState .. q journal  the journal is a run of the plain log from q, and the environment holds what is left of the state it leads to
+--   StandsIn n held p q  what the environment provides of the partition, with so many disks, represents the state q
+--   RunsFromState .. q journal  the journal is a run of the plain log from q; the environment holds what is left after it
 --   RunsContinue         each run over an environment is so from each state that what the environment held represents
 --   IsLedOn .. q         the environment holds what is left of a state to which commands lead from q
 --   RefusalsContinue     a refused run leaves what represents the same state, or is so
@@ -39,19 +39,24 @@ module _ {D S M : Type 0} (disk : DiskGhosts D) (store : StoreGhosts S) (meta : 
 
   -- the journal is a run of the plain log from this state, and the environment holds what is left of the state that it
   -- leads to
-  pub record RunsFromState (config : Config) (part : PartScript) (held : YardContent D S M) (journal : List JournalEntry) (q : State) : Type 0 where
+  pub record RunsFromState (config : Config) (part : PartScript) (held : YardContent D S M)
+      (journal : List JournalEntry) (q : State) : Type 0 where
     pub log_run : IsSafeRun q part.lists journal
     pub stand : StandsIn config.brokers held part.partition (cold_of log_run.last)
 
   -- each run over an observable environment continues from each state that what was held represents, and else from the
   -- fresh one
-  pub record ContinuesFromYard (config : Config) (part : PartScript) (was held : YardContent D S M) (journal : List JournalEntry) : Type 0 where
+  pub record ContinuesFromYard (config : Config) (part : PartScript) (was held : YardContent D S M)
+      (journal : List JournalEntry) : Type 0 where
     pub from : (q : State) → StandsIn config.brokers was part.partition q → RunsFromState config part held journal q
-    pub begun : file_in disk.content (was.registries part.partition) ≡ None → RunsFromState config part held journal (fresh config)
+    pub begun : file_in disk.content (was.registries part.partition) ≡ None
+        → RunsFromState config part held journal (fresh config)
 
   abbrev pub RunsContinue : Type 0
-  RunsContinue = (config : Config) (part : PartScript) (was held : YardContent D S M) (run : ℕ × List JournalEntry) (came : List Came)
-      → IsRunOnDevices disk store meta config part was held run came → IsTrue was.is_observable → IsTrue held.is_observable → ContinuesFromYard config part was held run.1
+  RunsContinue = (config : Config) (part : PartScript) (was held : YardContent D S M) (run : ℕ × List JournalEntry)
+      (came : List Came)
+      → IsRunOnDevices disk store meta config part was held run came → IsTrue was.is_observable
+      → IsTrue held.is_observable → ContinuesFromYard config part was held run.1
 
   -- the environment holds what is left of a state with the safety rules, to which entries of the lists lead from this
   -- one

@@ -22,7 +22,8 @@ use Rattle.script_lang.specs.declared.fault.FaultDevice.{FaultDevice}
 use Rattle.run_memory.specs.Plans.{disk_named, store_named, meta_named}
 
 -- a call of the device was made that one of the fault lines names
-pub record IsMet {K : Type 0} {code : K → ℕ} (named : FaultDevice → FaultCall → Option K) (faults : List Fault) (c : Control code) : Type 0 where
+pub record IsMet {K : Type 0} {code : K → ℕ} (named : FaultDevice → FaultCall → Option K) (faults : List Fault)
+    (c : Control code) : Type 0 where
   pub place : ℕ
   pub line : Fault
   pub at : slice_get faults place ≡ Some line
@@ -41,7 +42,8 @@ module _ {D S M : Type 0} (disk : DiskGhosts D) (faults : List Fault) where
   DiskMetFor (Follow limit) b w = (leader : ℕ) × DiskMet leader w
   DiskMetFor command b w = DiskMet b w
 
-module _ {D S M : Type 0} (disk : DiskGhosts D) (store : StoreGhosts S) (meta : MetaGhosts M) (faults : List Fault) (w : Whole D S M) where
+module _ {D S M : Type 0} (disk : DiskGhosts D) (store : StoreGhosts S) (meta : MetaGhosts M) (faults : List Fault)
+    (w : Whole D S M) where
   -- where the answer is a fault of a device, a call of it was made that a fault line names
   abbrev pub MetAs : Order → Answer → Type 0
   MetAs order DiskFault = DiskMetFor disk faults order.command order.broker.0 w

@@ -1,5 +1,6 @@
 -- Which calls of a partition's devices fail: those that the script's fault lines name, in the order of the lines.
-use Rattle.std.specs.Prelude.{◌≡◌, ℕ, ◌+◌, ◌==◌, if◌then◌else◌, Bool, false, List, [], ◌∷◌, ◌++◌, Option, Some, None, IsTrue}
+use Rattle.std.specs.Prelude.{◌≡◌, ℕ, ◌+◌, ◌==◌, if◌then◌else◌, Bool, false, List, []}
+use Rattle.std.specs.Prelude.{◌∷◌, ◌++◌, Option, Some, None, IsTrue}
 use Rattle.tier_base.specs.Device.{Control, IsFreshDevice}
 use Rattle.tier_base.specs.declared.planned.Planned.{Planned}
 use Rattle.disk_model.specs.Call.{call_code}
@@ -84,4 +85,5 @@ module _ {D : Type 0} (control : D → Control call_code) where
   -- the disks of the brokers from this one on have their faults
   abbrev pub ArePlanned : List Fault → ℕ → List D → Type 0
   ArePlanned faults broker [] = Unit {0}
-  ArePlanned faults broker (disk ∷ disks) = IsPlanned (disk_plan broker faults) (control disk) × ArePlanned faults (broker + 1) disks
+  ArePlanned faults broker (disk ∷ disks) =
+      IsPlanned (disk_plan broker faults) (control disk) × ArePlanned faults (broker + 1) disks

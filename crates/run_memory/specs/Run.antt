@@ -31,7 +31,8 @@ use Rattle.run_memory.specs.Devices.{HaveFaults}
 module _ {D S M : Type 0} (disk : DiskGhosts D) (store : StoreGhosts S) (meta : MetaGhosts M) where
   -- a fresh world whose logs, store and metadata log are empty, on devices of which those calls fail that the faults
   -- name
-  pub record StartsWith (partition : PartitionId) (config : Config) (lists : List ActorList) (faults : List Fault) (w : Whole D S M)
+  pub record StartsWith (partition : PartitionId) (config : Config) (lists : List ActorList) (faults : List Fault)
+      (w : Whole D S M)
       : Type 0 where
     pub disks : List D
     pub objects : S

@@ -16,7 +16,8 @@ use std::alloc::{AllocError, Global};
 /// Makes so many disks, without files, with the faults of their brokers.
 fn disks(alloc: Global, count: u16, faults: &[Fault]) -> Result<Vec<MemoryDisk>, AllocError>
     ensures count { IfOk result (λ disks. length disks.items ≡ count) }
-    ensures fresh { IfOk result (λ disks. AreFreshDisks ⟦<MemoryDisk as Disk>⟧.content ⟦<MemoryDisk as Disk>⟧.control disks.items) }
+    ensures fresh { IfOk result (λ disks. AreFreshDisks ⟦<MemoryDisk as Disk>⟧.content ⟦<MemoryDisk as Disk>⟧.control
+        disks.items) }
     ensures told { IfOk result (λ disks. DisksTell ⟦<MemoryDisk as Disk>⟧.content disks.items) }
     ensures planned { IfOk result (λ disks. ArePlanned ⟦<MemoryDisk as Disk>⟧.control faults.now 0 disks.items) }
 {
@@ -37,7 +38,8 @@ pub(crate) fn devices(
     ensures count { IfOk result (λ d. length d.disks.items ≡ count) }
     ensures blank { IfOk result (λ d. AreBlank ⟦<MemoryDisk as Disk>⟧ ⟦<MemoryStore as Store>⟧ ⟦<MemoryLog as MetaLog>⟧
         d.disks.items d.store d.meta) }
-    ensures planned { IfOk result (λ d. HaveFaults ⟦<MemoryDisk as Disk>⟧ ⟦<MemoryStore as Store>⟧ ⟦<MemoryLog as MetaLog>⟧
+    ensures planned { IfOk result (λ d. HaveFaults ⟦<MemoryDisk as Disk>⟧ ⟦<MemoryStore as Store>⟧ ⟦<MemoryLog as
+        MetaLog>⟧
         faults.now d.disks.items d.store d.meta) }
 {
     let disks = disks(alloc, count, faults)?;

@@ -32,7 +32,8 @@ pub fn fresh_world(
     requires fit { AreListsFor config lists }
     ensures fresh { IfOk result (StartsWith ⟦<MemoryDisk as Disk>⟧ ⟦<MemoryStore as Store>⟧ ⟦<MemoryLog as MetaLog>⟧
         partition config lists faults.now) }
-    ensures central { IfOk result (IsCentral ⟦<MemoryDisk as Disk>⟧ ⟦<MemoryStore as Store>⟧ ⟦<MemoryLog as MetaLog>⟧ (fresh config)) }
+    ensures central { IfOk result (IsCentral ⟦<MemoryDisk as Disk>⟧ ⟦<MemoryStore as Store>⟧ ⟦<MemoryLog as MetaLog>⟧
+        (fresh config)) }
 {
     let devices = devices(alloc, config.brokers, faults)?;
     match World::fresh(alloc, partition, config, lists, devices) {

@@ -1,7 +1,8 @@
 //! The planned calls of a partition's devices: those that the script's fault lines name, in the order of the lines.
 
 ghost use Rattle.std.specs.Prelude.{◌≡◌, ◌++◌, IfOk, OnOk};
-ghost use Rattle.run_memory.specs.Plans.{disk_call, is_disk_of, disk_named, store_named, meta_named, planned_call, disk_plan, store_plan, meta_plan};
+ghost use Rattle.run_memory.specs.Plans.{disk_call, is_disk_of, disk_named, store_named, meta_named};
+ghost use Rattle.run_memory.specs.Plans.{planned_call, disk_plan, store_plan, meta_plan};
 
 use disk_model::DiskCall;
 use meta_log::MetaCall;

@@ -1,10 +1,12 @@
--- What an entry does to its broker's log, beside its end: whether the broker is up, the flushed end, the local log start
--- offset, the leader epoch that the broker has learned of last, and the epoch whose leader's log this log begins.
+-- What an entry does to its broker's log, beside its end: whether the broker is up, the flushed end, the local log
+-- start offset, the leader epoch that the broker has learned of last, and the epoch whose leader's log this log
+-- begins.
 --
 -- The log end is the plain log's, and isn't changed here.
 use Rattle.std.specs.Prelude.{ℕ, ◌+◌, min, Bool, true, false, Some, None, if◌then◌else◌}
 use Rattle.plain_log.specs.declared.answer.Answer.{Answer}
-use Rattle.plain_log.specs.declared.answer.Answer.TheVariants.{Ok, OkAt, OkSpan, DiskFault, DiskFaultAt, Follows, Leads, Cut, Rebuilt, Copied, Dropped, Up as IsUp}
+use Rattle.plain_log.specs.declared.answer.Answer.TheVariants.{Ok, OkAt, OkSpan, DiskFault, DiskFaultAt, Follows, Leads}
+use Rattle.plain_log.specs.declared.answer.Answer.TheVariants.{Cut, Rebuilt, Copied, Dropped, Up as IsUp}
 use Rattle.plain_log.specs.declared.command.Command.{Command}
 use Rattle.plain_log.specs.declared.command.Command.TheVariants.{Append, Raw, Flush, Roll, Learn, Trim, Follow, Stop}
 use Rattle.plain_log.specs.declared.journal.Event.{Event}

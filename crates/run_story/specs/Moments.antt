@@ -1,5 +1,6 @@
 -- The moments of a journal: one for each entry, in their order, each with the plain log's state after its entry.
-use Rattle.std.specs.Prelude.{◌≡◌, ℕ, ◌==◌, if◌then◌else◌, List, [], ◌∷◌, Option, Some, None, Result, Ok, Err, map, option_map}
+use Rattle.std.specs.Prelude.{◌≡◌, ℕ, ◌==◌, if◌then◌else◌, List, [], ◌∷◌, Option, Some}
+use Rattle.std.specs.Prelude.{None, Result, Ok, Err, map, option_map}
 use Rattle.tier_base.specs.declared.names.ActorId.{ActorId}
 use Rattle.log_terms.specs.Log.{end_of}
 use Rattle.plain_log.specs.declared.command.ActorList.{ActorList}
@@ -28,7 +29,8 @@ pub record IsMoment (lists : List ActorList) (entry : JournalEntry) (q : State) 
   pub ends : map (λ log. log.end) m.logs ≡ map (λ x. end_of x.log) q.brokers
 
 -- the same, of an entry that is about this order, with these logs
-pub record IsMomentOf (order : Order) (entry : JournalEntry) (q : State) (those : List LogState) (m : Moment) : Type 0 where
+pub record IsMomentOf (order : Order) (entry : JournalEntry) (q : State) (those : List LogState)
+    (m : Moment) : Type 0 where
   pub actor : m.actor ≡ entry.actor
   pub number : m.number ≡ entry.number
   pub broker : m.broker ≡ order.broker
@@ -58,7 +60,8 @@ abbrev pub entry_key : JournalEntry → ActorId × ℕ
 entry_key entry = (entry.actor, entry.number)
 
 -- the journal leads from p to q, and the moments are those of its entries, each once and in order
-pub record IsStory (lists : List ActorList) (p : State) (journal : List JournalEntry) (q : State) (moments : List Moment) : Type 0 where
+pub record IsStory (lists : List ActorList) (p : State) (journal : List JournalEntry) (q : State)
+    (moments : List Moment) : Type 0 where
   pub replays : replay lists p journal ≡ Some q
   pub once : map moment_key moments ≡ map entry_key journal
   pub each : AreMoments lists p journal q moments

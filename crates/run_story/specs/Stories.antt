@@ -14,7 +14,8 @@ use Rattle.run_story.specs.declared.tracked.Tracked.{Tracked}
 use Rattle.run_story.specs.Moments.{IsStory, journal_of}
 
 -- the story of a partition: of its journal, over its lists, and in a first run from the fresh state
-pub record IsPartStory (config : Config) (before : List Tracked) (journals : List (ℕ × List JournalEntry)) (part : PartScript) (story : Story) : Type 0 where
+pub record IsPartStory (config : Config) (before : List Tracked) (journals : List (ℕ × List JournalEntry))
+    (part : PartScript) (story : Story) : Type 0 where
   pub partition : story.partition ≡ part.partition
   pub p : State
   pub q : State

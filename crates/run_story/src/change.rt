@@ -1,7 +1,8 @@
 //! What an entry does to its broker's log, as far as the answers say it. `specs/Change.antt` has the same by cases.
 
 ghost use Rattle.std.specs.Prelude.{◌≡◌};
-ghost use Rattle.run_story.specs.Change.{cut_at, led, down, fails, join_failed, ok_at, ok, answered as answered_of, after as after_of};
+ghost use Rattle.run_story.specs.Change.{cut_at, led, down, fails, join_failed, ok_at, ok};
+ghost use Rattle.run_story.specs.Change.{answered as answered_of, after as after_of};
 
 use crate::log_state::LogState;
 use plain_log::{Answer, Command, Event};

@@ -198,7 +198,8 @@ fn tell_parts(
     states: &mut Items<Tracked>,
 ) -> Result<Items<Story>, StoryRefusal>
     requires { IsFit script.now }
-    ensures { IfOk result (λ stories. AreStories script.now.config states.old (map told journals.now) script.now.parts stories) }
+    ensures { IfOk result (λ stories. AreStories script.now.config states.old
+        (map told journals.now) script.now.parts stories) }
 {
     let mut stories = Items::new(alloc);
     for (at, part) in script.parts.as_slice().iter().enumerate() {

@@ -1,4 +1,5 @@
--- What a partition's journal comes to: its answers, the sizes of all runs that fetches returned, summed, and where it ended.
+-- What a partition's journal comes to: its answers, the sizes of all runs that fetches returned, summed, and where it
+-- ended.
 use Rattle.std.specs.Prelude.{ℕ, List}
 use Rattle.load_gen.specs.Summary.{Answered, Ended}
 

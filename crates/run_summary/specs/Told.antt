@@ -1,5 +1,6 @@
 -- What the journals of a run come to, as its summary reports it.
-use Rattle.std.specs.Prelude.{ℕ, List, [], ◌∷◌, map, flat_map, sum_by, Option, Some, None, option_map, unwrap_or, slice_get}
+use Rattle.std.specs.Prelude.{ℕ, List, [], ◌∷◌, map, flat_map, sum_by, Option, Some}
+use Rattle.std.specs.Prelude.{None, option_map, unwrap_or, slice_get}
 use Rattle.log_terms.specs.Log.{end_of}
 use Rattle.load_gen.specs.Summary.{Answered, Ended, summary_of}
 use Rattle.plain_log.specs.declared.answer.Answer.TheVariants as answer
@@ -74,4 +75,5 @@ told_of config partition lists journal = option_map
 
 -- the summary of partitions
 abbrev pub summary_text : List Outcome → List ℕ
-summary_text parts = summary_of (flat_map (λ (t : Outcome). t.answers) parts) (sum_by (λ (t : Outcome). t.bytes) parts) (map (λ (t : Outcome). t.end) parts)
+summary_text parts = summary_of (flat_map (λ (t : Outcome). t.answers) parts) (sum_by (λ (t : Outcome). t.bytes) parts)
+    (map (λ (t : Outcome). t.end) parts)

@@ -4,7 +4,8 @@ ghost use Rattle.std.specs.Prelude.{◌≡◌, ◌≤◌, ◌+◌, ◌*◌, ◌^
 ghost use Rattle.std.specs.Option.{option_copied, option_to_list};
 ghost use Rattle.plain_executor.specs.Fits.{AreFor};
 ghost use Rattle.plain_log.specs.Runs.{order_of};
-ghost use Rattle.run_summary.specs.Told.{answer_in, answers_of, ended, first_end as end_is, ordered_bytes, ordered_size, size_in, told_of};
+ghost use Rattle.run_summary.specs.Told.{answer_in, answers_of, ended, first_end as end_is};
+ghost use Rattle.run_summary.specs.Told.{ordered_bytes, ordered_size, size_in, told_of};
 
 use crate::given::{End, Given};
 use crate::names::command_name;
@@ -17,8 +18,8 @@ use trace_text::answer_name;
 
 /// What a partition's journal comes to.
 ///
-/// Only an answer has a size, of 64 bits. So the sizes of all answers that are in memory have a sum of 128 bits, also over
-/// several partitions.
+/// Only an answer has a size, of 64 bits. So the sizes of all answers that are in memory have a sum of 128 bits, also
+/// over several partitions.
 #[derive(Debug, Drop)]
 pub struct Told {
     answers: Items<Given>,
@@ -52,7 +53,8 @@ impl Told {
     /// Adds an answer, and the size in bytes of the run that it returned: 0 where it returned none. Fails only if
     /// memory runs out.
     pub fn add(&mut self, given: Given, size: u64) -> Result<(), AllocError>
-        ensures ok { OnOk result (self.new ≡ record { answers = self.old.answers ++ given ∷ []; bytes = self.old.bytes + size; end = self.old.end }) }
+        ensures ok { OnOk result (self.new ≡ record
+            { answers = self.old.answers ++ given ∷ []; bytes = self.old.bytes + size; end = self.old.end }) }
         ensures err { OnErr result (self.new ≡ self.old) }
     {
         self.answers.push(given)?;

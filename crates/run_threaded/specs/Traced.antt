@@ -65,7 +65,8 @@ module _ {D S M : Type 0} where
 
 module _ {D S M : Type 0} (disk : DiskGhosts D) (store : StoreGhosts S) (meta : MetaGhosts M) where
   -- the turns lead from the fresh world of the script's partition, over devices with its faults, to this world
-  pub record LeadsFrom (script : List ℕ) (place : ℕ) (partition : PartitionId) (turns : List ActorId) (w : Whole D S M) : Type 0 where
+  pub record LeadsFrom (script : List ℕ) (place : ℕ) (partition : PartitionId) (turns : List ActorId)
+      (w : Whole D S M) : Type 0 where
     pub config : Config
     pub part : PartScript
     pub is_part : IsPartScript script place config part
@@ -81,7 +82,8 @@ module _ {D S M : Type 0} (disk : DiskGhosts D) (store : StoreGhosts S) (meta : 
 
   -- a partition's number and journal: a run of it by some schedule
   abbrev pub IsRunByThreads : Config → PartScript → ℕ × List JournalEntry → Type 0
-  IsRunByThreads config part run = (schedule : List Pace) × IsJournalOf disk store meta config (by_schedule schedule part) run
+  IsRunByThreads config part run =
+      (schedule : List Pace) × IsJournalOf disk store meta config (by_schedule schedule part) run
 
   -- such a run of the partition that is at this place of the script
   pub record IsThreadedRun (script : List ℕ) (place : ℕ) (run : ℕ × List JournalEntry) : Type 0 where

@@ -17,7 +17,7 @@ use partition_world::{Ready, World, ends_are_complete, reaches_in_turn, reaches_
 use plain_log::{Journal, fresh_is_safe, replays_keep_safe};
 use std::alloc::{AllocError, Global};
 use std::marker::Model;
-use tier_base::{ActorId, PartitionId, Items};
+use tier_base::{ActorId, Items, PartitionId};
 
 /// A partition of a script in the middle of a run.
 #[derive(Drop)]
@@ -57,7 +57,8 @@ impl<D: Disk, S: Store, M: MetaLog> Traced<D, S, M> {
         world: World<D, S, M>,
     ) -> Traced<D, S, M>
         requires { LeadsFrom D.Disk S.Store M.MetaLog script place partition [] world }
-        ensures { result ≡ record { script = script; place = place; partition = partition; world = world; turns = []; ended = false } }
+        ensures { result
+            ≡ record { script = script; place = place; partition = partition; world = world; turns = []; ended = false } }
     {
         Traced {
             script,
@@ -86,7 +87,8 @@ impl<D: Disk, S: Store, M: MetaLog> Traced<D, S, M> {
     /// Lends the world.
     pub fn world(&self) -> &World<D, S, M>
         ensures world { result.now ≡ self.now.world }
-        ensures leads { IsTraced D.Disk S.Store M.MetaLog self.now.script self.now.place self.now.partition self.now.world
+        ensures leads { IsTraced D.Disk S.Store M.MetaLog self.now.script self.now.place self.now.partition
+            self.now.world
             self.now.turns self.now.ended }
     {
         &self.world
@@ -108,7 +110,8 @@ impl<D: Disk, S: Store, M: MetaLog> Traced<D, S, M> {
 
     /// Takes the next turn of an actor's commands, with nothing ready.
     pub fn step(&mut self, alloc: Global, actor: ActorId) -> Stepped
-        ensures steps { result ≢ NoMemory → Steps D.Disk S.Store M.MetaLog self.old.world actor.0 result self.new.world }
+        ensures steps { result ≢ NoMemory → Steps D.Disk S.Store M.MetaLog self.old.world actor.0 result
+            self.new.world }
         ensures central { result ≢ NoMemory → KeepsCentral D.Disk S.Store M.MetaLog self.old.world self.new.world }
         ensures turns { result ≢ NoMemory → self.new.turns ≡ self.old.turns ++ actor ∷ [] }
         ensures goes_on { result ≢ NoMemory → TraceContinues self.old self.new }
@@ -120,7 +123,8 @@ impl<D: Disk, S: Store, M: MetaLog> Traced<D, S, M> {
     /// Takes the next turn of an actor's commands, with what is ready for it. Room for recording the turn is taken
     /// first.
     pub fn step_with(&mut self, alloc: Global, actor: ActorId, ready: Ready) -> Stepped
-        ensures steps { result ≢ NoMemory → Steps D.Disk S.Store M.MetaLog self.old.world actor.0 result self.new.world }
+        ensures steps { result ≢ NoMemory → Steps D.Disk S.Store M.MetaLog self.old.world actor.0 result
+            self.new.world }
         ensures central { result ≢ NoMemory → KeepsCentral D.Disk S.Store M.MetaLog self.old.world self.new.world }
         ensures turns { result ≢ NoMemory → self.new.turns ≡ self.old.turns ++ actor ∷ [] }
         ensures goes_on { result ≢ NoMemory → TraceContinues self.old self.new }

@@ -19,10 +19,12 @@ module _ {D S M : Type 0} (disk : DiskGhosts D) (store : StoreGhosts S) (meta : 
 
   -- each of the disks of its first brokers has what the environment held as that broker's
   abbrev pub HandsDisks : PartitionId → List D → YardContent D S M → Type 0
-  HandsDisks partition disks held = (b : BrokerId) (d : D) → slice_get disks b.0 ≡ Some d → HandsDisk disk.content (held.disks partition b) (disk.content d)
+  HandsDisks partition disks held = (b : BrokerId) (d : D) → slice_get disks b.0 ≡ Some d
+      → HandsDisk disk.content (held.disks partition b) (disk.content d)
 
   -- each of the partition's devices has what the environment held
-  pub record HandsDevices (partition : PartitionId) (devices : Devices D S M) (registry : D) (held : YardContent D S M) : Type 0 where
+  pub record HandsDevices (partition : PartitionId) (devices : Devices D S M) (registry : D)
+      (held : YardContent D S M) : Type 0 where
     pub logs : HandsDisks partition devices.disks.items held
     pub objects : HandsStore store.content (held.stores partition) (store.content devices.store)
     pub notes : HandsLog meta.content (held.logs partition) (meta.content devices.meta)
@@ -36,7 +38,8 @@ module _ {D S M : Type 0} (disk : DiskGhosts D) (store : StoreGhosts S) (meta : 
     pub hands : IsTrue held.is_observable → HandsDisks partition disks held
 
   -- its devices but the registry's disk, so many disks among them
-  pub record AreHanded (partition : PartitionId) (count : ℕ) (devices : Devices D S M) (held : YardContent D S M) : Type 0 where
+  pub record AreHanded (partition : PartitionId) (count : ℕ) (devices : Devices D S M)
+      (held : YardContent D S M) : Type 0 where
     pub disks : AreHandedDisks partition count devices.disks.items held
     pub store_tells : (store.content devices.store).is_observable ≡ held.is_observable
     pub meta_fresh : IsFreshDevice (meta.control devices.meta)
@@ -46,7 +49,8 @@ module _ {D S M : Type 0} (disk : DiskGhosts D) (store : StoreGhosts S) (meta : 
     pub notes : IsTrue held.is_observable → HandsLog meta.content (held.logs partition) (meta.content devices.meta)
 
   -- all its devices
-  pub record AreAllHanded (partition : PartitionId) (count : ℕ) (devices : Devices D S M) (registry : D) (held : YardContent D S M) : Type 0 where
+  pub record AreAllHanded (partition : PartitionId) (count : ℕ) (devices : Devices D S M) (registry : D)
+      (held : YardContent D S M) : Type 0 where
     pub others : AreHanded partition count devices held
     pub file : IsHandedDisk held registry
     pub hands : IsTrue held.is_observable → HandsDevices partition devices registry held

@@ -10,7 +10,8 @@
 --   IsReady asked held p    and it is there, or the partition has no object and no metadata event
 --   ReadsLast p bytes c c'  this partition's registry was read last, as these bytes
 --   IsRefusedSo ..          a refusal comes of this
-use Rattle.std.specs.Prelude.{◌≡◌, ◌++◌, ◌∷◌, [], ℕ, ◌<◌, ◌==◌, if◌then◌else◌, List, Option, Some, None, Ok, Err, IsTrue}
+use Rattle.std.specs.Prelude.{◌≡◌, ◌++◌, ◌∷◌, [], ℕ, ◌<◌, ◌==◌, if◌then◌else◌, List}
+use Rattle.std.specs.Prelude.{Option, Some, None, Ok, Err, IsTrue}
 use Rattle.std.specs.declared.result.Result.{Result}
 use Rattle.tier_base.specs.Counts.{Rose}
 use Rattle.tier_base.specs.declared.names.BrokerId.{BrokerId}
@@ -93,7 +94,8 @@ module _ {D S M : Type 0} (files : D → disk.Content) (objects : S → store.Co
 
   -- A partition's registry refuses the run: the bytes that its disk last returned say so, and where the environment
   -- reports they are its file, no partition before it is refused, and nothing has changed.
-  pub record IsSaidOf (partition : PartitionId) (asked : ℕ) (why : ColdRefusal) (old new : YardContent D S M) (c c' : Control) : Type 0 where
+  pub record IsSaidOf (partition : PartitionId) (asked : ℕ) (why : ColdRefusal) (old new : YardContent D S M)
+      (c c' : Control) : Type 0 where
     pub bytes : List ℕ
     pub read : ReadsLast partition bytes c c'
     pub says : says asked (view_in bytes) ≡ Some why
@@ -104,6 +106,7 @@ module _ {D S M : Type 0} (files : D → disk.Content) (objects : S → store.Co
   -- why a run with so many brokers was refused
   abbrev pub IsRefusedSo : ℕ → YardContent D S M → YardContent D S M → Control → Control → YardRefusal → Type 0
   IsRefusedSo asked old new c c' Fault = Rose c.faults c'.faults
-  IsRefusedSo asked old new c c' (Mismatch p kept wanted) = (wanted ≡ asked) × IsSaidOf p asked (cold.Brokers kept wanted) old new c c'
+  IsRefusedSo asked old new c c' (Mismatch p kept wanted) =
+      (wanted ≡ asked) × IsSaidOf p asked (cold.Brokers kept wanted) old new c c'
   IsRefusedSo asked old new c c' (BadRegistry p at) = IsSaidOf p asked (cold.BadRegistry at) old new c c'
   IsRefusedSo asked old new c c' NoMemory = Unit {0}

@@ -40,20 +40,23 @@ module _ {D : Type 0} (disk : DiskGhosts D) where
   -- what the registry's disk last returned refuses the run, and where it is observable that is its file
   pub record IsOfFile (asked : ℕ) (registry kept : D) (why : ColdRefusal) : Type 0 where
     pub says : says asked (view_in (disk.control kept).last_read) ≡ Some why
-    pub file : IsTrue (disk.content registry).is_observable → (disk.content registry).files Registry ≡ Some (disk.control kept).last_read
+    pub file : IsTrue (disk.content registry).is_observable
+        → (disk.content registry).files Registry ≡ Some (disk.control kept).last_read
 
 module _ {D S M : Type 0} (disk : DiskGhosts D) (meta : MetaGhosts M) where
   -- a device failed, of those that were passed in unarmed and came back so
   pub record DeviceFailed (devices back : Devices D S M) : Type 0 where
     pub disks : AllLast disk.control devices.disks.items back.disks.items
     pub notes : Lasts (meta.control devices.meta) (meta.control back.meta)
-    pub one : OneFailed disk.control devices.disks.items back.disks.items ⊎ Rose (meta.control devices.meta).faults (meta.control back.meta).faults
+    pub one : OneFailed disk.control devices.disks.items back.disks.items
+        ⊎ Rose (meta.control devices.meta).faults (meta.control back.meta).faults
 
   -- a partition's run with so many brokers was refused for this: with its devices passed in, and given back
   abbrev pub IsRunRefused : ℕ → Devices D S M → D → Devices D S M → D → ColdRefusal → Type 0
   IsRunRefused asked devices registry back kept cold.RegistryFault = 0 < (disk.control kept).faults
   IsRunRefused asked devices registry back kept cold.DeviceFault = DeviceFailed devices back
-  IsRunRefused asked devices registry back kept (cold.BadRegistry at) = IsOfFile disk asked registry kept (cold.BadRegistry at)
+  IsRunRefused asked devices registry back kept (cold.BadRegistry at) =
+      IsOfFile disk asked registry kept (cold.BadRegistry at)
   IsRunRefused asked devices registry back kept (cold.Brokers k a) =
       IsOfFile disk asked registry kept (cold.Brokers k a)
   IsRunRefused asked devices registry back kept cold.NoMemory = Unit {0}

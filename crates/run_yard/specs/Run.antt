@@ -29,8 +29,9 @@ use Rattle.script_lang.specs.declared.script.PartScript.{PartScript}
 use Rattle.trace_text.specs.Trace.{journal_text}
 use Rattle.run_yard.specs.Opens.{MayBeginIn}
 
--- A run of the plain log from a state, which ends with the safety rules: each fetch is given a part of the log of a leader epoch as
--- the run ends, and while elections are clean of what is committed then; no command is answered `Damaged`.
+-- A run of the plain log from a state, which ends with the safety rules: each fetch is given a part of the log of a
+-- leader epoch as the run ends, and while elections are clean of what is committed then; no command is answered
+-- `Damaged`.
 pub record IsSafeRun (opening : State) (lists : List ActorList) (journal : List JournalEntry) : Type 0 where
   pub last : State
   pub replays : replay lists opening journal ≡ Some last
@@ -56,7 +57,8 @@ module _ {D S M : Type 0} (disk : DiskGhosts D) (store : StoreGhosts S) (meta : 
   -- other. A power cut at any moment of the run's steps leaves the state before or after the step that it comes in. For
   -- each plain state in which a run may begin over the devices that were passed in, it is a run of the plain log from
   -- there, and the devices that come back represent what is left of the state that it leads to.
-  pub record IsRunOver (config : Config) (part : PartScript) (devices : Devices D S M) (registry : D) (journal : List JournalEntry)
+  pub record IsRunOver (config : Config) (part : PartScript) (devices : Devices D S M) (registry : D)
+      (journal : List JournalEntry)
       (back : Devices D S M) (kept : D) : Type 0 where
     pub first : Running D S M
     pub last : Running D S M

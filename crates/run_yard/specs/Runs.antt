@@ -22,7 +22,8 @@ module _ {D S M : Type 0} (disk : DiskGhosts D) (store : StoreGhosts S) (meta : 
   -- A partition's number and journal: it was run on devices that came back with these counts. Where the environment is
   -- observable, they had what it held before, and it holds now what came back; and where no registry was there, the run
   -- began in the fresh state.
-  pub record IsRunOnDevices (config : Config) (part : PartScript) (was held : YardContent D S M) (run : ℕ × List JournalEntry) (came : List Came) : Type 0 where
+  pub record IsRunOnDevices (config : Config) (part : PartScript) (was held : YardContent D S M)
+      (run : ℕ × List JournalEntry) (came : List Came) : Type 0 where
     pub partition : run.0 ≡ part.partition.0
     pub devices : Devices D S M
     pub registry : D
@@ -36,7 +37,8 @@ module _ {D S M : Type 0} (disk : DiskGhosts D) (store : StoreGhosts S) (meta : 
     pub holds : IsTrue held.is_observable → HoldsAll disk.content part.partition back kept held
 
   -- the text is the trace of such a run, and each device that was provided is back
-  pub record RunsIn (config : Config) (part : PartScript) (was held : YardContent D S M) (text : List ℕ) (old new : Control) : Type 0 where
+  pub record RunsIn (config : Config) (part : PartScript) (was held : YardContent D S M) (text : List ℕ)
+      (old new : Control) : Type 0 where
     pub run : ℕ × List JournalEntry
     pub came : List Came
     pub is : IsRunOnDevices config part was held run came
@@ -44,15 +46,18 @@ module _ {D S M : Type 0} (disk : DiskGhosts D) (store : StoreGhosts S) (meta : 
     pub uses : Uses came old new
 
   -- each partition has its run
-  abbrev pub AreRunsIn : Config → YardContent D S M → YardContent D S M → List PartScript → List (ℕ × List JournalEntry) → List Came → Type 0
+  abbrev pub AreRunsIn : Config → YardContent D S M → YardContent D S M → List PartScript → List (ℕ × List JournalEntry)
+      → List Came → Type 0
   AreRunsIn config was held [] [] came = came ≡ []
   AreRunsIn config was held (part ∷ parts) (run ∷ runs) came =
-      (front : List Came) × (rest : List Came) × (came ≡ front ++ rest) × IsRunOnDevices config part was held run front × AreRunsIn config was held parts runs rest
+      (front : List Came) × (rest : List Came) × (came ≡ front ++ rest) × IsRunOnDevices config part was held run front
+      × AreRunsIn config was held parts runs rest
   AreRunsIn config was held [] (run ∷ runs) came = ⊥
   AreRunsIn config was held (part ∷ parts) [] came = ⊥
 
   -- the text is the trace of a run of each partition, and each device that was provided is back, in their order
-  pub record IsTextOfRuns (config : Config) (parts : List PartScript) (was held : YardContent D S M) (text : List ℕ) (old new : Control) : Type 0 where
+  pub record IsTextOfRuns (config : Config) (parts : List PartScript) (was held : YardContent D S M) (text : List ℕ)
+      (old new : Control) : Type 0 where
     pub runs : List (ℕ × List JournalEntry)
     pub came : List Came
     pub are : AreRunsIn config was held parts runs came
@@ -60,10 +65,12 @@ module _ {D S M : Type 0} (disk : DiskGhosts D) (store : StoreGhosts S) (meta : 
     pub uses : Uses came old new
 
   -- The registries were read first, which changed nothing; none refused the run, and then the partitions were run.
-  pub record IsReadAndRun (config : Config) (parts : List PartScript) (was held : YardContent D S M) (text : List ℕ) (old new : Control) : Type 0 where
+  pub record IsReadAndRun (config : Config) (parts : List PartScript) (was held : YardContent D S M) (text : List ℕ)
+      (old new : Control) : Type 0 where
     pub found : YardContent D S M
     pub asked : Control
     pub same : IsTrue was.is_observable → OnlyReads disk.content store.content meta.content was found
-    pub suit : IsTrue was.is_observable → All (λ part. Suits disk.content store.content meta.content config.brokers found part.partition) parts
+    pub suit : IsTrue was.is_observable → All
+        (λ part. Suits disk.content store.content meta.content config.brokers found part.partition) parts
     pub read : AllCameBack old asked
     pub text_is : IsTextOfRuns config parts found held text asked new

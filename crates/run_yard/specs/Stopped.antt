@@ -79,13 +79,14 @@ module _ {D S M : Type 0} (disk : DiskGhosts D) (store : StoreGhosts S) (meta : 
     pub safe : PlainSafe last
     pub stand : StandAs partition devices registry (cold_of last)
 
-  -- The partition was opened over these devices, and steps led to those: a power cut at any moment of a step leaves the state before
-  -- or after it.
+  -- The partition was opened over these devices, and steps led to those: a power cut at any moment of a step leaves
+  -- the state before or after it.
   pub record WasStepped (config : Config) (part : PartScript) (devices : Devices D S M) (registry : D)
       (back : Devices D S M) (kept : D) : Type 0 where
     pub first : Running D S M
     pub last : Running D S M
-    pub starts : IsPartitionOpened disk store meta part.partition config part.lists devices.disks.items devices.store devices.meta registry first
+    pub starts : IsPartitionOpened disk store meta part.partition config part.lists devices.disks.items devices.store
+        devices.meta registry first
     pub through : RunsThrough disk store meta first last
     pub its_devices : AreDevicesOf disk store meta last.world back.disks.items back.store back.meta
     pub its_registry : kept ≡ last.reg

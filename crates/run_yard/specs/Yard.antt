@@ -6,7 +6,8 @@
 --   HandedOut n old new         so many devices went out
 --   CameBack came old new       devices came back with these counts
 --   Uses came old new           devices went out, and all are back with these counts
-use Rattle.std.specs.Prelude.{◌≡◌, ◌≢◌, ℕ, ◌+◌, ◌≤◌, if◌then◌else◌, List, [], ◌∷◌, ◌++◌, map, length, Some, slice_get, IsTrue}
+use Rattle.std.specs.Prelude.{◌≡◌, ◌≢◌, ℕ, ◌+◌, ◌≤◌, if◌then◌else◌, List, [], ◌∷◌}
+use Rattle.std.specs.Prelude.{◌++◌, map, length, Some, slice_get, IsTrue}
 use Rattle.tier_base.specs.Counts.{counted}
 use Rattle.tier_base.specs.Device.{Control as DeviceControl}
 use Rattle.tier_base.specs.declared.names.BrokerId.{BrokerId}
@@ -27,7 +28,8 @@ came_of control device = record { faults = (control device).faults; armed = (con
 module _ {D S M : Type 0} (disk : DiskGhosts D) (store : StoreGhosts S) (meta : MetaGhosts M) where
   -- the counts with which a partition's devices come back, the disk of its registry last
   abbrev pub cames_of : Devices D S M → D → List Came
-  cames_of devices registry = (map (came_of disk.control) devices.disks.items ++ came_of store.control devices.store ∷ came_of meta.control devices.meta ∷ [])
+  cames_of devices registry = (map (came_of disk.control) devices.disks.items
+      ++ came_of store.control devices.store ∷ came_of meta.control devices.meta ∷ [])
       ++ came_of disk.control registry ∷ []
 
 -- the faults of an environment after devices came back so
@@ -86,13 +88,15 @@ module _ {D S M : Type 0} where
   -- the disks of the partition's first so many brokers are back, and nothing else has changed
   pub record KeepsDisks (partition : PartitionId) (disks : List D) (old new : YardContent D S M) : Type 0 where
     pub only : OnlyOf partition old new
-    pub here : IsTrue old.is_observable → (b : BrokerId) (disk : D) → slice_get disks b.0 ≡ Some disk → new.disks partition b ≡ Some disk
+    pub here : IsTrue old.is_observable → (b : BrokerId) (disk : D) → slice_get disks b.0 ≡ Some disk
+        → new.disks partition b ≡ Some disk
     pub past : IsTrue old.is_observable → KeepsFrom partition (length disks) old new
     pub rest : IsTrue old.is_observable → KeepsRest partition old new
 
   -- the environment holds these devices of the partition, but for the disk of its registry
   pub record YardHolds (partition : PartitionId) (devices : Devices D S M) (held : YardContent D S M) : Type 0 where
-    pub disks : (b : BrokerId) (disk : D) → slice_get devices.disks.items b.0 ≡ Some disk → held.disks partition b ≡ Some disk
+    pub disks : (b : BrokerId) (disk : D) → slice_get devices.disks.items b.0 ≡ Some disk
+        → held.disks partition b ≡ Some disk
     pub store : held.stores partition ≡ Some devices.store
     pub log : held.logs partition ≡ Some devices.meta
 
@@ -105,10 +109,12 @@ module _ {D S M : Type 0} where
 
 module _ {D S M : Type 0} (files : D → disk.Content) where
   -- it holds all of them
-  pub record HoldsAll (partition : PartitionId) (devices : Devices D S M) (registry : D) (held : YardContent D S M) : Type 0 where
+  pub record HoldsAll (partition : PartitionId) (devices : Devices D S M) (registry : D)
+      (held : YardContent D S M) : Type 0 where
     pub others : YardHolds partition devices held
     pub file : HoldsDisk files registry (held.registries partition)
 
-  pub record KeepsAll (partition : PartitionId) (devices : Devices D S M) (registry : D) (old new : YardContent D S M) : Type 0 where
+  pub record KeepsAll (partition : PartitionId) (devices : Devices D S M) (registry : D)
+      (old new : YardContent D S M) : Type 0 where
     pub only : OnlyOf partition old new
     pub here : IsTrue old.is_observable → HoldsAll partition devices registry new

@@ -37,7 +37,8 @@ fn check_one<Y: Yard>(yard: &mut Y, partition: PartitionId, asked: u16) -> Resul
         → Suits Y.D.content Y.S.content Y.M.content asked (Y.held yard.old) q }
     ensures suits { OnOk result (IsTrue (Y.held yard.old).is_observable
         → Suits Y.D.content Y.S.content Y.M.content asked (Y.held yard.old) partition) }
-    ensures refused { IfErr result (IsRefusedSo Y.D.content Y.S.content Y.M.content asked (Y.held yard.old) (Y.held yard.new)
+    ensures refused { IfErr result (IsRefusedSo Y.D.content Y.S.content Y.M.content asked (Y.held yard.old)
+        (Y.held yard.new)
         (Y.control yard.old) (Y.control yard.new)) }
 
     // Whatever it answers, nothing has changed.
@@ -69,7 +70,8 @@ pub(crate) fn check_all<Y: Yard>(
     requires numbered { AreNumbered 0 parts.now }
     ensures suit { OnOk result (IsTrue (Y.held yard.old).is_observable
         → All (λ part. Suits Y.D.content Y.S.content Y.M.content asked (Y.held yard.old) part.partition) parts.now) }
-    ensures refused { IfErr result (IsRefusedSo Y.D.content Y.S.content Y.M.content asked (Y.held yard.old) (Y.held yard.new)
+    ensures refused { IfErr result (IsRefusedSo Y.D.content Y.S.content Y.M.content asked (Y.held yard.old)
+        (Y.held yard.new)
         (Y.control yard.old) (Y.control yard.new)) }
 
     // Whatever it answers, nothing has changed.

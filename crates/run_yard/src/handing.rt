@@ -24,10 +24,13 @@ fn hand_disks<Y: Yard>(
     count: u16,
 ) -> Result<Vec<Y::D>, Trouble>
     requires few { count ≤ 8 }
-    ensures disks { IfOk result (λ disks. AreHandedDisks Y.D.Disk Y.S.Store Y.M.MetaLog partition count disks.items (Y.held yard.old)) }
+    ensures disks { IfOk result (λ disks. AreHandedDisks Y.D.Disk Y.S.Store Y.M.MetaLog partition count disks.items
+        (Y.held yard.old)) }
     ensures control { OnOk result (HandedOut count (Y.control yard.old) (Y.control yard.new)) }
-    ensures rest { OnOk result (IsTrue (Y.held yard.old).is_observable → KeepsRest partition (Y.held yard.old) (Y.held yard.new)) }
-    ensures past { OnOk result (IsTrue (Y.held yard.old).is_observable → KeepsFrom partition count (Y.held yard.old) (Y.held yard.new)) }
+    ensures rest { OnOk result (IsTrue (Y.held yard.old).is_observable
+        → KeepsRest partition (Y.held yard.old) (Y.held yard.new)) }
+    ensures past { OnOk result (IsTrue (Y.held yard.old).is_observable
+        → KeepsFrom partition count (Y.held yard.old) (Y.held yard.new)) }
     ensures only { OnOk result (OnlyOf partition (Y.held yard.old) (Y.held yard.new)) }
     ensures is_observable { (Y.held yard.new).is_observable ≡ (Y.held yard.old).is_observable }
     ensures unread { (Y.control yard.new).registries ≡ (Y.control yard.old).registries }
@@ -57,11 +60,13 @@ fn hand_devices<Y: Yard>(
     count: u16,
 ) -> Result<Devices<Y::D, Y::S, Y::M>, Trouble>
     requires few { count ≤ 8 }
-    ensures devices { IfOk result (λ devices. AreHanded Y.D.Disk Y.S.Store Y.M.MetaLog partition count devices (Y.held yard.old)) }
+    ensures devices { IfOk result (λ devices. AreHanded Y.D.Disk Y.S.Store Y.M.MetaLog partition count devices
+        (Y.held yard.old)) }
     ensures control { OnOk result (HandedOut (count + 2) (Y.control yard.old) (Y.control yard.new)) }
     ensures registry { OnOk result (IsTrue (Y.held yard.old).is_observable
         → (Y.held yard.new).registries partition ≡ (Y.held yard.old).registries partition) }
-    ensures past { OnOk result (IsTrue (Y.held yard.old).is_observable → KeepsFrom partition count (Y.held yard.old) (Y.held yard.new)) }
+    ensures past { OnOk result (IsTrue (Y.held yard.old).is_observable
+        → KeepsFrom partition count (Y.held yard.old) (Y.held yard.new)) }
     ensures only { OnOk result (OnlyOf partition (Y.held yard.old) (Y.held yard.new)) }
     ensures is_observable { (Y.held yard.new).is_observable ≡ (Y.held yard.old).is_observable }
     ensures unread { (Y.control yard.new).registries ≡ (Y.control yard.old).registries }
@@ -96,7 +101,8 @@ pub(crate) fn hand_out<Y: Yard>(
     count: u16,
 ) -> Result<(Devices<Y::D, Y::S, Y::M>, Y::D), Trouble>
     requires few { count ≤ 8 }
-    ensures devices { IfOk result (λ all. AreAllHanded Y.D.Disk Y.S.Store Y.M.MetaLog partition count all.0 all.1 (Y.held yard.old)) }
+    ensures devices { IfOk result (λ all. AreAllHanded Y.D.Disk Y.S.Store Y.M.MetaLog partition count all.0 all.1
+        (Y.held yard.old)) }
     ensures control { OnOk result (HandedOut (count + 3) (Y.control yard.old) (Y.control yard.new)) }
     ensures only { OnOk result (OnlyOf partition (Y.held yard.old) (Y.held yard.new)) }
     ensures is_observable { (Y.held yard.new).is_observable ≡ (Y.held yard.old).is_observable }

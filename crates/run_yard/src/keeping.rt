@@ -30,7 +30,8 @@ pub(crate) fn keep<Y: Yard>(
 )
     requires out { length devices.disks.items + 2 ≤ (Y.control yard.old).out }
     requires few { length devices.disks.items ≤ 8 }
-    ensures control { CameBack (map (came_of Y.D.control) devices.disks.items ++ came_of Y.S.control devices.store ∷ came_of Y.M.control devices.meta ∷ [])
+    ensures control { CameBack (map (came_of Y.D.control) devices.disks.items
+        ++ came_of Y.S.control devices.store ∷ came_of Y.M.control devices.meta ∷ [])
         (Y.control yard.old) (Y.control yard.new) }
     ensures held { KeepsDevices partition devices (Y.held yard.old) (Y.held yard.new) }
     ensures unread { (Y.control yard.new).registries ≡ (Y.control yard.old).registries }
@@ -50,7 +51,8 @@ pub(crate) fn keep_all<Y: Yard>(
 )
     requires out { length devices.disks.items + 3 ≤ (Y.control yard.old).out }
     requires few { length devices.disks.items ≤ 8 }
-    ensures control { CameBack (cames_of Y.D.Disk Y.S.Store Y.M.MetaLog devices registry) (Y.control yard.old) (Y.control yard.new) }
+    ensures control { CameBack (cames_of Y.D.Disk Y.S.Store Y.M.MetaLog devices registry) (Y.control yard.old)
+        (Y.control yard.new) }
     ensures held { KeepsAll Y.D.content partition devices registry (Y.held yard.old) (Y.held yard.new) }
     ensures read { (Y.control yard.new).registries ≡ (Y.control yard.old).registries
         ++ record { partition = partition; last_read = (Y.D.control registry).last_read } ∷ [] }

@@ -72,7 +72,8 @@ pub fn run_on<D: Disk, S: Store, M: MetaLog>(
     requires unarmed { (D.control registry).armed ≡ false }
     ensures text { IfOk result.2 (λ text. IsRunText D.Disk S.Store M.MetaLog config part devices registry text.items
         result.0 result.1) }
-    ensures refused { IfErr result.2 (λ why. IsRunRefused D.Disk M.MetaLog config.brokers devices registry result.0 result.1 why) }
+    ensures refused { IfErr result.2 (λ why. IsRunRefused D.Disk M.MetaLog config.brokers devices registry result.0
+        result.1 why) }
 
     // A refusal leaves devices that represent the state before the run, or what is left of one to which commands led.
     ensures stopped { OnErr result.2 (IsRunStopped D.Disk S.Store M.MetaLog config part devices registry

@@ -34,9 +34,11 @@ fn run_part<Y: Yard>(
     requires ends { StepsToEnds part }
     requires ready { IsTrue (Y.held yard.old).is_observable
         → IsReady Y.D.content Y.S.content Y.M.content config.brokers (Y.held yard.old) part.partition }
-    ensures text { IfOk result (λ text. RunsIn Y.D.Disk Y.S.Store Y.M.MetaLog config part (Y.held yard.old) (Y.held yard.new) text.items (Y.control yard.old) (Y.control yard.new)) }
+    ensures text { IfOk result (λ text. RunsIn Y.D.Disk Y.S.Store Y.M.MetaLog config part (Y.held yard.old)
+        (Y.held yard.new) text.items (Y.control yard.old) (Y.control yard.new)) }
     ensures only { OnOk result (OnlyOf part.partition (Y.held yard.old) (Y.held yard.new)) }
-    ensures refused { IfErr result (IsRefusedSo Y.D.content Y.S.content Y.M.content config.brokers (Y.held yard.old) (Y.held yard.new)
+    ensures refused { IfErr result (IsRefusedSo Y.D.content Y.S.content Y.M.content config.brokers (Y.held yard.old)
+        (Y.held yard.new)
         (Y.control yard.old) (Y.control yard.new)) }
     ensures plain { IfErr result (λ why. IsTrue (Y.held yard.old).is_observable → IsOfDevices why) }
     ensures stopped { OnErr result (IsTrue (Y.held yard.old).is_observable
@@ -84,9 +86,12 @@ fn run_parts<Y: Yard>(
     requires ends { All StepsToEnds parts }
     requires numbered { AreNumbered 0 parts }
     requires ready { IsTrue (Y.held yard.old).is_observable
-        → All (λ part. IsReady Y.D.content Y.S.content Y.M.content config.brokers (Y.held yard.old) part.partition) parts }
-    ensures text { IfOk result (λ text. IsTextOfRuns Y.D.Disk Y.S.Store Y.M.MetaLog config parts (Y.held yard.old) (Y.held yard.new) text.items (Y.control yard.old) (Y.control yard.new)) }
-    ensures refused { IfErr result (IsRefusedSo Y.D.content Y.S.content Y.M.content config.brokers (Y.held yard.old) (Y.held yard.new)
+        → All (λ part. IsReady Y.D.content Y.S.content Y.M.content config.brokers (Y.held yard.old) part.partition)
+        parts }
+    ensures text { IfOk result (λ text. IsTextOfRuns Y.D.Disk Y.S.Store Y.M.MetaLog config parts (Y.held yard.old)
+        (Y.held yard.new) text.items (Y.control yard.old) (Y.control yard.new)) }
+    ensures refused { IfErr result (IsRefusedSo Y.D.content Y.S.content Y.M.content config.brokers (Y.held yard.old)
+        (Y.held yard.new)
         (Y.control yard.old) (Y.control yard.new)) }
     ensures stopped { OnErr result (IsTrue (Y.held yard.old).is_observable
         → AreStopped Y.D.Disk Y.S.Store Y.M.MetaLog config parts (Y.held yard.old) (Y.held yard.new)) }
@@ -122,11 +127,13 @@ pub fn run_in_yard<Y: Yard>(
     requires numbered { AreNumbered 0 parts }
     requires bare { IsTrue (Y.held yard.old).is_observable → (p : Id)
         → IsBare Y.D.content Y.S.content Y.M.content (Y.held yard.old) p → ⊥ }
-    ensures text { IfOk result (λ text. IsReadAndRun Y.D.Disk Y.S.Store Y.M.MetaLog config parts (Y.held yard.old) (Y.held yard.new) text.items (Y.control yard.old) (Y.control yard.new)) }
+    ensures text { IfOk result (λ text. IsReadAndRun Y.D.Disk Y.S.Store Y.M.MetaLog config parts (Y.held yard.old)
+        (Y.held yard.new) text.items (Y.control yard.old) (Y.control yard.new)) }
 
     // Each refusal has its cause: a fault the environment has counted, another count of brokers or a damaged file was
     // read.
-    ensures refused { IfErr result (IsRefusedSo Y.D.content Y.S.content Y.M.content config.brokers (Y.held yard.old) (Y.held yard.new)
+    ensures refused { IfErr result (IsRefusedSo Y.D.content Y.S.content Y.M.content config.brokers (Y.held yard.old)
+        (Y.held yard.new)
         (Y.control yard.old) (Y.control yard.new)) }
 
     // A refusal leaves each partition as it was, as a whole run leaves it, or as a run that was refused on its way.

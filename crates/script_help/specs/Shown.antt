@@ -4,7 +4,8 @@
 --   "    " spaces ^ LF
 --
 -- Of a long line the part round the caret is shown. A tab is shown as a space, and a byte that isn't printable as ?.
-use Rattle.std.specs.Prelude.{◌≡◌, ◌≢◌, ℕ, ◌+◌, ◌==◌, ◌&&◌, nat_le, if◌then◌else◌, List, [], ◌∷◌, ◌++◌, length, map, replicate, codes}
+use Rattle.std.specs.Prelude.{◌≡◌, ◌≢◌, ℕ, ◌+◌, ◌==◌, ◌&&◌, nat_le, if◌then◌else◌, List}
+use Rattle.std.specs.Prelude.{[], ◌∷◌, ◌++◌, length, map, replicate, codes}
 use Rattle.script_lang.specs.declared.refusal.Why.{Why}
 use Rattle.script_lang.specs.declared.refusal.Why.TheVariants.{NotText}
 use Rattle.script_help.specs.Places.{IsPartOf, IsWordStart}

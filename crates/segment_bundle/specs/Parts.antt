@@ -10,7 +10,8 @@
 -- Source: KIP-405, LogSegmentData. The formats of the indexes and of the epochs are in the modules Offsets and Times of
 -- sparse_index and Text of epoch_line. The pack is ours: its layout (the module Layout of tier_base) is what KIP-917
 -- lets a store keep of a segment.
-use Rattle.std.specs.Prelude.{◌≡◌, ◌≢◌, ℕ, ◌^◌, ◌&&◌, nat_lt, Bool, if◌then◌else◌, List, [], ◌∷◌, ◌++◌, length, Option, Some, None}
+use Rattle.std.specs.Prelude.{◌≡◌, ◌≢◌, ℕ, ◌^◌, ◌&&◌, nat_lt, Bool, if◌then◌else◌, List}
+use Rattle.std.specs.Prelude.{[], ◌∷◌, ◌++◌, length, Option, Some, None}
 use Rattle.log_terms.specs.Batch.{base_of}
 use Rattle.log_terms.specs.Log.{joined, end_from}
 use Rattle.tier_base.specs.declared.plain.Part.{Part}

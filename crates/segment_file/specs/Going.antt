@@ -1,5 +1,6 @@
 -- A run on its way.
-use Rattle.std.specs.Prelude.{◌≡◌, ℕ, ◌+◌, ◌<◌, ◌≤◌, true, List, ◌∷◌, ◌++◌, length, drop, Option, Some, None, Result, Ok, Err}
+use Rattle.std.specs.Prelude.{◌≡◌, ℕ, ◌+◌, ◌<◌, ◌≤◌, true, List, ◌∷◌, ◌++◌, length}
+use Rattle.std.specs.Prelude.{drop, Option, Some, None, Result, Ok, Err}
 use Rattle.log_terms.specs.Batch.{last_of}
 use Rattle.log_terms.specs.Log.{joined, from_offset}
 use Rattle.record_batch.specs.Check.{headed}
@@ -33,7 +34,8 @@ pub record IsGoing (bytes : List ℕ) (offset limit bound : ℕ) (going : Going)
 -- how it has ended: at the bound, or before a batch that would pass the limit
 pub record HasEnded (bytes : List ℕ) (offset limit bound : ℕ) (going : Going) : Type 0 where
   pub is : IsGoing bytes offset limit bound going
-  pub stops : going.end < bound → would_pass limit (length (joined (is.first ∷ is.others))) (headed (drop going.to bytes)) ≡ true
+  pub stops : going.end < bound → would_pass limit (length (joined (is.first ∷ is.others)))
+      (headed (drop going.to bytes)) ≡ true
 
 -- a run has begun, or can't
 abbrev pub GoingFrom : List ℕ → ℕ → ℕ → ℕ → Result Going BadAt → Type 0

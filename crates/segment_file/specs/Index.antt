@@ -7,7 +7,8 @@
 -- entry under the same condition.
 --
 -- Source: Kafka's LogSegment, append and onBecomeInactiveSegment. Its timestamp of none is -1 too.
-use Rattle.std.specs.Prelude.{ℕ, ◌+◌, ◌-◌, nat_lt, Bool, if◌then◌else◌, ℤ, negsuc, int_lt, List, [], ◌∷◌, ◌++◌, length, Some, None}
+use Rattle.std.specs.Prelude.{ℕ, ◌+◌, ◌-◌, nat_lt, Bool, if◌then◌else◌, ℤ, negsuc}
+use Rattle.std.specs.Prelude.{int_lt, List, [], ◌∷◌, ◌++◌, length, Some, None}
 use Rattle.std.specs.Int.{w32, w64, cast_unsigned}
 use Rattle.std.specs.declared.option.Option.{Option}
 use Rattle.log_terms.specs.Batch.{last_of, max_ts_of}

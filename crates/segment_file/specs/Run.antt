@@ -2,7 +2,8 @@
 --
 -- A run begins with the batch that holds an offset. It is one batch, or several that fit a limit. No batch up to its
 -- end ends past a bound, the smaller of the high watermark and the end of the piece.
-use Rattle.std.specs.Prelude.{◌≡◌, ◌≢◌, ℕ, ◌+◌, ◌<◌, ◌≤◌, min, nat_lt, Bool, true, false, List, [], ◌∷◌, ◌++◌, length, Option, Some, None, Result, Ok, Err, IsOk}
+use Rattle.std.specs.Prelude.{◌≡◌, ◌≢◌, ℕ, ◌+◌, ◌<◌, ◌≤◌, min, nat_lt, Bool, true, false, List, []}
+use Rattle.std.specs.Prelude.{◌∷◌, ◌++◌, length, Option, Some, None, Result, Ok, Err, IsOk}
 use Rattle.std.specs.Option.{ForSome}
 use Rattle.tier_base.specs.declared.plain.Stop.{Stop}
 use Rattle.tier_base.specs.declared.plain.Stop.TheVariants.{Mark, Piece, Limit}
@@ -83,7 +84,8 @@ pub record IsRunCutAt (bytes : List ℕ) (offset limit mark piece_end : ℕ) (cu
   pub from : cut.from + length (joined (first ∷ others)) ≡ cut.to
   pub fits : Fits limit (first ∷ others)
   pub ends : end_after None batches ≡ Some cut.next
-  pub stop_is : StopIs cut.stop cut.next mark piece_end (would_pass limit (length (joined (first ∷ others))) (headed rest))
+  pub stop_is : StopIs cut.stop cut.next mark piece_end
+      (would_pass limit (length (joined (first ∷ others))) (headed rest))
 
 -- the run hasn't ended, and at this place no batch follows
 pub record IsBadAt (bytes : List ℕ) (offset limit bound at : ℕ) : Type 0 where

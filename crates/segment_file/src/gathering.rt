@@ -3,7 +3,8 @@
 ghost use Rattle.std.specs.Prelude.{◌≡◌, ◌↔◌, ◌+◌, ◌<◌, ◌≤◌, ◌^◌, ℕ, List, IsTrue, IfSome, OnOk, OnErr, None};
 ghost use Rattle.std.specs.Option.{ForSome};
 ghost use Rattle.epoch_line.specs.Line.{last_entry};
-ghost use Rattle.segment_file.specs.Gathering.{MayComeNext, IsGathered, GoesOnAt, NothingAt, Gathers, later_ts, with_epoch, gained};
+ghost use Rattle.segment_file.specs.Gathering.{MayComeNext, IsGathered, GoesOnAt, NothingAt};
+ghost use Rattle.segment_file.specs.Gathering.{Gathers, later_ts, with_epoch, gained};
 
 use crate::refusal::ClosedRefusal;
 use crate::walking::{Found, size_in, walk};
@@ -108,7 +109,8 @@ fn may_go_on(base: u64, front: &Gathered, head: &Head) -> bool
 /// Adds the batch of a head that continues.
 fn gain(base: u64, front: &mut Gathered, head: &Head) -> Result<(), AllocError>
     requires may { MayComeNext base front.old.at front.old.end front.old.epoch head.now }
-    requires epochs { ForSome (last_entry front.old.epochs) (λ entry. (entry.0 ≡ front.old.epoch) × (entry.1 < front.old.end)) }
+    requires epochs { ForSome (last_entry front.old.epochs)
+        (λ entry. (entry.0 ≡ front.old.epoch) × (entry.1 < front.old.end)) }
     ensures { OnOk result (front.new ≡ gained front.old head.now) }
 {
     let _from = base;

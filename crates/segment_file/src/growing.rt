@@ -3,13 +3,15 @@
 //! The index is sparse and says where to begin a search. The ends of all batches let a cut, and a test of an offset,
 //! read nothing.
 
-ghost use Rattle.std.specs.Prelude.{◌≡◌, ◌+◌, ◌-◌, ◌<◌, ◌≤◌, ◌^◌, [], if◌then◌else◌, ◌↔◌, IsTrue, OnOk, OnErr, length, take};
+ghost use Rattle.std.specs.Prelude.{◌≡◌, ◌+◌, ◌-◌, ◌<◌, ◌≤◌, ◌^◌, [], if◌then◌else◌, ◌↔◌};
+ghost use Rattle.std.specs.Prelude.{IsTrue, OnOk, OnErr, length, take};
 ghost use Rattle.std.specs.Int.{int_max};
 ghost use Rattle.std.specs.Option.{ForSome};
 ghost use Rattle.sparse_index.specs.Entries.{last_of};
 ghost use Rattle.sparse_index.specs.Offsets.{Rises, find};
 ghost use Rattle.segment_file.specs.Index.{placed_in, begun_at, is_due, with_offset, index_of};
-ghost use Rattle.segment_file.specs.Growing.{AreBatchesLaid, end_after, size_after, ending_by, latest_ts, with_batch, MayPush, BeginsSearch};
+ghost use Rattle.segment_file.specs.Growing.{AreBatchesLaid, end_after, size_after, ending_by};
+ghost use Rattle.segment_file.specs.Growing.{latest_ts, with_batch, MayPush, BeginsSearch};
 ghost use Rattle.segment_file.specs.Reach.{reach_at};
 
 use crate::placed::{Placed, place};
@@ -145,8 +147,9 @@ impl Growing {
         (end_of(self.base, front), size_of(front))
     }
 
-    /// Up to which position a reader needs the segment's bytes who cuts out the run at an offset: its first batch, those that
-    /// end at or below a bound and a position, and the head of the next one where these end below the bound.
+    /// Up to which position a reader needs the segment's bytes who cuts out the run at an offset: its first batch,
+    /// those that end at or below a bound and a position, and the head of the next one where these end below the
+    /// bound.
     pub fn reach(&self, offset: u64, bound: u64, top: u64) -> u32
         ensures reach { result ≡ reach_at bound top offset self.now.batches }
         ensures from { size_after 0 (ending_by offset self.now.batches) ≤ result }

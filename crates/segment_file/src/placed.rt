@@ -19,7 +19,8 @@ pub struct Placed {
 /// The batch of a head, after so many bytes of its segment.
 pub(crate) fn place(head: &Head, at: u32) -> Placed
     requires small { at + size_in head.now < 2 ^ 31 }
-    requires last_fits { cast_unsigned w64 head.now.base_offset + cast_unsigned w32 head.now.last_offset_delta < 2 ^ 64 }
+    requires last_fits { cast_unsigned w64 head.now.base_offset + cast_unsigned w32
+        head.now.last_offset_delta < 2 ^ 64 }
     ensures { result ≡ placed_in at head.now }
 {
     let delta = head.last_offset_delta.cast_unsigned() as u64;

@@ -7,7 +7,9 @@ ghost use Rattle.std.specs.Prelude.{◌≡◌, ◌<◌, ◌≤◌, ◌^◌, IfOk
 ghost use Rattle.std.specs.Option.{option_map};
 ghost use Rattle.epoch_line.specs.Line.{last_entry};
 ghost use Rattle.segment_meta.specs.Rules.{IsNote};
-ghost use Rattle.segment_meta.specs.Reading.{range_at, front_at, epoch_may, start_may, pair_at, pairs_at, whole, packed_in, entry_of, added_in, later_state, size_may, custom_in, updated_in, kind_in, note_in, seen, Answers};
+ghost use Rattle.segment_meta.specs.Reading.{range_at, front_at, epoch_may, start_may, pair_at, pairs_at, whole};
+ghost use Rattle.segment_meta.specs.Reading.{packed_in, entry_of, added_in, later_state, size_may, custom_in};
+ghost use Rattle.segment_meta.specs.Reading.{updated_in, kind_in, note_in, seen, Answers};
 
 use crate::fields::{cut, id_of, read_ts, read_u8, read_u16, read_u32, read_u64};
 use crate::note::{Entry, Front, Note};

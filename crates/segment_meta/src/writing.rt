@@ -4,7 +4,9 @@ ghost use Rattle.std.specs.Prelude.{◌≡◌, ◌≤◌, ◌++◌, ◌∷◌, [
 ghost use Rattle.std.specs.Int.{w16, w32, w64, to_be_bytes};
 ghost use Rattle.std.specs.Option.{ForSome};
 ghost use Rattle.segment_meta.specs.Rules.{IsNote, IsAdded, MayHaveCustom};
-ghost use Rattle.segment_meta.specs.Spelling.{state_code, ts_bytes, pair_bytes, pairs_bytes, span_bytes, event_bytes, entry_bytes, version_of, packed_bytes, custom_bytes, update_bytes, note_bytes};
+ghost use Rattle.segment_meta.specs.Spelling.{state_code, ts_bytes, pair_bytes, pairs_bytes, span_bytes};
+ghost use Rattle.segment_meta.specs.Spelling.{event_bytes, entry_bytes, version_of, packed_bytes};
+ghost use Rattle.segment_meta.specs.Spelling.{custom_bytes, update_bytes, note_bytes};
 
 use crate::note::{Entry, Note};
 use std::alloc::{AllocError, Global};

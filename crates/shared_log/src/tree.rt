@@ -100,7 +100,8 @@ impl Tree {
 
     /// The two trees before the last batch, the older one first.
     pub(crate) fn kids(&self) -> Option<(&Rc<Tree>, &Rc<Tree>)>
-        ensures two { IfSome result (λ kids. (batch : List ℕ) × (self.now ≡ kids.0.now.value ++ kids.1.now.value ++ batch ∷ [])) }
+        ensures two { IfSome result (λ kids. (batch : List ℕ)
+            × (self.now ≡ kids.0.now.value ++ kids.1.now.value ++ batch ∷ [])) }
         ensures one { result ≡ None → length self.now ≡ 1 }
     {
         match &self.node {

@@ -11,7 +11,8 @@ abbrev pub IsNoIndex : {X : Type 0} → (List X → Type 0) → (X → List ℕ)
 IsNoIndex {X} Are spelling bytes = (entries : List X) → Are entries → bytes ≢ bytes_of spelling entries
 
 -- the first entry that can't follow those before it; a place past 2^32 - 2 is reported as 2^32 - 1
-pub record IsFirstFall {X : Type 0} (Are : List X → Type 0) (spelling : X → List ℕ) (bytes : List ℕ) (at : ℕ) : Type 0 where
+pub record IsFirstFall {X : Type 0} (Are : List X → Type 0) (spelling : X → List ℕ) (bytes : List ℕ)
+    (at : ℕ) : Type 0 where
   pub before : List X
   pub entry : X
   pub more : List ℕ

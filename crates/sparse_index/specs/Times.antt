@@ -7,7 +7,8 @@
 -- Timestamps rise strictly, offsets don't fall. Nothing follows the last entry.
 --
 -- Source: Kafka's TimeIndex, an entry of an i64 and an i32. None is negative.
-use Rattle.std.specs.Prelude.{◌≡◌, ℕ, ◌+◌, ◌^◌, ◌<◌, ◌≤◌, nat_le, nat_lt, ℤ, pos, ◌<ℤ◌, ◌≤ℤ◌, int_le, int_lt, ◌&&◌, Bool, List, [], ◌∷◌, ◌++◌, length, Some, None, FitsSigned}
+use Rattle.std.specs.Prelude.{◌≡◌, ℕ, ◌+◌, ◌^◌, ◌<◌, ◌≤◌, nat_le, nat_lt, ℤ, pos, ◌<ℤ◌, ◌≤ℤ◌, int_le, int_lt}
+use Rattle.std.specs.Prelude.{◌&&◌, Bool, List, [], ◌∷◌, ◌++◌, length, Some, None, FitsSigned}
 use Rattle.std.specs.Int.{w32, w64, to_be_bytes, cast_unsigned}
 use Rattle.std.specs.List.{zip}
 use Rattle.std.specs.Option.{option_map}

@@ -1,6 +1,7 @@
 //! The offset index, as two columns of one length.
 
-ghost use Rattle.std.specs.Prelude.{◌≡◌, ℕ, ◌+◌, ◌-◌, ◌^◌, ◌<◌, ◌≤◌, [], map, length, count_by, nat_lt, ◌∷◌, ◌++◌, IfOk, OnOk, OnErr};
+ghost use Rattle.std.specs.Prelude.{◌≡◌, ℕ, ◌+◌, ◌-◌, ◌^◌, ◌<◌, ◌≤◌, [], map, length};
+ghost use Rattle.std.specs.Prelude.{count_by, nat_lt, ◌∷◌, ◌++◌, IfOk, OnOk, OnErr};
 ghost use Rattle.std.specs.Option.{ForSome};
 ghost use Rattle.sparse_index.specs.Entries.{last_of};
 ghost use Rattle.std.specs.List.{zip};
@@ -8,7 +9,8 @@ ghost use Rattle.std.specs.List.Sorted.{IsPartitionedBy};
 ghost use Rattle.sparse_index.specs.Bytes.{bytes_of};
 ghost use Rattle.sparse_index.specs.Columns.{AreColumns, table};
 ghost use Rattle.sparse_index.specs.Reading.{ReadsOffsets};
-ghost use Rattle.sparse_index.specs.Offsets.{AreOffsets, Rises, with_entry, is_up_to, find, cut_to, entry_bytes, may_follow};
+ghost use Rattle.sparse_index.specs.Offsets.{AreOffsets, Rises, with_entry, is_up_to, find};
+ghost use Rattle.sparse_index.specs.Offsets.{cut_to, entry_bytes, may_follow};
 
 use crate::columns::{push_both, push_u32, read_u32};
 use crate::halving::count_up_to;

@@ -1,13 +1,15 @@
 //! The time index, as two columns of one length.
 
-ghost use Rattle.std.specs.Prelude.{◌≡◌, ℕ, ℤ, pos, ◌≤ℤ◌, ◌+◌, ◌-◌, ◌^◌, ◌<◌, ◌≤◌, [], ◌∷◌, ◌++◌, map, length, count_by, int_le, int_lt, FitsSigned, IfOk, OnOk, OnErr};
+ghost use Rattle.std.specs.Prelude.{◌≡◌, ℕ, ℤ, pos, ◌≤ℤ◌, ◌+◌, ◌-◌, ◌^◌, ◌<◌, ◌≤◌, [], ◌∷◌, ◌++◌, map};
+ghost use Rattle.std.specs.Prelude.{length, count_by, int_le, int_lt, FitsSigned, IfOk, OnOk, OnErr};
 ghost use Rattle.std.specs.Int.{w64};
 ghost use Rattle.std.specs.List.{zip};
 ghost use Rattle.std.specs.Option.{ForSome};
 ghost use Rattle.sparse_index.specs.Bytes.{bytes_of};
 ghost use Rattle.sparse_index.specs.Entries.{last_of};
 ghost use Rattle.sparse_index.specs.Reading.{ReadsTimes};
-ghost use Rattle.sparse_index.specs.Times.{AreTimeColumns, AreMoments, RisesInTime, with_moment, time_table, find_time, below_time, moment_bytes, moment_follows};
+ghost use Rattle.sparse_index.specs.Times.{AreTimeColumns, AreMoments, RisesInTime, with_moment, time_table};
+ghost use Rattle.sparse_index.specs.Times.{find_time, below_time, moment_bytes, moment_follows};
 
 use crate::columns::{push_both, push_i64, push_u32, read_i64, read_u32};
 use crate::halving::count_before;

@@ -19,7 +19,8 @@ use Rattle.tier_audit.specs.declared.verdict.Flaw.{Flaw}
 use Rattle.tier_audit.specs.declared.verdict.Flaw.TheVariants.{Custom, Missing, Wrong}
 use Rattle.tier_audit.specs.declared.copies.LogFound.{LogFound}
 use Rattle.tier_audit.specs.declared.copies.LogFound.TheVariants as log_found
-use Rattle.tier_audit.specs.Whole.{AreMarks, AreHeights, IsPartRight, place_of, IsPartStored, PartsHold, all_parts, IsReadable, AreReadable}
+use Rattle.tier_audit.specs.Whole.{AreMarks, AreHeights, IsPartRight, place_of, IsPartStored}
+use Rattle.tier_audit.specs.Whole.{PartsHold, all_parts, IsReadable, AreReadable}
 use Rattle.tier_audit.specs.Entries.{ArePlaced}
 use Rattle.tier_audit.specs.Logs.{AuditsLog}
 use Rattle.tier_audit.specs.declared.log_part.LogPart.{LogPart}
@@ -35,15 +36,18 @@ pub record HasPlaced (objects : Objects) (entry : Entry) (found : List Placed) :
 -- the place that is reported of a part beside these batches
 abbrev pub IsPlaceBeside : Entry → List (List ℕ) → Part → List ℕ → ℕ → Type 0
 IsPlaceBeside entry batches Log bytes at = IsFirstBad joined (MayBeginLog entry) bytes at
-IsPlaceBeside entry batches Index bytes at = IsEntryPlace 8 (bytes_of entry_bytes) (AreMarks entry.start batches) bytes at
-IsPlaceBeside entry batches TimeIndex bytes at = IsEntryPlace 12 (bytes_of moment_bytes) (AreHeights entry.start batches) bytes at
+IsPlaceBeside entry batches Index bytes at =
+    IsEntryPlace 8 (bytes_of entry_bytes) (AreMarks entry.start batches) bytes at
+IsPlaceBeside entry batches TimeIndex bytes at =
+    IsEntryPlace 12 (bytes_of moment_bytes) (AreHeights entry.start batches) bytes at
 IsPlaceBeside entry batches Epochs bytes at = IsFirstBad concat CanBegin bytes at
 IsPlaceBeside entry batches Pack bytes at = ⊥
 
 -- what is found of a part's bytes beside these batches: that they are right, or the place that is reported
 abbrev pub AuditsPart : Entry → List (List ℕ) → Part → List ℕ → Option ℕ → Type 0
 AuditsPart entry batches part bytes None = IsPartRight entry batches part bytes
-AuditsPart entry batches part bytes (Some at) = (IsPartRight entry batches part bytes → ⊥) × IsPlaceBeside entry batches part bytes at
+AuditsPart entry batches part bytes (Some at) =
+    (IsPartRight entry batches part bytes → ⊥) × IsPlaceBeside entry batches part bytes at
 
 -- what is found of a part's bytes, by where the object ends before the part does
 abbrev pub ReadsSpot : Entry → List (List ℕ) → Part → Option ℕ → List ℕ → Option ℕ → Type 0
@@ -66,7 +70,8 @@ abbrev pub from_rest : Spot → List ℕ → ℕ → ℕ
 from_rest spot rest at = spot.at + (if at == length (capped spot.len rest) then length rest else at)
 
 -- the object of a part exists, and something is found of the part
-pub record IsWrongBeside (objects : Objects) (entry : Entry) (batches : List (List ℕ)) (part : Part) (spot : Spot) (at : ℕ) : Type 0 where
+pub record IsWrongBeside (objects : Objects) (entry : Entry) (batches : List (List ℕ)) (part : Part) (spot : Spot)
+    (at : ℕ) : Type 0 where
   pub object : List ℕ
   pub there : objects spot.key ≡ Some object
   pub within : ℕ

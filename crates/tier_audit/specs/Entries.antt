@@ -30,7 +30,8 @@ pub record IsLeftOf {X : Type 0} (items left before : List X) : Type 0 where
   pub last : last_of before ≡ last_of passed
 
 -- the entries so far, at the front of the bytes
-pub record ArePartlyRead {X : Type 0} (width : ℕ) (spelled : List X → List ℕ) (Are : List X → Type 0) (items : List X) (bytes rest : List ℕ) (left : List X) : Type 0 where
+pub record ArePartlyRead {X : Type 0} (width : ℕ) (spelled : List X → List ℕ) (Are : List X → Type 0) (items : List X)
+    (bytes rest : List ℕ) (left : List X) : Type 0 where
   pub before : List X
   pub parts : bytes ≡ spelled before ++ rest
   pub are : Are before

@@ -12,7 +12,8 @@
 --   IsWrong objects entry part at        a part exists and isn't right, and this place is reported of it
 --   IsFirstFlaw objects entries flaw     the first flaw
 --   IsAuditVerdict objects entries verdict    what an audit says
-use Rattle.std.specs.Prelude.{◌≡◌, ◌≢◌, ◌⊎◌, ℕ, ◌+◌, ◌≤◌, ◌%◌, ◌==◌, if◌then◌else◌, Bool, true, false, ◌≤ℤ◌, List, [], ◌∷◌, ◌++◌, length, Option, Some, None, IsSome}
+use Rattle.std.specs.Prelude.{◌≡◌, ◌≢◌, ◌⊎◌, ℕ, ◌+◌, ◌≤◌, ◌%◌, ◌==◌, if◌then◌else◌, Bool, true, false}
+use Rattle.std.specs.Prelude.{◌≤ℤ◌, List, [], ◌∷◌, ◌++◌, length, Option, Some, None, IsSome}
 use Rattle.std.specs.List.{AllByRecursion, concat}
 use Rattle.std.specs.Ordering.{nat_cmp, is_gt}
 use Rattle.std.specs.Cmp.Lexicographic.{slice_cmp}
@@ -41,16 +42,19 @@ use Rattle.tier_audit.specs.declared.verdict.Flaw.{Flaw}
 use Rattle.tier_audit.specs.declared.verdict.Flaw.TheVariants.{NoEntry, Left, Custom, Missing, Wrong}
 use Rattle.tier_audit.specs.declared.verdict.Verdict.{Verdict}
 use Rattle.tier_audit.specs.declared.verdict.Verdict.TheVariants.{Sound, Unsound}
-use Rattle.tier_audit.specs.Whole.{Describes, AreMarks, AreHeights, place_of, IsPartStored, PartsHold, AreReadable, IsWholeTier}
+use Rattle.tier_audit.specs.Whole.{Describes, AreMarks, AreHeights, place_of}
+use Rattle.tier_audit.specs.Whole.{IsPartStored, PartsHold, AreReadable, IsWholeTier}
 
 -- the items before a place may begin bytes, and with one more that is there they may not
-pub record IsFirstBad {X : Type 0} (spelled : List X → List ℕ) (MayBeginLog : List X → Type 0) (bytes : List ℕ) (at : ℕ) : Type 0 where
+pub record IsFirstBad {X : Type 0} (spelled : List X → List ℕ) (MayBeginLog : List X → Type 0) (bytes : List ℕ)
+    (at : ℕ) : Type 0 where
   pub before : List X
   pub rest : List ℕ
   pub parts : bytes ≡ spelled before ++ rest
   pub place : at ≡ length (spelled before)
   pub begins : MayBeginLog before
-  pub stops : (item : X) (more : List ℕ) → bytes ≡ spelled (before ++ item ∷ []) ++ more → MayBeginLog (before ++ item ∷ []) → ⊥
+  pub stops : (item : X) (more : List ℕ) → bytes ≡ spelled (before ++ item ∷ []) ++ more
+      → MayBeginLog (before ++ item ∷ []) → ⊥
 
 -- batches may begin the log of a copy: they end within it, each has the map's epoch at its base, and none is past its
 -- greatest timestamp
@@ -63,7 +67,8 @@ pub record MayBeginLog (entry : Entry) (batches : List (List ℕ)) : Type 0 wher
 -- the place that is reported of entries of one width
 abbrev pub IsEntryPlace : {X : Type 0} → ℕ → (List X → List ℕ) → (List X → Type 0) → List ℕ → ℕ → Type 0
 IsEntryPlace width spelled MayBeginLog bytes at =
-    ((length bytes % width ≢ 0) × (at ≡ length bytes)) ⊎ ((length bytes % width ≡ 0) × IsFirstBad spelled MayBeginLog bytes at)
+    ((length bytes % width ≢ 0) × (at ≡ length bytes))
+    ⊎ ((length bytes % width ≡ 0) × IsFirstBad spelled MayBeginLog bytes at)
 
 -- the batches of a copy's log, where that is right
 pub record HasCopiedLog (objects : Objects) (entry : Entry) (batches : List (List ℕ)) : Type 0 where
@@ -157,7 +162,8 @@ pub record IsFirstOfCopies (objects : Objects) (entries : List Entry) (flaw : Fl
 -- the first flaw
 abbrev pub IsFirstFlaw : Objects → List Entry → Flaw → Type 0
 IsFirstFlaw objects entries (NoEntry key) = IsFirstStray objects entries key × (entry_of key.id entries ≡ None)
-IsFirstFlaw objects entries (Left key) = IsFirstStray objects entries key × (state_of key.id entries ≡ Some DeleteFinished)
+IsFirstFlaw objects entries (Left key) =
+    IsFirstStray objects entries key × (state_of key.id entries ≡ Some DeleteFinished)
 IsFirstFlaw objects entries flaw = IsFirstOfCopies objects entries flaw
 
 -- what an audit says

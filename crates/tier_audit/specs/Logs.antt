@@ -1,5 +1,6 @@
 -- A copy's log on its way, batch by batch, beside the copy's entry.
-use Rattle.std.specs.Prelude.{◌≡◌, ◌≢◌, ℕ, ◌+◌, ◌^◌, ◌<◌, ◌≤◌, ◌≤ℤ◌, List, [], ◌∷◌, ◌++◌, length, take, drop, Option, Some, None, IsOk}
+use Rattle.std.specs.Prelude.{◌≡◌, ◌≢◌, ℕ, ◌+◌, ◌^◌, ◌<◌, ◌≤◌, ◌≤ℤ◌, List, [], ◌∷◌}
+use Rattle.std.specs.Prelude.{◌++◌, length, take, drop, Option, Some, None, IsOk}
 use Rattle.std.specs.Int.{w32, w64, cast_unsigned}
 use mathlib.Core.List.{IsPrefix}
 use Rattle.log_terms.specs.Batch.{base_of, epoch_of, last_of, max_ts_of}
@@ -28,7 +29,8 @@ AreBegun map batches (Some snapshot) = (line_of batches ≡ take snapshot map) �
 abbrev pub BeginsMore : List (ℕ × ℕ) → Option ℕ → ℕ → ℕ → Option ℕ → Type 0
 BeginsMore map None epoch base more = more ≡ None
 BeginsMore map (Some snapshot) epoch base None = IsPrefix (with_epoch (take snapshot map) epoch base) map → ⊥
-BeginsMore map (Some snapshot) epoch base (Some more) = (with_epoch (take snapshot map) epoch base ≡ take more map) × (more ≤ length map)
+BeginsMore map (Some snapshot) epoch base (Some more) =
+    (with_epoch (take snapshot map) epoch base ≡ take more map) × (more ≤ length map)
 
 -- the batches of a log's front come to this, and may begin the log
 pub record IsLogFront (entry : Entry) (bytes : List ℕ) (front : Front) : Type 0 where
@@ -85,7 +87,8 @@ pub record FrontGains (old : Front) (next : Placed × Option ℕ) (new : Front) 
 -- a front that goes no further
 pub record IsFrontStopped (entry : Entry) (bytes : List ℕ) (front : Front) : Type 0 where
   pub is : IsLogFront entry bytes front
-  pub stops : (batch more : List ℕ) → bytes ≡ joined (is.batches ++ batch ∷ []) ++ more → MayBeginLog entry (is.batches ++ batch ∷ []) → ⊥
+  pub stops : (batch more : List ℕ) → bytes ≡ joined (is.batches ++ batch ∷ []) ++ more
+      → MayBeginLog entry (is.batches ++ batch ∷ []) → ⊥
 
 -- the batches come to all that the entry says, in so many bytes
 pub record IsAll (entry : Entry) (size : ℕ) (front : Front) : Type 0 where
@@ -107,4 +110,5 @@ pub record HasBatches (entry : Entry) (bytes : List ℕ) (found : List Placed) :
 abbrev pub AuditsLog : Entry → List ℕ → LogPart → Type 0
 AuditsLog entry bytes (Right found) = HasBatches entry bytes found.items
 AuditsLog entry bytes (Wrong at) =
-    ((batches : List (List ℕ)) → Describes entry batches → bytes ≢ joined batches) × IsFirstBad joined (MayBeginLog entry) bytes at
+    ((batches : List (List ℕ)) → Describes entry batches → bytes ≢ joined batches)
+    × IsFirstBad joined (MayBeginLog entry) bytes at

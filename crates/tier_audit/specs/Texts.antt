@@ -15,10 +15,12 @@ pub record HasMap (entry : Entry) (bytes : List ℕ) (line : List (ℕ × ℕ)) 
 -- what is found of the text: that it is right, or the place that is reported
 abbrev pub AuditsEpochs : Entry → List ℕ → Option ℕ → Type 0
 AuditsEpochs entry bytes None = (line : List (ℕ × ℕ)) × HasMap entry bytes line
-AuditsEpochs entry bytes (Some at) = ((line : List (ℕ × ℕ)) → HasMap entry bytes line → ⊥) × IsFirstBad concat CanBegin bytes at
+AuditsEpochs entry bytes (Some at) =
+    ((line : List (ℕ × ℕ)) → HasMap entry bytes line → ⊥) × IsFirstBad concat CanBegin bytes at
 
 -- the place after so many line feeds
 abbrev pub place_behind : ℕ → List ℕ → ℕ
 place_behind zero bytes = 0
 place_behind (suc lines) [] = 0
-place_behind (suc lines) (b ∷ bytes) = if b == 10 then 1 + place_behind lines bytes else 1 + place_behind (suc lines) bytes
+place_behind (suc lines) (b ∷ bytes) =
+    if b == 10 then 1 + place_behind lines bytes else 1 + place_behind (suc lines) bytes

@@ -12,7 +12,8 @@ ghost use Rattle.tier_audit.specs.Asking.{OnlyAsks, ReadsObjects};
 ghost use Rattle.tier_audit.specs.declared.verdict.Flaw.TheVariants.{Wrong};
 ghost use Rattle.tier_audit.specs.Entries.{ArePlaced};
 ghost use Rattle.tier_audit.specs.Whole.{place_of};
-ghost use Rattle.tier_audit.specs.Copies.{HasPlaced, AuditsPart, ReadsSpot, ReadsLogSpot, IsPlaceWithin, from_rest, FindsPart, PlacesLog, FindsLog, FindsParts, FindsCopy, FindsCopies};
+ghost use Rattle.tier_audit.specs.Copies.{HasPlaced, AuditsPart, ReadsSpot, ReadsLogSpot, IsPlaceWithin, from_rest};
+ghost use Rattle.tier_audit.specs.Copies.{FindsPart, PlacesLog, FindsLog, FindsParts, FindsCopy, FindsCopies};
 
 use crate::epochs_part::read_epochs;
 use crate::index_part::read_index;
@@ -200,7 +201,8 @@ fn read_at(
     requires part { part ≢ Log }
     requires own { part ≢ Pack }
     requires low { spot.now.at < 2 ^ 34 }
-    ensures reads { (log : List (List ℕ)) → batches.now ≡ placed_from 0 log → IfOk result (λ found. ReadsSpot entry.now log part
+    ensures reads { (log : List (List ℕ)) → batches.now ≡ placed_from 0 log
+        → IfOk result (λ found. ReadsSpot entry.now log part
         (short_of spot.now (capped spot.now.len rest.now)) (capped spot.now.len rest.now) found) }
     ensures within { IfOk result (λ found. IfSome found (λ at. at ≤ length (capped spot.now.len rest.now))) }
 {

@@ -25,7 +25,8 @@ pub(crate) fn read_index(
     bytes: &[u8],
 ) -> Result<Option<usize>, AllocError>
     requires { ArePlaced base batches.now }
-    ensures { IfOk result (λ found. ReadsEntries 8 (bytes_of entry_bytes) (AreEntriesOf (marks_of base 0 batches.now)) bytes.now found) }
+    ensures { IfOk result (λ found. ReadsEntries 8 (bytes_of entry_bytes)
+        (AreEntriesOf (marks_of base 0 batches.now)) bytes.now found) }
 {
     let marks = marks_of(alloc, base, batches)?;
     Ok(place_in(marks.as_slice(), bytes))

@@ -5,7 +5,8 @@
 //! greatest timestamp. The log is right if at the end of the bytes they have reached all that the entry says, and each
 //! of its leader epochs begins with one of them.
 
-ghost use Rattle.std.specs.Prelude.{◌≡◌, ◌↔◌, ◌+◌, ◌≤◌, ◌<◌, ◌^◌, ℕ, List, IfOk, OnOk, IfSome, Some, None, IsTrue, length, take};
+ghost use Rattle.std.specs.Prelude.{◌≡◌, ◌↔◌, ◌+◌, ◌≤◌, ◌<◌, ◌^◌, ℕ, List, IfOk, OnOk};
+ghost use Rattle.std.specs.Prelude.{IfSome, Some, None, IsTrue, length, take};
 ghost use Rattle.std.specs.Option.{ForSome};
 ghost use Rattle.std.specs.Int.{w32, w64, cast_unsigned};
 ghost use mathlib.Core.List.{IsPrefix};
@@ -15,7 +16,8 @@ ghost use Rattle.segment_file.specs.Gathering.{with_epoch, later_ts};
 ghost use Rattle.segment_file.specs.Walk.{size_in};
 ghost use Rattle.segment_file.specs.Index.{placed_in};
 ghost use Rattle.remote_view.specs.Fold.{IsEntryValid};
-ghost use Rattle.tier_audit.specs.Logs.{IsLogFront, IsNextHead, BeginsMore, ComesNext, NoBatchComes, FrontGains, IsAll, AuditsLog, IsFrontStopped};
+ghost use Rattle.tier_audit.specs.Logs.{IsLogFront, IsNextHead, BeginsMore, ComesNext, NoBatchComes};
+ghost use Rattle.tier_audit.specs.Logs.{FrontGains, IsAll, AuditsLog, IsFrontStopped};
 
 use record_batch::Head;
 use segment_file::{Found, Placed, walk};
@@ -195,7 +197,8 @@ fn size_in(head: &Head) -> u64
 /// The batch of a head after a front.
 fn place(head: &Head, front: &Front) -> Placed
     requires small { front.now.at + size_in head.now < 2 ^ 31 }
-    requires last_fits { cast_unsigned w64 head.now.base_offset + cast_unsigned w32 head.now.last_offset_delta < 2 ^ 64 }
+    requires last_fits { cast_unsigned w64 head.now.base_offset + cast_unsigned w32
+        head.now.last_offset_delta < 2 ^ 64 }
     ensures { result ≡ placed_in front.now.at head.now }
 {
     let delta = head.last_offset_delta.cast_unsigned() as u64;

@@ -15,7 +15,8 @@
 -- Planned calls are counted from the first `arm` on. A device is infallible while no call can fail. It is scripted if
 -- its plan alone decides which calls fail, and has done so from the first call on. Which call failed is said call by
 -- call, in `Ran`.
-use Rattle.std.specs.Prelude.{◌≡◌, ◌≢◌, ◌↔◌, ℕ, ◌≤◌, ◌+◌, nat_le, Bool, false, not, ◌&&◌, ◌==◌, if◌then◌else◌, List, [], ◌∷◌, IsTrue, IsFalse, IsSome, is_some, Option, Some, None, Ok, Err}
+use Rattle.std.specs.Prelude.{◌≡◌, ◌≢◌, ◌↔◌, ℕ, ◌≤◌, ◌+◌, nat_le, Bool, false, not, ◌&&◌, ◌==◌, if◌then◌else◌, List}
+use Rattle.std.specs.Prelude.{[], ◌∷◌, IsTrue, IsFalse, IsSome, is_some, Option, Some, None, Ok, Err}
 use Rattle.std.specs.declared.result.Result.{Result}
 use Rattle.tier_base.specs.declared.fault.Failed.{Failed}
 use Rattle.tier_base.specs.declared.fault.Trouble.{Trouble}
@@ -74,7 +75,8 @@ module _ {K : Type 0} (code : K → ℕ) where
   -- how many of the calls that a plan names were made; one that several items name is counted at the last of them
   abbrev pub met : (K → ℕ) → List (Planned K) → ℕ
   met made [] = 0
-  met made (p ∷ ps) = if was_made made p && not (is_some (planned p.call p.number ps)) then met made ps + 1 else met made ps
+  met made (p ∷ ps) =
+      if was_made made p && not (is_some (planned p.call p.number ps)) then met made ps + 1 else met made ps
 
   -- how many calls of a kind were made after one that ended so
   abbrev pub made_after : K → Fate → Bool → K → ℕ → ℕ

@@ -1,5 +1,6 @@
 -- The faults of a device in memory: those that its plan and its fuse have in store, and those it had.
-use Rattle.std.specs.Prelude.{◌≡◌, ℕ, ◌-◌, ◌^◌, ◌<◌, IsTrue, ◌==◌, Bool, true, false, not, ◌&&◌, ◌||◌, if◌then◌else◌, List, [], ◌∷◌, Option, Some, None}
+use Rattle.std.specs.Prelude.{◌≡◌, ℕ, ◌-◌, ◌^◌, ◌<◌, IsTrue, ◌==◌, Bool, true, false, not, ◌&&◌}
+use Rattle.std.specs.Prelude.{◌||◌, if◌then◌else◌, List, [], ◌∷◌, Option, Some, None}
 use Rattle.std.proofs.Math.ListN.{get_or}
 use Rattle.tier_base.specs.declared.planned.Planned.{Planned}
 use Rattle.tier_base.specs.declared.ending.Ending.{Ending}

@@ -29,7 +29,8 @@ id_bytes partition broker incarnation attempt =
 
 -- different fields make different ids
 abbrev pub IdsDiffer : Type 0
-IdsDiffer = (p b i a q c j d : ℕ) → p < 2 ^ 16 → q < 2 ^ 16 → b < 2 ^ 16 → c < 2 ^ 16 → i < 2 ^ 32 → j < 2 ^ 32 → a < 2 ^ 64 → d < 2 ^ 64
+IdsDiffer = (p b i a q c j d : ℕ) → p < 2 ^ 16 → q < 2 ^ 16 → b < 2 ^ 16 → c < 2 ^ 16 → i < 2 ^ 32 → j < 2 ^ 32
+    → a < 2 ^ 64 → d < 2 ^ 64
     → id_bytes p b i a ≡ id_bytes q c j d → (p ≡ q) × (b ≡ c) × (i ≡ j) × (a ≡ d)
 
 -- sixteen bytes

@@ -10,6 +10,7 @@ module _ {K : Type 0} (code : K → ℕ) where
   pub fails_as_planned : (f : Faults K) (last_read : List ℕ) → FailsAsPlanned (control_of code f last_read)
   fails_as_planned f last_read = by f.scripted
     where
-      by : (b : Bool) → IsTrue b → (if b then counted 0 (met code (count_of code f) f.plan) else f.faults) ≡ counted 0 (met code (count_of code f) f.plan)
+      by : (b : Bool) → IsTrue b → (if b then counted 0 (met code (count_of code f) f.plan) else f.faults)
+          ≡ counted 0 (met code (count_of code f) f.plan)
       by true is = refl
       by false is = absurd (false≢true is)

@@ -1,5 +1,6 @@
 -- Where the next planned call of a kind is, so that a call needn't look through its plan.
-use Rattle.std.specs.Prelude.{◌≡◌, ℕ, nat_le, nat_lt, ◌==◌, ◌&&◌, Bool, true, if◌then◌else◌, List, [], ◌∷◌, drop, Option, Some, None, IsTrue}
+use Rattle.std.specs.Prelude.{◌≡◌, ℕ, nat_le, nat_lt, ◌==◌, ◌&&◌, Bool, true, if◌then◌else◌}
+use Rattle.std.specs.Prelude.{List, [], ◌∷◌, drop, Option, Some, None, IsTrue}
 use Rattle.std.proofs.Math.ListN.{get_or}
 use Rattle.tier_base.specs.declared.planned.Planned.{Planned}
 

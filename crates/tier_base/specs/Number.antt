@@ -1,7 +1,8 @@
 -- Decimal numbers at the front of a text.
 --
 -- number = "0" / nonzero-digit *digit
-use Rattle.std.specs.Prelude.{◌≡◌, ◌≢◌, ℕ, ◌+◌, ◌-◌, ◌*◌, ◌==◌, Bool, true, false, not, if◌then◌else◌, List, [], ◌∷◌, ◌++◌, decimal, Some, None}
+use Rattle.std.specs.Prelude.{◌≡◌, ◌≢◌, ℕ, ◌+◌, ◌-◌, ◌*◌, ◌==◌, Bool, true, false, not}
+use Rattle.std.specs.Prelude.{if◌then◌else◌, List, [], ◌∷◌, ◌++◌, decimal, Some, None}
 use Rattle.std.specs.Char.{is_ascii_digit}
 use Rattle.std.specs.declared.option.Option.{Option}
 use Rattle.std.specs.Borrow.{Bor}
@@ -23,7 +24,8 @@ value_of n [] = n
 value_of n (d ∷ ds) = value_of (10 * n + (d - 48)) ds
 
 -- what a reader of a front answers: what may be there is found by its text, with the bytes after it
-abbrev pub ReadsFront : {A : Type 0} → (A → Type 0) → (A → List ℕ → List ℕ) → List ℕ → Option (A × Bor (List ℕ)) → Type 0
+abbrev pub ReadsFront : {A : Type 0} → (A → Type 0) → (A → List ℕ → List ℕ) → List ℕ → Option (A × Bor (List ℕ))
+    → Type 0
 ReadsFront {A} May text bytes None = (x : A) (rest : List ℕ) → May x → bytes ≢ text x rest
 ReadsFront May text bytes (Some found) = May found.0 × (bytes ≡ text found.0 found.1.now)
 

@@ -43,6 +43,7 @@ module _ {N : Type 0} where
     pub once : Once names
 
   -- one goes from old to new by R, and the others stay
-  pub record OnlyAt (name : N) (R : Option (List ℕ) → Option (List ℕ) → Type 0) (old new : N → Option (List ℕ)) : Type 0 where
+  pub record OnlyAt (name : N) (R : Option (List ℕ) → Option (List ℕ) → Type 0)
+      (old new : N → Option (List ℕ)) : Type 0 where
     pub there : R (old name) (new name)
     pub others : (n : N) → n ≢ name → new n ≡ old n

@@ -6,10 +6,12 @@
 //! Where the numbers of a kind's calls don't fall along the plan, the next one of them is known, and no
 //! call looks through the plan.
 
-ghost use Rattle.std.specs.Prelude.{◌≡◌, ◌≤◌, ◌↔◌, [], List, ℕ, true, not, ◌&&◌, if◌then◌else◌, None, is_some, IsTrue, OnOk};
+ghost use Rattle.std.specs.Prelude.{◌≡◌, ◌≤◌, ◌↔◌, [], List, ℕ, true, not, ◌&&◌};
+ghost use Rattle.std.specs.Prelude.{if◌then◌else◌, None, is_some, IsTrue, OnOk};
 ghost use Rattle.tier_base.specs.Counts.{counted};
 ghost use Rattle.tier_base.specs.Device.{Went, made_after, Ran, MayBeDone, Arms, IsFreshDevice, failing};
-ghost use Rattle.tier_base.specs.Faults.{Faults, is_done, count_of, faults_of, ending_at, goes_well, has_none, shorter, control_of};
+ghost use Rattle.tier_base.specs.Faults.{Faults, is_done, count_of, faults_of, ending_at};
+ghost use Rattle.tier_base.specs.Faults.{goes_well, has_none, shorter, control_of};
 
 use crate::ending::Ending;
 use crate::fault::Failed;

@@ -1,6 +1,7 @@
 //! A vector that contracts see as the list of its items.
 
-ghost use Rattle.std.specs.Prelude.{◌≡◌, ◌<◌, ◌++◌, ◌∷◌, [], ◌↔◌, length, slice_get, slice_set, OnOk, OnErr, Some, IsTrue, IsNone};
+ghost use Rattle.std.specs.Prelude.{◌≡◌, ◌<◌, ◌++◌, ◌∷◌, [], ◌↔◌, length, slice_get};
+ghost use Rattle.std.specs.Prelude.{slice_set, OnOk, OnErr, Some, IsTrue, IsNone};
 ghost use Rattle.std.specs.Option.{option_to_list};
 ghost use Rattle.std.specs.Borrow.{Lends, sem};
 ghost use Rattle.tier_base.specs.contracts.items.Items.{the_row};

@@ -3,7 +3,8 @@
 //! Room is made in pieces of 64 KiB at the vector's end, and the source reads straight into it.
 //! A vector that grows doubles, so no byte is moved more than a few times.
 
-ghost use Rattle.std.specs.Prelude.{◌≡◌, ℕ, ◌+◌, ◌-◌, ◌^◌, ◌<◌, ◌≤◌, List, length, take, drop, vec_len, is_some, IfOk, OnOk, OnErr, IfSome, IsErrOf, MatchResult};
+ghost use Rattle.std.specs.Prelude.{◌≡◌, ℕ, ◌+◌, ◌-◌, ◌^◌, ◌<◌, ◌≤◌, List, length, take, drop, vec_len};
+ghost use Rattle.std.specs.Prelude.{is_some, IfOk, OnOk, OnErr, IfSome, IsErrOf, MatchResult};
 ghost use Rattle.std.specs.Result.{result_unwrap_or};
 ghost use Rattle.std.specs.Io.KnownBytes.{ReadConsumes};
 ghost use Rattle.tier_base.specs.Counts.{counted, Rose, HasCause};

@@ -11,7 +11,8 @@
 -- place where no batch follows before the run has ended.
 --
 -- Source: KIP-405, fetches below the local log start offset, and RemoteIndexCache.
-use Rattle.std.specs.Prelude.{◌≡◌, ℕ, ◌+◌, ◌<◌, min, List, length, slice_range, option_map, Option, Some, None, Ok, Err, IsErr}
+use Rattle.std.specs.Prelude.{◌≡◌, ℕ, ◌+◌, ◌<◌, min, List, length, slice_range}
+use Rattle.std.specs.Prelude.{option_map, Option, Some, None, Ok, Err, IsErr}
 use Rattle.std.specs.declared.result.Result.{Result}
 use Rattle.std.specs.declared.alloc.AllocError.{AllocError}
 use Rattle.tier_base.specs.declared.fault.Trouble.{Trouble}
@@ -96,7 +97,8 @@ abbrev pub LoadsBytes : Option ℕ → FetchRequest → Piece → ℕ → Spot �
     → Cache → Type 0
 LoadsBytes (Some end) wanted piece base spot bytes result old new =
     (result ≡ Ok (Ends (Damaged (Key spot.key) end))) × (new ≡ old)
-LoadsBytes None wanted piece base spot bytes (Ok (Goes next)) old new = IsLoaded wanted piece base bytes (Goes next) old new
+LoadsBytes None wanted piece base spot bytes (Ok (Goes next)) old new =
+    IsLoaded wanted piece base bytes (Goes next) old new
 LoadsBytes None wanted piece base spot bytes (Ok (Ends answer)) old new =
     (answer ≡ Damaged (Key spot.key) spot.at) × IsNoIndex AreOffsets entry_bytes bytes × (new ≡ old)
 LoadsBytes None wanted piece base spot bytes (Err e) old new = new ≡ old
@@ -107,10 +109,12 @@ abbrev pub Loads : FetchRequest → Piece → ℕ → Spot → Result (Option (L
 Loads wanted piece base spot (Err Failed) result old new = (result ≡ Ok (Ends StoreFault)) × (new ≡ old)
 Loads wanted piece base spot (Err NoMemory) result old new = IsErr result × (new ≡ old)
 Loads wanted piece base spot (Ok None) result old new = (result ≡ Ok (Ends (Damaged (Key spot.key) 0))) × (new ≡ old)
-Loads wanted piece base spot (Ok (Some bytes)) result old new = LoadsBytes (short_of spot bytes) wanted piece base spot bytes result old new
+Loads wanted piece base spot (Ok (Some bytes)) result old new =
+    LoadsBytes (short_of spot bytes) wanted piece base spot bytes result old new
 
 -- the run that is cut out of bytes, clipped by the piece
-pub record IsCutRun (wanted : FetchRequest) (piece : Piece) (bytes : List ℕ) (tier : Tier) (size : ℕ) (stop : Stop) (run : List ℕ)
+pub record IsCutRun (wanted : FetchRequest) (piece : Piece) (bytes : List ℕ) (tier : Tier) (size : ℕ) (stop : Stop)
+    (run : List ℕ)
     : Type 0 where
   pub cut : Cutout
   pub is : IsRunCutAt bytes wanted.offset wanted.limit wanted.mark piece.to cut
@@ -120,7 +124,8 @@ pub record IsCutRun (wanted : FetchRequest) (piece : Piece) (bytes : List ℕ) (
   pub stop_is : stop ≡ cut.stop
 
 -- the bytes from a position of a segment's log on have no such run from this place on
-pub record HasNoRemoteRun (wanted : FetchRequest) (piece : Piece) (spot : Spot) (span : Span) (bytes : List ℕ) (place : Place) (at : ℕ)
+pub record HasNoRemoteRun (wanted : FetchRequest) (piece : Piece) (spot : Spot) (span : Span) (bytes : List ℕ)
+    (place : Place) (at : ℕ)
     : Type 0 where
   pub found : ℕ
   pub bad : IsBadAt bytes wanted.offset wanted.limit (min wanted.mark piece.to) found
@@ -131,8 +136,10 @@ pub record HasNoRemoteRun (wanted : FetchRequest) (piece : Piece) (spot : Spot) 
 abbrev pub CutsBytes : Option ℕ → FetchRequest → Piece → Spot → Span → List ℕ → Result (Turn FetchStep) AllocError
     → Type 0
 CutsBytes (Some end) wanted piece spot span bytes result = result ≡ Ok (Ends (Damaged (Key spot.key) end))
-CutsBytes None wanted piece spot span bytes (Ok (Ends (Run tier size stop run))) = IsCutRun wanted piece bytes tier size stop run
-CutsBytes None wanted piece spot span bytes (Ok (Ends (Damaged place at))) = HasNoRemoteRun wanted piece spot span bytes place at
+CutsBytes None wanted piece spot span bytes (Ok (Ends (Run tier size stop run))) =
+    IsCutRun wanted piece bytes tier size stop run
+CutsBytes None wanted piece spot span bytes (Ok (Ends (Damaged place at))) =
+    HasNoRemoteRun wanted piece spot span bytes place at
 CutsBytes None wanted piece spot span bytes (Ok turn) = ⊥
 CutsBytes None wanted piece spot span bytes (Err e) = Unit {0}
 
@@ -170,7 +177,8 @@ module _ {S : Type 0} (objects : S → store.Content) (calls : S → Control sto
       → Cache → Cache → S → S → Type 0
   LoadRow wanted piece view None result cache cache' old new =
       (result ≡ Ok (Ends (Damaged Meta view.notes))) × (cache' ≡ cache) × (new ≡ old)
-  LoadRow wanted piece view (Some place) result cache cache' old new = ReadsIndex wanted piece place result cache cache' old new
+  LoadRow wanted piece view (Some place) result cache cache' old new =
+      ReadsIndex wanted piece place result cache cache' old new
 
   -- the index: no call is made where it is in the cache
   abbrev pub IndexRow : FetchRequest → Piece → EntriesSeen → Result (Turn FetchStep) AllocError → Option OffsetTable

@@ -9,7 +9,8 @@ ghost use Rattle.plain_log.specs.declared.answer.Answer.TheVariants.{Damaged};
 ghost use Rattle.plain_log.specs.declared.answer.Place.TheVariants.{Key, Meta};
 ghost use Rattle.plain_log.specs.declared.turn.Turn.TheVariants.{Ends};
 ghost use Rattle.tier_fetch.specs.Span.{span_of};
-ghost use Rattle.tier_fetch.specs.Turns.{Tiers, IsPieceFor, GoesFor, chosen, spot_in, Loads, CutsRunOut, RefreshRow, IndexRow, LoadRow, LogRow, RemoteFetchRow};
+ghost use Rattle.tier_fetch.specs.Turns.{Tiers, IsPieceFor, GoesFor, chosen, spot_in, Loads, CutsRunOut};
+ghost use Rattle.tier_fetch.specs.Turns.{RefreshRow, IndexRow, LoadRow, LogRow, RemoteFetchRow};
 
 use crate::spanning::span_of;
 use crate::turn::{FetchRequest, FetchStep, Span};

@@ -30,7 +30,8 @@ use Rattle.copy_task.specs.declared.turn.CopyStep.TheVariants as copying
 use Rattle.expiry_task.specs.declared.turn.ExpiredSegment.{ExpiredSegment}
 use Rattle.expiry_task.specs.Turns.{note_of, keys as expiry_keys, delete_at}
 use Rattle.expiry_task.specs.declared.turn.DeletionStep.TheVariants as expiring
-use Rattle.tier_safe.specs.Scene.{BrokerTierView, Rebuild, Sought, TierTask, Free, Copies, Expires, Rebuilds, Seeks, Scene}
+use Rattle.tier_safe.specs.Scene.{BrokerTierView, Rebuild, Sought, TierTask, Free}
+use Rattle.tier_safe.specs.Scene.{Copies, Expires, Rebuilds, Seeks, Scene}
 
 -- moves: changes of the desk alone
 

@@ -56,7 +56,8 @@ IsPartPut objects copy key = objects key ≡ Some (part_in copy.parts key.part)
 
 -- the parts under the first so many keys exist
 abbrev pub HasPutBefore : Objects → Copied → ℕ → Type 0
-HasPutBefore objects copy n = (i : ℕ) (key : ObjectKey) → slice_get (keys copy) i ≡ Some key → i < n → IsPartPut objects copy key
+HasPutBefore objects copy n =
+    (i : ℕ) (key : ObjectKey) → slice_get (keys copy) i ≡ Some key → i < n → IsPartPut objects copy key
 
 -- all parts exist
 abbrev pub HasPutAll : Objects → Copied → Type 0

@@ -58,7 +58,8 @@ IndexStands paths entries id index =
 
 -- the position is the one that such an index gives for the offset, while the copy of this id is finished
 abbrev pub PositionStands : List Path → List Entry → SegmentId → ℕ → ℕ → Type 0
-PositionStands paths entries id offset from = (entry : Entry) → entry_of id entries ≡ Some entry → entry.state ≡ CopyFinished
+PositionStands paths entries id offset from =
+    (entry : Entry) → entry_of id entries ≡ Some entry → entry.state ≡ CopyFinished
     → (index : OffsetTable) × IsIndexOf paths entry index × (from ≡ (find index offset).1)
 
 -- the entries have one of this id, whose copy isn't in progress any more
@@ -109,5 +110,6 @@ pub record CachedStands (paths : List Path) (notes : List Note) (id : SegmentId)
 -- each index in a broker's cache
 abbrev pub CachesStand : List Path → List Note → List BrokerTierView → Type 0
 CachesStand paths notes tier_views =
-    (b : ℕ) (tier_view : BrokerTierView) → slice_get tier_views b ≡ Some tier_view → (id : SegmentId) (index : OffsetTable) → In (id, index) tier_view.cache
+    (b : ℕ) (tier_view : BrokerTierView) → slice_get tier_views b ≡ Some tier_view
+    → (id : SegmentId) (index : OffsetTable) → In (id, index) tier_view.cache
     → CachedStands paths notes id index

@@ -39,9 +39,11 @@ AnswersKeepSafe = (c d : Scene) (p q : Plain) (order : Order) (entry : JournalEn
 
 -- a closed segment of a leader's log, with the log's epochs up to its end, may be copied
 abbrev pub SegmentsAreSources : Type 0
-SegmentsAreSources = (p : Plain) (b : ℕ) (x : Broker) (e : ℕ) (copy : Copied) (is : IsCopied copy) (front rest : List (List ℕ))
+SegmentsAreSources =
+    (p : Plain) (b : ℕ) (x : Broker) (e : ℕ) (copy : Copied) (is : IsCopied copy) (front rest : List (List ℕ))
     → PlainSafe p → slice_get p.brokers b ≡ Some x → x.role ≡ Leads e → (front ++ is.batches) ++ rest ≡ x.log
-    → end_of front ≡ copy.segment.base → cut_end copy.line (end_of (front ++ is.batches)) ≡ line_of (front ++ is.batches)
+    → end_of front ≡ copy.segment.base → cut_end copy.line (end_of (front ++ is.batches))
+    ≡ line_of (front ++ is.batches)
     → IsSource p.paths copy
 
 -- the rules hold where nothing has happened yet
@@ -63,4 +65,5 @@ abbrev pub FinishedIsKept : Type 0
 FinishedIsKept = (c : Scene) (p : Plain) (before : List Note) (id : SegmentId) (then : Entry) → BothSafe c p
     → IsPrefix before c.notes → entry_of id (fold before) ≡ Some then → then.state ≡ CopyFinished
     → p.registry.start ≤ then.end
-    → (now : Entry) × (entry_of id (fold c.notes) ≡ Some now) × (now.state ≡ CopyFinished) × IsStoredWhole c.objects p.paths now
+    → (now : Entry) × (entry_of id (fold c.notes) ≡ Some now) × (now.state ≡ CopyFinished)
+    × IsStoredWhole c.objects p.paths now

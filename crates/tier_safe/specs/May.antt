@@ -17,7 +17,9 @@ use Rattle.plain_log.specs.Safe.{HasOnPath}
 use Rattle.remote_view.specs.Fold.{EntriesSeen, view_of}
 use Rattle.copy_task.specs.Copying.{Copied}
 use Rattle.tier_safe.specs.Scene.{BrokerTierView, Free, Rebuilds, Scene}
-use Rattle.tier_safe.specs.Changes.{Telling, before_telling, Storing, before_storing, key_for, KeyStands, made_by, Dropping, Trims, Restarts, Change, Steps, Moves, Chooses, Tells, Stores, Sees, Caches, Drops, effect, effects}
+use Rattle.tier_safe.specs.Changes.{Telling, before_telling, Storing, before_storing, key_for, KeyStands}
+use Rattle.tier_safe.specs.Changes.{made_by, Dropping, Trims, Restarts, Change, Steps, Moves, Chooses, Tells}
+use Rattle.tier_safe.specs.Changes.{Stores, Sees, Caches, Drops, effect, effects}
 use Rattle.tier_safe.specs.Lineage.{IsSource, CoversLog}
 use Rattle.tier_safe.specs.Views.{IsIdOf}
 use Rattle.tier_safe.specs.Fetches.{CachedStands}
@@ -55,7 +57,8 @@ pub record MaySee (b : ℕ) (tier_view : BrokerTierView) (view : EntriesSeen) (c
   pub begins : IsPrefix more c.notes
 
 -- each index in the cache was there, or is that of a finished copy
-pub record MayCache (b : ℕ) (tier_view : BrokerTierView) (cache : List (SegmentId × OffsetTable)) (c : Scene) (p : Plain) : Type 0 where
+pub record MayCache (b : ℕ) (tier_view : BrokerTierView) (cache : List (SegmentId × OffsetTable)) (c : Scene)
+    (p : Plain) : Type 0 where
   pub tier_view_is : slice_get c.tier_views b ≡ Some tier_view
   pub are : (id : SegmentId) (index : OffsetTable) → In (id, index) cache
       → In (id, index) tier_view.cache ⊎ CachedStands p.paths c.notes id index

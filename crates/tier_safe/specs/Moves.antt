@@ -19,7 +19,8 @@ use Rattle.copy_task.specs.Copying.{Copied}
 use Rattle.copy_task.specs.declared.turn.CopyStep.TheVariants as copying
 use Rattle.expiry_task.specs.declared.turn.ExpiredSegment.{ExpiredSegment}
 use Rattle.tier_safe.specs.Scene.{BrokerTierView, Rebuild, Sought, Free, Copies, Rebuilds, Seeks, Scene}
-use Rattle.tier_safe.specs.Changes.{Move, Leaves, Overtakes, ChoosesExpired, Wants, Refreshes, Lines, Asks, Finds, Skips, Reads}
+use Rattle.tier_safe.specs.Changes.{Move, Leaves, Overtakes, ChoosesExpired, Wants}
+use Rattle.tier_safe.specs.Changes.{Refreshes, Lines, Asks, Finds, Skips, Reads}
 use Rattle.tier_safe.specs.Copies.{is_deleted}
 use Rattle.tier_safe.specs.Fetches.{SeesCopy, StillLeads, PieceStands, PositionStands}
 

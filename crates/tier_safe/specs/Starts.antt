@@ -48,7 +48,8 @@ pub record BrokerTiersMatch (tier_views : List BrokerTierView) (brokers : List B
 -- offset
 abbrev pub DeletedEnd : List Note → ℕ → Type 0
 DeletedEnd notes start =
-    (id : SegmentId) (before : List Note) (then now : Entry) → IsPrefix before notes → entry_of id (fold before) ≡ Some then
+    (id : SegmentId) (before : List Note) (then now : Entry) → IsPrefix before notes
+    → entry_of id (fold before) ≡ Some then
     → then.state ≡ CopyFinished → entry_of id (fold notes) ≡ Some now → now.state ≢ CopyFinished → now.end < start
 
 -- once an expiry's first metadata event is reported, the deletion has started
@@ -98,7 +99,8 @@ pub record RebuildStands (paths : List Path) (notes : List Note) (start : ℕ) (
   pub ends : end_of front ≡ rebuild.wanted
   pub above : rebuild.end < rebuild.wanted
   pub covered : (o : ℕ) → start ≤ o → o < rebuild.wanted → CoversLog (fold notes) front o
-  pub seen : (tier_view : BrokerTierView) → slice_get tier_views rebuild.broker ≡ Some tier_view → rebuild.refreshed ≡ true → start < rebuild.wanted
+  pub seen : (tier_view : BrokerTierView) → slice_get tier_views rebuild.broker ≡ Some tier_view
+      → rebuild.refreshed ≡ true → start < rebuild.wanted
       → CoversLog tier_view.view.entries front (rebuild.wanted - 1)
   pub line : (line : List (ℕ × ℕ)) → rebuild.line ≡ Some line
       → (o : ℕ) → o < rebuild.wanted → epoch_at line o ≡ epoch_holding front o
@@ -106,4 +108,5 @@ pub record RebuildStands (paths : List Path) (notes : List Note) (start : ℕ) (
 -- each rebuild on the desk
 abbrev pub RebuildsStand : List Path → List Note → ℕ → List BrokerTierView → List TierTask → Type 0
 RebuildsStand paths notes start tier_views desk =
-    (a : ℕ) (rebuild : Rebuild) → slice_get desk a ≡ Some (Rebuilds rebuild) → RebuildStands paths notes start tier_views rebuild
+    (a : ℕ) (rebuild : Rebuild) → slice_get desk a ≡ Some (Rebuilds rebuild)
+    → RebuildStands paths notes start tier_views rebuild

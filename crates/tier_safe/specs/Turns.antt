@@ -29,7 +29,8 @@ use Rattle.tier_safe.specs.May.{IsChanged}
 use Rattle.tier_safe.specs.Safe.{TierSafe}
 
 -- the tier has what a store and a metadata log report, the view of broker b, and what actor a's state keeps
-pub record ShowsScene (c : Scene) (a b : ℕ) (tier_view : BrokerTierView) (tier_task : TierTask) (objects : store.Content) (notes : meta.Content) (view : EntriesSeen)
+pub record ShowsScene (c : Scene) (a b : ℕ) (tier_view : BrokerTierView) (tier_task : TierTask)
+    (objects : store.Content) (notes : meta.Content) (view : EntriesSeen)
     : Type 0 where
   pub objects_are : c.objects ≡ objects.objects
   pub notes_are : c.notes ≡ notes.notes

@@ -59,10 +59,12 @@ ViewsStand notes tier_views =
 -- the partition
 
 -- entries, objects, and what is copied or deleted are of this partition
-pub record AreOfPartition (partition : PartitionId) (objects : Objects) (entries : List Entry) (desk : List TierTask) : Type 0 where
+pub record AreOfPartition (partition : PartitionId) (objects : Objects) (entries : List Entry)
+    (desk : List TierTask) : Type 0 where
   pub told : (id : SegmentId) (entry : Entry) → entry_of id entries ≡ Some entry → entry.partition ≡ partition
   pub stored : (key : ObjectKey) (bytes : List ℕ) → objects key ≡ Some bytes → key.partition ≡ partition
-  pub copied : (a : ℕ) (copy : Copied) (next : CopyNext) → slice_get desk a ≡ Some (Copies copy next) → copy.partition ≡ partition
+  pub copied : (a : ℕ) (copy : Copied) (next : CopyNext) → slice_get desk a ≡ Some (Copies copy next)
+      → copy.partition ≡ partition
   pub deleted : (a : ℕ) (expired_segment : ExpiredSegment) (next : ExpiryNext)
       → slice_get desk a ≡ Some (Expires expired_segment next)
       → expired_segment.partition ≡ partition

@@ -1,8 +1,10 @@
 //! Laws of the tier's safety. Each is the contract of a function that does nothing: calling it
 //! cites the law.
 
-ghost use Rattle.tier_safe.specs.Laws.{ChangesKeepSafe, AnswersKeepSafe, SegmentsAreSources, FreshIsSafe, DroppedIsKept, FinishedIsKept};
-ghost use Rattle.tier_safe.specs.Reads.{LackingIsFound, AskedIsFound, FoundStands, ReachedIsCovered, WantedIsFound, FetchesAreServed, RebuildsAreServed};
+ghost use Rattle.tier_safe.specs.Laws.{ChangesKeepSafe, AnswersKeepSafe, SegmentsAreSources};
+ghost use Rattle.tier_safe.specs.Laws.{FreshIsSafe, DroppedIsKept, FinishedIsKept};
+ghost use Rattle.tier_safe.specs.Reads.{LackingIsFound, AskedIsFound, FoundStands, ReachedIsCovered};
+ghost use Rattle.tier_safe.specs.Reads.{WantedIsFound, FetchesAreServed, RebuildsAreServed};
 ghost use Rattle.tier_safe.specs.Turns.{CopyTurnsChange, ExpiryTurnsChange, RefreshesChange, HaltsChange};
 
 use meta_log::MetaLog;

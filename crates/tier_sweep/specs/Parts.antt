@@ -52,14 +52,16 @@ pub data AllWent {K : Type 0} {code : K → ℕ} (old : Control code) : Control 
   OneMore : (call : K) (mid new : Control code) → AllWent old mid → RanQuietly call Went mid new → AllWent old new
 
 -- a run of calls of the metadata log
-pub record MetaRuns {T K : Type 0} {code : K → ℕ} (result : Result T SweepRefusal) (old new : Control code) : Type 0 where
+pub record MetaRuns {T K : Type 0} {code : K → ℕ} (result : Result T SweepRefusal)
+    (old new : Control code) : Type 0 where
   pub lasts : Lasts old new
   pub cause : MetaCause result old.faults new.faults
   pub quiet : MetaQuiet result old.faults new.faults
   pub went : IsOk result → AllWent old new
 
 -- a run of calls of the store
-pub record StoreRuns {T K : Type 0} {code : K → ℕ} (result : Result T SweepRefusal) (old new : Control code) : Type 0 where
+pub record StoreRuns {T K : Type 0} {code : K → ℕ} (result : Result T SweepRefusal)
+    (old new : Control code) : Type 0 where
   pub lasts : Lasts old new
   pub cause : StoreCause result old.faults new.faults
   pub quiet : StoreQuiet result old.faults new.faults
@@ -68,7 +70,8 @@ pub record StoreRuns {T K : Type 0} {code : K → ℕ} (result : Result T SweepR
 -- so many deletions that all went
 pub data Deleted (old : Control call_code) : ℕ → Control call_code → Type 0 where
   NoDeletion : Deleted old 0 old
-  OneDeletion : (count : ℕ) (mid new : Control call_code) → Deleted old count mid → RanQuietly Delete Went mid new → Deleted old (count + 1) new
+  OneDeletion : (count : ℕ) (mid new : Control call_code) → Deleted old count mid → RanQuietly Delete Went mid new
+      → Deleted old (count + 1) new
 
 -- deletions that went, and a last one that failed
 pub record FailsToDelete (old new : Control call_code) : Type 0 where
@@ -90,7 +93,8 @@ DeletesOne (Err StoreFault) old new = RanQuietly Delete Fault old new
 DeletesOne (Err e) old new = ⊥
 
 -- one listing that went, and deletions after it
-pub record ListsAndDeletes (Behind : Control call_code → Control call_code → Type 0) (old new : Control call_code) : Type 0 where
+pub record ListsAndDeletes (Behind : Control call_code → Control call_code → Type 0)
+    (old new : Control call_code) : Type 0 where
   pub mid : Control call_code
   pub lists : RanQuietly Keys Went old mid
   pub behind : Behind mid new
@@ -109,7 +113,8 @@ abbrev pub LeavesTelling : {T : Type 0} → List Note → Result T SweepRefusal 
 LeavesTelling notes result old new = (left : List Note) → Left new left → AppendsNotes notes result old left
 
 -- one object goes, or after a refusal it may have gone, and no other
-pub record RemovesObject {T : Type 0} (key : ObjectKey) (result : Result T SweepRefusal) (old new : store.Objects) : Type 0 where
+pub record RemovesObject {T : Type 0} (key : ObjectKey) (result : Result T SweepRefusal)
+    (old new : store.Objects) : Type 0 where
   pub done : Bool
   pub went : IsOk result → IsTrue done
   pub taken : store.MadeAt key (store.made_if done removed) old new
@@ -120,6 +125,7 @@ pub record TakesAll (entries : List Entry) (keys : List ObjectKey) (old new : st
   pub gone : (key : ObjectKey) → In key keys → stays entries key.id ≡ false → new key ≡ None
 
 -- all of them, or after a refusal some
-abbrev pub TakesEach : {T : Type 0} → List Entry → List ObjectKey → Result T SweepRefusal → store.Objects → store.Objects → Type 0
+abbrev pub TakesEach : {T : Type 0} → List Entry → List ObjectKey → Result T SweepRefusal → store.Objects
+    → store.Objects → Type 0
 TakesEach entries keys (Ok x) old new = TakesAll entries keys old new
 TakesEach entries keys (Err e) old new = MayRemove entries old new

@@ -7,11 +7,12 @@
 --   form                    says
 --   IsSwept old new n       what a sweep leaves that took n objects away
 --   IsUnderSweep old new    what it may have come to before it was refused
---   LeavesUnder s m s' m'   so is what a power cut afterwards may leave of the events, from what it might have left before
+--   LeavesUnder s m s' m'   so is what a power cut afterwards may leave of the events, from what it might leave before
 --
--- Source: KIP-405, where a segment's metadata is updated as delete-started, its objects are deleted, and the metadata is updated as
--- delete-finished.
-use Rattle.std.specs.Prelude.{◌≡◌, ◌⊎◌, ℕ, Bool, true, false, not, if◌then◌else◌, List, ◌++◌, map, filter, length, None, Err}
+-- Source: KIP-405, where a segment's metadata is updated as delete-started, its objects are deleted, and the metadata
+-- is updated as delete-finished.
+use Rattle.std.specs.Prelude.{◌≡◌, ◌⊎◌, ℕ, Bool, true, false, not, if◌then◌else◌}
+use Rattle.std.specs.Prelude.{List, ◌++◌, map, filter, length, None, Err}
 use Rattle.std.specs.declared.result.Result.{Result}
 use Rattle.tier_base.specs.declared.plain.State.{State}
 use Rattle.tier_base.specs.declared.plain.State.TheVariants.{CopyStarted, DeleteStarted, DeleteFinished}

@@ -19,7 +19,8 @@ pub fn what_is_swept_rests()
 
 /// A sweep makes finished deletions of what is in progress, and nothing else of the entries.
 pub fn a_sweep_ends_what_is_under_way()
-    ensures { (old new : SweptTier) (n : ℕ) → AreNotes old.notes → IsSwept old new n → fold new.notes ≡ map rested (fold old.notes) }
+    ensures { (old new : SweptTier) (n : ℕ) → AreNotes old.notes → IsSwept old new n
+        → fold new.notes ≡ map rested (fold old.notes) }
 {}
 
 /// A sweep keeps finished copies: the entry and each object.

@@ -11,7 +11,8 @@ use Rattle.load_gen.specs.Script.{script_of}
 use Rattle.script_lang.specs.declared.refusal.Why.{Why}
 use Rattle.script_lang.specs.Script.{script_in}
 use Rattle.tiered_call.specs.declared.status.Status.{Status}
-use Rattle.tiered_call.specs.declared.status.Status.TheVariants.{Ok, BadScript, ReadFault, WriteFault, NoMemory, TooLong}
+use Rattle.tiered_call.specs.declared.status.Status.TheVariants.{Ok, BadScript, ReadFault}
+use Rattle.tiered_call.specs.declared.status.Status.TheVariants.{WriteFault, NoMemory, TooLong}
 use Rattle.tiered_call.specs.Headline.{WritesTrace, WritesFront, ReadsBad, WritesSummary, WritesSummaryFront}
 
 -- the most bytes that a script may have
@@ -66,7 +67,8 @@ module _ {R W : Type 0} (Traces : List ℕ → List ℕ → Type 0) (source : So
     pub long : status ≡ TooLong → source.given script' ≡ counted (source.given script) (script_limit + 1)
     pub long_bytes : status ≡ TooLong → Gave (source.left script) (source.left script') (script_limit + 1)
     pub not_long : status ≢ TooLong → source.given script' ≤ source.given script + script_limit
-    pub bad : (line : ℕ) (why : Why) → status ≡ BadScript line why → ReadsBad (source.left script) (source.left script') line why
+    pub bad : (line : ℕ) (why : Why) → status ≡ BadScript line why
+        → ReadsBad (source.left script) (source.left script') line why
     pub write_fault : status ≡ WriteFault → Rose (sink.faults out) (sink.faults out')
     pub front : status ≡ WriteFault
         → WritesFront Traces (source.left script) (source.left script') (sink.written out) (sink.written out')
@@ -84,7 +86,8 @@ module _ {R W : Type 0} (Traces : List ℕ → List ℕ → Type 0) (source : So
     -- nothing else touches the sink
     pub unwritten : status ≢ Ok → status ≢ WriteFault → out' ≡ out
 
-module _ {D S M W : Type 0} (disk : DiskGhosts D) (store : StoreGhosts S) (meta : MetaGhosts M) (sink : SinkGhosts W) where
+module _ {D S M W : Type 0} (disk : DiskGhosts D) (store : StoreGhosts S) (meta : MetaGhosts M)
+    (sink : SinkGhosts W) where
   -- `gen` of a number, to a sink
   pub record Generates (number : ℕ) (out out' : W) (status : Status) : Type 0 where
     -- what is written says of runs of the plain log, one for each partition of the number's script
@@ -93,10 +96,13 @@ module _ {D S M W : Type 0} (disk : DiskGhosts D) (store : StoreGhosts S) (meta 
     pub own : IsOfGen status
     pub bad : (line : ℕ) (why : Why) → status ≡ BadScript line why → script_in (script_of number) ≡ Err (line, why)
     pub write_fault : status ≡ WriteFault → Rose (sink.faults out) (sink.faults out')
-    pub front : status ≡ WriteFault → WritesSummaryFront disk store meta (script_of number) (sink.written out) (sink.written out')
+    pub front : status ≡ WriteFault → WritesSummaryFront disk store meta (script_of number) (sink.written out)
+        (sink.written out')
     -- where nothing fails, a valid script is run, unless memory runs out
-    pub complete : ¬ Rose (sink.faults out) (sink.faults out') → IsOk (script_in (script_of number)) → IsDoneOrNoMemory status
+    pub complete : ¬ Rose (sink.faults out) (sink.faults out') → IsOk (script_in (script_of number))
+        → IsDoneOrNoMemory status
     -- and one without is refused, at its first line that has none and for that line's first cause
-    pub refused : (line : ℕ) (why : Why) → script_in (script_of number) ≡ Err (line, why) → IsRefusedOrNoMemory line why status
+    pub refused : (line : ℕ) (why : Why) → script_in (script_of number) ≡ Err (line, why)
+        → IsRefusedOrNoMemory line why status
     -- nothing else touches the sink
     pub unwritten : status ≢ Ok → status ≢ WriteFault → out' ≡ out

@@ -52,7 +52,8 @@ module _ {D S M : Type 0} (disk : DiskGhosts D) (store : StoreGhosts S) (meta : 
   -- each partition has a run by some schedule
   abbrev pub AreRunsByThreads : Config → List PartScript → List (ℕ × List JournalEntry) → Type 0
   AreRunsByThreads config [] [] = Unit {0}
-  AreRunsByThreads config (part ∷ parts) (run ∷ runs) = IsRunByThreads disk store meta config part run × AreRunsByThreads config parts runs
+  AreRunsByThreads config (part ∷ parts) (run ∷ runs) =
+      IsRunByThreads disk store meta config part run × AreRunsByThreads config parts runs
   AreRunsByThreads config [] (run ∷ runs) = ⊥
   AreRunsByThreads config (part ∷ parts) [] = ⊥
 

@@ -90,9 +90,11 @@ WroteNothing ending.YardFault = Unit {0}
 WroteNothing ending.NoMemory = Unit {0}
 WroteNothing other = ⊥
 
-module _ {D S M W : Type 0} (disk : DiskGhosts D) (store : StoreGhosts S) (meta : MetaGhosts M) (sink : SinkGhosts W) where
+module _ {D S M W : Type 0} (disk : DiskGhosts D) (store : StoreGhosts S) (meta : MetaGhosts M)
+    (sink : SinkGhosts W) where
   -- `audit`, over an environment to a sink
-  pub record AuditsYard (held held' : YardContent D S M) (control control' : Control) (out out' : W) (status : Status) : Type 0 where
+  pub record AuditsYard (held held' : YardContent D S M) (control control' : Control) (out out' : W)
+      (status : Status) : Type 0 where
     -- what was found is written, and the status reports the first tier that isn't sound
     pub audit : IsWritten status → WritesAudit disk store meta held (sink.written out) (sink.written out') status
     -- nothing of the tiers and of the disks has changed
@@ -104,14 +106,17 @@ module _ {D S M W : Type 0} (disk : DiskGhosts D) (store : StoreGhosts S) (meta 
     pub own : IsOfAudit status
     pub yard_fault : status ≡ ending.YardFault → Rose control.faults control'.faults
     pub write_fault : status ≡ ending.WriteFault → Rose (sink.faults out) (sink.faults out')
-    pub front : status ≡ ending.WriteFault → WritesAuditFront disk store meta held (sink.written out) (sink.written out')
+    pub front : status ≡ ending.WriteFault → WritesAuditFront disk store meta held (sink.written out)
+        (sink.written out')
     -- where nothing fails the audit is written, unless memory runs out
-    pub complete : ¬ Rose control.faults control'.faults → ¬ Rose (sink.faults out) (sink.faults out') → IsWrittenOrNoMemory status
+    pub complete : ¬ Rose control.faults control'.faults → ¬ Rose (sink.faults out) (sink.faults out')
+        → IsWrittenOrNoMemory status
     -- nothing else touches the sink
     pub unwritten : WroteNothing status → out' ≡ out
 
   -- `sweep`, over an environment to a sink
-  pub record SweepsYard (held held' : YardContent D S M) (control control' : Control) (out out' : W) (status : Status) : Type 0 where
+  pub record SweepsYard (held held' : YardContent D S M) (control control' : Control) (out out' : W)
+      (status : Status) : Type 0 where
     -- each tier was swept, and how much went is written
     pub sweep : status ≡ ending.Ok → WritesSweep disk store meta held held' (sink.written out) (sink.written out')
     -- no tier is further than its sweep, and the disks rest
@@ -124,8 +129,10 @@ module _ {D S M W : Type 0} (disk : DiskGhosts D) (store : StoreGhosts S) (meta 
     pub own : IsOfSweep status
     pub yard_fault : status ≡ ending.YardFault → Rose control.faults control'.faults
     pub write_fault : status ≡ ending.WriteFault → Rose (sink.faults out) (sink.faults out')
-    pub front : status ≡ ending.WriteFault → WritesSweepFront disk store meta held held' (sink.written out) (sink.written out')
+    pub front : status ≡ ending.WriteFault → WritesSweepFront disk store meta held held' (sink.written out)
+        (sink.written out')
     -- where nothing fails all is done and written, unless memory runs out
-    pub complete : ¬ Rose control.faults control'.faults → ¬ Rose (sink.faults out) (sink.faults out') → IsDoneOrNoMemory status
+    pub complete : ¬ Rose control.faults control'.faults → ¬ Rose (sink.faults out) (sink.faults out')
+        → IsDoneOrNoMemory status
     -- nothing else touches the sink
     pub unwritten : WroteNothing status → out' ≡ out

@@ -24,6 +24,7 @@ module _ {D S M : Type 0} (disk : DiskGhosts D) (store : StoreGhosts S) (meta : 
     pub spelled : text ≡ trace_of runs
 
   -- so far: the text is that of the partitions before this place, and there are as many others as runs left
-  pub record IsSoFarByThreads (config : Config) (parts : List PartScript) (place left : ℕ) (text : List ℕ) : Type 0 where
+  pub record IsSoFarByThreads (config : Config) (parts : List PartScript) (place left : ℕ)
+      (text : List ℕ) : Type 0 where
     pub text_is : IsTextByThreads config (take place parts) text
     pub many : place + left ≡ length parts

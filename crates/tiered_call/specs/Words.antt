@@ -8,7 +8,8 @@
 --   sweep DIR       sweeps the remote tier of each partition in a folder, and writes how much went
 --
 -- N = "0" / nonzero-digit *digit, at most 4294967295
-use Rattle.std.specs.Prelude.{ℕ, ◌==◌, ◌&&◌, bytes_eq, ◌^◌, nat_lt, not, if◌then◌else◌, Bool, true, false, List, [], ◌∷◌, map, codes, string_bytes, String, Option, Some, None, option_map}
+use Rattle.std.specs.Prelude.{ℕ, ◌==◌, ◌&&◌, bytes_eq, ◌^◌, nat_lt, not, if◌then◌else◌, Bool, true, false, List, []}
+use Rattle.std.specs.Prelude.{◌∷◌, map, codes, string_bytes, String, Option, Some, None, option_map}
 use Rattle.std.specs.Global.{Global}
 use Rattle.std.specs.Char.{is_ascii_digit}
 use Rattle.std.specs.List.{list_all}

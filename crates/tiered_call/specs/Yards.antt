@@ -77,7 +77,8 @@ module _ {D S M : Type 0} (disk : DiskGhosts D) (store : StoreGhosts S) (meta : 
 
   -- the environment answered no name and holds what it held, and then a partition's registry refused a run with so many
   -- brokers
-  pub record RegistryRefuses (brokers : ℕ) (why : YardRefusal) (held held' : YardContent D S M) (control control' : Control) : Type 0 where
+  pub record RegistryRefuses (brokers : ℕ) (why : YardRefusal) (held held' : YardContent D S M)
+      (control control' : Control) : Type 0 where
     pub asked : Control
     pub names : NamesFirst (Ok None) control asked
     pub found : YardContent D S M
@@ -97,7 +98,8 @@ module _ {D S M : Type 0} (disk : DiskGhosts D) (store : StoreGhosts S) (meta : 
   StopsOver brokers held held' control control' other = ⊥
 
   -- the script has this reading, and isn't run to its end
-  pub record ReadsAndStops (reading : Result Script (ℕ × Why)) (held held' : YardContent D S M) (control control' : Control) (status : Status)
+  pub record ReadsAndStops (reading : Result Script (ℕ × Why)) (held held' : YardContent D S M)
+      (control control' : Control) (status : Status)
       : Type 0 where
     pub script : Script
     pub read : reading ≡ Ok script
@@ -112,7 +114,8 @@ module _ {D S M : Type 0} (disk : DiskGhosts D) (store : StoreGhosts S) (meta : 
 
   -- the environment names nothing and holds what it held, and then the text is the trace of a run of each partition of
   -- the script over the environment's devices, which are all back
-  pub record RunsOver (script : Script) (text : List ℕ) (held held' : YardContent D S M) (control control' : Control) : Type 0 where
+  pub record RunsOver (script : Script) (text : List ℕ) (held held' : YardContent D S M)
+      (control control' : Control) : Type 0 where
     pub asked : Control
     pub names : NamesFirst (Ok None) control asked
     pub nameless : IsTrue held.is_observable
@@ -149,7 +152,8 @@ module _ {D S M : Type 0} (disk : DiskGhosts D) (store : StoreGhosts S) (meta : 
     pub written : AppendsFront sunk sunk' text
 
   -- the source was read to its end, and a partition's registry refused the run of what it gave
-  pub record RefusedByRegistry (left left' : Option (List ℕ)) (why : YardRefusal) (held held' : YardContent D S M) (control control' : Control)
+  pub record RefusedByRegistry (left left' : Option (List ℕ)) (why : YardRefusal) (held held' : YardContent D S M)
+      (control control' : Control)
       : Type 0 where
     pub bytes : List ℕ
     pub read : ReadsWhole left left' bytes
@@ -157,7 +161,8 @@ module _ {D S M : Type 0} (disk : DiskGhosts D) (store : StoreGhosts S) (meta : 
     pub reading : script_in bytes ≡ Ok script
     pub refuses : RegistryRefuses script.config.brokers why held held' control control'
 
-module _ {D S M R W : Type 0} (disk : DiskGhosts D) (store : StoreGhosts S) (meta : MetaGhosts M) (source : SourceGhosts R)
+module _ {D S M R W : Type 0} (disk : DiskGhosts D) (store : StoreGhosts S) (meta : MetaGhosts M)
+    (source : SourceGhosts R)
     (sink : SinkGhosts W) where
   -- `run`, from a source to a sink
   pub record RunsInYard (script script' : R) (held held' : YardContent D S M) (control control' : Control)
@@ -183,10 +188,12 @@ module _ {D S M R W : Type 0} (disk : DiskGhosts D) (store : StoreGhosts S) (met
         → AnswersName disk store meta name held held' control control'
     pub yard_fault : status ≡ ending.YardFault → Rose control.faults control'.faults
     pub mismatch : (partition : PartitionId) (kept asked : ℕ) → status ≡ ending.Mismatch partition kept asked
-        → RefusedByRegistry disk store meta (source.left script) (source.left script') (refusal.Mismatch partition kept asked)
+        → RefusedByRegistry disk store meta (source.left script) (source.left script')
+        (refusal.Mismatch partition kept asked)
         held held' control control'
     pub bad_registry : (partition : PartitionId) (at : ℕ) → status ≡ ending.BadRegistry partition at
-        → RefusedByRegistry disk store meta (source.left script) (source.left script') (refusal.BadRegistry partition at)
+        → RefusedByRegistry disk store meta (source.left script) (source.left script')
+        (refusal.BadRegistry partition at)
         held held' control control'
     pub write_fault : status ≡ ending.WriteFault → Rose (sink.faults out) (sink.faults out')
     pub front : status ≡ ending.WriteFault

@@ -1,7 +1,8 @@
-//! What `sim --threads` does: a script's bytes in, the trace's bytes out, and each actor of each partition in a thread of its own.
+//! What `sim --threads` does: a script's bytes in, the trace's bytes out, and each actor of each partition in a
+//! thread of its own.
 //!
-//! What comes back from behind the locks is compared with the script: of a value under a lock no more is known than its type says.
-//! Where it is not the script's, which no run has shown, the script is run in its own order.
+//! What comes back from behind the locks is compared with the script: of a value under a lock no more is known than
+//! its type says. Where it is not the script's, which no run has shown, the script is run in its own order.
 
 ghost use Rattle.std.specs.Prelude.{◌≡◌, ℕ, ◌-◌, ◌<◌, ◌^◌, Ok, Err, length, vec_len, IfOk, IfSome, IsErrOf};
 ghost use Rattle.script_lang.specs.declared.refusal.Why.{Why};
@@ -69,7 +70,8 @@ fn all_begun(alloc: Global, bytes: &Bytes, script: Script) -> Result<Vec<Run>, A
 
 /// Ends a run, and puts its trace after the text.
 fn add_run(alloc: Global, mut run: Run, text: Vec<u8>) -> Result<Vec<u8>, AllocError>
-    ensures { IfOk result (λ new. AddsThreadedRun ⟦<MemoryDisk as Disk>⟧ ⟦<MemoryStore as Store>⟧ ⟦<MemoryLog as MetaLog>⟧
+    ensures { IfOk result (λ new. AddsThreadedRun ⟦<MemoryDisk as Disk>⟧ ⟦<MemoryStore as Store>⟧ ⟦<MemoryLog as
+        MetaLog>⟧
         run.script run.place text.items new.items) }
 {
     let partition = run.partition();
@@ -80,7 +82,8 @@ fn add_run(alloc: Global, mut run: Run, text: Vec<u8>) -> Result<Vec<u8>, AllocE
 /// Ends the runs, and returns the trace, where each is of the script's partition at its place.
 fn text_of(alloc: Global, bytes: &Bytes, runs: Vec<Run>) -> Result<Option<Vec<u8>>, AllocError>
     ensures { (script : ScriptOf) → script_in bytes.now ≡ Ok script → vec_len runs ≡ length script.parts
-        → IfOk result (λ text. IfSome text (λ t. IsTextByThreads ⟦<MemoryDisk as Disk>⟧ ⟦<MemoryStore as Store>⟧ ⟦<MemoryLog as MetaLog>⟧
+        → IfOk result (λ text. IfSome text (λ t. IsTextByThreads ⟦<MemoryDisk as Disk>⟧ ⟦<MemoryStore as
+          Store>⟧ ⟦<MemoryLog as MetaLog>⟧
         script.config script.parts t.items)) }
 {
     let mut text = Vec::new(alloc);
@@ -104,7 +107,8 @@ fn run_parts<H: AllocGlobal + Threads + Wait + Sync, G: Gate + Sync>(
 ) -> Result<Option<Vec<u8>>, AllocError>
     requires reads { script_in bytes.now ≡ Ok script }
     requires fit { IsFit script }
-    ensures { IfOk result (λ text. IfSome text (λ t. IsTextByThreads ⟦<MemoryDisk as Disk>⟧ ⟦<MemoryStore as Store>⟧ ⟦<MemoryLog as MetaLog>⟧
+    ensures { IfOk result (λ text. IfSome text
+        (λ t. IsTextByThreads ⟦<MemoryDisk as Disk>⟧ ⟦<MemoryStore as Store>⟧ ⟦<MemoryLog as MetaLog>⟧
         script.config script.parts t.items)) }
 {
     let runs = all_begun(rt.alloc(), bytes, script)?;
@@ -119,7 +123,8 @@ fn trace_by_threads<H: AllocGlobal + Threads + Wait + Sync, G: Gate + Sync>(
     bytes: &Bytes,
 ) -> Result<Vec<u8>, ScriptRefusal>
     requires { length bytes.now < 2 ^ 32 - 1 }
-    ensures trace { IfOk result (λ text. IsTraceByThreads ⟦<MemoryDisk as Disk>⟧ ⟦<MemoryStore as Store>⟧ ⟦<MemoryLog as MetaLog>⟧
+    ensures trace { IfOk result (λ text. IsTraceByThreads ⟦<MemoryDisk as Disk>⟧ ⟦<MemoryStore as Store>⟧ ⟦<MemoryLog as
+        MetaLog>⟧
         bytes.now text.items) }
     ensures bad { (line : ℕ) (why : Why) → IsErrOf result (ScriptRefusal.Bad line why)
         → script_in bytes.now ≡ Err (line, why) }
@@ -139,7 +144,8 @@ pub fn simulate_by_threads<
     W: Sink,
     G: Gate + Sync,
 >(rt: &H, script: &mut R, out: &mut W, gate: &G) -> Status
-    ensures { Simulates (IsTraceByThreads ⟦<MemoryDisk as Disk>⟧ ⟦<MemoryStore as Store>⟧ ⟦<MemoryLog as MetaLog>⟧) R.Source W.Sink
+    ensures { Simulates (IsTraceByThreads ⟦<MemoryDisk as Disk>⟧ ⟦<MemoryStore as Store>⟧ ⟦<MemoryLog as MetaLog>⟧)
+        R.Source W.Sink
         script.old script.new out.old out.new result }
 {
     let bytes = match read_all(rt.alloc(), script, SCRIPT_LIMIT) {

@@ -1,8 +1,8 @@
 //! What follows a status's line on standard error: an example of a call after that on usage, and the explanation of a
 //! refused line.
 //!
-//! A refused line is explained to a person alone, on a terminal: what else takes standard error is given one line. So the
-//! script's bytes are kept only where standard error is a terminal.
+//! A refused line is explained to a person alone, on a terminal: what else takes standard error is given one line. So
+//! the script's bytes are kept only where standard error is a terminal.
 
 ghost use Rattle.std.specs.Prelude.{◌≡◌};
 

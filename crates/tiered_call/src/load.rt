@@ -30,7 +30,8 @@ fn tell_part(alloc: Global, config: Config, part: PartScript) -> Result<Told, Al
     requires config { IsConfig config }
     requires fit { AreListsFor config part.lists }
     requires ends { StepsToEnds part }
-    ensures { IfOk result (IsToldRun ⟦<MemoryDisk as Disk>⟧ ⟦<MemoryStore as Store>⟧ ⟦<MemoryLog as MetaLog>⟧ config part) }
+    ensures { IfOk result (IsToldRun ⟦<MemoryDisk as Disk>⟧ ⟦<MemoryStore as Store>⟧ ⟦<MemoryLog as MetaLog>⟧ config
+        part) }
 {
     let partition = part.partition;
     let world = run_partition(alloc, config, part)?;
@@ -68,7 +69,8 @@ fn tell_parts(
 
 /// Makes the script of a number, runs it, and returns the summary.
 fn summary_of(alloc: Global, number: u32) -> Result<Vec<u8>, ScriptRefusal>
-    ensures summary { IfOk result (λ text. IsSummary ⟦<MemoryDisk as Disk>⟧ ⟦<MemoryStore as Store>⟧ ⟦<MemoryLog as MetaLog>⟧
+    ensures summary { IfOk result (λ text. IsSummary ⟦<MemoryDisk as Disk>⟧ ⟦<MemoryStore as Store>⟧ ⟦<MemoryLog as
+        MetaLog>⟧
         (script_is number) text.items) }
     ensures bad { (line : ℕ) (why : Why) → IsErrOf result (ScriptRefusal.Bad line why)
         → script_in (script_is number) ≡ Err (line, why) }

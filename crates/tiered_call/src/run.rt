@@ -10,7 +10,8 @@ ghost use Rattle.script_lang.specs.Script.{script_in};
 ghost use Rattle.device_yard.specs.Control.{NamesFirst};
 ghost use Rattle.device_yard.specs.YardContent.{IsFirstName, IsNameInYard, Same};
 ghost use Rattle.run_yard.specs.Reading.{IsRefusedSo};
-ghost use Rattle.tiered_call.specs.Yards.{ended, IsOfScript, AnswersName, StopsOver, HasNoTrace, RunsOver, IsTraceOver, RunsInYard};
+ghost use Rattle.tiered_call.specs.Yards.{ended, IsOfScript, AnswersName, StopsOver};
+ghost use Rattle.tiered_call.specs.Yards.{HasNoTrace, RunsOver, IsTraceOver, RunsInYard};
 
 use crate::sim::SCRIPT_LIMIT;
 use crate::status::Status;
@@ -26,7 +27,8 @@ fn ask<Y: Yard>(yard: &mut Y) -> Result<(), Status>
     ensures nameless { OnOk result (IsTrue (Y.held yard.old).is_observable
         → IsFirstName (IsNameInYard Y.D.content Y.S.content Y.M.content (Y.held yard.old)) None) }
     ensures same { OnOk result (Same Y.D.content Y.S.content Y.M.content (Y.held yard.old) (Y.held yard.new)) }
-    ensures stops { IfErr result (λ status. (brokers : ℕ) → StopsOver Y.D.Disk Y.S.Store Y.M.MetaLog brokers (Y.held yard.old)
+    ensures stops { IfErr result (λ status. (brokers : ℕ)
+        → StopsOver Y.D.Disk Y.S.Store Y.M.MetaLog brokers (Y.held yard.old)
         (Y.held yard.new) (Y.control yard.old) (Y.control yard.new) status) }
     ensures out { (Y.control yard.new).out ≡ (Y.control yard.old).out }
     ensures is_observable { (Y.held yard.new).is_observable ≡ (Y.held yard.old).is_observable }
@@ -65,7 +67,8 @@ fn run_over<Y: Yard>(alloc: Global, script: Script, yard: &mut Y) -> Result<Vec<
     requires { IsFit script }
     ensures runs { IfOk result (λ text. RunsOver Y.D.Disk Y.S.Store Y.M.MetaLog script text.items
         (Y.held yard.old) (Y.held yard.new) (Y.control yard.old) (Y.control yard.new)) }
-    ensures stops { IfErr result (StopsOver Y.D.Disk Y.S.Store Y.M.MetaLog script.config.brokers (Y.held yard.old) (Y.held yard.new)
+    ensures stops { IfErr result (StopsOver Y.D.Disk Y.S.Store Y.M.MetaLog script.config.brokers (Y.held yard.old)
+        (Y.held yard.new)
         (Y.control yard.old) (Y.control yard.new)) }
     ensures out { (Y.control yard.new).out ≡ (Y.control yard.old).out }
     ensures is_observable { (Y.held yard.new).is_observable ≡ (Y.held yard.old).is_observable }

@@ -51,7 +51,8 @@ fn run_parts(alloc: Global, config: Config, parts: Items<PartScript>) -> Result<
     requires config { IsConfig config }
     requires fit { All (λ part. AreListsFor config part.lists) parts }
     requires ends { All StepsToEnds parts }
-    ensures { IfOk result (λ text. IsTextOfScript ⟦<MemoryDisk as Disk>⟧ ⟦<MemoryStore as Store>⟧ ⟦<MemoryLog as MetaLog>⟧
+    ensures { IfOk result (λ text. IsTextOfScript ⟦<MemoryDisk as Disk>⟧ ⟦<MemoryStore as Store>⟧ ⟦<MemoryLog as
+        MetaLog>⟧
         config parts text.items) }
 {
     let mut text = Vec::new(alloc);
@@ -64,7 +65,8 @@ fn run_parts(alloc: Global, config: Config, parts: Items<PartScript>) -> Result<
 /// Reads a script, runs it, and returns the trace.
 pub(crate) fn trace_of(alloc: Global, script: &[u8]) -> Result<Vec<u8>, ScriptRefusal>
     requires { length script.now < 2 ^ 32 - 1 }
-    ensures trace { IfOk result (λ text. IsTraceOfScript ⟦<MemoryDisk as Disk>⟧ ⟦<MemoryStore as Store>⟧ ⟦<MemoryLog as MetaLog>⟧
+    ensures trace { IfOk result (λ text. IsTraceOfScript ⟦<MemoryDisk as Disk>⟧ ⟦<MemoryStore as Store>⟧ ⟦<MemoryLog as
+        MetaLog>⟧
         script.now text.items) }
     ensures bad { (line : ℕ) (why : Why) → IsErrOf result (ScriptRefusal.Bad line why)
         → script_in script.now ≡ Err (line, why) }
@@ -78,7 +80,8 @@ pub(crate) fn trace_of(alloc: Global, script: &[u8]) -> Result<Vec<u8>, ScriptRe
 
 /// Reads a script, runs it, and writes what each of its commands was answered.
 pub fn simulate<R: Source, W: Sink>(alloc: Global, script: &mut R, out: &mut W) -> Status
-    ensures { Simulates (IsTraceOfScript ⟦<MemoryDisk as Disk>⟧ ⟦<MemoryStore as Store>⟧ ⟦<MemoryLog as MetaLog>⟧) R.Source W.Sink
+    ensures { Simulates (IsTraceOfScript ⟦<MemoryDisk as Disk>⟧ ⟦<MemoryStore as Store>⟧ ⟦<MemoryLog as MetaLog>⟧)
+        R.Source W.Sink
         script.old script.new out.old out.new result }
 {
     let bytes = match read_all(alloc, script, SCRIPT_LIMIT) {

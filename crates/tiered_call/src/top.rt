@@ -33,14 +33,17 @@ pub fn tiered<H: AllocGlobal + Threads + Wait + Sync, R: Source, Y: Yard, W: Sin
     out: &mut W,
     gate: &G,
 ) -> Status
-    // A script is run: every command of it is answered once and in order, as the plain log allows, and all of that is written.
+    // A script is run: every command of it is answered once and in order, as the plain log allows, and all of that is
+    // written.
     ensures simulates { form_is words.now ≡ Some Form.Sim
-        → Simulates (IsTraceOfScript ⟦<MemoryDisk as Disk>⟧ ⟦<MemoryStore as Store>⟧ ⟦<MemoryLog as MetaLog>⟧) R.Source W.Sink
+        → Simulates (IsTraceOfScript ⟦<MemoryDisk as Disk>⟧ ⟦<MemoryStore as Store>⟧ ⟦<MemoryLog as MetaLog>⟧) R.Source
+        W.Sink
         script.old script.new out.old out.new result }
 
     // The same where each actor has a thread of its own: each run is one by some schedule.
     ensures threads { form_is words.now ≡ Some Form.Threads
-        → Simulates (IsTraceByThreads ⟦<MemoryDisk as Disk>⟧ ⟦<MemoryStore as Store>⟧ ⟦<MemoryLog as MetaLog>⟧) R.Source W.Sink
+        → Simulates (IsTraceByThreads ⟦<MemoryDisk as Disk>⟧ ⟦<MemoryStore as Store>⟧ ⟦<MemoryLog as MetaLog>⟧) R.Source
+        W.Sink
         script.old script.new out.old out.new result }
 
     // A script is run over the devices of an environment: over any environment every command is answered once and in
@@ -58,14 +61,16 @@ pub fn tiered<H: AllocGlobal + Threads + Wait + Sync, R: Source, Y: Yard, W: Sin
     ensures sweeps { form_is words.now ≡ Some Form.Sweep
         → SweepsYard Y.D.Disk Y.S.Store Y.M.MetaLog W.Sink (Y.held yard.old) (Y.held yard.new)
         (Y.control yard.old) (Y.control yard.new) out.old out.new result }
-    ensures yard { form_is words.now ≢ Some Form.Run → form_is words.now ≢ Some Form.Audit → form_is words.now ≢ Some Form.Sweep
+    ensures yard { form_is words.now ≢ Some Form.Run → form_is words.now ≢ Some Form.Audit
+        → form_is words.now ≢ Some Form.Sweep
         → yard.new ≡ yard.old }
 
     // The script of a number is run, and what its journals come to is written.
     ensures generates { (number : ℕ) → form_is words.now ≡ Some (Form.Gen number)
         → Generates ⟦<MemoryDisk as Disk>⟧ ⟦<MemoryStore as Store>⟧ ⟦<MemoryLog as MetaLog>⟧ W.Sink
         number out.old out.new result }
-    ensures unread { form_is words.now ≢ Some Form.Sim → form_is words.now ≢ Some Form.Threads → form_is words.now ≢ Some Form.Run
+    ensures unread { form_is words.now ≢ Some Form.Sim → form_is words.now ≢ Some Form.Threads
+        → form_is words.now ≢ Some Form.Run
         → script.new ≡ script.old }
 
     // Other words have no form.
@@ -78,7 +83,8 @@ pub fn tiered<H: AllocGlobal + Threads + Wait + Sync, R: Source, Y: Yard, W: Sin
     }
 }
 
-/// Does what the words ask for, without a thread or a lock, so that it returns. For this call `sim --threads` has no form.
+/// Does what the words ask for, without a thread or a lock, so that it returns. For this call `sim --threads` has no
+/// form.
 pub fn tiered_in_order<H: AllocGlobal, R: Source, Y: Yard, W: Sink>(
     rt: &H,
     words: &[String],
@@ -88,7 +94,8 @@ pub fn tiered_in_order<H: AllocGlobal, R: Source, Y: Yard, W: Sink>(
 ) -> Status
     // What `tiered` says of these forms.
     ensures simulates { form_is words.now ≡ Some Form.Sim
-        → Simulates (IsTraceOfScript ⟦<MemoryDisk as Disk>⟧ ⟦<MemoryStore as Store>⟧ ⟦<MemoryLog as MetaLog>⟧) R.Source W.Sink
+        → Simulates (IsTraceOfScript ⟦<MemoryDisk as Disk>⟧ ⟦<MemoryStore as Store>⟧ ⟦<MemoryLog as MetaLog>⟧) R.Source
+        W.Sink
         script.old script.new out.old out.new result }
     ensures runs { form_is words.now ≡ Some Form.Run
         → RunsInYard Y.D.Disk Y.S.Store Y.M.MetaLog R.Source W.Sink script.old script.new
@@ -100,7 +107,8 @@ pub fn tiered_in_order<H: AllocGlobal, R: Source, Y: Yard, W: Sink>(
     ensures sweeps { form_is words.now ≡ Some Form.Sweep
         → SweepsYard Y.D.Disk Y.S.Store Y.M.MetaLog W.Sink (Y.held yard.old) (Y.held yard.new)
         (Y.control yard.old) (Y.control yard.new) out.old out.new result }
-    ensures yard { form_is words.now ≢ Some Form.Run → form_is words.now ≢ Some Form.Audit → form_is words.now ≢ Some Form.Sweep
+    ensures yard { form_is words.now ≢ Some Form.Run → form_is words.now ≢ Some Form.Audit
+        → form_is words.now ≢ Some Form.Sweep
         → yard.new ≡ yard.old }
     ensures generates { (number : ℕ) → form_is words.now ≡ Some (Form.Gen number)
         → Generates ⟦<MemoryDisk as Disk>⟧ ⟦<MemoryStore as Store>⟧ ⟦<MemoryLog as MetaLog>⟧ W.Sink

@@ -3,7 +3,8 @@
 ghost use Rattle.std.specs.Prelude.{◌≡◌};
 ghost use Rattle.std.specs.List.{list_all};
 ghost use Rattle.std.specs.Char.{is_ascii_digit};
-ghost use Rattle.tiered_call.specs.Words.{form_of as form_is, folder_of, number_of as number_is, is_shortest as shortest};
+ghost use Rattle.tiered_call.specs.Words.{form_of as form_is, folder_of};
+ghost use Rattle.tiered_call.specs.Words.{number_of as number_is, is_shortest as shortest};
 
 /// What the words ask for.
 #[derive(Clone, Copy, Debug, PartialEq, Eq)]
@@ -68,7 +69,8 @@ pub fn form_of(words: &[String]) -> Option<Form>
     }
 }
 
-/// The folder that the words of `run`, `audit` and `sweep` name. Other words are asked for it too, and nothing of it is touched then.
+/// The folder that the words of `run`, `audit` and `sweep` name. Other words are asked for it too, and nothing of it
+/// is touched then.
 pub fn folder(words: &[String]) -> &str
     ensures { result.now ≡ folder_of words.now }
 {

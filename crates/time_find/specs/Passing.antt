@@ -2,7 +2,8 @@
 --
 -- A remote segment is too early where the greatest timestamp that its entry gives is below the one that is looked for,
 -- and a closed segment of the local log where its own batches' is.
-use Rattle.std.specs.Prelude.{◌≡◌, ℕ, ◌<◌, ◌≤◌, min, nat_lt, nat_le, ◌&&◌, if◌then◌else◌, ℤ, int_lt, Bool, true, false, List, [], ◌∷◌, Option, Some, None}
+use Rattle.std.specs.Prelude.{◌≡◌, ℕ, ◌<◌, ◌≤◌, min, nat_lt, nat_le, ◌&&◌, if◌then◌else◌, ℤ, int_lt}
+use Rattle.std.specs.Prelude.{Bool, true, false, List, [], ◌∷◌, Option, Some, None}
 use Rattle.segment_file.specs.Growing.{Grown, latest_ts}
 use Rattle.local_log.specs.Stored.{end_of}
 use Rattle.segment_meta.specs.declared.note.Entry.{Entry}
@@ -56,7 +57,8 @@ pub record SeeksOn (asked : Asked) (line : List (ℕ × ℕ)) (entries : List En
   pub far : top_in asked ≤ at
 
 -- it ends below the top, at a piece that isn't of such a segment
-pub record SeeksPiece (asked : Asked) (line : List (ℕ × ℕ)) (entries : List Entry) (cursor at : ℕ) (piece : Piece) : Type 0 where
+pub record SeeksPiece (asked : Asked) (line : List (ℕ × ℕ)) (entries : List Entry) (cursor at : ℕ)
+    (piece : Piece) : Type 0 where
   pub passes : Passes asked line entries cursor at
   pub below : at < top_in asked
   pub found : piece_at entries line asked.log_end at ≡ Some piece

@@ -12,7 +12,8 @@
 -- piece or a run has no batch that isn't too early, the cursor comes to its end.
 --
 -- Source: KIP-405, whose remote segments have time indexes, and Kafka's ListOffsets.
-use Rattle.std.specs.Prelude.{◌≡◌, ◌⊎◌, ℕ, ◌+◌, ◌<◌, ◌≤◌, ◌^◌, ◌-◌, true, max, nat_lt, if◌then◌else◌, ℤ, List, Option, Some, None, Ok, Err, IsErr}
+use Rattle.std.specs.Prelude.{◌≡◌, ◌⊎◌, ℕ, ◌+◌, ◌<◌, ◌≤◌, ◌^◌, ◌-◌, true, max, nat_lt}
+use Rattle.std.specs.Prelude.{if◌then◌else◌, ℤ, List, Option, Some, None, Ok, Err, IsErr}
 use Rattle.std.specs.declared.result.Result.{Result}
 use Rattle.std.specs.declared.alloc.AllocError.{AllocError}
 use Rattle.tier_base.specs.declared.fault.Trouble.{Trouble}
@@ -114,7 +115,8 @@ pub record IsTimeIndexRead (asked : Asked) (cursor : ℕ) (piece : Piece) (base 
 abbrev pub TimesBytes : Option ℕ → Asked → ℕ → Piece → ℕ → Spot → List ℕ → Result (Turn (ℕ × SearchStep)) AllocError
     → Type 0
 TimesBytes (Some end) asked cursor piece base spot bytes result = result ≡ Ok (Ends (Damaged (Key spot.key) end))
-TimesBytes None asked cursor piece base spot bytes (Ok (Goes (at, next))) = IsTimeIndexRead asked cursor piece base bytes (Goes (at, next))
+TimesBytes None asked cursor piece base spot bytes (Ok (Goes (at, next))) =
+    IsTimeIndexRead asked cursor piece base bytes (Goes (at, next))
 TimesBytes None asked cursor piece base spot bytes (Ok (Ends answer)) =
     (answer ≡ Damaged (Key spot.key) spot.at) × IsNoIndex AreMoments moment_bytes bytes
 TimesBytes None asked cursor piece base spot bytes (Err e) = Unit {0}
@@ -207,7 +209,8 @@ module _ {S M : Type 0} (objects : S → store.Content) (calls : S → Control s
       × SeekRow notes notings asked line cursor result old.view new.view old.meta new.meta
   TimeRow asked line cursor (ReadsTimes piece) result old new =
       (new ≡ record old { store = new.store })
-      × TimesRow objects calls asked cursor piece old.view (spot_in asked.partition piece.id part.TimeIndex (entry_of piece.id old.view.entries))
+      × TimesRow objects calls asked cursor piece old.view
+      (spot_in asked.partition piece.id part.TimeIndex (entry_of piece.id old.view.entries))
       result old.store new.store
   TimeRow asked line cursor (Index piece from) result old new =
       SearchIndexRow asked line cursor piece from result old new
@@ -225,7 +228,8 @@ module _ {D : Type 0} (content : D → disk.Content) (control : D → Control di
 
   -- what the disk passed in this turn has no run there, and the log is as it was: where a batch ends at the known high
   -- watermark it was read once
-  pub record SearchHasDamage (old : LogState D) (asked : Asked) (at : ℕ) (name : FileName) (place : ℕ) (new : LogState D) : Type 0 where
+  pub record SearchHasDamage (old : LogState D) (asked : Asked) (at : ℕ) (name : FileName) (place : ℕ)
+      (new : LogState D) : Type 0 where
     pub misreads : Misreads content control old new at (2 ^ 64 - 1) asked.mark name place
     pub ran : WhileUp old (λ log. is_edge (segment_at log asked.mark) asked.mark ≡ true
         → OnDisk old (λ d. OnDisk new (λ e. Ran Read Went (control d) (control e))))

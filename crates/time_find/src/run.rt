@@ -24,7 +24,8 @@ pub enum Dated {
 /// Looks for the first batch of a run whose greatest timestamp isn't below one. The run begins at or below an offset,
 /// and is made of batches that were checked.
 pub fn date_in(run: &[u8], ts: i64, start: u64, offset: u64) -> Dated
-    ensures { (batches : List (List ℕ)) → AreAllChecked batches → end_from offset batches < 2 ^ 64 → run.now ≡ joined batches
+    ensures { (batches : List (List ℕ)) → AreAllChecked batches → end_from offset batches < 2 ^ 64
+        → run.now ≡ joined batches
         → IsDated ts start offset batches result }
 {
     let mut rest = run;

@@ -7,7 +7,8 @@ ghost use Rattle.plain_log.specs.declared.answer.Answer.TheVariants.{Damaged};
 ghost use Rattle.plain_log.specs.declared.answer.Place.TheVariants.{Key, Meta};
 ghost use Rattle.tier_fetch.specs.Turns.{spot_in};
 ghost use Rattle.plain_log.specs.declared.turn.Turn.TheVariants.{Ends};
-ghost use Rattle.time_find.specs.Turns.{IsSet, SearchContinues, IsBelowLocal, wanted_at, shown, Times, SeekRow, TimesRow, SearchIndexRow, SearchLogRow, TimeRow};
+ghost use Rattle.time_find.specs.Turns.{IsSet, SearchContinues, IsBelowLocal, wanted_at, shown, Times};
+ghost use Rattle.time_find.specs.Turns.{SeekRow, TimesRow, SearchIndexRow, SearchLogRow, TimeRow};
 
 use crate::passing::seek;
 use crate::run::search_run;
@@ -95,7 +96,8 @@ fn damaged(spot: &Spot, at: u64) -> Turn<(u64, SearchStep)>
 
 /// The base offset of a piece's segment, and where its time index exists.
 fn spot_of(asked: &Asked, piece: &Piece, view: &View) -> Option<(u64, Spot)>
-    ensures spot { result ≡ spot_in asked.now.partition piece.now.id part.TimeIndex (entry_of piece.now.id view.now.entries) }
+    ensures spot { result ≡ spot_in asked.now.partition piece.now.id part.TimeIndex
+        (entry_of piece.now.id view.now.entries) }
     ensures low { IfSome result (λ found. found.0 ≤ 2 ^ 62) }
     ensures near { IfSome result (λ found. found.1.at < 2 ^ 34) }
 {

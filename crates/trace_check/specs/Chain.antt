@@ -10,7 +10,8 @@ use Rattle.trace_check.specs.Whole.{IsWholeTrace}
 -- the traces are whole runs one after another, from these states to those
 abbrev pub LeadTo : List State → List Pair → List State → Type 0
 LeadTo states [] after = states ≡ after
-LeadTo states (pair ∷ pairs) after = (next : List State) × IsWholeTrace states pair.script pair.trace next × LeadTo next pairs after
+LeadTo states (pair ∷ pairs) after =
+    (next : List State) × IsWholeTrace states pair.script pair.trace next × LeadTo next pairs after
 
 -- they are, from where no partition has run
 abbrev pub AreWholeTraces : List Pair → Type 0

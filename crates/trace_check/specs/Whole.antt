@@ -2,7 +2,8 @@
 --
 -- A trace has no line of a partition that nothing was asked of, and none of its own for the end of a partition. So the
 -- journal of a partition without lines is the empty one.
-use Rattle.std.specs.Prelude.{◌≡◌, ℕ, ◌<◌, ◌==◌, if◌then◌else◌, List, [], ◌∷◌, ◌++◌, length, All, Some, Ok, drop, map, slice_get, option_map, unwrap_or}
+use Rattle.std.specs.Prelude.{◌≡◌, ℕ, ◌<◌, ◌==◌, if◌then◌else◌, List, [], ◌∷◌, ◌++◌, length, All}
+use Rattle.std.specs.Prelude.{Some, Ok, drop, map, slice_get, option_map, unwrap_or}
 use Rattle.cold_state.specs.Cold.{cold_of}
 use Rattle.plain_log.specs.declared.command.ActorList.{ActorList}
 use Rattle.plain_log.specs.declared.command.Config.{Config}
@@ -30,9 +31,10 @@ pub record IsRunFrom (p : State) (lists : List ActorList) (journal : List Journa
   pub last : State
   pub replays : replay lists p journal ≡ Some last
 
--- the state has the script's brokers, and the partition's journal is a run from it over the partition's lists that answers
--- every command of every list
-pub record HasRun (config : Config) (journals : List (ℕ × List JournalEntry)) (p : State) (part : PartScript) : Type 0 where
+-- the state has the script's brokers, and the partition's journal is a run from it over the partition's lists that
+-- answers every command of every list
+pub record HasRun (config : Config) (journals : List (ℕ × List JournalEntry)) (p : State)
+    (part : PartScript) : Type 0 where
   pub brokers : length p.brokers ≡ config.brokers
   pub plain : IsRunFrom p part.lists (journal_of journals part.partition.0)
   pub complete : IsComplete part.lists (journal_of journals part.partition.0)

@@ -12,8 +12,8 @@ use Rattle.trace_text.specs.Entries.{IsEntry}
 use Rattle.trace_text.specs.Trace.{trace_of}
 use Rattle.trace_check.specs.Whole.{opening, states_left, IsRunFrom, IsWholeTrace}
 
--- a partition's number and journal: a run of the plain log over the partition's lists, from this state of as many brokers,
--- which answers every command of every list, and each of whose entries can be read back
+-- a partition's number and journal: a run of the plain log over the partition's lists, from this state of as many
+-- brokers, which answers every command of every list, and each of whose entries can be read back
 pub record IsJournalFrom (config : Config) (p : State) (part : PartScript) (run : ℕ × List JournalEntry) : Type 0 where
   pub partition : run.0 ≡ part.partition.0
   pub brokers : length p.brokers ≡ config.brokers
@@ -31,5 +31,7 @@ AreRunsOf config states (part ∷ parts) [] = ⊥
 
 -- the trace of a run of each partition is a whole run, also of a partition whose run is empty
 abbrev pub RunsAreWhole : Type 0
-RunsAreWhole = (bytes : List ℕ) (script : Script) (states : List State) (runs : List (ℕ × List JournalEntry)) → script_in bytes ≡ Ok script → IsFit script
-    → AreRunsOf script.config states script.parts runs → (after : List State) × IsWholeTrace states bytes (trace_of runs) after
+RunsAreWhole = (bytes : List ℕ) (script : Script) (states : List State) (runs : List (ℕ × List JournalEntry))
+    → script_in bytes ≡ Ok script → IsFit script
+    → AreRunsOf script.config states script.parts runs
+    → (after : List State) × IsWholeTrace states bytes (trace_of runs) after

@@ -7,7 +7,8 @@ ghost use Rattle.script_lang.specs.Fit.{IsFit};
 ghost use Rattle.trace_text.specs.Read.{told};
 ghost use Rattle.trace_check.specs.Places.{with_one};
 ghost use Rattle.trace_check.specs.Whole.{journal_of};
-ghost use Rattle.trace_check.specs.Verdicts.{line_of as line_in, IsPartJudged, ArePartsJudged, IsFirstBeyond, AreJudged};
+ghost use Rattle.trace_check.specs.Verdicts.{line_of as line_in, IsPartJudged, ArePartsJudged};
+ghost use Rattle.trace_check.specs.Verdicts.{IsFirstBeyond, AreJudged};
 
 use crate::verdict::Flaw;
 use plain_executor::{Plain, is_complete, take_all};
@@ -67,7 +68,8 @@ fn judge_part(
 ) -> Result<Option<Flaw>, AllocError>
     requires config { IsConfig config.now }
     requires fit { AreListsFor config.now part.now.lists }
-    ensures { IfOk result (λ found. IsPartJudged config.now (map told journals.now) plain.old part.now plain.new found) }
+    ensures { IfOk result (λ found. IsPartJudged config.now
+        (map told journals.now) plain.old part.now plain.new found) }
 {
     let partition = part.partition;
     let kept = plain.count();

@@ -23,8 +23,8 @@ pub enum Flaw {
         kept: usize,
         asked: u16,
     },
-    /// The partition's entry of this number, from 0 on, is the first that is no step of the plain log. It is this line of the
-    /// trace, from 1 on.
+    /// The partition's entry of this number, from 0 on, is the first that is no step of the plain log. It is this
+    /// line of the trace, from 1 on.
     NoStep {
         partition: PartitionId,
         entry: usize,

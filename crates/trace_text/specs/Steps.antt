@@ -46,7 +46,11 @@ is_done (word ∷ words) = false
 -- the last partition so far, and its entries
 abbrev pub last_part : Parts → List (ℕ × List JournalEntry)
 last_part parts =
-    elim parts.last as (λ _. List (ℕ × List JournalEntry)) [ None ↦ [] | Some last ↦ (last.0, parts.journal.items) ∷ [] ]
+    elim parts.last as (λ _. List (ℕ × List JournalEntry)) [
+      | None ↦ []
+      | Some last ↦
+          (last.0, parts.journal.items) ∷ []
+    ]
 
 -- the parts so far
 abbrev pub parts_of : Parts → List (ℕ × List JournalEntry)

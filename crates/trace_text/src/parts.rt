@@ -8,7 +8,7 @@ use crate::line::{Line, PartJournal};
 use plain_log::Journal;
 use std::alloc::{AllocError, Global};
 use std::mem;
-use tier_base::{PartitionId, Reserved, Items};
+use tier_base::{Items, PartitionId, Reserved};
 
 /// The journals so far: the complete ones, and the one that the next line may extend.
 #[derive(Drop)]

@@ -11,6 +11,7 @@ use meta_log::MetaLog;
 pub fn a_refreshed_view_is_the_fold<M: MetaLog>()
     ensures { (log : M) (old new : EntriesSeen) (k : ℕ) → IsTrue (M.content log).is_observable
         → length (M.content log).notes < 2 ^ 64
-        → k ≤ length (M.content log).notes → old ≡ view_of (take k (M.content log).notes) → Refreshes (M.content log) old new
+        → k ≤ length (M.content log).notes → old ≡ view_of (take k (M.content log).notes)
+        → Refreshes (M.content log) old new
         → new ≡ view_of (M.content log).notes }
 {}

@@ -74,6 +74,8 @@ module _ {D S M : Type 0} (files : D → disk.Content) (objects : S → store.Co
   -- what a power cut may leave of the store and the metadata log that are provided then is under a sweep from what it
   -- might have left of those that were held
   abbrev pub HandedLeavesUnder : Type 0
-  HandedLeavesUnder = (old new : YardContent D S M) (p : PartitionId) (s s' : S) (m m' : M) → old.stores p ≡ Some s → old.logs p ≡ Some m
-      → HandsStore objects (new.stores p) (objects s') → HandsLog notes (new.logs p) (notes m') → LeavesUnderIn objects notes old new p
+  HandedLeavesUnder = (old new : YardContent D S M) (p : PartitionId) (s s' : S) (m m' : M) → old.stores p ≡ Some s
+      → old.logs p ≡ Some m
+      → HandsStore objects (new.stores p) (objects s') → HandsLog notes (new.logs p) (notes m')
+      → LeavesUnderIn objects notes old new p
       → LeavesUnder (objects s) (notes m) (objects s') (notes m')

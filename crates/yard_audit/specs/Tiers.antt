@@ -57,20 +57,24 @@ module _ {D S M : Type 0} (objects : S → store.Content) (notes : M → log.Con
 module _ {D S M : Type 0} (files : D → disk.Content) where
   -- the files of each disk are as they were, of a broker's and of one that keeps a registry
   pub record DisksRest (old new : YardContent D S M) : Type 0 where
-    pub brokers : (p : PartitionId) (b : BrokerId) (name : FileName) → file_on files (new.disks p b) name ≡ file_on files (old.disks p b) name
-    pub registries : (p : PartitionId) (name : FileName) → file_on files (new.registries p) name ≡ file_on files (old.registries p) name
+    pub brokers : (p : PartitionId) (b : BrokerId) (name : FileName)
+        → file_on files (new.disks p b) name ≡ file_on files (old.disks p b) name
+    pub registries : (p : PartitionId) (name : FileName)
+        → file_on files (new.registries p) name ≡ file_on files (old.registries p) name
 
 module _ {D S M : Type 0} (files : D → disk.Content) (objects : S → store.Content) (notes : M → log.Content) where
   -- each partition's tier is as it was, and each disk
   pub record YardRests (old new : YardContent D S M) : Type 0 where
-    pub objects_rest : (p : PartitionId) (key : ObjectKey) → object_on objects (new.stores p) key ≡ object_on objects (old.stores p) key
+    pub objects_rest : (p : PartitionId) (key : ObjectKey)
+        → object_on objects (new.stores p) key ≡ object_on objects (old.stores p) key
     pub notes_rest : (p : PartitionId) → notes_on notes (new.logs p) ≡ notes_on notes (old.logs p)
     pub left_rests : (p : PartitionId) → LeavesNoMore notes (old.logs p) (new.logs p)
     pub disks_rest : DisksRest files old new
 
   -- each other partition's tier is as it was, and each disk
   pub record OthersRest (p : PartitionId) (old new : YardContent D S M) : Type 0 where
-    pub objects_rest : (q : PartitionId) → q ≢ p → (key : ObjectKey) → object_on objects (new.stores q) key ≡ object_on objects (old.stores q) key
+    pub objects_rest : (q : PartitionId) → q ≢ p → (key : ObjectKey)
+        → object_on objects (new.stores q) key ≡ object_on objects (old.stores q) key
     pub notes_rest : (q : PartitionId) → q ≢ p → notes_on notes (new.logs q) ≡ notes_on notes (old.logs q)
     pub left_rests : (q : PartitionId) → q ≢ p → LeavesNoMore notes (old.logs q) (new.logs q)
     pub disks_rest : DisksRest files old new

@@ -13,7 +13,7 @@ use crate::refusal::RoundRefusal;
 use device_yard::Yard;
 use meta_log::MetaLog;
 use object_store::Store;
-use tier_base::{PartitionId, Items};
+use tier_base::{Items, PartitionId};
 
 /// What the tier of a partition is on.
 #[derive(Drop)]

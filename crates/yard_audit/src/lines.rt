@@ -67,7 +67,8 @@ fn flaw_front(
     name: &str,
     key: ObjectKey,
 ) -> Result<Vec<u8>, AllocError>
-    ensures { IfOk result (λ line. line.items ≡ decimal partition.0 ++ (codes " unsound " ++ (name.now ++ (codes " " ++ key_text key)))) }
+    ensures { IfOk result (λ line. line.items
+        ≡ decimal partition.0 ++ (codes " unsound " ++ (name.now ++ (codes " " ++ key_text key)))) }
 {
     let partition = partition.0;
     let mut front = String::new(alloc);
@@ -85,7 +86,8 @@ fn key_line(
     name: &str,
     key: ObjectKey,
 ) -> Result<Vec<u8>, AllocError>
-    ensures { IfOk result (λ line. line.items ≡ line_of partition (codes "unsound " ++ (name.now ++ (codes " " ++ key_text key)))) }
+    ensures { IfOk result (λ line. line.items
+        ≡ line_of partition (codes "unsound " ++ (name.now ++ (codes " " ++ key_text key)))) }
 {
     let mut line = flaw_front(alloc, partition, name, key)?;
     line.push(b'\n')?;
@@ -111,7 +113,8 @@ fn wrong_line(
     key: ObjectKey,
     at: u64,
 ) -> Result<Vec<u8>, AllocError>
-    ensures { IfOk result (λ line. line.items ≡ line_of partition (verdict_text (Verdict.Unsound (Flaw.Wrong key at)))) }
+    ensures { IfOk result (λ line. line.items
+        ≡ line_of partition (verdict_text (Verdict.Unsound (Flaw.Wrong key at)))) }
 {
     let mut line = flaw_front(alloc, partition, "Wrong", key)?;
     let place = place_end(alloc, at)?;
