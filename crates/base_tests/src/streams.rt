@@ -3,7 +3,7 @@
 use std::alloc::{AllocError, Global};
 use std::io::Write;
 use tier_base::{
-    Blob, Failed, MemorySink, MemorySource, ReadRefusal, Reserved, Items, Sink, Source, StdSink,
+    Blob, Failed, Items, MemorySink, MemorySource, ReadRefusal, Reserved, Sink, Source, StdSink,
     StdSource, Trouble, read_all, write_all,
 };
 

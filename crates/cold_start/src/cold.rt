@@ -48,8 +48,7 @@ impl<D: Disk, S: Store, M: MetaLog> Model for Cold<D, S, M> {
 
     ghost view = { λ t. record { world = t.world; reg = t.reg; ended = t.ended } };
 
-    ghost invariant =
-        { λ t. IsRunningSound D.content D.control (record { world = t.world; reg = t.reg; ended = t.ended }) };
+    ghost invariant = { λ t. IsRunningSound D.content D.control (record { world = t.world; reg = t.reg; ended = t.ended }) };
 }
 
 /// What a step returns whose registry couldn't be kept.

@@ -40,7 +40,7 @@ use plain_log::{ActorList, Config, Registry};
 use registry::RegView;
 use registry_disk::{find_registry, keep_registry};
 use std::alloc::Global;
-use tier_base::{FileName, PartitionId, Items, Trouble};
+use tier_base::{FileName, Items, PartitionId, Trouble};
 
 /// No log has as many metadata events: each takes 33 bytes at least of a file whose length is below 2^63.
 const NOTES_BOUND: u64 = 1 << 59;

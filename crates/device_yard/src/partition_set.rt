@@ -7,7 +7,7 @@ ghost use Rattle.device_yard.specs.YardContent.{Rise};
 use std::alloc::{AllocError, Global};
 use std::collections::BTreeSet;
 use std::marker::Model;
-use tier_base::{PartitionId, Items};
+use tier_base::{Items, PartitionId};
 
 /// Partitions in rising order.
 #[derive(Drop)]

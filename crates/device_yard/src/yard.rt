@@ -15,7 +15,7 @@ ghost use Rattle.device_yard.specs.YardContent.{Rise, HandsDisk, HandsStore, Han
 use disk_model::Disk;
 use meta_log::MetaLog;
 use object_store::Store;
-use tier_base::{Blob, BrokerId, PartitionId, Items, Trouble};
+use tier_base::{Blob, BrokerId, Items, PartitionId, Trouble};
 
 /// Where the devices of partitions come from, and where they come back to. A call that answers `Failed` has provided
 /// nothing and leaves what is held as it was.

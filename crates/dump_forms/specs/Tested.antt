@@ -29,4 +29,4 @@ abbrev pub time_verdict : ℕ → ℤ × ℕ → ℤ → Shown → Option Bool
 time_verdict base entry greatest one =
     if nat_lt (last_in one) (offset_of base entry.1) then None
     else Some (int_lt greatest one.head.max_ts && offset_of base entry.1 == last_in one
-        && int_eq entry.0 one.head.max_ts)
+    && int_eq entry.0 one.head.max_ts)

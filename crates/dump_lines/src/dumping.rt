@@ -50,8 +50,7 @@ impl From<ShowRefusal> for DumpRefusal {
 
 /// Shows the batches of a source's bytes from its position on, and returns where and why they end. Needs a few MiB,
 /// however long the source is. `DumpRefusal` has the causes of a failure.
-#[tactic(auto, using(crate::proofs::Going::begins, crate::proofs::Going::filled, crate::proofs::Going::passes,
-    crate::proofs::Going::ends))]
+#[tactic(auto, using(crate::proofs::Going::begins, crate::proofs::Going::filled, crate::proofs::Going::passes, crate::proofs::Going::ends))]
 pub fn dump<R: Source, S: Show>(
     alloc: Global,
     source: &mut R,

@@ -6,7 +6,7 @@ use crate::{Ending, Show, ShowRefusal, Shown, Style, batch_line, dump, text_of};
 use record_batch::BatchRefusal;
 use std::alloc::{AllocError, Global};
 use std::test::Fail;
-use tier_base::{MemorySource, Items};
+use tier_base::{Items, MemorySource};
 
 /// Keeps the batches that are shown.
 #[derive(Drop)]

@@ -12,7 +12,7 @@ use bytes::Bytes;
 use device_tally::Tally;
 use object_store::{Store, StoreCall};
 use std::rt::Files;
-use tier_base::{Failed, ObjectKey, PartitionId, Items, Trouble, give};
+use tier_base::{Failed, Items, ObjectKey, PartitionId, Trouble, give};
 
 /// A store of one partition's objects, each a file of a folder. It isn't observable, and every failure of the system is
 /// a fault. No call of it is planned to fail, and each may.

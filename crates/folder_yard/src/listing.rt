@@ -10,7 +10,7 @@ use std::alloc::Global;
 use std::fs::{self, DirEntry};
 use std::io::{self, ErrorKind};
 use std::rt::Files;
-use tier_base::{FileName, ObjectKey, PartitionId, Items};
+use tier_base::{FileName, Items, ObjectKey, PartitionId};
 
 /// How the name of a file ends that is written and not yet put in its place.
 pub const UNFINISHED: &str = ".new";

@@ -11,7 +11,7 @@ use bytes::Bytes;
 use std::fs::{self, File, OpenFile};
 use std::io::{self, ErrorKind};
 use std::rt::Files;
-use tier_base::{ObjectKey, PartitionId, Items};
+use tier_base::{Items, ObjectKey, PartitionId};
 
 /// A folder of objects.
 #[derive(Drop)]

@@ -10,7 +10,7 @@ use std::alloc::Global;
 use std::fs::{self, DirEntry};
 use std::io::{self, ErrorKind};
 use std::rt::Files;
-use tier_base::{PartitionId, Items};
+use tier_base::{Items, PartitionId};
 
 /// Names them in rising order. An absent folder has none.
 pub fn partitions<R: Files + AllocGlobal + Clone + Drop>(

@@ -24,7 +24,7 @@ use std::alloc::{AllocError, Global};
 use std::fs::{File, TryLockError};
 use std::io::{self, ErrorKind};
 use std::rt::Files;
-use tier_base::{Blob, BrokerId, PartitionId, Items, Trouble};
+use tier_base::{Blob, BrokerId, Items, PartitionId, Trouble};
 
 /// An environment whose devices are in a folder. It isn't observable, and drops a device that comes back: what it held
 /// is in the folder.

@@ -34,7 +34,7 @@ module _ {D S M : Type 0} (disk : DiskGhosts D) (store : StoreGhosts S) (meta : 
   abbrev pub IsFaultCounted : Whole D S M → Whole D S M → JournalEntry → Type 0
   IsFaultCounted w w' entry =
       IsSomeAnd (order_of w'.lists entry) (λ order. (answer : Answer) → entry.event ≡ Answers answer
-          → FailedAs order answer w w')
+      → FailedAs order answer w w')
 
   -- each fault that the journal reports has been counted by its device since the world before
   abbrev pub FaultsAreCounted : Whole D S M → Whole D S M → Type 0

@@ -52,7 +52,7 @@ broken x back = record (stopped x) { loose = Some back }
 abbrev pub torn : Node → Back → Node
 torn x back =
     if nat_lt back.0 x.flushed_end then record (stopped x)
-        { flushed_end = back.0; saved = back.1; local = back.2; loose = Some (back_of x) }
+    { flushed_end = back.0; saved = back.1; local = back.2; loose = Some (back_of x) }
     else broken x back
 
 -- the registry's leader, where it is up and leads the registry's epoch

@@ -89,8 +89,11 @@ LearnRow h b x (Leads n) h' =
     × (h' ≡ put_node h b (led h x n))
 LearnRow h b x DiskFault h' =
     (x.up ≡ true) × ¬ IsKnown h x × (h.registry.leader.0 ≡ b) × IsNew x h.registry.epoch
-    × (h' ≡ put_node h b (broken x (end_of x.log.batches, assign x.log.line h.registry.epoch (end_of x.log.batches),
-      x.local)))
+    × (h' ≡ put_node h b (broken x (
+      end_of x.log.batches,
+      assign x.log.line h.registry.epoch (end_of x.log.batches),
+      x.local,
+    )))
 LearnRow h b x other h' = ⊥
 
 -- the partition after an acknowledgement, which leaves this registry: the broker knows the high watermark, as far as
@@ -132,13 +135,13 @@ RaiseRow h b x wanted Down h' = (x.up ≡ false) × (h' ≡ h)
 RaiseRow h b x wanted NotLeader h' = (x.up ≡ true) × (leads x.role ≡ false) × (h' ≡ h)
 RaiseRow h b x wanted (StaleEpoch n) h' =
     (x.up ≡ true) × ((e : ℕ) × (x.role ≡ LeadsIn e)
-      × Leaves h (after_raise h.registry e wanted (Err (Reg.StaleEpoch n))) h')
+    × Leaves h (after_raise h.registry e wanted (Err (Reg.StaleEpoch n))) h')
 RaiseRow h b x wanted (NotAbove start) h' =
     (x.up ≡ true) × ((e : ℕ) × (x.role ≡ LeadsIn e)
-      × Leaves h (after_raise h.registry e wanted (Err (Reg.NotAbove start))) h')
+    × Leaves h (after_raise h.registry e wanted (Err (Reg.NotAbove start))) h')
 RaiseRow h b x wanted (AboveMark mark) h' =
     (x.up ≡ true) × ((e : ℕ) × (x.role ≡ LeadsIn e)
-      × Leaves h (after_raise h.registry e wanted (Err (Reg.AboveMark mark))) h')
+    × Leaves h (after_raise h.registry e wanted (Err (Reg.AboveMark mark))) h')
 RaiseRow h b x wanted (OkAt start) h' =
     (x.up ≡ true) × ((e : ℕ) × (x.role ≡ LeadsIn e) × Leaves h (after_raise h.registry e wanted (Done start)) h')
 RaiseRow h b x wanted other h' = ⊥

@@ -183,7 +183,7 @@ FollowRow h b x limit (Answers Level) h' = (x.up ≡ true) × IsCurrent h (joine
     × IsSomeAnd (the_leader h) (λ y. end_of y.log.batches ≤ end_of x.log.batches) × (h' ≡ h)
 FollowRow h b x limit (Answers (Moved n)) h' = (x.up ≡ true) × IsCurrent h (joined x.role)
     × IsSomeAnd (the_leader h) (λ y. (end_of x.log.batches < end_of y.log.batches) × (end_of x.log.batches < y.local)
-      × (n ≡ y.local)) × (h' ≡ h)
+    × (n ≡ y.local)) × (h' ≡ h)
 FollowRow h b x limit (Answers DiskFault) h' = (x.up ≡ true) × IsCurrent h (joined x.role)
     × IsSomeAnd (the_leader h) (λ y. (end_of x.log.batches < end_of y.log.batches) × (y.local ≤ end_of x.log.batches))
     × (h' ≡ h)

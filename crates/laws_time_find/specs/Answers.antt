@@ -42,7 +42,7 @@ RunsAreSearched = (asked : Asked) (offset at limit : ℕ) (log run : List (List 
     → HasPassed asked.ts asked.start log offset → asked.start ≤ offset → IsRunOf log offset limit asked.mark stop run
     → AreAllChecked run
     → (IsSearched asked offset (joined run) (Ends (Offset at))
-      → first_at asked.ts asked.start (from_offset asked.start (up_to asked.mark log)) ≡ Some at)
+    → first_at asked.ts asked.start (from_offset asked.start (up_to asked.mark log)) ≡ Some at)
     × (IsSearched asked offset (joined run) (Goes (at, Seek)) → HasPassed asked.ts asked.start log at × (offset < at))
 
 -- damage of the log of the segment that was to be read: it is reported of the object that has it

@@ -39,7 +39,7 @@ unfoldable pub row_of : ℕ → Row
 row_of c =
     if nat_lt c 6 then Append else if nat_lt c 7 then Follow else if nat_lt c 8 then Join else if nat_lt c 10 then Flush
     else if nat_lt c 12 then Copy else if nat_lt c 14 then Trim else if nat_lt c 15 then Expire else if nat_lt c 19 then
-        Fetch else Clock
+    Fetch else Clock
 
 -- front = actor SP partition SP broker SP
 unfoldable pub front : ℕ → ℕ → ℕ → List ℕ

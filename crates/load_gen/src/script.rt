@@ -30,8 +30,7 @@ fn write_turns(text: &mut String, count: u32, number: u32) -> Result<(), AllocEr
 }
 
 /// The script of a number, in about 1.6 million bytes. Fails only if memory runs out.
-#[tactic(auto, using(crate::proofs::Lengths::script_short), unfolding(crate::specs::Script::script_of,
-    crate::specs::Script::options))]
+#[tactic(auto, using(crate::proofs::Lengths::script_short), unfolding(crate::specs::Script::script_of, crate::specs::Script::options))]
 pub fn script_of(alloc: Global, number: u32) -> Result<Vec<u8>, AllocError>
     ensures script { IfOk result (λ text. text.items ≡ script number) }
     ensures short { IfOk result (λ text. length text.items ≤ 16777216) }

@@ -13,7 +13,7 @@ use crate::manifest::{Extent, Front, Manifest, SegmentList};
 use crate::refusal::ManifestRefusal;
 use epoch_line::Line;
 use std::alloc::Global;
-use tier_base::{OFFSET_LIMIT, Items};
+use tier_base::{Items, OFFSET_LIMIT};
 
 /// The first four bytes.
 const TAG: u32 = 0x544C_4D31;

@@ -6,7 +6,7 @@ ghost use Rattle.device_yard.specs.YardContent.{IsNameUpTo, IsFirstName};
 ghost use Rattle.memory_yard.specs.First.{name_of, IsNameIn, IsFirstWith, AreWithout, PushesUnless};
 
 use std::alloc::{AllocError, Global};
-use tier_base::{Blob, PartitionId, Items};
+use tier_base::{Blob, Items, PartitionId};
 
 /// The name of a partition.
 fn name_of(alloc: Global, partition: PartitionId) -> Result<String, AllocError>

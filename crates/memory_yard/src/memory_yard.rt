@@ -28,7 +28,7 @@ use disk_model::{Disk, MemoryDisk};
 use meta_log_file::DiskLog;
 use object_store::MemoryStore;
 use std::alloc::{AllocError, Global};
-use tier_base::{Blob, BrokerId, PartitionId, Items, Trouble};
+use tier_base::{Blob, BrokerId, Items, PartitionId, Trouble};
 
 /// An environment whose devices are in memory. A device that came back is provided with what it held, and an empty one
 /// where none did; the devices' own calls can't fail, but by a fuse. Beside the names of its partitions it has those of
@@ -344,7 +344,7 @@ impl Yard for MemoryYard {
             (⟦<MemoryDisk as Disk>⟧.content disk)) }
         ensures out { IsTrue (⟦<MemoryYard as Yard>⟧.held self.old).is_observable → OnOk result
             (DiskIs partition broker None (⟦<MemoryYard as Yard>⟧.held self.old)
-              (⟦<MemoryYard as Yard>⟧.held self.new)) }
+            (⟦<MemoryYard as Yard>⟧.held self.new)) }
         ensures err { IsTrue (⟦<MemoryYard as Yard>⟧.held self.old).is_observable → OnErr result
             (SameYardContent (⟦<MemoryYard as Yard>⟧.held self.old) (⟦<MemoryYard as Yard>⟧.held self.new)) }
 

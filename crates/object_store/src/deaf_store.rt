@@ -14,7 +14,7 @@ use crate::handing::{end_get, part};
 use crate::store::Store;
 use bytes::Bytes;
 use std::alloc::{AllocError, Global};
-use tier_base::{Failed, FaultPlan, ObjectKey, Items, Trouble, give};
+use tier_base::{Failed, FaultPlan, Items, ObjectKey, Trouble, give};
 
 /// A store that isn't observable.
 #[derive(Drop)]

@@ -18,7 +18,7 @@ use crate::shelf::Shelf;
 use crate::store::Store;
 use bytes::Bytes;
 use std::alloc::Global;
-use tier_base::{Failed, FaultPlan, ObjectKey, Items, Trouble, give};
+use tier_base::{Failed, FaultPlan, Items, ObjectKey, Trouble, give};
 
 /// A store in memory.
 #[derive(Drop)]

@@ -12,7 +12,7 @@ use crate::slot::{Slot, key_at, slot_of};
 use bytes::Bytes;
 use std::alloc::{AllocError, Global};
 use std::collections::BTreeMap;
-use tier_base::{ObjectKey, Items};
+use tier_base::{Items, ObjectKey};
 
 /// The objects.
 #[derive(Drop)]

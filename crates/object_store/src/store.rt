@@ -11,7 +11,7 @@ ghost use Rattle.tier_base.specs.Told.{NamesAllHeld, replaced, removed, last_rea
 ghost use Rattle.object_store.specs.Content.{Content, Changes, Keeps};
 
 use bytes::Bytes;
-use tier_base::{Failed, ObjectKey, Items, Trouble};
+use tier_base::{Failed, Items, ObjectKey, Trouble};
 
 /// The objects of a partition's remote segments, by key. After `Failed` the call's object is as before or as if the
 /// call was done, the others are as before, and any call may follow.

@@ -89,13 +89,13 @@ module _ {D : Type 0} where
   RaiseRow h b x wanted NotLeader h' = (is_up x ≡ true) × (leads x.role ≡ false) × (h' ≡ h)
   RaiseRow h b x wanted (StaleEpoch n) h' =
       (is_up x ≡ true) × ((e : ℕ) × (x.role ≡ LeadsIn e)
-        × Leaves h (after_raise h.registry e wanted (Err (Reg.StaleEpoch n))) h')
+      × Leaves h (after_raise h.registry e wanted (Err (Reg.StaleEpoch n))) h')
   RaiseRow h b x wanted (NotAbove start) h' =
       (is_up x ≡ true) × ((e : ℕ) × (x.role ≡ LeadsIn e)
-        × Leaves h (after_raise h.registry e wanted (Err (Reg.NotAbove start))) h')
+      × Leaves h (after_raise h.registry e wanted (Err (Reg.NotAbove start))) h')
   RaiseRow h b x wanted (AboveMark mark) h' =
       (is_up x ≡ true) × ((e : ℕ) × (x.role ≡ LeadsIn e)
-        × Leaves h (after_raise h.registry e wanted (Err (Reg.AboveMark mark))) h')
+      × Leaves h (after_raise h.registry e wanted (Err (Reg.AboveMark mark))) h')
   RaiseRow h b x wanted (OkAt start) h' =
       (is_up x ≡ true) × ((e : ℕ) × (x.role ≡ LeadsIn e) × Leaves h (after_raise h.registry e wanted (Done start)) h')
   RaiseRow h b x wanted other h' = ⊥
@@ -114,7 +114,7 @@ module _ {D : Type 0} where
       (after_ack h.registry b s e (flushed_end_of x) (Err (Reg.StaleEpoch n))) h'))
   AckRow h b x (OkAt mark) h' = (is_up x ≡ true) × IsSomeAnd (acking x.role) (λ e.
       AtReplica h.registry b (λ s. IsSomeAnd (after_ack h.registry b s e (flushed_end_of x) (Done mark))
-        (λ r. Acks h b x r h')))
+      (λ r. Acks h b x r h')))
   AckRow h b x other h' = ⊥
 
 module _ {D : Type 0} (content : D → Content) (control : D → Control call_code) where

@@ -101,7 +101,7 @@ module _ {D : Type 0} (content : D → Content) (control : D → Control call_co
   CutRow h b x epoch met (Cut n) h' = CutsNode h b x epoch met n h'
   CutRow h b x epoch met (DiskFaultAt n) h' = IsEndUpTo content x.log met n
       × BreaksBy content control h b x (λ old new. BreaksIf content old new (effects.MayCutLog met)
-        (λ s. torn s (cut_back s met))) h'
+      (λ s. torn s (cut_back s met))) h'
   CutRow h b x epoch met other h' = ⊥
 
   -- what a join's actor's state has after its first turn, where the logs meet below the leader's local log
@@ -199,7 +199,7 @@ module _ {D : Type 0} (content : D → Content) (control : D → Control call_co
       × IsSomeAnd (the_leader h) (λ y. end_of y ≤ end_of x) × (h' ≡ h)
   FollowRow h b x limit (Answers DiskFault) h' = (is_up x ≡ true) × IsCurrent h (joined x.role)
       × IsSomeAnd (the_leader h) (λ y. (end_of x < end_of y) × (local_of y ≤ end_of x)
-        × NodeReadFails content control h h.registry.leader.0 y h')
+      × NodeReadFails content control h h.registry.leader.0 y h')
   FollowRow h b x limit (Answers (Moved n)) h' = (is_up x ≡ true) × IsCurrent h (joined x.role)
       × IsSomeAnd (the_leader h) (λ y. (end_of x < end_of y) × (end_of x < local_of y) × (n ≡ local_of y)) × (h' ≡ h)
   FollowRow h b x limit (Answers (Damaged (File name) at)) h' = (is_up x ≡ true) × IsCurrent h (joined x.role)

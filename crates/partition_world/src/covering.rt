@@ -15,7 +15,7 @@ use remote_view::View;
 use retention_rule::local_due;
 use segment_file::Growing;
 use std::alloc::{AllocError, Global};
-use tier_base::{Item, Keep, Items};
+use tier_base::{Item, Items, Keep};
 
 /// Whether pieces of remote segments reach up to a top, one after another, from a place on.
 fn reaches(view: &View, line: &Line, log_end: u64, at: u64, top: u64) -> bool

@@ -154,8 +154,7 @@ impl<S: Store, M: MetaLog> RemoteTier<S, M> {
     }
 
     /// Takes a turn of a search from a cursor on.
-    #[tactic(auto, using(crate::proofs::DateRows::own_row, crate::proofs::DateRows::remote_row,
-        crate::proofs::DateRows::remote_stays))]
+    #[tactic(auto, using(crate::proofs::DateRows::own_row, crate::proofs::DateRows::remote_row, crate::proofs::DateRows::remote_stays))]
     fn search<D: Disk>(
         &mut self,
         alloc: Global,

@@ -31,7 +31,7 @@ use record_batch::Checked;
 use segment_bundle::Bundle;
 use segment_file::Closed;
 use std::alloc::{AllocError, Global};
-use tier_base::{PartitionId, Items};
+use tier_base::{Items, PartitionId};
 
 /// What an actor's next turn would have made ready.
 #[derive(Drop)]

@@ -39,7 +39,7 @@ use plain_log::{ActorList, Config, Journal, Registry};
 use remote_view::View;
 use std::alloc::{AllocError, Global};
 use std::marker::Model;
-use tier_base::{ActorId, PartitionId, Items};
+use tier_base::{ActorId, Items, PartitionId};
 
 /// How many remote segments' indexes a broker keeps.
 const INDEXES: usize = 64;
@@ -412,7 +412,10 @@ impl<D: Disk, S: Store, M: MetaLog> World<D, S, M> {
 }
 
 /// Makes an empty journal with room for all entries, and a desk where no list has begun.
-fn fresh_books(alloc: Global, lists: &[ActorList]) -> Result<(Journal, Items<ActorState>), AllocError>
+fn fresh_books(
+    alloc: Global,
+    lists: &[ActorList],
+) -> Result<(Journal, Items<ActorState>), AllocError>
     requires few { entries_left lists.now [] < 2 ^ 64 }
     ensures { IfOk result (λ books. AreFreshBooks lists.now books.0 books.1) }
 {

@@ -35,8 +35,13 @@ path_in p e = unwrap_or (path_of p.paths e) []
 
 -- the broker's log cut to so many batches, which end at n, where it has joined the leader of epoch e
 abbrev pub cut : Broker → ℕ → ℕ → ℕ → Broker
-cut x e count n = record x { role = role.Joined e; log = take count x.log; flushed_end = n; known_high_watermark = min
-    x.known_high_watermark n }
+cut x e count n = record x {
+  role = role.Joined e;
+  log = take count x.log;
+  flushed_end = n;
+  known_high_watermark = min
+      x.known_high_watermark n;
+}
 
 -- the broker acknowledges its flushed end, and the first batches of the current path, so many, are what is committed
 abbrev pub acked : State → ℕ → Broker → Replica → ℕ → State

@@ -177,7 +177,7 @@ fn answer(
     requires replica { order.now.broker.0 < length p.old.registry.replicas }
     ensures ok { IfOk result (λ taken. AtBroker p.old order.now.broker.0 (λ x s.
         Stepped p.old p.new (event_step p.old id.0 (actor_at p.old.actors id.0) order.now x s
-          (event.Answers answer.now)) taken)) }
+        (event.Answers answer.now)) taken)) }
     ensures err { OnErr result (p.new ≡ p.old) }
 {
     let Some(change) = decided(p, order, id, answer) else {

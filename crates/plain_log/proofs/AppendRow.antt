@@ -27,6 +27,7 @@ use Rattle.plain_log.proofs.Options.{both, le_of, eq_of}
 use Rattle.plain_log.proofs.Keeps.{Keeps, grown, silent, by_when, breaks_kept}
 use Rattle.plain_log.proofs.Swaps.{one_leader_set, role_as}
 use Rattle.plain_log.proofs.Wider.{Wider, has_wider, log_wider, broker_wider, recorded_wider}
+use Rattle.plain_log.proofs.Within.{end_snoc}
 
 -- the paths where one gains a batch
 
@@ -103,8 +104,9 @@ log_snoc ps e log v pa base ep h = record {
       ];
 }
 
-pub gained_safe : (p : State) (b : ℕ) (x : Broker) (e : ℕ) (v : List ℕ) → slice_get p.brokers b ≡ Some x → x.role ≡ Leads e → x.up ≡ true → base_of v ≡ end_of x.log → epoch_of v ≡ e → PlainSafe p → PlainSafe (gained p b x e v)
-gained_safe p b x e v bx lead up base ep s =
+pub gained_safe : (p : State) (b : ℕ) (x : Broker) (e : ℕ) (v : List ℕ) → slice_get p.brokers b ≡ Some x → x.role ≡ Leads e → x.up ≡ true → base_of v ≡ end_of x.log → epoch_of v ≡ e
+    → end_of (x.log ++ v ∷ []) ≤ offset_limit → PlainSafe p → PlainSafe (gained p b x e v)
+gained_safe p b x e v bx lead up base ep within s =
     let h = s.brokers b x bx in
     let qs = longer p.paths e v in
     let r = role_as p.paths p.registry.epoch x.role (Leads e) x.log lead h.role in
@@ -130,6 +132,7 @@ gained_safe p b x e v bx lead up base ep s =
                 subst (λ (k : ℕ). PathSafe qs p.registry.epoch k l) (sym j.0) (subst (λ (k : List (List ℕ)). PathSafe qs p.registry.epoch e k) (sym j.1)
                 (record {
                   log_safe = log;
+                  ends = within;
                   epochs = λ ws u q.
                       elim (prefix_snoc (ws ++ u ∷ []) x.log v q) [
                         | inl m ↦ o.epochs ws u m
@@ -137,7 +140,7 @@ gained_safe p b x e v bx lead up base ep s =
                       ];
                   below = o.below;
                 }))
-            | inr j ↦ let k = s.paths f l j in record { log_safe = log_wider p.paths qs l wide k.log_safe; epochs = k.epochs; below = k.below }
+            | inr j ↦ let k = s.paths f l j in record { log_safe = log_wider p.paths qs l wide k.log_safe; ends = k.ends; epochs = k.epochs; below = k.below }
           ];
       brokers = λ c z cz.
           elim (get-set p.brokers b y c z cz) [
@@ -233,7 +236,8 @@ appended_safe p b x batch base e at long w s =
     let fits = le_of (end_of x.log + last_offset_delta_of batch + 1) offset_limit w.room in
     let small = within_64 base (end_of x.log) (last_offset_delta_of batch) offset_limit w.base_is fits (omega arith) in
     let stamp = sets_base_and_epoch batch base e long small (within_32 e p.registry.epoch epoch_limit r.0 s.marks.epoch (omega arith)) in
-    gained_safe p b x e (stamped batch base e) at lead w.up (stamp.base_offset ∙ w.base_is) stamp.leader_epoch s
+    let on = stamp.base_offset ∙ w.base_is in
+    gained_safe p b x e (stamped batch base e) at lead w.up on stamp.leader_epoch (omega (arith, end_snoc x.log (stamped batch base e) on, stamp.last_offset_delta, fits)) s
 
 -- the row of append
 pub append_keeps : (p : State) (b : ℕ) (x : Broker) (batch : List ℕ) (answer : Answer) (q : State) → slice_get p.brokers b ≡ Some x → 61 ≤ length batch

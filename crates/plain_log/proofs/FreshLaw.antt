@@ -45,7 +45,7 @@ empty_safe : LogSafe paths []
 empty_safe = record { consecutive = tt; matching = λ front batch p. absurd (no_batch front batch p.0 p.1) }
 
 path_safe : PathSafe paths 0 0 []
-path_safe = record { log_safe = empty_safe; epochs = λ front batch p. absurd (no_batch front batch p.0 p.1); below = omega arith }
+path_safe = record { log_safe = empty_safe; ends = omega arith; epochs = λ front batch p. absurd (no_batch front batch p.0 p.1); below = omega arith }
 
 leader_safe : BrokerSafe paths 0 (fresh_broker (Leads 0))
 leader_safe = record { log = empty_safe; role = (omega arith, refl); flushed_end = ends_at_zero []; known_high_watermark = ends_at_zero []; down = λ d. absurd cc }

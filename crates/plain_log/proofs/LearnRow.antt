@@ -18,6 +18,7 @@ use Rattle.plain_log.specs.State.{path_of, has_path, put_broker, breaks, is_in}
 use Rattle.plain_log.specs.RowsOfElections.{knows, learns, may_lead, led, learn_row}
 use Rattle.plain_log.specs.Safe.{PathSafe, BrokerSafe, AckSafe, current, KnownSafe, SnapshotIsSafe, PlainSafe}
 use Rattle.plain_log.proofs.Options.{both, not_true, eq_of}
+use Rattle.plain_log.proofs.Within.{log_within}
 use Rattle.plain_log.proofs.Wider.{Wider, log_wider, recorded_wider, broker_wider}
 use Rattle.plain_log.proofs.Swaps.{current_is, swap_follows, role_as, knows_joined}
 use Rattle.plain_log.proofs.Keeps.{Keeps, grown, kept, silent, by_when, broker_kept, breaks_kept}
@@ -128,10 +129,11 @@ led_safe p b x r bx br up new lead none s =
                 subst (λ (k : ℕ). PathSafe ps p.registry.epoch k l) (sym j.0) (subst (λ (k : List (List ℕ)). PathSafe ps p.registry.epoch p.registry.epoch k) (sym j.1)
                 (record {
                   log_safe = log_wider p.paths ps x.log wide h.log;
+                  ends = log_within p x.log s h.log;
                   epochs = λ ws v q. (let m = h.log.matching ws v q in (s.paths (epoch_of v) m.0 m.1).below);
                   below = omega arith;
                 }))
-            | inr j ↦ let k = s.paths e l j in record { log_safe = log_wider p.paths ps l wide k.log_safe; epochs = k.epochs; below = k.below }
+            | inr j ↦ let k = s.paths e l j in record { log_safe = log_wider p.paths ps l wide k.log_safe; ends = k.ends; epochs = k.epochs; below = k.below }
           ];
       brokers = each-set (BrokerSafe ps p.registry.epoch) p.brokers b y
           (λ c z i. broker_wider p.paths ps p.registry.epoch z wide (λ e _ k. added_has p.paths p.registry.epoch x.log e z.log none k) (s.brokers c z i))

@@ -1,6 +1,7 @@
 pub mod Options
 pub mod Wider
 pub mod Ends
+pub mod Within
 mod Swaps
 mod Keeps
 mod Joins

@@ -40,7 +40,7 @@ pub broker_later : (paths : List Path) (m n : ℕ) (x : Broker) → m ≤ n → 
 broker_later paths m n x le h = record { log = h.log; role = role_later paths m n x.role x.log le h.role; flushed_end = h.flushed_end; known_high_watermark = h.known_high_watermark; down = h.down }
 
 pub path_later : (paths : List Path) (m n e : ℕ) (l : List (List ℕ)) → m ≤ n → PathSafe paths m e l → PathSafe paths n e l
-path_later paths m n e l le h = record { log_safe = h.log_safe; epochs = h.epochs; below = omega (arith, le, h.below) }
+path_later paths m n e l le h = record { log_safe = h.log_safe; ends = h.ends; epochs = h.epochs; below = omega (arith, le, h.below) }
 
 pub recorded_later : (paths : List Path) (m n : ℕ) (y : PlainSnapshot) (x : Broker) → m ≤ n → SnapshotIsSafe paths m y x → SnapshotIsSafe paths n y x
 recorded_later paths m n y x le h = record {

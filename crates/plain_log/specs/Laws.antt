@@ -1,13 +1,16 @@
 -- The laws of the plain log.
-use Rattle.std.specs.Prelude.{◌≡◌, ℕ, ◌≤◌, Some, List, [], ◌∷◌, ◌++◌, false}
+use Rattle.std.specs.Prelude.{◌≡◌, ℕ, ◌≤◌, Some, List, [], ◌∷◌, ◌++◌, false, slice_get}
 use Rattle.std.specs.List.{AllByRecursion}
 use mathlib.Core.List.{IsPrefix}
 use Rattle.log_terms.specs.Batch.{epoch_of}
+use Rattle.log_terms.specs.Log.{end_of}
 use Rattle.plain_log.specs.declared.command.Config.{Config}
 use Rattle.plain_log.specs.declared.command.Order.{Order}
 use Rattle.plain_log.specs.declared.command.ActorList.{ActorList}
 use Rattle.plain_log.specs.declared.journal.JournalEntry.{JournalEntry}
 use Rattle.plain_log.specs.declared.state.State.{State}
+use Rattle.plain_log.specs.declared.state.Broker.{Broker}
+use Rattle.plain_log.specs.RowsOfLog.{offset_limit}
 use Rattle.plain_log.specs.Step.{step}
 use Rattle.plain_log.specs.Runs.{replay, IsPlainRun, IsInOrder}
 use Rattle.plain_log.specs.Fresh.{fresh}
@@ -33,6 +36,11 @@ ReplaysKeepSafe = (lists : List ActorList) (p : State) (journal : List JournalEn
 -- they hold of the fresh state
 abbrev pub FreshIsSafe : Type 0
 FreshIsSafe = (config : Config) → PlainSafe (fresh config)
+
+-- no broker's log ends past the greatest log end offset
+abbrev pub EndsAreWithin : Type 0
+EndsAreWithin =
+    (p : State) (b : ℕ) (x : Broker) → PlainSafe p → slice_get p.brokers b ≡ Some x → end_of x.log ≤ offset_limit
 
 -- along a log or a path leader epochs never fall
 abbrev pub EpochsNeverFall : Type 0

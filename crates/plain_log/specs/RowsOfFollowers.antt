@@ -74,7 +74,7 @@ later_row p x recorded (StaleEpoch n) =
     when ((recorded.stops == x.stops) && is_stale p (followed recorded.role) && (n == p.registry.epoch)) p
 later_row p x recorded (Passed n) =
     when ((recorded.stops == x.stops) && not (is_stale p (followed recorded.role)) && (n == end_of x.log)
-      && not (n == recorded.end)) p
+    && not (n == recorded.end)) p
 later_row p x recorded other = None
 
 -- the log comes to where it meets the leader's

@@ -51,7 +51,7 @@ append_row p b x batch TooManySegments = when (x.up && leads x.role && has_room 
 append_row p b x batch DiskFault = when (x.up && leads x.role && has_room x batch) (breaks p b x)
 append_row p b x batch (OkSpan base last e) =
     when (x.up && leads_in e x.role && has_room x batch && (base == end_of x.log)
-      && (last == base + last_offset_delta_of batch))
+    && (last == base + last_offset_delta_of batch))
     (gained p b x e (stamped batch base e))
 append_row p b x batch other = None
 

@@ -16,6 +16,7 @@ use Rattle.plain_log.specs.declared.state.PlainSnapshot.{PlainSnapshot}
 use Rattle.plain_log.specs.declared.state.Role.{Role}
 use Rattle.plain_log.specs.declared.state.Role.TheVariants.{Idle, Leads, Follows, Joined}
 use Rattle.plain_log.specs.State.{path_of, actor_at, is_in}
+use Rattle.plain_log.specs.RowsOfLog.{offset_limit}
 
 -- the path of this epoch begins with these batches
 abbrev pub HasOnPath : List Path → ℕ → List (List ℕ) → Type 0
@@ -27,9 +28,11 @@ pub record LogSafe (paths : List Path) (log : List (List ℕ)) : Type 0 where
   pub matching : (front : List (List ℕ)) (batch : List ℕ) → IsPrefix (front ++ batch ∷ []) log
       → HasOnPath paths (epoch_of batch) (front ++ batch ∷ [])
 
--- a path: no batch has a later epoch, and it isn't above the registry's
+-- a path: it ends at or below the greatest log end offset, no batch has a later epoch, and it isn't above the
+-- registry's
 pub record PathSafe (paths : List Path) (epoch e : ℕ) (log : List (List ℕ)) : Type 0 where
   pub log_safe : LogSafe paths log
+  pub ends : end_of log ≤ offset_limit
   pub epochs : (front : List (List ℕ)) (batch : List ℕ) → IsPrefix (front ++ batch ∷ []) log → epoch_of batch ≤ e
   pub below : e ≤ epoch
 

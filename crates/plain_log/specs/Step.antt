@@ -82,12 +82,12 @@ event_step p a y order x s (Answers answer) =
 abbrev pub next_actor : State → Order → JournalEntry → Option Actor
 next_actor p order entry =
     when ((entry.number == (actor_at p.actors entry.actor.0).number)
-      && is_recorded (actor_at p.actors entry.actor.0).snapshot order)
+    && is_recorded (actor_at p.actors entry.actor.0).snapshot order)
     (actor_at p.actors entry.actor.0)
 
 -- the next state, or none where the entry isn't allowed
 abbrev pub step : State → Order → JournalEntry → Option State
 step p order entry =
     option_and_then (λ x. option_and_then (λ s. option_and_then
-      (λ y. event_step p entry.actor.0 y order x s entry.event)
+    (λ y. event_step p entry.actor.0 y order x s entry.event)
     (next_actor p order entry)) (slice_get p.registry.replicas order.broker.0)) (slice_get p.brokers order.broker.0)

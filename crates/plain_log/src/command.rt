@@ -2,7 +2,7 @@
 
 use bytes::Bytes;
 use record_batch::Rec;
-use tier_base::{ActorId, BrokerId, Keep, Items, Settings};
+use tier_base::{ActorId, BrokerId, Items, Keep, Settings};
 
 /// What a partition is made with.
 #[derive(Clone, Copy, Debug, PartialEq, Eq)]

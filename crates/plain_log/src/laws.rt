@@ -1,7 +1,8 @@
 //! Laws of the plain log. Each is the contract of a function that does nothing: calling it cites the law.
 
-ghost use Rattle.plain_log.specs.Laws.{StepsKeepSafe, StepsGrow, ReplaysKeepSafe, FreshIsSafe, EpochsNeverFall};
-ghost use Rattle.plain_log.specs.Laws.{RunsAnswerInOrder, CommittedGrows, CommittedStays, RunsAreCommitted, RunsAreLed};
+ghost use Rattle.plain_log.specs.Laws.{StepsKeepSafe, StepsGrow, ReplaysKeepSafe, FreshIsSafe};
+ghost use Rattle.plain_log.specs.Laws.{EndsAreWithin, EpochsNeverFall, RunsAnswerInOrder, CommittedGrows};
+ghost use Rattle.plain_log.specs.Laws.{CommittedStays, RunsAreCommitted, RunsAreLed};
 
 /// Each step keeps the safety rules.
 pub fn steps_keep_safe()
@@ -21,6 +22,12 @@ pub fn fresh_is_safe()
 /// The safety rules hold after each journal that is replayed from a state in which they hold.
 pub fn replays_keep_safe()
     ensures { ReplaysKeepSafe }
+{}
+
+/// No broker's log ends past the greatest log end offset, 2^62.
+#[tactic(auto, using(crate::proofs::Within::broker_within))]
+pub fn ends_are_within()
+    ensures { EndsAreWithin }
 {}
 
 /// Along the log of a broker, and along a path, leader epochs never fall.

@@ -19,8 +19,9 @@ pub use answer::{Answer, Place, Tier};
 pub use command::{ActorList, Command, Config, Order, Pace, Which};
 pub use journal::{Event, Journal, JournalEntry};
 pub use laws::{
-    committed_grows, committed_stays, epochs_never_fall, fresh_is_safe, replays_keep_safe,
-    runs_answer_in_order, runs_are_committed, runs_are_led, steps_grow, steps_keep_safe,
+    committed_grows, committed_stays, ends_are_within, epochs_never_fall, fresh_is_safe,
+    replays_keep_safe, runs_answer_in_order, runs_are_committed, runs_are_led, steps_grow,
+    steps_keep_safe,
 };
 pub use registry::{Registry, Replica};
 pub use state::{Actor, Broker, Path, PlainSnapshot, Role, State};

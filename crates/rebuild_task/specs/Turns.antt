@@ -94,4 +94,4 @@ module _ {S : Type 0} (objects : S → Content) (calls : S → Control call_code
   RebuildRow wanted line view result old new =
       EpochsRow wanted.offset view
       (epochs_of wanted.partition view.entries (piece_at view.entries line wanted.offset (wanted.offset - 1))) result
-          old new
+      old new

@@ -49,7 +49,7 @@ sum_refusal bytes =
     if nat_lt (length bytes) (12 + field_at w32 8 bytes) then Some Short
     else if nat_lt (12 + field_at w32 8 bytes) (length bytes) then Some BadLength
     else if not (field_at w32 17 bytes == crc32c (drop 21 bytes)) then Some
-        (BadCrc (field_at w32 17 bytes) (crc32c (drop 21 bytes)))
+    (BadCrc (field_at w32 17 bytes) (crc32c (drop 21 bytes)))
     else None
 
 -- tests 6 to 8, on the attributes

@@ -96,8 +96,7 @@ fn push_late_head(out: &mut Vec<u8>, recs: &[Rec]) -> Result<(), AllocError>
 }
 
 /// The batch with nothing in the checksum's place, in one allocation of its size.
-#[tactic(auto, using(crate::proofs::Counts::buildable_few, crate::proofs::Counts::length_built),
-    unfolding(crate::specs::Build::all_bytes))]
+#[tactic(auto, using(crate::proofs::Counts::buildable_few, crate::proofs::Counts::length_built), unfolding(crate::specs::Build::all_bytes))]
 fn unsealed(alloc: Global, size: usize, recs: &[Rec]) -> Result<Vec<u8>, AllocError>
     requires buildable { IsBuildable recs.now }
     requires size { size ≡ length (built recs.now) }

@@ -80,8 +80,7 @@ fn blob_size(blob: &Blob) -> Option<usize>
     allowed(varint_size(len as u32) + len)
 }
 
-#[tactic(auto, unfolding(crate::specs::Record::optional_bytes, batch_prims::specs::Varint::varint_bytes,
-    batch_prims::specs::Varint::shortest))]
+#[tactic(auto, unfolding(crate::specs::Record::optional_bytes, batch_prims::specs::Varint::varint_bytes, batch_prims::specs::Varint::shortest))]
 fn optional_size(value: &Option<Blob>) -> Option<usize>
     ensures { IsSize result (length (optional_bytes value.now)) }
 {

@@ -2,7 +2,7 @@
 --
 --   form                 says
 --   StandsIn n held p q  what the environment provides of the partition, with so many disks, represents the state q
---   RunsFromState .. q journal  the journal is a run of the plain log from q; the environment holds what is left after it
+--   RunsFromState .. q journal  a run of the plain log from q; the environment holds what is left after it
 --   RunsContinue         each run over an environment is so from each state that what the environment held represents
 --   IsLedOn .. q         the environment holds what is left of a state to which commands lead from q
 --   RefusalsContinue     a refused run leaves what represents the same state, or is so

@@ -38,8 +38,7 @@ pub(crate) fn devices(
     ensures count { IfOk result (λ d. length d.disks.items ≡ count) }
     ensures blank { IfOk result (λ d. AreBlank ⟦<MemoryDisk as Disk>⟧ ⟦<MemoryStore as Store>⟧ ⟦<MemoryLog as MetaLog>⟧
         d.disks.items d.store d.meta) }
-    ensures planned { IfOk result (λ d. HaveFaults ⟦<MemoryDisk as Disk>⟧ ⟦<MemoryStore as Store>⟧ ⟦<MemoryLog as
-        MetaLog>⟧
+    ensures planned { IfOk result (λ d. HaveFaults ⟦<MemoryDisk as Disk>⟧ ⟦<MemoryStore as Store>⟧ ⟦<MemoryLog as MetaLog>⟧
         faults.now d.disks.items d.store d.meta) }
 {
     let disks = disks(alloc, count, faults)?;

@@ -18,7 +18,7 @@ use partition_world::{
 use plain_log::{ActorList, Config, fresh_is_safe, replays_keep_safe};
 use script_lang::{Fault, PartScript};
 use std::alloc::{AllocError, Global};
-use tier_base::{PartitionId, Items};
+use tier_base::{Items, PartitionId};
 
 /// Makes a partition's world, over empty devices in memory with these faults.
 pub fn fresh_world(

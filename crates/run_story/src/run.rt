@@ -17,7 +17,7 @@ use plain_log::{Config, JournalEntry};
 use script_lang::{PartScript, Script, ScriptRefusal, Why, parse};
 use std::alloc::{AllocError, Global};
 use thiserror::Error;
-use tier_base::{PartitionId, Items};
+use tier_base::{Items, PartitionId};
 use trace_text::{PartJournal, TraceRefusal, read};
 
 /// What happened to a partition in a run.

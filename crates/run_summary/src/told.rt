@@ -13,7 +13,7 @@ use plain_executor::{Plain, find_order, replay};
 use plain_log::{ActorList, Answer, Config, Event, JournalEntry, Order};
 use std::alloc::{AllocError, Global};
 use std::marker::Model;
-use tier_base::{BrokerId, PartitionId, Items};
+use tier_base::{BrokerId, Items, PartitionId};
 use trace_text::answer_name;
 
 /// What a partition's journal comes to.

@@ -18,7 +18,7 @@ use script_lang::{PartScript, parse};
 use segment_bundle::Bundle;
 use segment_file::Closed;
 use std::alloc::Global;
-use tier_base::{ActorId, PartitionId, Items};
+use tier_base::{ActorId, Items, PartitionId};
 use trace_text::print;
 
 /// A world over devices in memory.

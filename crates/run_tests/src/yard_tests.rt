@@ -15,7 +15,7 @@ use plain_log::Config;
 use run_yard::{YardRefusal, run_in_yard, run_on};
 use script_lang::{PartScript, Script, parse};
 use std::alloc::Global;
-use tier_base::{MemorySink, MemorySource, Planned, Items};
+use tier_base::{Items, MemorySink, MemorySource, Planned};
 use tiered_call::tiered_in_order;
 
 /// How a run ends.

@@ -6,7 +6,7 @@ ghost use Rattle.script_lang.specs.Script.{idle, slot_at, with_order};
 use plain_log::Order;
 use std::alloc::{AllocError, Global};
 use std::marker::Model;
-use tier_base::{ActorId, PartitionId, Items};
+use tier_base::{ActorId, Items, PartitionId};
 
 /// The partition and the orders of an actor.
 #[derive(Debug, Drop)]

@@ -10,7 +10,7 @@ use crate::script::PartScript;
 use plain_log::{ActorList, Order, Pace};
 use std::alloc::{AllocError, Global};
 use std::marker::Model;
-use tier_base::{ActorId, PartitionId, Items};
+use tier_base::{ActorId, Items, PartitionId};
 
 /// The 64 partitions, which contracts see as a list.
 #[derive(Drop)]

@@ -2,7 +2,7 @@
 
 use crate::fault::Fault;
 use plain_log::{ActorList, Config, Pace};
-use tier_base::{PartitionId, Items};
+use tier_base::{Items, PartitionId};
 
 /// The part of a script that one partition runs.
 #[derive(Debug, Drop)]

@@ -6,7 +6,7 @@ ghost use Rattle.plain_executor.specs.Fits.{AreFor, IsBuildableAppend};
 use plain_executor::{Plain, first_refused, is_complete, is_complete_run, is_run};
 use plain_log::{ActorList, Answer, Command, Config, Event, JournalEntry, Order};
 use std::alloc::{AllocError, Global};
-use tier_base::{ActorId, BrokerId, Keep, Items, Settings};
+use tier_base::{ActorId, BrokerId, Items, Keep, Settings};
 
 /// Two brokers.
 fn config() -> Config

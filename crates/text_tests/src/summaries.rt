@@ -6,7 +6,7 @@ ghost use Rattle.plain_executor.specs.Fits.{AreFor, IsBuildableAppend};
 use plain_log::{ActorList, Answer, Command, Config, Event, JournalEntry, Order};
 use run_summary::{End, Given, Told, summary, tell};
 use std::alloc::{AllocError, Global};
-use tier_base::{ActorId, BrokerId, Keep, PartitionId, Items, Settings};
+use tier_base::{ActorId, BrokerId, Items, Keep, PartitionId, Settings};
 
 /// Two brokers.
 fn config() -> Config

@@ -11,7 +11,7 @@ use remote_view::View;
 use segment_file::Growing;
 use segment_meta::decode;
 use std::alloc::{AllocError, Global};
-use tier_base::{Blob, BrokerId, Part, PartitionId, Items, SegmentId, segment_id};
+use tier_base::{Blob, BrokerId, Items, Part, PartitionId, SegmentId, segment_id};
 
 /// The one partition.
 pub(crate) const PARTITION: PartitionId = PartitionId(0);

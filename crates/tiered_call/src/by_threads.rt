@@ -70,8 +70,7 @@ fn all_begun(alloc: Global, bytes: &Bytes, script: Script) -> Result<Vec<Run>, A
 
 /// Ends a run, and puts its trace after the text.
 fn add_run(alloc: Global, mut run: Run, text: Vec<u8>) -> Result<Vec<u8>, AllocError>
-    ensures { IfOk result (λ new. AddsThreadedRun ⟦<MemoryDisk as Disk>⟧ ⟦<MemoryStore as Store>⟧ ⟦<MemoryLog as
-        MetaLog>⟧
+    ensures { IfOk result (λ new. AddsThreadedRun ⟦<MemoryDisk as Disk>⟧ ⟦<MemoryStore as Store>⟧ ⟦<MemoryLog as MetaLog>⟧
         run.script run.place text.items new.items) }
 {
     let partition = run.partition();
@@ -82,8 +81,7 @@ fn add_run(alloc: Global, mut run: Run, text: Vec<u8>) -> Result<Vec<u8>, AllocE
 /// Ends the runs, and returns the trace, where each is of the script's partition at its place.
 fn text_of(alloc: Global, bytes: &Bytes, runs: Vec<Run>) -> Result<Option<Vec<u8>>, AllocError>
     ensures { (script : ScriptOf) → script_in bytes.now ≡ Ok script → vec_len runs ≡ length script.parts
-        → IfOk result (λ text. IfSome text (λ t. IsTextByThreads ⟦<MemoryDisk as Disk>⟧ ⟦<MemoryStore as
-          Store>⟧ ⟦<MemoryLog as MetaLog>⟧
+        → IfOk result (λ text. IfSome text (λ t. IsTextByThreads ⟦<MemoryDisk as Disk>⟧ ⟦<MemoryStore as Store>⟧ ⟦<MemoryLog as MetaLog>⟧
         script.config script.parts t.items)) }
 {
     let mut text = Vec::new(alloc);
@@ -123,8 +121,7 @@ fn trace_by_threads<H: AllocGlobal + Threads + Wait + Sync, G: Gate + Sync>(
     bytes: &Bytes,
 ) -> Result<Vec<u8>, ScriptRefusal>
     requires { length bytes.now < 2 ^ 32 - 1 }
-    ensures trace { IfOk result (λ text. IsTraceByThreads ⟦<MemoryDisk as Disk>⟧ ⟦<MemoryStore as Store>⟧ ⟦<MemoryLog as
-        MetaLog>⟧
+    ensures trace { IfOk result (λ text. IsTraceByThreads ⟦<MemoryDisk as Disk>⟧ ⟦<MemoryStore as Store>⟧ ⟦<MemoryLog as MetaLog>⟧
         bytes.now text.items) }
     ensures bad { (line : ℕ) (why : Why) → IsErrOf result (ScriptRefusal.Bad line why)
         → script_in bytes.now ≡ Err (line, why) }

@@ -69,8 +69,7 @@ fn tell_parts(
 
 /// Makes the script of a number, runs it, and returns the summary.
 fn summary_of(alloc: Global, number: u32) -> Result<Vec<u8>, ScriptRefusal>
-    ensures summary { IfOk result (λ text. IsSummary ⟦<MemoryDisk as Disk>⟧ ⟦<MemoryStore as Store>⟧ ⟦<MemoryLog as
-        MetaLog>⟧
+    ensures summary { IfOk result (λ text. IsSummary ⟦<MemoryDisk as Disk>⟧ ⟦<MemoryStore as Store>⟧ ⟦<MemoryLog as MetaLog>⟧
         (script_is number) text.items) }
     ensures bad { (line : ℕ) (why : Why) → IsErrOf result (ScriptRefusal.Bad line why)
         → script_in (script_is number) ≡ Err (line, why) }

@@ -21,7 +21,7 @@ use run_memory::run_partition;
 use run_yard::joined;
 use script_lang::{PartScript, ScriptRefusal, Why, parse};
 use std::alloc::{AllocError, Global};
-use tier_base::{ReadRefusal, Items, Sink, Source, read_all, write_all};
+use tier_base::{Items, ReadRefusal, Sink, Source, read_all, write_all};
 use trace_text::print;
 
 /// The most bytes that a script may have.
@@ -51,8 +51,7 @@ fn run_parts(alloc: Global, config: Config, parts: Items<PartScript>) -> Result<
     requires config { IsConfig config }
     requires fit { All (λ part. AreListsFor config part.lists) parts }
     requires ends { All StepsToEnds parts }
-    ensures { IfOk result (λ text. IsTextOfScript ⟦<MemoryDisk as Disk>⟧ ⟦<MemoryStore as Store>⟧ ⟦<MemoryLog as
-        MetaLog>⟧
+    ensures { IfOk result (λ text. IsTextOfScript ⟦<MemoryDisk as Disk>⟧ ⟦<MemoryStore as Store>⟧ ⟦<MemoryLog as MetaLog>⟧
         config parts text.items) }
 {
     let mut text = Vec::new(alloc);
@@ -65,8 +64,7 @@ fn run_parts(alloc: Global, config: Config, parts: Items<PartScript>) -> Result<
 /// Reads a script, runs it, and returns the trace.
 pub(crate) fn trace_of(alloc: Global, script: &[u8]) -> Result<Vec<u8>, ScriptRefusal>
     requires { length script.now < 2 ^ 32 - 1 }
-    ensures trace { IfOk result (λ text. IsTraceOfScript ⟦<MemoryDisk as Disk>⟧ ⟦<MemoryStore as Store>⟧ ⟦<MemoryLog as
-        MetaLog>⟧
+    ensures trace { IfOk result (λ text. IsTraceOfScript ⟦<MemoryDisk as Disk>⟧ ⟦<MemoryStore as Store>⟧ ⟦<MemoryLog as MetaLog>⟧
         script.now text.items) }
     ensures bad { (line : ℕ) (why : Why) → IsErrOf result (ScriptRefusal.Bad line why)
         → script_in script.now ≡ Err (line, why) }

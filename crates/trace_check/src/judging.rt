@@ -15,7 +15,7 @@ use plain_executor::{Plain, is_complete, take_all};
 use plain_log::{Config, JournalEntry};
 use script_lang::{PartScript, Script};
 use std::alloc::{AllocError, Global};
-use tier_base::{PartitionId, Items};
+use tier_base::{Items, PartitionId};
 use trace_text::PartJournal;
 
 /// The journal of a partition.
