@@ -81,6 +81,31 @@ pub fn shape_of(answer: &Answer) -> Shape<'_>
             stop: *stop,
             bytes: bytes.as_slice(),
         },
-        _ => Shape::Bare,
+        Answer::Ok
+        | Answer::Down
+        | Answer::NotLeader
+        | Answer::LastOffset
+        | Answer::TooManySegments
+        | Answer::DiskFault
+        | Answer::EmptySegment
+        | Answer::LastEpoch
+        | Answer::NotInSync
+        | Answer::DownBroker
+        | Answer::Known
+        | Answer::NotFollower
+        | Answer::NoLeader
+        | Answer::Stopped
+        | Answer::MetaFault
+        | Answer::StoreFault
+        | Answer::NotJoined
+        | Answer::Level
+        | Answer::IsLeader
+        | Answer::LostLead
+        | Answer::Kept
+        | Answer::IsUp
+        | Answer::LastIncarnation
+        | Answer::Empty
+        | Answer::CopyOff
+        | Answer::NoOffset => Shape::Bare,
     }
 }
