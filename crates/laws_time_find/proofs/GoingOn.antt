@@ -119,6 +119,16 @@ cursor_below cursor (Some moment) = go cursor (moment.1 + 1)
     go : (a b : ℕ) → a ≤ max a b
     go a b = omega arith
 
+-- where a search has come to, and what its next turn does
+abbrev going : Turn (ℕ × SearchStep) → ℕ × SearchStep
+going (Goes next) = next
+going (Ends answer) = (0, Seek)
+
+-- the same of a turn that may have run out of memory
+abbrev gone_on : Result (Turn (ℕ × SearchStep)) AllocError → ℕ × SearchStep
+gone_on (Ok turn) = going turn
+gone_on (Err e) = (0, Seek)
+
 -- a piece whose time index was read
 timed : (c : Scene) (p : Plain) (a b : ℕ) (tier_view : BrokerTierView) (x : Broker) (stops epoch : ℕ) (asked : Asked) (line : List (ℕ × ℕ)) (cursor at : ℕ) (piece : Piece) (then : SearchStep) (s : store.Content)
     (n : meta.Content) (view : EntriesSeen) (cache : Cache) (index : TimeTable) → IsAtSearch c p a b tier_view x stops epoch asked line cursor (ReadsTimes piece) s n view cache → cursor < piece.to
@@ -142,18 +152,18 @@ timed c p a b tier_view x stops epoch asked line cursor at piece then s n view c
         shown_early asked.ts r.entry.start r.stored_whole.interval r.stored_whole.batches k.0 r.stored_whole.describes.is found batch
         (of_piece c p b x piece h.safe.plain h.broker_is r batch there (omega (arith, first, behind)) (omega (arith, before, within))) k.2))
 
-    by : (t : Bool) → nat_lt from top ≡ t → Goes (at, then) ≡ cond t (Goes (cursor, Index piece from)) (Goes (top, Seek)) → Dated p x asked cursor at then
+    by : (t : Bool) → nat_lt from top ≡ t → ◌≡◌ {A = Turn (ℕ × SearchStep)} (Goes (at, then)) (cond t (Goes (cursor, Index piece from)) (Goes (top, Seek))) → Dated p x asked cursor at then
     by true low turn =
-        let at_is : at ≡ cursor = cc (turn) in
-        let then_is : then ≡ Index piece from = cc (turn) in
+        let at_is : at ≡ cursor = ap (λ (t : Turn (ℕ × SearchStep)). (going t).0) turn in
+        let then_is : then ≡ Index piece from = ap (λ (t : Turn (ℕ × SearchStep)). (going t).1) turn in
         let below = ltb-true from top low in
         let tops = top_below asked piece in
         let all = front from (omega arith) (omega (arith, below, tops.0)) in
         subst (λ (m : ℕ). Dated p x asked cursor m then) (sym at_is) (subst (λ (m : SearchStep). Dated p x asked cursor cursor m) (sym then_is)
         (record { cursor = h.dated.cursor; read = all }, omega arith, λ no. absurd (cc (no))))
     by false low turn =
-        let at_is : at ≡ top = cc (turn) in
-        let then_is : then ≡ Seek = cc (turn) in
+        let at_is : at ≡ top = ap (λ (t : Turn (ℕ × SearchStep)). (going t).0) turn in
+        let then_is : then ≡ Seek = ap (λ (t : Turn (ℕ × SearchStep)). (going t).1) turn in
         let below = ltb-false from top low in
         let tops = top_below asked piece in
         let all = front top below tops.0 in
@@ -166,10 +176,10 @@ timed c p a b tier_view x stops epoch asked line cursor at piece then s n view c
 -- a piece of which nothing is below the known high watermark any more
 topped : (c : Scene) (p : Plain) (a b : ℕ) (tier_view : BrokerTierView) (x : Broker) (stops epoch : ℕ) (asked : Asked) (line : List (ℕ × ℕ)) (cursor at : ℕ) (next then : SearchStep) (piece : Piece) (from : ℕ)
     (s : store.Content) (n : meta.Content) (view : EntriesSeen) (cache : Cache) → IsAtSearch c p a b tier_view x stops epoch asked line cursor next s n view cache → read_from cursor next ≡ from
-    → cursor < piece.to → asked.mark ≤ from → Goes (at, then) ≡ Goes (top_of asked piece, Seek) → Dated p x asked cursor at then
+    → cursor < piece.to → asked.mark ≤ from → ◌≡◌ {A = Turn (ℕ × SearchStep)} (Goes (at, then)) (Goes (top_of asked piece, Seek)) → Dated p x asked cursor at then
 topped c p a b tier_view x stops epoch asked line cursor at next then piece from s n view cache h reads set marked is =
-    let at_is : at ≡ top_of asked piece = cc (is) in
-    let then_is : then ≡ Seek = cc (is) in
+    let at_is : at ≡ top_of asked piece = ap (λ (t : Turn (ℕ × SearchStep)). (going t).0) is in
+    let then_is : then ≡ Seek = ap (λ (t : Turn (ℕ × SearchStep)). (going t).1) is in
     let tops = top_below asked piece in
     let known = h.below in
     let mark = h.mark_is in
@@ -297,8 +307,8 @@ module _ {S M : Type 0} (objects : S → store.Content) (calls : S → Control s
     where
       by : (turn : Result (Turn FetchNext) AllocError) → Indexes cursor piece from turn (Ok (Goes (at, then))) → Dated p x asked cursor at then
       by (Ok (Goes (fetching.Log found span))) k =
-          let at_is : at ≡ cursor = cc (k.1) in
-          let then_is : then ≡ Log piece from span = cc (k.1) in
+          let at_is : at ≡ cursor = ap (λ (r : Result (Turn (ℕ × SearchStep)) AllocError). (gone_on r).0) k.1 in
+          let then_is : then ≡ Log piece from span = ap (λ (r : Result (Turn (ℕ × SearchStep)) AllocError). (gone_on r).1) k.1 in
           subst (λ (m : ℕ). Dated p x asked cursor m then) (sym at_is) (subst (λ (m : SearchStep). Dated p x asked cursor cursor m) (sym then_is)
           (record { cursor = h.dated.cursor; read = h.dated.read }, omega arith, λ no. absurd (cc (no))))
       by (Ok (Goes fetching.Refresh)) k = absurd k
