@@ -20,7 +20,7 @@ returns-in_ok-copying-in-Ok-Some-clause-row g c =
     let kept = c.closed_from.new.self in
     let copy = c.in_ok-copying-in-Ok-Some.ensures in
     let copied = c.in_ok-copying-in-Ok-Some.copying in
-    let i = c.in-Some.incarnation in
+    let i = c.incarnation-incarnation.result in
     let read = subst (λ (o : Option ClosedSegment). WhileUp x.log (λ log. OnDisk kept (λ d. IsClosedFrom log c.args.offset (g.D.Disk.control d).last_read o))) c.in-Ok-Some.field-0-is c.in-Ok-Some.ensures.segment in
     let part = subst (λ (o : Option ClosedSegment). (s : LogSeen) → ShowsSeen g.D.Disk.content x.log s → IfSome o (λ w. IsSegmentOf s w)) c.in-Ok-Some.field-0-is c.in-Ok-Some.ensures.part in (
       record {
@@ -34,13 +34,13 @@ returns-in_ok-copying-in-Ok-Some-clause-row g c =
         is = copy.is;
         segment_is = refl;
         partition_is = copy.partition;
-        id = subst (λ (o : Option ℕ). IsSomeAnd o (λ i. IsIdOf copied.id c.args.partition.0 c.args.broker.0 i (next_of c.args.broker_tier.now i))) c.in-Some.ensures
+        id = subst (λ (o : Option ℕ). IsSomeAnd o (λ i. IsIdOf copied.id c.args.partition.0 c.args.broker.0 i (next_of c.args.broker_tier.now i))) c.incarnation-incarnation.ensures
             (rw copy.id (subst (λ (n : ℕ). IsIdOf c.id_of-id.result c.args.partition.0 c.args.broker.0 i n) c.next-next.ensures c.id_of-id.ensures));
-        few = subst (λ (o : Option ℕ). IsSomeAnd o (λ i. next_of c.args.broker_tier.now i < 2 ^ 64 - 1)) c.in-Some.ensures (let low = next_low c.args.broker_tier.now i in omega (arith, c.next-next.ensures, low, c.requires.tries));
+        few = subst (λ (o : Option ℕ). IsSomeAnd o (λ i. next_of c.args.broker_tier.now i < 2 ^ 64 - 1)) c.incarnation-incarnation.ensures (let low = next_low c.args.broker_tier.now i in omega (arith, c.next-next.ensures, low, c.requires.tries));
         line_is = copy.line ∙ ap (λ (o : Option (List (ℕ × ℕ))). unwrap_or o []) c.closed_from.ensures.stays.line;
-        interval_is = interval_up x.log copied.interval c.in-Some-settings.settings c.requires.up c.in-Some-settings.ensures copy.interval;
+        interval_is = interval_up x.log copied.interval c.settings-settings.result c.requires.up c.settings-settings.ensures copy.interval;
       },
-      subst (λ (o : Option ℕ). IsSomeAnd o (λ i. c.count.new.self ≡ counted c.args.broker_tier.now i)) c.in-Some.ensures c.count.ensures,
+      subst (λ (o : Option ℕ). IsSomeAnd o (λ i. c.count.new.self ≡ counted c.args.broker_tier.now i)) c.incarnation-incarnation.ensures c.count.ensures,
     )
 
 pub returns-in-Err-DiskFault-clause-row : goal.returns-in-Err-DiskFault-clause-row

@@ -13,7 +13,7 @@ returns-clause-within g c =
     let x = c.args.node.now in
     let broker_tier = c.args.broker_tier.now in
     let pieces = pieces_of h x broker_tier in
-    let line : IsLine (line_of x) = subst (λ (o : Option (List (ℕ × ℕ))). IsLine (unwrap_or o [])) c.in-Some.ensures c.entries-begins.ensures.line in
+    let line : IsLine (line_of x) = subst (λ (o : Option (List (ℕ × ℕ))). IsLine (unwrap_or o [])) c.line.ensures c.entries-begins.ensures.line in
     found_within (λ n. (h.registry.start < n) × (n ≤ x.known_high_watermark)) c.rises_to.result (rises_to h x broker_tier c.args.keep) c.rises_to.ensures
     (λ n is. c.a_log_start_rises_up_to_the_known_mark.ensures broker_tier.view.entries (line_of x) (end_of x) h.registry.start x.known_high_watermark h.copying (local_of x)
     (closed_in x.log) (rest_of h x pieces (own_of h x pieces)) h.clock c.args.keep n c.entries-entries.ensures.kept c.entries-entries.ensures.distinct line is)
