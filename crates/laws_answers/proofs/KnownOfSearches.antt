@@ -54,6 +54,7 @@ use Rattle.laws_answers.proofs.NotesOfFetches.{row_notes}
 use Rattle.laws_answers.proofs.PlacesOfSearches.{Keeps, epoch, at as at_of, on as on_of, asked as asked_for, keeps_recorded, keeps_dates, search_at}
 use Rattle.laws_answers.proofs.ReadingOfSearches.{searched_on, time_found}
 use Rattle.laws_answers.proofs.SearchesTell.{resumed_found}
+use Rattle.partition_world.proofs.GoingOn.{same_step}
 
 -- what was found exists over paths that grow and with more metadata events
 found_grows : (ps qs : List Path) (notes more : List Note) (led : ℕ) (next : SearchStep) → PathsGrow ps qs → IsPrefix notes more
@@ -73,7 +74,7 @@ number_kept actor_state other g cursor next is = refl
 -- a turn in the local log continues without a piece
 own_seeks : {D : Type 0} (disk : DiskGhosts D) (old : LogState D) (asked : Asked) (cursor at : ℕ) (later : SearchStep) (new : LogState D)
     → LocalSearchRow disk.content disk.control old asked cursor (Goes (at, later)) new → later ≡ Seek
-own_seeks disk old asked cursor at later new (inl (past, is, same)) = cc (is)
+own_seeks disk old asked cursor at later new (inl (past, is, same)) = same_step at _ later Seek is
 own_seeks disk old asked cursor at later new (inr (below, row)) = searched_on asked (passed_over asked.ts cursor (closed_in old))
     row.out.bytes at later row.searched
 

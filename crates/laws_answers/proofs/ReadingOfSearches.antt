@@ -53,6 +53,7 @@ use Rattle.laws_answers.specs.Found.{PieceEnds, FetchHasFound}
 use Rattle.laws_answers.specs.FoundByTime.{IsFoundByTime}
 use Rattle.laws_answers.proofs.EndsOfPieces.{piece_ends}
 use Rattle.laws_answers.proofs.ReadingOfFetches.{index_found, not_damaged}
+use Rattle.partition_world.proofs.GoingOn.{same_step}
 
 -- where a run was searched, and the search continues, it has no piece
 pub searched_on : (asked : Asked) (offset : ℕ) (run : List ℕ) (at : ℕ) (later : SearchStep) → IsSearched asked offset run (Goes (at, later))
@@ -66,16 +67,18 @@ module _ (paths : List Path) (notes : List Note) (epoch : ℕ) where
   -- of what it continues with
   none_found : (later : SearchStep) (at to : ℕ) → ◌≡◌ {A = Result (Turn (ℕ × SearchStep)) AllocError} (Ok (Goes (at, later))) (Ok (Goes (to, Seek)))
       → IsFoundByTime paths notes epoch later
-  none_found later at to is = let same : later ≡ Seek = cc (is) in subst (IsFoundByTime paths notes epoch) (sym same) tt
+  none_found later at to is =
+      let turn : ◌≡◌ {A = Turn (ℕ × SearchStep)} (Goes (at, later)) (Goes (to, Seek)) = cc (is) in
+      subst (IsFoundByTime paths notes epoch) (sym (same_step at to later Seek turn)) tt
 
   -- the piece stays, as its time index shows
   shown_found : (more : Bool) (piece : Piece) (from cursor top at : ℕ) (later : SearchStep)
-      → Goes (at, later) ≡ (if more then Goes (cursor, Index piece from) else Goes (top, Seek))
+      → ◌≡◌ {A = Turn (ℕ × SearchStep)} (Goes (at, later)) (if more then Goes (cursor, Index piece from) else Goes (top, Seek))
       → PieceEnds paths epoch piece → IsFoundByTime paths notes epoch later
-  shown_found true piece from cursor top at later is ends = let same : Index piece from ≡ later = cc (is) in subst
-      (IsFoundByTime paths notes epoch) same ends
-  shown_found false piece from cursor top at later is ends = let same : Seek ≡ later = cc (is) in subst (IsFoundByTime paths notes epoch)
-      same tt
+  shown_found true piece from cursor top at later is ends =
+      subst (IsFoundByTime paths notes epoch) (sym (same_step at cursor later (Index piece from) is)) ends
+  shown_found false piece from cursor top at later is ends =
+      subst (IsFoundByTime paths notes epoch) (sym (same_step at top later Seek is)) tt
 
   timed_found : (asked : Asked) (cursor : ℕ) (piece : Piece) (base : ℕ) (spot : Spot) (answer : Result (Option (List ℕ)) Trouble) (at : ℕ)
       (later : SearchStep)

@@ -1,5 +1,5 @@
 -- A timestamp lookup that continues does a later turn of the piece that it has, or has come further.
-use Rattle.std.proofs.Common.{◌≡◌, inl, inr, subst, refl, ℕ, ◌+◌, ◌*◌, ◌<◌, ◌≤◌, List, Some, None, Option, Ok, Err, Bool, true, false, arith}
+use Rattle.std.proofs.Common.{◌≡◌, inl, inr, sym, subst, refl, ℕ, ◌+◌, ◌*◌, ◌<◌, ◌≤◌, List, Some, None, Option, Ok, Err, Bool, true, false, arith}
 use Rattle.std.specs.Prelude.{◌^◌, min, max, nat_lt, if◌then◌else◌}
 use Rattle.std.specs.declared.result.Result.{Result}
 use Rattle.std.specs.declared.alloc.AllocError.{AllocError}
@@ -26,6 +26,7 @@ use Rattle.time_find.specs.Turns.{SearchContinues, IsSearched, TimesBytes, Times
 use Rattle.time_find.specs.declared.turn.Asked.{Asked}
 use Rattle.time_find.specs.declared.turn.SearchStep.{SearchStep}
 use Rattle.time_find.specs.declared.turn.SearchStep.TheVariants as search
+use Rattle.partition_world.proofs.GoingOn.{same_step}
 
 -- how many turns a search has taken at most for the piece that it has
 abbrev pub dated_before : SearchStep → ℕ
@@ -47,7 +48,8 @@ Rises before next = dated_before before < dated_before next
 
 rises_to : (before next after : SearchStep) (at to : ℕ) → ◌≡◌ {A = Result (Turn (ℕ × SearchStep)) AllocError} (Ok (Goes (at, next))) (Ok (Goes (to, after)))
     → Rises before after → Rises before next
-rises_to before next after at to is up = let same : after ≡ next = cc (is) in subst (Rises before) same up
+rises_to before next after at to is up =
+    let turn : ◌≡◌ {A = Turn (ℕ × SearchStep)} (Goes (at, next)) (Goes (to, after)) = cc (is) in subst (Rises before) (sym (same_step at to next after turn)) up
 
 seeks_rises : (asked : Asked) (line : List (ℕ × ℕ)) (view : View) (cursor at : ℕ) (next : SearchStep)
     → Seeks asked line view cursor (Goes (at, next)) → Rises search.Seek next
@@ -65,10 +67,10 @@ searched_rises before (search.Index piece from) asked offset run at w = elim w [
 searched_rises before (search.Log piece from span) asked offset run at w = elim w [ ]
 
 shown_rises : (more : Bool) (piece : Piece) (from cursor top at : ℕ) (next : SearchStep)
-    → Goes (at, next) ≡ (if more then Goes (cursor, search.Index piece from) else Goes (top, search.Seek)) → Rises (search.Times piece) next
+    → ◌≡◌ {A = Turn (ℕ × SearchStep)} (Goes (at, next)) (if more then Goes (cursor, search.Index piece from) else Goes (top, search.Seek)) → Rises (search.Times piece) next
 shown_rises true piece from cursor top at next is =
-    let same : search.Index piece from ≡ next = cc (is) in subst (Rises (search.Times piece)) same (omega arith)
-shown_rises false piece from cursor top at next is = let same : search.Seek ≡ next = cc (is) in subst (Rises (search.Times piece)) same tt
+    subst (Rises (search.Times piece)) (sym (same_step at cursor next (search.Index piece from) is)) (omega arith)
+shown_rises false piece from cursor top at next is = subst (Rises (search.Times piece)) (sym (same_step at top next search.Seek is)) tt
 
 times_rises : (asked : Asked) (cursor : ℕ) (piece : Piece) (base : ℕ) (spot : Spot) (answer : Result (Option (List ℕ)) Trouble)
     (at : ℕ) (next : SearchStep) → Times asked cursor piece base spot answer (Ok (Goes (at, next))) → Rises (search.Times piece) next
@@ -101,7 +103,7 @@ module _ {D : Type 0} (disk : DiskGhosts D) where
   pub own_rises : (old : LogState D) (asked : Asked) (cursor : ℕ) (before next : SearchStep) (at : ℕ) (new : LogState D)
       → LocalSearchRow disk.content disk.control old asked cursor (Goes (at, next)) new → Rises before next
   own_rises old asked cursor before next at new (inl (past, is, same)) =
-      let one : search.Seek ≡ next = cc (is) in subst (Rises before) one tt
+      subst (Rises before) (sym (same_step at _ next search.Seek is)) tt
   own_rises old asked cursor before next at new (inr (below, row)) = searched_rises before next asked _ row.out.bytes at row.searched
 
 module _ {S M : Type 0} (store : StoreGhosts S) (meta : MetaGhosts M) where

@@ -1,6 +1,7 @@
 pub mod BrokerTierStates
 pub mod Reaching
 pub mod Dispatch
+pub mod GoingOn
 pub mod Halting
 pub mod Begins
 pub mod WorksInProgress

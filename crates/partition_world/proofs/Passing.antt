@@ -38,6 +38,7 @@ use Rattle.laws_time_find.specs.Passed.{HasPassed}
 use Rattle.laws_time_find.proofs.Dates.{in_rest, in_beginning, consecutive_back}
 use Rattle.laws_time_find.proofs.Early.{passed_more}
 use Rattle.laws_time_find.proofs.Searched.{runs_are_searched}
+use Rattle.partition_world.proofs.GoingOn.{same_cursor, same_step}
 
 -- batches that a segment holds
 
@@ -180,9 +181,7 @@ pub record OwnComes (asked : Asked) (log : List (List ℕ)) (turn : Turn (ℕ ×
 goes_to : (asked : Asked) (log : List (List ℕ)) (n : ℕ) → HasPassed asked.ts asked.start log n → OwnComes asked log (Goes (n, Seek))
 goes_to asked log n h = record {
   goes = λ at later e.
-      (let there : n ≡ at = cc (e) in
-      let seek : Seek ≡ later = cc (e) in
-      (sym seek, subst (HasPassed asked.ts asked.start log) there h));
+      (sym (same_step n at Seek later e), subst (HasPassed asked.ts asked.start log) (same_cursor n at Seek later e) h);
   ends = λ answer e. absurd (cc (e));
 }
 
