@@ -1,7 +1,7 @@
 -- The disks of brokers that are made, that come back where one can't be, and whose plans are put in force.
 use Rattle.std.proofs.Common.{◌≡◌, ◌∙◌, inl, inr, sym, ap, subst, refl, ℕ, zero, suc, ◌+◌, ◌-◌, ◌^◌, ◌<◌, Bool, true, false, List, [], ◌∷◌, ◌++◌, length, slice_get, slice_set, Some, arith}
 use Rattle.std.specs.Prelude.{IsTrue}
-use Rattle.tier_base.specs.Counts.{Rose}
+use Rattle.tier_base.specs.Counts.{counted, Rose}
 use Rattle.tier_base.specs.declared.plain.Settings.{Settings}
 use Rattle.tier_base.specs.Device.{Control, Lasts, Arms}
 use Rattle.tier_base.proofs.Lasting.{lasts_same}
@@ -12,7 +12,8 @@ use Rattle.partition_commands.specs.declared.partition_state.Node.{Node}
 use Rattle.partition_commands.specs.declared.refusal.WorldRefusal.{WorldRefusal}
 use Rattle.partition_commands.specs.declared.refusal.WorldRefusal.TheVariants.{DiskFault, NoMemory}
 use Rattle.partition_commands.specs.Partition.{line_of}
-use Rattle.partition_commands.specs.Fresh.{IsFreshDisk, AreFreshDisks, DisksTell, IsFreshOver, AreFreshFrom, IsMadeOver, AreMadeFrom, AllSeen, AddsNode, AreDisksOf, ComeBack, OneFailed, RefusesDisks, RefusesOver, AreInfallibleDisks, empty_seen, IsNodeLaid, AreNodesLaid}
+use Rattle.partition_commands.specs.Fresh.{IsFreshDisk, AreFreshDisks, DisksTell, IsFreshOver, AreFreshFrom, IsMadeOver, AreMadeFrom, AllSeen, AddsNode, AreDisksOf, LeavesBeginning, AllLeaveBeginning, ComeBack, OneFailed, NoneFailed, FailedOnce, RefusesDisks, RefusesOver, AreInfallibleDisks, empty_seen, IsNodeLaid, AreNodesLaid, is_first}
+use Rattle.partition_commands.proofs.FreshLeft.{leaves_same, on_closed}
 use Rattle.partition_commands.proofs.FreshNodes.{armed_on, made_more, seen_more, stays_fresh, stays_seen}
 
 module _ {D : Type 0} where
@@ -29,13 +30,14 @@ module _ {D : Type 0} where
   as_many_of (x ∷ xs) [] a = absurd a
   as_many_of (x ∷ xs) (d ∷ disks) a = ap suc (as_many_of xs disks a.1)
 
-module _ {D : Type 0} (control : D → Control call_code) where
-  pub as_many_made : (leads : Bool) (disks : List D) (xs : List (Node D)) → AreMadeFrom control leads disks xs → length xs ≡ length disks
+module _ {D : Type 0} (content : D → Content) (control : D → Control call_code) where
+  pub as_many_made : (leads : Bool) (disks : List D) (xs : List (Node D)) → AreMadeFrom control content leads disks xs → length xs ≡ length disks
   as_many_made leads [] [] f = refl
   as_many_made leads [] (y ∷ xs) f = absurd f
   as_many_made leads (d ∷ disks) [] f = absurd f
   as_many_made leads (d ∷ disks) (y ∷ xs) f = ap suc (as_many_made false disks xs f.1)
 
+module _ {D : Type 0} (control : D → Control call_code) where
   -- as many as came back
   pub as_many_disks : (disks nows : List D) → ComeBack control disks nows → length nows ≡ length disks
   as_many_disks [] [] c = refl
@@ -64,46 +66,116 @@ module _ {D : Type 0} (content : D → Content) (control : D → Control call_co
   come_more (d ∷ disks) [] disk now c f l = absurd c
   come_more (d ∷ disks) (n ∷ nows) disk now c f l = (c.0, c.1, come_more disks nows disk now c.2 f l)
 
-  failed_more : (disks nows : List D) (disk now : D) → OneFailed control disks nows → OneFailed control (disks ++ disk ∷ []) (nows ++ now ∷ [])
-  failed_more [] nows disk now o = absurd o
-  failed_more (d ∷ disks) [] disk now o = absurd o
-  failed_more (d ∷ disks) (n ∷ nows) disk now (inl rose) = inl rose
-  failed_more (d ∷ disks) (n ∷ nows) disk now (inr o) = inr (failed_more disks nows disk now o)
+  -- no call of them has failed, or one
+  none_same : (disks : List D) → NoneFailed control disks disks
+  none_same [] = tt
+  none_same (d ∷ disks) = (refl, none_same disks)
 
-  failed_last : (disks nows : List D) (disk now : D) → ComeBack control disks nows → Rose (control disk).faults (control now).faults → OneFailed control (disks ++ disk ∷ []) (nows ++ now ∷ [])
-  failed_last [] [] disk now c rose = inl rose
-  failed_last [] (n ∷ nows) disk now c rose = absurd c
-  failed_last (d ∷ disks) [] disk now c rose = absurd c
-  failed_last (d ∷ disks) (n ∷ nows) disk now c rose = inr (failed_last disks nows disk now c.2 rose)
+  none_more : (disks nows : List D) (disk now : D) → NoneFailed control disks nows → (control now).faults ≡ (control disk).faults → NoneFailed control (disks ++ disk ∷ []) (nows ++ now ∷ [])
+  none_more [] [] disk now n is = (is, tt)
+  none_more [] (m ∷ nows) disk now n is = absurd n
+  none_more (d ∷ disks) [] disk now n is = absurd n
+  none_more (d ∷ disks) (m ∷ nows) disk now n is = (n.0, none_more disks nows disk now n.1 is)
+
+  once_more : (disks nows : List D) (disk : D) → FailedOnce control disks nows → FailedOnce control (disks ++ disk ∷ []) (nows ++ disk ∷ [])
+  once_more [] nows disk o = absurd o
+  once_more (d ∷ disks) [] disk o = absurd o
+  once_more (d ∷ disks) (n ∷ nows) disk (inl (one, none)) = inl (one, none_more disks nows disk disk none refl)
+  once_more (d ∷ disks) (n ∷ nows) disk (inr (same, o)) = inr (same, once_more disks nows disk o)
+
+  once_last : (disks nows : List D) (disk now : D) → NoneFailed control disks nows → (control now).faults ≡ counted (control disk).faults 1 → FailedOnce control (disks ++ disk ∷ []) (nows ++ now ∷ [])
+  once_last [] [] disk now n one = inl (one, tt)
+  once_last [] (m ∷ nows) disk now n one = absurd n
+  once_last (d ∷ disks) [] disk now n one = absurd n
+  once_last (d ∷ disks) (m ∷ nows) disk now n one = inr (n.0, once_last disks nows disk now n.1 one)
+
+  pub failed_any : (disks nows : List D) → FailedOnce control disks nows → OneFailed control disks nows
+  failed_any [] nows o = absurd o
+  failed_any (d ∷ disks) [] o = absurd o
+  failed_any (d ∷ disks) (n ∷ nows) (inl (one, none)) = inl (omega (arith, one))
+  failed_any (d ∷ disks) (n ∷ nows) (inr (same, o)) = inr (failed_any disks nows o)
+
+  -- what is left of them
+  left_same : (leads : Bool) (disks : List D) → AllLeaveBeginning content leads disks disks
+  left_same leads [] = tt
+  left_same leads (d ∷ disks) = (λ told. leaves_same content leads d, left_same false disks)
+
+  left_later : (disks nows : List D) (disk now : D) → AllLeaveBeginning content false disks nows → (IsTrue (content disk).is_observable → LeavesBeginning content false disk now)
+      → AllLeaveBeginning content false (disks ++ disk ∷ []) (nows ++ now ∷ [])
+  left_later [] [] disk now a l = (l, tt)
+  left_later [] (n ∷ nows) disk now a l = absurd a
+  left_later (d ∷ disks) [] disk now a l = absurd a
+  left_later (d ∷ disks) (n ∷ nows) disk now a l = (a.0, left_later disks nows disk now a.1 l)
+
+  left_same_more : (disks nows : List D) (disk : D) → AllLeaveBeginning content true disks nows → AllLeaveBeginning content true (disks ++ disk ∷ []) (nows ++ disk ∷ [])
+  left_same_more [] [] disk a = (λ told. leaves_same content true disk, tt)
+  left_same_more [] (n ∷ nows) disk a = absurd a
+  left_same_more (d ∷ disks) [] disk a = absurd a
+  left_same_more (d ∷ disks) (n ∷ nows) disk a = (a.0, left_later disks nows disk disk a.1 (λ told. leaves_same content false disk))
+
+  left_last : (disks : List D) (xs : List (Node D)) (nows : List D) (disk now : D) → AreMadeFrom control content true disks xs → AllLeaveBeginning content true disks nows
+      → (IsTrue (content disk).is_observable → LeavesBeginning content (is_first xs) disk now) → AllLeaveBeginning content true (disks ++ disk ∷ []) (nows ++ now ∷ [])
+  left_last [] [] [] disk now m a l = (l, tt)
+  left_last [] [] (n ∷ nows) disk now m a l = absurd a
+  left_last [] (x ∷ xs) nows disk now m a l = absurd m
+  left_last (d ∷ disks) [] nows disk now m a l = absurd m
+  left_last (d ∷ disks) (x ∷ xs) [] disk now m a l = absurd a
+  left_last (d ∷ disks) (x ∷ xs) (n ∷ nows) disk now m a l = (a.0, left_later disks nows disk now a.1 l)
 
   -- the disks of brokers that were made
-  on_kept : (disk now : D) (k : LogState D) → OnDisk k (λ d. Lasts (control disk) (control d)) → OnDisk k (λ d. now ≡ d) → Lasts (control disk) (control now)
-  on_kept disk now (Up l) lasts is = subst (λ (d : D). Lasts (control disk) (control d)) (sym is) lasts
-  on_kept disk now (Down i d) lasts is = subst (λ (e : D). Lasts (control disk) (control e)) (sym is) lasts
-  on_kept disk now Away lasts is = absurd is
-
-  made_come : (leads : Bool) (disks : List D) (xs : List (Node D)) (nows : List D) → AreMadeFrom control leads disks xs → AreDisksOf xs nows → AreFreshDisks content control disks → ComeBack control disks nows
+  made_come : (leads : Bool) (disks : List D) (xs : List (Node D)) (nows : List D) → AreMadeFrom control content leads disks xs → AreDisksOf xs nows → AreFreshDisks content control disks → ComeBack control disks nows
   made_come leads [] [] [] m o f = tt
   made_come leads [] [] (n ∷ nows) m o f = absurd o
   made_come leads [] (x ∷ xs) nows m o f = absurd m
   made_come leads (d ∷ disks) [] nows m o f = absurd m
   made_come leads (d ∷ disks) (x ∷ xs) [] m o f = absurd o
   made_come leads (d ∷ disks) (x ∷ xs) (n ∷ nows) m o f =
-      let lasts = on_kept d n x.log m.0.lasts o.0 in
+      let lasts = on_closed (λ e. Lasts (control d) (control e)) x.log n m.0.lasts o.0 in
       (lasts, lasts.armed ∙ f.0.unarmed, made_come false disks xs nows m.1 o.1 f.1)
 
+  made_none : (leads : Bool) (disks : List D) (xs : List (Node D)) (nows : List D) → AreMadeFrom control content leads disks xs → AreDisksOf xs nows → NoneFailed control disks nows
+  made_none leads [] [] [] m o = tt
+  made_none leads [] [] (n ∷ nows) m o = absurd o
+  made_none leads [] (x ∷ xs) nows m o = absurd m
+  made_none leads (d ∷ disks) [] nows m o = absurd m
+  made_none leads (d ∷ disks) (x ∷ xs) [] m o = absurd o
+  made_none leads (d ∷ disks) (x ∷ xs) (n ∷ nows) m o =
+      (on_closed (λ e. (control e).faults ≡ (control d).faults) x.log n m.0.no_fault o.0, made_none false disks xs nows m.1 o.1)
+
+  made_left : (leads : Bool) (disks : List D) (xs : List (Node D)) (nows : List D) → AreMadeFrom control content leads disks xs → AreDisksOf xs nows → AllLeaveBeginning content leads disks nows
+  made_left leads [] [] [] m o = tt
+  made_left leads [] [] (n ∷ nows) m o = absurd o
+  made_left leads [] (x ∷ xs) nows m o = absurd m
+  made_left leads (d ∷ disks) [] nows m o = absurd m
+  made_left leads (d ∷ disks) (x ∷ xs) [] m o = absurd o
+  made_left leads (d ∷ disks) (x ∷ xs) (n ∷ nows) m o =
+      (λ told. on_closed (LeavesBeginning content leads d) x.log n (m.0.leaves told) o.0, made_left false disks xs nows m.1 o.1)
+
   -- refusals
-  pub refuses_same : (disks : List D) (why : WorldRefusal) → why ≡ NoMemory → AreFreshDisks content control disks → RefusesDisks control disks disks why
-  refuses_same disks why is f = record { back = come_same disks f; cause = λ fault. absurd (let no : ◌≡◌ {A = WorldRefusal} NoMemory DiskFault = sym is ∙ fault in cc) }
+  pub refuses_same : (disks : List D) (why : WorldRefusal) → why ≡ NoMemory → AreFreshDisks content control disks → RefusesDisks control content disks disks why
+  refuses_same disks why is f = record {
+    back = come_same disks f;
+    leaves = left_same true disks;
+    once = λ fault. absurd (let no : ◌≡◌ {A = WorldRefusal} NoMemory DiskFault = sym is ∙ fault in cc);
+    no_fault = λ memory. none_same disks;
+  }
 
-  pub refuses_more : (disks nows : List D) (disk : D) (why : WorldRefusal) → RefusesDisks control disks nows why → IsFreshDisk content control disk → RefusesDisks control (disks ++ disk ∷ []) (nows ++ disk ∷ []) why
-  refuses_more disks nows disk why r f = record { back = come_more disks nows disk disk r.back f (lasts_same (control disk)); cause = λ fault. failed_more disks nows disk disk (r.cause fault) }
+  pub refuses_more : (disks nows : List D) (disk : D) (why : WorldRefusal) → RefusesDisks control content disks nows why → IsFreshDisk content control disk → RefusesDisks control content (disks ++ disk ∷ []) (nows ++ disk ∷ []) why
+  refuses_more disks nows disk why r f = record {
+    back = come_more disks nows disk disk r.back f (lasts_same (control disk));
+    leaves = left_same_more disks nows disk r.leaves;
+    once = λ fault. once_more disks nows disk (r.once fault);
+    no_fault = λ memory. none_more disks nows disk disk (r.no_fault memory) refl;
+  }
 
-  pub refuses_last : (disks : List D) (xs : List (Node D)) (nows : List D) (disk now : D) (why : WorldRefusal) → AreMadeFrom control true disks xs → AreDisksOf xs nows → AreFreshDisks content control disks → IsFreshDisk content control disk
-      → RefusesOver control disk now why → RefusesDisks control (disks ++ disk ∷ []) (nows ++ now ∷ []) why
-  refuses_last disks xs nows disk now why m o f g r =
-      let back = made_come true disks xs nows m o f in
-      record { back = come_more disks nows disk now back g r.lasts; cause = λ fault. failed_last disks nows disk now back (r.cause fault) }
+  pub refuses_last : (disks : List D) (xs : List (Node D)) (nows : List D) (disk now : D) (why : WorldRefusal) → AreMadeFrom control content true disks xs → AreDisksOf xs nows → AreFreshDisks content control disks → IsFreshDisk content control disk
+      → RefusesOver control content (is_first xs) disk now why → RefusesDisks control content (disks ++ disk ∷ []) (nows ++ now ∷ []) why
+  refuses_last disks xs nows disk now why m o f g r = record {
+    back = come_more disks nows disk now (made_come true disks xs nows m o f) g r.lasts;
+    leaves = left_last disks xs nows disk now m (made_left true disks xs nows m o) r.leaves;
+    once = λ fault. once_last disks nows disk now (made_none true disks xs nows m o) (r.once fault);
+    no_fault = λ memory. none_more disks nows disk now (made_none true disks xs nows m o) (r.no_fault memory);
+  }
 
   -- of disks of which no call can fail none has
   rose : (before now : ℕ) → now ≡ before → before < 2 ^ 64 - 1 → Rose before now → ⊥
@@ -115,13 +187,13 @@ module _ {D : Type 0} (content : D → Content) (control : D → Control call_co
   unfailed (d ∷ disks) (n ∷ nows) c b (inl up) = rose (control d).faults (control n).faults (b.0.no_fault c.0.infallible) c.0.few up
   unfailed (d ∷ disks) (n ∷ nows) c b (inr o) = unfailed disks nows c.1 b.2 o
 
-  pub refuses_infallible : (disks nows : List D) (why : WorldRefusal) → AreInfallibleDisks control disks → RefusesDisks control disks nows why → why ≡ NoMemory
+  pub refuses_infallible : (disks nows : List D) (why : WorldRefusal) → AreInfallibleDisks control disks → RefusesDisks control content disks nows why → why ≡ NoMemory
   refuses_infallible disks nows NoMemory c r = refl
-  refuses_infallible disks nows DiskFault c r = absurd (unfailed disks nows c r.back (r.cause refl))
+  refuses_infallible disks nows DiskFault c r = absurd (unfailed disks nows c r.back (failed_any disks nows (r.once refl)))
 
   -- one broker more
-  pub adds_made : (disks : List D) (xs new : List (Node D)) (disk : D) → AreMadeFrom control true disks xs → AddsNode control content xs disk new → AreMadeFrom control true (disks ++ disk ∷ []) new
-  adds_made disks xs new disk m a = subst (AreMadeFrom control true (disks ++ disk ∷ [])) (sym a.after) (made_more control disks xs disk a.node m a.made)
+  pub adds_made : (disks : List D) (xs new : List (Node D)) (disk : D) → AreMadeFrom control content true disks xs → AddsNode control content xs disk new → AreMadeFrom control content true (disks ++ disk ∷ []) new
+  adds_made disks xs new disk m a = subst (AreMadeFrom control content true (disks ++ disk ∷ [])) (sym a.after) (made_more content control disks xs disk a.node m a.made)
 
   pub adds_seen : (disks : List D) (xs new : List (Node D)) (disk : D) → (DisksTell content disks → AllSeen content xs) → AddsNode control content xs disk new → DisksTell content (disks ++ disk ∷ []) → AllSeen content new
   adds_seen disks xs new disk s a t =
@@ -166,11 +238,11 @@ module _ {D : Type 0} (content : D → Content) (control : D → Control call_co
   armed_long (suc n) [] ys a = absurd a
   armed_long (suc n) (x ∷ xs) [] a = absurd a
 
-  armed_over : (leads : Bool) (disk : D) (x y : Node D) → IsFreshDisk content control disk → IsMadeOver control leads disk x → Armed x y → IsFreshOver control leads disk y
+  armed_over : (leads : Bool) (disk : D) (x y : Node D) → IsFreshDisk content control disk → IsMadeOver control content leads disk x → Armed x y → IsFreshOver control leads disk y
   armed_over leads disk x y f m a =
-      subst (IsFreshOver control leads disk) (sym a.is) (record { node = stays_fresh content leads x a.kept m.node a.stays; armed = armed_on control disk x.log a.kept f.unarmed f.unmade m.lasts a.arms })
+      subst (IsFreshOver control leads disk) (sym a.is) (record { node = stays_fresh content leads x a.kept m.node a.stays; armed = armed_on control disk x.log a.kept f.unarmed f.unmade m.lasts m.no_fault a.arms })
 
-  pub armed_made : (leads : Bool) (disks : List D) (xs ys : List (Node D)) → AreArmed (length xs) xs ys → AreFreshDisks content control disks → AreMadeFrom control leads disks xs → AreFreshFrom control leads disks ys
+  pub armed_made : (leads : Bool) (disks : List D) (xs ys : List (Node D)) → AreArmed (length xs) xs ys → AreFreshDisks content control disks → AreMadeFrom control content leads disks xs → AreFreshFrom control leads disks ys
   armed_made leads [] [] ys a f m = rw a tt
   armed_made leads [] (x ∷ xs) ys a f m = absurd m
   armed_made leads (d ∷ disks) [] ys a f m = absurd m

@@ -16,20 +16,21 @@ pub length_more : {A : Type 0} (xs : List A) (x : A) → length (xs ++ x ∷ [])
 length_more [] x = refl
 length_more (y ∷ xs) x = let rest = length_more xs x in omega (arith, rest)
 
-module _ {D : Type 0} (control : D → Control call_code) where
+module _ {D : Type 0} (content : D → Content) (control : D → Control call_code) where
   -- one broker more
-  later_more : (disks : List D) (xs : List (Node D)) (disk : D) (x : Node D) → AreMadeFrom control false disks xs → IsMadeOver control false disk x → AreMadeFrom control false (disks ++ disk ∷ []) (xs ++ x ∷ [])
+  later_more : (disks : List D) (xs : List (Node D)) (disk : D) (x : Node D) → AreMadeFrom control content false disks xs → IsMadeOver control content false disk x → AreMadeFrom control content false (disks ++ disk ∷ []) (xs ++ x ∷ [])
   later_more [] [] disk x f n = (n, tt)
   later_more [] (y ∷ xs) disk x f n = absurd f
   later_more (d ∷ disks) [] disk x f n = absurd f
   later_more (d ∷ disks) (y ∷ xs) disk x f n = (f.0, later_more disks xs disk x f.1 n)
 
-  pub made_more : (disks : List D) (xs : List (Node D)) (disk : D) (x : Node D) → AreMadeFrom control true disks xs → IsMadeOver control (is_first xs) disk x → AreMadeFrom control true (disks ++ disk ∷ []) (xs ++ x ∷ [])
+  pub made_more : (disks : List D) (xs : List (Node D)) (disk : D) (x : Node D) → AreMadeFrom control content true disks xs → IsMadeOver control content (is_first xs) disk x → AreMadeFrom control content true (disks ++ disk ∷ []) (xs ++ x ∷ [])
   made_more [] [] disk x f n = (n, tt)
   made_more [] (y ∷ xs) disk x f n = absurd f
   made_more (d ∷ disks) [] disk x f n = absurd f
   made_more (d ∷ disks) (y ∷ xs) disk x f n = (f.0, later_more disks xs disk x f.1 n)
 
+module _ {D : Type 0} (control : D → Control call_code) where
   pub as_many : (leads : Bool) (disks : List D) (xs : List (Node D)) → AreFreshFrom control leads disks xs → length xs ≡ length disks
   as_many leads [] [] f = refl
   as_many leads [] (y ∷ xs) f = absurd f
@@ -37,32 +38,31 @@ module _ {D : Type 0} (control : D → Control call_code) where
   as_many leads (d ∷ disks) (y ∷ xs) f = (let rest = as_many false disks xs f.1 in omega (arith, rest))
 
   -- a disk that was asked, and then armed
-  pub armed_after : (given middle now : Control call_code) → given.armed ≡ false → ((kind : DiskCall) → given.made kind ≡ 0) → Lasts given middle → Arms middle now → IsArmed given now
-  armed_after given middle now off none l a = record {
+  pub armed_after : (given middle now : Control call_code) → given.armed ≡ false → ((kind : DiskCall) → given.made kind ≡ 0) → Lasts given middle → middle.faults ≡ given.faults → Arms middle now → IsArmed given now
+  armed_after given middle now off none l quiet a = record {
     plan = a.plan ∙ l.plan;
     armed = a.armed;
     scripted = a.scripted ∙ l.scripted;
     unmade = λ kind. a.made kind ∙ (l.unmade off kind ∙ none kind);
-    never_falls = omega (arith, l.never_falls, a.faults);
-    no_fault = λ infallible. a.faults ∙ l.no_fault infallible;
+    no_fault = a.faults ∙ quiet;
     still_infallible = λ infallible scripted empty. a.still_infallible (l.scripted ∙ scripted) (l.stays_infallible infallible) (l.plan ∙ empty);
   }
 
-  pub armed_on : (disk : D) (middle now : LogState D) → (control disk).armed ≡ false → ((kind : DiskCall) → (control disk).made kind ≡ 0) → OnDisk middle (λ d. Lasts (control disk) (control d)) → OnDisk middle (λ d. OnDisk now (λ d'. Arms (control d) (control d')))
-      → OnDisk now (λ d. IsArmed (control disk) (control d))
-  armed_on disk (Up m) now off none l a = go now a
+  pub armed_on : (disk : D) (middle now : LogState D) → (control disk).armed ≡ false → ((kind : DiskCall) → (control disk).made kind ≡ 0) → OnDisk middle (λ d. Lasts (control disk) (control d))
+      → OnDisk middle (λ d. (control d).faults ≡ (control disk).faults) → OnDisk middle (λ d. OnDisk now (λ d'. Arms (control d) (control d'))) → OnDisk now (λ d. IsArmed (control disk) (control d))
+  armed_on disk (Up m) now off none l q a = go now a
     where
       go : (now : LogState D) → OnDisk now (λ d'. Arms (control m.disk) (control d')) → OnDisk now (λ d. IsArmed (control disk) (control d))
-      go (Up n) a = armed_after (control disk) (control m.disk) (control n.disk) off none l a
-      go (Down i d) a = armed_after (control disk) (control m.disk) (control d) off none l a
+      go (Up n) a = armed_after (control disk) (control m.disk) (control n.disk) off none l q a
+      go (Down i d) a = armed_after (control disk) (control m.disk) (control d) off none l q a
       go Away a = absurd a
-  armed_on disk (Down j m) now off none l a = go now a
+  armed_on disk (Down j m) now off none l q a = go now a
     where
       go : (now : LogState D) → OnDisk now (λ d'. Arms (control m) (control d')) → OnDisk now (λ d. IsArmed (control disk) (control d))
-      go (Up n) a = armed_after (control disk) (control m) (control n.disk) off none l a
-      go (Down i d) a = armed_after (control disk) (control m) (control d) off none l a
+      go (Up n) a = armed_after (control disk) (control m) (control n.disk) off none l q a
+      go (Down i d) a = armed_after (control disk) (control m) (control d) off none l q a
       go Away a = absurd a
-  armed_on disk Away now off none l a = absurd l
+  armed_on disk Away now off none l q a = absurd l
 
   pub lasts_on : (disk : D) (old new : LogState D) → OnDisk old (λ d. Lasts (control disk) (control d)) → log.Lasting control old new → OnDisk new (λ d. Lasts (control disk) (control d))
   lasts_on disk (Up m) (Up n) l k = lasts_then (control disk) (control m.disk) (control n.disk) l k

@@ -22,6 +22,7 @@ pub mod CountingDisks
 pub mod CountingRows
 pub mod InfallibleRows
 pub mod FreshSound
+pub mod FreshLeft
 pub mod FreshNodes
 pub mod FreshDisks
 pub mod Writes

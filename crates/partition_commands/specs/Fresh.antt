@@ -1,12 +1,15 @@
--- Brokers over fresh disks, whose plans are in force.
+-- Brokers over fresh disks, whose plans are in force, and what is left where they can't be made.
 use Rattle.std.specs.Prelude.{◌≡◌, ◌≤◌, ◌⊎◌, ℕ, Bool, List, [], ◌∷◌, ◌++◌, None, Some, true, false, pos, length, IsTrue}
 use Rattle.tier_base.specs.declared.plain.FileName.{FileName}
 use Rattle.tier_base.specs.declared.plain.Settings.{Settings}
-use Rattle.tier_base.specs.Counts.{Rose}
+use Rattle.tier_base.specs.Counts.{counted, Rose}
 use Rattle.tier_base.specs.Device.{Control, Lasts}
 use Rattle.disk_model.specs.Call.{call_code}
 use Rattle.disk_model.specs.declared.call.DiskCall.{DiskCall}
-use Rattle.disk_model.specs.Content.{Content}
+use Rattle.disk_model.specs.Content.{Content, Files, LeavesOnly}
+use Rattle.log_steps.specs.Opens.{Opened, Opens}
+use Rattle.log_steps.specs.Publishes.{IsLike}
+use Rattle.log_steps.specs.Reopens.{Reopens}
 use Rattle.registry.specs.Registry.{fresh_registry}
 use Rattle.plain_log.specs.declared.state.Role.{Role}
 use Rattle.plain_log.specs.declared.state.Role.TheVariants.{Leads, Joined}
@@ -15,7 +18,7 @@ use Rattle.broker_log.specs.Write.{first_layout}
 use Rattle.partition_commands.specs.declared.partition_state.Node.{Node}
 use Rattle.partition_commands.specs.declared.partition_state.PartitionState.{PartitionState}
 use Rattle.partition_commands.specs.declared.refusal.WorldRefusal.{WorldRefusal}
-use Rattle.partition_commands.specs.declared.refusal.WorldRefusal.TheVariants.{DiskFault}
+use Rattle.partition_commands.specs.declared.refusal.WorldRefusal.TheVariants.{DiskFault, NoMemory}
 use Rattle.partition_commands.specs.Partition.{is_up, line_of, IsInfallible}
 
 -- the disks are observable
@@ -44,15 +47,14 @@ module _ {D : Type 0} (content : D → Content) (control : D → Control call_co
   AreFreshDisks [] = Unit {0}
   AreFreshDisks (disk ∷ disks) = IsFreshDisk disk × AreFreshDisks disks
 
--- the given disk's plan is in force, and no call is counted yet; one of which no call could fail has failed none, and
--- fails none where its plan rules it and is empty
+-- the given disk's plan is in force, no call is counted yet, and none has failed; none fails of one of which none
+-- could, where its plan rules it and is empty
 pub record IsArmed (given now : Control call_code) : Type 0 where
   pub plan : now.plan ≡ given.plan
   pub armed : IsTrue now.armed
   pub scripted : now.scripted ≡ given.scripted
   pub unmade : (kind : DiskCall) → now.made kind ≡ 0
-  pub never_falls : given.faults ≤ now.faults
-  pub no_fault : IsTrue given.infallible → now.faults ≡ given.faults
+  pub no_fault : now.faults ≡ given.faults
   pub still_infallible : IsTrue given.infallible → IsTrue given.scripted → given.plan ≡ [] → IsTrue now.infallible
 
 -- the leader's role and line, and a follower's
@@ -63,6 +65,34 @@ fresh_role false = Joined 0
 abbrev pub fresh_line : Bool → List (ℕ × ℕ)
 fresh_line true = (0, 0) ∷ []
 fresh_line false = []
+
+-- a log without batches, opened so many times, with the leader's line or a follower's
+abbrev pub empty_log : ℕ → Bool → Opened
+empty_log i leads = record { incarnation = i; local_start = 0; batches = []; line = fresh_line leads }
+
+-- it opens so; the leader may have entered epoch 0
+abbrev pub OpensEmpty : Bool → Files → Type 0
+OpensEmpty leads c = (i : ℕ) × (1 ≤ i) × (Opens c (empty_log i false) ⊎ (IsTrue leads × Opens c (empty_log i true)))
+
+module _ {D : Type 0} (content : D → Content) where
+  -- a crash at any moment of a broker's making leaves what it might have left before, or the broker's empty log; and
+  -- a log can be opened from the disk then, if it could be before
+  pub record LeavesBeginning (leads : Bool) (disk now : D) : Type 0 where
+    pub moments : LeavesOnly (content disk) (content now) (λ c. IsLike (content disk) c ⊎ OpensEmpty leads c)
+    pub again : Reopens (content disk) → Reopens (content now)
+
+  -- a crash at any moment of its entering epoch 0 leaves the empty log, and it can be opened then
+  pub record LeavesEntering (disk now : D) : Type 0 where
+    pub moments : LeavesOnly (content disk) (content now) (OpensEmpty true)
+    pub again : Reopens (content now)
+
+  -- so it is of each of these disks that is observable; the first is a leader's or not, and no other is
+  abbrev pub AllLeaveBeginning : Bool → List D → List D → Type 0
+  AllLeaveBeginning leads [] [] = Unit {0}
+  AllLeaveBeginning leads (disk ∷ disks) (now ∷ nows) =
+      (IsTrue (content disk).is_observable → LeavesBeginning leads disk now) × AllLeaveBeginning false disks nows
+  AllLeaveBeginning leads [] (now ∷ nows) = ⊥
+  AllLeaveBeginning leads (disk ∷ disks) [] = ⊥
 
 module _ {D : Type 0} where
   -- a node that is up, with an empty log, and leads epoch 0 or has joined it
@@ -108,28 +138,33 @@ module _ {D : Type 0} (control : D → Control call_code) where
   AreFreshFrom leads [] (x ∷ xs) = ⊥
   AreFreshFrom leads (disk ∷ disks) [] = ⊥
 
-  -- one over this disk, whose plan isn't in force yet
-  pub record IsMadeOver (leads : Bool) (disk : D) (x : Node D) : Type 0 where
+  -- one over this disk, no call of which has failed, and whose plan isn't in force yet
+  pub record IsMadeOver (content : D → Content) (leads : Bool) (disk : D) (x : Node D) : Type 0 where
     pub node : IsFreshNode leads x
     pub lasts : OnDisk x.log (λ d. Lasts (control disk) (control d))
+    pub no_fault : OnDisk x.log (λ d. (control d).faults ≡ (control disk).faults)
+    pub leaves : IsTrue (content disk).is_observable → OnDisk x.log (LeavesBeginning content leads disk)
 
-  abbrev pub AreMadeFrom : Bool → List D → List (Node D) → Type 0
-  AreMadeFrom leads [] [] = Unit {0}
-  AreMadeFrom leads (disk ∷ disks) (x ∷ xs) = IsMadeOver leads disk x × AreMadeFrom false disks xs
-  AreMadeFrom leads [] (x ∷ xs) = ⊥
-  AreMadeFrom leads (disk ∷ disks) [] = ⊥
+  abbrev pub AreMadeFrom : (D → Content) → Bool → List D → List (Node D) → Type 0
+  AreMadeFrom content leads [] [] = Unit {0}
+  AreMadeFrom content leads (disk ∷ disks) (x ∷ xs) =
+      IsMadeOver content leads disk x × AreMadeFrom content false disks xs
+  AreMadeFrom content leads [] (x ∷ xs) = ⊥
+  AreMadeFrom content leads (disk ∷ disks) [] = ⊥
 
   -- a node over a fresh disk follows these nodes; the first one leads
   pub record AddsNode (content : D → Content) (xs : List (Node D)) (disk : D) (new : List (Node D)) : Type 0 where
     pub node : Node D
     pub after : new ≡ xs ++ node ∷ []
-    pub made : IsMadeOver (is_first xs) disk node
+    pub made : IsMadeOver content (is_first xs) disk node
     pub seen : IsTrue (content disk).is_observable → ShowsSeen content node.log (empty_seen (line_of node))
 
-  -- a refusal over this disk, which is back: a fault is reported only where its count of faults has risen
-  pub record RefusesOver (disk now : D) (why : WorldRefusal) : Type 0 where
+  -- a refusal over this disk, which is back: one call of it has failed where that is reported, and none else
+  pub record RefusesOver (content : D → Content) (leads : Bool) (disk now : D) (why : WorldRefusal) : Type 0 where
     pub lasts : Lasts (control disk) (control now)
-    pub cause : why ≡ DiskFault → Rose (control disk).faults (control now).faults
+    pub once : why ≡ DiskFault → (control now).faults ≡ counted (control disk).faults 1
+    pub no_fault : why ≡ NoMemory → (control now).faults ≡ (control disk).faults
+    pub leaves : IsTrue (content disk).is_observable → LeavesBeginning content leads disk now
 
   -- the disks are back, in their order, and no plan is in force
   abbrev pub ComeBack : List D → List D → Type 0
@@ -144,10 +179,27 @@ module _ {D : Type 0} (control : D → Control call_code) where
   OneFailed (disk ∷ disks) (now ∷ nows) = Rose (control disk).faults (control now).faults ⊎ OneFailed disks nows
   OneFailed disks nows = ⊥
 
-  -- a refusal: the disks are back, and a fault is reported only where the count of faults of one of them has risen
-  pub record RefusesDisks (disks nows : List D) (why : WorldRefusal) : Type 0 where
+  -- no call of the disks has failed
+  abbrev pub NoneFailed : List D → List D → Type 0
+  NoneFailed [] [] = Unit {0}
+  NoneFailed (disk ∷ disks) (now ∷ nows) = ((control now).faults ≡ (control disk).faults) × NoneFailed disks nows
+  NoneFailed [] (now ∷ nows) = ⊥
+  NoneFailed (disk ∷ disks) [] = ⊥
+
+  -- one call of one of the disks has failed, and no other call
+  abbrev pub FailedOnce : List D → List D → Type 0
+  FailedOnce (disk ∷ disks) (now ∷ nows) =
+      (((control now).faults ≡ counted (control disk).faults 1) × NoneFailed disks nows)
+      ⊎ (((control now).faults ≡ (control disk).faults) × FailedOnce disks nows)
+  FailedOnce disks nows = ⊥
+
+  -- a refusal: the disks are back as the making of brokers leaves them; one call of one of them has failed where that
+  -- is reported, and none else
+  pub record RefusesDisks (content : D → Content) (disks nows : List D) (why : WorldRefusal) : Type 0 where
     pub back : ComeBack disks nows
-    pub cause : why ≡ DiskFault → OneFailed disks nows
+    pub leaves : AllLeaveBeginning content true disks nows
+    pub once : why ≡ DiskFault → FailedOnce disks nows
+    pub no_fault : why ≡ NoMemory → NoneFailed disks nows
 
   -- no call of these disks can fail
   abbrev pub AreInfallibleDisks : List D → Type 0

@@ -1,23 +1,24 @@
 //! A partition's brokers over fresh disks.
 //!
 //! The disks' planned calls fail from the moment on at which all brokers are made, and nothing that can fail comes
-//! after that. So a refusal gives the disks back as they came, but for the calls that they were asked.
+//! after that. So a refusal gives the disks back without a plan in force: each as it came, or with the empty log of
+//! its broker.
 
 ghost use Rattle.std.specs.Prelude.{◌≡◌, ◌≤◌, ◌+◌, ◌++◌, map, true, false, [], List, length};
 ghost use Rattle.std.specs.Prelude.{vec_capacity, IfOk, OnOk, IfErr, OnErr, IsErrOf, IsTrue};
 ghost use Rattle.local_log.specs.Log.{AreSettings};
 ghost use Rattle.tier_base.specs.declared.plain.Settings.{Settings as Options};
-ghost use Rattle.broker_log.specs.Seen.{LogSeen, ShowsSeen, OnDisk, Lasting, Faulted, layout_in};
+ghost use Rattle.broker_log.specs.Seen.{LogSeen, ShowsSeen, OnDisk, Lasting, NoFault, OneFault, layout_in};
 ghost use Rattle.partition_commands.specs.declared.refusal.WorldRefusal.TheVariants as refusal;
 ghost use Rattle.partition_commands.specs.Partition.{line_of};
 ghost use Rattle.partition_commands.specs.Disks.{AllReopen};
 ghost use Rattle.partition_commands.specs.Cold.{ShowDisks, DisksReopen, AreColdOver};
 ghost use Rattle.partition_commands.specs.Cold.{IsColdPartition, cold_node, partition_back};
 ghost use Rattle.partition_commands.specs.Partition.{ShowsPartition};
-ghost use Rattle.partition_commands.specs.Fresh.{IsFreshDisk, AreFreshDisks, DisksTell, IsFreshNode, IsMadeOver};
-ghost use Rattle.partition_commands.specs.Fresh.{AreMadeFrom, AreFreshFrom, IsFreshPartition, AllSeen, IsNodeLaid};
-ghost use Rattle.partition_commands.specs.Fresh.{AreNodesLaid, AddsNode, AreDisksOf, RefusesOver, RefusesDisks};
-ghost use Rattle.partition_commands.specs.Fresh.{empty_seen};
+ghost use Rattle.partition_commands.specs.Fresh.{IsFreshDisk, AreFreshDisks, DisksTell, LeavesEntering, IsFreshNode};
+ghost use Rattle.partition_commands.specs.Fresh.{IsMadeOver, AreMadeFrom, AreFreshFrom, IsFreshPartition, AllSeen};
+ghost use Rattle.partition_commands.specs.Fresh.{IsNodeLaid, AreNodesLaid, AddsNode, AreDisksOf, RefusesOver};
+ghost use Rattle.partition_commands.specs.Fresh.{RefusesDisks, empty_seen, is_first};
 
 use crate::partition_state::{Node, PartitionState};
 use crate::refusal::WorldRefusal;
@@ -36,19 +37,22 @@ fn follower<D: Disk>(
 ) -> Result<Node<D>, (D, WorldRefusal)>
     requires settings { AreSettings settings }
     requires disk { IsFreshDisk D.content D.control disk }
-    ensures node { IfOk result (IsMadeOver D.control false disk) }
+    ensures node { IfOk result (IsMadeOver D.control D.content false disk) }
     ensures laid { IfOk result (IsNodeLaid settings) }
     ensures seen { IfOk result (λ node. IsTrue (D.content disk).is_observable
         → ShowsSeen D.content node.log (empty_seen (line_of node))) }
-    ensures err { IfErr result (λ e. RefusesOver D.control disk e.0 e.1) }
+    ensures err { IfErr result (λ e. RefusesOver D.control D.content false disk e.0 e.1) }
 {
     match BrokerLog::create(alloc, disk, settings) {
-        Ok(log) => Ok(Node {
-            stops: 0,
-            role: Role::Joined(0),
-            log,
-            known_high_watermark: 0,
-        }),
+        Ok(log) => {
+            log.reopens();
+            Ok(Node {
+                stops: 0,
+                role: Role::Joined(0),
+                log,
+                known_high_watermark: 0,
+            })
+        }
         Err((disk, CreateRefusal::DiskFault)) => Err((disk, WorldRefusal::DiskFault)),
         Err((disk, CreateRefusal::NoMemory)) => Err((disk, WorldRefusal::NoMemory)),
     }
@@ -63,13 +67,16 @@ fn broker<D: Disk>(
 ) -> Result<Node<D>, (D, WorldRefusal)>
     requires settings { AreSettings settings }
     requires disk { IsFreshDisk D.content D.control disk }
-    ensures node { IfOk result (IsMadeOver D.control leads disk) }
+    ensures node { IfOk result (IsMadeOver D.control D.content leads disk) }
     ensures laid { IfOk result (IsNodeLaid settings) }
     ensures seen { IfOk result (λ node. IsTrue (D.content disk).is_observable
         → ShowsSeen D.content node.log (empty_seen (line_of node))) }
-    ensures err { IfErr result (λ e. RefusesOver D.control disk e.0 e.1) }
+    ensures err { IfErr result (λ e. RefusesOver D.control D.content leads disk e.0 e.1) }
 {
-    let mut node = follower(alloc, disk, settings)?;
+    let mut node = match follower(alloc, disk, settings) {
+        Ok(node) => node,
+        Err(refused) => return Err(refused),
+    };
     if !leads {
         return Ok(node);
     }
@@ -91,10 +98,13 @@ fn add<D: Disk>(
     ensures ok { OnOk result (AddsNode D.control D.content nodes.old.items disk nodes.new.items) }
     ensures laid { OnOk result (AreNodesLaid settings nodes.old.items → AreNodesLaid settings nodes.new.items) }
     ensures same { OnErr result (nodes.new.items ≡ nodes.old.items) }
-    ensures err { IfErr result (λ e. RefusesOver D.control disk e.0 e.1) }
+    ensures err { IfErr result (λ e. RefusesOver D.control D.content (is_first nodes.old.items) disk e.0 e.1) }
 {
     let leads = nodes.is_empty();
-    let node = broker(alloc, disk, settings, leads)?;
+    let node = match broker(alloc, disk, settings, leads) {
+        Ok(node) => node,
+        Err(refused) => return Err(refused),
+    };
     match nodes.push(node) {
         Ok(()) => Ok(()),
         Err(left) => Err((left.value.log.close(), WorldRefusal::NoMemory)),
@@ -121,11 +131,11 @@ fn brokers<D: Disk>(
 ) -> Result<Vec<Node<D>>, WorldRefusal>
     requires settings { AreSettings settings }
     requires disks { AreFreshDisks D.content D.control disks.old.items }
-    ensures nodes { IfOk result (λ nodes. AreMadeFrom D.control true disks.old.items nodes.items) }
+    ensures nodes { IfOk result (λ nodes. AreMadeFrom D.control D.content true disks.old.items nodes.items) }
     ensures seen { IfOk result (λ nodes. DisksTell D.content disks.old.items → AllSeen D.content nodes.items) }
     ensures laid { IfOk result (λ nodes. AreNodesLaid settings nodes.items) }
     ensures none { OnOk result (disks.new.items ≡ []) }
-    ensures err { IfErr result (λ why. RefusesDisks D.control disks.old.items disks.new.items why) }
+    ensures err { IfErr result (λ why. RefusesDisks D.control D.content disks.old.items disks.new.items why) }
     ensures room { vec_capacity disks.new ≡ vec_capacity disks.old }
 {
     let Some(disk) = disks.pop() else {
@@ -178,7 +188,7 @@ fn set_down<D: Disk>(
 /// Puts the plans of the brokers' disks in force.
 fn arm<D: Disk>(nodes: &mut Items<Node<D>>)
     ensures nodes { (disks : List D) → AreFreshDisks D.content D.control disks
-        → AreMadeFrom D.control true disks nodes.old
+        → AreMadeFrom D.control D.content true disks nodes.old
         → AreFreshFrom D.control true disks nodes.new }
     ensures cold { (settings : Options) (disks : List D) → nodes.old ≡ map (cold_node settings) disks
         → AreColdOver D.content D.control settings disks nodes.new }
@@ -199,15 +209,23 @@ impl<D: Disk> Node<D> {
         ensures control { Lasting D.control self.old.log self.new.log }
         ensures seen { OnOk result (ShowsSeen D.content self.old.log (empty_seen (line_of self.old))
             → ShowsSeen D.content self.new.log (empty_seen (line_of self.new))) }
-        ensures cause { IsErrOf result refusal.DiskFault → Faulted D.control self.old.log self.new.log }
+        ensures once { IsErrOf result refusal.DiskFault → OneFault D.control self.old.log self.new.log }
+        ensures no_fault { (IsErrOf result refusal.DiskFault → ⊥) → NoFault D.control self.old.log self.new.log }
+        ensures leaves { ShowsSeen D.content self.old.log (empty_seen (line_of self.old))
+            → OnDisk self.old.log (λ d. OnDisk self.new.log (LeavesEntering D.content d)) }
     {
+        self.log.reopens();
         match self.log.lead(0) {
             Ok(_) => {
+                self.log.reopens();
                 self.role = Role::Leads(0);
                 Ok(())
             }
             Err(Trouble::Failed) => Err(WorldRefusal::DiskFault),
-            Err(Trouble::NoMemory) => Err(WorldRefusal::NoMemory),
+            Err(Trouble::NoMemory) => {
+                self.log.reopens();
+                Err(WorldRefusal::NoMemory)
+            }
         }
     }
 }
@@ -229,7 +247,7 @@ impl<D: Disk> PartitionState<D> {
         ensures seen { IfOk result (λ partition_state. DisksTell D.content disks.old.items
             → AllSeen D.content partition_state.nodes) }
         ensures none { OnOk result (disks.new.items ≡ []) }
-        ensures err { IfErr result (λ why. RefusesDisks D.control disks.old.items disks.new.items why) }
+        ensures err { IfErr result (λ why. RefusesDisks D.control D.content disks.old.items disks.new.items why) }
         ensures room { vec_capacity disks.new ≡ vec_capacity disks.old }
     {
         let count = disks.len() as u16;

@@ -128,7 +128,7 @@ module _ {D S M : Type 0} (disk : DiskGhosts D) (store : StoreGhosts S) (meta : 
 
 module _ {D : Type 0} (control : D → Control call_code) where
   disk_infallible : (given now : Control call_code) → IsTrue given.scripted → given.plan ≡ [] → IsInfallibleDisk given → IsArmed given now → IsInfallibleDisk now
-  disk_infallible given now scripted none c a = record { infallible = a.still_infallible c.infallible scripted none; few = omega (arith, c.few, a.no_fault c.infallible) }
+  disk_infallible given now scripted none c a = record { infallible = a.still_infallible c.infallible scripted none; few = omega (arith, c.few, a.no_fault) }
 
   nodes_infallible : (leads : Bool) (disks : List D) (xs : List (Node D)) → AreFreshFrom control leads disks xs → AreUnplanned control disks → AreInfallible control xs
   nodes_infallible leads [] [] f u = tt

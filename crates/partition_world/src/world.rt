@@ -106,7 +106,7 @@ impl<D: Disk, S: Store, M: MetaLog> World<D, S, M> {
             → IsCentralLeft D.Disk S.Store M.MetaLog (fresh_plain config) w) }
 
         // A refusal gives the devices back. Where no call of the disks can fail it was memory.
-        ensures err { IfErr result (λ e. RefusesDisks D.control devices.disks.items e.0.disks.items e.1) }
+        ensures err { IfErr result (λ e. RefusesDisks D.control D.content devices.disks.items e.0.disks.items e.1) }
         ensures store { IfErr result (λ e. e.0.store ≡ devices.store) }
         ensures meta { IfErr result (λ e. e.0.meta ≡ devices.meta) }
         ensures memory { AreInfallibleDisks D.control devices.disks.items → IfErr result (λ e. e.1 ≡ refusal.NoMemory) }
@@ -131,7 +131,7 @@ impl<D: Disk, S: Store, M: MetaLog> World<D, S, M> {
             devices.disks.items devices.store devices.meta) }
         ensures told { IfOk result (λ w. DisksTell D.content devices.disks.items
             → AllSeen D.content w.partition_state.nodes) }
-        ensures err { IfErr result (λ e. RefusesDisks D.control devices.disks.items e.0.disks.items e.1) }
+        ensures err { IfErr result (λ e. RefusesDisks D.control D.content devices.disks.items e.0.disks.items e.1) }
         ensures store { IfErr result (λ e. e.0.store ≡ devices.store) }
         ensures meta { IfErr result (λ e. e.0.meta ≡ devices.meta) }
     {

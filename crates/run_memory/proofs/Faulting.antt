@@ -135,7 +135,7 @@ module _ {D : Type 0} (control : D → Control call_code) (faults : List Fault) 
       let same : broker ≡ b = omega (arith, is) in
       subst (λ (n : ℕ). OnDisk y.log (λ e. IsMet (disk_named n) faults (control e))) same
       (disk_last (λ c. IsArmed (control d) (control c)) (λ c e. FailedByPlan (control c) (control e)) (λ c e. Rose (control c).faults (control e).faults) (λ e. IsMet (disk_named broker) faults (control e)) x.log y.log
-      (λ c e armed plan rose. device_met (disk_named broker) faults (control d) (control c) (control e) p.0 armed.plan (armed.no_fault p.0.infallible) plan rose) f.0.armed by.0 fails)
+      (λ c e armed plan rose. device_met (disk_named broker) faults (control d) (control c) (control e) p.0 armed.plan armed.no_fault plan rose) f.0.armed by.0 fails)
   disk_met broker (suc place) b leads (d ∷ disks) (x ∷ xs) (y ∷ ys) is p f by fails = disk_met (broker + 1) place b false disks xs ys (omega (arith, is)) p.1 f.1 by.1 fails
   disk_met broker place b leads [] [] ys is p f by fails = absurd fails
   disk_met broker place b leads [] (x ∷ xs) ys is p f by fails = absurd f

@@ -2,6 +2,7 @@ use Rattle.std.proofs.Common.{◌∙◌, sym, ap, subst, refl}
 use Rattle.tier_base.specs.Device.{Lasts}
 use Rattle.plain_log.specs.declared.command.Config.{Config}
 use Rattle.plain_log.specs.Fresh.{fresh as fresh_plain}
+use Rattle.partition_commands.proofs.FreshDisks.{failed_any}
 use Rattle.partition_world.specs.Left.{IsCentralLeft}
 use Rattle.partition_world.specs.Whole.{Whole}
 use Rattle.cold_start.specs.Opening.{OpeningHasCause}
@@ -44,7 +45,7 @@ returns-in-Err-fresh-clause-cause g c =
     let d = c.in-Err-fresh.devices in
     subst (λ (why : ColdRefusal). OpeningHasCause g.D.Disk g.M.MetaLog c.args.config c.args.devices.disks.items c.args.devices.meta c.args.reg d.disks.items d.meta c.args.reg why) (sym c.world_refusal.ensures)
     (world_cause g.D.Disk g.M.MetaLog c.args.config c.args.devices.disks.items c.args.devices.meta c.args.reg d.disks.items d.meta c.args.reg c.in-Err-fresh.why
-    (λ is. failed_after g.D.Disk.control c.args.devices.disks.items c.clear_all.new.disks.items d.disks.items c.clear_all.ensures.control (c.in-Err-fresh.ensures.err.cause is))
+    (λ is. failed_after g.D.Disk.control c.args.devices.disks.items c.clear_all.new.disks.items d.disks.items c.clear_all.ensures.control (failed_any g.D.Disk.content g.D.Disk.control c.clear_all.new.disks.items d.disks.items (c.in-Err-fresh.ensures.err.once is)))
     (none_says g.D.Disk g.M.MetaLog c.args.config c.args.reg c.requires.none))
 
 pub returns-in-Err-fresh-clause-back : goal.returns-in-Err-fresh-clause-back
