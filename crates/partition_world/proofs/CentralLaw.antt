@@ -236,7 +236,7 @@ module _ {D S M : Type 0} (disk : DiskGhosts D) (store : StoreGhosts S) (meta : 
         let changed = own_turns (length c.partition.nodes) c.partition r.after c.central.plain k.central.plain y (recorded_in t.actor_state.in_progress) turn t.order
         (entry_for disk store meta w outcome w' c.partition t.list t.actor_state t.order e) (broker_tiers_seen w.tier.broker_tiers) c.scene t.place stands both
         (record { count = sided c.scene c.central.plain c.partition (broker_tiers_seen w.tier.broker_tiers) both c.central.stands.partition_state c.shows_tier.tier_views; are = c.shows_tier.tier_views })
-        (record { in_progress = tier_task_of (Some t.order) t.actor_state.in_progress; actor_state = on_desk disk store meta opening w c t.place t.list t.actor_state t.order z; is = works }) owes in
+        (record { tier_task = tier_task_of (Some t.order) t.actor_state.in_progress; actor_state = on_desk disk store meta opening w c t.place t.list t.actor_state t.order z; is = works }) owes in
         let shows = own_shows turn r.after is actor_state same in
         turned_central disk store meta opening w a outcome w' t c e k (after_own c.scene t.place t.order turn (broker_tiers_seen w.tier.broker_tiers) r.after) changed shows
         (turn_recorded disk store meta w a outcome w' t c.recorded (own_recorded t.actor_state.in_progress turn outcome is))

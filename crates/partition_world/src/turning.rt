@@ -205,23 +205,23 @@ impl<S: Store, M: MetaLog> RemoteTier<S, M> {
                 partition_state,
             ),
             Command::Join => self.join_on(alloc, order.broker, recorded, partition_state),
-            Command::Offset(Which::LatestTiered) => Ok(self.offset_on(
-                b,
-                recorded,
-                partition_state,
-            )),
-            Command::Offset(Which::At(ts)) => self.date_on(
-                alloc,
-                partition,
-                order.broker,
-                recorded,
-                *ts,
-                0,
-                Dating::Seek,
-                partition_state,
-            ),
+            Command::Offset(which) => match which {
+                Which::LatestTiered => Ok(self.offset_on(b, recorded, partition_state)),
+                Which::At(ts) => self.date_on(
+                    alloc,
+                    partition,
+                    order.broker,
+                    recorded,
+                    *ts,
+                    0,
+                    Dating::Seek,
+                    partition_state,
+                ),
+                // The others are answered at once: `in_progress`.
+                _ => unreachable!(),
+            },
             Command::Follow { .. } => Ok(Outcome::Answers(partition_state.follow_on(b, recorded)?)),
-            // No other command has a second turn: `work`.
+            // No other command has a second turn: `in_progress`.
             _ => unreachable!(),
         }
     }
@@ -291,7 +291,7 @@ impl<S: Store, M: MetaLog> RemoteTier<S, M> {
                 *limit,
                 partition_state,
             ),
-            // No other command continues as a fetch does: `work`.
+            // No other command continues as a fetch does: `in_progress`.
             _ => unreachable!(),
         }
     }
@@ -330,7 +330,7 @@ impl<S: Store, M: MetaLog> RemoteTier<S, M> {
                 next,
                 partition_state,
             ),
-            // No other command continues as a timestamp lookup does: `work`.
+            // No other command continues as a timestamp lookup does: `in_progress`.
             _ => unreachable!(),
         }
     }
