@@ -56,7 +56,7 @@ use Rattle.laws_answers.specs.DeletionsKnown.{DeletionsKnown, ShowsDeleted}
 state_is : (id : SegmentId) (entries : List Entry) (entry : Entry) → entry_of id entries ≡ Some entry → state_of id entries ≡ Some entry.state
 state_is id entries entry at = rw at refl
 
-ends_same : (k l : Answer) → Ends k ≡ Ends l → k ≡ l
+ends_same : (k l : Answer) → ◌≡◌ {A = Turn CopyStep} (Ends k) (Ends l) → k ≡ l
 ends_same k l is = cc
 
 module _ {D S M : Type 0} (disk : DiskGhosts D) (store : StoreGhosts S) (meta : MetaGhosts M) where

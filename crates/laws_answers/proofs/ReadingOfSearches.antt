@@ -63,13 +63,18 @@ searched_on asked offset run at (Times piece) w = elim w [ ]
 searched_on asked offset run at (Index piece from) w = elim w [ ]
 searched_on asked offset run at (Log piece from span) w = elim w [ ]
 
+-- two turns that continue and are one continue with the same
+on_same : (at to : ℕ) (next later : SearchStep)
+    → ◌≡◌ {A = Result (Turn (ℕ × SearchStep)) AllocError} (Ok (Goes (at, next))) (Ok (Goes (to, later))) → next ≡ later
+on_same at to next later is =
+    let turn : ◌≡◌ {A = Turn (ℕ × SearchStep)} (Goes (at, next)) (Goes (to, later)) = cc (is) in same_step at to next later turn
+
 module _ (paths : List Path) (notes : List Note) (epoch : ℕ) where
   -- of what it continues with
   none_found : (later : SearchStep) (at to : ℕ) → ◌≡◌ {A = Result (Turn (ℕ × SearchStep)) AllocError} (Ok (Goes (at, later))) (Ok (Goes (to, Seek)))
       → IsFoundByTime paths notes epoch later
   none_found later at to is =
-      let turn : ◌≡◌ {A = Turn (ℕ × SearchStep)} (Goes (at, later)) (Goes (to, Seek)) = cc (is) in
-      subst (IsFoundByTime paths notes epoch) (sym (same_step at to later Seek turn)) tt
+      subst (IsFoundByTime paths notes epoch) (sym (on_same at to later Seek is)) tt
 
   -- the piece stays, as its time index shows
   shown_found : (more : Bool) (piece : Piece) (from cursor top at : ℕ) (later : SearchStep)
@@ -163,9 +168,7 @@ module _ (c : Scene) (p : Plain) (a b : ℕ) (tier_view : BrokerTierView) (x : B
           let f = index_found c p a b tier_view x stops epoch (wanted_at asked from) line objects calls notes notings (notes old.meta) old.view
           old.cache new.cache old.store new.store piece
           (in_cache piece.id.0 old.cache.pairs) (fetching.Log found span) h refl row.1 ends in
-          let is = k.1 in
-          let same : Log piece from span ≡ later = cc (is) in
-          subst (IsFoundByTime p.paths c.notes epoch) same (log_found found piece from span k.0 f)
+          subst (IsFoundByTime p.paths c.notes epoch) (sym (on_same at _ later (Log piece from span) k.1)) (log_found found piece from span k.0 f)
       indexed from piece (Ok (Goes fetching.Refresh)) at later old new h row k ends = absurd k
       indexed from piece (Ok (Goes (fetching.Index found))) at later old new h row k ends = absurd k
       indexed from piece (Ok (Ends answer)) at later old new h row k ends = absurd (cc (k))
