@@ -1,4 +1,4 @@
-//! Runs in which one call of a device fails: each call of a disk, of the store and of the metadata log that four
+//! Runs in which one call of a device fails: each call of a disk, of the store and of the metadata log that six
 //! scripts make, one call a run, once not done and once done.
 //!
 //! What such a run writes, if it writes, is proved to be a run of the plain log. That it meets its fault and continues
@@ -179,7 +179,7 @@ static KINDS: [&str; 19] = [
 ];
 
 /// The numbers of calls are in the order of the kinds, without those that have none.
-static CASES: [Case; 4] = [
+static CASES: [Case; 6] = [
     Case {
         name: "a copy with its flush and its trim, and what a broker does that a fault has stopped",
         script: "\
@@ -263,6 +263,52 @@ static CASES: [Case; 4] = [
             0 0 0 offset at 1001\n",
         kinds: 12,
         calls: 2 + 2 + 2 + 2 + 1 + 4 + 3 + 2 + 7,
+    },
+    Case {
+        name: "an expiry by the next leader between a copy's turns, after which the copy deletes its objects",
+        script: "\
+            brokers 2\n\
+            segment_bytes 200\n\
+            local_retention_bytes 0\n\
+            0 0 0 append 1000,-,:a\n\
+            0 0 0 append 1000,-,:b\n\
+            0 0 0 append 1000,-,:c\n\
+            1 0 1 follow 1000\n\
+            1 0 1 follow 1000\n\
+            1 0 1 flush\n\
+            1 0 1 ack\n\
+            0 0 0 flush\n\
+            0 0 0 ack\n\
+            later 2 0 0 copy\n\
+            turn 2 4\n\
+            1 0 1 elect\n\
+            1 0 1 learn\n\
+            1 0 1 raise 2\n\
+            1 0 1 expire\n",
+        kinds: 19,
+        calls: 3 + 2 + 3 + 1 + 4 + 8 + 4 + 3 + 2 + 3 + 2,
+    },
+    Case {
+        name: "a join that rebuilds with the leader epochs of a remote segment",
+        script: "\
+            brokers 2\n\
+            segment_bytes 200\n\
+            local_retention_bytes 0\n\
+            1 0 1 shrink\n\
+            0 0 0 append 1000,-,:a\n\
+            0 0 0 append 1000,-,:b\n\
+            0 0 0 append 1000,-,:c\n\
+            0 0 0 flush\n\
+            0 0 0 ack\n\
+            0 0 0 copy\n\
+            0 0 0 trim\n\
+            1 0 1 join\n\
+            1 0 1 follow 1000\n\
+            1 0 1 flush\n\
+            1 0 1 ack\n\
+            1 0 1 expand\n",
+        kinds: 19,
+        calls: 3 + 2 + 2 + 2 + 1 + 4 + 1 + 2 + 4 + 1 + 2 + 1 + 3 + 1,
     },
 ];
 
