@@ -20,6 +20,9 @@ pub fn write_whole<F: Write + OpenFile>(file: &mut F, len: u64, bytes: &[u8]) ->
     outcome
 }
 
+/// Up to how many bytes of a file are read without asking how many it has. It makes room for as many.
+const UNASKED: u64 = 65_536;
+
 /// Gives so many bytes of a file from a place on, fewer only where it ends.
 pub fn read_part<F: Read + Seek + OpenFile>(
     alloc: Global,
@@ -27,12 +30,16 @@ pub fn read_part<F: Read + Seek + OpenFile>(
     at: u64,
     most: u64,
 ) -> io::Result<Bytes> {
-    let left = file.metadata()?.len().saturating_sub(at);
-    if left == 0 {
+    let most = if most <= UNASKED && at <= u32::MAX as u64 {
+        most
+    } else {
+        file.metadata()?.len().saturating_sub(at).min(most)
+    };
+    if most == 0 {
         return Ok(Bytes::new());
     }
     file.seek(SeekFrom::Start(at))?;
-    read_front(alloc, file, left.min(most))
+    read_front(alloc, file, most)
 }
 
 /// Gives so many bytes that a reader has left, fewer only where it ends.
@@ -40,7 +47,8 @@ fn read_front<R: Read>(alloc: Global, reader: &mut R, most: u64) -> io::Result<B
     ensures { IfOk result (λ bytes. IfSome (R.remaining reader.old) (λ left. bytes ≡ take most left)) }
 {
     let mut bytes = Vec::new(alloc);
-    bytes.reserve(most as usize)?;
+    // One more, since the vector grows where it is full when the end is asked for.
+    bytes.reserve((most as usize).saturating_add(1))?;
     reader.take(most).read_to_end(&mut bytes)?;
     Ok(Bytes::from_vec(bytes)?)
 }
