@@ -1,8 +1,7 @@
 -- What two logs have in common, reported from the end of the shorter one: a last batch that both don't have is left
 -- out.
-use Rattle.std.proofs.Common.{◌≡◌, refl, ap, ℕ, zero, suc, ◌-◌, ◌<◌, ◌≤◌, min, List, [], ◌∷◌, take, length, get_or, Some, true, false, arith}
+use Rattle.std.proofs.Common.{◌≡◌, refl, ap, ℕ, zero, suc, ◌-◌, ◌<◌, min, List, [], ◌∷◌, take, length, Some, true, false, arith}
 use Rattle.std.specs.Prelude.{slice_get, bytes_eq}
-use Rattle.std.proofs.lemmas.Option.{slice_get_read}
 use Rattle.std.proofs.lemmas.Slice.Eq.{bytes_eq-Decides}
 use Rattle.plain_log.specs.Ends.{common}
 use Rattle.plain_executor.specs.Change.{AreMatching}
@@ -41,29 +40,24 @@ same_more (x ∷ log) [] k v a b e = absurd cc
 same_more (x ∷ log) (y ∷ other) zero v a b e = cc (a, b)
 same_more (x ∷ log) (y ∷ other) (suc k) v a b e = cc (e, same_more log other k v a b (cc (e)))
 
--- a batch of each as it was read at the last place
-at_last : (log : List (List ℕ)) (k : ℕ) (v : List ℕ) → suc k ≤ length log → v ≡ get_or log (suc k - 1) v → slice_get log k ≡ Some v
-at_last log k v l is =
-    let before : suc k - 1 ≡ k = omega arith in
-    slice_get_read log (length log) k v refl (omega arith) (rw before at is)
-
 -- last batches that differ are left out
-pub common_before : (log other : List (List ℕ)) (count : ℕ) (v w : List ℕ) → 0 < count → count ≤ length log → count ≤ length other
-    → v ≡ get_or log (count - 1) v → w ≡ get_or other (count - 1) w → bytes_eq v w ≡ false
+pub common_before : (log other : List (List ℕ)) (count : ℕ) (v w : List ℕ) → 0 < count → slice_get log (count - 1) ≡ Some v
+    → slice_get other (count - 1) ≡ Some w → bytes_eq v w ≡ false
     → common (take count log) (take count other) ≡ common (take (count - 1) log) (take (count - 1) other)
-common_before log other zero v w p l m a b e = absurd (omega arith)
-common_before log other (suc k) v w p l m a b e =
+common_before log other zero v w p a b e = absurd (omega arith)
+common_before log other (suc k) v w p a b e =
     let before : suc k - 1 ≡ k = omega arith in
-    rw before (common_less log other k v w (at_last log k v l a) (at_last other k w m b) e)
+    rw before (common_less log other k v w (rw before at a) (rw before at b) e)
 
 -- logs that match and have the same last batch have all of it in common
-pub common_up_to : (log other : List (List ℕ)) (count : ℕ) (v w : List ℕ) → AreMatching log other → 0 < count → count ≤ length log
-    → count ≤ length other → v ≡ get_or log (count - 1) v → w ≡ get_or other (count - 1) w → bytes_eq v w ≡ true
+pub common_up_to : (log other : List (List ℕ)) (count : ℕ) (v w : List ℕ) → AreMatching log other → 0 < count
+    → slice_get log (count - 1) ≡ Some v → slice_get other (count - 1) ≡ Some w → bytes_eq v w ≡ true
     → common (take count log) (take count other) ≡ take count log
-common_up_to log other zero v w h p l m a b e = absurd (omega arith)
-common_up_to log other (suc k) v w h p l m a b e =
-    let at = at_last log k v l a in
+common_up_to log other zero v w h p a b e = absurd (omega arith)
+common_up_to log other (suc k) v w h p a b e =
+    let before : suc k - 1 ≡ k = omega arith in
+    let at = rw before at a in
     let is : v ≡ w = (bytes_eq-Decides v w).0 e in
-    let also : slice_get other k ≡ Some v = rw is (at_last other k w m b) in
+    let also : slice_get other k ≡ Some v = rw is (rw before at b) in
     let same = same_more log other k v at also (h k v at also) in
     rw (← same) (common_self (take (suc k) log))

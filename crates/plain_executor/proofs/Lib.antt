@@ -4,7 +4,8 @@ pub mod Joined
 pub mod Commons
 pub mod Least
 pub mod Longer
-pub mod Brings
+pub mod Parts
+pub mod Room
 pub mod Outcomes
 pub mod Actors
 pub mod Safety

@@ -4,16 +4,9 @@ use Rattle.std.specs.Prelude.{slice_get}
 use mathlib.Core.List.{IsPrefix}
 use Rattle.plain_log.specs.declared.state.Broker.{Broker}
 use Rattle.plain_log.specs.declared.state.Path.{Path}
-use Rattle.plain_log.specs.declared.state.Role.{Role}
 use Rattle.plain_log.specs.declared.state.State.{State}
-use Rattle.plain_log.specs.Safe.{LogSafe, PlainSafe, RoleSafe}
-use Rattle.plain_executor.specs.Change.{AreJoined, AreMatching, MatchesPaths}
-
--- followers that have joined have beginnings of paths
-pub are_joined : (p : State) → PlainSafe p → AreJoined p
-are_joined p safe = λ b x e get is.
-    let role = subst (λ (r : Role). RoleSafe p.paths p.registry.epoch r x.log) is (safe.brokers b x get).role in
-    role.1
+use Rattle.plain_log.specs.Safe.{LogSafe, PlainSafe}
+use Rattle.plain_executor.specs.Change.{AreMatching, MatchesPaths}
 
 -- the batches before a place with the one that is there begin a list
 front_is : (log : List (List ℕ)) (k : ℕ) (batch : List ℕ) → slice_get log k ≡ Some batch → IsPrefix (take k log ++ batch ∷ []) log

@@ -1,10 +1,9 @@
 -- Where an offset splits a log, and where a log ends.
-use Rattle.std.proofs.Common.{◌≡◌, ap, ℕ, zero, suc, ◌+◌, ◌-◌, ◌<◌, ◌≤◌, List, [], ◌∷◌, take, drop, length, get_or, true, false, nat_lt, arith, refl}
-use Rattle.std.specs.List.Sorted.{IsNonDecreasingBy, IsPartitionPoint}
-use Rattle.std.proofs.lemmas.Bool.{ltb-true, ltb-false}
-use Rattle.std.proofs.lemmas.List.Sorted.{IsNonDecreasingBy-from_default}
+use Rattle.std.proofs.Common.{◌≡◌, ap, sym, ◌∙◌, ℕ, zero, suc, ◌+◌, ◌-◌, ◌<◌, ◌≤◌, List, [], ◌∷◌, take, drop, length, get_or, Some, arith, refl}
+use Rattle.std.specs.Prelude.{slice_get}
+use Rattle.std.proofs.lemmas.Option.{slice_get_within, get_or_from_slice_get}
 use Rattle.log_terms.specs.Batch.{last_of}
-use Rattle.log_terms.specs.Log.{IsConsecutive, end_from, up_to, from_offset}
+use Rattle.log_terms.specs.Log.{IsConsecutive, end_from, end_of, up_to, from_offset}
 use Rattle.log_terms.proofs.Logs.{lt_true, lt_false}
 
 -- no batch of a list that begins at m ends below it
@@ -64,27 +63,39 @@ end_last n (v ∷ w ∷ log) d b =
     let short : suc (length log) - 1 ≡ length log = omega arith in
     rw long (rw short at (end_last (last_of v + 1) (w ∷ log) d (omega arith)))
 
--- what is at a place doesn't hang on what would be past the end
-pub get_any : (log : List (List ℕ)) (k : ℕ) (d e : List ℕ) → k < length log → get_or log k d ≡ get_or log k e
-get_any [] k d e b = absurd (omega arith)
-get_any (v ∷ log) zero d e b = refl
-get_any (v ∷ log) (suc k) d e b = get_any log k d e (omega arith)
+-- so where the last one was read
+pub end_read : (log : List (List ℕ)) (n : ℕ) (v : List ℕ) → slice_get log (n - 1) ≡ Some v → n ≡ length log → 0 < n
+    → end_of log ≡ last_of v + 1
+end_read log n v at is some =
+    let e = end_last 0 log v (omega (arith, is, some)) in
+    let g = get_or_from_slice_get log (n - 1) v v at in
+    e ∙ ap (λ (k : ℕ). last_of (get_or log (k - 1) v) + 1) (sym is) ∙ ap (λ (w : List ℕ). last_of w + 1) g
 
--- no batch ends below the one before it
-pub lasts_rise : (log : List (List ℕ)) → IsConsecutive 0 log → IsNonDecreasingBy last_of log
-lasts_rise log h = IsNonDecreasingBy-from_default last_of log [] (λ i j le b. last_rises 0 log i j h le b)
+-- all from this place on end at n or above
+abbrev pub AreAbove : ℕ → List (List ℕ) → ℕ → Type 0
+AreAbove n log count = (k : ℕ) → count ≤ k → k < length log → n ≤ last_of (get_or log k [])
 
--- the place where the test fails first is the one that the batches part at
-pub point_before : (n : ℕ) (log : List (List ℕ)) (count : ℕ) → count ≤ length log
-    → IsPartitionPoint (λ v. nat_lt (last_of v) n ≡ true) (λ v. nat_lt (last_of v) n ≡ false) log count
+-- a batch that ends below n, and all before it
+pub below_more : (n : ℕ) (log : List (List ℕ)) (at : ℕ) (v : List ℕ) → IsConsecutive 0 log → slice_get log at ≡ Some v
+    → last_of v < n → AreBelow n log (at + 1)
+below_more n log at v h get l = λ k below.
+    let r = last_rises 0 log k at h (omega (arith, below)) (slice_get_within log at v get) in
+    let same = ap last_of (get_or_from_slice_get log at v [] get) in
+    omega (arith, r, same, l)
+
+-- one that doesn't, and all after it
+pub above_more : (n : ℕ) (log : List (List ℕ)) (at : ℕ) (v : List ℕ) → IsConsecutive 0 log → slice_get log at ≡ Some v
+    → n ≤ last_of v → AreAbove n log at
+above_more n log at v h get l = λ k from within.
+    let r = last_rises 0 log at k h from within in
+    let same = ap last_of (get_or_from_slice_get log at v [] get) in
+    omega (arith, r, same, l)
+
+-- the place where those below n end is the one that the batches part at
+pub parted_before : (n : ℕ) (log : List (List ℕ)) (count : ℕ) → count ≤ length log → AreBelow n log count → AreAbove n log count
     → up_to n log ≡ take count log
-point_before n log count l h =
-    split_before n log count l (λ k b. ltb-true (last_of (get_or log k [])) n (h.0 k [] (omega arith) b))
-    (λ b. ltb-false (last_of (get_or log count [])) n (h.1 count [] (omega arith) b))
+parted_before n log count l b a = split_before n log count l b (λ below. a count (omega arith) below)
 
-pub point_after : (n : ℕ) (log : List (List ℕ)) (count : ℕ) → count ≤ length log
-    → IsPartitionPoint (λ v. nat_lt (last_of v) n ≡ true) (λ v. nat_lt (last_of v) n ≡ false) log count
+pub parted_after : (n : ℕ) (log : List (List ℕ)) (count : ℕ) → count ≤ length log → AreBelow n log count → AreAbove n log count
     → from_offset n log ≡ drop count log
-point_after n log count l h =
-    split_after n log count l (λ k b. ltb-true (last_of (get_or log k [])) n (h.0 k [] (omega arith) b))
-    (λ b. ltb-false (last_of (get_or log count [])) n (h.1 count [] (omega arith) b))
+parted_after n log count l b a = split_after n log count l b (λ below. a count (omega arith) below)

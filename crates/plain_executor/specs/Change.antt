@@ -14,7 +14,6 @@ use Rattle.plain_log.specs.declared.state.Broker.{Broker}
 use Rattle.plain_log.specs.declared.state.Path.{Path}
 use Rattle.plain_log.specs.declared.state.Role.TheVariants as role
 use Rattle.plain_log.specs.State.{put_broker, breaks, stopped, path_of, set_registry}
-use Rattle.plain_log.specs.Safe.{HasOnPath}
 use Rattle.plain_log.specs.RowsOfLog.{gained}
 use Rattle.plain_log.specs.RowsOfElections.{led}
 use Rattle.plain_log.specs.RowsOfReplicas.{acknowledged}
@@ -90,11 +89,6 @@ IsPathAt paths e (Some at) =
 abbrev pub AtBroker : State → ℕ → (Broker → Replica → Type 0) → Type 0
 AtBroker p b P =
     (x : Broker) (s : Replica) → slice_get p.brokers b ≡ Some x → slice_get p.registry.replicas b ≡ Some s → P x s
-
--- the log of each follower that has joined begins its leader's path
-abbrev pub AreJoined : State → Type 0
-AreJoined p = (b : ℕ) (x : Broker) (e : ℕ) → slice_get p.brokers b ≡ Some x → x.role ≡ role.Joined e
-    → HasOnPath p.paths e x.log
 
 -- where both logs have the same batch at a place, they have the same ones before it
 abbrev pub AreMatching : List (List ℕ) → List (List ℕ) → Type 0

@@ -1,23 +1,19 @@
 //! The state after a change.
 
 ghost use Rattle.std.specs.Prelude.{◌≡◌, ◌<◌, ◌≤◌, ◌^◌, ◌-◌, ℕ, min, take, length, OnOk, OnErr};
-ghost use mathlib.Core.List.{IsPrefix};
-ghost use Rattle.plain_log.specs.Safe.{current, HasOnPath};
-ghost use Rattle.plain_log.specs.declared.state.Role.TheVariants as role;
 ghost use Rattle.plain_log.specs.State.{breaks, put_broker};
-ghost use Rattle.plain_executor.specs.Change.{AreJoined, AtBroker, EachCanStop, acked, path_in, changed};
+ghost use Rattle.plain_executor.specs.Change.{AtBroker, EachCanStop, acked, path_in, changed};
 ghost use Rattle.plain_executor.specs.Fits.{IsBuildableAppend};
 ghost use Rattle.registry.specs.Registry.{epoch_limit};
 
 use crate::change::Change;
 use crate::ends::end;
-use crate::lists::{bring, shared};
+use crate::lists::first;
 use crate::making::{batch_at, break_off, cut_off, elect, gain, open, stop};
 use crate::moving::{break_lead, expand, lead, restart, shrink, start};
 use crate::paths::path;
 use crate::replicas::mark_with;
-use bytes::Bytes;
-use plain_log::{Broker, Order, Role, State};
+use plain_log::{Order, Role, State};
 use std::alloc::{AllocError, Global};
 
 /// Takes a broker's flushed end for an acknowledgement. The first batches of the current path, so many, are committed
@@ -25,18 +21,18 @@ use std::alloc::{AllocError, Global};
 fn acknowledge(p: &mut State, alloc: Global, b: usize, count: usize) -> Result<(), AllocError>
     requires broker { b < length p.old.brokers }
     requires replica { b < length p.old.registry.replicas }
-    requires begins { IsPrefix p.old.committed (current p.old.paths p.old.registry.epoch p.old.committed) }
     ensures ok { OnOk result (AtBroker p.old b (λ x s. p.new ≡ acked p.old b x s count)) }
     ensures err { OnErr result (p.new ≡ p.old) }
 {
     let x = p.brokers.get(b);
     let flushed_end = x.flushed_end;
-    let last = end(x.log.as_slice());
+    let last = end(&x.log);
     let mark = mark_with(p, b, flushed_end);
     let Some(path) = path(p.paths.as_slice(), p.registry.epoch) else {
         return Err(AllocError);
     };
-    bring(alloc, &mut p.committed, path, count.min(path.len()))?;
+    let committed = first(alloc, path, count)?;
+    p.committed = committed;
     p.registry.mark = mark;
     p.registry.replicas.at_mut(b).acked = flushed_end;
     p.brokers.at_mut(b).known_high_watermark = lesser(mark, last);
@@ -54,27 +50,6 @@ fn lesser(mark: u64, last: u128) -> u64
     }
 }
 
-/// Brings a log to the first batches, so many, of the path of an epoch, which it begins where the broker has joined.
-fn renew(
-    alloc: Global,
-    x: &mut Broker,
-    epoch: u32,
-    path: &[Bytes],
-    count: usize,
-) -> Result<(), AllocError>
-    requires joined { x.old.role ≡ role.Joined epoch → IsPrefix x.old.log path.now }
-    requires within { count ≤ length path.now }
-    ensures ok { OnOk result (x.new ≡ record x.old { log = take count path.now }) }
-    ensures err { OnErr result (x.new ≡ x.old) }
-{
-    if x.role == Role::Joined(epoch) {
-        bring(alloc, &mut x.log, path, count)?;
-    } else {
-        x.log = shared(alloc, &path[..count])?;
-    }
-    Ok(())
-}
-
 /// Brings a broker's log to the first batches, so many, of the path of an epoch. It is flushed up to here.
 fn extend(
     p: &mut State,
@@ -84,8 +59,7 @@ fn extend(
     count: usize,
     flushed_end: u64,
 ) -> Result<(), AllocError>
-    requires broker { b < length p.old.brokers }
-    requires joined { AreJoined p.old }
+    requires { b < length p.old.brokers }
     ensures ok { OnOk result (AtBroker p.old b (λ x s.
         p.new ≡ put_broker p.old b (record x { log = take count (path_in p.old epoch); flushed_end = flushed_end }))) }
     ensures err { OnErr result (p.new ≡ p.old) }
@@ -93,8 +67,9 @@ fn extend(
     let Some(path) = path(p.paths.as_slice(), epoch) else {
         return Err(AllocError);
     };
+    let log = first(alloc, path, count)?;
     let x = p.brokers.at_mut(b);
-    renew(alloc, x, epoch, path, count.min(path.len()))?;
+    x.log = log;
     x.flushed_end = flushed_end;
     Ok(())
 }
@@ -109,7 +84,6 @@ fn break_longer(
 ) -> Result<(), AllocError>
     requires broker { b < length p.old.brokers }
     requires stops { EachCanStop p.old b }
-    requires joined { AreJoined p.old }
     ensures ok { OnOk result (AtBroker p.old b
         (λ x s. p.new ≡ breaks p.old b (record x { log = take count (path_in p.old epoch) }))) }
     ensures err { OnErr result (p.new ≡ p.old) }
@@ -117,8 +91,9 @@ fn break_longer(
     let Some(path) = path(p.paths.as_slice(), epoch) else {
         return Err(AllocError);
     };
+    let log = first(alloc, path, count)?;
     let x = p.brokers.at_mut(b);
-    renew(alloc, x, epoch, path, count.min(path.len()))?;
+    x.log = log;
     let flushed_end = x.flushed_end;
     break_off(x, flushed_end);
     Ok(())
@@ -133,8 +108,6 @@ pub(crate) fn alter(
 ) -> Result<(), AllocError>
     requires broker { order.now.broker.0 < length p.old.brokers }
     requires replica { order.now.broker.0 < length p.old.registry.replicas }
-    requires begins { IsPrefix p.old.committed (current p.old.paths p.old.registry.epoch p.old.committed) }
-    requires joined { AreJoined p.old }
     requires fit { IsBuildableAppend order.now.command }
     requires epoch { p.old.registry.epoch ≤ epoch_limit }
     ensures ok { OnOk result (AtBroker p.old order.now.broker.0 (λ x s.
@@ -154,14 +127,12 @@ pub(crate) fn alter(
             Ok(())
         }
         Change::Stops => Ok(stop(p.brokers.at_mut(b))),
-        Change::Opens { count, end } => Ok(open(alloc, p.brokers.at_mut(b), count, end)),
+        Change::Opens { count, end } => open(p, alloc, b, count, end),
         Change::Follows(epoch) => {
             p.brokers.at_mut(b).role = Role::Follows(epoch);
             Ok(())
         }
-        Change::Cuts { epoch, count, end } => {
-            Ok(cut_off(alloc, p.brokers.at_mut(b), epoch, count, end))
-        }
+        Change::Cuts { epoch, count, end } => cut_off(p, alloc, b, epoch, count, end),
         Change::BreaksLead => break_lead(p, alloc, b),
         Change::Leads(epoch) => lead(p, alloc, b, epoch),
         Change::Acks { count } => acknowledge(p, alloc, b, count),

@@ -5,8 +5,9 @@ ghost use Rattle.plain_log.specs.Step.{begins, recorded_of};
 ghost use Rattle.plain_executor.specs.Change.{MatchesPaths, begun_at, is_begin};
 
 use crate::change::{Change, given};
-use crate::ends::end;
+use crate::ends::{end, end_in};
 use crate::followers::{cut_at, follows};
+use crate::part::Part;
 use crate::paths::leading_end;
 use crate::reads::{has_run, takes_turns};
 use crate::roles::is_leader;
@@ -35,7 +36,7 @@ pub(crate) fn beginning(
             None => None,
         },
         (Command::Follow { .. }, None) => given(
-            follows(p, x) && end(x.log.as_slice()) < leading_end(p),
+            follows(p, x) && end(&x.log) < leading_end(p),
             Change::Same,
         ),
         (Command::Copy | Command::Expire, None) => given(leads, Change::Same),
@@ -84,12 +85,15 @@ pub(crate) fn note(
     let Some(command) = again(&order.command) else {
         return Err(AllocError);
     };
-    let log = x.log.as_slice();
+    let log = Part::of(&x.log);
     let (role, last) = match change {
         Change::Cuts { epoch, count, .. } => {
-            (Role::Joined(epoch), end(&log[..count.min(log.len())]))
+            (
+                Role::Joined(epoch),
+                end_in(&log.first(count.min(log.len()))),
+            )
         }
-        _ => (x.role, end(log)),
+        _ => (x.role, end_in(&log)),
     };
     if last > u128::from(u64::MAX) {
         return Err(AllocError);

@@ -12,6 +12,7 @@ ghost use Rattle.plain_executor.specs.Change.{changed};
 
 use crate::change::{Change, given};
 use crate::ends::count_up_to;
+use crate::part::Part;
 use crate::paths::has_path;
 use crate::roles::epoch_of;
 use plain_log::{Answer, Broker, Replica, State};
@@ -62,7 +63,7 @@ pub(crate) fn unclean(p: &State, x: &Broker, answer: &Answer) -> Option<Change>
         Answer::OkAt(n) => given(
             !last && x.up && r.start <= x.flushed_end && *n == u64::from(r.epoch) + 1,
             Change::Restarts {
-                count: count_up_to(x.flushed_end, x.log.as_slice()),
+                count: count_up_to(x.flushed_end, &Part::of(&x.log)),
             },
         ),
         _ => None,

@@ -8,8 +8,9 @@ ghost use Rattle.log_terms.specs.Log.{IsConsecutive, end_of, up_to, from_offset}
 ghost use Rattle.plain_log.specs.State.{is_stale};
 
 use crate::bytes_of::{base_offset, last_delta};
-use bytes::Bytes;
+use crate::part::Part;
 use plain_log::State;
+use shared_log::Batches;
 
 /// The offset of a batch's last record.
 pub(crate) fn last_offset(batch: &[u8]) -> u128
@@ -20,24 +21,43 @@ pub(crate) fn last_offset(batch: &[u8]) -> u128
 }
 
 /// The end of a log.
-pub(crate) fn end(log: &[Bytes]) -> u128
+pub(crate) fn end(log: &Batches) -> u128
     ensures is { result ≡ end_of log.now }
     ensures small { result ≤ 2 ^ 65 }
 {
-    if log.is_empty() {
+    end_in(&Part::of(log))
+}
+
+/// The end of a part of one.
+pub(crate) fn end_in(log: &Part) -> u128
+    ensures is { result ≡ end_of log.now }
+    ensures small { result ≤ 2 ^ 65 }
+{
+    let count = log.len();
+    if count == 0 {
         return 0;
     }
-    last_offset(log[log.len() - 1].as_slice()) + 1
+    last_offset(log.get(count - 1).as_slice()) + 1
 }
 
 /// How many batches of a log end at or below an offset: those from there on are the ones from the offset on.
-pub(crate) fn count_up_to(n: u64, log: &[Bytes]) -> usize
+pub(crate) fn count_up_to(n: u64, log: &Part) -> usize
     requires { IsConsecutive 0 log.now }
     ensures within { result ≤ length log.now }
     ensures before { up_to n log.now ≡ take result log.now }
     ensures after { from_offset n log.now ≡ drop result log.now }
 {
-    log.partition_point(|batch| last_offset(batch.as_slice()) < u128::from(n))
+    let mut low = 0;
+    let mut high = log.len();
+    while low < high {
+        let middle = low + (high - low) / 2;
+        if last_offset(log.get(middle).as_slice()) < u128::from(n) {
+            low = middle + 1;
+        } else {
+            high = middle;
+        }
+    }
+    low
 }
 
 /// Whether the registry's epoch is above this one.

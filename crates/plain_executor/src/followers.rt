@@ -14,11 +14,11 @@ ghost use Rattle.plain_log.specs.RowsOfFollowers.{rebuilt, copied, later_row, jo
 ghost use Rattle.plain_executor.specs.Change.{AreMatching, MatchesPaths, changed, cut, path_in};
 
 use crate::change::{Change, given};
-use crate::ends::{count_up_to, end, is_stale_in};
+use crate::ends::{count_up_to, end, end_in, is_stale_in};
+use crate::part::Part;
 use crate::paths::{is_led, leading_end, path};
 use crate::reads::fits_limit;
 use crate::roles::{followed_in, joined_in};
-use bytes::Bytes;
 use plain_log::{Answer, Broker, PlainSnapshot, State};
 
 /// Whether the broker's role has an epoch of which it is this, and the epoch isn't stale.
@@ -29,13 +29,14 @@ fn is_on_time(p: &State, x: &Broker, epoch: Option<u32>) -> bool
 }
 
 /// How many batches two logs have in common: those up to the last place where both have the same one.
-fn count_common(log: &[Bytes], other: &[Bytes]) -> usize
+#[tactic(auto, using(crate::proofs::Commons::common_before, crate::proofs::Commons::common_up_to))]
+fn count_common(log: &Part, other: &Part) -> usize
     requires { AreMatching log.now other.now }
     ensures within { result ≤ length log.now }
     ensures is { common log.now other.now ≡ take result log.now }
 {
     let mut count = log.len().min(other.len());
-    while count > 0 && log[count - 1].as_slice() != other[count - 1].as_slice() {
+    while count > 0 && log.get(count - 1).as_slice() != other.get(count - 1).as_slice() {
         count -= 1;
     }
     count
@@ -48,10 +49,10 @@ pub(crate) fn cut_at(p: &State, x: &Broker, n: u64) -> Option<(u32, usize)>
 {
     let epoch = followed_in(x.role)?;
     let path = path(p.paths.as_slice(), epoch)?;
-    let log = x.log.as_slice();
-    let count = count_common(log, path);
+    let log = Part::of(&x.log);
+    let count = count_common(&log, &Part::of(path));
     let joins = x.up && epoch >= p.registry.epoch && is_led(p);
-    if joins && u128::from(n) == end(&log[..count]) {
+    if joins && u128::from(n) == end_in(&log.first(count)) {
         Some((epoch, count))
     } else {
         None
@@ -64,7 +65,7 @@ fn is_going_on(p: &State, x: &Broker, recorded: &PlainSnapshot) -> bool
 {
     recorded.stops == x.stops
         && !is_stale_in(p, followed_in(recorded.role))
-        && end(x.log.as_slice()) == u128::from(recorded.end)
+        && end(&x.log) == u128::from(recorded.end)
 }
 
 /// How the log becomes longer that ends at n then: as the first batches, so many, of the path of this epoch.
@@ -76,8 +77,9 @@ fn longer_to(p: &State, x: &Broker, n: u64) -> Option<(u32, usize)>
 {
     let epoch = followed_in(x.role)?;
     let path = path(p.paths.as_slice(), epoch)?;
-    let count = count_up_to(n, path);
-    if end(&path[..count]) == u128::from(n) && end(x.log.as_slice()) < u128::from(n) {
+    let path = Part::of(path);
+    let count = count_up_to(n, &path);
+    if end_in(&path.first(count)) == u128::from(n) && end(&x.log) < u128::from(n) {
         Some((epoch, count))
     } else {
         None
@@ -97,7 +99,7 @@ fn later(p: &State, x: &Broker, recorded: &PlainSnapshot, answer: &Answer) -> bo
 {
     let stays = recorded.stops == x.stops;
     let stale = is_stale_in(p, followed_in(recorded.role));
-    let last = end(x.log.as_slice());
+    let last = end(&x.log);
     match answer {
         Answer::Stopped => !stays,
         Answer::StaleEpoch(n) => stays && stale && *n == u64::from(p.registry.epoch),
@@ -218,7 +220,7 @@ fn follow_first(p: &State, x: &Broker, answer: &Answer) -> bool
     ensures { (b limit : ℕ) → follow_row p.now b x.now limit None answer.now ≡ when result p.now }
 {
     let joined = joined_in(x.role);
-    let last = end(x.log.as_slice());
+    let last = end(&x.log);
     let leading = leading_end(p);
     match answer {
         Answer::Down => !x.up,
@@ -237,14 +239,14 @@ fn follow_first(p: &State, x: &Broker, answer: &Answer) -> bool
 }
 
 /// Whether the batches after the first so many, up to others, are one, or several that fit the limit.
-fn adds_within(limit: u64, path: &[Bytes], from: usize, to: usize) -> bool
+fn adds_within(limit: u64, path: &Part, from: usize, to: usize) -> bool
     requires { to ≤ length path.now }
     ensures { result ≡ is_within limit (drop from (take to path.now)) }
 {
     if to <= from {
         return false;
     }
-    fits_limit(limit, &path[from..to])
+    fits_limit(limit, &path.first(to).after(from))
 }
 
 /// How a follow's copy makes the log longer, which ends at n then.
@@ -261,7 +263,7 @@ fn copied_to(
 {
     let (epoch, count) = longer_to(p, x, n)?;
     let path = path(p.paths.as_slice(), epoch)?;
-    if is_going_on(p, x, recorded) && adds_within(limit, path, x.log.len(), count) {
+    if is_going_on(p, x, recorded) && adds_within(limit, &Part::of(path), x.log.len(), count) {
         Some((epoch, count))
     } else {
         None

@@ -5,18 +5,19 @@ ghost use Rattle.plain_log.specs.Fresh.{fresh, fresh_broker};
 ghost use Rattle.plain_log.specs.declared.state.Role.TheVariants as role;
 
 use plain_log::{Broker, Config, Path, Registry, Role, State};
+use shared_log::Batches;
 use std::alloc::{AllocError, Global};
 use tier_base::Items;
 
 /// A broker that is up, with an empty log.
-fn broker(alloc: Global, role: Role) -> Broker
+fn broker(role: Role) -> Broker
     ensures { result ≡ fresh_broker role }
 {
     Broker {
         up: true,
         stops: 0,
         role,
-        log: Items::new(alloc),
+        log: Batches::new(),
         flushed_end: 0,
         loose: false,
         known_high_watermark: 0,
@@ -29,9 +30,9 @@ fn brokers(alloc: Global, others: u16) -> Result<Items<Broker>, AllocError>
         brokers ≡ fresh_broker (role.Leads 0) ∷ replicate others (fresh_broker (role.Joined 0))) }
 {
     let mut brokers = Items::new(alloc);
-    brokers.push(broker(alloc, Role::Leads(0)))?;
+    brokers.push(broker(Role::Leads(0)))?;
     for _ in 0..others {
-        brokers.push(broker(alloc, Role::Joined(0)))?;
+        brokers.push(broker(Role::Joined(0)))?;
     }
     Ok(brokers)
 }
@@ -43,7 +44,7 @@ fn paths(alloc: Global) -> Result<Items<Path>, AllocError>
     let mut paths = Items::new(alloc);
     paths.push(Path {
         epoch: 0,
-        log: Items::new(alloc),
+        log: Batches::new(),
     })?;
     Ok(paths)
 }
@@ -59,7 +60,7 @@ pub(crate) fn state(alloc: Global, config: &Config) -> Result<State, AllocError>
     let paths = paths(alloc)?;
     Ok(State {
         registry,
-        committed: Items::new(alloc),
+        committed: Batches::new(),
         paths,
         broken: Items::new(alloc),
         unclean: false,

@@ -5,9 +5,9 @@
 //! (`deciding`, and a module for each group of commands); they return what is to change, a `Change`, which is then
 //! made (`altering`, `making`, `moving`). `specs/Change.antt` has the state after each.
 //!
-//! Batches are shared bytes, so a log, an epoch's log and what is committed have them in common. Log ends are
-//! computed in 128 bits, because the model's have no bound; if one that must be stored exceeds 64 bits, the call
-//! reports out of memory.
+//! The logs of brokers and of leader epochs and what is committed are lists that share their batches (`shared_log`), so
+//! taking the lead, an unclean election and a cut copy no log. Log ends are computed in 128 bits, because the model's
+//! have no bound; if one that must be stored exceeds 64 bits, the call reports out of memory.
 //!
 //! `replay`, `first_refused`, `is_run` and `is_complete_run` go over whole journals step by step, `is_complete` by
 //! counts alone.
@@ -29,6 +29,7 @@ mod lists;
 mod log_rows;
 mod making;
 mod moving;
+mod part;
 mod paths;
 mod plain;
 mod reads;

@@ -17,7 +17,8 @@ ghost use Rattle.plain_executor.specs.Change.{changed, batch_in};
 
 use crate::bytes_of::last_delta;
 use crate::change::{Change, given};
-use crate::ends::{count_up_to, end};
+use crate::ends::{count_up_to, end, end_in};
+use crate::part::Part;
 use crate::roles::{is_leader, leading_in};
 use plain_log::{Answer, Broker};
 use record_batch::{BatchRefusal, Rec, built_head_tells, check};
@@ -27,15 +28,14 @@ use tier_base::OFFSET_LIMIT;
 fn fits(x: &Broker, delta: u64) -> bool
     ensures { (batch : List ℕ) → last_offset_delta_of batch ≡ delta → has_room x.now batch ≡ result }
 {
-    end(x.log.as_slice()) + u128::from(delta) + 1 <= u128::from(OFFSET_LIMIT)
+    end(&x.log) + u128::from(delta) + 1 <= u128::from(OFFSET_LIMIT)
 }
 
 /// Whether an answer reports a batch at the end of a leader's log: its base, its last offset and its leader epoch.
 fn is_span(x: &Broker, delta: u64, base: u64, last: u64) -> bool
     ensures { result ≡ ((base == end_of x.now.log) && (last == base + delta)) }
 {
-    u128::from(base) == end(x.log.as_slice())
-        && u128::from(last) == u128::from(base) + u128::from(delta)
+    u128::from(base) == end(&x.log) && u128::from(last) == u128::from(base) + u128::from(delta)
 }
 
 /// What an append of the command's batch changes that gets this answer.
@@ -131,10 +131,7 @@ pub(crate) fn flush(x: &Broker, answer: &Answer) -> Option<Change>
     match answer {
         Answer::Down => given(!x.up, Change::Same),
         Answer::DiskFault => given(x.up, Change::Breaks(x.flushed_end)),
-        Answer::OkAt(n) => given(
-            x.up && u128::from(*n) == end(x.log.as_slice()),
-            Change::Flushes(*n),
-        ),
+        Answer::OkAt(n) => given(x.up && u128::from(*n) == end(&x.log), Change::Flushes(*n)),
         _ => None,
     }
 }
@@ -148,10 +145,7 @@ pub(crate) fn roll(x: &Broker, answer: &Answer) -> Option<Change>
         Answer::Down => given(!x.up, Change::Same),
         Answer::EmptySegment | Answer::TooManySegments => given(x.up, Change::Same),
         Answer::DiskFault => given(x.up, Change::Breaks(x.flushed_end)),
-        Answer::OkAt(n) => given(
-            x.up && u128::from(*n) == end(x.log.as_slice()),
-            Change::Same,
-        ),
+        Answer::OkAt(n) => given(x.up && u128::from(*n) == end(&x.log), Change::Same),
         _ => None,
     }
 }
@@ -177,8 +171,10 @@ fn opens_at(x: &Broker, n: u64, count: usize) -> bool
     if !x.loose {
         return n == x.flushed_end;
     }
-    let log = x.log.as_slice();
-    end(&log[..count]) == u128::from(n) && x.flushed_end <= n && u128::from(n) <= end(log)
+    let log = Part::of(&x.log);
+    end_in(&log.first(count)) == u128::from(n)
+        && x.flushed_end <= n
+        && u128::from(n) <= end_in(&log)
 }
 
 /// What a start changes that is answered with this end.
@@ -187,7 +183,7 @@ fn open(x: &Broker, n: u64) -> Option<Change>
     ensures { (p : State) (b : ℕ) (s : Replica) (command : Command)
         → up_row p b x.now (Answer.Up n) ≡ option_map (changed p b x.now s command) result }
 {
-    let count = count_up_to(n, x.log.as_slice());
+    let count = count_up_to(n, &Part::of(&x.log));
     given(
         !x.up && opens_at(x, n, count),
         Change::Opens { count, end: n },

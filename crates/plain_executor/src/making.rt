@@ -3,24 +3,16 @@
 //! What takes memory comes first, so that a change for which there is none leaves the state as it was. A count of stops
 //! has 64 bits: a broker whose count is at its end isn't changed.
 
-ghost use Rattle.std.specs.Prelude.{◌≡◌, ◌<◌, ◌≤◌, ◌^◌, ◌-◌, ◌++◌, ◌∷◌, true, false, take};
-ghost use Rattle.std.specs.Prelude.{length, Some, slice_get, slice_set, OnOk, OnErr, IfOk};
-ghost use mathlib.Core.List.{IsPrefix};
+ghost use Rattle.std.specs.Prelude.{◌≡◌, ◌<◌, ◌≤◌, ◌^◌, ◌-◌, true, false, take, length, OnOk, OnErr, IfOk};
 ghost use Rattle.registry.specs.Registry.{epoch_limit, elected};
 ghost use Rattle.record_batch.specs.Build.{built, IsBuildable};
 ghost use Rattle.record_batch.specs.Stamp.{stamped};
 ghost use Rattle.plain_log.specs.RowsOfLog.{gained};
-ghost use Rattle.plain_log.specs.RowsOfElections.{led};
-ghost use Rattle.plain_log.specs.Safe.{PlainSafe};
-ghost use Rattle.plain_log.specs.State.{longer, stopped, set_registry, breaks};
+ghost use Rattle.plain_log.specs.State.{longer, put_broker, stopped, set_registry};
 ghost use Rattle.plain_executor.specs.Fits.{IsBuildableAppend};
-ghost use Rattle.plain_executor.specs.Change.{AtBroker, IsPathAt, acked, batch_in, changed, cut};
+ghost use Rattle.plain_executor.specs.Change.{AtBroker, IsPathAt, batch_in, cut};
 
-use crate::change::Change;
-use crate::ends::end;
-use crate::lists::{bring, prepend, shared, truncate};
-use crate::paths::path;
-use crate::replicas::mark_with;
+use crate::lists::first;
 use bytes::Bytes;
 use plain_log::{Broker, Command, Path, Role, State};
 use record_batch::{BuildRefusal, Rec, build, stamp};
@@ -49,23 +41,53 @@ pub(crate) fn break_off(x: &mut Broker, flushed_end: u64)
 }
 
 /// Lets a broker start with its first batches, so many, which end here.
-pub(crate) fn open(alloc: Global, x: &mut Broker, count: usize, end: u64)
-    ensures { x.new ≡ record x.old { up = true; log = take count x.old.log; flushed_end = end; loose = false } }
+pub(crate) fn open(
+    p: &mut State,
+    alloc: Global,
+    b: usize,
+    count: usize,
+    end: u64,
+) -> Result<(), AllocError>
+    requires { b < length p.old.brokers }
+    ensures ok { OnOk result (AtBroker p.old b (λ x s.
+        p.new ≡ put_broker p.old b (record x {
+          up = true;
+          log = take count
+              x.log;
+          flushed_end = end;
+          loose = false;
+        }))) }
+    ensures err { OnErr result (p.new ≡ p.old) }
 {
-    truncate(alloc, &mut x.log, count);
+    let log = first(alloc, &p.brokers.get(b).log, count)?;
+    let x = p.brokers.at_mut(b);
+    x.log = log;
     x.up = true;
     x.flushed_end = end;
     x.loose = false;
+    Ok(())
 }
 
 /// Cuts a follower's log to its first batches, so many, which end here.
-pub(crate) fn cut_off(alloc: Global, x: &mut Broker, epoch: u32, count: usize, end: u64)
-    ensures { x.new ≡ cut x.old epoch count end }
+pub(crate) fn cut_off(
+    p: &mut State,
+    alloc: Global,
+    b: usize,
+    epoch: u32,
+    count: usize,
+    end: u64,
+) -> Result<(), AllocError>
+    requires { b < length p.old.brokers }
+    ensures ok { OnOk result (AtBroker p.old b (λ x s. p.new ≡ put_broker p.old b (cut x epoch count end))) }
+    ensures err { OnErr result (p.new ≡ p.old) }
 {
-    truncate(alloc, &mut x.log, count);
+    let log = first(alloc, &p.brokers.get(b).log, count)?;
+    let x = p.brokers.at_mut(b);
+    x.log = log;
     x.role = Role::Joined(epoch);
     x.flushed_end = end;
     x.known_high_watermark = x.known_high_watermark.min(end);
+    Ok(())
 }
 
 /// The place of the first path of this epoch.
@@ -81,12 +103,17 @@ fn find(paths: &[Path], epoch: u32) -> Option<usize>
 }
 
 /// Puts a batch at the end of the first path of this epoch, where there is one.
-fn lengthen(paths: &mut Items<Path>, epoch: u32, batch: Bytes) -> Result<(), AllocError>
+fn lengthen(
+    paths: &mut Items<Path>,
+    alloc: Global,
+    epoch: u32,
+    batch: Bytes,
+) -> Result<(), AllocError>
     ensures ok { OnOk result (paths.new ≡ longer paths.old epoch batch) }
     ensures err { OnErr result (paths.new ≡ paths.old) }
 {
     if let Some(at) = find(paths.as_slice(), epoch) {
-        paths.at_mut(at).log.push(batch)?;
+        paths.at_mut(at).log.push(alloc, batch)?;
     }
     Ok(())
 }
@@ -147,15 +174,11 @@ pub(crate) fn gain(
     ensures err { OnErr result (p.new ≡ p.old) }
 {
     let again = batch.clone()?;
-    let count = p.brokers.get(b).log.len();
-    p.brokers.at_mut(b).log.push(batch)?;
-    match lengthen(&mut p.paths, epoch, again) {
-        Ok(()) => Ok(()),
-        Err(_) => {
-            truncate(alloc, &mut p.brokers.at_mut(b).log, count);
-            Err(AllocError)
-        }
-    }
+    let mut log = p.brokers.get(b).log.share()?;
+    log.push(alloc, batch)?;
+    lengthen(&mut p.paths, alloc, epoch, again)?;
+    p.brokers.at_mut(b).log = log;
+    Ok(())
 }
 
 /// Elects a broker from the replicas in sync.

@@ -7,7 +7,7 @@ ghost use Rattle.plain_log.specs.State.{set_registry, breaks};
 ghost use Rattle.plain_executor.specs.Change.{AtBroker, EachCanStop};
 
 use crate::ends::end;
-use crate::lists::{prepend, shared};
+use crate::lists::{first, prepend};
 use crate::making::break_off;
 use plain_log::{Path, Role, State};
 use std::alloc::{AllocError, Global};
@@ -53,8 +53,7 @@ pub(crate) fn restart(
 {
     let x = p.brokers.get(broker.0 as usize);
     let flushed_end = x.flushed_end;
-    let log = x.log.as_slice();
-    let committed = shared(alloc, &log[..count.min(log.len())])?;
+    let committed = first(alloc, &x.log, count)?;
     p.registry.lead_alone(broker, flushed_end);
     p.committed = committed;
     p.unclean = true;
@@ -68,12 +67,12 @@ pub(crate) fn lead(p: &mut State, alloc: Global, b: usize, epoch: u32) -> Result
     ensures err { OnErr result (p.new ≡ p.old) }
 {
     let x = p.brokers.get(b);
-    let last = end(x.log.as_slice());
+    let last = end(&x.log);
     // The model's ends have no bound, a flushed end has 64 bits.
     if last > u128::from(u64::MAX) {
         return Err(AllocError);
     }
-    let log = shared(alloc, x.log.as_slice())?;
+    let log = x.log.share()?;
     prepend(alloc, &mut p.paths, Path { epoch, log })?;
     let mark = p.registry.mark;
     let x = p.brokers.at_mut(b);

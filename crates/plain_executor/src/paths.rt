@@ -8,16 +8,16 @@ ghost use Rattle.plain_log.specs.RowsOfFollowers.{leader_end};
 
 use crate::ends::end;
 use crate::roles::is_leader_in;
-use bytes::Bytes;
 use plain_log::{Broker, Path, State};
+use shared_log::Batches;
 
 /// The log of the leader of this epoch.
-pub(crate) fn path(paths: &[Path], epoch: u32) -> Option<&[Bytes]>
+pub(crate) fn path(paths: &[Path], epoch: u32) -> Option<&Batches>
     ensures { option_map (λ log. log.now) result ≡ path_of paths.now epoch }
 {
     for path in paths {
         if path.epoch == epoch {
-            return Some(path.log.as_slice());
+            return Some(&path.log);
         }
     }
     None
@@ -58,7 +58,7 @@ pub(crate) fn leading_end(p: &State) -> u128
     ensures { result ≡ leader_end p.now }
 {
     match leader(p) {
-        Some(y) => end(y.log.as_slice()),
+        Some(y) => end(&y.log),
         None => 0,
     }
 }

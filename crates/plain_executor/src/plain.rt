@@ -62,7 +62,7 @@ impl Plain {
         requires { broker.0 < length self.now.brokers }
         ensures { (x : BrokerIs) → slice_get self.now.brokers broker.0 ≡ Some x → result ≡ end_of x.log }
     {
-        end(self.state.brokers.get(broker.0 as usize).log.as_slice())
+        end(&self.state.brokers.get(broker.0 as usize).log)
     }
 
     /// The high watermark that a broker knows.

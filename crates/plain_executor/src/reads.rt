@@ -10,9 +10,9 @@ ghost use Rattle.plain_executor.specs.Change.{is_timed};
 ghost use Rattle.plain_log.specs.RowsOfReads.{fetch_row, offset_row, offset_at, first_at, is_offset_of, is_long};
 
 use crate::bytes_of::{base_offset, max_ts};
-use crate::ends::{count_up_to, end};
+use crate::ends::{count_up_to, end, end_in};
+use crate::part::Part;
 use crate::roles::{is_leader, is_role};
-use bytes::Bytes;
 use plain_log::{Answer, Broker, PlainSnapshot, State, Which};
 use tier_base::Stop;
 
@@ -42,7 +42,7 @@ fn is_serving(x: &Broker, recorded: Option<&PlainSnapshot>) -> bool
 fn is_in_range(p: &State, x: &Broker, offset: u64) -> bool
     ensures { result ≡ in_range p.now x.now offset }
 {
-    p.registry.start <= offset && u128::from(offset) <= end(x.log.as_slice())
+    p.registry.start <= offset && u128::from(offset) <= end(&x.log)
 }
 
 /// Whether a fetch at the offset returns a run.
@@ -53,13 +53,13 @@ pub(crate) fn has_run(p: &State, x: &Broker, offset: u64, recorded: Option<&Plai
 }
 
 /// How many of the first batches fit the room.
-fn count_fitting(room: u64, log: &[Bytes]) -> usize
+fn count_fitting(room: u64, log: &Part) -> usize
     ensures within { result ≤ length log.now }
     ensures is { fitting room log.now ≡ take result log.now }
 {
     let mut left = room;
-    for (i, batch) in log.iter().enumerate() {
-        let size = batch.len() as u64;
+    for i in 0..log.len() {
+        let size = log.get(i).len() as u64;
         if left < size {
             return i;
         }
@@ -69,23 +69,25 @@ fn count_fitting(room: u64, log: &[Bytes]) -> usize
 }
 
 /// How many bytes batches have.
-fn size_of(log: &[Bytes]) -> u128
+fn size_of(log: &Part) -> u128
     ensures is { result ≡ length (joined log.now) }
     ensures small { result ≤ length log.now * 2 ^ 63 }
 {
     let mut size: u128 = 0;
-    for batch in log {
-        size += batch.len() as u128;
+    for i in 0..log.len() {
+        size += log.get(i).len() as u128;
     }
     size
 }
 
 /// Whether bytes are those of batches, one after another.
-fn is_joined(log: &[Bytes], bytes: &[u8]) -> bool
+#[tactic(auto, using(crate::proofs::Joined::joined_at, crate::proofs::Joined::joined_short))]
+fn is_joined(log: &Part, bytes: &[u8]) -> bool
     ensures { result ≡ bytes_eq (joined log.now) bytes.now }
 {
     let mut rest = bytes;
-    for batch in log {
+    for i in 0..log.len() {
+        let batch = log.get(i);
         if rest.len() < batch.len() {
             return false;
         }
@@ -99,7 +101,7 @@ fn is_joined(log: &[Bytes], bytes: &[u8]) -> bool
 }
 
 /// Whether there is one batch, or several that fit the limit.
-pub(crate) fn fits_limit(limit: u64, log: &[Bytes]) -> bool
+pub(crate) fn fits_limit(limit: u64, log: &Part) -> bool
     ensures { result ≡ is_within limit log.now }
 {
     match log.len() {
@@ -110,17 +112,18 @@ pub(crate) fn fits_limit(limit: u64, log: &[Bytes]) -> bool
 }
 
 /// Whether the stop says why the run ends that is the first so many batches from the offset on.
-fn is_stop(x: &Broker, log: &[Bytes], count: usize, limit: u64, stop: Stop) -> bool
+fn is_stop(x: &Broker, log: &Part, count: usize, limit: u64, stop: Stop) -> bool
     requires { count ≤ length log.now }
     ensures { (offset size : ℕ) → log.now ≡ from_offset offset x.now.log → take count log.now ≡ run_of x.now offset size
         → stops_rightly x.now offset limit size stop ≡ result }
 {
-    let whole = end(&log[..count]) == u128::from(x.known_high_watermark);
+    let whole = end_in(&log.first(count)) == u128::from(x.known_high_watermark);
     match stop {
         Stop::Mark => whole,
         Stop::Piece => !whole,
         Stop::Limit => {
-            !whole && u128::from(limit) < size_of(&log[..count.saturating_add(1).min(log.len())])
+            !whole
+                && u128::from(limit) < size_of(&log.first(count.saturating_add(1).min(log.len())))
         }
     }
 }
@@ -130,15 +133,15 @@ fn is_told_run(x: &Broker, offset: u64, limit: u64, size: u64, stop: Stop, bytes
     requires { IsConsecutive 0 x.now.log }
     ensures { result ≡ is_run x.now offset limit size stop bytes.now }
 {
-    let log = x.log.as_slice();
-    let log = &log[count_up_to(offset, log)..];
-    let count = count_fitting(size, log);
-    let run = &log[..count];
+    let log = Part::of(&x.log);
+    let log = log.after(count_up_to(offset, &log));
+    let count = count_fitting(size, &log);
+    let run = log.first(count);
     size == bytes.len() as u64
-        && is_joined(run, bytes)
-        && fits_limit(limit, run)
-        && end(run) <= u128::from(x.known_high_watermark)
-        && is_stop(x, log, count, limit, stop)
+        && is_joined(&run, bytes)
+        && fits_limit(limit, &run)
+        && end_in(&run) <= u128::from(x.known_high_watermark)
+        && is_stop(x, &log, count, limit, stop)
 }
 
 /// Whether a fetch gets this answer.
@@ -161,7 +164,7 @@ pub(crate) fn fetch(
             is_serving(x, recorded)
                 && !is_in_range(p, x, offset)
                 && *start == p.registry.start
-                && u128::from(*last) == end(x.log.as_slice())
+                && u128::from(*last) == end(&x.log)
         }
         Answer::Empty => {
             is_serving(x, recorded) && is_in_range(p, x, offset) && x.known_high_watermark <= offset
@@ -192,10 +195,12 @@ pub(crate) fn takes_turns(which: &Which) -> bool
 }
 
 /// The base of the first batch whose greatest timestamp isn't earlier, or the log start offset where that is greater.
-fn first_offset(ts: i64, start: u64, log: &[Bytes]) -> Option<u64>
+#[tactic(auto, using(crate::proofs::Parts::drop_at))]
+fn first_offset(ts: i64, start: u64, log: &Part) -> Option<u64>
     ensures { result ≡ first_at ts start log.now }
 {
-    for batch in log {
+    for i in 0..log.len() {
+        let batch = log.get(i);
         if max_ts(batch.as_slice()) >= ts {
             return Some(base_offset(batch.as_slice()).max(start));
         }
@@ -208,10 +213,10 @@ fn offset_for(p: &State, x: &Broker, ts: i64) -> Option<u64>
     requires { IsConsecutive 0 x.now.log }
     ensures { result ≡ offset_at p.now x.now ts }
 {
-    let log = x.log.as_slice();
+    let log = Part::of(&x.log);
     let start = p.registry.start;
-    let known = &log[..count_up_to(x.known_high_watermark, log)];
-    first_offset(ts, start, &known[count_up_to(start, known)..])
+    let known = log.first(count_up_to(x.known_high_watermark, &log));
+    first_offset(ts, start, &known.after(count_up_to(start, &known)))
 }
 
 /// Whether this is the offset that was asked for.

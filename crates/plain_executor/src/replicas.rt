@@ -14,6 +14,7 @@ ghost use Rattle.plain_executor.specs.Change.{changed};
 
 use crate::change::{Change, given};
 use crate::ends::{count_up_to, is_stale_in};
+use crate::part::Part;
 use crate::paths::path;
 use crate::roles::acking_in;
 use plain_log::{Answer, Broker, Replica, State};
@@ -99,7 +100,7 @@ fn ack_at(p: &State, b: usize, x: &Broker, mark: u64) -> Option<Change>
     let path = path(p.paths.as_slice(), p.registry.epoch)?;
     if mark == mark_with(p, b, x.flushed_end) {
         Some(Change::Acks {
-            count: count_up_to(mark, path),
+            count: count_up_to(mark, &Part::of(path)),
         })
     } else {
         None

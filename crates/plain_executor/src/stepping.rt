@@ -5,15 +5,14 @@ ghost use Rattle.std.specs.Prelude.{slice_get, IfOk, OnOk, OnErr, is_some, optio
 ghost use Rattle.std.specs.Option.{option_copied};
 ghost use Rattle.registry.specs.Calls.{when};
 ghost use Rattle.registry.specs.Registry.{epoch_limit};
-ghost use Rattle.plain_log.specs.Safe.{PlainSafe, current};
+ghost use Rattle.plain_log.specs.Safe.{PlainSafe};
 ghost use Rattle.plain_log.specs.State.{actor_at, with_actor, put_actor as put_at};
 ghost use Rattle.plain_log.specs.Step.{same_which, same_command, is_recorded, next_actor, event_step, step as step_of};
 ghost use Rattle.plain_executor.specs.Fits.{IsBuildableAppend};
 ghost use Rattle.plain_executor.specs.Stepped.{Stepped};
-ghost use Rattle.plain_executor.specs.Change.{AreJoined, AtBroker, changed};
+ghost use Rattle.plain_executor.specs.Change.{AtBroker, changed};
 ghost use Rattle.plain_log.specs.declared.journal.Event.TheVariants as event;
 ghost use Rattle.plain_log.specs.Rows.{row};
-ghost use mathlib.Core.List.{IsPrefix};
 
 use crate::altering::alter;
 use crate::beginning::{beginning, note};
@@ -137,8 +136,6 @@ fn commit(
 ) -> Result<(), AllocError>
     requires broker { order.now.broker.0 < length p.old.brokers }
     requires replica { order.now.broker.0 < length p.old.registry.replicas }
-    requires begins { IsPrefix p.old.committed (current p.old.paths p.old.registry.epoch p.old.committed) }
-    requires joined { AreJoined p.old }
     requires fit { IsBuildableAppend order.now.command }
     requires epoch { p.old.registry.epoch ≤ epoch_limit }
     ensures ok { OnOk result (AtBroker p.old order.now.broker.0 (λ x s.

@@ -5,10 +5,10 @@ use Rattle.plain_executor.proofs.reads.is_joined.Goals as goal
 
 pub returns-then-ne : goal.returns-then-ne
 returns-then-ne c =
-    let e = joined_at c.args.log.now c.loop-batch.batch-index c.batch-item.result c.loop-batch.rest.now c.loop-batch-test.true c.batch-item.is (omega arith) in
+    let e = joined_at c.args.log.now c.loop-i.i c.get-batch.result.now c.loop-i.rest.now c.get-batch.ensures (omega arith) in
     grind (arith, common_steps, e)
 
-pub loop-batch-preserved : goal.loop-batch-preserved
-loop-batch-preserved c =
-    let e = joined_at c.args.log.now c.loop-batch.batch-index c.batch-item.result c.loop-batch.rest.now c.loop-batch-test.true c.batch-item.is (omega arith) in
+pub loop-i-preserved : goal.loop-i-preserved
+loop-i-preserved c =
+    let e = joined_at c.args.log.now c.loop-i.i c.get-batch.result.now c.loop-i.rest.now c.get-batch.ensures (omega arith) in
     grind (arith, common_steps, e)

@@ -5,15 +5,12 @@ use Rattle.plain_log.specs.declared.state.Broker.{Broker}
 use Rattle.plain_log.specs.State.{actor_at}
 use Rattle.plain_log.specs.Step.{event_step}
 use Rattle.plain_executor.specs.Change.{begun_at}
-use Rattle.plain_executor.proofs.Safety.{are_joined, matches_paths}
+use Rattle.plain_executor.proofs.Safety.{matches_paths}
 use Rattle.plain_executor.proofs.Taken.{begun_step, none_is}
 use Rattle.plain_executor.proofs.stepping.begin.Goals as goal
 
 pub beginning-requires : goal.beginning-requires
 beginning-requires c = matches_paths c.args.p.now c.args.order.now.broker.0 c.get-x.result.now c.requires.safe c.get-x.ensures
-
-pub commit-requires-clause-joined : goal.commit-requires-clause-joined
-commit-requires-clause-joined c = are_joined c.args.p.now c.requires.safe
 
 pub returns-clause-ok : goal.returns-clause-ok
 returns-clause-ok c = λ x s bx rs.
