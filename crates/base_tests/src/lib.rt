@@ -1,5 +1,5 @@
 //! Tests of the primitives: words, checksums, streams, plans of faults, indexes, leader epochs, retention, the
-//! registry, metadata events, manifests and loads.
+//! registry, metadata events, manifests, lists that share their batches, and loads.
 //!
 //! They are in a crate of their own because a crate is proved again where its tests are built.
 #![tactic(auto)]
@@ -30,5 +30,7 @@ mod prims;
 mod registries;
 #[cfg(test)]
 mod retention;
+#[cfg(test)]
+mod shared_logs;
 #[cfg(test)]
 mod streams;
