@@ -6,10 +6,13 @@
 //! its explanation go to standard error, and the program exits with the status's number.
 #![tactic(auto)]
 
+use device_yard::Yard;
 use folder_yard::FolderYard;
 use std::process::ExitCode;
+use std::sync::Wait;
+use std::thread::Threads;
 use std::{env, io};
-use tier_base::{StdSink, StdSource};
+use tier_base::{Sink, Source, StdSink, StdSource};
 use tiered_call::{OpenGate, Status, explained, folder, printed, script_source, tiered};
 
 /// Collects the words after the program's name. A word that isn't text has no form.
@@ -52,15 +55,19 @@ fn main(rt: HostRuntime) -> ExitCode {
         Ok(yard) => yard,
         Err(_) => return told(&rt, Status::NoMemory, &[]),
     };
-    let status = tiered(
-        &rt,
-        words.as_slice(),
-        &mut script,
-        &mut yard,
-        &mut out,
-        &OpenGate,
-    );
+    let status = carry_out(&rt, words.as_slice(), &mut script, &mut yard, &mut out);
     told(&rt, status, script.kept())
+}
+
+/// Does what the words ask for. Its contract says nothing, so that `main` is proved without the clauses of `tiered`.
+fn carry_out<H: AllocGlobal + Threads + Wait + Sync, R: Source, Y: Yard, W: Sink>(
+    rt: &H,
+    words: &[String],
+    script: &mut R,
+    yard: &mut Y,
+    out: &mut W,
+) -> Status {
+    tiered(rt, words, script, yard, out, &OpenGate)
 }
 
 /// Prints a status's line and what explains it to standard error, and gives the status's number.

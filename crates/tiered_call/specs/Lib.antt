@@ -7,3 +7,4 @@ pub mod Telling
 pub mod Endings
 pub mod Yards
 pub mod Rounds
+pub mod Forms

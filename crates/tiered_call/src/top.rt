@@ -7,6 +7,7 @@ ghost use Rattle.tiered_call.specs.Headline.{IsTraceOfScript, IsTraceByThreads};
 ghost use Rattle.tiered_call.specs.Endings.{Simulates, Generates};
 ghost use Rattle.tiered_call.specs.Rounds.{AuditsYard, SweepsYard};
 ghost use Rattle.tiered_call.specs.Yards.{IsOfScript, RunsInYard};
+ghost use Rattle.tiered_call.specs.Forms.{Does, DoesInOrder};
 
 use crate::by_threads::simulate_by_threads;
 use crate::load::generate;
@@ -77,10 +78,7 @@ pub fn tiered<H: AllocGlobal + Threads + Wait + Sync, R: Source, Y: Yard, W: Sin
     ensures usage { result ≡ Status.Usage ↔ (form_is words.now ≡ None) }
     ensures untouched { result ≡ Status.Usage → out.new ≡ out.old }
 {
-    match form_of(words) {
-        Some(Form::Threads) => simulate_by_threads(rt, script, out, gate),
-        _ => tiered_in_order(rt, words, script, yard, out),
-    }
+    carry_out(rt, words, script, yard, out, gate)
 }
 
 /// Does what the words ask for, without a thread or a lock, so that it returns. For this call `sim --threads` has no
@@ -116,6 +114,42 @@ pub fn tiered_in_order<H: AllocGlobal, R: Source, Y: Yard, W: Sink>(
     ensures unread { form_is words.now ≢ Some Form.Sim → form_is words.now ≢ Some Form.Run → script.new ≡ script.old }
     ensures usage { result ≡ Status.Usage ↔ ((form_is words.now ≡ None) ⊎ (form_is words.now ≡ Some Form.Threads)) }
     ensures untouched { result ≡ Status.Usage → out.new ≡ out.old }
+{
+    carry_out_in_order(rt, words, script, yard, out)
+}
+
+/// Does what the words ask for. The clauses of `tiered` follow from this one, which has a case for each form.
+fn carry_out<H: AllocGlobal + Threads + Wait + Sync, R: Source, Y: Yard, W: Sink, G: Gate + Sync>(
+    rt: &H,
+    words: &[String],
+    script: &mut R,
+    yard: &mut Y,
+    out: &mut W,
+    gate: &G,
+) -> Status
+    ensures { Does ⟦<MemoryDisk as Disk>⟧ ⟦<MemoryStore as Store>⟧ ⟦<MemoryLog as MetaLog>⟧ Y.D.Disk Y.S.Store
+        Y.M.MetaLog
+        Y.held Y.control R.Source W.Sink (form_is words.now) script.old script.new yard.old yard.new out.old out.new
+        result }
+{
+    match form_of(words) {
+        Some(Form::Threads) => simulate_by_threads(rt, script, out, gate),
+        _ => carry_out_in_order(rt, words, script, yard, out),
+    }
+}
+
+/// Does what the words ask for, without a thread or a lock.
+fn carry_out_in_order<H: AllocGlobal, R: Source, Y: Yard, W: Sink>(
+    rt: &H,
+    words: &[String],
+    script: &mut R,
+    yard: &mut Y,
+    out: &mut W,
+) -> Status
+    ensures { DoesInOrder ⟦<MemoryDisk as Disk>⟧ ⟦<MemoryStore as Store>⟧ ⟦<MemoryLog as MetaLog>⟧ Y.D.Disk Y.S.Store
+        Y.M.MetaLog
+        Y.held Y.control R.Source W.Sink (form_is words.now) script.old script.new yard.old yard.new out.old out.new
+        result }
 {
     match form_of(words) {
         None | Some(Form::Threads) => Status::Usage,
