@@ -85,7 +85,8 @@ fn asked<H: AllocGlobal + Wait, D: Disk, S: Store, M: MetaLog>(
     }
 }
 
-/// Makes what a turn wants. Without memory it is left to the turn.
+/// Makes what a turn wants. Without memory it is left to the turn, as a bundle is: its turn would compare all bytes of
+/// the segment to see that a bundle is of it, which takes longer than to make one.
 fn made<D: Disk, S: Store, M: MetaLog, G: Gate>(
     alloc: Global,
     gate: &G,
@@ -93,8 +94,9 @@ fn made<D: Disk, S: Store, M: MetaLog, G: Gate>(
     turn: u64,
     want: Want,
 ) -> Ready {
-    if let Want::Nothing = want {
-        return Ready::Nothing;
+    match want {
+        Want::Nothing | Want::Bundle { .. } => return Ready::Nothing,
+        Want::Check(_) => {}
     }
     gate.prepare(actor, turn);
     match World::<D, S, M>::prepare(alloc, want) {

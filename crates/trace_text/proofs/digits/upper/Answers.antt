@@ -1,6 +1,0 @@
-use Rattle.std.proofs.Common.{arith}
-use Rattle.trace_text.proofs.Pairs.{pair}
-use Rattle.trace_text.proofs.digits.upper.Goals as goal
-
-pub returns : goal.returns
-returns c = (pair c.args.byte (omega arith)).upper
