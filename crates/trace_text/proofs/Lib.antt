@@ -11,4 +11,4 @@ pub mod Lined
 pub mod Grown
 pub mod Whole
 pub mod OneTrace
-pub mod Pairs
+pub mod Weaving

@@ -7,3 +7,4 @@ pub mod Reading
 pub mod Read
 pub mod Steps
 pub mod Laws
+pub mod Letters

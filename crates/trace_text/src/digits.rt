@@ -1,67 +1,68 @@
-//! Bytes as text, eight at a time.
+//! Bytes as text, 64 at a time.
 //!
-//! Each byte's two digits are side by side in one table, so a byte is one lookup, and the text grows once for eight
-//! bytes. What is left after the last eight is written a digit at a time.
+//! A vector has 64 bytes. Its higher and its lower halves become digits side by side, and the two vectors of digits are
+//! woven into 128 characters. What is left after the last 64 bytes is written a digit at a time.
 
-ghost use Rattle.std.specs.Prelude.{◌≡◌, ◌++◌, ◌/◌, ◌%◌, OnOk, length, slice_index};
-ghost use Rattle.hex.specs.Hex.{lower_digits, encode_lower};
+ghost use Rattle.std.specs.Prelude.{◌≡◌, ◌++◌, ◌/◌, ◌%◌, OnOk, length, map};
+ghost use Rattle.hex.specs.Hex.{encode_lower};
+ghost use Rattle.trace_text.specs.Letters.{letter};
 
 use std::alloc::AllocError;
+use std::simd::prelude::*;
 
-/// The two digits of each byte.
-const PAIRS: [u8; 512] = *b"\
-    000102030405060708090a0b0c0d0e0f101112131415161718191a1b1c1d1e1f\
-    202122232425262728292a2b2c2d2e2f303132333435363738393a3b3c3d3e3f\
-    404142434445464748494a4b4c4d4e4f505152535455565758595a5b5c5d5e5f\
-    606162636465666768696a6b6c6d6e6f707172737475767778797a7b7c7d7e7f\
-    808182838485868788898a8b8c8d8e8f909192939495969798999a9b9c9d9e9f\
-    a0a1a2a3a4a5a6a7a8a9aaabacadaeafb0b1b2b3b4b5b6b7b8b9babbbcbdbebf\
-    c0c1c2c3c4c5c6c7c8c9cacbcccdcecfd0d1d2d3d4d5d6d7d8d9dadbdcdddedf\
-    e0e1e2e3e4e5e6e7e8e9eaebecedeeeff0f1f2f3f4f5f6f7f8f9fafbfcfdfeff";
+/// How many bytes a vector has.
+const LANES: usize = 64;
 
 /// The sixteen digits.
 const DIGITS: &[u8; 16] = b"0123456789abcdef";
 
-/// The higher digit of a byte.
+/// The higher half of each byte.
 #[inline(always)]
-fn upper(byte: u8) -> u8
-    ensures { result ≡ slice_index lower_digits (byte / 16) }
+fn uppers(bytes: u8x64) -> u8x64
+    requires { length bytes ≡ LANES }
+    ensures { result ≡ map (λ b. b / 16) bytes }
 {
-    PAIRS[byte as usize * 2]
+    bytes >> u8x64::splat(4)
 }
 
-/// The lower digit of a byte.
+/// The lower half of each byte.
 #[inline(always)]
-fn lower(byte: u8) -> u8
-    ensures { result ≡ slice_index lower_digits (byte % 16) }
+fn lowers(bytes: u8x64) -> u8x64
+    requires { length bytes ≡ LANES }
+    ensures { result ≡ map (λ b. b % 16) bytes }
 {
-    PAIRS[byte as usize * 2 + 1]
+    bytes & u8x64::splat(15)
 }
 
-/// The digits of eight bytes.
+/// The digit of each number.
 #[inline(always)]
-fn digits(bytes: &[u8]) -> [u8; 16]
-    requires { length bytes.now ≡ 8 }
-    ensures { result ≡ encode_lower bytes.now }
+fn letters(numbers: u8x64) -> u8x64
+    requires { length numbers ≡ LANES }
+    ensures { result ≡ map letter numbers }
 {
-    [
-        upper(bytes[0]),
-        lower(bytes[0]),
-        upper(bytes[1]),
-        lower(bytes[1]),
-        upper(bytes[2]),
-        lower(bytes[2]),
-        upper(bytes[3]),
-        lower(bytes[3]),
-        upper(bytes[4]),
-        lower(bytes[4]),
-        upper(bytes[5]),
-        lower(bytes[5]),
-        upper(bytes[6]),
-        lower(bytes[6]),
-        upper(bytes[7]),
-        lower(bytes[7]),
-    ]
+    let above = numbers.simd_gt(u8x64::splat(9));
+    numbers + above.select(u8x64::splat(87), u8x64::splat(48))
+}
+
+/// The digits of 64 bytes: those of the first half, and those of the second.
+#[inline(always)]
+fn digits(bytes: &[u8]) -> (u8x64, u8x64)
+    requires { length bytes.now ≡ LANES }
+    ensures { result.0 ++ result.1 ≡ encode_lower bytes.now }
+{
+    let bytes = u8x64::from_slice(bytes);
+    letters(uppers(bytes)).interleave(letters(lowers(bytes)))
+}
+
+/// Appends 64 bytes to a text, each as two digits.
+#[inline(always)]
+fn push_lanes(text: &mut Vec<u8>, bytes: &[u8]) -> Result<(), AllocError>
+    requires { length bytes.now ≡ LANES }
+    ensures { OnOk result (text.new.items ≡ text.old.items ++ encode_lower bytes.now) }
+{
+    let (front, behind) = digits(bytes);
+    text.extend_from_slice(front.as_array())?;
+    text.extend_from_slice(behind.as_array())
 }
 
 /// Appends bytes to a text, each as two digits.
@@ -69,9 +70,9 @@ pub fn push_hex(text: &mut Vec<u8>, bytes: &[u8]) -> Result<(), AllocError>
     ensures { OnOk result (text.new.items ≡ text.old.items ++ encode_lower bytes.now) }
 {
     let mut rest = bytes;
-    while rest.len() >= 8 {
-        let (eight, behind) = rest.split_at(8);
-        text.extend_from_slice(&digits(eight))?;
+    while rest.len() >= LANES {
+        let (front, behind) = rest.split_at(LANES);
+        push_lanes(text, front)?;
         rest = behind;
     }
     push_digits(text, rest)
