@@ -2,8 +2,9 @@
 //!
 //! `log_speed [PLACE [COUNT [VALUE [SEGMENT [READS [time]]]]]]` makes a log in `memory` or in the folder
 //! `log_speed.yard`. It appends COUNT batches of one record with VALUE bytes to segments of SEGMENT bytes, flushes
-//! after each hundred, reads at READS offsets in a mixed order, opens the log again, and prints a summary. With the
-//! word `time` a second line has the times of the calls. Without it the output is the same in every run.
+//! after each hundred, reads a batch at each of READS offsets in a mixed order and then all batches in order, 32 KiB at
+//! a time, opens the log again, and prints a summary. With the word `time` a second line has the times of the calls.
+//! Without it the output is the same in every run.
 #![tactic(auto)]
 
 ghost use Rattle.std.specs.Prelude.{◌≡◌, None, IsTrue};

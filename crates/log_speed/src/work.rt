@@ -4,11 +4,11 @@ ghost use Rattle.std.specs.Prelude.{◌≡◌, ◌≤◌, length, None, IsTrue};
 ghost use Rattle.tier_base.specs.declared.plain.FileName.{FileName};
 ghost use Rattle.local_log.specs.Log.{AreSettings};
 
-use crate::spent::Times;
+use crate::spent::{Spent, Times};
 use crate::task::Task;
 use anyhow::{Result, bail};
 use disk_model::Disk;
-use local_log::LocalLog;
+use local_log::{LocalLog, RunOut};
 use record_batch::{Rec, build, stamp};
 use std::alloc::Global;
 use std::fmt;
@@ -18,6 +18,9 @@ use tier_base::{Blob, Items, Settings};
 
 /// How many appends go before a flush.
 const EVERY: u32 = 100;
+
+/// How many bytes a read in order is at most, unless the first batch alone has more.
+const BLOCK: u64 = 32_768;
 
 /// What came of the calls: the size of a batch, the end of the log and its closed segments, the bytes that were read,
 /// and the end and the incarnation of the log that was opened again.
@@ -118,25 +121,26 @@ fn fill<D: Disk>(
     flush(rt, log, times)
 }
 
-/// Reads the batch at an offset, and returns how many bytes it has.
+/// Reads the run at an offset that fits into so many bytes.
 fn read<D: Disk>(
     rt: &impl Clock,
     log: &mut LocalLog<D>,
     offset: u64,
-    times: &mut Times,
-) -> Result<u64> {
+    limit: u64,
+    spent: &mut Spent,
+) -> Result<RunOut> {
     let mark = log.stable();
     if log.is_broken() || offset < log.local_start() || mark <= offset {
         bail!("the log has no such offset");
     }
     let start = Instant::now(rt)?;
-    let run = log.read_run(offset, 1, mark)?;
-    times.reads.note(rt, start)?;
-    Ok(run.bytes.len() as u64)
+    let run = log.read_run(offset, limit, mark)?;
+    spent.note(rt, start)?;
+    Ok(run)
 }
 
-/// Reads at offsets in no order, the same in each run, and returns how many bytes that gave.
-fn read_all<D: Disk>(
+/// Reads batches at offsets in no order, the same in each run, and returns how many bytes that gave.
+fn read_mixed<D: Disk>(
     rt: &impl Clock,
     log: &mut LocalLog<D>,
     reads: u32,
@@ -149,7 +153,28 @@ fn read_all<D: Disk>(
         state = state
             .wrapping_mul(6_364_136_223_846_793_005)
             .wrapping_add(1_442_695_040_888_963_407);
-        bytes = bytes.saturating_add(read(rt, log, (state >> 20) % count, times)?);
+        let run = read(rt, log, (state >> 20) % count, 1, &mut times.reads)?;
+        bytes = bytes.saturating_add(run.bytes.len() as u64);
+    }
+    Ok(bytes)
+}
+
+/// Reads all batches in order, and returns how many bytes that gave.
+fn read_in_order<D: Disk>(
+    rt: &impl Clock,
+    log: &mut LocalLog<D>,
+    times: &mut Times,
+) -> Result<u64> {
+    let end = log.stable();
+    let mut offset = log.local_start();
+    let mut bytes = 0u64;
+    for _ in offset..end {
+        if offset >= end {
+            break;
+        }
+        let run = read(rt, log, offset, BLOCK, &mut times.in_order)?;
+        bytes = bytes.saturating_add(run.bytes.len() as u64);
+        offset = run.next;
     }
     Ok(bytes)
 }
@@ -186,7 +211,9 @@ pub fn measure<D: Disk>(rt: &impl Clock, alloc: Global, disk: D, task: &Task) ->
     fill(rt, &mut log, batch.as_mut_slice(), task.count, &mut times)?;
     let end = log.end();
     let closed = log.closed().len();
-    let read = read_all(rt, &mut log, task.reads, &mut times)?;
+    let read = read_mixed(rt, &mut log, task.reads, &mut times)?.saturating_add(read_in_order(
+        rt, &mut log, &mut times,
+    )?);
     let log = reopen(rt, alloc, log, task.segment, &mut times)?;
     let found = Found {
         size: batch.len(),
