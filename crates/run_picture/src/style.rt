@@ -3,8 +3,7 @@
 /// Colours, light and dark. Those of leader epochs are Okabe and Ito's, which the colour-blind can distinguish.
 pub const STYLE: &str =
     ":root { color-scheme: light dark; --ink: #1f2328; --paper: #ffffff; --lane: #f4f5f7; --faint: #656d76; --line: #c9ced6; --bad: #b3261e }
-@media (prefers-color-scheme: dark) { :root
-  { --ink: #e6edf3; --paper: #16181c; --lane: #23272e; --faint: #9aa4af; --line: #4a525c; --bad: #ff8a75 } }
+@media (prefers-color-scheme: dark) { :root { --ink: #e6edf3; --paper: #16181c; --lane: #23272e; --faint: #9aa4af; --line: #4a525c; --bad: #ff8a75 } }
 svg text { fill: var(--ink); font: 12px system-ui, sans-serif }
 svg .paper { fill: var(--paper) }
 svg .lane { fill: var(--lane); stroke: var(--line) }

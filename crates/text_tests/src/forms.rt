@@ -73,11 +73,10 @@ static FORMS: [(&str, &str); 35] = [
     (
         "0 0 0 append 0005,x6bfF,-,:h=-,x=:v.1 6,-,:",
         "\
-        Append(Items { items: [Rec { ts: 5, key: Some(Blob { bytes: [107, 255] }), value: None,
-          headers: Items { items: \
-        [Header { key: Blob { bytes: [104] }, value: None }, Header { key: Blob { bytes: [] }, value: Some(Blob { \
-        bytes: [118, 46, 49] }) }] } }, Rec { ts: 6, key: None, value: Some(Blob { bytes: [] }), headers: Row { \
-        items: [] } }] })",
+        Append(Items { items: [Rec { ts: 5, key: Some(Blob { bytes: [107, 255] }), value: None, headers: Items { \
+        items: [Header { key: Blob { bytes: [104] }, value: None }, Header { key: Blob { bytes: [] }, \
+        value: Some(Blob { bytes: [118, 46, 49] }) }] } }, Rec { ts: 6, key: None, \
+        value: Some(Blob { bytes: [] }), headers: Items { items: [] } }] })",
     ),
 ];
 
