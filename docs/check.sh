@@ -29,6 +29,7 @@ check() {
 
 check docs/layers.py check
 check docs/decisions.py check
+check docs/refusals.py check
 check docs/snippets.py check ${program[@]+"${program[@]}"}
 check examples/view.py check ${program[@]+"${program[@]}"}
 check examples/pictures.py check

@@ -100,7 +100,7 @@ begin_to w a g w' p t x s st at row =
       state = with_actor n y q;
       actor = y;
       step_is = begin_steps p t.order n t.actor_state.number (broker_of x) k.broker s (record { actor = t.list.actor; number = t.actor_state.number; event = event_of (Begins g) t.order.command }) k.cut
-          (broker_at w.partition_state p b x st.partition_state st.at) st.replica at refl refl k.event k.is
+          (broker_at w.partition_state p b x st.partition_state st.at) st.replica at refl refl k.event k.free k.is
           ∙ ap (λ (m : PlainSnapshot). Some (with_actor n (record { number = t.actor_state.number; snapshot = Some m }) q)) recorded;
       partition_state = record { registry = k.registry; brokers = k.brokers };
       lines = λ safe. k.lines (λ c z is. (safe.brokers c z is).log);

@@ -1,5 +1,5 @@
 -- The row of a follow's second turn is the plain log's.
-use Rattle.std.proofs.Common.{◌≡◌, ◌≢◌, ◌⊎◌, inl, inr, ◌∙◌, sym, ap, subst, refl, ℕ, ◌+◌, ◌^◌, ◌<◌, ◌≤◌, nat_lt, List, [], ◌∷◌, ◌++◌, length, drop, slice_set, Some, None, Option, true, ◌&&◌, arith, append_assoc, length-append}
+use Rattle.std.proofs.Common.{◌≡◌, ◌≢◌, ◌⊎◌, inl, inr, ◌∙◌, sym, ap, subst, refl, ℕ, ◌+◌, ◌^◌, ◌<◌, ◌≤◌, nat_lt, List, [], ◌∷◌, ◌++◌, length, drop, slice_set, Some, None, Option, true, ◌&&◌, arith, append_assoc, length-append, not, ◌==◌}
 use Rattle.std.specs.Prelude.{option_map, IsSome}
 use Rattle.std.proofs.lemmas.Bool.{cases_lt}
 use Rattle.std.proofs.lemmas.Bool.Decides.{nat_tests}
@@ -24,8 +24,7 @@ use Rattle.plain_log.specs.declared.state.Role.TheVariants.{Joined}
 use Rattle.plain_log.specs.State.{path_of, put_broker, breaks, followed, joined}
 use Rattle.plain_log.specs.Ends.{is_end}
 use Rattle.plain_log.specs.Fetch.{is_within}
-use Rattle.plain_log.specs.RowsOfFollowers.{goes_on, extended as extended_broker, copied}
-use Rattle.plain_log.specs.Step.{begins}
+use Rattle.plain_log.specs.RowsOfFollowers.{ends_as, extended as extended_broker, copied}
 use Rattle.plain_log.specs.Safe.{RoleSafe, HasJoined}
 use Rattle.plain_log.proofs.Ends.{log_prefix}
 use Rattle.plain_log.proofs.Grows.{log_rises}
@@ -33,21 +32,23 @@ use Rattle.laws_partition.specs.declared.start_snapshot.StartSnapshot.{StartSnap
 use Rattle.laws_partition.specs.Seen.{Node, SeenPartition}
 use Rattle.laws_partition.specs.Partition.{broker_of, recorded_of}
 use Rattle.laws_partition.specs.Log.{MayTakeEpoch, epoch_in}
-use Rattle.laws_partition.specs.Central.{PartitionMatches, RunStands}
+use Rattle.laws_partition.specs.Central.{RunStands}
 use Rattle.laws_partition.specs.RowsOfFollowers.{IsStale, CanExtend, GoesOn, extended, Extends, FollowOnRow}
 use Rattle.laws_partition.proofs.Lines.{consecutive_back, line_last}
 use Rattle.laws_partition.proofs.Meets.{last_batch}
 use Rattle.laws_partition.proofs.BoolTests.{some_of, and_true, not_false, when_true, eq_same, eq_differs, le_true, lt_true}
 use Rattle.laws_partition.proofs.Parts.{joined_append}
-use Rattle.laws_partition.proofs.NodeLaw.{joined_up, node_extended}
+use Rattle.laws_partition.proofs.NodeLaw.{node_extended}
 use Rattle.laws_partition.proofs.Standing.{Standing, Allowed, silent, put, broker_at, wider_self, keeps_self, line_taken}
 use Rattle.laws_partition.proofs.BreakRows.{flushed_end_breaks}
-use Rattle.laws_partition.proofs.FollowRows.{stale_true, stale_false, IsNow, now, epoch_same}
+use Rattle.laws_partition.proofs.FollowRows.{IsNow, now}
+use Rattle.laws_partition.proofs.Refusing.{refuses, does, stale_some, follows_on, follows_stale, follows_halted}
 
 -- what holds of a follow that has begun
 pub record Going (p : State) (x : Node) (limit : ℕ) (order : Order) (g : StartSnapshot) : Type 0 where
   pub run : RunStands p.paths limit g
   pub recorded : HasJoined p.registry.epoch (recorded_of order g) (broker_of x)
+  pub up : g.stops ≡ x.stops → x.up ≡ true
 
 -- a run has a first batch
 first_of : (limit : ℕ) (batches : List (List ℕ)) → is_within limit batches ≡ true → (b : List ℕ) × (more : List (List ℕ)) × (batches ≡ b ∷ more)
@@ -167,9 +168,13 @@ within_front limit (b ∷ c ∷ more) rest some w =
     let all : length (joined_bytes (front ++ rest)) ≤ limit = grind (arith, nat_tests, w) in
     le_true (length (joined_bytes front)) limit (omega (arith, size, all))
 
-pub goes_true : (h : SeenPartition) (p : State) (x : Node) (order : Order) (g : StartSnapshot) → PartitionMatches h p → GoesOn h x g → g.end ≡ end_of x.log.batches → goes_on p (broker_of x) (recorded_of order g) ≡ true
-goes_true h p x order g st on end =
-    and_true _ _ (and_true _ _ (eq_same g.stops x.stops on.0) (not_false _ (stale_false h p (followed g.role) st on.1))) (eq_same (end_of x.log.batches) g.end (sym end))
+pub goes_true : (x : Node) (order : Order) (g : StartSnapshot) → g.end ≡ end_of x.log.batches → ends_as (broker_of x) (recorded_of order g) ≡ true
+goes_true x order g end = eq_same (end_of x.log.batches) g.end (sym end)
+
+-- one that ends otherwise
+pub goes_false : (x : Node) (order : Order) (g : StartSnapshot) (n : ℕ) → n ≡ end_of x.log.batches → n ≢ g.end → (not (ends_as (broker_of x) (recorded_of order g)) && (n == end_of x.log.batches)) ≡ true
+goes_false x order g n is differs =
+    and_true _ _ (not_false _ (eq_differs (end_of x.log.batches) g.end (λ e. differs (is ∙ e)))) (eq_same n (end_of x.log.batches) is)
 
 copy_on : (h : SeenPartition) (p : State) (b : ℕ) (x : Node) (s : Replica) (limit : ℕ) (order : Order) (g : StartSnapshot) (n e : ℕ) (h' : SeenPartition) → Standing h p b x s → Going p x limit order g
     → GoesOn h x g → CanExtend x g → epoch_in g.batches ≡ Some e → Extends h b x g n e h' → Allowed p b x s (Some (recorded_of order g)) (Follow limit) (Copied n) h'
@@ -191,10 +196,11 @@ copy_on h p b x s limit order g n e h' st k on can first w =
     let fits : is_within limit w.front ≡ true = within_front limit w.front w.rest w.some (ap (is_within limit) (sym w.parts) ∙ k.run.within) in
     let within : is_within limit (drop (length x.log.batches) (up_to n o.path)) ≡ true =
     ap (λ (w : List (List ℕ)). is_within limit (drop (length x.log.batches) w)) up ∙ (ap (is_within limit) (drop_append x.log.batches w.front) ∙ fits) in
-    let is : copied p bx (recorded_of order g) limit n ≡ Some z = rw to (when_true _ z (and_true _ _ (goes_true h p x order g st.partition_state on can.end) within)) in
+    let is : copied p bx (recorded_of order g) limit n ≡ Some z = rw to (when_true _ z (and_true _ _ (goes_true x order g can.end) within)) in
     let line = st.lines.each b x st.at in
     let node = node_extended x g w.front w.rest e line.sound can first w.parts w.some in
-    put h p (put_broker p b z) b x (extended x w.front e) s (Some (recorded_of order g)) (Follow limit) (Copied n) h' st (ap (option_map (put_broker p b)) is) (record {
+    put h p (put_broker p b z) b x (extended x w.front e) s (Some (recorded_of order g)) (Follow limit) (Copied n) h' st
+    (does p b bx s (Some (recorded_of order g)) (Follow limit) (Copied n) (put_broker p b z) (follows_on h p b x order g st.partition_state (k.up on.0) on) (ap (option_map (put_broker p b)) is)) (record {
       registry = refl;
       brokers = ap (λ (w : List (List ℕ)). slice_set p.brokers b (record bx { log = w })) up;
       actors = refl;
@@ -214,21 +220,25 @@ copy_on h p b x s limit order g n e h' st k on can first w =
 pub follow_on_allowed : (h : SeenPartition) (p : State) (b : ℕ) (x : Node) (s : Replica) (limit : ℕ) (order : Order) (g : StartSnapshot) (answer : Answer) (h' : SeenPartition) → Standing h p b x s
     → Going p x limit order g → FollowOnRow h b x g answer h' → Allowed p b x s (Some (recorded_of order g)) (Follow limit) answer h'
 follow_on_allowed h p b x s limit order g Stopped h' st k w =
-    silent h p b x s (Some (recorded_of order g)) (Follow limit) Stopped h' st (when_true _ p (not_false _ (eq_differs g.stops x.stops w.0))) w.1
+    silent h p b x s (Some (recorded_of order g)) (Follow limit) Stopped h' st
+    (refuses p b (broker_of x) s (Some (recorded_of order g)) (Follow limit) Stopped Stopped (follows_halted p b x order g w.0) refl) w.1
 follow_on_allowed h p b x s limit order g (StaleEpoch n) h' st k w =
+    let t = stale_some h p (followed g.role) n st.partition_state w.1 w.2 in
     silent h p b x s (Some (recorded_of order g)) (Follow limit) (StaleEpoch n) h' st
-    (when_true _ p (and_true _ _ (and_true _ _ (eq_same g.stops x.stops w.0) (stale_true h p (followed g.role) st.partition_state w.1)) (eq_same _ _ (epoch_same h p n st.partition_state w.2)))) w.3
+    (refuses p b (broker_of x) s (Some (recorded_of order g)) (Follow limit) (StaleEpoch n) t.0 (follows_stale h p b x order g t.0 (k.up w.0) w.0 t.1) t.2) w.3
 follow_on_allowed h p b x s limit order g (Passed n) h' st k w =
     let differs : n ≢ g.end = λ e. w.2 (can_extend h p b x s limit order g st k w.0 (sym e ∙ w.1)) in
     silent h p b x s (Some (recorded_of order g)) (Follow limit) (Passed n) h' st
-    (when_true _ p (and_true _ _ (and_true _ _ (and_true _ _ (eq_same g.stops x.stops w.0.0) (not_false _ (stale_false h p (followed g.role) st.partition_state w.0.1))) (eq_same _ _ w.1))
-    (not_false _ (eq_differs n g.end differs)))) w.3
+    (does p b (broker_of x) s (Some (recorded_of order g)) (Follow limit) (Passed n) p (follows_on h p b x order g st.partition_state (k.up w.0.0) w.0)
+    (when_true _ p (goes_false x order g n w.1 differs))) w.3
 follow_on_allowed h p b x s limit order g TooManySegments h' st k w =
-    silent h p b x s (Some (recorded_of order g)) (Follow limit) TooManySegments h' st (when_true _ p (goes_true h p x order g st.partition_state w.0 w.1.end)) w.2
+    silent h p b x s (Some (recorded_of order g)) (Follow limit) TooManySegments h' st
+    (does p b (broker_of x) s (Some (recorded_of order g)) (Follow limit) TooManySegments p (follows_on h p b x order g st.partition_state (k.up w.0.0) w.0)
+    (when_true _ p (goes_true x order g w.1.end))) w.2
 follow_on_allowed h p b x s limit order g DiskFault h' st k w =
-    let up = joined_up x (st.lines.each b x st.at).sound w.1.joined in
     flushed_end_breaks h p b x s (Some (recorded_of order g)) (Follow limit) DiskFault h' st
-    (when_true _ (breaks p b (broker_of x)) (and_true _ _ (goes_true h p x order g st.partition_state w.0 w.1.end) up)) w.2
+    (does p b (broker_of x) s (Some (recorded_of order g)) (Follow limit) DiskFault (breaks p b (broker_of x)) (follows_on h p b x order g st.partition_state (k.up w.0.0) w.0)
+    (when_true _ (breaks p b (broker_of x)) (goes_true x order g w.1.end))) w.2
 follow_on_allowed h p b x s limit order g (Copied n) h' st k w =
     let e = some_of _ (epoch_in g.batches) w.2 in
     copy_on h p b x s limit order g n e.0 h' st k w.0 w.1 e.1 e.2

@@ -1,6 +1,6 @@
 -- The rows of a follower, which joins a leader's log and copies from it, are the plain log's.
-use Rattle.std.proofs.Common.{◌≡◌, ◌≢◌, inl, inr, ◌∙◌, sym, ap, subst, refl, ℕ, zero, suc, ◌≤◌, ◌==◌, nat_lt, List, [], ◌∷◌, ◌++◌, slice_get, slice_set, Some, None, Option, Bool, true, false, ◌&&◌, min, arith, append_assoc}
-use Rattle.std.specs.Prelude.{is_some, map, option_map}
+use Rattle.std.proofs.Common.{◌≡◌, ◌≢◌, inl, inr, ◌∙◌, sym, ap, subst, refl, ℕ, zero, suc, ◌≤◌, nat_lt, List, [], ◌∷◌, ◌++◌, slice_get, slice_set, Some, None, Option, Bool, true, false, ◌&&◌, min, arith, append_assoc, ◌<◌}
+use Rattle.std.specs.Prelude.{map, option_map}
 use Rattle.std.specs.Option.{option_and_then}
 use Rattle.std.proofs.lemmas.Bool.{cases_lt}
 use mathlib.Core.List.{IsPrefix}
@@ -21,9 +21,11 @@ use Rattle.plain_log.specs.declared.state.State.{State}
 use Rattle.plain_log.specs.declared.state.Broker.{Broker}
 use Rattle.plain_log.specs.declared.state.Role.{Role}
 use Rattle.plain_log.specs.declared.state.Role.TheVariants.{Idle, Leads, Follows, Joined}
-use Rattle.plain_log.specs.State.{path_of, put_broker, breaks, stopped as stopped_broker, followed, joined, leads_in, is_stale, the_leader as leader_of, leader_leads}
+use Rattle.plain_log.specs.State.{path_of, put_broker, breaks, stopped as stopped_broker, followed, joined, leads_in, facts_of, leader_facts}
 use Rattle.plain_log.specs.Ends.{common}
-use Rattle.plain_log.specs.RowsOfFollowers.{is_current, may_join, cut_to, leader_end, may_follow}
+use Rattle.plain_log.specs.RowsOfFollowers.{cut_to, leader_end}
+use Rattle.plain_log.specs.Rows.{refusal_at}
+use Rattle.plain_log.specs.Refusals.{down, not_follower, not_joined, stale, no_leader, level, first_of}
 use Rattle.plain_log.specs.Step.{begins}
 use Rattle.plain_log.specs.Safe.{RoleSafe}
 use Rattle.plain_log.proofs.AppendRow.{leads_in_is}
@@ -33,9 +35,10 @@ use Rattle.laws_partition.specs.Seen.{Back, Node, SeenPartition}
 use Rattle.laws_partition.specs.Partition.{broker_of, put_node, back_of, torn, the_leader}
 use Rattle.laws_partition.specs.Central.{PartitionMatches, WereElected, RunStands, RebuildMatches}
 use Rattle.laws_partition.specs.Sound.{NodeSound}
-use Rattle.laws_partition.specs.RowsOfFollowers.{IsStale, IsCurrent, IsMeet, cut_node, cut_back, JoinRow, FollowRow}
+use Rattle.laws_partition.specs.RowsOfFollowers.{IsCurrent, IsMeet, cut_node, cut_back, JoinRow, FollowRow}
 use Rattle.laws_partition.proofs.Meets.{meet_common}
-use Rattle.laws_partition.proofs.BoolTests.{some_of, and_true, not_false, when_true, eq_same, eq_differs, le_true, lt_true, lt_false}
+use Rattle.laws_partition.proofs.BoolTests.{some_of, and_true, when_true, eq_same, le_true, le_false, lt_true, lt_false}
+use Rattle.laws_partition.proofs.Refusing.{refuses, does, fails, skips, stale_some, stale_none}
 use Rattle.laws_partition.proofs.NodeLaw.{joined_is, none_back, node_cut, torn_below, torn_above, node_torn}
 use Rattle.laws_partition.proofs.Standing.{Standing, Allowed, Puts, silent, put, broker_at, wider_self, keeps_self, followed_below}
 use Rattle.laws_partition.proofs.OwnRows.{filter_taken}
@@ -48,34 +51,30 @@ get_map f (x ∷ xs) zero = refl
 get_map f (x ∷ xs) (suc i) = get_map f xs i
 
 -- the nodes' leader is the plain log's
-leader_as : (h : SeenPartition) (p : State) → PartitionMatches h p → leader_of p ≡ option_map broker_of (the_leader h)
+leader_as : (h : SeenPartition) (p : State) → PartitionMatches h p → leader_facts p ≡ option_map (λ (y : Node). facts_of h.registry.leader.0 (broker_of y)) (slice_get h.nodes h.registry.leader.0)
 leader_as h p st =
-    ap (λ (r : Registry). option_and_then (λ (y : Broker). when (y.up && leads_in r.epoch y.role) y) (slice_get p.brokers r.leader.0)) st.registry
-    ∙ (ap (λ (bs : List Broker). option_and_then (λ (y : Broker). when (y.up && leads_in h.registry.epoch y.role) y) (slice_get bs h.registry.leader.0)) st.brokers
-    ∙ (ap (λ (o : Option Broker). option_and_then (λ (y : Broker). when (y.up && leads_in h.registry.epoch y.role) y) o) (get_map broker_of h.nodes h.registry.leader.0)
+    ap (λ (r : Registry). option_map (facts_of r.leader.0) (slice_get p.brokers r.leader.0)) st.registry
+    ∙ (ap (λ (bs : List Broker). option_map (facts_of h.registry.leader.0) (slice_get bs h.registry.leader.0)) st.brokers
+    ∙ (ap (λ (o : Option Broker). option_map (facts_of h.registry.leader.0) o) (get_map broker_of h.nodes h.registry.leader.0)
     ∙ go (slice_get h.nodes h.registry.leader.0)))
   where
-    by : (t : Bool) (y : Node) → when t (broker_of y) ≡ option_map broker_of (when t y)
-    by true y = refl
-    by false y = refl
-
-    go : (o : Option Node) → option_and_then (λ (y : Broker). when (y.up && leads_in h.registry.epoch y.role) y) (option_map broker_of o)
-        ≡ option_map broker_of (option_and_then (λ (y : Node). when (y.up && leads_in h.registry.epoch y.role) y) o)
+    go : (o : Option Node) → option_map (facts_of h.registry.leader.0) (option_map broker_of o) ≡ option_map (λ (y : Node). facts_of h.registry.leader.0 (broker_of y)) o
     go None = refl
-    go (Some y) = by (y.up && leads_in h.registry.epoch y.role) y
+    go (Some y) = refl
 
 -- what there is to the leader
 pub record IsLeading (h : SeenPartition) (p : State) (y : Node) : Type 0 where
   pub at : slice_get h.nodes h.registry.leader.0 ≡ Some y
+  pub up : y.up ≡ true
   pub leads : y.role ≡ Leads h.registry.epoch
   pub path : path_of p.paths p.registry.epoch ≡ Some y.log.batches
-  pub is : leader_of p ≡ Some (broker_of y)
+  pub is : leader_facts p ≡ Some (facts_of h.registry.leader.0 (broker_of y))
 
 pub leading : (h : SeenPartition) (p : State) (b : ℕ) (x : Node) (s : Replica) (y : Node) → Standing h p b x s → the_leader h ≡ Some y → IsLeading h p y
 leading h p b x s y st e = go (slice_get h.nodes h.registry.leader.0) refl
   where
-    both_of : (a c : Bool) (z : Node) → when (a && c) z ≡ Some y → (c ≡ true) × (z ≡ y)
-    both_of true true z w = (refl, cc)
+    both_of : (a c : Bool) (z : Node) → when (a && c) z ≡ Some y → (c ≡ true) × (z ≡ y) × (a ≡ true)
+    both_of true true z w = (refl, cc, refl)
     both_of true false z w = absurd cc
     both_of false c z w = absurd cc
 
@@ -91,33 +90,34 @@ leading h p b x s y st e = go (slice_get h.nodes h.registry.leader.0) refl
         let w : when (z.up && leads_in h.registry.epoch z.role) z ≡ Some y = ap (λ (o : Option Node). option_and_then (λ (y : Node). when (y.up && leads_in h.registry.epoch y.role) y) o) (sym is) ∙ e in
         let k = both_of z.up (leads_in h.registry.epoch z.role) z w in
         let at : slice_get h.nodes h.registry.leader.0 ≡ Some y = is ∙ ap (λ (n : Node). Some n) k.1 in
+        let up : y.up ≡ true = ap (λ (n : Node). n.up) (sym k.1) ∙ k.2 in
         let role : y.role ≡ Leads h.registry.epoch = ap (λ (n : Node). n.role) (sym k.1) ∙ leads_in_is h.registry.epoch z.role k.0 in
-        record { at = at; leads = role; path = role_of y at role; is = leader_as h p st.partition_state ∙ ap (option_map broker_of) e }
+        record {
+          at = at;
+          up = up;
+          leads = role;
+          path = role_of y at role;
+          is = leader_as h p st.partition_state ∙ ap (option_map (λ (n : Node). facts_of h.registry.leader.0 (broker_of n))) at;
+        }
 
-leader_none : (h : SeenPartition) (p : State) → PartitionMatches h p → the_leader h ≡ None → leader_leads p ≡ false
-leader_none h p st none = ap is_some (leader_as h p st ∙ ap (option_map broker_of) none)
+leader_none : (h : SeenPartition) (p : State) → PartitionMatches h p → the_leader h ≡ None → no_leader p.registry (leader_facts p) ≡ Some NoLeader
+leader_none h p st none = go (slice_get h.nodes h.registry.leader.0) refl
+  where
+    off : (t : Bool) (y : Node) → when t y ≡ None → t ≡ false
+    off true y e = absurd cc
+    off false y e = refl
 
-leader_some : (h : SeenPartition) (p : State) (y : Node) → IsLeading h p y → leader_leads p ≡ true
-leader_some h p y l = ap is_some l.is
+    go : (o : Option Node) → slice_get h.nodes h.registry.leader.0 ≡ o → no_leader p.registry (leader_facts p) ≡ Some NoLeader
+    go None is = rw (leader_as h p st, is) refl
+    go (Some y) is =
+        let gone : when (y.up && leads_in h.registry.epoch y.role) y ≡ None = ap (λ (o : Option Node). option_and_then (λ (y : Node). when (y.up && leads_in h.registry.epoch y.role) y) o) (sym is) ∙ none in
+        let test : (y.up && leads_in p.registry.epoch y.role) ≡ false = ap (λ (r : Registry). y.up && leads_in r.epoch y.role) st.registry ∙ off (y.up && leads_in h.registry.epoch y.role) y gone in
+        rw (leader_as h p st, is, test) refl
 
--- stale and fresh epochs
-
-pub stale_true : (h : SeenPartition) (p : State) (o : Option ℕ) → PartitionMatches h p → IsStale h o → is_stale p o ≡ true
-stale_true h p o st w =
-    let e = some_of _ o w in
-    rw e.1 (lt_true e.0 p.registry.epoch (omega (arith, e.2, ap (λ (r : Registry). r.epoch) st.registry)))
-
-pub stale_false : (h : SeenPartition) (p : State) (o : Option ℕ) → PartitionMatches h p → (IsStale h o → ⊥) → is_stale p o ≡ false
-stale_false h p None st new = refl
-stale_false h p (Some e) st new = elim (cases_lt e h.registry.epoch) [
-  | inl less ↦ absurd (new less)
-  | inr more ↦ lt_false e p.registry.epoch (omega (arith, more, ap (λ (r : Registry). r.epoch) st.registry))
-]
-
-current_true : (h : SeenPartition) (p : State) (x : Node) (o : Option ℕ) → PartitionMatches h p → x.up ≡ true → IsCurrent h o → is_current p (broker_of x) o ≡ true
-current_true h p x o st up w =
-    let e = some_of _ o w in
-    and_true _ _ (and_true _ _ up (rw e.1 refl)) (rw e.1 (rw (lt_false e.0 p.registry.epoch (omega (arith, e.2, ap (λ (r : Registry). r.epoch) st.registry))) refl))
+leader_some : (h : SeenPartition) (p : State) (y : Node) → PartitionMatches h p → IsLeading h p y → no_leader p.registry (leader_facts p) ≡ None
+leader_some h p y st l =
+    let now : leads_in p.registry.epoch y.role ≡ true = rw l.leads (eq_same h.registry.epoch p.registry.epoch (ap (λ (r : Registry). r.epoch) (sym st.registry))) in
+    rw (l.is, l.up, now) refl
 
 pub epoch_same : (h : SeenPartition) (p : State) (n : ℕ) → PartitionMatches h p → n ≡ h.registry.epoch → n ≡ p.registry.epoch
 epoch_same h p n st is = is ∙ ap (λ (r : Registry). r.epoch) (sym st.registry)
@@ -171,6 +171,18 @@ pub record Cuts (h : SeenPartition) (p : State) (b : ℕ) (x : Node) (e m n : �
   pub is : log ≡ up_to m x.log.batches
   pub other : h.registry.leader.0 ≢ b
   pub to : cut_to p (broker_of x) n ≡ Some (record (broker_of x) { role = Joined e; log = log; flushed_end = n; known_high_watermark = min x.known_high_watermark n })
+  pub free : refusal_at p b (broker_of x) None Join ≡ None
+
+-- a join isn't refused
+may_join : (h : SeenPartition) (p : State) (b : ℕ) (x y : Node) (e : ℕ) → PartitionMatches h p → IsLeading h p y → x.up ≡ true → followed x.role ≡ Some e → h.registry.epoch ≤ e
+    → refusal_at p b (broker_of x) None Join ≡ None
+may_join h p b x y e st l up is le =
+    let f = facts_of b (broker_of x) in
+    let r = p.registry in
+    skips (down f) (not_follower f ∷ stale r (followed x.role) ∷ no_leader r (leader_facts p) ∷ []) None (rw up refl)
+    (skips (not_follower f) (stale r (followed x.role) ∷ no_leader r (leader_facts p) ∷ []) None (rw is refl)
+    (skips (stale r (followed x.role)) (no_leader r (leader_facts p) ∷ []) None (stale_none h p (followed x.role) st (rw is le))
+    (skips (no_leader r (leader_facts p)) [] None (leader_some h p y st l) refl)))
 
 cuts : (h : SeenPartition) (p : State) (b : ℕ) (x : Node) (s : Replica) (y : Node) (e m n : ℕ) → Standing h p b x s → IsLeading h p y → x.up ≡ true
     → followed x.role ≡ Some e → h.registry.epoch ≤ e → IsMeet x y m → n ≡ end_of (up_to m x.log.batches) → Cuts h p b x e m n
@@ -180,14 +192,12 @@ cuts h p b x s y e m n st l up is le w n_is =
     let bx = broker_of x in
     let path : path_of p.paths e ≡ Some y.log.batches = ap (path_of p.paths) k.plain ∙ l.path in
     let z : Broker = record bx { role = Joined e; log = common x.log.batches y.log.batches; flushed_end = n; known_high_watermark = min x.known_high_watermark n } in
-    let fresh : is_stale p (Some e) ≡ false = lt_false e p.registry.epoch (omega (arith, k.plain)) in
-    let joins : may_join p bx e ≡ true = and_true _ _ (and_true _ _ up (rw fresh refl)) (leader_some h p y l) in
-    let test : (may_join p bx e && (n == end_of (common x.log.batches y.log.batches))) ≡ true = and_true _ _ joins (eq_same _ _ (n_is ∙ ap end_of cut)) in
     record {
       log = common x.log.batches y.log.batches;
       is = sym cut;
       other = k.other;
-      to = rw (is, path) (when_true _ z test);
+      to = rw (is, path) (when_true _ z (eq_same _ _ (n_is ∙ ap end_of cut)));
+      free = may_join h p b x y e st.partition_state l up is le;
     }
 
 pub cut_puts : (h : SeenPartition) (p : State) (b : ℕ) (x : Node) (s : Replica) (e m n : ℕ) → Standing h p b x s → x.up ≡ true → (k : Cuts h p b x e m n) → n ≡ end_of (up_to m x.log.batches)
@@ -218,7 +228,8 @@ join_cut : (h : SeenPartition) (p : State) (b : ℕ) (x : Node) (s : Replica) (e
     → Cuts h p b x e m n → n ≡ end_of (up_to m x.log.batches) → h' ≡ put_node h b (cut_node x e m) → Allowed p b x s None Join (Cut n) h'
 join_cut h p b x s e m n h' st up k n_is same =
     let z : Broker = record (broker_of x) { role = Joined e; log = k.log; flushed_end = n; known_high_watermark = min x.known_high_watermark n } in
-    put h p (put_broker p b z) b x (cut_node x e m) s None Join (Cut n) h' st (ap (option_map (put_broker p b)) k.to) (cut_puts h p b x s e m n st up k n_is) same
+    put h p (put_broker p b z) b x (cut_node x e m) s None Join (Cut n) h' st
+    (does p b (broker_of x) s None Join (Cut n) (put_broker p b z) k.free (ap (option_map (put_broker p b)) k.to)) (cut_puts h p b x s e m n st up k n_is) same
 
 -- a cut that failed
 record TearsTo (p : State) (x y : Node) (n : ℕ) : Type 0 where
@@ -259,7 +270,7 @@ join_torn h p b x s e m n h' st k n_is same =
     let y = torn x (cut_back x m) in
     let t = tears_to p x (cut_back x m) l.paths_are l.saved_are (filter_taken p.paths p.broken x.log.line (end_of (up_to m x.log.batches)) l.paths_are) in
     let q = breaks p b (record bx { flushed_end = min x.flushed_end n }) in
-    put h p q b x y s None Join (DiskFaultAt n) h' st (ap (option_map (λ (z : Broker). q)) k.to) (record {
+    put h p q b x y s None Join (DiskFaultAt n) h' st (does p b bx s None Join (DiskFaultAt n) q k.free (ap (option_map (λ (z : Broker). q)) k.to)) (record {
       registry = refl;
       brokers = ap (λ (m : ℕ). slice_set p.brokers b (record (stopped_broker (record bx { flushed_end = min x.flushed_end m })) { loose = true })) n_is
           ∙ ap (λ (z : Broker). slice_set p.brokers b z) (sym t.is);
@@ -281,9 +292,23 @@ pub join_allowed : (h : SeenPartition) (p : State) (b : ℕ) (x : Node) (s : Rep
 join_allowed h p b x s Down h' st w = silent h p b x s None Join Down h' st (rw w.0 refl) w.1
 join_allowed h p b x s NotFollower h' st w = silent h p b x s None Join NotFollower h' st (rw (w.0, w.1) refl) w.2
 join_allowed h p b x s (StaleEpoch n) h' st w =
-    silent h p b x s None Join (StaleEpoch n) h' st (when_true _ p (and_true _ _ (and_true _ _ w.0 (stale_true h p (followed x.role) st.partition_state w.1)) (eq_same _ _ (epoch_same h p n st.partition_state w.2)))) w.3
+    let f = facts_of b (broker_of x) in
+    let e = some_of _ (followed x.role) w.1 in
+    let k = stale_some h p (followed x.role) n st.partition_state w.1 w.2 in
+    silent h p b x s None Join (StaleEpoch n) h' st
+    (refuses p b (broker_of x) s None Join (StaleEpoch n) k.0
+    (skips (down f) (not_follower f ∷ stale p.registry (followed x.role) ∷ no_leader p.registry (leader_facts p) ∷ []) (Some k.0) (rw w.0 refl)
+    (skips (not_follower f) (stale p.registry (followed x.role) ∷ no_leader p.registry (leader_facts p) ∷ []) (Some k.0) (rw e.1 refl)
+    (fails (stale p.registry (followed x.role)) (no_leader p.registry (leader_facts p) ∷ []) k.0 k.1))) k.2) w.3
 join_allowed h p b x s NoLeader h' st w =
-    silent h p b x s None Join NoLeader h' st (when_true _ p (and_true _ _ (current_true h p x (followed x.role) st.partition_state w.0 w.1) (not_false _ (leader_none h p st.partition_state w.2)))) w.3
+    let f = facts_of b (broker_of x) in
+    let o = current_of h (followed x.role) w.1 in
+    silent h p b x s None Join NoLeader h' st
+    (refuses p b (broker_of x) s None Join NoLeader NoLeader
+    (skips (down f) (not_follower f ∷ stale p.registry (followed x.role) ∷ no_leader p.registry (leader_facts p) ∷ []) (Some NoLeader) (rw w.0 refl)
+    (skips (not_follower f) (stale p.registry (followed x.role) ∷ no_leader p.registry (leader_facts p) ∷ []) (Some NoLeader) (rw o.1 refl)
+    (skips (stale p.registry (followed x.role)) (no_leader p.registry (leader_facts p) ∷ []) (Some NoLeader) (stale_none h p (followed x.role) st.partition_state w.1)
+    (fails (no_leader p.registry (leader_facts p)) [] NoLeader (leader_none h p st.partition_state w.2))))) refl) w.3
 join_allowed h p b x s (Cut n) h' st w =
     let y = some_of _ (the_leader h) w.2 in
     let o = current_of h (followed x.role) w.1 in
@@ -304,6 +329,7 @@ join_allowed h p b x s other h' st w = elim w [ ]
 pub record JoinStarts (h : SeenPartition) (p : State) (b : ℕ) (x : Node) (s : Replica) (g : StartSnapshot) (h' : SeenPartition) : Type 0 where
   pub broker : Broker
   pub node : Node
+  pub free : refusal_at p b (broker_of x) None Join ≡ None
   pub is : begins p (broker_of x) Join (Some g.end) ≡ Some broker
   pub stops : g.stops ≡ broker.stops
   pub role : g.role ≡ broker.role
@@ -329,6 +355,7 @@ join_starts h p b x s g h' st w =
     record {
       broker = z;
       node = cut_node x k.0 k.1;
+      free = cut.free;
       is = cut.to;
       stops = wants.stops;
       role = wants.role;
@@ -382,49 +409,79 @@ begins_leader h p b x s y e st l is le =
     subst (λ (w : List (List ℕ)). IsPrefix x.log.batches w) same has.2
 
 leader_ends : (h : SeenPartition) (p : State) (y : Node) → IsLeading h p y → leader_end p ≡ end_of y.log.batches
-leader_ends h p y l = rw l.is refl
+leader_ends h p y l = rw (l.is, l.up) refl
 
-follow_true : (h : SeenPartition) (p : State) (x y : Node) → PartitionMatches h p → IsLeading h p y → x.up ≡ true → IsCurrent h (joined x.role) → may_follow p (broker_of x) ≡ true
-follow_true h p x y st l up w = and_true _ _ (current_true h p x (joined x.role) st up w) (leader_some h p y l)
+-- a follow isn't refused before the two logs are compared
+follow_tests : (h : SeenPartition) (p : State) (b : ℕ) (x y : Node) (limit : ℕ) (why : Option Answer) → PartitionMatches h p → IsLeading h p y → x.up ≡ true → IsCurrent h (joined x.role)
+    → level (leader_facts p) (facts_of b (broker_of x)) ≡ why → refusal_at p b (broker_of x) None (Follow limit) ≡ why
+follow_tests h p b x y limit why st l up w is =
+    let f = facts_of b (broker_of x) in
+    let r = p.registry in
+    let o = current_of h (joined x.role) w in
+    skips (down f) (not_joined (joined x.role) ∷ stale r (joined x.role) ∷ no_leader r (leader_facts p) ∷ level (leader_facts p) f ∷ []) why (rw up refl)
+    (skips (not_joined (joined x.role)) (stale r (joined x.role) ∷ no_leader r (leader_facts p) ∷ level (leader_facts p) f ∷ []) why (rw o.1 refl)
+    (skips (stale r (joined x.role)) (no_leader r (leader_facts p) ∷ level (leader_facts p) f ∷ []) why (stale_none h p (joined x.role) st w)
+    (skips (no_leader r (leader_facts p)) (level (leader_facts p) f ∷ []) why (leader_some h p y st l) (last (level (leader_facts p) f) is))))
+  where
+    last : (test : Option Answer) → test ≡ why → first_of (test ∷ []) ≡ why
+    last None is = is
+    last (Some reason) is = is
+
+-- the follower's log goes as far as the leader's, or it doesn't
+level_some : (h : SeenPartition) (p : State) (b : ℕ) (x y : Node) → IsLeading h p y → x.up ≡ true → end_of y.log.batches ≤ end_of x.log.batches → level (leader_facts p) (facts_of b (broker_of x)) ≡ Some Level
+level_some h p b x y l up le = rw (l.is, l.up, up, le_true (end_of y.log.batches) (end_of x.log.batches) le) refl
+
+level_none : (h : SeenPartition) (p : State) (b : ℕ) (x y : Node) → IsLeading h p y → x.up ≡ true → end_of x.log.batches < end_of y.log.batches → level (leader_facts p) (facts_of b (broker_of x)) ≡ None
+level_none h p b x y l up lt = rw (l.is, l.up, up, le_false (end_of y.log.batches) (end_of x.log.batches) lt) refl
 
 pub follow_allowed : (h : SeenPartition) (p : State) (b : ℕ) (x : Node) (s : Replica) (limit : ℕ) (answer : Answer) (h' : SeenPartition) → Standing h p b x s → FollowRow h b x limit (Answers answer) h'
     → Allowed p b x s None (Follow limit) answer h'
 follow_allowed h p b x s limit Down h' st w = silent h p b x s None (Follow limit) Down h' st (rw w.0 refl) w.1
 follow_allowed h p b x s limit NotJoined h' st w = silent h p b x s None (Follow limit) NotJoined h' st (rw (w.0, w.1) refl) w.2
 follow_allowed h p b x s limit (StaleEpoch n) h' st w =
+    let f = facts_of b (broker_of x) in
+    let e = some_of _ (joined x.role) w.1 in
+    let k = stale_some h p (joined x.role) n st.partition_state w.1 w.2 in
+    let rest = no_leader p.registry (leader_facts p) ∷ level (leader_facts p) f ∷ [] in
     silent h p b x s None (Follow limit) (StaleEpoch n) h' st
-    (when_true _ p (and_true _ _ (and_true _ _ w.0 (stale_true h p (joined x.role) st.partition_state w.1)) (eq_same _ _ (epoch_same h p n st.partition_state w.2)))) w.3
+    (refuses p b (broker_of x) s None (Follow limit) (StaleEpoch n) k.0
+    (skips (down f) (not_joined (joined x.role) ∷ stale p.registry (joined x.role) ∷ rest) (Some k.0) (rw w.0 refl)
+    (skips (not_joined (joined x.role)) (stale p.registry (joined x.role) ∷ rest) (Some k.0) (rw e.1 refl) (fails (stale p.registry (joined x.role)) rest k.0 k.1))) k.2) w.3
 follow_allowed h p b x s limit NoLeader h' st w =
+    let f = facts_of b (broker_of x) in
+    let o = current_of h (joined x.role) w.1 in
+    let rest = level (leader_facts p) f ∷ [] in
     silent h p b x s None (Follow limit) NoLeader h' st
-    (when_true _ p (and_true _ _ (current_true h p x (joined x.role) st.partition_state w.0 w.1) (not_false _ (leader_none h p st.partition_state w.2)))) w.3
+    (refuses p b (broker_of x) s None (Follow limit) NoLeader NoLeader
+    (skips (down f) (not_joined (joined x.role) ∷ stale p.registry (joined x.role) ∷ no_leader p.registry (leader_facts p) ∷ rest) (Some NoLeader) (rw w.0 refl)
+    (skips (not_joined (joined x.role)) (stale p.registry (joined x.role) ∷ no_leader p.registry (leader_facts p) ∷ rest) (Some NoLeader) (rw o.1 refl)
+    (skips (stale p.registry (joined x.role)) (no_leader p.registry (leader_facts p) ∷ rest) (Some NoLeader) (stale_none h p (joined x.role) st.partition_state w.1)
+    (fails (no_leader p.registry (leader_facts p)) rest NoLeader (leader_none h p st.partition_state w.2))))) refl) w.3
 follow_allowed h p b x s limit Level h' st w =
     let y = some_of _ (the_leader h) w.2 in
     let l = leading h p b x s y.0 st y.1 in
-    let o = current_of h (joined x.role) w.1 in
-    let front = begins_leader h p b x s y.0 o.0 st l o.1 o.2 in
-    let low = prefix_end x.log.batches y.0.log.batches (st.lines.each h.registry.leader.0 y.0 l.at).sound.log.consecutive front in
-    let ends : end_of x.log.batches ≡ leader_end p = omega (arith, low, y.2, leader_ends h p y.0 l) in
-    silent h p b x s None (Follow limit) Level h' st (when_true _ p (and_true _ _ (follow_true h p x y.0 st.partition_state l w.0 w.1) (eq_same _ _ ends))) w.3
+    silent h p b x s None (Follow limit) Level h' st
+    (refuses p b (broker_of x) s None (Follow limit) Level Level (follow_tests h p b x y.0 limit (Some Level) st.partition_state l w.0 w.1 (level_some h p b x y.0 l w.0 y.2)) refl) w.3
 follow_allowed h p b x s limit (Moved n) h' st w =
     let y = some_of _ (the_leader h) w.2 in
     let l = leading h p b x s y.0 st y.1 in
     let ends = leader_ends h p y.0 l in
     let their = (st.lines.each h.registry.leader.0 y.0 l.at).sound in
     let high = ends_below y.0.local y.0.log.batches their.log.consecutive their.begins in
-    let differs : end_of x.log.batches ≢ leader_end p = λ e. omega (arith, e, y.2.0, ends) in
-    silent h p b x s None (Follow limit) (Moved n) h' st (when_true _ p (and_true _ _ (and_true _ _ (and_true _ _ (follow_true h p x y.0 st.partition_state l w.0 w.1) (not_false _ (eq_differs _ _ differs)))
-    (lt_true (end_of x.log.batches) n (omega (arith, y.2.1, y.2.2)))) (le_true n (leader_end p) (omega (arith, y.2.2, high, ends))))) w.3
+    silent h p b x s None (Follow limit) (Moved n) h' st
+    (does p b (broker_of x) s None (Follow limit) (Moved n) p (follow_tests h p b x y.0 limit None st.partition_state l w.0 w.1 (level_none h p b x y.0 l w.0 y.2.0))
+    (when_true _ p (and_true _ _ (lt_true (end_of x.log.batches) n (omega (arith, y.2.1, y.2.2))) (le_true n (leader_end p) (omega (arith, y.2.2, high, ends)))))) w.3
 follow_allowed h p b x s limit DiskFault h' st w =
     let y = some_of _ (the_leader h) w.2 in
     let l = leading h p b x s y.0 st y.1 in
-    let differs : end_of x.log.batches ≢ leader_end p = λ e. omega (arith, e, y.2.0, leader_ends h p y.0 l) in
-    silent h p b x s None (Follow limit) DiskFault h' st (when_true _ p (and_true _ _ (follow_true h p x y.0 st.partition_state l w.0 w.1) (not_false _ (eq_differs _ _ differs)))) w.3
+    silent h p b x s None (Follow limit) DiskFault h' st
+    (does p b (broker_of x) s None (Follow limit) DiskFault p (follow_tests h p b x y.0 limit None st.partition_state l w.0 w.1 (level_none h p b x y.0 l w.0 y.2.0)) refl) w.3
 follow_allowed h p b x s limit other h' st w = elim w [ ]
 
 -- what a follow begins with
-pub record Starts (h : SeenPartition) (p : State) (x : Node) (limit : ℕ) (g : StartSnapshot) (h' : SeenPartition) : Type 0 where
+pub record Starts (h : SeenPartition) (p : State) (b : ℕ) (x : Node) (limit : ℕ) (g : StartSnapshot) (h' : SeenPartition) : Type 0 where
   pub same : h' ≡ h
-  pub is : begins p (broker_of x) (Follow limit) None ≡ Some (broker_of x)
+  pub free : refusal_at p b (broker_of x) None (Follow limit) ≡ None
   pub stops : g.stops ≡ x.stops
   pub role : g.role ≡ x.role
   pub end : g.end ≡ end_of x.log.batches
@@ -440,7 +497,7 @@ parts_at n (x ∷ xs) = go (nat_lt (last_of x) n) refl (parts_at n xs)
     go true t r = rw t (ap (λ (l : List (List ℕ)). x ∷ l) r)
     go false t r = rw t refl
 
-pub follow_starts : (h : SeenPartition) (p : State) (b : ℕ) (x : Node) (s : Replica) (limit : ℕ) (g : StartSnapshot) (h' : SeenPartition) → Standing h p b x s → FollowRow h b x limit (Begins g) h' → Starts h p x limit g h'
+pub follow_starts : (h : SeenPartition) (p : State) (b : ℕ) (x : Node) (s : Replica) (limit : ℕ) (g : StartSnapshot) (h' : SeenPartition) → Standing h p b x s → FollowRow h b x limit (Begins g) h' → Starts h p b x limit g h'
 follow_starts h p b x s limit g h' st w =
     let y = some_of _ (the_leader h) w.2 in
     let l = leading h p b x s y.0 st y.1 in
@@ -458,7 +515,7 @@ follow_starts h p b x s limit g h' st w =
     let last : end_of (up_to g.end y.0.log.batches ++ g.batches) ≡ end_from g.end g.batches = end_append 0 (up_to g.end y.0.log.batches) g.batches ∙ ap (λ (n : ℕ). end_from n g.batches) at in
     record {
       same = w.3;
-      is = when_true _ (broker_of x) (and_true _ _ (follow_true h p x y.0 st.partition_state l w.0 w.1) (lt_true (end_of x.log.batches) (leader_end p) (omega (arith, y.2.0, leader_ends h p y.0 l))));
+      free = follow_tests h p b x y.0 limit None st.partition_state l w.0 w.1 (level_none h p b x y.0 l w.0 y.2.0);
       stops = takes.stops;
       role = takes.role;
       end = takes.end;

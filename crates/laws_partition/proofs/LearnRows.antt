@@ -24,10 +24,10 @@ use Rattle.plain_log.specs.declared.state.Path.{Path}
 use Rattle.plain_log.specs.declared.state.Broker.{Broker}
 use Rattle.plain_log.specs.declared.state.Role.{Role}
 use Rattle.plain_log.specs.declared.state.Role.TheVariants.{Idle, Leads as LeadsIn, Follows as FollowsIn, Joined}
-use Rattle.plain_log.specs.State.{path_of, has_path, is_in, put_broker, breaks, acking, epoch_in, is_stale}
-use Rattle.plain_log.specs.RowsOfElections.{knows, led as led_plain, learns}
-use Rattle.plain_log.specs.RowsOfReplicas.{acknowledged, may_ack}
-use Rattle.plain_log.specs.Rows.{row}
+use Rattle.plain_log.specs.State.{path_of, has_path, is_in, put_broker, breaks, acking, epoch_in, knows}
+use Rattle.plain_log.specs.RowsOfElections.{led as led_plain}
+use Rattle.plain_log.specs.RowsOfReplicas.{acknowledged}
+use Rattle.plain_log.specs.Rows.{row, refusal_at}
 use Rattle.plain_log.specs.Safe.{HasOnPath, RoleSafe, PlainSafe}
 use Rattle.plain_log.proofs.Options.{when_some, both, eq_of, not_true}
 use Rattle.plain_log.proofs.Wider.{Wider}
@@ -42,6 +42,7 @@ use Rattle.laws_partition.proofs.NodeLaw.{none_back, node_told, node_follows, no
 use Rattle.laws_partition.proofs.RegistryLaw.{Moves, ack_moves}
 use Rattle.laws_partition.proofs.Standing.{Standing, Allowed, LogsSafe, Keeps, silent, put, leaves, get_put, broker_at, map_set, wider_self, keeps_self, path_taken, broken_taken, by_taken, line_wide, log_taken, lines_put, lines_same, steady_set}
 use Rattle.laws_partition.proofs.ElectionRows.{replica_is}
+use Rattle.laws_partition.proofs.Refusing.{refuses, does}
 
 -- ack
 
@@ -119,8 +120,8 @@ ack_given h p b x s e mark h' st w =
     let path = on_path p.paths p.registry.epoch e x.role x.log.batches w.is (not_behind p.registry e w.fresh) safe.role in
     let r = with_ack p.registry b s x.flushed_end in
     let q = acknowledged p b (broker_of x) s path.0 in
-    let test : may_ack p b (broker_of x) s mark ≡ true = and_true _ _ (and_true _ _ (and_true _ _ w.up (rw w.is refl)) (rw w.is w.fresh)) (eq_same _ _ w.mark_is) in
-    let is : row p b (broker_of x) s None Ack (OkAt mark) ≡ Some q = rw path.1 (when_true _ q test) in
+    let is : row p b (broker_of x) s None Ack (OkAt mark) ≡ Some q =
+    does p b (broker_of x) s None Ack (OkAt mark) q (rw (w.up, w.is, not_true (is_behind p.registry e) w.fresh) refl) (rw path.1 (when_true _ q (eq_same _ _ w.mark_is))) in
     let after = (row_keeps p b (broker_of x) s None Ack (OkAt mark) q bx st.replica tt is st.safe).safe in
     let ends : EndsAt r.mark path.0 = (up_to r.mark path.0, up_to_prefix r.mark path.0, after.marks.ends) in
     let told = told_at r.mark x.log.batches path.0 (st.safe.paths p.registry.epoch path.0 path.1).log_safe.consecutive path.2 ends in
@@ -156,28 +157,33 @@ ack_allowed h p b x s (StaleEpoch n) h' st w =
     let t = some_of _ (slice_get h.registry.replicas b) o.2 in
     let r = some_of _ (after_ack h.registry b t.0 o.0 x.flushed_end (Err (Reg.StaleEpoch n))) t.2 in
     let k = stale_ack h.registry r.0 b t.0 o.0 x.flushed_end n r.1 in
-    let stale : is_stale p (acking x.role) ≡ true = rw o.1 (subst (λ (q : Registry). is_behind q o.0 ≡ true) (sym st.partition_state.registry) k.0) in
+    let stale : is_behind p.registry o.0 ≡ true = subst (λ (q : Registry). is_behind q o.0 ≡ true) (sym st.partition_state.registry) k.0 in
     let epoch : n ≡ p.registry.epoch = k.1 ∙ ap (λ (q : Registry). q.epoch) (sym st.partition_state.registry) in
-    leaves h p p b x s r.0 None Ack (StaleEpoch n) h' st (when_true _ p (and_true _ _ (and_true _ _ w.0 stale) (eq_same _ _ epoch)))
+    leaves h p p b x s r.0 None Ack (StaleEpoch n) h' st
+    (refuses p b (broker_of x) s None Ack (StaleEpoch n) (StaleEpoch p.registry.epoch) (rw (w.0, o.1, stale) refl) (eq_same _ _ epoch))
     (st.partition_state.registry ∙ k.2) refl refl refl refl (ack_moves h.registry b t.0 o.0 x.flushed_end (Err (Reg.StaleEpoch n)) r.0 r.1) r.2
 ack_allowed h p b x s (OkAt mark) h' st w = let k = acks_of h p b x s mark h' st w in ack_given h p b x s k.0 mark h' st k.1
 ack_allowed h p b x s other h' st w = elim w [ ]
 
 -- learn
 
-known_true : (h : SeenPartition) (p : State) (x : Node) → PartitionMatches h p → IsKnown h x → knows p (broker_of x) ≡ true
+known_true : (h : SeenPartition) (p : State) (x : Node) → PartitionMatches h p → IsKnown h x → knows p.registry x.role ≡ true
 known_true h p x st is = rw is (eq_same _ _ (ap (λ (q : Registry). q.epoch) (sym st.registry)))
 
-known_false : (h : SeenPartition) (p : State) (x : Node) → PartitionMatches h p → (IsKnown h x → ⊥) → knows p (broker_of x) ≡ false
+known_false : (h : SeenPartition) (p : State) (x : Node) → PartitionMatches h p → (IsKnown h x → ⊥) → knows p.registry x.role ≡ false
 known_false h p x st new = go (epoch_in x.role) refl
   where
-    go : (o : Option ℕ) → epoch_in x.role ≡ o → knows p (broker_of x) ≡ false
+    go : (o : Option ℕ) → epoch_in x.role ≡ o → knows p.registry x.role ≡ false
     go None is = rw is refl
     go (Some e) is = rw is (eq_differs e p.registry.epoch (λ same. new (is ∙ ap (λ (n : ℕ). Some n) (same ∙ ap (λ (q : Registry). q.epoch) st.registry))))
 
-learns_true : (h : SeenPartition) (p : State) (x : Node) (n : ℕ) → PartitionMatches h p → x.up ≡ true → (IsKnown h x → ⊥) → n ≡ h.registry.epoch → learns p (broker_of x) n ≡ true
-learns_true h p x n st up new is =
-    and_true _ _ (and_true _ _ up (not_false _ (known_false h p x st new))) (eq_same _ _ (is ∙ ap (λ (q : Registry). q.epoch) (sym st.registry)))
+-- the broker isn't refused to learn
+may_learn : (h : SeenPartition) (p : State) (b : ℕ) (x : Node) → PartitionMatches h p → x.up ≡ true → (IsKnown h x → ⊥) → refusal_at p b (broker_of x) None Learn ≡ None
+may_learn h p b x st up new = rw (up, known_false h p x st new) refl
+
+-- and this is the registry's epoch
+epoch_is : (h : SeenPartition) (p : State) (n : ℕ) → PartitionMatches h p → n ≡ h.registry.epoch → n ≡ p.registry.epoch
+epoch_is h p n st is = is ∙ ap (λ (q : Registry). q.epoch) (sym st.registry)
 
 -- the lead of the last entry's epoch was taken
 last_taken : (paths : List Path) (broken : List ℕ) (line : List (ℕ × ℕ)) (e : ℕ) → AllByRecursion (λ entry. was_taken paths broken entry.0 ≡ true) line → last_epoch line ≡ Some e
@@ -269,8 +275,10 @@ learn_leads h p b x s n h' st w =
     let free = not_led h p b x s n st w.2 w.3 w.4 in
     let q = led_plain p b (broker_of x) n in
     let leader : (p.registry.leader.0 == b) ≡ true = eq_same _ _ (ap (λ (k : Registry). k.leader.0) reg ∙ w.2) in
+    let now = epoch_is h p n st.partition_state w.3 in
     let is : row p b (broker_of x) s None Learn (Leads n) ≡ Some q =
-    when_true _ q (and_true _ _ (and_true _ _ (learns_true h p x n st.partition_state w.0 w.1 w.3) leader) (not_false _ free)) in
+    does p b (broker_of x) s None Learn (Leads n) q (may_learn h p b x st.partition_state w.0 w.1)
+    (when_true _ q (and_true _ _ (eq_same _ _ now) (and_true _ _ leader (not_false _ (subst (λ (m : ℕ). has_path p m ≡ false) now free))))) in
     let after = (row_keeps p b (broker_of x) s None Learn (Leads n) q bx st.replica tt is st.safe).safe in
     let z = after.brokers b (record (broker_of x) { role = LeadsIn n; flushed_end = end_of x.log.batches; known_high_watermark = p.registry.mark }) (get_put p.brokers b (broker_of x) _ bx) in
     let high = ends_below p.registry.mark x.log.batches l.sound.log.consecutive z.known_high_watermark in
@@ -316,7 +324,7 @@ learn_breaks h p b x s h' st w =
     let q : State = record (breaks p b (broker_of x)) { broken = m ∷ p.broken } in
     let leader : (p.registry.leader.0 == b) ≡ true = eq_same _ _ (ap (λ (k : Registry). k.leader.0) reg ∙ w.2) in
     let is : row p b (broker_of x) s None Learn DiskFault ≡ Some q =
-    when_true _ q (and_true _ _ (and_true _ _ (learns_true h p x m st.partition_state w.0 w.1 same) leader) (not_false _ free)) in
+    does p b (broker_of x) s None Learn DiskFault q (may_learn h p b x st.partition_state w.0 w.1) (when_true _ q (and_true _ _ leader (not_false _ free))) in
     let keeps : Keeps p.broken (m ∷ p.broken) = keeps_more m p.broken in
     let fits : n < 2 ^ 31 = small m n epoch_limit st.safe.marks.epoch same refl in
     let line_is = assign_line x.log.line x.log.batches n l.sound.log.consecutive l.sound.log.line_is in
@@ -357,7 +365,8 @@ learn_follows h p b x s n h' st w =
     let l = st.lines.each b x st.at in
     let other : (p.registry.leader.0 == b) ≡ false = eq_differs _ _ (λ e. w.2 (ap (λ (k : Registry). k.leader.0) (sym st.partition_state.registry) ∙ e)) in
     put h p (put_broker p b (record (broker_of x) { role = FollowsIn n })) b x (record x { role = FollowsIn n }) s None Learn (Follows n) h' st
-    (when_true _ (put_broker p b (record (broker_of x) { role = FollowsIn n })) (and_true _ _ (learns_true h p x n st.partition_state w.0 w.1 w.3) (not_false _ other))) (record {
+    (does p b (broker_of x) s None Learn (Follows n) (put_broker p b (record (broker_of x) { role = FollowsIn n })) (may_learn h p b x st.partition_state w.0 w.1)
+    (when_true _ (put_broker p b (record (broker_of x) { role = FollowsIn n })) (and_true _ _ (eq_same _ _ (epoch_is h p n st.partition_state w.3)) (not_false _ other)))) (record {
       registry = refl;
       brokers = refl;
       actors = refl;
@@ -381,7 +390,8 @@ learn_allowed h p b x s (Follows n) h' st w = learn_follows h p b x s n h' st w
 learn_allowed h p b x s (NeedsElection n) h' st w =
     let leader : (p.registry.leader.0 == b) ≡ true = eq_same _ _ (ap (λ (k : Registry). k.leader.0) st.partition_state.registry ∙ w.2) in
     let had = was_led h p b x s n st w.3 w.4 in
-    silent h p b x s None Learn (NeedsElection n) h' st (when_true _ p (and_true _ _ (and_true _ _ (learns_true h p x n st.partition_state w.0 w.1 w.3) leader) had)) w.5
+    silent h p b x s None Learn (NeedsElection n) h' st (does p b (broker_of x) s None Learn (NeedsElection n) p (may_learn h p b x st.partition_state w.0 w.1)
+    (when_true _ p (and_true _ _ (and_true _ _ (eq_same _ _ (epoch_is h p n st.partition_state w.3)) leader) had))) w.5
 learn_allowed h p b x s DiskFault h' st w = learn_breaks h p b x s h' st w
 learn_allowed h p b x s (Leads n) h' st w = learn_leads h p b x s n h' st w
 learn_allowed h p b x s other h' st w = elim w [ ]

@@ -1,6 +1,7 @@
 pub mod Parts
 pub mod Writes
 pub mod BoolTests
+mod Refusing
 pub mod Lines
 mod Meets
 pub mod Counted

@@ -6,7 +6,7 @@ use Rattle.std.proofs.lemmas.List.Elements.{All-from_recursion, recursion_from_A
 use Rattle.epoch_line.proofs.Parts.{filter-all}
 use Rattle.tier_base.specs.declared.plain.Stop.{Stop}
 use Rattle.tier_base.specs.declared.plain.Stop.TheVariants.{Mark, Piece, Limit}
-use Rattle.log_terms.specs.Batch.{epoch_of}
+use Rattle.log_terms.specs.Batch.{epoch_of, last_offset_delta_of}
 use Rattle.log_terms.specs.Log.{EndsAt, end_of, joined, from_offset, up_to}
 use Rattle.log_terms.proofs.Lists.{prefix_self, prefix_trans}
 use Rattle.log_terms.proofs.Logs.{up_to_end, up_to_prefix, ends_below}
@@ -26,11 +26,11 @@ use Rattle.plain_log.specs.declared.state.Path.{Path}
 use Rattle.plain_log.specs.declared.state.Broker.{Broker}
 use Rattle.plain_log.specs.declared.state.Role.{Role}
 use Rattle.plain_log.specs.declared.state.Role.TheVariants.{Idle, Leads, Joined}
-use Rattle.plain_log.specs.State.{leads_in, path_of, longer, put_broker, breaks, followed, stopped as stopped_broker}
+use Rattle.plain_log.specs.State.{leads_in, path_of, longer, put_broker, breaks, followed, stopped as stopped_broker, leads, facts_of}
 use Rattle.plain_log.specs.Causes.{same_cause}
-use Rattle.plain_log.specs.Fetch.{in_range, fitting, run_of, stops_rightly, is_run}
-use Rattle.plain_log.specs.RowsOfLog.{offset_limit, gained, append_row, raw_row, may_open_at, opened as opened_broker}
-use Rattle.plain_log.specs.Rows.{row}
+use Rattle.plain_log.specs.Fetch.{fitting, run_of, stops_rightly, is_run}
+use Rattle.plain_log.specs.RowsOfLog.{offset_limit, gained, append_row, may_open_at, opened as opened_broker}
+use Rattle.plain_log.specs.Rows.{refusal_at, effect}
 use Rattle.plain_log.specs.Safe.{HasOnPath, RoleSafe}
 use Rattle.plain_log.proofs.AppendRow.{longer_wider, longer_other, longer_same}
 use Rattle.laws_partition.specs.Seen.{Back, Node, SeenPartition}
@@ -41,12 +41,14 @@ use Rattle.laws_partition.specs.RowsOfLog.{end_with, AppendRow, RawRow, FlushRow
 use Rattle.laws_partition.specs.Rows.{MayComeBack, opened, StopRow, UpRow}
 use Rattle.laws_partition.specs.Sound.{IsBack, NodeSound}
 use Rattle.laws_partition.proofs.Lines.{entered_same, cases_eq}
-use Rattle.laws_partition.proofs.BoolTests.{and_true, not_false, when_true, eq_same, eq_differs, le_true, le_false, lt_true}
+use Rattle.laws_partition.proofs.BoolTests.{and_true, when_true, eq_same, eq_differs, le_true, le_false, lt_true}
 use Rattle.laws_partition.proofs.Parts.{joined_append}
 use Rattle.laws_partition.proofs.NodeLaw.{none_back, node_appended, node_flushed, node_stopped, flush_back, may_back, node_opened}
 use Rattle.laws_partition.proofs.SoundLaw.{placed_of, checked_long}
 use Rattle.laws_partition.proofs.Standing.{Standing, Allowed, Puts, silent, put, get_put, broker_at, wider_self, keeps_self, line_taken, line_wide}
 use Rattle.laws_partition.proofs.BreakRows.{IsTold, break_allowed, flushed_end_breaks}
+use Rattle.plain_log.specs.Refusals.{down, not_leader, last_offset, refused, out_of_range, empty, first_of}
+use Rattle.laws_partition.proofs.Refusing.{refuses, does, fails, skips, may_append}
 
 -- a path that gains a batch is a path still, and no other is new
 longer_keys : (ps : List Path) (e : ℕ) (v : List ℕ) (f : ℕ) → is_some (path_of (longer ps e v) f) ≡ true → is_some (path_of ps f) ≡ true
@@ -125,23 +127,29 @@ append_puts h p b x s batch base e st long up leads fits is =
     }
 
 pub append_allowed : (h : SeenPartition) (p : State) (b : ℕ) (x : Node) (s : Replica) (command : Command) (batch : List ℕ) (answer : Answer) (h' : SeenPartition) → Standing h p b x s
-    → 61 ≤ length batch → row p b (broker_of x) s None command answer ≡ append_row p b (broker_of x) batch answer → AppendRow h b x batch answer h'
+    → 61 ≤ length batch → refusal_at p b (broker_of x) None command ≡ first_of (down (facts_of b (broker_of x)) ∷ not_leader (facts_of b (broker_of x)) ∷ last_offset (facts_of b (broker_of x)) (last_offset_delta_of batch) ∷ [])
+    → ((a : Answer) → effect p b (broker_of x) s None command a ≡ append_row p b (broker_of x) batch a) → AppendRow h b x batch answer h'
     → Allowed p b x s None command answer h'
-append_allowed h p b x s command batch Down h' st long to w = silent h p b x s None command Down h' st (to ∙ rw w.0 refl) w.1
-append_allowed h p b x s command batch NotLeader h' st long to w = silent h p b x s None command NotLeader h' st (to ∙ rw (w.0, w.1) refl) w.2
-append_allowed h p b x s command batch LastOffset h' st long to w =
-    silent h p b x s None command LastOffset h' st (to ∙ when_true _ p (and_true _ _ (and_true _ _ w.0 w.1) (rw (le_false (end_with x batch) offset_limit w.2) refl))) w.3
-append_allowed h p b x s command batch TooManySegments h' st long to w =
-    silent h p b x s None command TooManySegments h' st (to ∙ when_true _ p (and_true _ _ (and_true _ _ w.0 w.1) (le_true (end_with x batch) offset_limit w.2))) w.3
-append_allowed h p b x s command batch DiskFault h' st long to w =
+append_allowed h p b x s command batch Down h' st long tests to w =
+    silent h p b x s None command Down h' st (refuses p b (broker_of x) s None command Down Down (tests ∙ rw w.0 refl) refl) w.1
+append_allowed h p b x s command batch NotLeader h' st long tests to w =
+    silent h p b x s None command NotLeader h' st (refuses p b (broker_of x) s None command NotLeader NotLeader (tests ∙ rw (w.0, w.1) refl) refl) w.2
+append_allowed h p b x s command batch LastOffset h' st long tests to w =
+    silent h p b x s None command LastOffset h' st
+    (refuses p b (broker_of x) s None command LastOffset LastOffset (tests ∙ rw (w.0, w.1, lt_true offset_limit (end_with x batch) w.2) refl) refl) w.3
+append_allowed h p b x s command batch TooManySegments h' st long tests to w =
+    silent h p b x s None command TooManySegments h' st (does p b (broker_of x) s None command TooManySegments p (tests ∙ may_append b x batch w.0 w.1 w.2) (to TooManySegments)) w.3
+append_allowed h p b x s command batch DiskFault h' st long tests to w =
     flushed_end_breaks h p b x s None command DiskFault h' st
-    (to ∙ when_true _ (breaks p b (broker_of x)) (and_true _ _ (and_true _ _ w.0 w.1) (le_true (end_with x batch) offset_limit w.2))) w.3
-append_allowed h p b x s command batch (OkSpan base last e) h' st long to w =
-    put h p (gained p b (broker_of x) e (stamped batch base e)) b x (record x { log = with_batch x.log (stamped batch base e) }) s None command (OkSpan base last e) h' st
-    (to ∙ when_true _ (gained p b (broker_of x) e (stamped batch base e))
-    (and_true _ _ (and_true _ _ (and_true _ _ (and_true _ _ w.0 (leads_in_of e x.role w.1)) (le_true (end_with x batch) offset_limit w.2)) (eq_same _ _ w.3)) (eq_same _ _ w.4)))
+    (does p b (broker_of x) s None command DiskFault (breaks p b (broker_of x)) (tests ∙ may_append b x batch w.0 w.1 w.2) (to DiskFault)) w.3
+append_allowed h p b x s command batch (OkSpan base last e) h' st long tests to w =
+    let q = gained p b (broker_of x) e (stamped batch base e) in
+    let lead : leads x.role ≡ true = rw w.1 refl in
+    put h p q b x (record x { log = with_batch x.log (stamped batch base e) }) s None command (OkSpan base last e) h' st
+    (does p b (broker_of x) s None command (OkSpan base last e) q (tests ∙ may_append b x batch w.0 lead w.2)
+    (to (OkSpan base last e) ∙ when_true _ q (and_true _ _ (and_true _ _ (leads_in_of e x.role w.1) (eq_same _ _ w.3)) (eq_same _ _ w.4))))
     (append_puts h p b x s batch base e st long w.0 w.1 w.2 w.3) w.5
-append_allowed h p b x s command batch other h' st long to w = elim w [ ]
+append_allowed h p b x s command batch other h' st long tests to w = elim w [ ]
 
 -- raw
 
@@ -155,37 +163,39 @@ cause_same Transactional = refl
 cause_same Control = refl
 cause_same (BadRecords at) = eq_same at at refl
 
--- bytes that are a batch are appended
-read_row : (p : State) (b : ℕ) (y : Broker) (bytes : List ℕ) (reading : Result Batch BatchRefusal) (answer : Answer) → IsOk reading
-    → raw_row p b y bytes reading answer ≡ append_row p b y bytes answer
-read_row p b y bytes (Done batch) answer ok = refl
-read_row p b y bytes (Err why) answer ok = absurd cc
+-- bytes that are a batch are tested as it is
+read_tests : (p : State) (b : ℕ) (y : Broker) (bytes : List ℕ) → IsOk (checked bytes)
+    → refusal_at p b y None (Raw bytes) ≡ first_of (down (facts_of b y) ∷ not_leader (facts_of b y) ∷ last_offset (facts_of b y) (last_offset_delta_of bytes) ∷ [])
+read_tests p b y bytes ok =
+    go (down (facts_of b y)) (not_leader (facts_of b y)) (refused (checked bytes)) (last_offset (facts_of b y) (last_offset_delta_of bytes)) (none (checked bytes) ok)
+  where
+    none : (reading : Result Batch BatchRefusal) → IsOk reading → refused reading ≡ None
+    none (Done batch) ok = refl
+    none (Err why) ok = absurd cc
 
--- what is answered before the bytes are looked at
-unread_down : (p : State) (b : ℕ) (y : Broker) (bytes : List ℕ) (reading : Result Batch BatchRefusal) → raw_row p b y bytes reading Down ≡ append_row p b y bytes Down
-unread_down p b y bytes (Done batch) = refl
-unread_down p b y bytes (Err why) = refl
+    go : (one two three four : Option Answer) → three ≡ None → first_of (one ∷ two ∷ three ∷ four ∷ []) ≡ first_of (one ∷ two ∷ four ∷ [])
+    go (Some why) two three four is = refl
+    go None (Some why) three four is = refl
+    go None None three four is = rw is refl
 
-unread_idle : (p : State) (b : ℕ) (y : Broker) (bytes : List ℕ) (reading : Result Batch BatchRefusal) → raw_row p b y bytes reading NotLeader ≡ append_row p b y bytes NotLeader
-unread_idle p b y bytes (Done batch) = refl
-unread_idle p b y bytes (Err why) = refl
+raw_appends : (h : SeenPartition) (p : State) (b : ℕ) (x : Node) (s : Replica) (bytes : List ℕ) (answer : Answer) (h' : SeenPartition) → Standing h p b x s
+    → IsOk (checked bytes) × AppendRow h b x bytes answer h' → Allowed p b x s None (Raw bytes) answer h'
+raw_appends h p b x s bytes answer h' st w =
+    append_allowed h p b x s (Raw bytes) bytes answer h' st (checked_long bytes w.0) (read_tests p b (broker_of x) bytes w.0) (λ a. refl) w.1
 
 pub raw_allowed : (h : SeenPartition) (p : State) (b : ℕ) (x : Node) (s : Replica) (bytes : List ℕ) (answer : Answer) (h' : SeenPartition) → Standing h p b x s
     → RawRow h b x bytes answer h' → Allowed p b x s None (Raw bytes) answer h'
 raw_allowed h p b x s bytes Down h' st w =
-    silent h p b x s None (Raw bytes) Down h' st (unread_down p b (broker_of x) bytes (checked bytes) ∙ rw w.0 refl) w.1
+    silent h p b x s None (Raw bytes) Down h' st (refuses p b (broker_of x) s None (Raw bytes) Down Down (rw w.0 refl) refl) w.1
 raw_allowed h p b x s bytes NotLeader h' st w =
-    silent h p b x s None (Raw bytes) NotLeader h' st (unread_idle p b (broker_of x) bytes (checked bytes) ∙ rw (w.0, w.1) refl) w.2
+    silent h p b x s None (Raw bytes) NotLeader h' st (refuses p b (broker_of x) s None (Raw bytes) NotLeader NotLeader (rw (w.0, w.1) refl) refl) w.2
 raw_allowed h p b x s bytes (Refused cause) h' st w =
-    silent h p b x s None (Raw bytes) (Refused cause) h' st (rw w.2 (when_true _ p (and_true _ _ (and_true _ _ w.0 w.1) (cause_same cause)))) w.3
-raw_allowed h p b x s bytes LastOffset h' st w =
-    append_allowed h p b x s (Raw bytes) bytes LastOffset h' st (checked_long bytes w.0) (read_row p b (broker_of x) bytes (checked bytes) LastOffset w.0) w.1
-raw_allowed h p b x s bytes TooManySegments h' st w =
-    append_allowed h p b x s (Raw bytes) bytes TooManySegments h' st (checked_long bytes w.0) (read_row p b (broker_of x) bytes (checked bytes) TooManySegments w.0) w.1
-raw_allowed h p b x s bytes DiskFault h' st w =
-    append_allowed h p b x s (Raw bytes) bytes DiskFault h' st (checked_long bytes w.0) (read_row p b (broker_of x) bytes (checked bytes) DiskFault w.0) w.1
-raw_allowed h p b x s bytes (OkSpan base last e) h' st w =
-    append_allowed h p b x s (Raw bytes) bytes (OkSpan base last e) h' st (checked_long bytes w.0) (read_row p b (broker_of x) bytes (checked bytes) (OkSpan base last e) w.0) w.1
+    silent h p b x s None (Raw bytes) (Refused cause) h' st
+    (refuses p b (broker_of x) s None (Raw bytes) (Refused cause) (Refused cause) (rw (w.0, w.1, w.2) refl) (cause_same cause)) w.3
+raw_allowed h p b x s bytes LastOffset h' st w = raw_appends h p b x s bytes LastOffset h' st w
+raw_allowed h p b x s bytes TooManySegments h' st w = raw_appends h p b x s bytes TooManySegments h' st w
+raw_allowed h p b x s bytes DiskFault h' st w = raw_appends h p b x s bytes DiskFault h' st w
+raw_allowed h p b x s bytes (OkSpan base last e) h' st w = raw_appends h p b x s bytes (OkSpan base last e) h' st w
 raw_allowed h p b x s bytes other h' st w = elim w [ ]
 
 -- flush
@@ -222,10 +232,11 @@ flush_told h p b x s st =
 pub flush_allowed : (h : SeenPartition) (p : State) (b : ℕ) (x : Node) (s : Replica) (answer : Answer) (h' : SeenPartition) → Standing h p b x s → FlushRow h b x answer h' → Allowed p b x s None Flush answer h'
 flush_allowed h p b x s Down h' st w = silent h p b x s None Flush Down h' st (rw w.0 refl) w.1
 flush_allowed h p b x s DiskFault h' st w =
-    break_allowed h p b x s (end_of x.log.batches, x.log.line, x.local) None Flush DiskFault h' st (flush_told h p b x s st) (when_true _ (breaks p b (broker_of x)) w.0) w.1
+    break_allowed h p b x s (end_of x.log.batches, x.log.line, x.local) None Flush DiskFault h' st (flush_told h p b x s st) (rw w.0 refl) w.1
 flush_allowed h p b x s (OkAt n) h' st w =
     put h p (put_broker p b (record (broker_of x) { flushed_end = n })) b x (record x { flushed_end = n; saved = x.log.line }) s None Flush (OkAt n) h' st
-    (when_true _ (put_broker p b (record (broker_of x) { flushed_end = n })) (and_true _ _ w.0 (eq_same _ _ w.1))) (flush_puts h p b x s n st w.0 w.1) w.2
+    (does p b (broker_of x) s None Flush (OkAt n) (put_broker p b (record (broker_of x) { flushed_end = n })) (rw w.0 refl)
+    (when_true _ (put_broker p b (record (broker_of x) { flushed_end = n })) (eq_same _ _ w.1))) (flush_puts h p b x s n st w.0 w.1) w.2
 flush_allowed h p b x s other h' st w = elim w [ ]
 
 -- roll
@@ -234,8 +245,8 @@ pub roll_allowed : (h : SeenPartition) (p : State) (b : ℕ) (x : Node) (s : Rep
 roll_allowed h p b x s Down h' st w = silent h p b x s None Roll Down h' st (rw w.0 refl) w.1
 roll_allowed h p b x s EmptySegment h' st w = silent h p b x s None Roll EmptySegment h' st (rw w.0 refl) w.1
 roll_allowed h p b x s TooManySegments h' st w = silent h p b x s None Roll TooManySegments h' st (rw w.0 refl) w.1
-roll_allowed h p b x s DiskFault h' st w = flushed_end_breaks h p b x s None Roll DiskFault h' st (when_true _ (breaks p b (broker_of x)) w.0) w.1
-roll_allowed h p b x s (OkAt n) h' st w = silent h p b x s None Roll (OkAt n) h' st (when_true _ p (and_true _ _ w.0 (eq_same _ _ w.1))) w.2
+roll_allowed h p b x s DiskFault h' st w = flushed_end_breaks h p b x s None Roll DiskFault h' st (rw w.0 refl) w.1
+roll_allowed h p b x s (OkAt n) h' st w = silent h p b x s None Roll (OkAt n) h' st (rw w.0 (when_true _ p (eq_same _ _ w.1))) w.2
 roll_allowed h p b x s other h' st w = elim w [ ]
 
 -- stop
@@ -341,25 +352,27 @@ up_allowed h p b x s (Up n) h' st w =
     let k = may_back x back sound w.1.2 in
     let at : n ≡ back.0 = w.1.4 ∙ up_to_end back.0 x.log.batches sound.log.consecutive k.ends in
     put h p (put_broker p b (opened_broker (broker_of x) n)) b x (opened x back i) s None UpCommand (Up n) h' st
-    (when_true _ (put_broker p b (opened_broker (broker_of x) n)) (and_true _ _ (not_false x.up w.0) (may_open x back n sound w.1.2 at)))
+    (rw w.0 (when_true _ (put_broker p b (opened_broker (broker_of x) n)) (may_open x back n sound w.1.2 at)))
     (up_puts h p b x s back i n st w.0 w.1.2 w.1.4 at) w.1.5
 up_allowed h p b x s other h' st w = elim w [ ]
 
 -- fetch
 
-pub not_in_range : (p : State) (x : Node) (offset start end : ℕ) → start ≡ p.registry.start → end ≡ end_of x.log.batches → (offset < start) ⊎ (end < offset)
-    → in_range p (broker_of x) offset ≡ false
-not_in_range p x offset start end is at (inl lt) = rw (le_false p.registry.start offset (omega (arith, is, lt))) refl
-not_in_range p x offset start end is at (inr lt) = rw (le_false offset (end_of x.log.batches) (omega (arith, at, lt))) (and_no (nat_le p.registry.start offset))
+-- an offset that the log doesn't have, and one that it has
+pub not_in_range : (p : State) (b : ℕ) (x : Node) (offset start end : ℕ) → x.up ≡ true → start ≡ p.registry.start → end ≡ end_of x.log.batches → (offset < start) ⊎ (end < offset)
+    → out_of_range p.registry (facts_of b (broker_of x)) offset ≡ Some (OutOfRange p.registry.start (end_of x.log.batches))
+not_in_range p b x offset start end up is at (inl lt) = rw (up, le_false p.registry.start offset (omega (arith, is, lt))) refl
+not_in_range p b x offset start end up is at (inr lt) = rw (up, le_false offset (end_of x.log.batches) (omega (arith, at, lt)), and_no (nat_le p.registry.start offset)) refl
   where
     and_no : (t : Bool) → t && false ≡ false
     and_no true = refl
     and_no false = refl
 
-pub in_range_of : (h : SeenPartition) (p : State) (x : Node) (offset : ℕ) → PartitionMatches h p → IsInLog h x offset → in_range p (broker_of x) offset ≡ true
-in_range_of h p x offset st w =
+pub in_range_of : (h : SeenPartition) (p : State) (b : ℕ) (x : Node) (offset : ℕ) → PartitionMatches h p → x.up ≡ true → IsInLog h x offset
+    → out_of_range p.registry (facts_of b (broker_of x)) offset ≡ None
+in_range_of h p b x offset st up w =
     let start : p.registry.start ≡ h.registry.start = ap (λ (k : Registry). k.start) st.registry in
-    and_true _ _ (le_true p.registry.start offset (omega (arith, start, w.0))) (le_true offset (end_of x.log.batches) w.1)
+    rw (up, le_true p.registry.start offset (omega (arith, start, w.0)), le_true offset (end_of x.log.batches) w.1) refl
 
 -- the batches whose sizes add to a run's are the run
 fitting_run : (run rest : List (List ℕ)) → HasBytes rest → fitting (length (joined run)) (run ++ rest) ≡ run
@@ -399,22 +412,43 @@ run_allowed x offset limit size stop bytes w =
     and_true _ _ (and_true _ _ (and_true _ _ (and_true _ _ (eq_same _ _ w.size_is) (rw is ((bytes_eq-Decides (joined w.run) bytes).1 (sym w.spelled)))) (rw is run.within))
     (rw is (le_true (end_of w.run) x.known_high_watermark run.below))) (stop_allowed_for x offset limit size stop w.run run.rest is run.parts run.stop_is)
 
+-- a fetch isn't refused
+pub may_fetch : (h : SeenPartition) (p : State) (b : ℕ) (x : Node) (offset limit : ℕ) → PartitionMatches h p → x.up ≡ true → leads x.role ≡ true → IsInLog h x offset → offset < x.known_high_watermark
+    → refusal_at p b (broker_of x) None (Fetch offset limit) ≡ None
+may_fetch h p b x offset limit st up lead w lt =
+    let f = facts_of b (broker_of x) in
+    let last : empty f offset ≡ None = rw (le_false x.known_high_watermark offset lt) refl in
+    skips (down f) (not_leader f ∷ out_of_range p.registry f offset ∷ empty f offset ∷ []) None (rw up refl)
+    (skips (not_leader f) (out_of_range p.registry f offset ∷ empty f offset ∷ []) None (rw lead refl)
+    (skips (out_of_range p.registry f offset) (empty f offset ∷ []) None (in_range_of h p b x offset st up w) (skips (empty f offset) [] None last refl)))
+
 pub fetch_allowed : (h : SeenPartition) (p : State) (b : ℕ) (x : Node) (s : Replica) (offset limit : ℕ) (answer : Answer) (h' : SeenPartition) → Standing h p b x s
     → FetchRow h x offset limit answer h' → Allowed p b x s None (Fetch offset limit) answer h'
 fetch_allowed h p b x s offset limit Down h' st w = silent h p b x s None (Fetch offset limit) Down h' st (rw w.0 refl) w.1
 fetch_allowed h p b x s offset limit NotLeader h' st w = silent h p b x s None (Fetch offset limit) NotLeader h' st (rw (w.0, w.1) refl) w.2
 fetch_allowed h p b x s offset limit (OutOfRange start end) h' st w =
+    let f = facts_of b (broker_of x) in
     let same : start ≡ p.registry.start = w.3 ∙ ap (λ (k : Registry). k.start) (sym st.partition_state.registry) in
+    let why = OutOfRange p.registry.start (end_of x.log.batches) in
     silent h p b x s None (Fetch offset limit) (OutOfRange start end) h' st
-    (when_true _ p (and_true _ _ (and_true _ _ (and_true _ _ (and_true _ _ w.0 w.1) (rw (not_in_range p x offset start end same w.4 w.2) refl)) (eq_same _ _ same)) (eq_same _ _ w.4))) w.5
+    (refuses p b (broker_of x) s None (Fetch offset limit) (OutOfRange start end) why
+    (skips (down f) (not_leader f ∷ out_of_range p.registry f offset ∷ empty f offset ∷ []) (Some why) (rw w.0 refl)
+    (skips (not_leader f) (out_of_range p.registry f offset ∷ empty f offset ∷ []) (Some why) (rw w.1 refl)
+    (fails (out_of_range p.registry f offset) (empty f offset ∷ []) why (not_in_range p b x offset start end w.0 same w.4 w.2))))
+    (and_true _ _ (eq_same _ _ same) (eq_same _ _ w.4))) w.5
 fetch_allowed h p b x s offset limit Empty h' st w =
+    let f = facts_of b (broker_of x) in
+    let last : empty f offset ≡ Some Empty = rw (le_true x.known_high_watermark offset w.3) refl in
     silent h p b x s None (Fetch offset limit) Empty h' st
-    (when_true _ p (and_true _ _ (and_true _ _ (and_true _ _ w.0 w.1) (in_range_of h p x offset st.partition_state w.2)) (le_true x.known_high_watermark offset w.3))) w.4
+    (refuses p b (broker_of x) s None (Fetch offset limit) Empty Empty
+    (skips (down f) (not_leader f ∷ out_of_range p.registry f offset ∷ empty f offset ∷ []) (Some Empty) (rw w.0 refl)
+    (skips (not_leader f) (out_of_range p.registry f offset ∷ empty f offset ∷ []) (Some Empty) (rw w.1 refl)
+    (skips (out_of_range p.registry f offset) (empty f offset ∷ []) (Some Empty) (in_range_of h p b x offset st.partition_state w.0 w.2) (fails (empty f offset) [] Empty last)))) refl) w.4
 fetch_allowed h p b x s offset limit DiskFault h' st w =
     silent h p b x s None (Fetch offset limit) DiskFault h' st
-    (when_true _ p (and_true _ _ (and_true _ _ (and_true _ _ w.0 w.1) (in_range_of h p x offset st.partition_state w.2.0)) (lt_true offset x.known_high_watermark w.3))) w.4
+    (does p b (broker_of x) s None (Fetch offset limit) DiskFault p (may_fetch h p b x offset limit st.partition_state w.0 w.1 w.2.0 w.3) refl) w.4
 fetch_allowed h p b x s offset limit (Run tier size stop bytes) h' st w =
     silent h p b x s None (Fetch offset limit) (Run tier size stop bytes) h' st
-    (when_true _ p (and_true _ _ (and_true _ _ (and_true _ _ (and_true _ _ w.0 w.1) (in_range_of h p x offset st.partition_state w.2.0)) (lt_true offset x.known_high_watermark w.3))
-    (run_allowed x offset limit size stop bytes w.5))) w.6
+    (does p b (broker_of x) s None (Fetch offset limit) (Run tier size stop bytes) p (may_fetch h p b x offset limit st.partition_state w.0 w.1 w.2.0 w.3)
+    (when_true _ p (run_allowed x offset limit size stop bytes w.5))) w.6
 fetch_allowed h p b x s offset limit other h' st w = elim w [ ]

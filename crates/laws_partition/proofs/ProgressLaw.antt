@@ -22,7 +22,7 @@ use Rattle.plain_log.specs.declared.state.PlainSnapshot.{PlainSnapshot}
 use Rattle.plain_log.specs.declared.state.Path.{Path}
 use Rattle.plain_log.specs.declared.state.State.{State}
 use Rattle.plain_log.specs.State.{actor_at, put_actor, with_actor, put_broker}
-use Rattle.plain_log.specs.Rows.{row}
+use Rattle.plain_log.specs.Rows.{row, refusal_at}
 use Rattle.plain_log.specs.Safe.{SnapshotIsSafe, PlainSafe}
 use Rattle.plain_log.specs.Step.{begins, is_recorded, same_command, recorded_of as recorded_by, step}
 use Rattle.plain_log.proofs.StepLaw.{actor_kept}
@@ -122,10 +122,10 @@ answer_steps p order a n x s recorded entry answer q bx br at is_its actor numbe
 -- and a beginning
 pub begin_steps : (p : State) (order : Order) (a n : ℕ) (x z : Broker) (s : Replica) (entry : JournalEntry) (cut : Option ℕ)
     → slice_get p.brokers order.broker.0 ≡ Some x → slice_get p.registry.replicas order.broker.0 ≡ Some s → actor_at p.actors a ≡ record { number = n; snapshot = None }
-    → entry.actor.0 ≡ a → entry.number ≡ n → entry.event ≡ Began cut → begins p x order.command cut ≡ Some z
+    → entry.actor.0 ≡ a → entry.number ≡ n → entry.event ≡ Began cut → refusal_at p order.broker.0 x None order.command ≡ None → begins p x order.command cut ≡ Some z
     → step p order entry ≡ Some (with_actor a (record { number = n; snapshot = Some (recorded_by p order z) }) (put_broker p order.broker.0 z))
-begin_steps p order a n x z s entry cut bx br at actor number event is =
-    rw (bx, br, actor, event, at, number, eq_same n n refl, is) refl
+begin_steps p order a n x z s entry cut bx br at actor number event free is =
+    rw (bx, br, actor, event, at, number, eq_same n n refl, free, is) refl
 
 -- a command that has begun is the actor's state's
 pub recorded_its : (order : Order) (g : StartSnapshot) → same_command order.command order.command ≡ true → is_recorded (Some (recorded_of order g)) order ≡ true

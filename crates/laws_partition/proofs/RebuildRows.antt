@@ -29,16 +29,19 @@ use Rattle.laws_partition.specs.Partition.{broker_of, recorded_of, put_node}
 use Rattle.laws_partition.specs.Central.{WereElected, RebuildMatches}
 use Rattle.laws_partition.specs.RowsOfFollowers.{IsStale, GoesOn, IsAsCut, MayRebuild, JoinOnRow, rebuilt, unbuilt}
 use Rattle.laws_partition.proofs.Lines.{cut_at_line}
-use Rattle.laws_partition.proofs.BoolTests.{some_of, and_true, not_false, when_true, eq_same, eq_differs, lt_true, lt_false, le_false}
+use Rattle.laws_partition.proofs.BoolTests.{some_of, and_true, not_false, when_true, eq_same, lt_true, lt_false, le_false}
 use Rattle.laws_partition.proofs.NodeLaw.{IsWhole, joined_up, none_back, node_rebuilt, node_unbuilt}
 use Rattle.laws_partition.proofs.Standing.{Standing, Allowed, silent, put, broker_at, wider_self, keeps_self, line_taken}
-use Rattle.laws_partition.proofs.FollowRows.{stale_true, stale_false, IsNow, now, epoch_same}
-use Rattle.laws_partition.proofs.FollowOnRows.{goes_true}
+use Rattle.laws_partition.proofs.FollowRows.{IsNow, now}
+use Rattle.laws_partition.proofs.Refusing.{refuses, does, stale_some, follows_on, follows_stale, follows_halted}
+use Rattle.plain_log.specs.Rows.{effect}
+use Rattle.laws_partition.proofs.FollowOnRows.{goes_true, goes_false}
 
 -- what holds of a join that has begun
 pub record Rebuilding (p : State) (x : Node) (order : Order) (g : StartSnapshot) : Type 0 where
   pub run : RebuildMatches p g
   pub recorded : HasJoined p.registry.epoch (recorded_of order g) (broker_of x)
+  pub up : g.stops ≡ x.stops → x.up ≡ true
 
 -- what the log is restarted as: the path up to the wanted point, which the leader has
 pub record OnWay (h : SeenPartition) (p : State) (b : ℕ) (x y : Node) (g : StartSnapshot) : Type 0 where
@@ -140,14 +143,14 @@ rebuilds h p b x y s order g n st o may is =
     let ends : end_of (up_to n o.path) ≡ n = ap end_of path_same ∙ (ap (λ (m : ℕ). end_of (up_to m y.log.batches)) is ∙ (o.whole.ends ∙ sym is)) in
     let test : (is_end n o.path && nat_lt (end_of x.log.batches) n) ≡ true = and_true _ _ (eq_same _ _ ends) (lt_true (end_of x.log.batches) n (omega (arith, is, o.whole.above))) in
     let to : extended_broker p bx n ≡ Some z = rw (ap followed o.role, o.path_is) (when_true _ z test) in
-    let goes = goes_true h p x order g st.partition_state may.0 may.1.0 in
+    let goes = goes_true x order g may.1.0 in
     let passed = not_passed h p x order g n s b st may.2 is in
     rw to (when_true _ z (and_true _ _ goes (not_false _ passed)) ∙ ap (λ (w : List (List ℕ)). Some (record bx { log = w })) path_same)
 
 -- it is restarted
-rebuild_allowed : (h : SeenPartition) (p : State) (b : ℕ) (x y : Node) (s : Replica) (order : Order) (g : StartSnapshot) (n : ℕ) (h' : SeenPartition) → Standing h p b x s → OnWay h p b x y g → MayRebuild h x g → n ≡ g.wanted
+rebuild_allowed : (h : SeenPartition) (p : State) (b : ℕ) (x y : Node) (s : Replica) (order : Order) (g : StartSnapshot) (n : ℕ) (h' : SeenPartition) → Standing h p b x s → x.up ≡ true → OnWay h p b x y g → MayRebuild h x g → n ≡ g.wanted
     → h' ≡ put_node h b (rebuilt x (up_to n y.log.batches) n) → Allowed p b x s (Some (recorded_of order g)) Join (Rebuilt n) h'
-rebuild_allowed h p b x y s order g n h' st o may is same =
+rebuild_allowed h p b x y s order g n h' st on o may is same =
     let bx = broker_of x in
     let whole = up_to n y.log.batches in
     let z : Broker = record bx { log = whole } in
@@ -159,7 +162,8 @@ rebuild_allowed h p b x y s order g n h' st o may is same =
     let up = joined_up x line.sound j in
     let taken = line_taken p.paths p.broken (line_of whole) whole refl safe in
     put h p (put_broker p b (record z { flushed_end = n })) b x (rebuilt x whole n) s (Some (recorded_of order g)) Join (Rebuilt n) h' st
-    (ap (option_map (λ (v : Broker). put_broker p b (record v { flushed_end = n }))) to) (record {
+    (does p b bx s (Some (recorded_of order g)) Join (Rebuilt n) (put_broker p b (record z { flushed_end = n })) (follows_on h p b x order g st.partition_state on may.0)
+    (ap (option_map (λ (v : Broker). put_broker p b (record v { flushed_end = n }))) to)) (record {
       registry = refl;
       brokers = refl;
       actors = refl;
@@ -177,9 +181,9 @@ rebuild_allowed h p b x y s order g n h' st o may is same =
     }) same
 
 -- that failed
-unbuild_allowed : (h : SeenPartition) (p : State) (b : ℕ) (x y : Node) (s : Replica) (order : Order) (g : StartSnapshot) (n : ℕ) (h' : SeenPartition) → Standing h p b x s → OnWay h p b x y g → MayRebuild h x g → n ≡ g.wanted
+unbuild_allowed : (h : SeenPartition) (p : State) (b : ℕ) (x y : Node) (s : Replica) (order : Order) (g : StartSnapshot) (n : ℕ) (h' : SeenPartition) → Standing h p b x s → x.up ≡ true → OnWay h p b x y g → MayRebuild h x g → n ≡ g.wanted
     → h' ≡ put_node h b (unbuilt x (up_to n y.log.batches) n) → Allowed p b x s (Some (recorded_of order g)) Join (DiskFaultAt n) h'
-unbuild_allowed h p b x y s order g n h' st o may is same =
+unbuild_allowed h p b x y s order g n h' st on o may is same =
     let bx = broker_of x in
     let whole = up_to n y.log.batches in
     let z : Broker = record bx { log = whole } in
@@ -188,7 +192,8 @@ unbuild_allowed h p b x y s order g n h' st o may is same =
     let w : IsWhole x whole n = subst (λ (m : ℕ). IsWhole x (up_to m y.log.batches) m) (sym is) o.whole in
     let safe : LogSafe p.paths whole = subst (λ (m : ℕ). LogSafe p.paths (up_to m y.log.batches)) (sym is) o.safe in
     let taken = line_taken p.paths p.broken (line_of whole) whole refl safe in
-    put h p (breaks p b z) b x (unbuilt x whole n) s (Some (recorded_of order g)) Join (DiskFaultAt n) h' st (ap (option_map (breaks p b)) to) (record {
+    put h p (breaks p b z) b x (unbuilt x whole n) s (Some (recorded_of order g)) Join (DiskFaultAt n) h' st
+    (does p b bx s (Some (recorded_of order g)) Join (DiskFaultAt n) (breaks p b z) (follows_on h p b x order g st.partition_state on may.0) (ap (option_map (breaks p b)) to)) (record {
       registry = refl;
       brokers = refl;
       actors = refl;
@@ -205,35 +210,39 @@ unbuild_allowed h p b x y s order g n h' st o may is same =
       steady = λ it. absurd (o.now_is.other it);
     }) same
 
+-- where the log was cut, something else is by now
+differs : (h : SeenPartition) (p : State) (b : ℕ) (x : Node) (s : Replica) (order : Order) (g : StartSnapshot) (n : ℕ) → Standing h p b x s → Rebuilding p x order g → GoesOn h x g → n ≡ end_of x.log.batches
+    → (IsAsCut x g → ⊥) → n ≢ g.end
+differs h p b x s order g n st k on is never = λ e. never (sym e ∙ is, subst (λ (r : Role). IsSome (joined r)) (sym (still_joined h p b x s order g st k on)) refl)
+
+-- an answer that changes nothing
+join_waits : (h : SeenPartition) (p : State) (b : ℕ) (x : Node) (s : Replica) (order : Order) (g : StartSnapshot) (answer : Answer) (h' : SeenPartition) → Standing h p b x s → x.up ≡ true → GoesOn h x g
+    → effect p b (broker_of x) s (Some (recorded_of order g)) Join answer ≡ Some p → h' ≡ h → Allowed p b x s (Some (recorded_of order g)) Join answer h'
+join_waits h p b x s order g answer h' st up on is same =
+    silent h p b x s (Some (recorded_of order g)) Join answer h' st
+    (does p b (broker_of x) s (Some (recorded_of order g)) Join answer p (follows_on h p b x order g st.partition_state up on) is) same
+
 pub join_on_allowed : (h : SeenPartition) (p : State) (b : ℕ) (x : Node) (s : Replica) (order : Order) (g : StartSnapshot) (answer : Answer) (h' : SeenPartition) → Standing h p b x s → Rebuilding p x order g → JoinOnRow h b x g answer h'
     → Allowed p b x s (Some (recorded_of order g)) Join answer h'
 join_on_allowed h p b x s order g Stopped h' st k w =
-    silent h p b x s (Some (recorded_of order g)) Join Stopped h' st (when_true _ p (not_false _ (eq_differs g.stops x.stops w.0))) w.1
+    silent h p b x s (Some (recorded_of order g)) Join Stopped h' st (refuses p b (broker_of x) s (Some (recorded_of order g)) Join Stopped Stopped (follows_halted p b x order g w.0) refl) w.1
 join_on_allowed h p b x s order g (StaleEpoch n) h' st k w =
+    let t = stale_some h p (followed g.role) n st.partition_state w.1 w.2 in
     silent h p b x s (Some (recorded_of order g)) Join (StaleEpoch n) h' st
-    (when_true _ p (and_true _ _ (and_true _ _ (eq_same g.stops x.stops w.0) (stale_true h p (followed g.role) st.partition_state w.1)) (eq_same _ _ (epoch_same h p n st.partition_state w.2)))) w.3
+    (refuses p b (broker_of x) s (Some (recorded_of order g)) Join (StaleEpoch n) t.0 (follows_stale h p b x order g t.0 (k.up w.0) w.0 t.1) t.2) w.3
 join_on_allowed h p b x s order g (Passed n) h' st k w =
-    silent h p b x s (Some (recorded_of order g)) Join (Passed n) h' st
-    (when_true _ p (and_true _ _ (and_true _ _ (and_true _ _ (eq_same g.stops x.stops w.0.0) (not_false _ (stale_false h p (followed g.role) st.partition_state w.0.1))) (eq_same _ _ w.1))
-    (not_false _ (eq_differs n g.end (differs st k w.0 w.1 w.2))))) w.3
-  where
-    differs : Standing h p b x s → Rebuilding p x order g → GoesOn h x g → n ≡ end_of x.log.batches → (IsAsCut x g → ⊥) → n ≢ g.end
-    differs st k on is never = λ e. never (sym e ∙ is, subst (λ (r : Role). IsSome (joined r)) (sym (still_joined h p b x s order g st k on)) refl)
+    join_waits h p b x s order g (Passed n) h' st (k.up w.0.0) w.0 (when_true _ p (goes_false x order g n w.1 (differs h p b x s order g n st k w.0 w.1 w.2))) w.3
 join_on_allowed h p b x s order g (BelowStart start) h' st k w =
-    let goes = goes_true h p x order g st.partition_state w.0 w.1.0 in
     let same : start ≡ p.registry.start = w.2 ∙ ap (λ (r : Registry). r.start) (sym st.partition_state.registry) in
-    silent h p b x s (Some (recorded_of order g)) Join (BelowStart start) h' st
-    (when_true _ p (and_true _ _ (and_true _ _ goes (eq_same _ _ same)) (lt_true g.start start (omega (arith, w.3, w.4))))) w.5
-join_on_allowed h p b x s order g MetaFault h' st k w =
-    silent h p b x s (Some (recorded_of order g)) Join MetaFault h' st (when_true _ p (goes_true h p x order g st.partition_state w.0 w.1.0)) w.2
-join_on_allowed h p b x s order g StoreFault h' st k w =
-    silent h p b x s (Some (recorded_of order g)) Join StoreFault h' st (when_true _ p (goes_true h p x order g st.partition_state w.0 w.1.0)) w.2
-join_on_allowed h p b x s order g (Damaged place at) h' st k w =
-    silent h p b x s (Some (recorded_of order g)) Join (Damaged place at) h' st (when_true _ p (goes_true h p x order g st.partition_state w.0 w.1.0)) w.2
+    join_waits h p b x s order g (BelowStart start) h' st (k.up w.0.0) w.0
+    (when_true _ p (and_true _ _ (and_true _ _ (goes_true x order g w.1.0) (eq_same _ _ same)) (lt_true g.start start (omega (arith, w.3, w.4))))) w.5
+join_on_allowed h p b x s order g MetaFault h' st k w = join_waits h p b x s order g MetaFault h' st (k.up w.0.0) w.0 (when_true _ p (goes_true x order g w.1.0)) w.2
+join_on_allowed h p b x s order g StoreFault h' st k w = join_waits h p b x s order g StoreFault h' st (k.up w.0.0) w.0 (when_true _ p (goes_true x order g w.1.0)) w.2
+join_on_allowed h p b x s order g (Damaged place at) h' st k w = join_waits h p b x s order g (Damaged place at) h' st (k.up w.0.0) w.0 (when_true _ p (goes_true x order g w.1.0)) w.2
 join_on_allowed h p b x s order g (DiskFaultAt n) h' st k w =
     let y = some_of _ (slice_get h.nodes h.registry.leader.0) w.2 in
-    unbuild_allowed h p b x y.0 s order g n h' st (on_way h p b x y.0 s order g st k w.0.0 w.0.1.0 y.1) w.0 w.1 y.2
+    unbuild_allowed h p b x y.0 s order g n h' st (k.up w.0.0.0) (on_way h p b x y.0 s order g st k w.0.0 w.0.1.0 y.1) w.0 w.1 y.2
 join_on_allowed h p b x s order g (Rebuilt n) h' st k w =
     let y = some_of _ (slice_get h.nodes h.registry.leader.0) w.2 in
-    rebuild_allowed h p b x y.0 s order g n h' st (on_way h p b x y.0 s order g st k w.0.0 w.0.1.0 y.1) w.0 w.1 y.2
+    rebuild_allowed h p b x y.0 s order g n h' st (k.up w.0.0.0) (on_way h p b x y.0 s order g st k w.0.0 w.0.1.0 y.1) w.0 w.1 y.2
 join_on_allowed h p b x s order g other h' st k w = elim w [ ]

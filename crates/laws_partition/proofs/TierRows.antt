@@ -1,10 +1,13 @@
 -- The rows of commands on the remote tier are the plain log's: it sees nothing of the tier, but who leads, and the log
 -- start offset.
-use Rattle.std.proofs.Common.{◌≡◌, ◌∙◌, sym, ap, subst, refl, ℕ, ◌==◌, Some, None, Ok as Done, Bool, true, false, not, ◌&&◌, arith}
+use Rattle.std.proofs.Common.{◌≡◌, ◌∙◌, sym, ap, subst, refl, ℕ, ◌==◌, List, [], ◌∷◌, Some, None, Option, Ok as Done, Bool, true, false, not, ◌&&◌, arith}
 use Rattle.std.proofs.lemmas.Bool.Decides.{nat_tests}
 use Rattle.registry.specs.declared.registry.Replica.{Replica}
 use Rattle.registry.specs.declared.registry.Registry.{Registry}
-use Rattle.registry.specs.Calls.{when, after_raise}
+use Rattle.registry.specs.Registry.{started}
+use Rattle.registry.specs.Calls.{is_stale, after_raise}
+use Rattle.std.specs.Prelude.{nat_lt, nat_le}
+use Rattle.log_terms.specs.Log.{end_of}
 use Rattle.plain_log.specs.declared.answer.Answer.{Answer}
 use Rattle.plain_log.specs.declared.answer.Answer.TheVariants.{Down, NotLeader, MetaFault, StoreFault, DiskFault, Damaged, LostLead, Level, Overtaken, CopiedSegment, CopyOff, Kept, StaleEpoch, Raised, Deleted, Stopped, OutOfRange, Empty, Run}
 use Rattle.plain_log.specs.declared.command.Command.{Command}
@@ -13,22 +16,24 @@ use Rattle.plain_log.specs.declared.command.Order.{Order}
 use Rattle.plain_log.specs.declared.state.State.{State}
 use Rattle.plain_log.specs.declared.state.Role.{Role}
 use Rattle.plain_log.specs.declared.state.Role.TheVariants.{Idle, Leads, Follows, Joined}
-use Rattle.plain_log.specs.State.{leads, epoch_in, same_role, set_registry}
-use Rattle.plain_log.specs.Fetch.{is_on, serves, gives_run}
-use Rattle.plain_log.specs.RowsOfTiers.{keeps_lead}
-use Rattle.plain_log.specs.Rows.{row}
+use Rattle.plain_log.specs.State.{epoch_in, same_role, set_registry, facts_of, since_of}
+use Rattle.plain_log.specs.Refusals.{has_stopped, other_role, lost_lead, out_of_range, empty, first_of}
+use Rattle.plain_log.proofs.Options.{when_some, both}
+use Rattle.plain_log.specs.RowsOfTiers.{is_behind}
+use Rattle.plain_log.specs.Rows.{refusal_at, effect}
 use Rattle.laws_partition.specs.declared.start_snapshot.StartSnapshot.{StartSnapshot}
 use Rattle.laws_partition.specs.declared.start_snapshot.Turned.TheVariants.{Answers}
 use Rattle.laws_partition.specs.Seen.{Node, SeenPartition}
 use Rattle.laws_partition.specs.Partition.{broker_of, recorded_of}
 use Rattle.laws_partition.specs.Central.{PartitionMatches}
-use Rattle.laws_partition.specs.RowsOfTiers.{KeepsLead, GoesLeading, LeadersRow, CopyRow, CopyOnRow, ExpireOnRow, Raises, FetchBegins, ServesCommitted, FetchOnRow}
-use Rattle.laws_partition.proofs.BoolTests.{some_of, and_true, not_false, when_true, eq_same, le_true, lt_true}
+use Rattle.laws_partition.specs.RowsOfTiers.{KeepsLead, GoesLeading, LeadersRow, CopyRow, CopyOnRow, ExpireOnRow, Raises, ServesCommitted, FetchOnRow}
+use Rattle.laws_partition.specs.RowsOfLog.{IsInLog}
+use Rattle.laws_partition.proofs.BoolTests.{some_of, and_true, when_true, eq_same, le_true, le_false, lt_true}
+use Rattle.laws_partition.proofs.Refusing.{refuses, does, fails, skips, runs}
 use Rattle.laws_partition.proofs.RegistryLaw.{raise_moves}
 use Rattle.laws_partition.proofs.Standing.{Standing, Allowed, silent, leaves}
 use Rattle.laws_partition.proofs.OwnRows.{not_in_range, in_range_of, run_allowed}
-use Rattle.laws_partition.proofs.ElectionRows.{left_as, raised_as}
-use Rattle.laws_partition.proofs.FollowRows.{stale_true, epoch_same}
+use Rattle.laws_partition.proofs.FollowRows.{epoch_same}
 
 -- roles
 
@@ -60,53 +65,70 @@ role_differs r q differ = go (same_role r q) refl
 
 -- whether a broker continues
 
-pub and_false : (a b : Bool) → b ≡ false → a && b ≡ false
-and_false true b is = is
-and_false false b is = refl
-
 -- it leads as it did
-lead_kept : (x : Node) (order : Order) (g : StartSnapshot) → KeepsLead x g → keeps_lead (broker_of x) (recorded_of order g) ≡ true
-lead_kept x order g k = and_true _ _ (eq_same g.stops x.stops k.stops) (role_same g.role x.role k.role)
+lead_kept : (b : ℕ) (x : Node) (order : Order) (g : StartSnapshot) → KeepsLead x g → lost_lead (facts_of b (broker_of x)) (since_of (recorded_of order g)) ≡ None
+lead_kept b x order g k = rw (k.up, eq_same g.stops x.stops k.stops, role_same g.role x.role k.role) refl
 
--- it doesn't: one that hasn't stopped since is up
-lead_lost : (x : Node) (order : Order) (g : StartSnapshot) → (g.stops ≡ x.stops → x.up ≡ true) → (KeepsLead x g → ⊥) → keeps_lead (broker_of x) (recorded_of order g) ≡ false
-lead_lost x order g up lost = go (g.stops == x.stops) refl (same_role g.role x.role) refl
+-- it doesn't
+lead_lost : (b : ℕ) (x : Node) (order : Order) (g : StartSnapshot) → (KeepsLead x g → ⊥) → lost_lead (facts_of b (broker_of x)) (since_of (recorded_of order g)) ≡ Some LostLead
+lead_lost b x order g lost = go x.up refl (g.stops == x.stops) refl (same_role g.role x.role) refl
   where
-    go : (s : Bool) → (g.stops == x.stops) ≡ s → (r : Bool) → same_role g.role x.role ≡ r → keeps_lead (broker_of x) (recorded_of order g) ≡ false
-    go false s r t = rw s refl
-    go true s false t = and_false (g.stops == x.stops) (same_role g.role x.role) t
-    go true s true t =
-        let stops = number_is g.stops x.stops s in
-        absurd (lost (record { stops = stops; up = up stops; role = same_is g.role x.role t }))
+    go : (u : Bool) → x.up ≡ u → (s : Bool) → (g.stops == x.stops) ≡ s → (r : Bool) → same_role g.role x.role ≡ r → lost_lead (facts_of b (broker_of x)) (since_of (recorded_of order g)) ≡ Some LostLead
+    go false u s is r t = rw u refl
+    go true u false is r t = rw (u, is) refl
+    go true u true is false t = rw (u, is, t) refl
+    go true u true is true t = absurd (lost (record { stops = number_is g.stops x.stops is; up = u; role = same_is g.role x.role t }))
 
 -- it is down, or has stopped since
-pub gone : (x : Node) (order : Order) (g : StartSnapshot) → ((g.stops ≡ x.stops) × (x.up ≡ true) → ⊥) → is_on (broker_of x) (Some (recorded_of order g)) ≡ false
-gone x order g off = go x.up refl (g.stops == x.stops) refl
+pub gone : (b : ℕ) (x : Node) (order : Order) (g : StartSnapshot) → ((g.stops ≡ x.stops) × (x.up ≡ true) → ⊥) → has_stopped (facts_of b (broker_of x)) (since_of (recorded_of order g)) ≡ Some Stopped
+gone b x order g off = go x.up refl (g.stops == x.stops) refl
   where
-    go : (u : Bool) → x.up ≡ u → (t : Bool) → (g.stops == x.stops) ≡ t → is_on (broker_of x) (Some (recorded_of order g)) ≡ false
+    go : (u : Bool) → x.up ≡ u → (t : Bool) → (g.stops == x.stops) ≡ t → has_stopped (facts_of b (broker_of x)) (since_of (recorded_of order g)) ≡ Some Stopped
     go false u t is = rw u refl
-    go true u false is = and_false x.up (g.stops == x.stops) is
+    go true u false is = rw (u, is) refl
     go true u true is = absurd (off (number_is g.stops x.stops is, u))
 
--- it serves fetches as it did
-pub served : (x : Node) (order : Order) (g : StartSnapshot) → (e : ℕ) × (g.role ≡ Leads e) → KeepsLead x g → serves (broker_of x) (Some (recorded_of order g)) ≡ true
-served x order g lead k =
-    let leads_on : leads x.role ≡ true = subst (λ (r : Role). leads r ≡ true) (sym lead.1 ∙ k.role) refl in
-    and_true _ _ (and_true _ _ (and_true _ _ k.up (eq_same g.stops x.stops k.stops)) leads_on) (role_same g.role x.role k.role)
+-- it has another role than then, or the same
+pub role_lost : (b : ℕ) (x : Node) (order : Order) (g : StartSnapshot) → (g.role ≡ x.role → ⊥) → other_role (facts_of b (broker_of x)) (since_of (recorded_of order g)) ≡ Some NotLeader
+role_lost b x order g differ = rw (role_differs g.role x.role differ) refl
+
+pub role_kept : (b : ℕ) (x : Node) (order : Order) (g : StartSnapshot) → g.role ≡ x.role → other_role (facts_of b (broker_of x)) (since_of (recorded_of order g)) ≡ None
+role_kept b x order g is = rw (role_same g.role x.role is) refl
+
+-- a later turn of a leader's question isn't refused before its other tests
+pub served : (b : ℕ) (x : Node) (order : Order) (g : StartSnapshot) (tests : List (Option Answer)) (why : Option Answer) → KeepsLead x g → first_of tests ≡ why
+    → first_of (has_stopped (facts_of b (broker_of x)) (since_of (recorded_of order g)) ∷ other_role (facts_of b (broker_of x)) (since_of (recorded_of order g)) ∷ tests) ≡ why
+served b x order g tests why k is =
+    let f = facts_of b (broker_of x) in
+    let n = since_of (recorded_of order g) in
+    skips (has_stopped f n) (other_role f n ∷ tests) why (runs b x order g k.up k.stops) (skips (other_role f n) tests why (role_kept b x order g k.role) is)
+
+-- it is refused since the broker stopped, or has another role
+pub halts : (b : ℕ) (x : Node) (order : Order) (g : StartSnapshot) (tests : List (Option Answer)) → ((g.stops ≡ x.stops) × (x.up ≡ true) → ⊥)
+    → first_of (has_stopped (facts_of b (broker_of x)) (since_of (recorded_of order g)) ∷ tests) ≡ Some Stopped
+halts b x order g tests off = fails (has_stopped (facts_of b (broker_of x)) (since_of (recorded_of order g))) tests Stopped (gone b x order g off)
+
+pub deposes : (b : ℕ) (x : Node) (order : Order) (g : StartSnapshot) (tests : List (Option Answer)) → g.stops ≡ x.stops → x.up ≡ true → (g.role ≡ x.role → ⊥)
+    → first_of (has_stopped (facts_of b (broker_of x)) (since_of (recorded_of order g)) ∷ other_role (facts_of b (broker_of x)) (since_of (recorded_of order g)) ∷ tests) ≡ Some NotLeader
+deposes b x order g tests same up differ =
+    let f = facts_of b (broker_of x) in
+    let n = since_of (recorded_of order g) in
+    skips (has_stopped f n) (other_role f n ∷ tests) (Some NotLeader) (runs b x order g up same) (fails (other_role f n) tests NotLeader (role_lost b x order g differ))
 
 -- turns that change nothing
 
 goes : (h : SeenPartition) (p : State) (b : ℕ) (x : Node) (s : Replica) (order : Order) (g : StartSnapshot) (command : Command) (answer : Answer) (h' : SeenPartition) → Standing h p b x s
-    → row p b (broker_of x) s (Some (recorded_of order g)) command answer ≡ when (keeps_lead (broker_of x) (recorded_of order g)) p → GoesLeading h x g h'
-    → Allowed p b x s (Some (recorded_of order g)) command answer h'
-goes h p b x s order g command answer h' st to w =
-    silent h p b x s (Some (recorded_of order g)) command answer h' st (to ∙ when_true _ p (lead_kept x order g w.0)) w.1
+    → refusal_at p b (broker_of x) (Some (recorded_of order g)) command ≡ lost_lead (facts_of b (broker_of x)) (since_of (recorded_of order g))
+    → effect p b (broker_of x) s (Some (recorded_of order g)) command answer ≡ Some p → GoesLeading h x g h' → Allowed p b x s (Some (recorded_of order g)) command answer h'
+goes h p b x s order g command answer h' st tests to w =
+    silent h p b x s (Some (recorded_of order g)) command answer h' st (does p b (broker_of x) s (Some (recorded_of order g)) command answer p (tests ∙ lead_kept b x order g w.0) to) w.1
 
-loses : (h : SeenPartition) (p : State) (b : ℕ) (x : Node) (s : Replica) (order : Order) (g : StartSnapshot) (command : Command) (answer : Answer) (h' : SeenPartition) → Standing h p b x s
-    → row p b (broker_of x) s (Some (recorded_of order g)) command answer ≡ when (not (keeps_lead (broker_of x) (recorded_of order g))) p → (g.stops ≡ x.stops → x.up ≡ true)
-    → (KeepsLead x g → ⊥) × (h' ≡ h) → Allowed p b x s (Some (recorded_of order g)) command answer h'
-loses h p b x s order g command answer h' st to up w =
-    silent h p b x s (Some (recorded_of order g)) command answer h' st (to ∙ when_true _ p (not_false _ (lead_lost x order g up w.0))) w.1
+loses : (h : SeenPartition) (p : State) (b : ℕ) (x : Node) (s : Replica) (order : Order) (g : StartSnapshot) (command : Command) (h' : SeenPartition) → Standing h p b x s
+    → refusal_at p b (broker_of x) (Some (recorded_of order g)) command ≡ lost_lead (facts_of b (broker_of x)) (since_of (recorded_of order g))
+    → (KeepsLead x g → ⊥) × (h' ≡ h) → Allowed p b x s (Some (recorded_of order g)) command LostLead h'
+loses h p b x s order g command h' st tests w =
+    silent h p b x s (Some (recorded_of order g)) command LostLead h' st
+    (refuses p b (broker_of x) s (Some (recorded_of order g)) command LostLead LostLead (tests ∙ lead_lost b x order g w.0) refl) w.1
 
 -- copy
 
@@ -118,16 +140,16 @@ copy_allowed h p b x s MetaFault h' st w = silent h p b x s None Copy MetaFault 
 copy_allowed h p b x s other h' st w = elim w [ ]
 
 pub copy_on_allowed : (h : SeenPartition) (p : State) (b : ℕ) (x : Node) (s : Replica) (order : Order) (g : StartSnapshot) (answer : Answer) (h' : SeenPartition) → Standing h p b x s
-    → (g.stops ≡ x.stops → x.up ≡ true) → CopyOnRow h x g answer h' → Allowed p b x s (Some (recorded_of order g)) Copy answer h'
-copy_on_allowed h p b x s order g LostLead h' st up w = loses h p b x s order g Copy LostLead h' st refl up w
-copy_on_allowed h p b x s order g Level h' st up w = goes h p b x s order g Copy Level h' st refl w
-copy_on_allowed h p b x s order g DiskFault h' st up w = goes h p b x s order g Copy DiskFault h' st refl w
-copy_on_allowed h p b x s order g (Damaged place at) h' st up w = goes h p b x s order g Copy (Damaged place at) h' st refl w
-copy_on_allowed h p b x s order g MetaFault h' st up w = goes h p b x s order g Copy MetaFault h' st refl w
-copy_on_allowed h p b x s order g StoreFault h' st up w = goes h p b x s order g Copy StoreFault h' st refl w
-copy_on_allowed h p b x s order g (Overtaken state) h' st up w = goes h p b x s order g Copy (Overtaken state) h' st refl w
-copy_on_allowed h p b x s order g (CopiedSegment id start last) h' st up w = goes h p b x s order g Copy (CopiedSegment id start last) h' st refl w
-copy_on_allowed h p b x s order g other h' st up w = elim w [ ]
+    → CopyOnRow h x g answer h' → Allowed p b x s (Some (recorded_of order g)) Copy answer h'
+copy_on_allowed h p b x s order g LostLead h' st w = loses h p b x s order g Copy h' st refl w
+copy_on_allowed h p b x s order g Level h' st w = goes h p b x s order g Copy Level h' st refl refl w
+copy_on_allowed h p b x s order g DiskFault h' st w = goes h p b x s order g Copy DiskFault h' st refl refl w
+copy_on_allowed h p b x s order g (Damaged place at) h' st w = goes h p b x s order g Copy (Damaged place at) h' st refl refl w
+copy_on_allowed h p b x s order g MetaFault h' st w = goes h p b x s order g Copy MetaFault h' st refl refl w
+copy_on_allowed h p b x s order g StoreFault h' st w = goes h p b x s order g Copy StoreFault h' st refl refl w
+copy_on_allowed h p b x s order g (Overtaken state) h' st w = goes h p b x s order g Copy (Overtaken state) h' st refl refl w
+copy_on_allowed h p b x s order g (CopiedSegment id start last) h' st w = goes h p b x s order g Copy (CopiedSegment id start last) h' st refl refl w
+copy_on_allowed h p b x s order g other h' st w = elim w [ ]
 
 -- expire
 
@@ -143,53 +165,87 @@ raise_on : (h : SeenPartition) (p : State) (b : ℕ) (x : Node) (s : Replica) (o
 raise_on h p b x s order g start h' st k w =
     let after = some_of _ (after_raise h.registry w.epoch start (Done start)) w.after in
     let is : after_raise p.registry w.epoch start (Done start) ≡ Some after.0 = ap (λ (r : Registry). after_raise r w.epoch start (Done start)) st.partition_state.registry ∙ after.1 in
+    let u = when_some (not (is_stale p.registry w.epoch) && nat_lt p.registry.start start && nat_le start p.registry.mark && (start == start)) (started p.registry start) after.0 is in
+    let t = both (not (is_stale p.registry w.epoch) && nat_lt p.registry.start start) (nat_le start p.registry.mark) (both (not (is_stale p.registry w.epoch) && nat_lt p.registry.start start && nat_le start p.registry.mark) (start == start) u.0).0 in
+    let v = both (not (is_stale p.registry w.epoch)) (nat_lt p.registry.start start) t.0 in
+    let current : not (is_behind p (recorded_of order g)) ≡ true = rw (k.role ∙ w.role) v.0 in
     leaves h p (set_registry p after.0) b x s after.0 (Some (recorded_of order g)) Expire (Raised start) h' st
-    (rw (lead_kept x order g k) (raised_as p (broker_of x) start w.epoch (Done start) k.up w.role) ∙ left_as p (after_raise p.registry w.epoch start (Done start)) after.0 is)
+    (does p b (broker_of x) s (Some (recorded_of order g)) Expire (Raised start) (set_registry p (started p.registry start)) (lead_kept b x order g k)
+    (when_true _ (set_registry p (started p.registry start)) (and_true _ _ current (and_true _ _ v.1 t.1))) ∙ ap (λ (r : Registry). Some (set_registry p r)) u.1)
     refl refl refl refl refl (raise_moves h.registry w.epoch start (Done start) after.0 after.1) after.2
 
 pub expire_on_allowed : (h : SeenPartition) (p : State) (b : ℕ) (x : Node) (s : Replica) (order : Order) (g : StartSnapshot) (answer : Answer) (h' : SeenPartition) → Standing h p b x s
-    → (g.stops ≡ x.stops → x.up ≡ true) → ExpireOnRow h x g answer h' → Allowed p b x s (Some (recorded_of order g)) Expire answer h'
-expire_on_allowed h p b x s order g LostLead h' st up w = loses h p b x s order g Expire LostLead h' st refl up w
-expire_on_allowed h p b x s order g Kept h' st up w = goes h p b x s order g Expire Kept h' st refl w
-expire_on_allowed h p b x s order g (StaleEpoch n) h' st up w =
-    silent h p b x s (Some (recorded_of order g)) Expire (StaleEpoch n) h' st
-    (when_true _ p (and_true _ _ (and_true _ _ (lead_kept x order g w.2.0) (stale_true h p (epoch_in g.role) st.partition_state w.0)) (eq_same _ _ (epoch_same h p n st.partition_state w.1)))) w.2.1
-expire_on_allowed h p b x s order g (Raised start) h' st up w = raise_on h p b x s order g start h' st w.0 w.1
-expire_on_allowed h p b x s order g MetaFault h' st up w = goes h p b x s order g Expire MetaFault h' st refl w
-expire_on_allowed h p b x s order g StoreFault h' st up w = goes h p b x s order g Expire StoreFault h' st refl w
-expire_on_allowed h p b x s order g (Deleted id) h' st up w = goes h p b x s order g Expire (Deleted id) h' st refl w
-expire_on_allowed h p b x s order g other h' st up w = elim w [ ]
+    → ExpireOnRow h x g answer h' → Allowed p b x s (Some (recorded_of order g)) Expire answer h'
+expire_on_allowed h p b x s order g LostLead h' st w = loses h p b x s order g Expire h' st refl w
+expire_on_allowed h p b x s order g Kept h' st w = goes h p b x s order g Expire Kept h' st refl refl w
+expire_on_allowed h p b x s order g (StaleEpoch n) h' st w =
+    let e = some_of _ (epoch_in g.role) w.0 in
+    let reg = ap (λ (r : Registry). r.epoch) st.partition_state.registry in
+    let behind : is_behind p (recorded_of order g) ≡ true = rw (e.1, lt_true e.0 p.registry.epoch (omega (arith, e.2, reg))) refl in
+    goes h p b x s order g Expire (StaleEpoch n) h' st refl (when_true _ p (and_true _ _ behind (eq_same _ _ (epoch_same h p n st.partition_state w.1)))) w.2
+expire_on_allowed h p b x s order g (Raised start) h' st w = raise_on h p b x s order g start h' st w.0 w.1
+expire_on_allowed h p b x s order g MetaFault h' st w = goes h p b x s order g Expire MetaFault h' st refl refl w
+expire_on_allowed h p b x s order g StoreFault h' st w = goes h p b x s order g Expire StoreFault h' st refl refl w
+expire_on_allowed h p b x s order g (Deleted id) h' st w = goes h p b x s order g Expire (Deleted id) h' st refl refl w
+expire_on_allowed h p b x s order g other h' st w = elim w [ ]
 
 -- fetch
 
-pub fetch_gives : (h : SeenPartition) (p : State) (x : Node) (offset : ℕ) (g : StartSnapshot) (h' : SeenPartition) → PartitionMatches h p → FetchBegins h x offset g h' → gives_run p (broker_of x) offset None ≡ true
-fetch_gives h p x offset g h' st w = and_true _ _ (and_true _ _ (and_true _ _ w.0 w.1) (in_range_of h p x offset st w.2)) (lt_true offset x.known_high_watermark w.3)
+-- the tests of the offset, of a later turn
+in_range : (h : SeenPartition) (p : State) (b : ℕ) (x : Node) (offset : ℕ) (why : Option Answer) → PartitionMatches h p → x.up ≡ true → IsInLog h x offset → empty (facts_of b (broker_of x)) offset ≡ why
+    → first_of (out_of_range p.registry (facts_of b (broker_of x)) offset ∷ empty (facts_of b (broker_of x)) offset ∷ []) ≡ why
+in_range h p b x offset why st up w is =
+    let f = facts_of b (broker_of x) in
+    skips (out_of_range p.registry f offset) (empty f offset ∷ []) why (in_range_of h p b x offset st up w) (last (empty f offset) is)
+  where
+    last : (test : Option Answer) → test ≡ why → first_of (test ∷ []) ≡ why
+    last None is = is
+    last (Some reason) is = is
 
-serving : (h : SeenPartition) (p : State) (x : Node) (order : Order) (g : StartSnapshot) (offset : ℕ) → PartitionMatches h p → (e : ℕ) × (g.role ≡ Leads e) → ServesCommitted h x g offset
-    → gives_run p (broker_of x) offset (Some (recorded_of order g)) ≡ true
-serving h p x order g offset st lead w = and_true _ _ (and_true _ _ (served x order g lead w.keeps) (in_range_of h p x offset st w.within)) (lt_true offset x.known_high_watermark w.below)
+-- a later turn of a fetch isn't refused
+serving : (h : SeenPartition) (p : State) (b : ℕ) (x : Node) (order : Order) (g : StartSnapshot) (offset limit : ℕ) → PartitionMatches h p → ServesCommitted h x g offset
+    → refusal_at p b (broker_of x) (Some (recorded_of order g)) (Fetch offset limit) ≡ None
+serving h p b x order g offset limit st w =
+    let f = facts_of b (broker_of x) in
+    served b x order g (out_of_range p.registry f offset ∷ empty f offset ∷ []) None w.keeps
+    (in_range h p b x offset None st w.keeps.up w.within (rw (le_false x.known_high_watermark offset w.below) refl))
 
 pub fetch_on_allowed : (h : SeenPartition) (p : State) (b : ℕ) (x : Node) (s : Replica) (offset limit : ℕ) (order : Order) (g : StartSnapshot) (answer : Answer) (h' : SeenPartition) → Standing h p b x s
-    → (e : ℕ) × (g.role ≡ Leads e) → FetchOnRow h x offset limit g answer h' → Allowed p b x s (Some (recorded_of order g)) (Fetch offset limit) answer h'
-fetch_on_allowed h p b x s offset limit order g Stopped h' st lead w =
-    silent h p b x s (Some (recorded_of order g)) (Fetch offset limit) Stopped h' st (when_true _ p (not_false _ (gone x order g w.0))) w.1
-fetch_on_allowed h p b x s offset limit order g NotLeader h' st lead w =
+    → FetchOnRow h x offset limit g answer h' → Allowed p b x s (Some (recorded_of order g)) (Fetch offset limit) answer h'
+fetch_on_allowed h p b x s offset limit order g Stopped h' st w =
+    let f = facts_of b (broker_of x) in
+    let tests = other_role f (since_of (recorded_of order g)) ∷ out_of_range p.registry f offset ∷ empty f offset ∷ [] in
+    silent h p b x s (Some (recorded_of order g)) (Fetch offset limit) Stopped h' st
+    (refuses p b (broker_of x) s (Some (recorded_of order g)) (Fetch offset limit) Stopped Stopped (halts b x order g tests w.0) refl) w.1
+fetch_on_allowed h p b x s offset limit order g NotLeader h' st w =
+    let f = facts_of b (broker_of x) in
     silent h p b x s (Some (recorded_of order g)) (Fetch offset limit) NotLeader h' st
-    (when_true _ p (and_true _ _ (and_true _ _ w.1 (eq_same g.stops x.stops w.0)) (not_false _ (and_false _ _ (role_differs g.role x.role w.2))))) w.3
-fetch_on_allowed h p b x s offset limit order g (OutOfRange start end) h' st lead w =
+    (refuses p b (broker_of x) s (Some (recorded_of order g)) (Fetch offset limit) NotLeader NotLeader (deposes b x order g (out_of_range p.registry f offset ∷ empty f offset ∷ []) w.0 w.1 w.2) refl) w.3
+fetch_on_allowed h p b x s offset limit order g (OutOfRange start end) h' st w =
+    let f = facts_of b (broker_of x) in
     let same : start ≡ p.registry.start = w.2 ∙ ap (λ (k : Registry). k.start) (sym st.partition_state.registry) in
+    let why = OutOfRange p.registry.start (end_of x.log.batches) in
     silent h p b x s (Some (recorded_of order g)) (Fetch offset limit) (OutOfRange start end) h' st
-    (when_true _ p (and_true _ _ (and_true _ _ (and_true _ _ (served x order g lead w.0) (not_false _ (not_in_range p x offset start end same w.3 w.1))) (eq_same _ _ same)) (eq_same _ _ w.3))) w.4
-fetch_on_allowed h p b x s offset limit order g Empty h' st lead w =
+    (refuses p b (broker_of x) s (Some (recorded_of order g)) (Fetch offset limit) (OutOfRange start end) why
+    (served b x order g (out_of_range p.registry f offset ∷ empty f offset ∷ []) (Some why) w.0
+    (fails (out_of_range p.registry f offset) (empty f offset ∷ []) why (not_in_range p b x offset start end w.0.up same w.3 w.1))) (and_true _ _ (eq_same _ _ same) (eq_same _ _ w.3))) w.4
+fetch_on_allowed h p b x s offset limit order g Empty h' st w =
+    let f = facts_of b (broker_of x) in
     silent h p b x s (Some (recorded_of order g)) (Fetch offset limit) Empty h' st
-    (when_true _ p (and_true _ _ (and_true _ _ (served x order g lead w.0) (in_range_of h p x offset st.partition_state w.1)) (le_true x.known_high_watermark offset w.2))) w.3
-fetch_on_allowed h p b x s offset limit order g (Run tier size stop bytes) h' st lead w =
+    (refuses p b (broker_of x) s (Some (recorded_of order g)) (Fetch offset limit) Empty Empty
+    (served b x order g (out_of_range p.registry f offset ∷ empty f offset ∷ []) (Some Empty) w.0
+    (in_range h p b x offset (Some Empty) st.partition_state w.0.up w.1 (rw (le_true x.known_high_watermark offset w.2) refl))) refl) w.3
+fetch_on_allowed h p b x s offset limit order g (Run tier size stop bytes) h' st w =
     silent h p b x s (Some (recorded_of order g)) (Fetch offset limit) (Run tier size stop bytes) h' st
-    (when_true _ p (and_true _ _ (serving h p x order g offset st.partition_state lead w.0) (run_allowed x offset limit size stop bytes w.1))) w.2
-fetch_on_allowed h p b x s offset limit order g MetaFault h' st lead w =
-    silent h p b x s (Some (recorded_of order g)) (Fetch offset limit) MetaFault h' st (when_true _ p (serving h p x order g offset st.partition_state lead w.0)) w.1
-fetch_on_allowed h p b x s offset limit order g StoreFault h' st lead w =
-    silent h p b x s (Some (recorded_of order g)) (Fetch offset limit) StoreFault h' st (when_true _ p (serving h p x order g offset st.partition_state lead w.0)) w.1
-fetch_on_allowed h p b x s offset limit order g (Damaged place at) h' st lead w =
-    silent h p b x s (Some (recorded_of order g)) (Fetch offset limit) (Damaged place at) h' st (when_true _ p (serving h p x order g offset st.partition_state lead w.0)) w.1
-fetch_on_allowed h p b x s offset limit order g other h' st lead w = elim w [ ]
+    (does p b (broker_of x) s (Some (recorded_of order g)) (Fetch offset limit) (Run tier size stop bytes) p (serving h p b x order g offset limit st.partition_state w.0)
+    (when_true _ p (run_allowed x offset limit size stop bytes w.1))) w.2
+fetch_on_allowed h p b x s offset limit order g MetaFault h' st w =
+    silent h p b x s (Some (recorded_of order g)) (Fetch offset limit) MetaFault h' st
+    (does p b (broker_of x) s (Some (recorded_of order g)) (Fetch offset limit) MetaFault p (serving h p b x order g offset limit st.partition_state w.0) refl) w.1
+fetch_on_allowed h p b x s offset limit order g StoreFault h' st w =
+    silent h p b x s (Some (recorded_of order g)) (Fetch offset limit) StoreFault h' st
+    (does p b (broker_of x) s (Some (recorded_of order g)) (Fetch offset limit) StoreFault p (serving h p b x order g offset limit st.partition_state w.0) refl) w.1
+fetch_on_allowed h p b x s offset limit order g (Damaged place at) h' st w =
+    silent h p b x s (Some (recorded_of order g)) (Fetch offset limit) (Damaged place at) h' st
+    (does p b (broker_of x) s (Some (recorded_of order g)) (Fetch offset limit) (Damaged place at) p (serving h p b x order g offset limit st.partition_state w.0) refl) w.1
+fetch_on_allowed h p b x s offset limit order g other h' st w = elim w [ ]

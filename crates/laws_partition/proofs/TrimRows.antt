@@ -14,7 +14,7 @@ use Rattle.laws_partition.specs.declared.start_snapshot.Turned.TheVariants.{Answ
 use Rattle.laws_partition.specs.Seen.{Node, SeenPartition}
 use Rattle.laws_partition.specs.Partition.{broker_of, recorded_of, kept_line}
 use Rattle.laws_partition.specs.RowsOfLog.{MayStartAt, TrimRow, TrimOnRow}
-use Rattle.laws_partition.proofs.BoolTests.{and_true, not_false, when_true, eq_same, eq_differs}
+use Rattle.laws_partition.proofs.Refusing.{refuses, does, runs, halted}
 use Rattle.laws_partition.proofs.Lines.{cut_whole}
 use Rattle.laws_partition.proofs.NodeLaw.{none_back, trim_back, node_trimmed}
 use Rattle.laws_partition.proofs.Standing.{Standing, Allowed, Puts, silent, put, broker_at, wider_self, keeps_self}
@@ -64,15 +64,17 @@ trim_allowed h p b x s Down h' st w = silent h p b x s None Trim Down h' st (rw 
 trim_allowed h p b x s MetaFault h' st w = silent h p b x s None Trim MetaFault h' st (rw w.0 refl) w.1
 trim_allowed h p b x s other h' st w = elim w [ ]
 
-pub trim_on_allowed : (h : SeenPartition) (p : State) (b : ℕ) (x : Node) (s : Replica) (order : Order) (g : StartSnapshot) (answer : Answer) (h' : SeenPartition) → Standing h p b x s → TrimOnRow h b x g answer h'
+pub trim_on_allowed : (h : SeenPartition) (p : State) (b : ℕ) (x : Node) (s : Replica) (order : Order) (g : StartSnapshot) (answer : Answer) (h' : SeenPartition) → Standing h p b x s
+    → (g.stops ≡ x.stops → x.up ≡ true) → TrimOnRow h b x g answer h'
     → Allowed p b x s (Some (recorded_of order g)) Trim answer h'
-trim_on_allowed h p b x s order g Stopped h' st w =
-    silent h p b x s (Some (recorded_of order g)) Trim Stopped h' st (when_true _ p (not_false _ (eq_differs g.stops x.stops w.0))) w.1
-trim_on_allowed h p b x s order g Kept h' st w = silent h p b x s (Some (recorded_of order g)) Trim Kept h' st (when_true _ p (eq_same g.stops x.stops w.0)) w.1
-trim_on_allowed h p b x s order g DiskFault h' st w =
+trim_on_allowed h p b x s order g Stopped h' st up w =
+    silent h p b x s (Some (recorded_of order g)) Trim Stopped h' st (refuses p b (broker_of x) s (Some (recorded_of order g)) Trim Stopped Stopped (halted b x order g w.0) refl) w.1
+trim_on_allowed h p b x s order g Kept h' st up w =
+    silent h p b x s (Some (recorded_of order g)) Trim Kept h' st (does p b (broker_of x) s (Some (recorded_of order g)) Trim Kept p (runs b x order g (up w.0) w.0) refl) w.1
+trim_on_allowed h p b x s order g DiskFault h' st up w =
     break_allowed h p b x s (x.flushed_end, kept_line x, w.2.0) (Some (recorded_of order g)) Trim DiskFault h' st (trim_told h p b x s w.2.0 st w.2.1)
-    (when_true _ (breaks p b (broker_of x)) (and_true _ _ (eq_same g.stops x.stops w.0) w.1)) w.2.2
-trim_on_allowed h p b x s order g (Dropped base last) h' st w =
-    put h p p b x (record x { local = last + 1; saved = kept_line x }) s (Some (recorded_of order g)) Trim (Dropped base last) h' st (when_true _ p (eq_same g.stops x.stops w.0))
-    (trim_puts h p b x s (last + 1) st w.1 w.3) w.4
-trim_on_allowed h p b x s order g other h' st w = elim w [ ]
+    (does p b (broker_of x) s (Some (recorded_of order g)) Trim DiskFault (breaks p b (broker_of x)) (runs b x order g w.1 w.0) refl) w.2.2
+trim_on_allowed h p b x s order g (Dropped base last) h' st up w =
+    put h p p b x (record x { local = last + 1; saved = kept_line x }) s (Some (recorded_of order g)) Trim (Dropped base last) h' st
+    (does p b (broker_of x) s (Some (recorded_of order g)) Trim (Dropped base last) p (runs b x order g w.1 w.0) refl) (trim_puts h p b x s (last + 1) st w.1 w.3) w.4
+trim_on_allowed h p b x s order g other h' st up w = elim w [ ]

@@ -17,6 +17,7 @@ use Rattle.plain_log.specs.declared.state.Role.TheVariants.{Leads}
 use Rattle.plain_log.specs.declared.state.State.{State}
 use Rattle.plain_log.specs.State.{put_broker}
 use Rattle.plain_log.specs.Safe.{is_leaders, is_followers, HasJoined}
+use Rattle.plain_log.specs.Rows.{refusal_at}
 use Rattle.plain_log.specs.Step.{begins, same_command}
 use Rattle.registry.specs.declared.registry.Registry.{Registry}
 use Rattle.log_terms.specs.Log.{end_of}
@@ -30,15 +31,15 @@ use Rattle.laws_partition.specs.Partition.{broker_of, recorded_of}
 use Rattle.laws_partition.specs.Central.{LinesStand, SnapshotMatches}
 use Rattle.laws_partition.specs.RowsOfLog.{Notes}
 use Rattle.laws_partition.specs.Rows.{ClockRow, SwitchRow, AnswerRow, FirstRow, LaterRow}
-use Rattle.laws_partition.proofs.BoolTests.{and_true, eq_same, when_true}
+use Rattle.laws_partition.proofs.BoolTests.{and_true, eq_same}
 use Rattle.laws_partition.proofs.Standing.{Standing, Allowed, silent, LogsSafe, Steady, steady_self, steady_set, put_steady, put_lines, map_set, broker_at, wider_self}
-use Rattle.laws_partition.proofs.OwnRows.{append_allowed, raw_allowed, flush_allowed, roll_allowed, stop_allowed, up_allowed, fetch_allowed}
+use Rattle.laws_partition.proofs.OwnRows.{append_allowed, raw_allowed, flush_allowed, roll_allowed, stop_allowed, up_allowed, may_fetch, fetch_allowed}
 use Rattle.laws_partition.proofs.ElectionRows.{elect_allowed, unclean_allowed, shrink_allowed, expand_allowed, raise_allowed}
 use Rattle.laws_partition.proofs.LearnRows.{ack_allowed, learn_allowed}
 use Rattle.laws_partition.proofs.FollowRows.{join_allowed, join_starts, follow_allowed, follow_starts}
 use Rattle.laws_partition.proofs.RebuildRows.{join_on_allowed}
 use Rattle.laws_partition.proofs.TrimRows.{trim_allowed, trim_on_allowed}
-use Rattle.laws_partition.proofs.TierRows.{copy_allowed, copy_on_allowed, expire_allowed, expire_on_allowed, fetch_gives, fetch_on_allowed}
+use Rattle.laws_partition.proofs.TierRows.{copy_allowed, copy_on_allowed, expire_allowed, expire_on_allowed, fetch_on_allowed}
 use Rattle.laws_partition.proofs.OffsetRows.{offset_allowed, long_allowed, tiered_on_allowed, dated_allowed}
 use Rattle.laws_partition.proofs.FollowOnRows.{follow_on_allowed}
 
@@ -71,7 +72,7 @@ copying_allowed h p b x s on other h' st w = elim w [ ]
 
 one_turn : (h : SeenPartition) (p : State) (b : ℕ) (x : Node) (s : Replica) (command : Command) (answer : Answer) (h' : SeenPartition) → Standing h p b x s → AnswerRow h b x command answer h'
     → Allowed p b x s None command answer h'
-one_turn h p b x s (Append recs) answer h' st w = append_allowed h p b x s (Append recs) (built recs) answer h' st (built_long recs) refl w
+one_turn h p b x s (Append recs) answer h' st w = append_allowed h p b x s (Append recs) (built recs) answer h' st (built_long recs) refl (λ a. refl) w
 one_turn h p b x s (Raw bytes) answer h' st w = raw_allowed h p b x s bytes answer h' st w
 one_turn h p b x s Flush answer h' st w = flush_allowed h p b x s answer h' st w
 one_turn h p b x s Roll answer h' st w = roll_allowed h p b x s answer h' st w
@@ -108,6 +109,7 @@ pub record Starting (h : SeenPartition) (p : State) (b : ℕ) (x : Node) (comman
   pub cut : Option ℕ
   pub event : event_of (Begins g) command ≡ Began cut
   pub broker : Broker
+  pub free : refusal_at p b (broker_of x) None command ≡ None
   pub is : begins p (broker_of x) command cut ≡ Some broker
   pub stops : g.stops ≡ broker.stops
   pub role : g.role ≡ broker.role
@@ -121,14 +123,15 @@ pub record Starting (h : SeenPartition) (p : State) (b : ℕ) (x : Node) (comman
 
 -- one that changes nothing
 quiet : (h : SeenPartition) (p : State) (b : ℕ) (x : Node) (s : Replica) (command : Command) (g : StartSnapshot) (h' : SeenPartition) → Standing h p b x s → event_of (Begins g) command ≡ Began None
-    → begins p (broker_of x) command None ≡ Some (broker_of x) → g.stops ≡ x.stops → g.role ≡ x.role → g.end ≡ end_of x.log.batches → g.start ≡ p.registry.start → h' ≡ h
+    → refusal_at p b (broker_of x) None command ≡ None → begins p (broker_of x) command None ≡ Some (broker_of x) → g.stops ≡ x.stops → g.role ≡ x.role → g.end ≡ end_of x.log.batches → g.start ≡ p.registry.start → h' ≡ h
     → SnapshotMatches (put_broker p b (broker_of x)) command g → Starting h p b x command g h'
-quiet h p b x s command g h' st event is stops role end start same actor_state =
+quiet h p b x s command g h' st event free is stops role end start same actor_state =
     let bx = broker_at h p b x st.partition_state st.at in
     record {
       cut = None;
       event = event;
       broker = broker_of x;
+      free = free;
       is = is;
       stops = stops;
       role = role;
@@ -143,21 +146,22 @@ quiet h p b x s command g h' st event is stops role end start same actor_state =
 
 -- one that keeps what was recorded of its broker
 notes : (h : SeenPartition) (p : State) (b : ℕ) (x : Node) (s : Replica) (command : Command) (g : StartSnapshot) (h' : SeenPartition) → Standing h p b x s → event_of (Begins g) command ≡ Began None
-    → begins p (broker_of x) command None ≡ Some (broker_of x) → Notes h x g → h' ≡ h → SnapshotMatches (put_broker p b (broker_of x)) command g → Starting h p b x command g h'
-notes h p b x s command g h' st event is n same actor_state =
-    quiet h p b x s command g h' st event is n.stops n.role n.end (n.start ∙ ap (λ (r : Registry). r.start) (sym st.partition_state.registry)) same actor_state
+    → refusal_at p b (broker_of x) None command ≡ None → begins p (broker_of x) command None ≡ Some (broker_of x) → Notes h x g → h' ≡ h → SnapshotMatches (put_broker p b (broker_of x)) command g → Starting h p b x command g h'
+notes h p b x s command g h' st event free is n same actor_state =
+    quiet h p b x s command g h' st event free is n.stops n.role n.end (n.start ∙ ap (λ (r : Registry). r.start) (sym st.partition_state.registry)) same actor_state
 
 pub first_starts : (h : SeenPartition) (p : State) (b : ℕ) (x : Node) (s : Replica) (command : Command) (g : StartSnapshot) (h' : SeenPartition) → Standing h p b x s → FirstRow h b x command (Begins g) h'
     → Starting h p b x command g h'
 first_starts h p b x s (Follow limit) g h' st w =
     let k = follow_starts h p b x s limit g h' st w in
-    quiet h p b x s (Follow limit) g h' st refl k.is k.stops k.role k.end k.start k.same k.run
+    quiet h p b x s (Follow limit) g h' st refl k.free refl k.stops k.role k.end k.start k.same k.run
 first_starts h p b x s Join g h' st w =
     let k = join_starts h p b x s g h' st w in
     record {
       cut = Some g.end;
       event = refl;
       broker = k.broker;
+      free = k.free;
       is = k.is;
       stops = k.stops;
       role = k.role;
@@ -170,15 +174,13 @@ first_starts h p b x s Join g h' st w =
       steady = put_steady h p (put_broker p b k.broker) b x k.node s st k.puts;
       actor_state = k.rebuild;
     }
-first_starts h p b x s Trim g h' st w = notes h p b x s Trim g h' st refl (when_true _ (broker_of x) w.0) w.1 w.2 tt
-first_starts h p b x s Copy g h' st w = notes h p b x s Copy g h' st refl (when_true _ (broker_of x) (and_true _ _ w.0 w.1)) w.2 w.3 tt
-first_starts h p b x s Expire g h' st w = notes h p b x s Expire g h' st refl (when_true _ (broker_of x) (and_true _ _ w.0 w.1)) w.2 w.3 tt
-first_starts h p b x s (Offset LatestTiered) g h' st w =
-    notes h p b x s (Offset LatestTiered) g h' st refl (when_true _ (broker_of x) (and_true _ _ (and_true _ _ w.0 w.1) refl)) w.2 w.3 tt
-first_starts h p b x s (Offset (At ts)) g h' st w =
-    notes h p b x s (Offset (At ts)) g h' st refl (when_true _ (broker_of x) (and_true _ _ (and_true _ _ w.0 w.1) refl)) w.2 w.3 tt
+first_starts h p b x s Trim g h' st w = notes h p b x s Trim g h' st refl (rw w.0 refl) refl w.1 w.2 tt
+first_starts h p b x s Copy g h' st w = notes h p b x s Copy g h' st refl (rw (w.0, w.1) refl) refl w.2 w.3 tt
+first_starts h p b x s Expire g h' st w = notes h p b x s Expire g h' st refl (rw (w.0, w.1) refl) refl w.2 w.3 tt
+first_starts h p b x s (Offset LatestTiered) g h' st w = notes h p b x s (Offset LatestTiered) g h' st refl (rw (w.0, w.1) refl) refl w.2 w.3 tt
+first_starts h p b x s (Offset (At ts)) g h' st w = notes h p b x s (Offset (At ts)) g h' st refl (rw (w.0, w.1) refl) refl w.2 w.3 tt
 first_starts h p b x s (Fetch offset limit) g h' st w =
-    notes h p b x s (Fetch offset limit) g h' st refl (when_true _ (broker_of x) (fetch_gives h p x offset g h' st.partition_state w)) w.5 w.6 tt
+    notes h p b x s (Fetch offset limit) g h' st refl (may_fetch h p b x offset limit st.partition_state w.0 w.1 w.2 w.3) refl w.5 w.6 tt
 first_starts h p b x s command g h' st w = elim w [ ]
 
 -- what holds of a command that has begun
@@ -206,14 +208,14 @@ later_same h b x command g turned h' w = elim w [ ]
 
 pub later_allowed : (h : SeenPartition) (p : State) (b : ℕ) (x : Node) (s : Replica) (order : Order) (command : Command) (g : StartSnapshot) (answer : Answer) (h' : SeenPartition) → Standing h p b x s
     → GoingOn p x order command g → LaterRow h b x command g (Answers answer) h' → Allowed p b x s (Some (recorded_of order g)) command answer h'
-later_allowed h p b x s order (Follow limit) g answer h' st k w = follow_on_allowed h p b x s limit order g answer h' st (record { run = k.stands; recorded = k.joined refl }) w
-later_allowed h p b x s order Join g answer h' st k w = join_on_allowed h p b x s order g answer h' st (record { run = k.stands; recorded = k.joined refl }) w
-later_allowed h p b x s order Trim g answer h' st k w = trim_on_allowed h p b x s order g answer h' st w
-later_allowed h p b x s order Copy g answer h' st k w = copy_on_allowed h p b x s order g answer h' st k.up w
-later_allowed h p b x s order Expire g answer h' st k w = expire_on_allowed h p b x s order g answer h' st k.up w
-later_allowed h p b x s order (Offset LatestTiered) g answer h' st k w = tiered_on_allowed h p b x s order g answer h' st (k.leads refl) w
-later_allowed h p b x s order (Offset (At ts)) g answer h' st k w = dated_allowed h p b x s order ts g answer h' st (k.leads refl) w
-later_allowed h p b x s order (Fetch offset limit) g answer h' st k w = fetch_on_allowed h p b x s offset limit order g answer h' st (k.leads refl) w
+later_allowed h p b x s order (Follow limit) g answer h' st k w = follow_on_allowed h p b x s limit order g answer h' st (record { run = k.stands; recorded = k.joined refl; up = k.up }) w
+later_allowed h p b x s order Join g answer h' st k w = join_on_allowed h p b x s order g answer h' st (record { run = k.stands; recorded = k.joined refl; up = k.up }) w
+later_allowed h p b x s order Trim g answer h' st k w = trim_on_allowed h p b x s order g answer h' st k.up w
+later_allowed h p b x s order Copy g answer h' st k w = copy_on_allowed h p b x s order g answer h' st w
+later_allowed h p b x s order Expire g answer h' st k w = expire_on_allowed h p b x s order g answer h' st w
+later_allowed h p b x s order (Offset LatestTiered) g answer h' st k w = tiered_on_allowed h p b x s order g answer h' st w
+later_allowed h p b x s order (Offset (At ts)) g answer h' st k w = dated_allowed h p b x s order ts g answer h' st w
+later_allowed h p b x s order (Fetch offset limit) g answer h' st k w = fetch_on_allowed h p b x s offset limit order g answer h' st w
 later_allowed h p b x s order command g answer h' st k w = elim w [ ]
 
 -- it doesn't begin again

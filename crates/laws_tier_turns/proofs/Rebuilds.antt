@@ -27,7 +27,8 @@ use Rattle.plain_log.specs.declared.state.Role.TheVariants.{Joined}
 use Rattle.plain_log.specs.State.{followed, joined, path_of, stopped, put_broker, breaks, actor_at, with_actor}
 use Rattle.plain_log.specs.Ends.{is_end}
 use Rattle.plain_log.specs.RowsOfFollowers.{extended, rebuilt as rebuilt_broker}
-use Rattle.plain_log.specs.Rows.{row}
+use Rattle.plain_log.specs.Refusals.{unless}
+use Rattle.plain_log.specs.Rows.{row, refusal_at}
 use Rattle.plain_log.specs.Step.{event_step, step}
 use Rattle.plain_log.specs.Safe.{HasOnPath, HasJoined, PlainSafe, is_followers}
 use Rattle.plain_log.proofs.Options.{when_some, map_some, both, eq_of}
@@ -106,12 +107,22 @@ put_made p r q b x n z w a y m same put after = record {
     all : with_actor a y (put_broker p b w) ≡ q
     all = ap (with_actor a y) put ∙ after
 
+-- a rebuild that ended wasn't refused
+not_refused : (p r : Plain) (why : Option Answer) (n : ℕ) (effect : Option Plain) → unless why (Rebuilt n) p effect ≡ Some r → effect ≡ Some r
+not_refused p r None n effect is = is
+not_refused p r (Some reason) n effect is = absurd cc
+
+-- nor was one whose disk failed
+not_refused_torn : (p r : Plain) (why : Option Answer) (n : ℕ) (effect : Option Plain) → unless why (DiskFaultAt n) p effect ≡ Some r → effect ≡ Some r
+not_refused_torn p r None n effect is = is
+not_refused_torn p r (Some reason) n effect is = absurd cc
+
 -- the step of a rebuild that ended
 restarted : (p q : Plain) (b : ℕ) (x : Broker) (s : Replica) (recorded : PlainSnapshot) (a : ℕ) (y : Actor) (n : ℕ) → option_map (with_actor a y) (row p b x s (Some recorded) Join (Rebuilt n)) ≡ Some q
     → Restarted p q b x n
 restarted p q b x s recorded a y n is =
     let k = map_some (with_actor a y) (row p b x s (Some recorded) Join (Rebuilt n)) q is in
-    let z = map_some _ (rebuilt_broker p x recorded n) k.0 k.1 in
+    let z = map_some _ (rebuilt_broker p x recorded n) k.0 (not_refused p k.0 (refusal_at p b x (Some recorded) Join) n _ k.1) in
     put_made p k.0 q b x n z.0 (record z.0 { flushed_end = n }) a y (made p x recorded n z.0 z.1) refl z.2 k.2
 
 -- and of one whose disk failed
@@ -119,7 +130,7 @@ torn_down : (p q : Plain) (b : ℕ) (x : Broker) (s : Replica) (recorded : Plain
     → Restarted p q b x n
 torn_down p q b x s recorded a y n is =
     let k = map_some (with_actor a y) (row p b x s (Some recorded) Join (DiskFaultAt n)) q is in
-    let z = map_some (breaks p b) (rebuilt_broker p x recorded n) k.0 k.1 in
+    let z = map_some (breaks p b) (rebuilt_broker p x recorded n) k.0 (not_refused_torn p k.0 (refusal_at p b x (Some recorded) Join) n _ k.1) in
     put_made p k.0 q b x n z.0 (record (stopped z.0) { loose = true }) a y (made p x recorded n z.0 z.1) refl z.2 k.2
 
 -- that of a turn

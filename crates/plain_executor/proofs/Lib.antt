@@ -1,4 +1,3 @@
-pub mod Fields
 pub mod Splits
 pub mod Joined
 pub mod Commons
@@ -14,4 +13,4 @@ pub mod Verdicts
 pub mod Tally
 pub mod Completion
 pub mod Fitting
-pub mod Rows
+mod Refused

@@ -13,6 +13,7 @@ use Rattle.plain_log.specs.declared.state.Broker.{Broker}
 use Rattle.plain_log.specs.declared.state.PlainSnapshot.{PlainSnapshot}
 use Rattle.plain_log.specs.declared.state.State.{State}
 use Rattle.plain_log.specs.State.{put_broker, with_actor, actor_at}
+use Rattle.plain_log.specs.Rows.{refusal_at}
 use Rattle.plain_log.specs.Step.{begins, recorded_of, event_step, next_actor, step}
 use Rattle.plain_log.specs.Safe.{PlainSafe}
 use Rattle.plain_log.specs.Laws.{StepsKeepSafe}
@@ -48,13 +49,14 @@ none_is (Some x) e = absurd cc
 
 -- a command that begins
 pub begun_step : (p q : State) (a : ℕ) (order : Order) (x : Broker) (s : Replica) (y : Actor) (cut : Option ℕ) (change : Change) (recorded : PlainSnapshot) (n : ℕ)
-    → n ≡ y.number → slice_get p.brokers order.broker.0 ≡ Some x → y.snapshot ≡ None → begins p x order.command cut ≡ Some (begun_at x change)
+    → n ≡ y.number → slice_get p.brokers order.broker.0 ≡ Some x → y.snapshot ≡ None → refusal_at p order.broker.0 x None order.command ≡ None
+    → begins p x order.command cut ≡ Some (begun_at x change)
     → is_begin change ≡ true → recorded ≡ recorded_of p order (begun_at x change)
     → q ≡ with_actor a (record { number = n; snapshot = Some recorded }) (changed p order.broker.0 x s order.command change)
     → event_step p a y order x s (Begins cut) ≡ Some q
-begun_step p q a order x s y cut change recorded n num bx none beg is recorded_is made =
+begun_step p q a order x s y cut change recorded n num bx none free beg is recorded_is made =
     let put = begin_change p order.broker.0 x s order.command change bx is in
-    rw (beg, none) (rw (made, recorded_is, put, num) refl)
+    rw (beg, none, free) (rw (made, recorded_is, put, num) refl)
 
 -- the safety rules hold after a step
 pub safe_after : (p q : State) (order : Order) (entry : JournalEntry) (t : Bool) → StepsKeepSafe → PlainSafe p

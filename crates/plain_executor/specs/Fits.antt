@@ -1,16 +1,14 @@
 -- Which commands a machine takes.
 use Rattle.std.specs.Prelude.{◌≡◌, ℕ, List, Some, slice_get}
-use Rattle.record_batch.specs.Build.{IsBuildable}
+use Rattle.plain_log.specs.Orders.{IsBuildableAppend as IsBuildableIn}
 use Rattle.plain_log.specs.declared.command.ActorList.{ActorList}
 use Rattle.plain_log.specs.declared.command.Order.{Order}
 use Rattle.plain_log.specs.Runs.{orders_of}
 use Rattle.plain_log.specs.declared.command.Command.{Command}
-use Rattle.plain_log.specs.declared.command.Command.TheVariants.{Append}
 
 -- the records of an append make a batch
 abbrev pub IsBuildableAppend : Command → Type 0
-IsBuildableAppend (Append recs) = IsBuildable recs
-IsBuildableAppend other = Unit {0}
+IsBuildableAppend command = IsBuildableIn command
 
 -- so is each order of the lists
 abbrev pub AreFor : List ActorList → Type 0

@@ -5,16 +5,14 @@ ghost use Rattle.plain_log.specs.Step.{begins, recorded_of};
 ghost use Rattle.plain_executor.specs.Change.{MatchesPaths, begun_at, is_begin};
 
 use crate::change::{Change, given};
-use crate::ends::{end, end_in};
-use crate::followers::{cut_at, follows};
+use crate::ends::end_in;
+use crate::followers::cut_at;
 use crate::part::Part;
-use crate::paths::leading_end;
-use crate::reads::{has_run, takes_turns};
-use crate::roles::is_leader;
+use crate::reads::takes_turns;
 use plain_log::{Broker, Command, Order, PlainSnapshot, Role, State, Which};
 use std::alloc::AllocError;
 
-/// What the beginning of a command changes, where it may begin, with this end of a log that it cuts.
+/// What the beginning of a command that isn't refused changes, with this end of a log that it cuts.
 pub(crate) fn beginning(
     p: &State,
     x: &Broker,
@@ -25,7 +23,6 @@ pub(crate) fn beginning(
     ensures is { begins p.now x.now command.now cut ≡ option_map (begun_at x.now) result }
     ensures few { IfSome result (λ change. is_begin change ≡ true) }
 {
-    let leads = x.up && is_leader(x.role);
     match (command, cut) {
         (Command::Join, Some(n)) => match cut_at(p, x, n) {
             Some((epoch, count)) => Some(Change::Cuts {
@@ -35,14 +32,15 @@ pub(crate) fn beginning(
             }),
             None => None,
         },
-        (Command::Follow { .. }, None) => given(
-            follows(p, x) && end(&x.log) < leading_end(p),
-            Change::Same,
-        ),
-        (Command::Copy | Command::Expire, None) => given(leads, Change::Same),
-        (Command::Trim, None) => given(x.up, Change::Same),
-        (Command::Fetch { offset, .. }, None) => given(has_run(p, x, *offset, None), Change::Same),
-        (Command::Offset(which), None) => given(leads && takes_turns(which), Change::Same),
+        (Command::Offset(which), None) => given(takes_turns(which), Change::Same),
+        (
+            Command::Follow { .. }
+            | Command::Copy
+            | Command::Trim
+            | Command::Expire
+            | Command::Fetch { .. },
+            None,
+        ) => Some(Change::Same),
         _ => None,
     }
 }

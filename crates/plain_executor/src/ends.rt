@@ -5,11 +5,9 @@
 ghost use Rattle.std.specs.Prelude.{◌≡◌, ◌≤◌, ◌<◌, ◌^◌, ◌+◌, ◌==◌, take, drop, length};
 ghost use Rattle.log_terms.specs.Batch.{base_of, last_of, last_offset_delta_of};
 ghost use Rattle.log_terms.specs.Log.{IsConsecutive, end_of, up_to, from_offset};
-ghost use Rattle.plain_log.specs.State.{is_stale};
 
-use crate::bytes_of::{base_offset, last_delta};
 use crate::part::Part;
-use plain_log::State;
+use plain_log::{base_offset, last_delta};
 use shared_log::Batches;
 
 /// The offset of a batch's last record.
@@ -58,14 +56,4 @@ pub(crate) fn count_up_to(n: u64, log: &Part) -> usize
         }
     }
     low
-}
-
-/// Whether the registry's epoch is above this one.
-pub(crate) fn is_stale_in(p: &State, epoch: Option<u32>) -> bool
-    ensures { result ≡ is_stale p.now epoch }
-{
-    match epoch {
-        Some(e) => e < p.registry.epoch,
-        None => false,
-    }
 }

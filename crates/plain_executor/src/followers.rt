@@ -1,6 +1,7 @@
-//! The rows of a follower that comes to where its log meets the leader's, and copies from there on.
+//! The rows of a follower that comes to where its log meets the leader's, and copies from there on, which aren't
+//! refused.
 
-ghost use Rattle.std.specs.Prelude.{◌≡◌, ◌≤◌, ℕ, List, take, drop, length, option_map, Some, None, IfSome};
+ghost use Rattle.std.specs.Prelude.{◌≡◌, ◌≤◌, ◌==◌, ◌&&◌, not, ℕ, List, take, drop, length, option_map, Some, None, IfSome};
 ghost use Rattle.std.specs.Option.{option_copied};
 ghost use Rattle.log_terms.specs.Log.{IsConsecutive, end_of};
 ghost use Rattle.registry.specs.Calls.{when};
@@ -9,24 +10,18 @@ ghost use Rattle.plain_log.specs.declared.command.Command.{Command};
 ghost use Rattle.plain_log.specs.Ends.{common};
 ghost use Rattle.plain_log.specs.Fetch.{is_within};
 ghost use Rattle.plain_log.specs.State.{path_of};
-ghost use Rattle.plain_log.specs.RowsOfFollowers.{is_current, may_follow, cut_to, goes_on, extended, was_passed};
-ghost use Rattle.plain_log.specs.RowsOfFollowers.{rebuilt, copied, later_row, join_row, follow_row};
+ghost use Rattle.plain_log.specs.RowsOfFollowers.{cut_to, ends_as, extended, was_passed};
+ghost use Rattle.plain_log.specs.RowsOfFollowers.{rebuilt, copied, join_row, follow_row};
+ghost use Rattle.plain_log.specs.Safe.{PlainSafe};
 ghost use Rattle.plain_executor.specs.Change.{AreMatching, MatchesPaths, changed, cut, path_in};
 
 use crate::change::{Change, given};
-use crate::ends::{count_up_to, end, end_in, is_stale_in};
+use crate::ends::{count_up_to, end, end_in};
 use crate::part::Part;
-use crate::paths::{is_led, leading_end, path};
+use crate::paths::path;
 use crate::reads::fits_limit;
-use crate::roles::{followed_in, joined_in};
-use plain_log::{Answer, Broker, PlainSnapshot, State};
-
-/// Whether the broker's role has an epoch of which it is this, and the epoch isn't stale.
-fn is_on_time(p: &State, x: &Broker, epoch: Option<u32>) -> bool
-    ensures { result ≡ is_current p.now x.now epoch }
-{
-    x.up && epoch.is_some() && !is_stale_in(p, epoch)
-}
+use crate::refusals::leading_end;
+use plain_log::{Answer, Broker, PlainSnapshot, State, followed_in};
 
 /// How many batches two logs have in common: those up to the last place where both have the same one.
 #[tactic(auto, using(crate::proofs::Commons::common_before, crate::proofs::Commons::common_up_to))]
@@ -51,21 +46,25 @@ pub(crate) fn cut_at(p: &State, x: &Broker, n: u64) -> Option<(u32, usize)>
     let path = path(p.paths.as_slice(), epoch)?;
     let log = Part::of(&x.log);
     let count = count_common(&log, &Part::of(path));
-    let joins = x.up && epoch >= p.registry.epoch && is_led(p);
-    if joins && u128::from(n) == end_in(&log.first(count)) {
+    if u128::from(n) == end_in(&log.first(count)) {
         Some((epoch, count))
     } else {
         None
     }
 }
 
-/// Whether a later turn continues.
-fn is_going_on(p: &State, x: &Broker, recorded: &PlainSnapshot) -> bool
-    ensures { result ≡ goes_on p.now x.now recorded.now }
+/// Whether the log ends as it was recorded.
+fn ends_so(x: &Broker, recorded: &PlainSnapshot) -> bool
+    ensures { result ≡ ends_as x.now recorded.now }
 {
-    recorded.stops == x.stops
-        && !is_stale_in(p, followed_in(recorded.role))
-        && end(&x.log) == u128::from(recorded.end)
+    end(&x.log) == u128::from(recorded.end)
+}
+
+/// Whether it ends elsewhere, here.
+fn has_passed(x: &Broker, recorded: &PlainSnapshot, n: u64) -> bool
+    ensures { result ≡ (not (ends_as x.now recorded.now) && (n == end_of x.now.log)) }
+{
+    !ends_so(x, recorded) && u128::from(n) == end(&x.log)
 }
 
 /// How the log becomes longer that ends at n then: as the first batches, so many, of the path of this epoch.
@@ -93,21 +92,6 @@ fn was_passed_by(p: &State, recorded: &PlainSnapshot, n: u64) -> bool
     recorded.start < n && n <= p.registry.start
 }
 
-/// Whether a later turn of either gets this answer.
-fn later(p: &State, x: &Broker, recorded: &PlainSnapshot, answer: &Answer) -> bool
-    ensures { later_row p.now x.now recorded.now answer.now ≡ when result p.now }
-{
-    let stays = recorded.stops == x.stops;
-    let stale = is_stale_in(p, followed_in(recorded.role));
-    let last = end(&x.log);
-    match answer {
-        Answer::Stopped => !stays,
-        Answer::StaleEpoch(n) => stays && stale && *n == u64::from(p.registry.epoch),
-        Answer::Passed(n) => stays && !stale && u128::from(*n) == last && *n != recorded.end,
-        _ => false,
-    }
-}
-
 /// How the log is restarted at n.
 fn rebuilt_to(p: &State, x: &Broker, recorded: &PlainSnapshot, n: u64) -> Option<(u32, usize)>
     requires { (e : ℕ) (path : List (List ℕ)) → path_of p.now.paths e ≡ Some path → IsConsecutive 0 path }
@@ -115,7 +99,7 @@ fn rebuilt_to(p: &State, x: &Broker, recorded: &PlainSnapshot, n: u64) -> Option
         ≡ option_map (λ at. record x.now { log = take at.1 (path_in p.now at.0) }) result }
 {
     let at = longer_to(p, x, n)?;
-    if is_going_on(p, x, recorded) && !was_passed_by(p, recorded, n) {
+    if ends_so(x, recorded) && !was_passed_by(p, recorded, n) {
         Some(at)
     } else {
         None
@@ -128,15 +112,7 @@ fn join_first(p: &State, b: usize, x: &Broker, answer: &Answer) -> Option<Change
     ensures { (s : Replica) (command : Command)
         → join_row p.now b x.now None answer.now ≡ option_map (changed p.now b x.now s command) result }
 {
-    let followed = followed_in(x.role);
     match answer {
-        Answer::Down => given(!x.up, Change::Same),
-        Answer::NotFollower => given(x.up && followed.is_none(), Change::Same),
-        Answer::StaleEpoch(n) => given(
-            x.up && is_stale_in(p, followed) && *n == u64::from(p.registry.epoch),
-            Change::Same,
-        ),
-        Answer::NoLeader => given(is_on_time(p, x, followed) && !is_led(p), Change::Same),
         Answer::DiskFaultAt(n) => match cut_at(p, x, *n) {
             Some(_) => Some(Change::Breaks(x.flushed_end.min(*n))),
             None => None,
@@ -165,8 +141,9 @@ fn join_later(
     ensures { (s : Replica) (command : Command)
         → join_row p.now b x.now (Some recorded.now) answer.now ≡ option_map (changed p.now b x.now s command) result }
 {
-    let on = is_going_on(p, x, recorded);
+    let on = ends_so(x, recorded);
     match answer {
+        Answer::Passed(n) => given(has_passed(x, recorded, *n), Change::Same),
         Answer::BelowStart(start) => given(
             on && *start == p.registry.start && recorded.start < *start,
             Change::Same,
@@ -184,7 +161,7 @@ fn join_later(
             }),
             None => None,
         },
-        _ => given(later(p, x, recorded, answer), Change::Same),
+        _ => None,
     }
 }
 
@@ -208,32 +185,14 @@ pub(crate) fn join(
     }
 }
 
-/// Whether the broker may copy from the leader.
-pub(crate) fn follows(p: &State, x: &Broker) -> bool
-    ensures { result ≡ may_follow p.now x.now }
-{
-    is_on_time(p, x, joined_in(x.role)) && is_led(p)
-}
-
 /// What the first turn of a follow changes: nothing.
 fn follow_first(p: &State, x: &Broker, answer: &Answer) -> bool
+    requires safe { PlainSafe p.now }
     ensures { (b limit : ℕ) → follow_row p.now b x.now limit None answer.now ≡ when result p.now }
 {
-    let joined = joined_in(x.role);
-    let last = end(&x.log);
-    let leading = leading_end(p);
     match answer {
-        Answer::Down => !x.up,
-        Answer::NotJoined => x.up && joined.is_none(),
-        Answer::StaleEpoch(n) => {
-            x.up && is_stale_in(p, joined) && *n == u64::from(p.registry.epoch)
-        }
-        Answer::NoLeader => is_on_time(p, x, joined) && !is_led(p),
-        Answer::Level => follows(p, x) && last == leading,
-        Answer::Moved(n) => {
-            follows(p, x) && last != leading && last < u128::from(*n) && u128::from(*n) <= leading
-        }
-        Answer::DiskFault | Answer::Damaged(..) => follows(p, x) && last != leading,
+        Answer::Moved(n) => end(&x.log) < u128::from(*n) && *n <= leading_end(p),
+        Answer::DiskFault | Answer::Damaged(..) => true,
         _ => false,
     }
 }
@@ -263,7 +222,7 @@ fn copied_to(
 {
     let (epoch, count) = longer_to(p, x, n)?;
     let path = path(p.paths.as_slice(), epoch)?;
-    if is_going_on(p, x, recorded) && adds_within(limit, &Part::of(path), x.log.len(), count) {
+    if ends_so(x, recorded) && adds_within(limit, &Part::of(path), x.log.len(), count) {
         Some((epoch, count))
     } else {
         None
@@ -278,7 +237,8 @@ pub(crate) fn follow(
     recorded: Option<&PlainSnapshot>,
     answer: &Answer,
 ) -> Option<Change>
-    requires { (e : ℕ) (path : List (List ℕ)) → path_of p.now.paths e ≡ Some path → IsConsecutive 0 path }
+    requires paths { (e : ℕ) (path : List (List ℕ)) → path_of p.now.paths e ≡ Some path → IsConsecutive 0 path }
+    requires safe { PlainSafe p.now }
     ensures { (b : ℕ) (s : Replica) (command : Command)
         → follow_row p.now b x.now limit (option_copied recorded.entry) answer.now
         ≡ option_map (changed p.now b x.now s command) result }
@@ -303,11 +263,9 @@ fn follow_later(
         ≡ option_map (changed p.now b x.now s command) result }
 {
     match answer {
-        Answer::TooManySegments => given(is_going_on(p, x, recorded), Change::Same),
-        Answer::DiskFault => given(
-            is_going_on(p, x, recorded) && x.up,
-            Change::Breaks(x.flushed_end),
-        ),
+        Answer::Passed(n) => given(has_passed(x, recorded, *n), Change::Same),
+        Answer::TooManySegments => given(ends_so(x, recorded), Change::Same),
+        Answer::DiskFault => given(ends_so(x, recorded), Change::Breaks(x.flushed_end)),
         Answer::Copied(n) => match copied_to(p, x, recorded, limit, *n) {
             Some((epoch, count)) => Some(Change::Extends {
                 epoch,
@@ -316,6 +274,6 @@ fn follow_later(
             }),
             None => None,
         },
-        _ => given(later(p, x, recorded, answer), Change::Same),
+        _ => None,
     }
 }

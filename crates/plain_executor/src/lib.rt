@@ -15,7 +15,6 @@
 
 mod altering;
 mod beginning;
-mod bytes_of;
 mod change;
 mod complete;
 mod cooling;
@@ -33,8 +32,8 @@ mod part;
 mod paths;
 mod plain;
 mod reads;
+mod refusals;
 mod replicas;
-mod roles;
 mod stepping;
 mod tiers;
 mod trace;

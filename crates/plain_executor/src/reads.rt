@@ -1,56 +1,18 @@
-//! The rows of what a leader is asked for: batches, and offsets.
+//! The rows of what a leader is asked for, batches and offsets, which aren't refused.
 
 ghost use Rattle.std.specs.Prelude.{◌≡◌, ◌≤◌, ◌+◌, ◌^◌, ◌<◌, ◌*◌, ℕ, take, drop, length, Some, bytes_eq, if◌then◌else◌};
 ghost use Rattle.std.specs.Option.{option_copied};
 ghost use Rattle.log_terms.specs.Log.{IsConsecutive, joined, from_offset, end_of};
 ghost use Rattle.registry.specs.Calls.{when};
-ghost use Rattle.plain_log.specs.Fetch.{is_on, serves, in_range, gives_run, fitting, run_of};
-ghost use Rattle.plain_log.specs.Fetch.{is_within, stops_rightly, is_run};
+ghost use Rattle.plain_log.specs.declared.state.State.{State as StateIs};
+ghost use Rattle.plain_log.specs.Fetch.{fitting, run_of, is_within, stops_rightly, is_run};
 ghost use Rattle.plain_executor.specs.Change.{is_timed};
 ghost use Rattle.plain_log.specs.RowsOfReads.{fetch_row, offset_row, offset_at, first_at, is_offset_of, is_long};
 
-use crate::bytes_of::{base_offset, max_ts};
-use crate::ends::{count_up_to, end, end_in};
+use crate::ends::{count_up_to, end_in};
 use crate::part::Part;
-use crate::roles::{is_leader, is_role};
-use plain_log::{Answer, Broker, PlainSnapshot, State, Which};
+use plain_log::{Answer, Broker, PlainSnapshot, State, Which, base_offset, max_ts};
 use tier_base::Stop;
-
-/// Whether the broker is up, and has not stopped since the command began.
-fn stays_up(x: &Broker, recorded: Option<&PlainSnapshot>) -> bool
-    ensures { result ≡ is_on x.now (option_copied recorded.entry) }
-{
-    match recorded {
-        None => x.up,
-        Some(recorded) => x.up && recorded.stops == x.stops,
-    }
-}
-
-/// Whether it also leads, and in the epoch in which the command began.
-fn is_serving(x: &Broker, recorded: Option<&PlainSnapshot>) -> bool
-    ensures { result ≡ serves x.now (option_copied recorded.entry) }
-{
-    match recorded {
-        None => x.up && is_leader(x.role),
-        Some(snapshot) => stays_up(x, recorded)
-            && is_leader(x.role)
-            && is_role(snapshot.role, x.role),
-    }
-}
-
-/// Whether the offset isn't below the log start offset nor above the log end offset.
-fn is_in_range(p: &State, x: &Broker, offset: u64) -> bool
-    ensures { result ≡ in_range p.now x.now offset }
-{
-    p.registry.start <= offset && u128::from(offset) <= end(&x.log)
-}
-
-/// Whether a fetch at the offset returns a run.
-pub(crate) fn has_run(p: &State, x: &Broker, offset: u64, recorded: Option<&PlainSnapshot>) -> bool
-    ensures { result ≡ gives_run p.now x.now offset (option_copied recorded.entry) }
-{
-    is_serving(x, recorded) && is_in_range(p, x, offset) && offset < x.known_high_watermark
-}
 
 /// How many of the first batches fit the room.
 fn count_fitting(room: u64, log: &Part) -> usize
@@ -146,7 +108,6 @@ fn is_told_run(x: &Broker, offset: u64, limit: u64, size: u64, stop: Stop, bytes
 
 /// Whether a fetch gets this answer.
 pub(crate) fn fetch(
-    p: &State,
     x: &Broker,
     offset: u64,
     limit: u32,
@@ -154,35 +115,18 @@ pub(crate) fn fetch(
     answer: &Answer,
 ) -> bool
     requires { IsConsecutive 0 x.now.log }
-    ensures { fetch_row p.now x.now offset limit (option_copied recorded.entry) answer.now ≡ when result p.now }
+    ensures { (p : StateIs) → fetch_row p x.now offset limit (option_copied recorded.entry) answer.now ≡ when result p }
 {
     match answer {
-        Answer::Down => recorded.is_none() && !x.up,
-        Answer::Stopped => recorded.is_some() && !stays_up(x, recorded),
-        Answer::NotLeader => stays_up(x, recorded) && !is_serving(x, recorded),
-        Answer::OutOfRange(start, last) => {
-            is_serving(x, recorded)
-                && !is_in_range(p, x, offset)
-                && *start == p.registry.start
-                && u128::from(*last) == end(&x.log)
-        }
-        Answer::Empty => {
-            is_serving(x, recorded) && is_in_range(p, x, offset) && x.known_high_watermark <= offset
-        }
         Answer::Run {
             size,
             stop,
             bytes,
             ..
-        } => {
-            has_run(p, x, offset, recorded)
-                && is_told_run(x, offset, u64::from(limit), *size, *stop, bytes.as_slice())
-        }
-        Answer::DiskFault => recorded.is_none() && has_run(p, x, offset, recorded),
-        Answer::MetaFault | Answer::StoreFault => {
-            recorded.is_some() && has_run(p, x, offset, recorded)
-        }
-        Answer::Damaged(..) => has_run(p, x, offset, recorded),
+        } => is_told_run(x, offset, u64::from(limit), *size, *stop, bytes.as_slice()),
+        Answer::DiskFault => recorded.is_none(),
+        Answer::MetaFault | Answer::StoreFault => recorded.is_some(),
+        Answer::Damaged(..) => true,
         _ => false,
     }
 }
@@ -244,20 +188,12 @@ pub(crate) fn offset(
     ensures { offset_row p.now x.now which.now (option_copied recorded.entry) answer.now ≡ when result p.now }
 {
     let snapshot = recorded.is_some();
-    let serving = is_serving(x, recorded);
     match answer {
-        Answer::Down => !snapshot && !x.up,
-        Answer::Stopped => snapshot && !stays_up(x, recorded),
-        Answer::NotLeader => stays_up(x, recorded) && !serving,
-        Answer::Offset(n) => {
-            serving && takes_turns(which) == snapshot && is_offset(p, x, which, Some(*n))
-        }
-        Answer::NoOffset => {
-            snapshot && serving && takes_turns(which) && is_offset(p, x, which, None)
-        }
-        Answer::MetaFault => serving && may_fail(which, snapshot),
+        Answer::Offset(n) => takes_turns(which) == snapshot && is_offset(p, x, which, Some(*n)),
+        Answer::NoOffset => snapshot && takes_turns(which) && is_offset(p, x, which, None),
+        Answer::MetaFault => may_fail(which, snapshot),
         Answer::StoreFault | Answer::DiskFault | Answer::Damaged(..) => {
-            snapshot && serving && matches!(which, Which::At(_))
+            snapshot && matches!(which, Which::At(_))
         }
         _ => false,
     }

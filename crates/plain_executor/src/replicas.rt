@@ -1,6 +1,6 @@
 //! The rows of acknowledgements, and of the replicas in sync.
 
-ghost use Rattle.std.specs.Prelude.{◌≡◌, ◌<◌, ◌&&◌, not, true, is_some, ℕ, List, length, min, Some};
+ghost use Rattle.std.specs.Prelude.{◌≡◌, ◌<◌, ℕ, List, length, min, Some};
 ghost use Rattle.std.specs.Prelude.{slice_get, slice_set, option_map, unwrap_or, if◌then◌else◌};
 ghost use Rattle.log_terms.specs.Log.{IsConsecutive};
 ghost use Rattle.registry.specs.Replicas.{least_acked};
@@ -8,15 +8,15 @@ ghost use Rattle.registry.specs.Registry.{with_ack};
 ghost use Rattle.registry.specs.declared.registry.Replica.{Replica as ReplicaIs};
 ghost use Rattle.plain_log.specs.declared.command.Command.{Command};
 ghost use Rattle.plain_log.specs.declared.state.Broker.{Broker as BrokerIs};
-ghost use Rattle.plain_log.specs.State.{acking, is_stale, path_of};
+ghost use Rattle.plain_log.specs.declared.state.State.{State as StateIs};
+ghost use Rattle.plain_log.specs.State.{path_of};
 ghost use Rattle.plain_log.specs.RowsOfReplicas.{ack_row, shrink_row, expand_row};
 ghost use Rattle.plain_executor.specs.Change.{changed};
 
 use crate::change::{Change, given};
-use crate::ends::{count_up_to, is_stale_in};
+use crate::ends::count_up_to;
 use crate::part::Part;
 use crate::paths::path;
-use crate::roles::acking_in;
 use plain_log::{Answer, Broker, Replica, State};
 
 /// The least acknowledged end of the replicas in sync, where this one has acknowledged so much.
@@ -75,24 +75,15 @@ pub(crate) fn ack(p: &State, b: usize, x: &Broker, answer: &Answer) -> Option<Ch
     ensures { (s : ReplicaIs) (command : Command) → slice_get p.now.registry.replicas b ≡ Some s
         → ack_row p.now b x.now s answer.now ≡ option_map (changed p.now b x.now s command) result }
 {
-    let acking = acking_in(x.role);
-    let stale = is_stale_in(p, acking);
     match answer {
-        Answer::Down => given(!x.up, Change::Same),
-        Answer::NotJoined => given(x.up && acking.is_none(), Change::Same),
-        Answer::StaleEpoch(n) => given(
-            x.up && stale && *n == u64::from(p.registry.epoch),
-            Change::Same,
-        ),
-        Answer::OkAt(mark) if x.up && acking.is_some() && !stale => ack_at(p, b, x, *mark),
+        Answer::OkAt(mark) => ack_at(p, b, x, *mark),
         _ => None,
     }
 }
 
-/// What an acknowledgement changes that is answered with this high watermark, where the broker may acknowledge.
+/// What an acknowledgement changes that is answered with this high watermark.
 fn ack_at(p: &State, b: usize, x: &Broker, mark: u64) -> Option<Change>
     requires within { b < length p.now.registry.replicas }
-    requires may { (x.now.up && is_some (acking x.now.role) && not (is_stale p.now (acking x.now.role))) ≡ true }
     requires paths { (e : ℕ) (path : List (List ℕ)) → path_of p.now.paths e ≡ Some path → IsConsecutive 0 path }
     ensures { (s : ReplicaIs) (command : Command) → slice_get p.now.registry.replicas b ≡ Some s
         → ack_row p.now b x.now s (Answer.OkAt mark) ≡ option_map (changed p.now b x.now s command) result }
@@ -108,32 +99,23 @@ fn ack_at(p: &State, b: usize, x: &Broker, mark: u64) -> Option<Change>
 }
 
 /// What leaving the replicas in sync changes.
-pub(crate) fn shrink(p: &State, b: usize, s: &Replica, answer: &Answer) -> Option<Change>
-    ensures { (x : BrokerIs) (command : Command)
-        → shrink_row p.now b s.now answer.now ≡ option_map (changed p.now b x s.now command) result }
+pub(crate) fn shrink(answer: &Answer) -> Option<Change>
+    ensures { (p : StateIs) (b : ℕ) (x : BrokerIs) (s : ReplicaIs) (command : Command)
+        → shrink_row p b s answer.now ≡ option_map (changed p b x s command) result }
 {
-    let leads = p.registry.leader.0 as usize == b;
     match answer {
-        Answer::NotInSync => given(!s.in_sync, Change::Same),
-        Answer::IsLeader => given(s.in_sync && leads, Change::Same),
-        Answer::Ok => given(s.in_sync && !leads, Change::Shrinks),
+        Answer::Ok => Some(Change::Shrinks),
         _ => None,
     }
 }
 
 /// What coming to the replicas in sync changes.
-pub(crate) fn expand(p: &State, x: &Broker, s: &Replica, answer: &Answer) -> Option<Change>
-    ensures { (b : ℕ) (command : Command)
-        → expand_row p.now b x.now s.now answer.now ≡ option_map (changed p.now b x.now s.now command) result }
+pub(crate) fn expand(answer: &Answer) -> Option<Change>
+    ensures { (p : StateIs) (b : ℕ) (x : BrokerIs) (s : ReplicaIs) (command : Command)
+        → expand_row p b s answer.now ≡ option_map (changed p b x s command) result }
 {
-    let mark = p.registry.mark;
     match answer {
-        Answer::DownBroker => given(!x.up, Change::Same),
-        Answer::Behind(ack, told) => given(
-            x.up && s.acked < mark && *ack == s.acked && *told == mark,
-            Change::Same,
-        ),
-        Answer::Ok => given(x.up && mark <= s.acked, Change::Expands),
+        Answer::Ok => Some(Change::Expands),
         _ => None,
     }
 }

@@ -18,6 +18,7 @@ use crate::altering::alter;
 use crate::beginning::{beginning, note};
 use crate::change::Change;
 use crate::deciding::decide;
+use crate::refusals::refused;
 use plain_log::{Actor, Answer, Command, Event, JournalEntry, Order, PlainSnapshot, State, Which};
 use std::alloc::{AllocError, Global};
 use std::mem;
@@ -236,7 +237,11 @@ fn begin(
     if has_begun(p, id.0 as usize) {
         return Ok(false);
     }
-    let x = p.brokers.get(order.broker.0 as usize);
+    let b = order.broker.0 as usize;
+    let x = p.brokers.get(b);
+    if refused(p, b, x, None, &order.command).is_some() {
+        return Ok(false);
+    }
     let Some(change) = beginning(p, x, &order.command, cut) else {
         return Ok(false);
     };

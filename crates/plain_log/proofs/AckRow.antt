@@ -1,6 +1,6 @@
 -- An acknowledgement, which may raise the high watermark.
-use Rattle.std.proofs.Common.{◌≡◌, inl, inr, subst, ℕ, ◌≤◌, ◌<◌, max, min, List, Some, None, Option, slice_get, slice_set, Bool, true, false, not, refl, ap, sym, ◌∙◌, arith}
-use Rattle.std.specs.Prelude.{nat_lt, nat_le, unwrap_or, is_some}
+use Rattle.std.proofs.Common.{◌≡◌, inl, inr, subst, ℕ, ◌≤◌, ◌<◌, max, min, List, [], ◌∷◌, ◌==◌, Some, None, Option, slice_get, slice_set, Bool, true, false, refl, ap, sym, ◌∙◌, arith}
+use Rattle.std.specs.Prelude.{nat_le, unwrap_or, is_some}
 use Rattle.std.proofs.lemmas.Bool.Decides.{nat_tests}
 use Rattle.std.proofs.lemmas.Option.{none-some}
 use mathlib.Core.List.{IsPrefix}
@@ -8,7 +8,8 @@ use Rattle.log_terms.specs.Log.{IsConsecutive, end_of, up_to, EndsAt}
 use Rattle.log_terms.proofs.Lists.{and_then_some, get-set, each-set, length-slice_set, prefix_self, prefix_trans, look, within}
 use Rattle.log_terms.proofs.Logs.{nested, consecutive_prefix, up_to_prefix, up_to_end, in_up_to, ends_more, ends_at_zero}
 use Rattle.plain_log.specs.declared.answer.Answer.{Answer}
-use Rattle.plain_log.specs.declared.answer.Answer.TheVariants.{Down, NotJoined, StaleEpoch, OkAt}
+use Rattle.plain_log.specs.declared.answer.Answer.TheVariants.{Down, OkAt}
+use Rattle.plain_log.specs.declared.command.Command.TheVariants.{Ack}
 use Rattle.plain_log.specs.declared.state.State.{State}
 use Rattle.registry.specs.declared.registry.Replica.{Replica}
 use Rattle.plain_log.specs.declared.state.Path.{Path}
@@ -17,34 +18,31 @@ use Rattle.plain_log.specs.declared.state.Role.{Role}
 use Rattle.plain_log.specs.declared.state.Role.TheVariants.{Idle, Leads, Follows, Joined}
 use Rattle.registry.specs.Replicas.{mark_over, least_acked}
 use Rattle.registry.specs.Registry.{with_ack}
-use Rattle.plain_log.specs.State.{path_of, acking, is_stale}
-use Rattle.plain_log.specs.RowsOfReplicas.{acknowledged, may_ack, ack_row}
+use Rattle.plain_log.specs.State.{path_of, acking, facts_of}
+use Rattle.plain_log.specs.Refusals.{down, not_joined, stale}
+use Rattle.plain_log.specs.Rows.{refusal_at}
+use Rattle.plain_log.specs.RowsOfReplicas.{acknowledged, ack_row}
 use Rattle.plain_log.specs.Safe.{RoleSafe, BrokerSafe, SharedTo, AckSafe, current, KnownSafe, SnapshotIsSafe, PlainSafe}
 use Rattle.plain_log.proofs.Wider.{wider_self}
-use Rattle.plain_log.proofs.Keeps.{Keeps, silent, by_when}
+use Rattle.plain_log.proofs.Keeps.{Keeps, by_when}
+use Rattle.plain_log.proofs.Tests.{passes, holds, not_stale}
 use Rattle.plain_log.proofs.Swaps.{current_is, one_leader_set}
 use Rattle.plain_log.proofs.Least.{least_le, least_has}
 
 -- a broker that acknowledges has a beginning of the path
-pub on_path : (paths : List Path) (epoch : ℕ) (r : Role) (log l : List (List ℕ)) → is_some (acking r) ≡ true → not (nat_lt (unwrap_or (acking r) 0) epoch) ≡ true → path_of paths epoch ≡ Some l
-    → RoleSafe paths epoch r log → IsPrefix log l
-on_path paths epoch Idle log l i f pa h = absurd cc
-on_path paths epoch (Follows e) log l i f pa h = absurd cc
-on_path paths epoch (Leads e) log l i f pa h =
-    let le : epoch ≤ e = grind (arith, nat_tests, f) in
-    let now : e ≡ epoch = omega (arith, le, h.0) in
+on_path : (paths : List Path) (epoch : ℕ) (r : Role) (log l : List (List ℕ)) → is_some (acking r) ≡ true → ((e : ℕ) → acking r ≡ Some e → epoch ≤ e)
+    → path_of paths epoch ≡ Some l → RoleSafe paths epoch r log → IsPrefix log l
+on_path paths epoch Idle log l i fresh pa h = absurd cc
+on_path paths epoch (Follows e) log l i fresh pa h = absurd cc
+on_path paths epoch (Leads e) log l i fresh pa h =
+    let now : e ≡ epoch = omega (arith, fresh e refl, h.0) in
     let same : log ≡ l = cc (now, h.1, pa) in
     subst (λ (k : List (List ℕ)). IsPrefix log k) same (prefix_self log)
-on_path paths epoch (Joined e) log l i f pa h =
-    let le : epoch ≤ e = grind (arith, nat_tests, f) in
-    let now : e ≡ epoch = omega (arith, le, h.0) in
+on_path paths epoch (Joined e) log l i fresh pa h =
+    let now : e ≡ epoch = omega (arith, fresh e refl, h.0) in
     let has = h.1 in
     let same : has.0 ≡ l = cc (now, has.1, pa) in
     subst (λ (k : List (List ℕ)). IsPrefix log k) same has.2
-
-pub stale_as : (p : State) (o : Option ℕ) → is_some o ≡ true → not (is_stale p o) ≡ true → not (nat_lt (unwrap_or o 0) p.registry.epoch) ≡ true
-stale_as p None i h = absurd cc
-stale_as p (Some e) i h = h
 
 -- what ends on the path at the smaller of m and the log's end ends in the log
 pub shared_min : (m : ℕ) (log l base : List (List ℕ)) → IsConsecutive 0 l → IsPrefix log l → SharedTo m l base → IsPrefix base l → SharedTo (min m (end_of log)) log base
@@ -160,18 +158,20 @@ acknowledged_keeps p b x r l bx br up on pa s =
     } in
     record { safe = safe; actors = refl; wider = wider_self p.paths; grows = grows; clean = refl }
 
+-- a role that has an epoch of this kind
+has_epoch : (epoch : Option ℕ) → not_joined epoch ≡ None → is_some epoch ≡ true
+has_epoch None e = absurd cc
+has_epoch (Some n) e = refl
+
 -- the row of ack
 pub ack_keeps : (p : State) (b : ℕ) (x : Broker) (r : Replica) (answer : Answer) (q : State) → slice_get p.brokers b ≡ Some x → slice_get p.registry.replicas b ≡ Some r
-    → ack_row p b x r answer ≡ Some q → PlainSafe p → Keeps p q
-ack_keeps p b x r Down q bx br e s = silent p q _ e s
-ack_keeps p b x r NotJoined q bx br e s = silent p q _ e s
-ack_keeps p b x r (StaleEpoch n) q bx br e s = silent p q _ e s
-ack_keeps p b x r (OkAt m) q bx br e s =
+    → refusal_at p b x None Ack ≡ None → ack_row p b x r answer ≡ Some q → PlainSafe p → Keeps p q
+ack_keeps p b x r (OkAt m) q bx br none e s =
     let f = and_then_some _ (path_of p.paths p.registry.epoch) q e in
-    by_when p (acknowledged p b x r f.0) q (may_ack p b x r m) f.2 (λ w.
-    let up : x.up ≡ true = grind (arith, nat_tests, w) in
-    let some : is_some (acking x.role) ≡ true = grind (arith, nat_tests, w) in
-    let fresh : not (is_stale p (acking x.role)) ≡ true = grind (arith, nat_tests, w) in
-    let on = on_path p.paths p.registry.epoch x.role x.log f.0 some (stale_as p (acking x.role) some fresh) f.1 (s.brokers b x bx).role in
-    acknowledged_keeps p b x r f.0 bx br up on f.1 s)
-ack_keeps p b x r other q bx br e s = absurd (none-some q e)
+    let t = passes (down (facts_of b x)) (not_joined (acking x.role) ∷ stale p.registry (acking x.role) ∷ []) none in
+    let u = passes (not_joined (acking x.role)) (stale p.registry (acking x.role) ∷ []) t.1 in
+    let v = passes (stale p.registry (acking x.role)) [] u.1 in
+    by_when p (acknowledged p b x r f.0) q (m == (with_ack p.registry b r x.flushed_end).mark) f.2 (λ _.
+    let on = on_path p.paths p.registry.epoch x.role x.log f.0 (has_epoch (acking x.role) u.0) (λ n is. not_stale p.registry (acking x.role) n v.0 is) f.1 (s.brokers b x bx).role in
+    acknowledged_keeps p b x r f.0 bx br (holds x.up Down t.0) on f.1 s)
+ack_keeps p b x r other q bx br none e s = absurd (none-some q e)

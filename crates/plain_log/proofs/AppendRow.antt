@@ -1,5 +1,5 @@
 -- An append by a leader, of records or of bytes from outside.
-use Rattle.std.proofs.Common.{◌≡◌, ◌≢◌, ◌⊎◌, inl, inr, subst, ℕ, ◌≤◌, ◌<◌, ◌^◌, ◌+◌, ◌==◌, List, [], ◌∷◌, ◌++◌, length, Some, Option, Result, Ok, Err, slice_get, Bool, true, false, ◌&&◌, if◌then◌else◌, refl, ap, sym, ◌∙◌, arith}
+use Rattle.std.proofs.Common.{◌≡◌, ◌≢◌, ◌⊎◌, inl, inr, subst, ℕ, ◌≤◌, ◌<◌, ◌^◌, ◌+◌, ◌==◌, List, [], ◌∷◌, ◌++◌, length, Some, Option, slice_get, Bool, true, false, ◌&&◌, if◌then◌else◌, refl, ap, sym, ◌∙◌, arith}
 use Rattle.std.specs.Prelude.{unwrap_or}
 use Rattle.std.proofs.lemmas.Bool.Decides.{nat_tests}
 use Rattle.std.proofs.lemmas.Option.{none-some}
@@ -8,26 +8,26 @@ use Rattle.log_terms.specs.Batch.{base_of, epoch_of, last_offset_delta_of}
 use Rattle.log_terms.specs.Log.{end_of}
 use Rattle.log_terms.proofs.Lists.{get-set, each-set, length-slice_set, prefix_self, prefix_trans, prefix_snoc, snoc_last}
 use Rattle.log_terms.proofs.Logs.{consecutive_snoc, ends_more}
-use Rattle.record_batch.specs.Check.{Batch}
 use Rattle.record_batch.specs.Stamp.{stamped}
-use Rattle.record_batch.specs.declared.refusal.BatchRefusal.{BatchRefusal}
 use Rattle.record_batch.proofs.StampLaws.{sets_base_and_epoch}
 use Rattle.plain_log.specs.declared.answer.Answer.{Answer}
-use Rattle.plain_log.specs.declared.answer.Answer.TheVariants.{Down, NotLeader, Refused, LastOffset, TooManySegments, DiskFault, OkSpan}
+use Rattle.plain_log.specs.declared.answer.Answer.TheVariants.{TooManySegments, DiskFault, OkSpan}
 use Rattle.plain_log.specs.declared.state.State.{State}
 use Rattle.plain_log.specs.declared.state.Path.{Path}
 use Rattle.plain_log.specs.declared.state.Broker.{Broker}
 use Rattle.plain_log.specs.declared.state.Role.{Role}
 use Rattle.plain_log.specs.declared.state.Role.TheVariants.{Idle, Leads, Follows, Joined}
 use Rattle.registry.specs.Registry.{epoch_limit}
-use Rattle.plain_log.specs.State.{path_of, longer, leads, leads_in, breaks}
-use Rattle.plain_log.specs.RowsOfLog.{offset_limit, has_room, gained, append_row, raw_row}
+use Rattle.plain_log.specs.State.{path_of, longer, leads_in, breaks, facts_of}
+use Rattle.plain_log.specs.RowsOfLog.{offset_limit}
+use Rattle.plain_log.specs.RowsOfLog.{gained, append_row}
 use Rattle.plain_log.specs.Safe.{HasOnPath, LogSafe, PathSafe, BrokerSafe, AckSafe, current, KnownSafe, SnapshotIsSafe, PlainSafe}
-use Rattle.plain_log.proofs.Options.{both, le_of, eq_of}
+use Rattle.plain_log.proofs.Options.{both, eq_of}
 use Rattle.plain_log.proofs.Keeps.{Keeps, grown, silent, by_when, breaks_kept}
 use Rattle.plain_log.proofs.Swaps.{one_leader_set, role_as}
 use Rattle.plain_log.proofs.Wider.{Wider, has_wider, log_wider, broker_wider, recorded_wider}
 use Rattle.plain_log.proofs.Within.{end_snoc}
+use Rattle.plain_log.proofs.Tests.{MayAppend, end_there}
 
 -- the paths where one gains a batch
 
@@ -204,22 +204,6 @@ leads_in_is e (Leads f) i = let same : f ≡ e = grind (arith, nat_tests, i) in 
 leads_in_is e (Follows f) i = absurd cc
 leads_in_is e (Joined f) i = absurd cc
 
--- what the test of an append says
-pub record Appends (x : Broker) (batch : List ℕ) (base e : ℕ) : Type 0 where
-  pub up : x.up ≡ true
-  pub leads : leads_in e x.role ≡ true
-  pub room : has_room x batch ≡ true
-  pub base_is : base ≡ end_of x.log
-
-appends_of : (x : Broker) (batch : List ℕ) (base last e : ℕ)
-    → (x.up && leads_in e x.role && has_room x batch && (base == end_of x.log) && (last == base + last_offset_delta_of batch)) ≡ true → Appends x batch base e
-appends_of x batch base last e w =
-    let t1 = both (x.up && leads_in e x.role && has_room x batch && (base == end_of x.log)) (last == base + last_offset_delta_of batch) w in
-    let t2 = both (x.up && leads_in e x.role && has_room x batch) (base == end_of x.log) t1.0 in
-    let t3 = both (x.up && leads_in e x.role) (has_room x batch) t2.0 in
-    let t4 = both x.up (leads_in e x.role) t3.0 in
-    record { up = t4.0; leads = t4.1; room = t3.1; base_is = eq_of base (end_of x.log) t2.1 }
-
 -- an offset with room after it is a number of 64 bits
 within_64 : (base end delta limit : ℕ) → base ≡ end → end + delta + 1 ≤ limit → limit ≤ 4611686018427387904 → base < 2 ^ 64
 within_64 base end delta limit is le small = omega (arith, is, le, small)
@@ -229,35 +213,25 @@ within_32 : (e epoch limit : ℕ) → e ≤ epoch → epoch ≤ limit → limit 
 within_32 e epoch limit h k small = omega (arith, h, k, small)
 
 appended_safe : (p : State) (b : ℕ) (x : Broker) (batch : List ℕ) (base e : ℕ) → slice_get p.brokers b ≡ Some x → 61 ≤ length batch
-    → Appends x batch base e → PlainSafe p → PlainSafe (gained p b x e (stamped batch base e))
-appended_safe p b x batch base e at long w s =
-    let lead = leads_in_is e x.role w.leads in
+    → MayAppend (facts_of b x) (last_offset_delta_of batch) → leads_in e x.role ≡ true → base ≡ end_of x.log → PlainSafe p
+    → PlainSafe (gained p b x e (stamped batch base e))
+appended_safe p b x batch base e at long w leads is s =
+    let lead = leads_in_is e x.role leads in
     let r = role_as p.paths p.registry.epoch x.role (Leads e) x.log lead (s.brokers b x at).role in
-    let fits = le_of (end_of x.log + last_offset_delta_of batch + 1) offset_limit w.room in
-    let small = within_64 base (end_of x.log) (last_offset_delta_of batch) offset_limit w.base_is fits (omega arith) in
+    let there = end_there b x w.up in
+    let small = within_64 base (facts_of b x).end (last_offset_delta_of batch) offset_limit (is ∙ sym there) w.room (omega arith) in
     let stamp = sets_base_and_epoch batch base e long small (within_32 e p.registry.epoch epoch_limit r.0 s.marks.epoch (omega arith)) in
-    let on = stamp.base_offset ∙ w.base_is in
-    gained_safe p b x e (stamped batch base e) at lead w.up on stamp.leader_epoch (omega (arith, end_snoc x.log (stamped batch base e) on, stamp.last_offset_delta, fits)) s
+    let on = stamp.base_offset ∙ is in
+    gained_safe p b x e (stamped batch base e) at lead w.up on stamp.leader_epoch (omega (arith, end_snoc x.log (stamped batch base e) on, stamp.last_offset_delta, there, w.room)) s
 
--- the row of append
+-- the row of append, and of raw
 pub append_keeps : (p : State) (b : ℕ) (x : Broker) (batch : List ℕ) (answer : Answer) (q : State) → slice_get p.brokers b ≡ Some x → 61 ≤ length batch
-    → append_row p b x batch answer ≡ Some q → PlainSafe p → Keeps p q
-append_keeps p b x batch Down q at long e s = silent p q _ e s
-append_keeps p b x batch NotLeader q at long e s = silent p q _ e s
-append_keeps p b x batch LastOffset q at long e s = silent p q _ e s
-append_keeps p b x batch TooManySegments q at long e s = silent p q _ e s
-append_keeps p b x batch DiskFault q at long e s = by_when p (breaks p b x) q (x.up && leads x.role && has_room x batch) e (λ _. breaks_kept p b x at s)
-append_keeps p b x batch (OkSpan base last n) q at long e s =
-    by_when p (gained p b x n (stamped batch base n)) q
-    (x.up && leads_in n x.role && has_room x batch && (base == end_of x.log) && (last == base + last_offset_delta_of batch)) e
-    (λ w. grown p (gained p b x n (stamped batch base n)) refl refl refl (longer_wider p.paths n (stamped batch base n)) (appended_safe p b x batch base n at long (appends_of x batch base last n w) s))
-append_keeps p b x batch other q at long e s = absurd (none-some q e)
-
--- the row of raw
-pub raw_keeps : (p : State) (b : ℕ) (x : Broker) (bytes : List ℕ) (reading : Result Batch BatchRefusal) (answer : Answer) (q : State) → slice_get p.brokers b ≡ Some x
-    → ((batch : Batch) → reading ≡ Ok batch → 61 ≤ length bytes) → raw_row p b x bytes reading answer ≡ Some q → PlainSafe p → Keeps p q
-raw_keeps p b x bytes (Ok batch) answer q at long e s = append_keeps p b x bytes answer q at (long batch refl) e s
-raw_keeps p b x bytes (Err why) Down q at long e s = silent p q _ e s
-raw_keeps p b x bytes (Err why) NotLeader q at long e s = silent p q _ e s
-raw_keeps p b x bytes (Err why) (Refused cause) q at long e s = silent p q _ e s
-raw_keeps p b x bytes (Err why) other q at long e s = absurd (none-some q e)
+    → MayAppend (facts_of b x) (last_offset_delta_of batch) → append_row p b x batch answer ≡ Some q → PlainSafe p → Keeps p q
+append_keeps p b x batch TooManySegments q at long w e s = silent p q true e s
+append_keeps p b x batch DiskFault q at long w e s = by_when p (breaks p b x) q true e (λ _. breaks_kept p b x at s)
+append_keeps p b x batch (OkSpan base last n) q at long w e s =
+    by_when p (gained p b x n (stamped batch base n)) q (leads_in n x.role && (base == end_of x.log) && (last == base + last_offset_delta_of batch)) e (λ t.
+    let u = both (leads_in n x.role) (base == end_of x.log) (both (leads_in n x.role && (base == end_of x.log)) (last == base + last_offset_delta_of batch) t).0 in
+    grown p (gained p b x n (stamped batch base n)) refl refl refl (longer_wider p.paths n (stamped batch base n))
+    (appended_safe p b x batch base n at long w u.0 (eq_of base (end_of x.log) u.1) s))
+append_keeps p b x batch other q at long w e s = absurd (none-some q e)

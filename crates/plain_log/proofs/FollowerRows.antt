@@ -1,5 +1,5 @@
 -- The rows of join and follow.
-use Rattle.std.proofs.Common.{◌≡◌, ◌∙◌, ap, sym, subst, refl, ℕ, ◌≤◌, ◌==◌, min, [], length, drop, Some, None, Option, slice_get, true, ◌&&◌, not, arith}
+use Rattle.std.proofs.Common.{◌≡◌, ◌∙◌, ap, sym, refl, ℕ, min, [], ◌∷◌, Some, None, Option, slice_get, true, arith}
 use Rattle.std.specs.Prelude.{option_map}
 use Rattle.std.proofs.lemmas.Bool.Decides.{nat_tests}
 use Rattle.std.proofs.lemmas.Option.{none-some}
@@ -7,32 +7,35 @@ use Rattle.log_terms.specs.Log.{end_of, EndsAt}
 use Rattle.log_terms.proofs.Lists.{and_then_some}
 use Rattle.log_terms.proofs.Logs.{ends_below, ends_at_zero}
 use Rattle.plain_log.specs.declared.answer.Answer.{Answer}
-use Rattle.plain_log.specs.declared.answer.Answer.TheVariants.{Down, TooManySegments, DiskFault, DiskFaultAt, NotFollower, StaleEpoch, NoLeader, Cut, Stopped, Passed, BelowStart, MetaFault, StoreFault, Damaged, Rebuilt, NotJoined, Level, Moved, Copied}
+use Rattle.plain_log.specs.declared.answer.Answer.TheVariants.{Down, TooManySegments, DiskFault, DiskFaultAt, Cut, Stopped, Passed, BelowStart, MetaFault, StoreFault, Damaged, Rebuilt, Moved, Copied}
+use Rattle.plain_log.specs.declared.command.Command.TheVariants.{Join, Follow}
 use Rattle.plain_log.specs.declared.state.State.{State}
 use Rattle.plain_log.specs.declared.state.Broker.{Broker}
 use Rattle.plain_log.specs.declared.state.PlainSnapshot.{PlainSnapshot}
-use Rattle.plain_log.specs.declared.state.Role.{Role}
 use Rattle.plain_log.specs.declared.state.Role.TheVariants.{Joined}
 use Rattle.plain_log.specs.Ends.{common}
-use Rattle.plain_log.specs.Fetch.{is_within}
-use Rattle.plain_log.specs.State.{path_of, followed, is_stale, put_broker, stopped, breaks}
-use Rattle.plain_log.specs.RowsOfFollowers.{cut_to, goes_on, extended, was_passed, rebuilt, later_row, join_row, copied, follow_row}
+use Rattle.plain_log.specs.State.{path_of, followed, put_broker, stopped, breaks, facts_of, leader_facts, since_of}
+use Rattle.plain_log.specs.Refusals.{down, not_follower, stale, no_leader, runs_on, has_stopped, first_of}
+use Rattle.plain_log.specs.Rows.{refusal_at}
+use Rattle.plain_log.specs.RowsOfFollowers.{cut_to, extended, rebuilt, join_row, copied, follow_row}
 use Rattle.plain_log.specs.Safe.{HasJoined, PlainSafe}
-use Rattle.plain_log.proofs.Options.{when_some, both}
+use Rattle.plain_log.proofs.Options.{when_some}
 use Rattle.plain_log.proofs.Ends.{common_left, ends_min}
 use Rattle.plain_log.proofs.Swaps.{Swap, swap_trans, swap_stop, swap_all_stable}
-use Rattle.plain_log.proofs.Joins.{swap_cut, swap_extended, extended_ends}
+use Rattle.plain_log.proofs.Tests.{passes, holds, not_stale}
+use Rattle.plain_log.proofs.Joins.{MayCut, swap_cut, swap_extended, extended_ends}
 use Rattle.plain_log.proofs.Keeps.{Keeps, silent, by_when, by_broker, broker_kept, breaks_kept}
 
--- a begun join or follow whose turn continues: the broker has the recorded role
-pub still_joined : (p : State) (x : Broker) (recorded : PlainSnapshot) → goes_on p x recorded ≡ true
+-- a begun join or follow that isn't refused: the broker has the recorded role
+still_joined : (p : State) (b : ℕ) (x : Broker) (recorded : PlainSnapshot)
+    → first_of (has_stopped (facts_of b x) (since_of recorded) ∷ stale p.registry (followed recorded.role) ∷ []) ≡ None
     → HasJoined p.registry.epoch recorded x → (e : ℕ) × (x.role ≡ Joined e)
-still_joined p x recorded t j =
-    let same : recorded.stops ≡ x.stops = grind (arith, nat_tests, t) in
-    let a = both ((recorded.stops == x.stops) && not (is_stale p (followed recorded.role))) (end_of x.log == recorded.end) t in
-    let b = both (recorded.stops == x.stops) (not (is_stale p (followed recorded.role))) a.0 in
-    let c : not (is_stale p (followed (Joined j.0))) ≡ true = subst (λ (r : Role). not (is_stale p (followed r)) ≡ true) j.1 b.1 in
-    let le : p.registry.epoch ≤ j.0 = grind (arith, nat_tests, c) in
+still_joined p b x recorded none j =
+    let t = passes (has_stopped (facts_of b x) (since_of recorded)) (stale p.registry (followed recorded.role) ∷ []) none in
+    let u = passes (stale p.registry (followed recorded.role)) [] t.1 in
+    let runs = holds (runs_on (facts_of b x) (since_of recorded)) Stopped t.0 in
+    let same : recorded.stops ≡ x.stops = grind (arith, nat_tests, runs) in
+    let le = not_stale p.registry (followed recorded.role) j.0 u.0 (ap followed j.1) in
     (j.0, j.2 same le ∙ j.1)
 
 -- what was recorded of this command, as its row needs it
@@ -40,16 +43,40 @@ abbrev pub JoinedSnapshot : State → Broker → Option PlainSnapshot → Type 0
 JoinedSnapshot p x None = Unit {0}
 JoinedSnapshot p x (Some recorded) = HasJoined p.registry.epoch recorded x
 
+-- the broker has joined still, where the command began before
+abbrev pub MayFollow : Broker → Option PlainSnapshot → Type 0
+MayFollow x None = Unit {0}
+MayFollow x (Some recorded) = (e : ℕ) × (x.role ≡ Joined e)
+
+pub may_follow : (p : State) (b : ℕ) (x : Broker) (recorded : Option PlainSnapshot) (limit : ℕ) → refusal_at p b x recorded (Follow limit) ≡ None
+    → JoinedSnapshot p x recorded → MayFollow x recorded
+may_follow p b x None limit none j = tt
+may_follow p b x (Some recorded) limit none j = still_joined p b x recorded none j
+
+-- the same of a join, which cuts where it begins
+abbrev pub MayJoin : State → Broker → Option PlainSnapshot → Type 0
+MayJoin p x None = MayCut p x
+MayJoin p x (Some recorded) = (e : ℕ) × (x.role ≡ Joined e)
+
+pub may_join : (p : State) (b : ℕ) (x : Broker) (recorded : Option PlainSnapshot) → refusal_at p b x recorded Join ≡ None
+    → JoinedSnapshot p x recorded → MayJoin p x recorded
+may_join p b x None none j =
+    let f = facts_of b x in
+    let r = p.registry in
+    let t = passes (down f) (not_follower f ∷ stale r (followed f.role) ∷ no_leader r (leader_facts p) ∷ []) none in
+    let u = passes (not_follower f) (stale r (followed f.role) ∷ no_leader r (leader_facts p) ∷ []) t.1 in
+    let v = passes (stale r (followed f.role)) (no_leader r (leader_facts p) ∷ []) u.1 in
+    (holds x.up Down t.0, λ e is. not_stale r (followed x.role) e v.0 is)
+may_join p b x (Some recorded) none j = still_joined p b x recorded none j
+
 -- a log restarted is the path up to n
-pub swap_rebuilt : (p : State) (b : ℕ) (x : Broker) (recorded : PlainSnapshot) (n : ℕ) (y : Broker) → slice_get p.brokers b ≡ Some x → JoinedSnapshot p x (Some recorded)
+pub swap_rebuilt : (p : State) (b : ℕ) (x : Broker) (recorded : PlainSnapshot) (n : ℕ) (y : Broker) → slice_get p.brokers b ≡ Some x → MayFollow x (Some recorded)
     → rebuilt p x recorded n ≡ Some y → PlainSafe p → Swap p x y × (extended p x n ≡ Some y)
 swap_rebuilt p b x recorded n y at j e s =
     let f = and_then_some _ (extended p x n) y e in
     let w = when_some _ _ y f.2 in
-    let t = both (goes_on p x recorded) (not (was_passed p recorded n)) w.0 in
-    let r = still_joined p x recorded t.0 j in
     let is : extended p x n ≡ Some y = f.1 ∙ ap Some w.1 in
-    (swap_extended p x n r.0 y is r.1 (λ g l h. (s.paths g l h).log_safe) (s.brokers b x at) (s.known_high_watermark b x at), is)
+    (swap_extended p x n j.0 y is j.1 (λ g l h. (s.paths g l h).log_safe) (s.brokers b x at) (s.known_high_watermark b x at), is)
 
 -- where a log is cut it ends
 pub cut_ends : (p : State) (x : Broker) (n : ℕ) (y : Broker) → cut_to p x n ≡ Some y → (y.flushed_end ≡ n) × EndsAt n x.log
@@ -61,12 +88,12 @@ cut_ends p x n y is =
     (ap (λ (z : Broker). z.flushed_end) (sym w.1), (common x.log g.0, common_left x.log g.0, ends))
 
 -- a cut that fails: the log keeps all, and no more than the smaller end is flushed
-pub join_fault : (p : State) (b : ℕ) (x : Broker) (n : ℕ) (q : State) → slice_get p.brokers b ≡ Some x
+pub join_fault : (p : State) (b : ℕ) (x : Broker) (n : ℕ) (q : State) → slice_get p.brokers b ≡ Some x → MayCut p x
     → option_map (λ (y : Broker). breaks p b (record x { flushed_end = min x.flushed_end n })) (cut_to p x n) ≡ Some q → PlainSafe p → Keeps p q
-join_fault p b x n q at e s =
+join_fault p b x n q at may e s =
     by_broker p q (λ (y : Broker). breaks p b (record x { flushed_end = min x.flushed_end n })) (cut_to p x n) e (λ y is.
     let h = s.brokers b x at in
-    let c = swap_cut p x n y is h (s.known_high_watermark b x at) in
+    let c = swap_cut p x n y may is h (s.known_high_watermark b x at) in
     let ends = cut_ends p x n y is in
     let v : Swap p x (record (stopped x) { flushed_end = min x.flushed_end n; loose = true }) = record {
       broker = record { log = h.log; role = tt; flushed_end = ends_min x.flushed_end n x.log h.flushed_end ends.1; known_high_watermark = ends_at_zero x.log; down = λ _. (refl, refl) };
@@ -77,24 +104,14 @@ join_fault p b x n q at e s =
     } in
     broker_kept p b x (record (stopped x) { flushed_end = min x.flushed_end n; loose = true }) at v s)
 
--- what a later turn of either finds
-later_keeps : (p : State) (x : Broker) (recorded : PlainSnapshot) (answer : Answer) (q : State) → later_row p x recorded answer ≡ Some q → PlainSafe p → Keeps p q
-later_keeps p x recorded Stopped q e s = silent p q _ e s
-later_keeps p x recorded (StaleEpoch n) q e s = silent p q _ e s
-later_keeps p x recorded (Passed n) q e s = silent p q _ e s
-later_keeps p x recorded other q e s = absurd (none-some q e)
-
 -- the row of join
-pub join_keeps : (p : State) (b : ℕ) (x : Broker) (recorded : Option PlainSnapshot) (answer : Answer) (q : State) → slice_get p.brokers b ≡ Some x → JoinedSnapshot p x recorded
+pub join_keeps : (p : State) (b : ℕ) (x : Broker) (recorded : Option PlainSnapshot) (answer : Answer) (q : State) → slice_get p.brokers b ≡ Some x → MayJoin p x recorded
     → join_row p b x recorded answer ≡ Some q → PlainSafe p → Keeps p q
-join_keeps p b x None Down q at j e s = silent p q _ e s
-join_keeps p b x None NotFollower q at j e s = silent p q _ e s
-join_keeps p b x None (StaleEpoch n) q at j e s = silent p q _ e s
-join_keeps p b x None NoLeader q at j e s = silent p q _ e s
-join_keeps p b x None (DiskFaultAt n) q at j e s = join_fault p b x n q at e s
+join_keeps p b x None (DiskFaultAt n) q at j e s = join_fault p b x n q at j e s
 join_keeps p b x None (Cut n) q at j e s =
-    by_broker p q (put_broker p b) (cut_to p x n) e (λ y is. broker_kept p b x y at (swap_cut p x n y is (s.brokers b x at) (s.known_high_watermark b x at)) s)
+    by_broker p q (put_broker p b) (cut_to p x n) e (λ y is. broker_kept p b x y at (swap_cut p x n y j is (s.brokers b x at) (s.known_high_watermark b x at)) s)
 join_keeps p b x None other q at j e s = absurd (none-some q e)
+join_keeps p b x (Some recorded) (Passed n) q at j e s = silent p q _ e s
 join_keeps p b x (Some recorded) (BelowStart start) q at j e s = silent p q _ e s
 join_keeps p b x (Some recorded) MetaFault q at j e s = silent p q _ e s
 join_keeps p b x (Some recorded) StoreFault q at j e s = silent p q _ e s
@@ -111,28 +128,22 @@ join_keeps p b x (Some recorded) (Rebuilt n) q at j e s =
     let le = ends_below x.flushed_end x.log h.log.consecutive h.flushed_end in
     broker_kept p b x (record y { flushed_end = n }) at
     (swap_trans p x y _ v.0 (swap_all_stable p y n ends.0 (omega (arith, ends.1, ends.2, le)) v.0.broker v.0.known_high_watermark)) s)
-join_keeps p b x (Some recorded) other q at j e s = later_keeps p x recorded other q e s
+join_keeps p b x (Some recorded) other q at j e s = absurd (none-some q e)
 
 -- the row of follow
-pub follow_keeps : (p : State) (b : ℕ) (x : Broker) (limit : ℕ) (recorded : Option PlainSnapshot) (answer : Answer) (q : State) → slice_get p.brokers b ≡ Some x → JoinedSnapshot p x recorded
+pub follow_keeps : (p : State) (b : ℕ) (x : Broker) (limit : ℕ) (recorded : Option PlainSnapshot) (answer : Answer) (q : State) → slice_get p.brokers b ≡ Some x → MayFollow x recorded
     → follow_row p b x limit recorded answer ≡ Some q → PlainSafe p → Keeps p q
-follow_keeps p b x limit None Down q at j e s = silent p q _ e s
-follow_keeps p b x limit None NotJoined q at j e s = silent p q _ e s
-follow_keeps p b x limit None (StaleEpoch n) q at j e s = silent p q _ e s
-follow_keeps p b x limit None NoLeader q at j e s = silent p q _ e s
-follow_keeps p b x limit None Level q at j e s = silent p q _ e s
 follow_keeps p b x limit None (Moved n) q at j e s = silent p q _ e s
-follow_keeps p b x limit None DiskFault q at j e s = silent p q _ e s
-follow_keeps p b x limit None (Damaged place k) q at j e s = silent p q _ e s
+follow_keeps p b x limit None DiskFault q at j e s = silent p q true e s
+follow_keeps p b x limit None (Damaged place k) q at j e s = silent p q true e s
 follow_keeps p b x limit None other q at j e s = absurd (none-some q e)
+follow_keeps p b x limit (Some recorded) (Passed n) q at j e s = silent p q _ e s
 follow_keeps p b x limit (Some recorded) TooManySegments q at j e s = silent p q _ e s
 follow_keeps p b x limit (Some recorded) DiskFault q at j e s = by_when p (breaks p b x) q _ e (λ _. breaks_kept p b x at s)
 follow_keeps p b x limit (Some recorded) (Copied n) q at j e s =
     by_broker p q (put_broker p b) (copied p x recorded limit n) e (λ y c.
     let f = and_then_some _ (extended p x n) y c in
     let v = when_some _ _ y f.2 in
-    let t = both (goes_on p x recorded) (is_within limit (drop (length x.log) f.0.log)) v.0 in
-    let r = still_joined p x recorded t.0 j in
     let is : extended p x n ≡ Some y = f.1 ∙ ap Some v.1 in
-    broker_kept p b x y at (swap_extended p x n r.0 y is r.1 (λ g l h. (s.paths g l h).log_safe) (s.brokers b x at) (s.known_high_watermark b x at)) s)
-follow_keeps p b x limit (Some recorded) other q at j e s = later_keeps p x recorded other q e s
+    broker_kept p b x y at (swap_extended p x n j.0 y is j.1 (λ g l h. (s.paths g l h).log_safe) (s.brokers b x at) (s.known_high_watermark b x at)) s)
+follow_keeps p b x limit (Some recorded) other q at j e s = absurd (none-some q e)

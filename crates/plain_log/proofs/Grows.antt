@@ -11,7 +11,7 @@ use Rattle.log_terms.specs.Log.{IsConsecutive, end_from, end_of, joined, from_of
 use Rattle.log_terms.proofs.Lists.{and_then_some, prefix_self, prefix_trans}
 use Rattle.log_terms.proofs.Logs.{nested, end_append}
 use Rattle.plain_log.specs.declared.answer.Answer.{Answer}
-use Rattle.plain_log.specs.declared.answer.Answer.TheVariants.{Run}
+use Rattle.plain_log.specs.declared.answer.Answer.TheVariants.{Run, NotLeader}
 use Rattle.plain_log.specs.declared.answer.Tier.{Tier}
 use Rattle.plain_log.specs.declared.command.ActorList.{ActorList}
 use Rattle.plain_log.specs.declared.command.Command.{Command}
@@ -26,18 +26,20 @@ use Rattle.plain_log.specs.declared.state.Broker.{Broker}
 use Rattle.plain_log.specs.declared.state.Role.{Role}
 use Rattle.plain_log.specs.declared.state.Role.TheVariants.{Idle, Leads, Follows, Joined}
 use Rattle.plain_log.specs.declared.state.PlainSnapshot.{PlainSnapshot}
-use Rattle.registry.specs.Calls.{when}
-use Rattle.plain_log.specs.State.{leads, path_of, actor_at}
-use Rattle.plain_log.specs.Fetch.{fitting, run_of, is_within, gives_run, stops_rightly, is_run}
+use Rattle.plain_log.specs.State.{leads, same_role, path_of, actor_at, facts_of, since_of}
+use Rattle.plain_log.specs.Refusals.{out_of_range, empty, has_stopped, other_role, unless}
+use Rattle.plain_log.specs.Fetch.{fitting, run_of, is_within, stops_rightly, is_run}
 use Rattle.plain_log.specs.RowsOfReads.{fetch_row}
-use Rattle.plain_log.specs.Rows.{row}
-use Rattle.plain_log.specs.Step.{event_step, step}
+use Rattle.plain_log.specs.Rows.{row, refusal_at}
+use Rattle.plain_log.specs.Step.{event_step, same_command, step}
 use Rattle.plain_log.specs.Runs.{order_of, entry_step, replay}
-use Rattle.plain_log.specs.Safe.{RoleSafe, LogSafe, PlainSafe}
+use Rattle.plain_log.specs.Safe.{RoleSafe, LogSafe, PlainSafe, is_leaders}
 use Rattle.plain_log.specs.Committed.{IsNoRestart, IsPartAt, IsCommittedRun, IsPartOfPath, IsRunOfPath}
-use Rattle.plain_log.proofs.Options.{when_some, map_some, both, le_of}
+use Rattle.plain_log.proofs.Options.{when_some, map_some, both, le_of, eq_of}
 use Rattle.plain_log.proofs.Wider.{Wider, wider_self, wider_trans}
-use Rattle.plain_log.proofs.StepLaw.{step_of, step_goes, step_safe}
+use Rattle.plain_log.proofs.StepLaw.{StartIsSafe, begun_safe, step_of, step_goes, step_safe}
+use Rattle.plain_log.proofs.Tests.{passes, holds, up_leads}
+use Rattle.plain_log.proofs.Swaps.{role_as}
 
 -- a run is a part of what its broker knows to be committed
 
@@ -153,31 +155,54 @@ led_path paths n (Leads e) log t h = (e, h.1)
 led_path paths n (Follows e) log t h = absurd cc
 led_path paths n (Joined e) log t h = absurd cc
 
--- so a run is a part of it
+-- what a fetch is answered with is a run
+is_run_of : (p : State) (x : Broker) (offset limit : ℕ) (recorded : Option PlainSnapshot) (tier : Tier) (size : ℕ) (stop : Stop) (bytes : List ℕ) (q : State)
+    → fetch_row p x offset limit recorded (Run tier size stop bytes) ≡ Some q → is_run x offset limit size stop bytes ≡ true
+is_run_of p x offset limit None tier size stop bytes q e = (when_some _ p q e).0
+is_run_of p x offset limit (Some recorded) tier size stop bytes q e = (when_some _ p q e).0
+
+-- two roles that are one
+role_is : (r s : Role) → same_role r s ≡ true → r ≡ s
+role_is Idle Idle e = refl
+role_is (Leads m) (Leads n) e = ap Leads (eq_of m n e)
+role_is (Follows m) (Follows n) e = ap Follows (eq_of m n e)
+role_is (Joined m) (Joined n) e = ap Joined (eq_of m n e)
+role_is r s e = absurd cc
+
+same_fetch : (c : Command) (offset limit : ℕ) → same_command c (Fetch offset limit) ≡ true → is_leaders c ≡ true
+same_fetch (Fetch n m) offset limit e = refl
+same_fetch other offset limit e = absurd cc
+
+-- a fetch isn't refused, and so its broker leads
+may_fetch : (p : State) (b : ℕ) (x : Broker) (recorded : Option PlainSnapshot) (offset limit : ℕ) → slice_get p.brokers b ≡ Some x → PlainSafe p
+    → StartIsSafe p x recorded (Fetch offset limit) → refusal_at p b x recorded (Fetch offset limit) ≡ None → (e : ℕ) × (path_of p.paths e ≡ Some x.log)
+may_fetch p b x None offset limit at s j none =
+    let f = facts_of b x in
+    led_path p.paths p.registry.epoch x.role x.log (up_leads f (out_of_range p.registry f offset ∷ empty f offset ∷ []) none).1 (s.brokers b x at).role
+may_fetch p b x (Some recorded) offset limit at s j none =
+    let f = facts_of b x in
+    let n = since_of recorded in
+    let tests = out_of_range p.registry f offset ∷ empty f offset ∷ [] in
+    let t = passes (has_stopped f n) (other_role f n ∷ tests) none in
+    let u = passes (other_role f n) tests t.1 in
+    let one = role_is recorded.role x.role (holds (same_role recorded.role x.role) NotLeader u.0) in
+    let led = j.1.leads (same_fetch recorded.order.command offset limit j.0) in
+    let r = role_as p.paths p.registry.epoch x.role (Leads led.0) x.log (sym one ∙ led.2) (s.brokers b x at).role in
+    (led.0, r.1)
+
+-- so a run is a part of its epoch's path, and of what is committed while elections are clean
 fetch_led : (p : State) (b : ℕ) (x : Broker) (offset limit : ℕ) (recorded : Option PlainSnapshot) (tier : Tier) (size : ℕ) (stop : Stop) (bytes : List ℕ) (q : State)
-    → slice_get p.brokers b ≡ Some x → PlainSafe p → fetch_row p x offset limit recorded (Run tier size stop bytes) ≡ Some q → IsPartOfPath p.paths offset bytes
-fetch_led p b x offset limit recorded tier size stop bytes q at s e = go recorded e
-  where
-    leading : (o : Option PlainSnapshot) → gives_run p x offset o ≡ true → leads x.role ≡ true
-    leading None g = grind (arith, nat_tests, g)
-    leading (Some n) g = grind (arith, nat_tests, g)
+    → slice_get p.brokers b ≡ Some x → PlainSafe p → StartIsSafe p x recorded (Fetch offset limit) → refusal_at p b x recorded (Fetch offset limit) ≡ None
+    → fetch_row p x offset limit recorded (Run tier size stop bytes) ≡ Some q → IsPartOfPath p.paths offset bytes
+fetch_led p b x offset limit recorded tier size stop bytes q at s j none e =
+    let on = may_fetch p b x recorded offset limit at s j none in
+    let h = s.brokers b x at in
+    (on.0, x.log, on.1, part_in x offset limit size stop bytes x.log h.log.consecutive (λ run prefix le. prefix) (is_run_of p x offset limit recorded tier size stop bytes q e))
 
-    made : (o : Option PlainSnapshot) → when (gives_run p x offset o && is_run x offset limit size stop bytes) p ≡ Some q → IsPartOfPath p.paths offset bytes
-    made o i =
-        let t = both (gives_run p x offset o) (is_run x offset limit size stop bytes) (when_some _ p q i).0 in
-        let h = s.brokers b x at in
-        let on = led_path p.paths p.registry.epoch x.role x.log (leading o t.0) h.role in
-        (on.0, x.log, on.1, part_in x offset limit size stop bytes x.log h.log.consecutive (λ run prefix le. prefix) t.1)
-
-    go : (o : Option PlainSnapshot) → fetch_row p x offset limit o (Run tier size stop bytes) ≡ Some q → IsPartOfPath p.paths offset bytes
-    go None i = made None i
-    go (Some n) i = made (Some n) i
-
--- a fetch that returns a run
 fetch_part : (p : State) (b : ℕ) (x : Broker) (offset limit : ℕ) (recorded : Option PlainSnapshot) (tier : Tier) (size : ℕ) (stop : Stop) (bytes : List ℕ) (q : State)
     → slice_get p.brokers b ≡ Some x → PlainSafe p → p.unclean ≡ false → fetch_row p x offset limit recorded (Run tier size stop bytes) ≡ Some q → IsPartAt offset bytes p.committed
-fetch_part p b x offset limit None tier size stop bytes q at s clean e = part_of p b x offset limit size stop bytes at s clean (both _ _ (when_some _ p q e).0).1
-fetch_part p b x offset limit (Some recorded) tier size stop bytes q at s clean e = part_of p b x offset limit size stop bytes at s clean (both _ _ (when_some _ p q e).0).1
+fetch_part p b x offset limit recorded tier size stop bytes q at s clean e =
+    part_of p b x offset limit size stop bytes at s clean (is_run_of p x offset limit recorded tier size stop bytes q e)
 
 -- a part of what begins a list is a part of the list
 part_more : (offset : ℕ) (bytes : List ℕ) (log more : List (List ℕ)) → IsPrefix log more → IsPartAt offset bytes log → IsPartAt offset bytes more
@@ -193,17 +218,23 @@ part_more offset bytes log more p h = record {
   high = h.high;
 }
 
--- the row of an entry that answers a fetch
+-- what is made of a fetch's answer
+abbrev pub row_of_fetch : State → Order → Broker → ℕ → ℕ → Option PlainSnapshot → Answer → Option State
+row_of_fetch p order x offset limit recorded answer =
+    unless (refusal_at p order.broker.0 x recorded (Fetch offset limit)) answer p (fetch_row p x offset limit recorded answer)
+
+-- the row of an entry that answers a fetch with a run
 record FetchOf (p : State) (order : Order) (offset limit : ℕ) (answer : Answer) : Type 0 where
   broker : Broker
   at : slice_get p.brokers order.broker.0 ≡ Some broker
   recorded : Option PlainSnapshot
+  begun : StartIsSafe p broker recorded (Fetch offset limit)
   next : State
-  row_is : fetch_row p broker offset limit recorded answer ≡ Some next
+  row_is : row_of_fetch p order broker offset limit recorded answer ≡ Some next
 
-fetch_of : (p : State) (order : Order) (entry : JournalEntry) (q : State) (offset limit : ℕ) (answer : Answer) → step p order entry ≡ Some q
+fetch_of : (p : State) (order : Order) (entry : JournalEntry) (q : State) (offset limit : ℕ) (answer : Answer) → step p order entry ≡ Some q → PlainSafe p
     → order.command ≡ Fetch offset limit → entry.event ≡ Answers answer → FetchOf p order offset limit answer
-fetch_of p order entry q offset limit answer e command event =
+fetch_of p order entry q offset limit answer e s command event =
     let h = step_of p order entry q e in
     let answers : event_step p entry.actor.0 (actor_at p.actors entry.actor.0) order h.broker h.replica (Answers answer) ≡ Some q =
     subst (λ (k : Event). event_step p entry.actor.0 (actor_at p.actors entry.actor.0) order h.broker h.replica k ≡ Some q) event h.event in
@@ -212,23 +243,39 @@ fetch_of p order entry q offset limit answer e command event =
       broker = h.broker;
       at = h.at;
       recorded = (actor_at p.actors entry.actor.0).snapshot;
+      begun = subst (λ (k : Command). StartIsSafe p h.broker (actor_at p.actors entry.actor.0).snapshot k) command
+          (begun_safe p entry.actor.0 order h.broker (actor_at p.actors entry.actor.0).snapshot h.at s refl h.recorded);
       next = w.0;
       row_is = subst (λ (k : Command). row p order.broker.0 h.broker h.replica (actor_at p.actors entry.actor.0).snapshot k answer ≡ Some w.0) command w.1;
     }
+
+-- a run isn't a refusal, so the fetch was let
+fetch_let : (p : State) (order : Order) (x : Broker) (offset limit : ℕ) (recorded : Option PlainSnapshot) (tier : Tier) (size : ℕ) (stop : Stop) (bytes : List ℕ) (q : State)
+    → row_of_fetch p order x offset limit recorded (Run tier size stop bytes) ≡ Some q
+    → (refusal_at p order.broker.0 x recorded (Fetch offset limit) ≡ None) × (fetch_row p x offset limit recorded (Run tier size stop bytes) ≡ Some q)
+fetch_let p order x offset limit recorded tier size stop bytes q e = go (refusal_at p order.broker.0 x recorded (Fetch offset limit)) refl e
+  where
+    go : (why : Option Answer) → refusal_at p order.broker.0 x recorded (Fetch offset limit) ≡ why
+        → unless why (Run tier size stop bytes) p (fetch_row p x offset limit recorded (Run tier size stop bytes)) ≡ Some q
+        → (refusal_at p order.broker.0 x recorded (Fetch offset limit) ≡ None) × (fetch_row p x offset limit recorded (Run tier size stop bytes) ≡ Some q)
+    go None is i = (is, i)
+    go (Some reason) is i = absurd cc
 
 entry_part : (p : State) (order : Order) (entry : JournalEntry) (q : State) (offset limit : ℕ) (tier : Tier) (size : ℕ) (stop : Stop) (bytes : List ℕ)
     → step p order entry ≡ Some q → PlainSafe p → p.unclean ≡ false → order.command ≡ Fetch offset limit → entry.event ≡ Answers (Run tier size stop bytes)
     → IsPartAt offset bytes p.committed
 entry_part p order entry q offset limit tier size stop bytes e s clean command event =
-    let f = fetch_of p order entry q offset limit (Run tier size stop bytes) e command event in
-    fetch_part p order.broker.0 f.broker offset limit f.recorded tier size stop bytes f.next f.at s clean f.row_is
+    let f = fetch_of p order entry q offset limit (Run tier size stop bytes) e s command event in
+    let w = fetch_let p order f.broker offset limit f.recorded tier size stop bytes f.next f.row_is in
+    fetch_part p order.broker.0 f.broker offset limit f.recorded tier size stop bytes f.next f.at s clean w.1
 
 entry_led : (p : State) (order : Order) (entry : JournalEntry) (q : State) (offset limit : ℕ) (tier : Tier) (size : ℕ) (stop : Stop) (bytes : List ℕ)
     → step p order entry ≡ Some q → PlainSafe p → order.command ≡ Fetch offset limit → entry.event ≡ Answers (Run tier size stop bytes)
     → IsPartOfPath p.paths offset bytes
 entry_led p order entry q offset limit tier size stop bytes e s command event =
-    let f = fetch_of p order entry q offset limit (Run tier size stop bytes) e command event in
-    fetch_led p order.broker.0 f.broker offset limit f.recorded tier size stop bytes f.next f.at s f.row_is
+    let f = fetch_of p order entry q offset limit (Run tier size stop bytes) e s command event in
+    let w = fetch_let p order f.broker offset limit f.recorded tier size stop bytes f.next f.row_is in
+    fetch_led p order.broker.0 f.broker offset limit f.recorded tier size stop bytes f.next f.at s f.begun w.0 w.1
 
 -- a part of a path is one of the path that it grew to
 path_more : (ps qs : List Path) (offset : ℕ) (bytes : List ℕ) → Wider ps qs → IsPartOfPath ps offset bytes → IsPartOfPath qs offset bytes

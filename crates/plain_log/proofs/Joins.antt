@@ -13,7 +13,7 @@ use Rattle.plain_log.specs.declared.state.Role.{Role}
 use Rattle.plain_log.specs.declared.state.Role.TheVariants.{Idle, Leads, Follows, Joined}
 use Rattle.plain_log.specs.Ends.{is_end, common}
 use Rattle.plain_log.specs.State.{path_of, followed}
-use Rattle.plain_log.specs.RowsOfFollowers.{may_join, cut_to, extended}
+use Rattle.plain_log.specs.RowsOfFollowers.{cut_to, extended}
 use Rattle.plain_log.specs.Safe.{HasOnPath, LogSafe, RoleSafe, BrokerSafe, SharedTo, current, KnownSafe}
 use Rattle.plain_log.proofs.Options.{when_some, both}
 use Rattle.plain_log.proofs.Ends.{log_prefix, is_end_ends, common_left, common_right, common_all}
@@ -38,20 +38,24 @@ shared_cut k n log cut base c p e h = go (nat_le k n) refl
         let le : n < k = grind (arith, nat_tests, t) in
         (cut, prefix_self cut, omega (arith, e, le), prefix_trans cut h.0 base (nested 0 cut h.0 log c p h.1 (omega (arith, le, h.2, e))) h.3)
 
+-- the broker is up, and the epoch that it follows isn't stale
+abbrev pub MayCut : State → Broker → Type 0
+MayCut p x = (x.up ≡ true) × ((e : ℕ) → followed x.role ≡ Some e → p.registry.epoch ≤ e)
+
 -- a join cuts the log to what it has in common with the path
-pub swap_cut : (p : State) (x : Broker) (n : ℕ) (y : Broker) → cut_to p x n ≡ Some y → BrokerSafe p.paths p.registry.epoch x → KnownSafe p.unclean p.registry.epoch p.registry.mark p.committed x → Swap p x y
-swap_cut p x n y is h k =
+pub swap_cut : (p : State) (x : Broker) (n : ℕ) (y : Broker) → MayCut p x → cut_to p x n ≡ Some y → BrokerSafe p.paths p.registry.epoch x → KnownSafe p.unclean p.registry.epoch p.registry.mark p.committed x → Swap p x y
+swap_cut p x n y may is h k =
     let f = and_then_some _ (followed x.role) y is in
     let g = and_then_some _ (path_of p.paths f.0) y f.2 in
     let w = when_some _ _ y g.2 in
     go f.0 g.0 f.1 g.1 w.0 w.1
   where
     go : (e : ℕ) (l : List (List ℕ)) → followed x.role ≡ Some e → path_of p.paths e ≡ Some l
-        → may_join p x e && (n == end_of (common x.log l)) ≡ true
+        → (n == end_of (common x.log l)) ≡ true
         → record x { role = Joined e; log = common x.log l; flushed_end = n; known_high_watermark = min x.known_high_watermark n } ≡ y → Swap p x y
     go e l fo pa t same =
-        let up : x.up ≡ true = grind (arith, nat_tests, t) in
-        let fresh : p.registry.epoch ≤ e = grind (arith, nat_tests, t) in
+        let up = may.0 in
+        let fresh = may.1 e fo in
         let ends : end_of (common x.log l) ≡ n = grind (arith, nat_tests, t) in
         let below = followed_below p.paths p.registry.epoch x.role x.log e fo h.role in
         let now : e ≡ p.registry.epoch = omega (arith, fresh, below) in

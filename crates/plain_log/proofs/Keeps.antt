@@ -3,12 +3,11 @@ use Rattle.std.proofs.Common.{◌≡◌, ◌∙◌, sym, subst, refl, ℕ, List,
 use Rattle.std.specs.Prelude.{option_map}
 use mathlib.Core.List.{IsPrefix}
 use Rattle.log_terms.proofs.Lists.{prefix_self}
-use Rattle.registry.specs.declared.registry.Registry.{Registry}
 use Rattle.registry.specs.Calls.{when}
 use Rattle.plain_log.specs.declared.state.State.{State}
 use Rattle.plain_log.specs.declared.state.Path.{Path}
 use Rattle.plain_log.specs.declared.state.Broker.{Broker}
-use Rattle.plain_log.specs.State.{put_broker, stopped, breaks, set_registry, left_by}
+use Rattle.plain_log.specs.State.{put_broker, stopped, breaks}
 use Rattle.plain_log.specs.Safe.{PlainSafe}
 use Rattle.plain_log.proofs.Options.{when_some, map_some}
 use Rattle.plain_log.proofs.Wider.{Wider, wider_self}
@@ -72,13 +71,3 @@ broker_kept p b x y at w s = kept p (put_broker p b y) refl refl refl refl (put_
 -- a broker breaks
 pub breaks_kept : (p : State) (b : ℕ) (x : Broker) → slice_get p.brokers b ≡ Some x → PlainSafe p → Keeps p (breaks p b x)
 breaks_kept p b x at s = broker_kept p b x (record (stopped x) { loose = true }) at (swap_stop p x true (s.brokers b x at)) s
-
--- the registry refuses
-pub refused : (p q : State) (b : Bool) → left_by p (when b p.registry) ≡ Some q → PlainSafe p → Keeps p q
-refused p q true e s = let is : set_registry p p.registry ≡ q = cc (e) in subst (λ (k : State). Keeps p k) is (same p s)
-refused p q false e s = absurd cc
-
--- a call of the registry that a test allows
-pub by_left : (p o q : State) (b : Bool) (r : Registry) → left_by o (when b r) ≡ Some q → (b ≡ true → Keeps p (set_registry o r)) → Keeps p q
-by_left p o q true r e f = let is : set_registry o r ≡ q = cc (e) in subst (λ (k : State). Keeps p k) is (f refl)
-by_left p o q false r e f = absurd cc

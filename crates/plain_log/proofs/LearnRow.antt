@@ -1,5 +1,5 @@
 -- A broker learns of the registry's epoch, and may take its lead.
-use Rattle.std.proofs.Common.{◌≡◌, ◌≢◌, ◌⊎◌, inl, inr, subst, ℕ, ◌≤◌, ◌==◌, List, ◌∷◌, Some, None, Option, slice_get, slice_set, Bool, true, false, ◌&&◌, not, refl, ap, sym, ◌∙◌, arith}
+use Rattle.std.proofs.Common.{◌≡◌, ◌≢◌, ◌⊎◌, inl, inr, subst, ℕ, ◌≤◌, ◌==◌, List, [], ◌∷◌, Some, None, Option, slice_get, slice_set, Bool, true, false, ◌&&◌, not, refl, ap, sym, ◌∙◌, arith}
 use Rattle.std.proofs.lemmas.Bool.Decides.{nat_tests}
 use Rattle.std.proofs.lemmas.Option.{none-some}
 use mathlib.Core.List.{IsPrefix}
@@ -14,11 +14,15 @@ use Rattle.plain_log.specs.declared.state.State.{State}
 use Rattle.plain_log.specs.declared.state.Path.{Path}
 use Rattle.plain_log.specs.declared.state.Broker.{Broker}
 use Rattle.plain_log.specs.declared.state.Role.TheVariants.{Leads, Follows, Joined}
-use Rattle.plain_log.specs.State.{path_of, has_path, put_broker, breaks, is_in}
-use Rattle.plain_log.specs.RowsOfElections.{knows, learns, may_lead, led, learn_row}
+use Rattle.plain_log.specs.State.{path_of, has_path, put_broker, breaks, is_in, knows, facts_of}
+use Rattle.plain_log.specs.declared.command.Command.TheVariants.{Learn}
+use Rattle.plain_log.specs.Refusals.{down, known}
+use Rattle.plain_log.specs.Rows.{refusal_at}
+use Rattle.plain_log.specs.RowsOfElections.{may_lead, led, learn_row}
 use Rattle.plain_log.specs.Safe.{PathSafe, BrokerSafe, AckSafe, current, KnownSafe, SnapshotIsSafe, PlainSafe}
 use Rattle.plain_log.proofs.Options.{both, not_true, eq_of}
 use Rattle.plain_log.proofs.Within.{log_within}
+use Rattle.plain_log.proofs.Tests.{passes, passed, holds}
 use Rattle.plain_log.proofs.Wider.{Wider, log_wider, recorded_wider, broker_wider}
 use Rattle.plain_log.proofs.Swaps.{current_is, swap_follows, role_as, knows_joined}
 use Rattle.plain_log.proofs.Keeps.{Keeps, grown, kept, silent, by_when, broker_kept, breaks_kept}
@@ -104,7 +108,7 @@ led_wider p b x none e l i = (l, added_has p.paths p.registry.epoch x.log e l no
 
 -- a taken lead keeps the safety rules
 pub led_safe : (p : State) (b : ℕ) (x : Broker) (r : Replica) → slice_get p.brokers b ≡ Some x → slice_get p.registry.replicas b ≡ Some r
-    → x.up ≡ true → knows p x ≡ false → p.registry.leader.0 ≡ b → path_of p.paths p.registry.epoch ≡ None → PlainSafe p → PlainSafe (led p b x p.registry.epoch)
+    → x.up ≡ true → knows p.registry x.role ≡ false → p.registry.leader.0 ≡ b → path_of p.paths p.registry.epoch ≡ None → PlainSafe p → PlainSafe (led p b x p.registry.epoch)
 led_safe p b x r bx br up new lead none s =
     let n = p.registry.epoch in
     let ps : List Path = record { epoch = p.registry.epoch; log = x.log } ∷ p.paths in
@@ -213,39 +217,33 @@ is_in_more p s n i = go (p.registry.epoch == n) refl i
     go true t j = let same : p.registry.epoch ≡ n = grind (arith, nat_tests, t) in omega (arith, same)
     go false t j = s.broken n (rw t at j)
 
--- what the test of learning says
-pub record Learns (p : State) (x : Broker) (n : ℕ) : Type 0 where
-  pub up : x.up ≡ true
-  pub unknown : knows p x ≡ false
-  pub now : p.registry.epoch ≡ n
-
-learns_of : (p : State) (x : Broker) (n : ℕ) → learns p x n ≡ true → Learns p x n
-learns_of p x n w =
-    let t1 = both (x.up && not (knows p x)) (n == p.registry.epoch) w in
-    let t2 = both x.up (not (knows p x)) t1.0 in
-    record { up = t2.0; unknown = not_true (knows p x) t2.1; now = sym (eq_of n p.registry.epoch t1.1) }
+-- a broker that isn't refused is up, and has not learned of the registry's epoch
+may_learn : (p : State) (b : ℕ) (x : Broker) → refusal_at p b x None Learn ≡ None → (x.up ≡ true) × (knows p.registry x.role ≡ false)
+may_learn p b x none =
+    let f = facts_of b x in
+    let t = passes (down f) (known p.registry f ∷ []) none in
+    let u = passes (known p.registry f) [] t.1 in
+    (holds x.up Down t.0, passed (knows p.registry x.role) Known u.0)
 
 -- the row of learn
 pub learn_keeps : (p : State) (b : ℕ) (x : Broker) (r : Replica) (answer : Answer) (q : State) → slice_get p.brokers b ≡ Some x → slice_get p.registry.replicas b ≡ Some r
-    → learn_row p b x answer ≡ Some q → PlainSafe p → Keeps p q
-learn_keeps p b x r Down q bx br e s = silent p q _ e s
-learn_keeps p b x r Known q bx br e s = silent p q _ e s
-learn_keeps p b x r (NeedsElection n) q bx br e s = silent p q _ e s
-learn_keeps p b x r (FollowsAnswer n) q bx br e s =
-    by_when p (put_broker p b (record x { role = Follows n })) q (learns p x n && not (p.registry.leader.0 == b)) e (λ w.
-    let t = both (learns p x n) (not (p.registry.leader.0 == b)) w in
-    let u = learns_of p x n t.0 in
-    let safe = broker_kept p b x (record x { role = Follows p.registry.epoch }) bx (swap_follows p x u.up u.unknown (s.brokers b x bx) (s.known_high_watermark b x bx)) s in
-    subst (λ (m : ℕ). Keeps p (put_broker p b (record x { role = Follows m }))) u.now safe)
-learn_keeps p b x r (LeadsAnswer n) q bx br e s =
-    by_when p (led p b x n) q (may_lead p b x n) e (λ w.
-    let t1 = both (learns p x n && (p.registry.leader.0 == b)) (not (has_path p n)) w in
-    let t2 = both (learns p x n) (p.registry.leader.0 == b) t1.0 in
-    let u = learns_of p x n t2.0 in
-    let none : path_of p.paths p.registry.epoch ≡ None = ap (path_of p.paths) u.now ∙ path_none p n (not_true (has_path p n) t1.1) in
-    let safe = led_safe p b x r bx br u.up u.unknown (eq_of p.registry.leader.0 b t2.1) none s in
-    subst (λ (m : ℕ). Keeps p (led p b x m)) u.now (grown p (led p b x p.registry.epoch) refl refl refl (led_wider p b x none) safe))
-learn_keeps p b x r DiskFault q bx br e s =
-    by_when p (record (breaks p b x) { broken = p.registry.epoch ∷ p.broken }) q (may_lead p b x p.registry.epoch) e
+    → refusal_at p b x None Learn ≡ None → learn_row p b x answer ≡ Some q → PlainSafe p → Keeps p q
+learn_keeps p b x r (NeedsElection n) q bx br none e s = silent p q _ e s
+learn_keeps p b x r (FollowsAnswer n) q bx br none e s =
+    by_when p (put_broker p b (record x { role = Follows n })) q ((n == p.registry.epoch) && not (p.registry.leader.0 == b)) e (λ w.
+    let t = both (n == p.registry.epoch) (not (p.registry.leader.0 == b)) w in
+    let u = may_learn p b x none in
+    let safe = broker_kept p b x (record x { role = Follows p.registry.epoch }) bx (swap_follows p x u.0 u.1 (s.brokers b x bx) (s.known_high_watermark b x bx)) s in
+    subst (λ (m : ℕ). Keeps p (put_broker p b (record x { role = Follows m }))) (sym (eq_of n p.registry.epoch t.0)) safe)
+learn_keeps p b x r (LeadsAnswer n) q bx br none e s =
+    by_when p (led p b x n) q ((n == p.registry.epoch) && may_lead p b) e (λ w.
+    let t = both (n == p.registry.epoch) (may_lead p b) w in
+    let v = both (p.registry.leader.0 == b) (not (has_path p p.registry.epoch)) t.1 in
+    let u = may_learn p b x none in
+    let gone = path_none p p.registry.epoch (not_true (has_path p p.registry.epoch) v.1) in
+    let safe = led_safe p b x r bx br u.0 u.1 (eq_of p.registry.leader.0 b v.0) gone s in
+    subst (λ (m : ℕ). Keeps p (led p b x m)) (sym (eq_of n p.registry.epoch t.0)) (grown p (led p b x p.registry.epoch) refl refl refl (led_wider p b x gone) safe))
+learn_keeps p b x r DiskFault q bx br none e s =
+    by_when p (record (breaks p b x) { broken = p.registry.epoch ∷ p.broken }) q (may_lead p b) e
     (λ _. kept p _ refl refl refl refl (broken_safe (breaks p b x) (p.registry.epoch ∷ p.broken) (is_in_more p s) (breaks_kept p b x bx s).safe))
-learn_keeps p b x r other q bx br e s = absurd (none-some q e)
+learn_keeps p b x r other q bx br none e s = absurd (none-some q e)

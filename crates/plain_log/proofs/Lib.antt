@@ -1,9 +1,11 @@
+mod Fields
 pub mod Options
 pub mod Wider
 pub mod Ends
 pub mod Within
 mod Swaps
 mod Keeps
+pub mod Tests
 mod Joins
 mod Least
 mod LogRows

@@ -1,6 +1,6 @@
 -- Tests, and options that a test makes.
 use Rattle.std.proofs.Common.{◌≡◌, ℕ, ◌≤◌, ◌==◌, Some, None, Option, Bool, true, false, ◌&&◌, not, refl, arith}
-use Rattle.std.specs.Prelude.{nat_le, option_map}
+use Rattle.std.specs.Prelude.{nat_le, option_map, is_none}
 use Rattle.std.proofs.lemmas.Bool.Decides.{nat_tests}
 use Rattle.registry.specs.Calls.{when}
 
@@ -31,3 +31,8 @@ eq_of a b h = grind (arith, nat_tests, h)
 pub not_true : (a : Bool) → not a ≡ true → a ≡ false
 not_true true e = absurd cc
 not_true false e = refl
+
+-- an option that is found to be none
+pub none_of : {A : Type 0} (o : Option A) → is_none o ≡ true → o ≡ None
+none_of None e = refl
+none_of (Some x) e = absurd cc

@@ -1,6 +1,5 @@
 -- What a replay keeps, and the order in which it answers commands.
 use Rattle.std.proofs.Common.{◌≡◌, ◌≢◌, subst, ℕ, ◌+◌, ◌<◌, ◌≤◌, ◌==◌, List, [], ◌∷◌, ◌++◌, length, add-zero, Some, Bool, true, false, refl, ap, sym, ◌∙◌, arith}
-use Rattle.std.specs.Prelude.{is_none}
 use Rattle.std.specs.Option.{option_and_then}
 use Rattle.std.proofs.lemmas.Bool.Decides.{nat_tests}
 use Rattle.log_terms.proofs.Lists.{and_then_some, within}
@@ -16,7 +15,7 @@ use Rattle.plain_log.specs.declared.state.Actor.{Actor}
 use Rattle.registry.specs.Calls.{when}
 use Rattle.plain_log.specs.State.{actor_at}
 use Rattle.plain_log.specs.Rows.{row}
-use Rattle.plain_log.specs.Step.{begins, event_step, step}
+use Rattle.plain_log.specs.Step.{begins, may_begin, event_step, step}
 use Rattle.plain_log.specs.Runs.{orders_of, order_of, entry_step, replay, answered, number_before, numbers_from}
 use Rattle.plain_log.specs.Safe.{PlainSafe}
 use Rattle.plain_log.proofs.Options.{map_some}
@@ -52,7 +51,7 @@ number_after (Answers answer) n = n + 1
 event_number : (p : State) (a : ℕ) (order : Order) (x : Broker) (r : Replica) (event : Event) (q : State)
     → event_step p a (actor_at p.actors a) order x r event ≡ Some q → number_of q a ≡ number_after event (number_of p a)
 event_number p a order x r (Begins cut) q e =
-    let w = map_some _ (option_and_then (λ (z : Broker). when (is_none (actor_at p.actors a).snapshot) z) (begins p x order.command cut)) q e in
+    let w = map_some _ (option_and_then (λ (z : Broker). when (may_begin p order.broker.0 x (actor_at p.actors a) order.command) z) (begins p x order.command cut)) q e in
     sym (ap (λ (k : State). number_of k a) w.2) ∙ ap (λ (k : Actor). k.number) (actor_put p.actors a _)
 event_number p a order x r (Answers answer) q e =
     let w = map_some _ (row p order.broker.0 x r (actor_at p.actors a).snapshot order.command answer) q e in

@@ -1,20 +1,22 @@
 -- The rows of the replicas in sync.
-use Rattle.std.proofs.Common.{◌≡◌, ◌≢◌, ◌∙◌, ap, sym, subst, refl, inl, inr, ℕ, ◌==◌, Some, slice_get, true, false, ◌&&◌, not, arith}
-use Rattle.std.specs.Prelude.{nat_le}
+use Rattle.std.proofs.Common.{◌≡◌, ◌≢◌, ◌∙◌, ap, sym, subst, refl, inl, inr, ℕ, ◌==◌, [], ◌∷◌, Some, None, slice_get, true, false, arith}
 use Rattle.std.proofs.lemmas.Bool.Decides.{nat_tests}
 use Rattle.std.proofs.lemmas.Option.{none-some}
 use Rattle.log_terms.proofs.Lists.{get-set, length-slice_set}
 use Rattle.registry.specs.declared.registry.Replica.{Replica}
 use Rattle.registry.specs.Registry.{put_replica, shrunk, expanded}
 use Rattle.plain_log.specs.declared.answer.Answer.{Answer}
-use Rattle.plain_log.specs.declared.answer.Answer.TheVariants.{Ok, NotInSync, DownBroker, IsLeader, Behind}
+use Rattle.plain_log.specs.declared.answer.Answer.TheVariants.{Ok, IsLeader}
+use Rattle.plain_log.specs.declared.command.Command.TheVariants.{Shrink, Expand}
 use Rattle.plain_log.specs.declared.state.State.{State}
 use Rattle.plain_log.specs.declared.state.Broker.{Broker}
-use Rattle.plain_log.specs.State.{set_registry}
+use Rattle.plain_log.specs.State.{set_registry, facts_of}
+use Rattle.plain_log.specs.Refusals.{down_broker, not_in_sync, is_leader, behind}
+use Rattle.plain_log.specs.Rows.{refusal_at}
 use Rattle.plain_log.specs.RowsOfReplicas.{shrink_row, expand_row}
 use Rattle.plain_log.specs.Safe.{AckSafe, current, PlainSafe}
-use Rattle.plain_log.proofs.Options.{both, le_of}
-use Rattle.plain_log.proofs.Keeps.{Keeps, kept, refused, by_left}
+use Rattle.plain_log.proofs.Keeps.{Keeps, kept, by_when}
+use Rattle.plain_log.proofs.Tests.{passes, passed, not_behind}
 
 -- the in-sync set changes at one replica
 pub put_replica_safe : (p : State) (b : ℕ) (r t : Replica) → slice_get p.registry.replicas b ≡ Some r
@@ -45,28 +47,30 @@ put_replica_safe p b r t at w lead s = record {
 }
 
 -- the row of shrink
-pub shrink_keeps : (p : State) (b : ℕ) (r : Replica) (answer : Answer) (q : State) → slice_get p.registry.replicas b ≡ Some r
-    → shrink_row p b r answer ≡ Some q → PlainSafe p → Keeps p q
-shrink_keeps p b r NotInSync q at e s = refused p q _ e s
-shrink_keeps p b r IsLeader q at e s = refused p q _ e s
-shrink_keeps p b r Ok q at e s =
-    by_left p p q (r.in_sync && not (p.registry.leader.0 == b)) (shrunk p.registry b r) e (λ w.
-    let t = both r.in_sync (not (p.registry.leader.0 == b)) w in
-    let ne : p.registry.leader.0 ≢ b = grind (arith, nat_tests, t.1) in
+pub shrink_keeps : (p : State) (b : ℕ) (x : Broker) (r : Replica) (answer : Answer) (q : State) → slice_get p.registry.replicas b ≡ Some r
+    → refusal_at p b x None Shrink ≡ None → shrink_row p b r answer ≡ Some q → PlainSafe p → Keeps p q
+shrink_keeps p b x r Ok q at none e s =
+    by_when p (set_registry p (shrunk p.registry b r)) q true e (λ _.
+    let f = facts_of b x in
+    let t = passes (not_in_sync p.registry f) (is_leader p.registry f ∷ []) none in
+    let u = passes (is_leader p.registry f) [] t.1 in
+    let other = passed (p.registry.leader.0 == b) IsLeader u.0 in
+    let ne : p.registry.leader.0 ≢ b = grind (arith, nat_tests, other) in
     kept p (set_registry p (shrunk p.registry b r)) refl refl refl refl
     (put_replica_safe p b r (record r { in_sync = false }) at
     (λ x a. record { flushed_end = a.flushed_end; shared = a.shared; in_sync = λ i. absurd cc }) (λ i. absurd (ne i)) s))
-shrink_keeps p b r other q at e s = absurd (none-some q e)
+shrink_keeps p b x r other q at none e s = absurd (none-some q e)
 
 -- the row of expand
 pub expand_keeps : (p : State) (b : ℕ) (x : Broker) (r : Replica) (answer : Answer) (q : State) → slice_get p.registry.replicas b ≡ Some r
-    → expand_row p b x r answer ≡ Some q → PlainSafe p → Keeps p q
-expand_keeps p b x r DownBroker q at e s = refused p q _ e s
-expand_keeps p b x r (Behind ack mark) q at e s = refused p q _ e s
-expand_keeps p b x r Ok q at e s =
-    by_left p p q (x.up && nat_le p.registry.mark r.acked) (expanded p.registry b r) e (λ w.
-    let le = le_of p.registry.mark r.acked (both x.up (nat_le p.registry.mark r.acked) w).1 in
+    → refusal_at p b x None Expand ≡ None → expand_row p b r answer ≡ Some q → PlainSafe p → Keeps p q
+expand_keeps p b x r Ok q at none e s =
+    by_when p (set_registry p (expanded p.registry b r)) q true e (λ _.
+    let f = facts_of b x in
+    let t = passes (down_broker f) (behind p.registry f ∷ []) none in
+    let u = passes (behind p.registry f) [] t.1 in
+    let le = not_behind p.registry f r at u.0 in
     kept p (set_registry p (expanded p.registry b r)) refl refl refl refl
     (put_replica_safe p b r (record r { in_sync = true }) at
     (λ z a. record { flushed_end = a.flushed_end; shared = a.shared; in_sync = λ i. le }) (λ i. refl) s))
-expand_keeps p b x r other q at e s = absurd (none-some q e)
+expand_keeps p b x r other q at none e s = absurd (none-some q e)

@@ -5,9 +5,9 @@ use Rattle.log_terms.specs.Log.{end_of, IsConsecutive}
 use Rattle.plain_log.proofs.Ends.{is_end_ends, common_left}
 use Rattle.plain_log.proofs.Options.{both, when_some, map_some}
 use Rattle.plain_log.specs.Ends.{is_end}
-use Rattle.plain_log.specs.RowsOfFollowers.{cut_to, goes_on, extended, was_passed, rebuilt}
+use Rattle.plain_log.specs.RowsOfFollowers.{cut_to, extended, rebuilt}
 use Rattle.plain_log.specs.Safe.{PlainSafe, HasOnPath, RoleSafe}
-use Rattle.plain_log.specs.State.{breaks, set_registry, left_by, put_broker, stopped, path_of, followed}
+use Rattle.plain_log.specs.State.{breaks, put_broker, stopped, path_of, followed}
 use Rattle.plain_log.specs.declared.state.Broker.{Broker}
 use Rattle.plain_log.specs.declared.state.PlainSnapshot.{PlainSnapshot}
 use Rattle.plain_log.specs.declared.state.Path.{Path}
@@ -15,12 +15,10 @@ use Rattle.plain_log.specs.declared.state.Role.{Role}
 use Rattle.plain_log.specs.declared.state.Role.TheVariants.{Joined}
 use Rattle.plain_log.specs.declared.state.State.{State}
 use Rattle.registry.specs.Calls.{when}
-use Rattle.std.proofs.Common.{◌≡◌, subst, refl, ℕ, ◌≤◌, Some, Option, slice_get, Bool, true, false, not, arith, inl, inr, ◌<◌, ◌+◌, List, length, ap, sym, ◌∙◌, slice_set}
+use Rattle.std.proofs.Common.{◌≡◌, subst, refl, ℕ, ◌≤◌, Some, Option, slice_get, Bool, true, arith, inl, inr, ◌<◌, ◌+◌, List, length, ap, sym, ◌∙◌, slice_set}
 use Rattle.std.proofs.lemmas.Bool.Decides.{nat_tests}
 use Rattle.std.specs.Prelude.{nat_lt, option_map}
 use mathlib.Core.List.{IsPrefix}
-use Rattle.registry.specs.declared.registry.Registry.{Registry}
-use Rattle.plain_log.proofs.FollowerRows.{still_joined, JoinedSnapshot}
 use Rattle.plain_log.specs.Grows.{BrokerGrows}
 
 -- what a row does to brokers and to the log start offset
@@ -85,14 +83,6 @@ by_when p r q b e f = let w = when_some b r q e in subst (λ (k : State). RowGro
 pub by_broker : (p q : State) (f : Broker → State) (o : Option Broker) → option_map f o ≡ Some q → ((y : Broker) → o ≡ Some y → RowGrows p (f y)) → RowGrows p q
 by_broker p q f o e h = let w = map_some f o q e in subst (λ (k : State). RowGrows p k) w.2 (h w.0 w.1)
 
-pub refused : (p q : State) (b : Bool) → left_by p (when b p.registry) ≡ Some q → PlainSafe p → RowGrows p q
-refused p q true e s = let is : set_registry p p.registry ≡ q = cc (e) in subst (λ (k : State). RowGrows p k) is (same p)
-refused p q false e s = absurd cc
-
-pub by_left : (p o q : State) (b : Bool) (r : Registry) → left_by o (when b r) ≡ Some q → (b ≡ true → RowGrows p (set_registry o r)) → RowGrows p q
-by_left p o q true r e f = let is : set_registry o r ≡ q = cc (e) in subst (λ (k : State). RowGrows p k) is (f refl)
-by_left p o q false r e f = absurd cc
-
 -- a cut leaves a beginning, and a follower
 pub cut_grows : (p : State) (x : Broker) (n : ℕ) (y : Broker) → cut_to p x n ≡ Some y → BrokerGrows p.paths x y
 cut_grows p x n y is =
@@ -128,24 +118,14 @@ as_longer p x n e y is role has paths =
 joined_has : (paths : List Path) (epoch : ℕ) (r : Role) (e : ℕ) (log : List (List ℕ)) → r ≡ Joined e → RoleSafe paths epoch r log → HasOnPath paths e log
 joined_has paths epoch r e log is h = (subst (λ (k : Role). RoleSafe paths epoch k log) is h).1
 
-pub extended_is : (p : State) (b : ℕ) (x : Broker) (recorded : PlainSnapshot) (n : ℕ) (y : Broker) → slice_get p.brokers b ≡ Some x → (j : JoinedSnapshot p x (Some recorded))
-    → (t : goes_on p x recorded ≡ true) → extended p x n ≡ Some y → PlainSafe p → IsLonger x y (still_joined p x recorded t j).0
-extended_is p b x recorded n y at j t is s =
-    let r = still_joined p x recorded t j in
-    as_longer p x n r.0 y is r.1 (joined_has p.paths p.registry.epoch x.role r.0 x.log r.1 (s.brokers b x at).role) (λ f l h. (s.paths f l h).log_safe.consecutive)
+pub extended_is : (p : State) (b : ℕ) (x : Broker) (e n : ℕ) (y : Broker) → slice_get p.brokers b ≡ Some x → x.role ≡ Joined e → extended p x n ≡ Some y → PlainSafe p → IsLonger x y e
+extended_is p b x e n y at role is s =
+    as_longer p x n e y is role (joined_has p.paths p.registry.epoch x.role e x.log role (s.brokers b x at).role) (λ f l h. (s.paths f l h).log_safe.consecutive)
 
 -- a log restarted
-pub record IsBegunAnew (x y : Broker) : Type 0 where
-  pub epoch : ℕ
-  pub stops : y.stops ≡ x.stops
-  pub role : y.role ≡ Joined epoch
-  pub log : IsPrefix x.log y.log
-
-pub rebuilt_is : (p : State) (b : ℕ) (x : Broker) (recorded : PlainSnapshot) (n : ℕ) (y : Broker) → slice_get p.brokers b ≡ Some x → JoinedSnapshot p x (Some recorded)
-    → rebuilt p x recorded n ≡ Some y → PlainSafe p → IsBegunAnew x y
-rebuilt_is p b x recorded n y at j e s =
-    let f = and_then_some _ (extended p x n) y e in
+pub rebuilt_is : (p : State) (b : ℕ) (x : Broker) (recorded : PlainSnapshot) (e n : ℕ) (y : Broker) → slice_get p.brokers b ≡ Some x → x.role ≡ Joined e
+    → rebuilt p x recorded n ≡ Some y → PlainSafe p → IsLonger x y e
+rebuilt_is p b x recorded e n y at role is s =
+    let f = and_then_some _ (extended p x n) y is in
     let w = when_some _ _ y f.2 in
-    let t = both (goes_on p x recorded) (not (was_passed p recorded n)) w.0 in
-    let v = extended_is p b x recorded n y at j t.0 (f.1 ∙ ap Some w.1) s in
-    record { epoch = (still_joined p x recorded t.0 j).0; stops = v.stops; role = v.role; log = v.log }
+    extended_is p b x e n y at role (f.1 ∙ ap Some w.1) s

@@ -1,5 +1,5 @@
 -- Each step keeps the safety rules, and what is committed, unless it begins that again.
-use Rattle.std.proofs.Common.{◌≡◌, ◌≢◌, inl, inr, subst, ℕ, zero, suc, ◌==◌, List, [], ◌∷◌, Some, None, Option, slice_get, slice_set, Bool, true, false, refl, ap, sym, ◌∙◌, arith}
+use Rattle.std.proofs.Common.{◌≡◌, ◌≢◌, inl, inr, subst, ℕ, zero, suc, ◌==◌, List, [], ◌∷◌, ◌≤◌, length, Some, None, Option, Result, Ok, Err, IsOk, slice_get, slice_set, Bool, true, false, refl, ap, sym, ◌∙◌, arith}
 use Rattle.std.specs.Prelude.{is_none, is_some}
 use Rattle.std.specs.Option.{option_and_then}
 use Rattle.std.proofs.lemmas.Bool.Decides.{nat_tests}
@@ -7,12 +7,15 @@ use Rattle.std.proofs.lemmas.Option.{none-some}
 use mathlib.Core.List.{IsPrefix}
 use Rattle.log_terms.proofs.Lists.{and_then_some, get-set}
 use Rattle.record_batch.specs.Build.{built}
-use Rattle.record_batch.specs.Check.{checked}
+use Rattle.log_terms.specs.Batch.{last_offset_delta_of}
+use Rattle.record_batch.specs.Check.{Batch, checked}
+use Rattle.record_batch.specs.declared.refusal.BatchRefusal.{BatchRefusal}
 use Rattle.record_batch.proofs.BuildLaws.{built_long}
 use Rattle.record_batch.proofs.Passing.{is_batch_of}
 use Rattle.registry.specs.declared.registry.Replica.{Replica}
 use Rattle.registry.specs.Calls.{when}
 use Rattle.plain_log.specs.declared.answer.Answer.{Answer}
+use Rattle.plain_log.specs.declared.answer.Answer.TheVariants.{Down, IsUp, OkAt}
 use Rattle.plain_log.specs.declared.command.Command.{Command}
 use Rattle.plain_log.specs.declared.command.Command.TheVariants.{Append, Raw, Flush, Roll, Elect, Unclean, Learn, Join, Follow, Ack, Shrink, Expand, Copy, Trim, Expire, Raise, Clock, Stop, Up, Fetch, Pack, Copying, Offset}
 use Rattle.plain_log.specs.declared.command.Order.{Order}
@@ -26,26 +29,29 @@ use Rattle.plain_log.specs.declared.state.Actor.{Actor}
 use Rattle.plain_log.specs.declared.state.PlainSnapshot.{PlainSnapshot}
 use Rattle.plain_log.specs.declared.state.Role.{Role}
 use Rattle.plain_log.specs.declared.state.Role.TheVariants.{Idle, Leads, Follows, Joined}
-use Rattle.plain_log.specs.State.{leads, followed, joined, path_of, put_broker, actor_at, put_actor, with_actor}
+use Rattle.plain_log.specs.State.{leads, followed, joined, path_of, put_broker, facts_of, leader_facts, actor_at, put_actor, with_actor}
 use Rattle.plain_log.specs.RowsOfFollowers.{cut_to}
-use Rattle.plain_log.specs.Rows.{row}
-use Rattle.plain_log.specs.Step.{begins, same_command, recorded_of, is_recorded, event_step, next_actor, step}
+use Rattle.plain_log.specs.Rows.{refusal_at, effect, row}
+use Rattle.plain_log.specs.RowsOfReads.{is_long}
+use Rattle.plain_log.specs.Refusals.{down, not_leader, not_joined, stale, no_leader, level, out_of_range, empty, first_of, same_refusal}
+use Rattle.plain_log.specs.Step.{begins, may_begin, same_command, recorded_of, is_recorded, event_step, next_actor, step}
 use Rattle.plain_log.specs.Committed.{restarts}
 use Rattle.plain_log.specs.Safe.{RoleSafe, SnapshotIsSafe, PlainSafe, is_leaders, is_followers}
-use Rattle.plain_log.proofs.Options.{when_some, map_some, both, eq_of}
+use Rattle.plain_log.proofs.Options.{when_some, map_some, both, eq_of, none_of}
 use Rattle.plain_log.proofs.Wider.{Wider}
 use Rattle.plain_log.proofs.Swaps.{Swap, swap_same}
 use Rattle.plain_log.proofs.Joins.{swap_cut}
-use Rattle.plain_log.proofs.Keeps.{RowGoes, row_goes, broker_kept}
+use Rattle.plain_log.proofs.Keeps.{Keeps, RowGoes, row_goes, same, broker_kept}
+use Rattle.plain_log.proofs.Tests.{by_tests, passes, passed, holds, up_leads, may_append, may_raw}
 use Rattle.plain_log.proofs.LogRows.{flush_keeps, roll_keeps, stop_keeps, up_keeps}
-use Rattle.plain_log.proofs.AppendRow.{append_keeps, raw_keeps}
+use Rattle.plain_log.proofs.AppendRow.{append_keeps}
 use Rattle.plain_log.proofs.ElectionRows.{elect_keeps, unclean_goes}
 use Rattle.plain_log.proofs.LearnRow.{learn_keeps}
-use Rattle.plain_log.proofs.FollowerRows.{JoinedSnapshot, join_keeps, follow_keeps}
+use Rattle.plain_log.proofs.FollowerRows.{JoinedSnapshot, may_join, may_follow, join_keeps, follow_keeps}
 use Rattle.plain_log.proofs.AckRow.{ack_keeps}
 use Rattle.plain_log.proofs.ReplicaRows.{shrink_keeps, expand_keeps}
-use Rattle.plain_log.proofs.TierRows.{copy_keeps, trim_keeps, expire_keeps, raise_keeps, silent_keeps}
-use Rattle.plain_log.proofs.ReadRows.{fetch_keeps, offset_keeps}
+use Rattle.plain_log.proofs.TierRows.{trim_keeps, expire_keeps, raise_keeps}
+use Rattle.plain_log.proofs.ReadRows.{copy_same, fetch_same, offset_same, silent_same}
 
 same_join : (c : Command) → same_command c Join ≡ true → is_followers c ≡ true
 same_join Join e = refl
@@ -68,33 +74,61 @@ pub joined_for_follow : (p : State) (x : Broker) (recorded : Option PlainSnapsho
 joined_for_follow p x None limit h = tt
 joined_for_follow p x (Some recorded) limit h = h.1.joined (same_follow recorded.order.command limit h.0)
 
+-- bytes that are a batch have its head
+read_long : (bytes : List ℕ) (reading : Result Batch BatchRefusal) → checked bytes ≡ reading → IsOk reading → 61 ≤ length bytes
+read_long bytes (Ok batch) is ok = (is_batch_of bytes batch is).long
+read_long bytes (Err why) is ok = absurd (cc (ok))
+
+-- a row that changes nothing
+as_before : (p q : State) → p ≡ q → PlainSafe p → Keeps p q
+as_before p q is s = subst (λ (k : State). Keeps p k) is (same p s)
+
+-- what is done keeps them
+effect_keeps : (p : State) (b : ℕ) (x : Broker) (r : Replica) (recorded : Option PlainSnapshot) (command : Command) (answer : Answer) (q : State)
+    → slice_get p.brokers b ≡ Some x → slice_get p.registry.replicas b ≡ Some r → StartIsSafe p x recorded command
+    → refusal_at p b x recorded command ≡ None → effect p b x r recorded command answer ≡ Some q → PlainSafe p → RowGoes (restarts command (Answers answer)) p q
+effect_keeps p b x r recorded (Append recs) answer q bx br j none e s =
+    row_goes p q (append_keeps p b x (built recs) answer q bx (built_long recs) (may_append (facts_of b x) (last_offset_delta_of (built recs)) none) e s)
+effect_keeps p b x r recorded (Raw bytes) answer q bx br j none e s =
+    let may = may_raw (facts_of b x) (checked bytes) (last_offset_delta_of bytes) none in
+    row_goes p q (append_keeps p b x bytes answer q bx (read_long bytes (checked bytes) refl may.0) may.1 e s)
+effect_keeps p b x r recorded Flush answer q bx br j none e s = row_goes p q (flush_keeps p b x answer q bx e s)
+effect_keeps p b x r recorded Roll answer q bx br j none e s = row_goes p q (roll_keeps p b x answer q bx e s)
+effect_keeps p b x r recorded Elect answer q bx br j none e s = row_goes p q (elect_keeps p b x r answer q br none e s)
+effect_keeps p b x r recorded Unclean answer q bx br j none e s = unclean_goes p b x answer q bx none e s
+effect_keeps p b x r recorded Learn answer q bx br j none e s = row_goes p q (learn_keeps p b x r answer q bx br none e s)
+effect_keeps p b x r recorded Join answer q bx br j none e s =
+    row_goes p q (join_keeps p b x recorded answer q bx (may_join p b x recorded none (joined_for_join p x recorded j)) e s)
+effect_keeps p b x r recorded (Follow limit) answer q bx br j none e s =
+    row_goes p q (follow_keeps p b x limit recorded answer q bx (may_follow p b x recorded limit none (joined_for_follow p x recorded limit j)) e s)
+effect_keeps p b x r recorded Ack answer q bx br j none e s = row_goes p q (ack_keeps p b x r answer q bx br none e s)
+effect_keeps p b x r recorded Shrink answer q bx br j none e s = row_goes p q (shrink_keeps p b x r answer q br none e s)
+effect_keeps p b x r recorded Expand answer q bx br j none e s = row_goes p q (expand_keeps p b x r answer q br none e s)
+effect_keeps p b x r recorded Copy answer q bx br j none e s = row_goes p q (as_before p q (copy_same p recorded answer q e) s)
+effect_keeps p b x r recorded Trim answer q bx br j none e s = row_goes p q (trim_keeps p b x recorded answer q bx e s)
+effect_keeps p b x r recorded Expire answer q bx br j none e s = row_goes p q (expire_keeps p recorded answer q e s)
+effect_keeps p b x r recorded (Raise start) answer q bx br j none e s = row_goes p q (raise_keeps p b x start answer q none e s)
+effect_keeps p b x r recorded (Clock ms) answer q bx br j none e s = row_goes p q (as_before p q (silent_same p answer q e) s)
+effect_keeps p b x r recorded Stop answer q bx br j none e s = row_goes p q (stop_keeps p b x answer q bx e s)
+effect_keeps p b x r recorded Up answer q bx br j none e s = row_goes p q (up_keeps p b x answer q bx (passed x.up IsUp none) e s)
+effect_keeps p b x r recorded (Fetch offset limit) answer q bx br j none e s = row_goes p q (as_before p q (fetch_same p x offset limit recorded answer q e) s)
+effect_keeps p b x r recorded (Pack on) answer q bx br j none e s = row_goes p q (as_before p q (silent_same p answer q e) s)
+effect_keeps p b x r recorded (Copying on) answer q bx br j none e s = row_goes p q (as_before p q (silent_same p answer q e) s)
+effect_keeps p b x r recorded (Offset which) answer q bx br j none e s = row_goes p q (as_before p q (offset_same p x which recorded answer q e) s)
+
+-- a refusal doesn't begin again what is committed
+refused_on : (c : Command) (answer reason : Answer) → same_refusal answer reason ≡ true → restarts c (Answers answer) ≡ false
+refused_on Unclean (OkAt n) reason e = absurd cc
+refused_on other answer reason e = refl
+
 -- each row keeps them
 pub row_keeps : (p : State) (b : ℕ) (x : Broker) (r : Replica) (recorded : Option PlainSnapshot) (command : Command) (answer : Answer) (q : State)
     → slice_get p.brokers b ≡ Some x → slice_get p.registry.replicas b ≡ Some r → StartIsSafe p x recorded command
     → row p b x r recorded command answer ≡ Some q → PlainSafe p → RowGoes (restarts command (Answers answer)) p q
-row_keeps p b x r recorded (Append recs) answer q bx br j e s = row_goes p q (append_keeps p b x (built recs) answer q bx (built_long recs) e s)
-row_keeps p b x r recorded (Raw bytes) answer q bx br j e s = row_goes p q (raw_keeps p b x bytes (checked bytes) answer q bx (λ batch is. (is_batch_of bytes batch is).long) e s)
-row_keeps p b x r recorded Flush answer q bx br j e s = row_goes p q (flush_keeps p b x answer q bx e s)
-row_keeps p b x r recorded Roll answer q bx br j e s = row_goes p q (roll_keeps p b x answer q bx e s)
-row_keeps p b x r recorded Elect answer q bx br j e s = row_goes p q (elect_keeps p b x r answer q br e s)
-row_keeps p b x r recorded Unclean answer q bx br j e s = unclean_goes p b x answer q bx e s
-row_keeps p b x r recorded Learn answer q bx br j e s = row_goes p q (learn_keeps p b x r answer q bx br e s)
-row_keeps p b x r recorded Join answer q bx br j e s = row_goes p q (join_keeps p b x recorded answer q bx (joined_for_join p x recorded j) e s)
-row_keeps p b x r recorded (Follow limit) answer q bx br j e s = row_goes p q (follow_keeps p b x limit recorded answer q bx (joined_for_follow p x recorded limit j) e s)
-row_keeps p b x r recorded Ack answer q bx br j e s = row_goes p q (ack_keeps p b x r answer q bx br e s)
-row_keeps p b x r recorded Shrink answer q bx br j e s = row_goes p q (shrink_keeps p b r answer q br e s)
-row_keeps p b x r recorded Expand answer q bx br j e s = row_goes p q (expand_keeps p b x r answer q br e s)
-row_keeps p b x r recorded Copy answer q bx br j e s = row_goes p q (copy_keeps p x recorded answer q e s)
-row_keeps p b x r recorded Trim answer q bx br j e s = row_goes p q (trim_keeps p b x recorded answer q bx e s)
-row_keeps p b x r recorded Expire answer q bx br j e s = row_goes p q (expire_keeps p x recorded answer q e s)
-row_keeps p b x r recorded (Raise start) answer q bx br j e s = row_goes p q (raise_keeps p x start answer q e s)
-row_keeps p b x r recorded (Clock ms) answer q bx br j e s = row_goes p q (silent_keeps p answer q e s)
-row_keeps p b x r recorded Stop answer q bx br j e s = row_goes p q (stop_keeps p b x answer q bx e s)
-row_keeps p b x r recorded Up answer q bx br j e s = row_goes p q (up_keeps p b x answer q bx e s)
-row_keeps p b x r recorded (Fetch offset limit) answer q bx br j e s = row_goes p q (fetch_keeps p x offset limit recorded answer q e s)
-row_keeps p b x r recorded (Pack on) answer q bx br j e s = row_goes p q (silent_keeps p answer q e s)
-row_keeps p b x r recorded (Copying on) answer q bx br j e s = row_goes p q (silent_keeps p answer q e s)
-row_keeps p b x r recorded (Offset which) answer q bx br j e s = row_goes p q (offset_keeps p x which recorded answer q e s)
+row_keeps p b x r recorded command answer q bx br j e s =
+    by_tests (RowGoes (restarts command (Answers answer)) p) p q (refusal_at p b x recorded command) answer (effect p b x r recorded command answer) e
+    (λ reason is. subst (λ (k : Bool). RowGoes k p p) (sym (refused_on command answer reason is)) (row_goes p p (same p s)))
+    (λ none done. effect_keeps p b x r recorded command answer q bx br j none done s)
 
 -- what was written of an actor is there
 pub actor_put : (actors : List Actor) (a : ℕ) (y : Actor) → actor_at (put_actor actors a y) a ≡ y
@@ -161,41 +195,66 @@ joined_in (Leads e) t = absurd cc
 joined_in (Follows e) t = absurd cc
 joined_in (Joined e) t = (e, refl)
 
-begin_same : (p : State) (b : ℕ) (x : Broker) (c : Command) (t : Bool) (z : Broker) → slice_get p.brokers b ≡ Some x → when t x ≡ Some z → PlainSafe p
-    → (t ≡ true → (x.up ≡ true) × (is_leaders c ≡ true → leads x.role ≡ true) × (is_followers c ≡ true → is_some (joined x.role) ≡ true)) → BeginSafe p x c z
-begin_same p b x c t z at e s h =
-    let w = when_some t x z e in
-    let k = h w.0 in
-    subst (λ (y : Broker). BeginSafe p x c y) w.1 (record {
+begin_same : (p : State) (b : ℕ) (x : Broker) (c : Command) (z : Broker) → slice_get p.brokers b ≡ Some x → x ≡ z → PlainSafe p
+    → x.up ≡ true → (is_leaders c ≡ true → leads x.role ≡ true) → (is_followers c ≡ true → is_some (joined x.role) ≡ true) → BeginSafe p x c z
+begin_same p b x c z at is s up lead join =
+    subst (λ (y : Broker). BeginSafe p x c y) is (record {
       swap = swap_same p b x at s;
-      up = k.0;
-      leads = λ i. leads_path p.paths p.registry.epoch x.role x.log (k.1 i) (s.brokers b x at).role;
-      joined = λ i. joined_in x.role (k.2 i);
+      up = up;
+      leads = λ i. leads_path p.paths p.registry.epoch x.role x.log (lead i) (s.brokers b x at).role;
+      joined = λ i. joined_in x.role (join i);
     })
 
-cut_joined : (p : State) (x : Broker) (n : ℕ) (y : Broker) → cut_to p x n ≡ Some y → (y.up ≡ true) × ((e : ℕ) × (y.role ≡ Joined e))
-cut_joined p x n y is =
+-- a command that a leader begins
+begin_led : (p : State) (b : ℕ) (x : Broker) (c : Command) (z : Broker) (tests : List (Option Answer)) → slice_get p.brokers b ≡ Some x → x ≡ z → PlainSafe p
+    → is_followers c ≡ false → first_of (down (facts_of b x) ∷ not_leader (facts_of b x) ∷ tests) ≡ None → BeginSafe p x c z
+begin_led p b x c z tests at is s leaders none =
+    let t = up_leads (facts_of b x) tests none in
+    begin_same p b x c z at is s t.0 (λ i. t.1) (λ i. absurd (cc (leaders, i)))
+
+-- a role that has joined
+has_joined : (r : Role) → not_joined (joined r) ≡ None → is_some (joined r) ≡ true
+has_joined Idle e = absurd cc
+has_joined (Leads e) none = absurd cc
+has_joined (Follows e) none = absurd cc
+has_joined (Joined e) none = refl
+
+begin_follow : (p : State) (b : ℕ) (x : Broker) (limit : ℕ) (z : Broker) → slice_get p.brokers b ≡ Some x → x ≡ z → PlainSafe p
+    → refusal_at p b x None (Follow limit) ≡ None → BeginSafe p x (Follow limit) z
+begin_follow p b x limit z at is s none =
+    let f = facts_of b x in
+    let r = p.registry in
+    let tests = stale r (joined f.role) ∷ no_leader r (leader_facts p) ∷ level (leader_facts p) f ∷ [] in
+    let t = passes (down f) (not_joined (joined f.role) ∷ tests) none in
+    let u = passes (not_joined (joined f.role)) tests t.1 in
+    begin_same p b x (Follow limit) z at is s (holds x.up Down t.0) (λ i. absurd cc) (λ i. has_joined x.role u.0)
+
+cut_joined : (p : State) (x : Broker) (n : ℕ) (y : Broker) → x.up ≡ true → cut_to p x n ≡ Some y → (y.up ≡ true) × ((e : ℕ) × (y.role ≡ Joined e))
+cut_joined p x n y up is =
     let f = and_then_some _ (followed x.role) y is in
     let g = and_then_some _ (path_of p.paths f.0) y f.2 in
     let w = when_some _ _ y g.2 in
-    let up : x.up ≡ true = grind (arith, nat_tests, w.0) in
     (ap (λ (k : Broker). k.up) (sym w.1) ∙ up, (f.0, ap (λ (k : Broker). k.role) (sym w.1)))
 
-begins_safe : (p : State) (b : ℕ) (x : Broker) (c : Command) (cut : Option ℕ) (z : Broker) → slice_get p.brokers b ≡ Some x → begins p x c cut ≡ Some z → PlainSafe p → BeginSafe p x c z
-begins_safe p b x Join (Some n) z at e s =
-    let k = cut_joined p x n z e in
-    record { swap = swap_cut p x n z e (s.brokers b x at) (s.known_high_watermark b x at); up = k.0; leads = λ i. absurd cc; joined = λ i. k.1 }
-begins_safe p b x (Follow limit) None z at e s =
-    begin_same p b x (Follow limit) _ z at e s (λ w. (grind (arith, nat_tests, w), (λ i. absurd cc), (λ i. grind (arith, nat_tests, w))))
-begins_safe p b x Copy None z at e s = begin_same p b x Copy _ z at e s (λ w. (grind (arith, nat_tests, w), (λ i. grind (arith, nat_tests, w)), (λ i. absurd cc)))
-begins_safe p b x Trim None z at e s = begin_same p b x Trim _ z at e s (λ w. (w, (λ i. absurd cc), (λ i. absurd cc)))
-begins_safe p b x Expire None z at e s =
-    begin_same p b x Expire _ z at e s (λ w. (grind (arith, nat_tests, w), (λ i. grind (arith, nat_tests, w)), (λ i. absurd cc)))
-begins_safe p b x (Fetch offset limit) None z at e s =
-    begin_same p b x (Fetch offset limit) _ z at e s (λ w. (grind (arith, nat_tests, w), (λ i. grind (arith, nat_tests, w)), (λ i. absurd cc)))
-begins_safe p b x (Offset which) None z at e s =
-    begin_same p b x (Offset which) _ z at e s (λ w. (grind (arith, nat_tests, w), (λ i. grind (arith, nat_tests, w)), (λ i. absurd cc)))
-begins_safe p b x other cut z at e s = absurd (none-some z e)
+some_is : (x z : Broker) → ◌≡◌ {A = Option Broker} (Some x) (Some z) → x ≡ z
+some_is x z e = cc (e)
+
+begins_safe : (p : State) (b : ℕ) (x : Broker) (c : Command) (cut : Option ℕ) (z : Broker) → slice_get p.brokers b ≡ Some x → refusal_at p b x None c ≡ None
+    → begins p x c cut ≡ Some z → PlainSafe p → BeginSafe p x c z
+begins_safe p b x Join (Some n) z at none e s =
+    let may = may_join p b x None none tt in
+    let k = cut_joined p x n z may.0 e in
+    record { swap = swap_cut p x n z may e (s.brokers b x at) (s.known_high_watermark b x at); up = k.0; leads = λ i. absurd cc; joined = λ i. k.1 }
+begins_safe p b x (Follow limit) None z at none e s = begin_follow p b x limit z at (some_is x z e) s none
+begins_safe p b x Copy None z at none e s = begin_led p b x Copy z [] at (some_is x z e) s refl none
+begins_safe p b x Trim None z at none e s =
+    begin_same p b x Trim z at (some_is x z e) s (holds x.up Down none) (λ i. absurd cc) (λ i. absurd cc)
+begins_safe p b x Expire None z at none e s = begin_led p b x Expire z [] at (some_is x z e) s refl none
+begins_safe p b x (Fetch offset limit) None z at none e s =
+    begin_led p b x (Fetch offset limit) z (out_of_range p.registry (facts_of b x) offset ∷ empty (facts_of b x) offset ∷ []) at (some_is x z e) s refl none
+begins_safe p b x (Offset which) None z at none e s =
+    begin_led p b x (Offset which) z [] at (when_some (is_long which) x z e).1 s refl none
+begins_safe p b x other cut z at none e s = absurd (none-some z e)
 
 recorded_begin : (p : State) (order : Order) (x z : Broker) → BeginSafe p x order.command z → SnapshotIsSafe p.paths p.registry.epoch (recorded_of p order z) z
 recorded_begin p order x z h = record {
@@ -246,11 +305,12 @@ event_goes : (p : State) (a : ℕ) (order : Order) (x : Broker) (r : Replica) (e
     → is_recorded (actor_at p.actors a).snapshot order ≡ true
     → event_step p a (actor_at p.actors a) order x r event ≡ Some q → PlainSafe p → EventGoes (restarts order.command event) p a q
 event_goes p a order x r (Begins cut) q bx br recorded e s =
-    let w = map_some _ (option_and_then (λ (z : Broker). when (is_none (actor_at p.actors a).snapshot) z) (begins p x order.command cut)) q e in
+    let w = map_some _ (option_and_then (λ (z : Broker). when (may_begin p order.broker.0 x (actor_at p.actors a) order.command) z) (begins p x order.command cut)) q e in
     let f = and_then_some _ (begins p x order.command cut) w.0 w.1 in
     let v = when_some _ _ w.0 f.2 in
     let is : begins p x order.command cut ≡ Some w.0 = f.1 ∙ ap Some v.1 in
-    let g = begins_safe p order.broker.0 x order.command cut w.0 bx is s in
+    let none = none_of (refusal_at p order.broker.0 x None order.command) (both (is_none (actor_at p.actors a).snapshot) _ v.0).1 in
+    let g = begins_safe p order.broker.0 x order.command cut w.0 bx none is s in
     subst (λ (k : Bool). EventGoes k p a q) (sym (begins_on order.command cut)) (subst (λ (k : State). EventGoes false p a k) w.2 (with_actor_goes false p (put_broker p order.broker.0 w.0) a _
     (λ n z bg nz.
     let same : recorded_of p order w.0 ≡ n = cc (bg) in

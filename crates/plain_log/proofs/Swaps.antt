@@ -11,8 +11,7 @@ use Rattle.plain_log.specs.declared.state.Broker.{Broker}
 use Rattle.plain_log.specs.declared.state.PlainSnapshot.{PlainSnapshot}
 use Rattle.plain_log.specs.declared.state.Role.{Role}
 use Rattle.plain_log.specs.declared.state.Role.TheVariants.{Idle, Leads, Follows, Joined}
-use Rattle.plain_log.specs.State.{put_broker, path_of, stopped}
-use Rattle.plain_log.specs.RowsOfElections.{knows}
+use Rattle.plain_log.specs.State.{put_broker, path_of, stopped, knows}
 use Rattle.plain_log.specs.RowsOfLog.{opened}
 use Rattle.plain_log.specs.Safe.{RoleSafe, BrokerSafe, SharedTo, AckSafe, current, KnownSafe, SnapshotIsSafe, PlainSafe}
 use Rattle.plain_log.proofs.Ends.{log_prefix}
@@ -118,7 +117,7 @@ swap_flush p x h k = record {
 }
 
 -- a broker that has joined the current epoch knows it
-pub knows_joined : (p : State) (x : Broker) (e : ℕ) → x.role ≡ Joined e → e ≡ p.registry.epoch → knows p x ≡ true
+pub knows_joined : (p : State) (x : Broker) (e : ℕ) → x.role ≡ Joined e → e ≡ p.registry.epoch → knows p.registry x.role ≡ true
 knows_joined p x e r is = rw (r, is) (go (p.registry.epoch == p.registry.epoch) refl)
   where
     go : (t : Bool) → (p.registry.epoch == p.registry.epoch) ≡ t → (p.registry.epoch == p.registry.epoch) ≡ true
@@ -126,7 +125,7 @@ knows_joined p x e r is = rw (r, is) (go (p.registry.epoch == p.registry.epoch) 
     go false i = absurd (grind (arith, nat_tests, i))
 
 -- it learns that another broker leads
-pub swap_follows : (p : State) (x : Broker) → x.up ≡ true → knows p x ≡ false → BrokerSafe p.paths p.registry.epoch x → KnownSafe p.unclean p.registry.epoch p.registry.mark p.committed x
+pub swap_follows : (p : State) (x : Broker) → x.up ≡ true → knows p.registry x.role ≡ false → BrokerSafe p.paths p.registry.epoch x → KnownSafe p.unclean p.registry.epoch p.registry.mark p.committed x
     → Swap p x (record x { role = Follows p.registry.epoch })
 swap_follows p x up new h k = record {
   broker = record { log = h.log; role = omega arith; flushed_end = h.flushed_end; known_high_watermark = h.known_high_watermark; down = λ d. absurd (cc (up, d)) };

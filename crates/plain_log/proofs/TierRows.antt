@@ -1,50 +1,32 @@
 -- The rows of the tiers.
-use Rattle.std.proofs.Common.{◌≡◌, subst, refl, ℕ, ◌≤◌, ◌==◌, Some, None, Option, Result, Ok, Err, slice_get, Bool, true, false, ◌&&◌, not, if◌then◌else◌}
-use Rattle.std.proofs.lemmas.Option.{none-some}
+use Rattle.std.proofs.Common.{◌≡◌, refl, ℕ, ◌≤◌, ◌==◌, [], ◌∷◌, Some, None, Option, slice_get, true, ◌&&◌, not, arith}
 use Rattle.std.specs.Prelude.{nat_lt, nat_le}
-use Rattle.log_terms.proofs.Lists.{and_then_some}
-use Rattle.registry.specs.declared.refusal.RegRefusal.{RegRefusal}
-use Rattle.registry.specs.declared.refusal.RegRefusal.TheVariants as refusal
+use Rattle.std.proofs.lemmas.Bool.Decides.{nat_tests}
+use Rattle.std.proofs.lemmas.Option.{none-some}
 use Rattle.registry.specs.Registry.{started}
-use Rattle.registry.specs.Calls.{is_stale, after_raise}
 use Rattle.plain_log.specs.declared.answer.Answer.{Answer}
-use Rattle.plain_log.specs.declared.answer.Answer.TheVariants.{Ok as OkAnswer, OkAt, Down, NotLeader, DiskFault, StaleEpoch, Stopped, MetaFault, StoreFault, Damaged, Level, CopiedSegment, LostLead, Overtaken, Kept, Dropped, Raised, Deleted, NotAbove, AboveMark, CopyOff}
+use Rattle.plain_log.specs.declared.answer.Answer.TheVariants.{OkAt, DiskFault, StaleEpoch, MetaFault, StoreFault, Kept, Dropped, Raised, Deleted, NotAbove, AboveMark}
+use Rattle.plain_log.specs.declared.command.Command.TheVariants.{Raise}
 use Rattle.plain_log.specs.declared.state.State.{State}
 use Rattle.plain_log.specs.declared.state.Broker.{Broker}
 use Rattle.plain_log.specs.declared.state.PlainSnapshot.{PlainSnapshot}
-use Rattle.plain_log.specs.State.{leading, breaks, set_registry, left_by}
-use Rattle.plain_log.specs.RowsOfTiers.{keeps_lead, copy_row, trim_row, raised_by, expire_row, raise_row, silent_row}
+use Rattle.plain_log.specs.State.{leading, breaks, set_registry, facts_of}
+use Rattle.plain_log.specs.RowsOfTiers.{trim_row, is_behind, may_start, expire_row, raise_row}
+use Rattle.plain_log.specs.Refusals.{down, not_leader, stale, not_above, above_mark}
+use Rattle.plain_log.specs.Rows.{refusal_at}
 use Rattle.plain_log.specs.Safe.{PlainSafe}
 use Rattle.plain_log.proofs.Options.{both, le_of}
-use Rattle.plain_log.proofs.Keeps.{Keeps, kept, same, silent, by_when, breaks_kept, refused, by_left}
-
--- the row of copy
-pub copy_keeps : (p : State) (x : Broker) (recorded : Option PlainSnapshot) (answer : Answer) (q : State) → copy_row p x recorded answer ≡ Some q → PlainSafe p → Keeps p q
-copy_keeps p x None Down q e s = silent p q _ e s
-copy_keeps p x None NotLeader q e s = silent p q _ e s
-copy_keeps p x None CopyOff q e s = silent p q _ e s
-copy_keeps p x None MetaFault q e s = silent p q _ e s
-copy_keeps p x None other q e s = absurd (none-some q e)
-copy_keeps p x (Some recorded) LostLead q e s = silent p q _ e s
-copy_keeps p x (Some recorded) Level q e s = silent p q _ e s
-copy_keeps p x (Some recorded) DiskFault q e s = silent p q _ e s
-copy_keeps p x (Some recorded) (Damaged place k) q e s = silent p q _ e s
-copy_keeps p x (Some recorded) MetaFault q e s = silent p q _ e s
-copy_keeps p x (Some recorded) StoreFault q e s = silent p q _ e s
-copy_keeps p x (Some recorded) (Overtaken state) q e s = silent p q _ e s
-copy_keeps p x (Some recorded) (CopiedSegment id start last) q e s = silent p q _ e s
-copy_keeps p x (Some recorded) other q e s = absurd (none-some q e)
+use Rattle.plain_log.proofs.Keeps.{Keeps, kept, silent, by_when, breaks_kept}
+use Rattle.plain_log.proofs.Tests.{passes, passed}
 
 -- the row of trim
 pub trim_keeps : (p : State) (b : ℕ) (x : Broker) (recorded : Option PlainSnapshot) (answer : Answer) (q : State) → slice_get p.brokers b ≡ Some x
     → trim_row p b x recorded answer ≡ Some q → PlainSafe p → Keeps p q
-trim_keeps p b x None Down q at e s = silent p q _ e s
-trim_keeps p b x None MetaFault q at e s = silent p q _ e s
+trim_keeps p b x None MetaFault q at e s = silent p q true e s
 trim_keeps p b x None other q at e s = absurd (none-some q e)
-trim_keeps p b x (Some recorded) Stopped q at e s = silent p q _ e s
-trim_keeps p b x (Some recorded) Kept q at e s = silent p q _ e s
-trim_keeps p b x (Some recorded) DiskFault q at e s = by_when p (breaks p b x) q _ e (λ _. breaks_kept p b x at s)
-trim_keeps p b x (Some recorded) (Dropped base last) q at e s = silent p q _ e s
+trim_keeps p b x (Some recorded) Kept q at e s = silent p q true e s
+trim_keeps p b x (Some recorded) DiskFault q at e s = by_when p (breaks p b x) q true e (λ _. breaks_kept p b x at s)
+trim_keeps p b x (Some recorded) (Dropped base last) q at e s = silent p q true e s
 trim_keeps p b x (Some recorded) other q at e s = absurd (none-some q e)
 
 -- the log start offset is at most the high watermark
@@ -63,57 +45,47 @@ start_safe p n le s = record {
   recorded = s.recorded;
 }
 
--- what the registry makes of a raise
-after_raise_keeps : (p : State) (e wanted : ℕ) (result : Result ℕ RegRefusal) (q : State) → left_by p (after_raise p.registry e wanted result) ≡ Some q → PlainSafe p → Keeps p q
-after_raise_keeps p e wanted (Err (refusal.StaleEpoch n)) q is s = refused p q _ is s
-after_raise_keeps p e wanted (Err (refusal.NotAbove n)) q is s = refused p q _ is s
-after_raise_keeps p e wanted (Err (refusal.AboveMark n)) q is s = refused p q _ is s
-after_raise_keeps p e wanted (Ok start) q is s =
-    by_left p p q (not (is_stale p.registry e) && nat_lt p.registry.start wanted && nat_le wanted p.registry.mark && (start == wanted)) (started p.registry wanted) is (λ w.
-    let t1 = both (not (is_stale p.registry e) && nat_lt p.registry.start wanted && nat_le wanted p.registry.mark) (start == wanted) w in
-    let t2 = both (not (is_stale p.registry e) && nat_lt p.registry.start wanted) (nat_le wanted p.registry.mark) t1.0 in
-    kept p (set_registry p (started p.registry wanted)) refl refl refl refl (start_safe p wanted (le_of wanted p.registry.mark t2.1) s))
-after_raise_keeps p e wanted other q is s = absurd (none-some q is)
-
-raised_keeps : (p : State) (x : Broker) (wanted : ℕ) (result : Result ℕ RegRefusal) (q : State) → raised_by p x wanted result ≡ Some q → PlainSafe p → Keeps p q
-raised_keeps p x wanted result q is s =
-    let f = and_then_some (λ (e : ℕ). if x.up then left_by p (after_raise p.registry e wanted result) else None) (leading x.role) q is in
-    go x.up f.0 f.2
-  where
-    go : (t : Bool) (e : ℕ) → (if t then left_by p (after_raise p.registry e wanted result) else None) ≡ Some q → Keeps p q
-    go true e i = after_raise_keeps p e wanted result q i s
-    go false e i = absurd cc
+-- the log start offset is raised to one that the high watermark has reached
+started_keeps : (p : State) (n : ℕ) → n ≤ p.registry.mark → PlainSafe p → Keeps p (set_registry p (started p.registry n))
+started_keeps p n le s = kept p (set_registry p (started p.registry n)) refl refl refl refl (start_safe p n le s)
 
 -- the row of expire
-pub expire_keeps : (p : State) (x : Broker) (recorded : Option PlainSnapshot) (answer : Answer) (q : State) → expire_row p x recorded answer ≡ Some q → PlainSafe p → Keeps p q
-expire_keeps p x None Down q e s = silent p q _ e s
-expire_keeps p x None NotLeader q e s = silent p q _ e s
-expire_keeps p x None MetaFault q e s = silent p q _ e s
-expire_keeps p x None other q e s = absurd (none-some q e)
-expire_keeps p x (Some recorded) LostLead q e s = silent p q _ e s
-expire_keeps p x (Some recorded) Kept q e s = silent p q _ e s
-expire_keeps p x (Some recorded) (StaleEpoch n) q e s = silent p q _ e s
-expire_keeps p x (Some recorded) (Raised start) q e s = go (keeps_lead x recorded) e
-  where
-    go : (t : Bool) → (if t then raised_by p x start (Ok start) else None) ≡ Some q → Keeps p q
-    go true i = raised_keeps p x start (Ok start) q i s
-    go false i = absurd cc
-expire_keeps p x (Some recorded) MetaFault q e s = silent p q _ e s
-expire_keeps p x (Some recorded) StoreFault q e s = silent p q _ e s
-expire_keeps p x (Some recorded) (Deleted id) q e s = silent p q _ e s
-expire_keeps p x (Some recorded) other q e s = absurd (none-some q e)
+pub expire_keeps : (p : State) (recorded : Option PlainSnapshot) (answer : Answer) (q : State) → expire_row p recorded answer ≡ Some q → PlainSafe p → Keeps p q
+expire_keeps p None MetaFault q e s = silent p q true e s
+expire_keeps p None other q e s = absurd (none-some q e)
+expire_keeps p (Some recorded) Kept q e s = silent p q true e s
+expire_keeps p (Some recorded) (StaleEpoch n) q e s = silent p q _ e s
+expire_keeps p (Some recorded) (Raised start) q e s =
+    by_when p (set_registry p (started p.registry start)) q (not (is_behind p recorded) && may_start p start) e (λ w.
+    let t = both (not (is_behind p recorded)) (may_start p start) w in
+    let u = both (nat_lt p.registry.start start) (nat_le start p.registry.mark) t.1 in
+    started_keeps p start (le_of start p.registry.mark u.1) s)
+expire_keeps p (Some recorded) MetaFault q e s = silent p q true e s
+expire_keeps p (Some recorded) StoreFault q e s = silent p q true e s
+expire_keeps p (Some recorded) (Deleted id) q e s = silent p q true e s
+expire_keeps p (Some recorded) other q e s = absurd (none-some q e)
+
+-- a raise that isn't refused
+pub record MayRaise (p : State) (wanted : ℕ) : Type 0 where
+  pub above : p.registry.start ≤ wanted
+  pub below : wanted ≤ p.registry.mark
+
+pub may_raise : (p : State) (b : ℕ) (x : Broker) (wanted : ℕ) → refusal_at p b x None (Raise wanted) ≡ None → MayRaise p wanted
+may_raise p b x wanted none =
+    let f = facts_of b x in
+    let r = p.registry in
+    let t = passes (down f) (not_leader f ∷ stale r (leading f.role) ∷ not_above r wanted ∷ above_mark r wanted ∷ []) none in
+    let u = passes (not_leader f) (stale r (leading f.role) ∷ not_above r wanted ∷ above_mark r wanted ∷ []) t.1 in
+    let v = passes (stale r (leading f.role)) (not_above r wanted ∷ above_mark r wanted ∷ []) u.1 in
+    let w = passes (not_above r wanted) (above_mark r wanted ∷ []) v.1 in
+    let z = passes (above_mark r wanted) [] w.1 in
+    let low = passed (nat_le wanted r.start) (NotAbove r.start) w.0 in
+    let high = passed (nat_lt r.mark wanted) (AboveMark r.mark) z.0 in
+    record { above = grind (arith, nat_tests, low); below = grind (arith, nat_tests, high) }
 
 -- the row of raise
-pub raise_keeps : (p : State) (x : Broker) (wanted : ℕ) (answer : Answer) (q : State) → raise_row p x wanted answer ≡ Some q → PlainSafe p → Keeps p q
-raise_keeps p x wanted Down q e s = silent p q _ e s
-raise_keeps p x wanted NotLeader q e s = silent p q _ e s
-raise_keeps p x wanted (StaleEpoch n) q e s = raised_keeps p x wanted (Err (refusal.StaleEpoch n)) q e s
-raise_keeps p x wanted (NotAbove start) q e s = raised_keeps p x wanted (Err (refusal.NotAbove start)) q e s
-raise_keeps p x wanted (AboveMark mark) q e s = raised_keeps p x wanted (Err (refusal.AboveMark mark)) q e s
-raise_keeps p x wanted (OkAt start) q e s = raised_keeps p x wanted (Ok start) q e s
-raise_keeps p x wanted other q e s = absurd (none-some q e)
-
--- the row of what the plain log doesn't see
-pub silent_keeps : (p : State) (answer : Answer) (q : State) → silent_row p answer ≡ Some q → PlainSafe p → Keeps p q
-silent_keeps p OkAnswer q e s = let is : p ≡ q = cc (e) in subst (λ (k : State). Keeps p k) is (same p s)
-silent_keeps p other q e s = absurd (none-some q e)
+pub raise_keeps : (p : State) (b : ℕ) (x : Broker) (wanted : ℕ) (answer : Answer) (q : State) → refusal_at p b x None (Raise wanted) ≡ None → raise_row p wanted answer ≡ Some q
+    → PlainSafe p → Keeps p q
+raise_keeps p b x wanted (OkAt start) q none e s =
+    by_when p (set_registry p (started p.registry wanted)) q (start == wanted) e (λ _. started_keeps p wanted (may_raise p b x wanted none).below s)
+raise_keeps p b x wanted other q none e s = absurd (none-some q e)

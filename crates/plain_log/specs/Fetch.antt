@@ -1,34 +1,13 @@
--- When a fetch is answered, and which batches a run has.
+-- Which batches a run has.
 --
 -- A run begins with the batch that holds the offset, ends at or below the high watermark that the broker knows, has at
 -- least one batch, and otherwise only as many as fit the limit.
-use Rattle.std.specs.Prelude.{ℕ, ◌+◌, ◌-◌, ◌==◌, ◌&&◌, not, nat_lt, nat_le, Bool, true, false, List, []}
-use Rattle.std.specs.Prelude.{◌∷◌, length, take, Option, Some, None, if◌then◌else◌, bytes_eq}
+use Rattle.std.specs.Prelude.{ℕ, ◌+◌, ◌-◌, ◌==◌, ◌&&◌, not, nat_lt, nat_le, Bool, true, false}
+use Rattle.std.specs.Prelude.{List, [], ◌∷◌, length, take, if◌then◌else◌, bytes_eq}
 use Rattle.tier_base.specs.declared.plain.Stop.{Stop}
 use Rattle.tier_base.specs.declared.plain.Stop.TheVariants.{Mark, Piece, Limit}
 use Rattle.log_terms.specs.Log.{end_of, joined, from_offset}
-use Rattle.plain_log.specs.declared.state.State.{State}
 use Rattle.plain_log.specs.declared.state.Broker.{Broker}
-use Rattle.plain_log.specs.declared.state.PlainSnapshot.{PlainSnapshot}
-use Rattle.plain_log.specs.State.{leads, same_role}
-
--- the broker is up, and has not stopped since the command began
-abbrev pub is_on : Broker → Option PlainSnapshot → Bool
-is_on x None = x.up
-is_on x (Some recorded) = x.up && (recorded.stops == x.stops)
-
--- it also leads, and in the epoch in which the command began
-abbrev pub serves : Broker → Option PlainSnapshot → Bool
-serves x None = x.up && leads x.role
-serves x (Some recorded) = is_on x (Some recorded) && leads x.role && same_role recorded.role x.role
-
--- the offset isn't below the log start offset nor above the log end offset
-abbrev pub in_range : State → Broker → ℕ → Bool
-in_range p x offset = nat_le p.registry.start offset && nat_le offset (end_of x.log)
-
--- a fetch at the offset returns a run
-abbrev pub gives_run : State → Broker → ℕ → Option PlainSnapshot → Bool
-gives_run p x offset recorded = serves x recorded && in_range p x offset && nat_lt offset x.known_high_watermark
 
 -- the first batches that fit the room
 abbrev pub fitting : ℕ → List (List ℕ) → List (List ℕ)

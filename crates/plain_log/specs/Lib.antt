@@ -4,6 +4,7 @@ pub mod State
 pub mod Orders
 pub mod Fetch
 pub mod RowsOfLog
+pub mod Refusals
 pub mod RowsOfElections
 pub mod RowsOfFollowers
 pub mod RowsOfReplicas

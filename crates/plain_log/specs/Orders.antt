@@ -35,6 +35,11 @@ IsInRange (Pack on) = Unit {0}
 IsInRange (Copying on) = Unit {0}
 IsInRange (Offset which) = Unit {0}
 
+-- the records of an append make a batch
+abbrev pub IsBuildableAppend : Command → Type 0
+IsBuildableAppend (Append recs) = IsBuildable recs
+IsBuildableAppend other = Unit {0}
+
 -- the order is in range, and goes to a broker of the configuration
 pub record IsOrderFor (config : Config) (order : Order) : Type 0 where
   pub broker : order.broker.0 < config.brokers

@@ -1,44 +1,32 @@
--- What a leader is asked for: batches, and offsets.
+-- What a leader is asked for, batches and offsets: what is answered where no test refuses it (Refusals). Nothing
+-- changes.
 --
---   fetch    first Down, then Stopped; NotLeader, OutOfRange, Empty, Run; first DiskFault, then MetaFault, StoreFault;
---            Damaged
---   offset   earliest, latest, earliest local: Down, NotLeader, Offset
---            latest tiered, of a timestamp: first Down, NotLeader, MetaFault; then Stopped, NotLeader, Offset,
---            NoOffset; of a timestamp also MetaFault, StoreFault, DiskFault, Damaged
---
--- Nothing changes. A device's fault exists only where there would be a run or, of a question of several turns, where
--- the broker still leads.
-use Rattle.std.specs.Prelude.{ℕ, ◌==◌, ◌&&◌, not, nat_le, max, int_lt, ℤ, Bool, true, false}
-use Rattle.std.specs.Prelude.{List, [], ◌∷◌, Option, Some, None, if◌then◌else◌}
+--   fetch    Run; first DiskFault, then MetaFault, StoreFault; Damaged
+--   offset   earliest, latest, earliest local: Offset
+--            latest tiered, of a timestamp: first MetaFault; then Offset, NoOffset; of a timestamp also MetaFault,
+--            StoreFault, DiskFault, Damaged
+use Rattle.std.specs.Prelude.{ℕ, ◌==◌, ◌&&◌, not, max, int_lt, ℤ, Bool, true, false, List}
+use Rattle.std.specs.Prelude.{[], ◌∷◌, Option, Some, None, if◌then◌else◌}
 use Rattle.log_terms.specs.Batch.{base_of, max_ts_of}
-use Rattle.log_terms.specs.Log.{end_of, up_to, from_offset}
+use Rattle.log_terms.specs.Log.{up_to, from_offset}
 use Rattle.registry.specs.Calls.{when}
 use Rattle.plain_log.specs.declared.answer.Answer.{Answer}
-use Rattle.plain_log.specs.declared.answer.Answer.TheVariants.{Down, NotLeader, DiskFault, Stopped, MetaFault}
-use Rattle.plain_log.specs.declared.answer.Answer.TheVariants.{StoreFault, Damaged, OutOfRange, Empty, Run, Offset}
-use Rattle.plain_log.specs.declared.answer.Answer.TheVariants.{NoOffset}
+use Rattle.plain_log.specs.declared.answer.Answer.TheVariants.{DiskFault, MetaFault, StoreFault}
+use Rattle.plain_log.specs.declared.answer.Answer.TheVariants.{Damaged, Run, Offset, NoOffset}
 use Rattle.plain_log.specs.declared.command.Which.{Which}
 use Rattle.plain_log.specs.declared.command.Which.TheVariants.{Earliest, Latest, LatestTiered, At}
 use Rattle.plain_log.specs.declared.state.State.{State}
 use Rattle.plain_log.specs.declared.state.Broker.{Broker}
 use Rattle.plain_log.specs.declared.state.PlainSnapshot.{PlainSnapshot}
-use Rattle.plain_log.specs.Fetch.{is_on, serves, in_range, gives_run, is_run}
+use Rattle.plain_log.specs.Fetch.{is_run}
 
 -- a fetch, at its first turn or, with what was recorded then, at a later one
 abbrev pub fetch_row : State → Broker → ℕ → ℕ → Option PlainSnapshot → Answer → Option State
-fetch_row p x offset limit None Down = when (not x.up) p
-fetch_row p x offset limit (Some recorded) Stopped = when (not (is_on x (Some recorded))) p
-fetch_row p x offset limit recorded NotLeader = when (is_on x recorded && not (serves x recorded)) p
-fetch_row p x offset limit recorded (OutOfRange start end) =
-    when (serves x recorded && not (in_range p x offset) && (start == p.registry.start) && (end == end_of x.log)) p
-fetch_row p x offset limit recorded Empty =
-    when (serves x recorded && in_range p x offset && nat_le x.known_high_watermark offset) p
-fetch_row p x offset limit recorded (Run tier size stop bytes) =
-    when (gives_run p x offset recorded && is_run x offset limit size stop bytes) p
-fetch_row p x offset limit None DiskFault = when (gives_run p x offset None) p
-fetch_row p x offset limit (Some recorded) MetaFault = when (gives_run p x offset (Some recorded)) p
-fetch_row p x offset limit (Some recorded) StoreFault = when (gives_run p x offset (Some recorded)) p
-fetch_row p x offset limit recorded (Damaged place at) = when (gives_run p x offset recorded) p
+fetch_row p x offset limit recorded (Run tier size stop bytes) = when (is_run x offset limit size stop bytes) p
+fetch_row p x offset limit None DiskFault = Some p
+fetch_row p x offset limit (Some recorded) MetaFault = Some p
+fetch_row p x offset limit (Some recorded) StoreFault = Some p
+fetch_row p x offset limit recorded (Damaged place at) = Some p
 fetch_row p x offset limit recorded other = None
 
 -- the question takes the remote tier, and so several turns
@@ -72,17 +60,12 @@ is_offset_of p x other answer = true
 
 -- a question for an offset
 abbrev pub offset_row : State → Broker → Which → Option PlainSnapshot → Answer → Option State
-offset_row p x which None Down = when (not x.up) p
-offset_row p x which None MetaFault = when (serves x None && is_long which) p
-offset_row p x which None (Offset n) = when (serves x None && not (is_long which) && is_offset_of p x which (Some n)) p
-offset_row p x which (Some recorded) Stopped = when (not (is_on x (Some recorded))) p
-offset_row p x which (Some recorded) (Offset n) =
-    when (serves x (Some recorded) && is_long which && is_offset_of p x which (Some n)) p
-offset_row p x which (Some recorded) NoOffset =
-    when (serves x (Some recorded) && is_long which && is_offset_of p x which None) p
-offset_row p x (At ts) (Some recorded) MetaFault = when (serves x (Some recorded)) p
-offset_row p x (At ts) (Some recorded) StoreFault = when (serves x (Some recorded)) p
-offset_row p x (At ts) (Some recorded) DiskFault = when (serves x (Some recorded)) p
-offset_row p x (At ts) (Some recorded) (Damaged place at) = when (serves x (Some recorded)) p
-offset_row p x which recorded NotLeader = when (is_on x recorded && not (serves x recorded)) p
+offset_row p x which None MetaFault = when (is_long which) p
+offset_row p x which None (Offset n) = when (not (is_long which) && is_offset_of p x which (Some n)) p
+offset_row p x which (Some recorded) (Offset n) = when (is_long which && is_offset_of p x which (Some n)) p
+offset_row p x which (Some recorded) NoOffset = when (is_long which && is_offset_of p x which None) p
+offset_row p x (At ts) (Some recorded) MetaFault = Some p
+offset_row p x (At ts) (Some recorded) StoreFault = Some p
+offset_row p x (At ts) (Some recorded) DiskFault = Some p
+offset_row p x (At ts) (Some recorded) (Damaged place at) = Some p
 offset_row p x which recorded other = None

@@ -1,13 +1,15 @@
 -- The parts of the plain log's state, and how each of them is changed.
-use Rattle.std.specs.Prelude.{ℕ, zero, suc, ◌+◌, ◌==◌, ◌&&◌, Bool, true, false, List, [], ◌∷◌, ◌++◌, Option, Some}
-use Rattle.std.specs.Prelude.{None, if◌then◌else◌, slice_get, slice_set, option_map, unwrap_or, is_some}
-use Rattle.std.specs.Option.{option_and_then}
+use Rattle.std.specs.Prelude.{ℕ, zero, suc, ◌+◌, ◌==◌, Bool, true, false, List, [], ◌∷◌, ◌++◌, Option, Some, None}
+use Rattle.std.specs.Prelude.{if◌then◌else◌, slice_get, slice_set, option_map, unwrap_or, is_some}
 use Rattle.registry.specs.declared.registry.Registry.{Registry}
-use Rattle.registry.specs.Calls.{when, is_stale as is_behind}
+use Rattle.log_terms.specs.Log.{end_of}
+use Rattle.plain_log.specs.declared.facts.Facts.{Facts}
+use Rattle.plain_log.specs.declared.facts.Since.{Since}
 use Rattle.plain_log.specs.declared.state.State.{State}
 use Rattle.plain_log.specs.declared.state.Path.{Path}
 use Rattle.plain_log.specs.declared.state.Broker.{Broker}
 use Rattle.plain_log.specs.declared.state.Actor.{Actor}
+use Rattle.plain_log.specs.declared.state.PlainSnapshot.{PlainSnapshot}
 use Rattle.plain_log.specs.declared.state.Role.{Role}
 use Rattle.plain_log.specs.declared.state.Role.TheVariants.{Idle, Leads, Follows, Joined}
 
@@ -51,6 +53,10 @@ epoch_in Idle = None
 epoch_in (Leads e) = Some e
 epoch_in (Follows e) = Some e
 epoch_in (Joined e) = Some e
+
+-- the role is of the registry's epoch
+abbrev pub knows : Registry → Role → Bool
+knows r role = unwrap_or (option_map (λ e. e == r.epoch) (epoch_in role)) false
 
 -- two roles are one
 abbrev pub same_role : Role → Role → Bool
@@ -96,27 +102,31 @@ is_in n (m ∷ ms) = if m == n then true else is_in n ms
 
 -- the registry
 
--- the registry's epoch is above this one
-abbrev pub is_stale : State → Option ℕ → Bool
-is_stale p None = false
-is_stale p (Some e) = is_behind p.registry e
-
 -- the state with this registry
 abbrev pub set_registry : State → Registry → State
 set_registry p r = record p { registry = r }
 
--- the state with the registry that one of its calls leaves
-abbrev pub left_by : State → Option Registry → Option State
-left_by p r = option_map (set_registry p) r
+-- what the tests of commands read (Refusals)
 
--- the registry's leader, where it is up and leads the registry's epoch
-abbrev pub the_leader : State → Option Broker
-the_leader p =
-    option_and_then (λ y. when (y.up && leads_in p.registry.epoch y.role) y) (slice_get p.brokers p.registry.leader.0)
+-- the facts of broker b
+abbrev pub facts_of : ℕ → Broker → Facts
+facts_of b x = record {
+  broker = record { 0 = b };
+  up = x.up;
+  stops = x.stops;
+  role = x.role;
+  end = if x.up then end_of x.log else 0;
+  flushed_end = if x.up then x.flushed_end else 0;
+  known_high_watermark = x.known_high_watermark;
+}
 
--- the registry's leader leads
-abbrev pub leader_leads : State → Bool
-leader_leads p = is_some (the_leader p)
+-- those of the registry's leader
+abbrev pub leader_facts : State → Option Facts
+leader_facts p = option_map (facts_of p.registry.leader.0) (slice_get p.brokers p.registry.leader.0)
+
+-- what was recorded where a command began
+abbrev pub since_of : PlainSnapshot → Since
+since_of recorded = record { stops = recorded.stops; role = recorded.role }
 
 -- actors: a list with idle actors past its end
 

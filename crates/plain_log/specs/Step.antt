@@ -2,8 +2,8 @@
 --
 -- An entry is its actor's next command, by its number, or the answer to the command that has begun. The row of the
 -- command decides the answer (Rows); the actor's number rises with each answer and with nothing else.
-use Rattle.std.specs.Prelude.{ℕ, ◌+◌, ◌==◌, ◌&&◌, nat_lt, int_le, Bool, true, false}
-use Rattle.std.specs.Prelude.{Option, Some, None, slice_get, is_none, option_map}
+use Rattle.std.specs.Prelude.{ℕ, ◌+◌, ◌==◌, ◌&&◌, int_le, Bool, true, false, Option}
+use Rattle.std.specs.Prelude.{Some, None, slice_get, is_none, option_map}
 use Rattle.std.specs.Option.{option_and_then}
 use Rattle.log_terms.specs.Log.{end_of}
 use Rattle.registry.specs.declared.registry.Replica.{Replica}
@@ -20,21 +20,20 @@ use Rattle.plain_log.specs.declared.state.State.{State}
 use Rattle.plain_log.specs.declared.state.Broker.{Broker}
 use Rattle.plain_log.specs.declared.state.Actor.{Actor}
 use Rattle.plain_log.specs.declared.state.PlainSnapshot.{PlainSnapshot}
-use Rattle.plain_log.specs.State.{leads, put_broker, actor_at, with_actor}
-use Rattle.plain_log.specs.Fetch.{gives_run}
-use Rattle.plain_log.specs.RowsOfFollowers.{cut_to, leader_end, may_follow}
+use Rattle.plain_log.specs.State.{put_broker, actor_at, with_actor}
+use Rattle.plain_log.specs.RowsOfFollowers.{cut_to}
 use Rattle.plain_log.specs.RowsOfReads.{is_long}
-use Rattle.plain_log.specs.Rows.{row}
+use Rattle.plain_log.specs.Rows.{row, refusal_at}
 
--- the broker where a command of several turns begins
+-- the broker where a command of several turns begins that isn't refused
 abbrev pub begins : State → Broker → Command → Option ℕ → Option Broker
 begins p x Join (Some n) = cut_to p x n
-begins p x (Follow limit) None = when (may_follow p x && nat_lt (end_of x.log) (leader_end p)) x
-begins p x Copy None = when (x.up && leads x.role) x
-begins p x Trim None = when x.up x
-begins p x Expire None = when (x.up && leads x.role) x
-begins p x (Fetch offset limit) None = when (gives_run p x offset None) x
-begins p x (Offset which) None = when (x.up && leads x.role && is_long which) x
+begins p x (Follow limit) None = Some x
+begins p x Copy None = Some x
+begins p x Trim None = Some x
+begins p x Expire None = Some x
+begins p x (Fetch offset limit) None = Some x
+begins p x (Offset which) None = when (is_long which) x
 begins p x command cut = None
 
 -- two questions for an offset are one
@@ -68,12 +67,16 @@ is_recorded None order = true
 is_recorded (Some recorded) order =
     (recorded.order.broker.0 == order.broker.0) && same_command recorded.order.command order.command
 
+-- the actor has no command in progress, and this one isn't refused
+abbrev pub may_begin : State → ℕ → Broker → Actor → Command → Bool
+may_begin p b x y command = is_none y.snapshot && is_none (refusal_at p b x None command)
+
 -- a command of actor a, whose next number is y's, begins or is answered
 abbrev pub event_step : State → ℕ → Actor → Order → Broker → Replica → Event → Option State
 event_step p a y order x s (Begins cut) =
     option_map (λ z. with_actor a (record y { snapshot = Some (recorded_of p order z) })
     (put_broker p order.broker.0 z))
-    (option_and_then (λ z. when (is_none y.snapshot) z) (begins p x order.command cut))
+    (option_and_then (λ z. when (may_begin p order.broker.0 x y order.command) z) (begins p x order.command cut))
 event_step p a y order x s (Answers answer) =
     option_map (with_actor a (record { number = y.number + 1; snapshot = None }))
     (row p order.broker.0 x s y.snapshot order.command answer)

@@ -9,20 +9,30 @@
 #![tactic(auto)]
 
 mod answer;
+mod bytes_of;
 mod command;
+mod facts;
 mod journal;
 mod laws;
+mod refusals;
+mod roles;
 mod state;
 mod turn;
 
 pub use answer::{Answer, Place, Tier};
+pub use bytes_of::{base_offset, last_delta, max_ts};
 pub use command::{ActorList, Command, Config, Order, Pace, Which};
+pub use facts::{Facts, Since};
 pub use journal::{Event, Journal, JournalEntry};
 pub use laws::{
     committed_grows, committed_stays, ends_are_within, epochs_never_fall, fresh_is_safe,
     replays_keep_safe, runs_answer_in_order, runs_are_committed, runs_are_led, steps_grow,
     steps_keep_safe,
 };
+pub use refusals::refusal;
 pub use registry::{Registry, Replica};
+pub use roles::{
+    acking_in, epoch_of, followed_in, is_leader, is_leader_in, is_role, joined_in, leading_in,
+};
 pub use state::{Actor, Broker, Path, PlainSnapshot, Role, State};
 pub use turn::Turn;

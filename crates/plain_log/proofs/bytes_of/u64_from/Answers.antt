@@ -1,6 +1,6 @@
 use Rattle.log_terms.specs.Batch.{field_at}
-use Rattle.plain_executor.proofs.Fields.{eight_at}
-use Rattle.plain_executor.proofs.bytes_of.u64_from.Goals as goal
+use Rattle.plain_log.proofs.Fields.{eight_at}
+use Rattle.plain_log.proofs.bytes_of.u64_from.Goals as goal
 
 pub returns : goal.returns
 unfolding field_at

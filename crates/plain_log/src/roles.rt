@@ -3,17 +3,17 @@
 ghost use Rattle.std.specs.Prelude.{◌≡◌};
 ghost use Rattle.plain_log.specs.State.{leads, leads_in, leading, followed, joined, acking, epoch_in, same_role};
 
-use plain_log::Role;
+use crate::state::Role;
 
 /// Whether the broker leads some epoch.
-pub(crate) fn is_leader(role: Role) -> bool
+pub fn is_leader(role: Role) -> bool
     ensures { result ≡ leads role }
 {
     matches!(role, Role::Leads(_))
 }
 
 /// Whether the broker leads this epoch.
-pub(crate) fn is_leader_in(epoch: u32, role: Role) -> bool
+pub fn is_leader_in(epoch: u32, role: Role) -> bool
     ensures { result ≡ leads_in epoch role }
 {
     match role {
@@ -23,7 +23,7 @@ pub(crate) fn is_leader_in(epoch: u32, role: Role) -> bool
 }
 
 /// The epoch that the broker leads.
-pub(crate) fn leading_in(role: Role) -> Option<u32>
+pub fn leading_in(role: Role) -> Option<u32>
     ensures { result ≡ leading role }
 {
     match role {
@@ -33,7 +33,7 @@ pub(crate) fn leading_in(role: Role) -> Option<u32>
 }
 
 /// The epoch that the broker follows, whether the logs have met or not.
-pub(crate) fn followed_in(role: Role) -> Option<u32>
+pub fn followed_in(role: Role) -> Option<u32>
     ensures { result ≡ followed role }
 {
     match role {
@@ -43,7 +43,7 @@ pub(crate) fn followed_in(role: Role) -> Option<u32>
 }
 
 /// The epoch that the broker follows, where the logs have met.
-pub(crate) fn joined_in(role: Role) -> Option<u32>
+pub fn joined_in(role: Role) -> Option<u32>
     ensures { result ≡ joined role }
 {
     match role {
@@ -53,7 +53,7 @@ pub(crate) fn joined_in(role: Role) -> Option<u32>
 }
 
 /// The epoch in which the broker may acknowledge.
-pub(crate) fn acking_in(role: Role) -> Option<u32>
+pub fn acking_in(role: Role) -> Option<u32>
     ensures { result ≡ acking role }
 {
     match role {
@@ -63,7 +63,7 @@ pub(crate) fn acking_in(role: Role) -> Option<u32>
 }
 
 /// The epoch of a role.
-pub(crate) fn epoch_of(role: Role) -> Option<u32>
+pub fn epoch_of(role: Role) -> Option<u32>
     ensures { result ≡ epoch_in role }
 {
     match role {
@@ -73,7 +73,7 @@ pub(crate) fn epoch_of(role: Role) -> Option<u32>
 }
 
 /// Whether two roles are one.
-pub(crate) fn is_role(role: Role, other: Role) -> bool
+pub fn is_role(role: Role, other: Role) -> bool
     ensures { result ≡ same_role role other }
 {
     match (role, other) {

@@ -45,7 +45,7 @@ fn u32_from(bytes: &[u8], at: usize) -> u32
 
 /// The offset of a batch's first record.
 #[tactic(auto, unfolding(log_terms::specs::Batch::base_of))]
-pub(crate) fn base_offset(batch: &[u8]) -> u64
+pub fn base_offset(batch: &[u8]) -> u64
     ensures { result ≡ base_of batch.now }
 {
     u64_from(batch, 0)
@@ -53,7 +53,7 @@ pub(crate) fn base_offset(batch: &[u8]) -> u64
 
 /// The offset of its last record less that of the first.
 #[tactic(auto, unfolding(log_terms::specs::Batch::last_offset_delta_of))]
-pub(crate) fn last_delta(batch: &[u8]) -> u32
+pub fn last_delta(batch: &[u8]) -> u32
     ensures { result ≡ last_offset_delta_of batch.now }
 {
     u32_from(batch, 23)
@@ -61,7 +61,7 @@ pub(crate) fn last_delta(batch: &[u8]) -> u32
 
 /// The greatest timestamp of its records.
 #[tactic(auto, unfolding(log_terms::specs::Batch::max_ts_of))]
-pub(crate) fn max_ts(batch: &[u8]) -> i64
+pub fn max_ts(batch: &[u8]) -> i64
     ensures { result ≡ max_ts_of batch.now }
 {
     u64_from(batch, 35).cast_signed()
