@@ -51,7 +51,7 @@ get_map f (x ∷ xs) zero = refl
 get_map f (x ∷ xs) (suc i) = get_map f xs i
 
 -- the nodes' leader is the plain log's
-leader_as : (h : SeenPartition) (p : State) → PartitionMatches h p → leader_facts p ≡ option_map (λ (y : Node). facts_of h.registry.leader.0 (broker_of y)) (slice_get h.nodes h.registry.leader.0)
+pub leader_as : (h : SeenPartition) (p : State) → PartitionMatches h p → leader_facts p ≡ option_map (λ (y : Node). facts_of h.registry.leader.0 (broker_of y)) (slice_get h.nodes h.registry.leader.0)
 leader_as h p st =
     ap (λ (r : Registry). option_map (facts_of r.leader.0) (slice_get p.brokers r.leader.0)) st.registry
     ∙ (ap (λ (bs : List Broker). option_map (facts_of h.registry.leader.0) (slice_get bs h.registry.leader.0)) st.brokers

@@ -16,6 +16,7 @@ mod OwnRows
 mod ElectionRows
 pub mod LearnRows
 pub mod FollowRows
+pub mod FactsShown
 mod FollowOnRows
 mod TierRows
 mod OffsetRows

@@ -2,6 +2,7 @@ pub mod Taken
 pub mod Log
 pub mod Seen
 pub mod Partition
+pub mod Refusals
 pub mod RowsOfLog
 pub mod RowsOfElections
 pub mod RowsOfFollowers

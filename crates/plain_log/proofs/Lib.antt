@@ -6,6 +6,7 @@ pub mod Within
 mod Swaps
 mod Keeps
 pub mod Tests
+pub mod SameRefusals
 mod Joins
 mod Least
 mod LogRows

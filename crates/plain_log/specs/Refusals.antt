@@ -200,7 +200,7 @@ abbrev pub unless : {A : Type 0} → Option Answer → Answer → A → Option A
 unless (Some why) answer p effect = when (same_refusal answer why) p
 unless None answer p effect = effect
 
--- the same of a row that relates what was with what is
-abbrev pub Unless : Option Answer → Answer → Type 0 → Type 0 → Type 0
-Unless (Some why) answer Same Effect = (answer ≡ why) × Same
-Unless None answer Same Effect = Effect
+-- the same of a row that relates what was with what is: what it is refused with, and what is done
+abbrev pub Unless : Option Answer → (Answer → Type 0) → Type 0 → Type 0
+Unless (Some why) Refuses Does = Refuses why
+Unless None Refuses Does = Does
