@@ -6,8 +6,12 @@
 //! made (`altering`, `making`, `moving`). `specs/Change.antt` has the state after each.
 //!
 //! The logs of brokers and of leader epochs and what is committed are lists that share their batches (`shared_log`), so
-//! taking the lead, an unclean election and a cut copy no log. Log ends are computed in 128 bits, because the model's
-//! have no bound; if one that must be stored exceeds 64 bits, the call reports out of memory.
+//! taking the lead, an unclean election and a cut copy no log. Log ends are computed in 128 bits, because they have a
+//! bound only by the safety rules (`ends_are_within`); if one that must be stored exceeds 64 bits, the call reports out
+//! of memory.
+//!
+//! Why a command is refused is the plain log's own function (`plain_log::refusal`), which is called once for an answer
+//! and once for a beginning (`refusals`). The rows are of commands that aren't refused.
 //!
 //! `replay`, `first_refused`, `is_run` and `is_complete_run` go over whole journals step by step, `is_complete` by
 //! counts alone.
