@@ -93,6 +93,7 @@ pub(crate) fn refused(
         &facts(b, x),
         since(recorded),
         command,
+        None,
     )
 }
 
