@@ -70,10 +70,10 @@ fn last_offset(facts: &Facts, delta: u64) -> Option<Answer>
     when(last >= u128::from(OFFSET_LIMIT), Answer::LastOffset)
 }
 
-fn refused(bytes: &[u8], known: Option<&Checked>) -> Option<Answer>
+fn refused(bytes: &[u8], check: Option<&Checked>) -> Option<Answer>
     ensures { result ≡ refused_is (checked bytes.now) }
 {
-    match check_known(bytes, known) {
+    match check_known(bytes, check) {
         Ok(_) => None,
         Err(why) => Some(Answer::Refused(why)),
     }
@@ -235,13 +235,13 @@ fn append(facts: &Facts, delta: u64) -> Option<Answer>
 }
 
 /// Those of an append of bytes, which are checked only where the broker leads.
-fn raw(facts: &Facts, bytes: &[u8], known: Option<&Checked>) -> Option<Answer>
+fn raw(facts: &Facts, bytes: &[u8], check: Option<&Checked>) -> Option<Answer>
     ensures { result ≡ first_of (down_is facts.now ∷ not_leader_is facts.now ∷ refused_is (checked bytes.now)
         ∷ last_offset_is facts.now (last_offset_delta_of bytes.now) ∷ []) }
 {
     match not_led(facts) {
         Some(why) => Some(why),
-        None => refused(bytes, known).or(last_offset(facts, u64::from(last_delta(bytes)))),
+        None => refused(bytes, check).or(last_offset(facts, u64::from(last_delta(bytes)))),
     }
 }
 
@@ -335,7 +335,7 @@ fn first_refusal(
     leader: Option<Facts>,
     facts: &Facts,
     command: &Command,
-    known: Option<&Checked>,
+    check: Option<&Checked>,
 ) -> Option<Answer>
     requires { IsBuildableAppend command.now }
     ensures { result ≡ refusal_is registry.now leader facts.now None command.now }
@@ -343,7 +343,7 @@ fn first_refusal(
     built_head_tells();
     match command {
         Command::Append(recs) => append(facts, recs.len() as u64 - 1),
-        Command::Raw(bytes) => raw(facts, bytes.as_slice(), known),
+        Command::Raw(bytes) => raw(facts, bytes.as_slice(), check),
         Command::Flush | Command::Roll | Command::Trim | Command::Stop => down(facts),
         Command::Elect => last_epoch(registry)
             .or(not_in_sync(registry, facts))
@@ -373,14 +373,14 @@ pub fn refusal(
     facts: &Facts,
     since: Option<Since>,
     command: &Command,
-    known: Option<&Checked>,
+    check: Option<&Checked>,
 ) -> Option<Answer>
     requires { IsBuildableAppend command.now }
     ensures { result ≡ refusal_is registry.now leader facts.now
         since command.now }
 {
     let Some(since) = since else {
-        return first_refusal(registry, leader, facts, command, known);
+        return first_refusal(registry, leader, facts, command, check);
     };
     match command {
         Command::Join | Command::Follow { .. } => follows_on(registry, facts, &since),
@@ -388,6 +388,6 @@ pub fn refusal(
         Command::Trim => has_stopped(facts, &since),
         Command::Fetch { offset, .. } => fetches_on(registry, facts, &since, *offset),
         Command::Offset(_) => has_stopped(facts, &since).or(other_role(facts, &since)),
-        _ => first_refusal(registry, leader, facts, command, known),
+        _ => first_refusal(registry, leader, facts, command, check),
     }
 }
