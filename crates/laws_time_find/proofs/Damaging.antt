@@ -25,7 +25,7 @@ use Rattle.view_refresh.specs.Refreshing.{Refreshes}
 use Rattle.plain_log.specs.declared.state.State.{State as Plain}
 use Rattle.plain_log.specs.declared.state.Broker.{Broker}
 use Rattle.plain_log.specs.declared.answer.Answer.{Answer}
-use Rattle.plain_log.specs.declared.answer.Answer.TheVariants.{Damaged, Run}
+use Rattle.plain_log.specs.declared.answer.Answer.TheVariants.{Damaged}
 use Rattle.plain_log.specs.declared.answer.Place.{Place}
 use Rattle.plain_log.specs.declared.answer.Place.TheVariants.{Key, File, Meta}
 use Rattle.remote_view.specs.Fold.{EntriesSeen, entry_of, view_of, AreEntriesValid, AreDistinct}
@@ -36,8 +36,11 @@ use Rattle.tier_fetch.specs.declared.turn.Span.{Span}
 use Rattle.tier_fetch.specs.declared.turn.FetchStep.TheVariants as fetch
 use Rattle.tier_fetch.specs.declared.turn.FetchStep.{FetchStep}
 use Rattle.plain_log.specs.declared.turn.Turn.{Turn}
-use Rattle.plain_log.specs.declared.turn.Turn.TheVariants.{Goes, Ends}
-use Rattle.tier_fetch.specs.Turns.{spot_in, Tiers, RemoteFetchRow}
+use Rattle.plain_log.specs.declared.turn.Turn.TheVariants.{Ends}
+use Rattle.tier_fetch.specs.declared.refusal.RemoteRefusal.{RemoteRefusal}
+use Rattle.tier_fetch.specs.declared.refusal.RemoteRefusal.TheVariants as refusal
+use Rattle.tier_fetch.specs.declared.reading.RemoteRun.{RemoteRun}
+use Rattle.tier_fetch.specs.Turns.{spot_in, Tiers, RemoteFetchRow, refused, goes_with, ends_with}
 use Rattle.tier_safe.specs.Scene.{BrokerTierView, Free, Scene}
 use Rattle.tier_safe.specs.May.{IsChanged}
 use Rattle.tier_safe.specs.Turns.{after_turn}
@@ -51,6 +54,7 @@ use Rattle.laws_tier_fetch.proofs.Damaging.{kept_safe, damage_is_of_logs}
 use Rattle.laws_tier_fetch.proofs.Reading.{copy_of, at_spot, gives, first_is}
 use Rattle.laws_tier_fetch.proofs.Turning.{shown}
 use Rattle.time_find.specs.declared.turn.Asked.{Asked}
+use Rattle.time_find.specs.declared.turn.SearchStep.{SearchStep}
 use Rattle.time_find.specs.declared.turn.SearchStep.TheVariants.{Seek, Times, Index, Log}
 use Rattle.time_find.specs.Passing.{Passes, Stays, Over, SeeksNothing, Seeks}
 use Rattle.time_find.specs.Turns.{TimesBytes, Times as Timed, wanted_at, Indexes, SearchTakes, SeekRow, TimesRow, SearchIndexRow, SearchLogRow}
@@ -87,6 +91,18 @@ none_lacks c p a b tier_view x stops epoch asked line cursor s n view cache afte
     let there : piece_at after.entries line asked.log_end k.at ≡ Some found.0 = subst (λ (e : ℕ). piece_at after.entries line e k.at ≡ Some found.0) (sym h.end_is) found.1 in
     let none = k.none in
     cc (there, none)
+
+abbrev ended : Answer → Result (Turn FetchStep) AllocError
+ended answer = Ok (Ends answer)
+
+-- a fetch that couldn't read either reports the same damage
+pub damaged_same : (why : RemoteRefusal) (place : Place) (at : ℕ) → ◌≡◌ {A = Result (Turn (ℕ × SearchStep)) AllocError} (Ok (Ends (Damaged place at))) (refused why)
+    → ◌≡◌ {A = Result (Turn FetchStep) AllocError} (refused why) (Ok (Ends (Damaged place at)))
+damaged_same (refusal.Damaged home n) place at is =
+    let same : Damaged home n ≡ Damaged place at = cc (is) in
+    ap ended same
+damaged_same refusal.StoreFault place at is = absurd (cc (is))
+damaged_same refusal.NoMemory place at is = absurd (cc (is))
 
 module _ {S M : Type 0} (objects : S → store.Content) (calls : S → Control store_call.call_code)
     (notes : M → meta.Content) (notings : M → Control meta_call.call_code) where
@@ -142,51 +158,48 @@ module _ {S M : Type 0} (objects : S → store.Content) (calls : S → Control s
   times_damage c p a b tier_view x stops epoch asked line cursor piece ns view cache old new (Some spot) place at h stood row =
       reads_damage c p a b tier_view x stops epoch asked line cursor piece ns view cache old new spot place at row.answer h stood row.gets row.times
 
-  -- what a fetch's turn says of
+  -- what a fetch there says of
 
-  indexes_damage : (asked : Asked) (line : List (ℕ × ℕ)) (cursor from : ℕ) (piece : Piece) (place : Place) (at : ℕ) (turn : Result (Turn FetchStep) AllocError) (old new : Tiers S M)
-      (c : Scene) (p : Plain) (a b : ℕ) (tier_view : BrokerTierView) (x : Broker) (stops epoch : ℕ) → RemoteFetchRow objects calls notes notings (wanted_at asked from) line (fetch.Index piece) turn old new
-      → Indexes cursor piece from turn (Ok (Ends (Damaged place at)))
+  indexes_damage : (asked : Asked) (line : List (ℕ × ℕ)) (cursor from : ℕ) (piece : Piece) (place : Place) (at : ℕ) (read : Result Span RemoteRefusal) (old new : Tiers S M)
+      (c : Scene) (p : Plain) (a b : ℕ) (tier_view : BrokerTierView) (x : Broker) (stops epoch : ℕ)
+      → RemoteFetchRow objects calls notes notings (wanted_at asked from) line (fetch.Index piece) (goes_with piece read) old new
+      → Indexes cursor piece from read (Ok (Ends (Damaged place at)))
       → IsAtTurn c p a b tier_view x stops epoch (wanted_at asked from) line (fetch.Index piece) (objects old.store) (notes old.meta) old.view old.cache → ⊥
-  indexes_damage asked line cursor from piece place at (Ok (Goes (fetch.Log found span))) old new c p a b tier_view x stops epoch row k h = (let is = k.1 in cc (is))
-  indexes_damage asked line cursor from piece place at (Ok (Goes fetch.Refresh)) old new c p a b tier_view x stops epoch row k h = k
-  indexes_damage asked line cursor from piece place at (Ok (Goes (fetch.Index found))) old new c p a b tier_view x stops epoch row k h = k
-  indexes_damage asked line cursor from piece place at (Ok (Ends answer)) old new c p a b tier_view x stops epoch row k h =
-      let same : answer ≡ Damaged place at = cc (k) in
+  indexes_damage asked line cursor from piece place at (Ok span) old new c p a b tier_view x stops epoch row k h = cc (k)
+  indexes_damage asked line cursor from piece place at (Err why) old new c p a b tier_view x stops epoch row k h =
       let told : RemoteFetchRow objects calls notes notings (wanted_at asked from) line (fetch.Index piece) (Ok (Ends (Damaged place at))) old new =
-      subst (λ (w : Answer). RemoteFetchRow objects calls notes notings (wanted_at asked from) line (fetch.Index piece) (Ok (Ends w)) old new) same row in
+      subst (λ (r : Result (Turn FetchStep) AllocError). RemoteFetchRow objects calls notes notings (wanted_at asked from) line (fetch.Index piece) r old new) (damaged_same why place at k) row in
       let is = (damage_is_of_logs objects calls notes notings (wanted_at asked from) line (fetch.Index piece) place at old new c p a b tier_view x stops epoch told h).next_is in
       cc (is)
-  indexes_damage asked line cursor from piece place at (Err e) old new c p a b tier_view x stops epoch row k h = cc (k)
 
-  searches_damage : (asked : Asked) (line : List (ℕ × ℕ)) (from : ℕ) (piece : Piece) (span : Span) (place : Place) (at : ℕ) (turn : Result (Turn FetchStep) AllocError) (old new : Tiers S M)
-      (c : Scene) (p : Plain) (a b : ℕ) (tier_view : BrokerTierView) (x : Broker) (stops epoch : ℕ) → RemoteFetchRow objects calls notes notings (wanted_at asked from) line (fetch.Log piece span) turn old new
-      → SearchTakes asked from turn (Ok (Ends (Damaged place at)))
+  searches_damage : (asked : Asked) (line : List (ℕ × ℕ)) (from : ℕ) (piece : Piece) (span : Span) (place : Place) (at : ℕ) (read : Result RemoteRun RemoteRefusal) (old new : Tiers S M)
+      (c : Scene) (p : Plain) (a b : ℕ) (tier_view : BrokerTierView) (x : Broker) (stops epoch : ℕ)
+      → RemoteFetchRow objects calls notes notings (wanted_at asked from) line (fetch.Log piece span) (ends_with piece read) old new
+      → SearchTakes asked from read (Ok (Ends (Damaged place at)))
       → IsAtTurn c p a b tier_view x stops epoch (wanted_at asked from) line (fetch.Log piece span) (objects old.store) (notes old.meta) old.view old.cache
       → IsOfFetched (wanted_at asked from) (fetch.Log piece span) place
-  searches_damage asked line from piece span place at (Ok (Ends (Run tier size stop bytes))) old new c p a b tier_view x stops epoch row k h = absurd k
-  searches_damage asked line from piece span place at (Ok (Ends answer)) old new c p a b tier_view x stops epoch row k h =
-      let same : answer ≡ Damaged place at = cc (k) in
+  searches_damage asked line from piece span place at (Ok run) old new c p a b tier_view x stops epoch row k h = absurd k
+  searches_damage asked line from piece span place at (Err why) old new c p a b tier_view x stops epoch row k h =
       let told : RemoteFetchRow objects calls notes notings (wanted_at asked from) line (fetch.Log piece span) (Ok (Ends (Damaged place at))) old new =
-      subst (λ (w : Answer). RemoteFetchRow objects calls notes notings (wanted_at asked from) line (fetch.Log piece span) (Ok (Ends w)) old new) same row in
+      subst (λ (r : Result (Turn FetchStep) AllocError). RemoteFetchRow objects calls notes notings (wanted_at asked from) line (fetch.Log piece span) r old new) (damaged_same why place at k) row in
       damage_is_of_logs objects calls notes notings (wanted_at asked from) line (fetch.Log piece span) place at old new c p a b tier_view x stops epoch told h
-  searches_damage asked line from piece span place at (Ok (Goes next)) old new c p a b tier_view x stops epoch row k h = absurd k
-  searches_damage asked line from piece span place at (Err e) old new c p a b tier_view x stops epoch row k h = absurd (cc (k))
 
   index_damage : (asked : Asked) (line : List (ℕ × ℕ)) (cursor from : ℕ) (piece : Piece) (place : Place) (at : ℕ) (old new : Tiers S M) (c : Scene) (p : Plain) (a b : ℕ) (tier_view : BrokerTierView)
-      (x : Broker) (stops epoch : ℕ) → SearchIndexRow objects calls notes notings asked line cursor piece from (Ok (Ends (Damaged place at))) old new
+      (x : Broker) (stops epoch : ℕ) → new ≡ record old { cache = new.cache; store = new.store }
+      → SearchIndexRow objects calls asked cursor piece from old.view (Ok (Ends (Damaged place at))) old.cache new.cache old.store new.store
       → IsAtTurn c p a b tier_view x stops epoch (wanted_at asked from) line (fetch.Index piece) (objects old.store) (notes old.meta) old.view old.cache → ⊥
-  index_damage asked line cursor from piece place at old new c p a b tier_view x stops epoch (inl row) h = (let is = row.1 in cc (is))
-  index_damage asked line cursor from piece place at old new c p a b tier_view x stops epoch (inr row) h =
-      indexes_damage asked line cursor from piece place at row.1.0 old new c p a b tier_view x stops epoch row.1.1 row.1.2 h
+  index_damage asked line cursor from piece place at old new c p a b tier_view x stops epoch same (inl row) h = (let is = row.1 in cc (is))
+  index_damage asked line cursor from piece place at old new c p a b tier_view x stops epoch same (inr row) h =
+      indexes_damage asked line cursor from piece place at row.1.0 old new c p a b tier_view x stops epoch (same, row.1.1) row.1.2 h
 
   log_damage : (asked : Asked) (line : List (ℕ × ℕ)) (from : ℕ) (piece : Piece) (span : Span) (place : Place) (at : ℕ) (old new : Tiers S M) (c : Scene) (p : Plain) (a b : ℕ) (tier_view : BrokerTierView)
-      (x : Broker) (stops epoch : ℕ) → SearchLogRow objects calls notes notings asked line piece from span (Ok (Ends (Damaged place at))) old new
+      (x : Broker) (stops epoch : ℕ) → new ≡ record old { store = new.store }
+      → SearchLogRow objects calls asked piece from span old.view (Ok (Ends (Damaged place at))) old.store new.store
       → IsAtTurn c p a b tier_view x stops epoch (wanted_at asked from) line (fetch.Log piece span) (objects old.store) (notes old.meta) old.view old.cache
       → IsOfLog asked (Log piece from span) place
-  log_damage asked line from piece span place at old new c p a b tier_view x stops epoch (inl row) h = absurd (let is = row.1 in cc (is))
-  log_damage asked line from piece span place at old new c p a b tier_view x stops epoch (inr row) h =
-      let k = searches_damage asked line from piece span place at row.1.0 old new c p a b tier_view x stops epoch row.1.1 row.1.2 h in
+  log_damage asked line from piece span place at old new c p a b tier_view x stops epoch same (inl row) h = absurd (let is = row.1 in cc (is))
+  log_damage asked line from piece span place at old new c p a b tier_view x stops epoch same (inr row) h =
+      let k = searches_damage asked line from piece span place at row.1.0 old new c p a b tier_view x stops epoch (same, row.1.1) row.1.2 h in
       let is = k.next_is in
       let same : k.piece ≡ piece = cc (is) in
       record { piece = piece; from = from; span = span; next_is = refl; home = k.home; own = k.own; place_is = k.place_is ∙ ap (λ (q : Piece). Key (key_of asked.partition q.id k.home)) same }
@@ -199,7 +212,7 @@ module _ {S M : Type 0} (objects : S → store.Content) (calls : S → Control s
       absurd (times_damage c p a b tier_view x stops epoch asked line cursor piece (notes old.meta) old.view old.cache old.store new.store _ place at t refl row.1)
   search_damage asked line cursor at (Index piece from) place old new c p a b tier_view x stops epoch row below set h =
       let t = as_turn c p a b tier_view x stops epoch asked line cursor (Index piece from) (objects old.store) (notes old.meta) old.view old.cache from (fetch.Index piece) h refl set.0 in
-      absurd (index_damage asked line cursor from piece place at old new c p a b tier_view x stops epoch row t)
+      absurd (index_damage asked line cursor from piece place at old new c p a b tier_view x stops epoch row.0 row.1 t)
   search_damage asked line cursor at (Log piece from span) place old new c p a b tier_view x stops epoch row below set h =
       let t = as_turn c p a b tier_view x stops epoch asked line cursor (Log piece from span) (objects old.store) (notes old.meta) old.view old.cache from (fetch.Log piece span) h refl set.0 in
-      log_damage asked line from piece span place at old new c p a b tier_view x stops epoch row t
+      log_damage asked line from piece span place at old new c p a b tier_view x stops epoch row.0 row.1 t

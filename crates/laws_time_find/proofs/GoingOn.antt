@@ -1,5 +1,5 @@
 -- Where a search continues, all before its cursor is too early, and the offset that it answers is the log's.
-use Rattle.std.proofs.Common.{◌≡◌, inl, inr, ◌∙◌, sym, ap, subst, refl, ℕ, ◌+◌, ◌<◌, ◌≤◌, min, max, Bool, true, false, cond, nat_lt, List, Some, None, Option, Ok, Err, arith}
+use Rattle.std.proofs.Common.{◌≡◌, inl, inr, ◌∙◌, sym, ap, subst, refl, ℕ, ◌+◌, ◌<◌, ◌≤◌, min, max, Bool, true, false, cond, nat_lt, List, length, Some, None, Option, Ok, Err, arith}
 use Rattle.std.specs.Prelude.{ℤ}
 use Rattle.std.specs.declared.result.Result.{Result}
 use Rattle.std.specs.declared.alloc.AllocError.{AllocError}
@@ -13,35 +13,34 @@ use Rattle.log_terms.specs.Batch.{last_of}
 use Rattle.log_terms.specs.Log.{up_to, from_offset}
 use Rattle.log_terms.proofs.Lists.{prefix_self}
 use Rattle.sparse_index.specs.Bytes.{bytes_of}
-use Rattle.sparse_index.specs.Offsets.{OffsetTable}
 use Rattle.sparse_index.specs.Times.{TimeTable, moment_bytes, below_time}
 use Rattle.segment_bundle.specs.Parts.{first_offset, parts_of, part_in}
 use Rattle.segment_file.specs.Index.{placed_from, time_index_of}
 use Rattle.object_store.specs.Call as store_call
 use Rattle.object_store.specs.Content as store
 use Rattle.object_store.specs.Calls.{Gets}
-use Rattle.object_store.specs.Place.{all_of, short_of, short_in}
+use Rattle.object_store.specs.Place.{all_of, short_of}
 use Rattle.object_store.specs.declared.placing.Spot.{Spot}
 use Rattle.meta_log.specs.Call as meta_call
 use Rattle.meta_log.specs.Content as meta
-use Rattle.index_cache.specs.Cache.{Cache, found}
+use Rattle.index_cache.specs.Cache.{Cache}
 use Rattle.view_refresh.specs.Refreshing.{Refreshes, Refreshed}
 use Rattle.plain_log.specs.declared.state.State.{State as Plain}
 use Rattle.plain_log.specs.declared.state.Broker.{Broker}
-use Rattle.plain_log.specs.declared.answer.Answer.{Answer}
-use Rattle.plain_log.specs.declared.answer.Answer.TheVariants.{Offset, Run}
+use Rattle.plain_log.specs.declared.answer.Answer.TheVariants.{Offset}
 use Rattle.plain_log.specs.declared.answer.Tier.{Tier}
+use Rattle.plain_log.specs.declared.answer.Tier.TheVariants.{Remote}
 use Rattle.plain_log.specs.RowsOfReads.{first_at, offset_at}
 use Rattle.remote_view.specs.Fold.{EntriesSeen, entry_of, view_of}
 use Rattle.remote_find.specs.declared.piece.Piece.{Piece}
-use Rattle.tier_fetch.specs.declared.turn.FetchRequest.{FetchRequest}
 use Rattle.tier_fetch.specs.declared.turn.Span.{Span}
 use Rattle.plain_log.specs.declared.turn.Turn.{Turn}
 use Rattle.plain_log.specs.declared.turn.Turn.TheVariants.{Goes, Ends}
 use Rattle.tier_fetch.specs.declared.turn.FetchStep.{FetchStep as FetchNext}
 use Rattle.tier_fetch.specs.declared.turn.FetchStep.TheVariants as fetching
-use Rattle.tier_fetch.specs.Turns.{Tiers, RemoteFetchRow, spot_in, LoadsBytes, Loads, LoadRow, CutsBytes, CutsRunOut}
-use Rattle.tier_fetch.specs.Turns as rows
+use Rattle.tier_fetch.specs.declared.refusal.RemoteRefusal.{RemoteRefusal}
+use Rattle.tier_fetch.specs.declared.reading.RemoteRun.{RemoteRun}
+use Rattle.tier_fetch.specs.Turns.{Tiers, RemoteFetchRow, spot_in, ends_with}
 use Rattle.tier_safe.specs.Scene.{BrokerTierView, Free, Seeks, Scene}
 use Rattle.tier_safe.specs.Views.{IsViewOf}
 use Rattle.tier_safe.specs.Reads.{IsRightView}
@@ -59,6 +58,7 @@ use Rattle.time_find.specs.declared.turn.SearchStep.{SearchStep}
 use Rattle.time_find.specs.declared.turn.SearchStep.TheVariants.{Seek, Times as ReadsTimes, Index, Log}
 use Rattle.time_find.specs.Passing.{top_of, Passes, Seeks as SeeksIn}
 use Rattle.time_find.specs.Turns.{IsSet, IsSearched, from_of, shown, IsTimeIndexRead, TimesBytes, Times, wanted_at, Indexes, SearchTakes, TimesRow, SearchIndexRow, SearchLogRow}
+use Rattle.time_find.proofs.Outcomes.{never_goes, never_found}
 use Rattle.laws_time_find.specs.Passed.{HasPassed, IsDatedTo, read_from}
 use Rattle.laws_time_find.specs.Searching.{IsAtSearch}
 use Rattle.laws_time_find.specs.Answers.{SearchesGoOn, SearchesAreRight}
@@ -298,44 +298,40 @@ module _ {S M : Type 0} (objects : S → store.Content) (calls : S → Control s
 
   index_on : (c : Scene) (p : Plain) (a b : ℕ) (tier_view : BrokerTierView) (x : Broker) (stops epoch : ℕ) (asked : Asked) (line : List (ℕ × ℕ)) (cursor at : ℕ) (piece : Piece) (from : ℕ) (then : SearchStep)
       (old new : Tiers S M) → IsAtSearch c p a b tier_view x stops epoch asked line cursor (Index piece from) (objects old.store) (notes old.meta) old.view old.cache
-      → IsSet cursor (Index piece from) → SearchIndexRow objects calls notes notings asked line cursor piece from (Ok (Goes (at, then))) old new → Dated p x asked cursor at then
+      → IsSet cursor (Index piece from) → SearchIndexRow objects calls asked cursor piece from old.view (Ok (Goes (at, then))) old.cache new.cache old.store new.store → Dated p x asked cursor at then
   index_on c p a b tier_view x stops epoch asked line cursor at piece from then old new h set (inl k) =
       let low = set.0 in
       let high = set.1 in
       topped c p a b tier_view x stops epoch asked line cursor at (Index piece from) then piece from (objects old.store) (notes old.meta) old.view old.cache h refl (omega (arith, low, high)) k.0 (cc (k.1))
   index_on c p a b tier_view x stops epoch asked line cursor at piece from then old new h set (inr k) = by k.1.0 k.1.2
     where
-      by : (turn : Result (Turn FetchNext) AllocError) → Indexes cursor piece from turn (Ok (Goes (at, then))) → Dated p x asked cursor at then
-      by (Ok (Goes (fetching.Log found span))) k =
-          let at_is : at ≡ cursor = ap (λ (r : Result (Turn (ℕ × SearchStep)) AllocError). (gone_on r).0) k.1 in
-          let then_is : then ≡ Log piece from span = ap (λ (r : Result (Turn (ℕ × SearchStep)) AllocError). (gone_on r).1) k.1 in
+      by : (read : Result Span RemoteRefusal) → Indexes cursor piece from read (Ok (Goes (at, then))) → Dated p x asked cursor at then
+      by (Ok span) k =
+          let at_is : at ≡ cursor = ap (λ (r : Result (Turn (ℕ × SearchStep)) AllocError). (gone_on r).0) k in
+          let then_is : then ≡ Log piece from span = ap (λ (r : Result (Turn (ℕ × SearchStep)) AllocError). (gone_on r).1) k in
           subst (λ (m : ℕ). Dated p x asked cursor m then) (sym at_is) (subst (λ (m : SearchStep). Dated p x asked cursor cursor m) (sym then_is)
           (record { cursor = h.dated.cursor; read = h.dated.read }, omega arith, λ no. absurd (cc (no))))
-      by (Ok (Goes fetching.Refresh)) k = absurd k
-      by (Ok (Goes (fetching.Index found))) k = absurd k
-      by (Ok (Ends answer)) k = absurd (cc (k))
-      by (Err e) k = absurd (cc (k))
+      by (Err why) k = absurd (never_goes why at then k)
 
   -- logs
 
   log_on : (c : Scene) (p : Plain) (a b : ℕ) (tier_view : BrokerTierView) (x : Broker) (stops epoch : ℕ) (asked : Asked) (line : List (ℕ × ℕ)) (cursor at : ℕ) (piece : Piece) (from : ℕ) (span : Span) (then : SearchStep)
       (old new : Tiers S M) → IsAtSearch c p a b tier_view x stops epoch asked line cursor (Log piece from span) (objects old.store) (notes old.meta) old.view old.cache
-      → IsSet cursor (Log piece from span) → SearchLogRow objects calls notes notings asked line piece from span (Ok (Goes (at, then))) old new → Dated p x asked cursor at then
-  log_on c p a b tier_view x stops epoch asked line cursor at piece from span then old new h set (inl k) =
+      → IsSet cursor (Log piece from span) → new ≡ record old { store = new.store } → SearchLogRow objects calls asked piece from span old.view (Ok (Goes (at, then))) old.store new.store
+      → Dated p x asked cursor at then
+  log_on c p a b tier_view x stops epoch asked line cursor at piece from span then old new h set same (inl k) =
       let low = set.0 in
       let high = set.1 in
       topped c p a b tier_view x stops epoch asked line cursor at (Log piece from span) then piece from (objects old.store) (notes old.meta) old.view old.cache h refl (omega (arith, low, high)) k.0 (cc (k.1))
-  log_on c p a b tier_view x stops epoch asked line cursor at piece from span then old new h set (inr k) = by k.1.0 k.1.1 k.1.2
+  log_on c p a b tier_view x stops epoch asked line cursor at piece from span then old new h set same (inr k) = by k.1.0 (same, k.1.1) k.1.2
     where
-      by : (turn : Result (Turn FetchNext) AllocError) → RemoteFetchRow objects calls notes notings (wanted_at asked from) line (fetching.Log piece span) turn old new → SearchTakes asked from turn (Ok (Goes (at, then)))
-          → Dated p x asked cursor at then
-      by (Ok (Ends (Run tier size stop bytes))) row k =
+      by : (read : Result RemoteRun RemoteRefusal) → RemoteFetchRow objects calls notes notings (wanted_at asked from) line (fetching.Log piece span) (ends_with piece read) old new
+          → SearchTakes asked from read (Ok (Goes (at, then))) → Dated p x asked cursor at then
+      by (Ok run) row k =
           let turn = at_turn c p a b tier_view x stops epoch asked line cursor (Log piece from span) (objects old.store) (notes old.meta) old.view old.cache from (fetching.Log piece span) h h.shows set.0 in
-          searched_on c p a b tier_view x stops epoch asked line cursor from at size (Log piece from span) then (fetching.Log piece span) stop bytes (objects old.store) (notes old.meta) old.view old.cache tier h refl set.0
-          (runs_are_checked objects calls notes notings (wanted_at asked from) line (fetching.Log piece span) tier size stop bytes old new c p a b tier_view x stops epoch row turn) k
-      by (Ok (Ends other)) row k = absurd (cc (k))
-      by (Ok (Goes next)) row k = absurd k
-      by (Err e) row k = absurd (cc (k))
+          searched_on c p a b tier_view x stops epoch asked line cursor from at (length run.bytes) (Log piece from span) then (fetching.Log piece span) run.stop run.bytes (objects old.store) (notes old.meta) old.view old.cache (Remote piece.id) h refl set.0
+          (runs_are_checked objects calls notes notings (wanted_at asked from) line (fetching.Log piece span) (Remote piece.id) (length run.bytes) run.stop run.bytes old new c p a b tier_view x stops epoch row turn) k
+      by (Err why) row k = absurd (never_goes why at then k)
 
   -- where a search continues, all before its cursor is too early
   pub searches_go_on : SearchesGoOn objects calls notes notings
@@ -345,52 +341,13 @@ module _ {S M : Type 0} (objects : S → store.Content) (calls : S → Control s
       times_on c p a b tier_view x stops epoch asked line cursor at piece then (notes old.meta) old.view old.cache old.store new.store
       (spot_in asked.partition piece.id part.TimeIndex (entry_of piece.id old.view.entries)) h set refl row.1
   searches_go_on asked line cursor at (Index piece from) then old new c p a b tier_view x stops epoch row below set h =
-      index_on c p a b tier_view x stops epoch asked line cursor at piece from then old new h set row
+      index_on c p a b tier_view x stops epoch asked line cursor at piece from then old new h set row.1
   searches_go_on asked line cursor at (Log piece from span) then old new c p a b tier_view x stops epoch row below set h =
-      log_on c p a b tier_view x stops epoch asked line cursor at piece from span then old new h set row
+      log_on c p a b tier_view x stops epoch asked line cursor at piece from span then old new h set row.0 row.1
 
   -- offsets
 
-  -- no turn of a fetch answers one
-
-  no_offset_loaded : (wanted : FetchRequest) (piece : Piece) (base n : ℕ) (spot : Spot) (answer : Result (Option (List ℕ)) Trouble) (cache cache' : Cache)
-      → Loads wanted piece base spot answer (Ok (Ends (Offset n))) cache cache' → ⊥
-  no_offset_loaded wanted piece base n spot (Err Failed) cache cache' k = cc (k.0)
-  no_offset_loaded wanted piece base n spot (Err NoMemory) cache cache' k = cc (k.0)
-  no_offset_loaded wanted piece base n spot (Ok None) cache cache' k = cc (k.0)
-  no_offset_loaded wanted piece base n spot (Ok (Some given)) cache cache' k = by (short_of spot given) k
-    where
-      by : (end : Option ℕ) → LoadsBytes end wanted piece base spot given (Ok (Ends (Offset n))) cache cache' → ⊥
-      by (Some end) k = cc (k.0)
-      by None k = cc (k.0)
-
-  no_offset_read : (wanted : FetchRequest) (piece : Piece) (n : ℕ) (view : EntriesSeen) (place : Option (ℕ × Spot)) (cache cache' : Cache) (old new : S)
-      → LoadRow objects calls wanted piece view place (Ok (Ends (Offset n))) cache cache' old new → ⊥
-  no_offset_read wanted piece n view None cache cache' old new row = cc (row.0)
-  no_offset_read wanted piece n view (Some place) cache cache' old new row = no_offset_loaded wanted piece place.0 n place.1 row.answer cache cache' row.loads
-
-  no_offset_found : (wanted : FetchRequest) (piece : Piece) (n : ℕ) (view : EntriesSeen) (there : Option OffsetTable) (cache cache' : Cache) (old new : S)
-      → rows.IndexRow objects calls wanted piece view (Ok (Ends (Offset n))) there cache cache' old new → ⊥
-  no_offset_found wanted piece n view (Some index) cache cache' old new row = cc (row.0)
-  no_offset_found wanted piece n view None cache cache' old new row =
-      no_offset_read wanted piece n view (spot_in wanted.partition piece.id part.Index (entry_of piece.id view.entries)) cache cache' old new row
-
-  no_offset_cut : (wanted : FetchRequest) (piece : Piece) (n : ℕ) (spot : Spot) (span : Span) (answer : Result (Option (List ℕ)) Trouble) → CutsRunOut wanted piece spot span answer (Ok (Ends (Offset n))) → ⊥
-  no_offset_cut wanted piece n spot span (Err Failed) k = cc (k)
-  no_offset_cut wanted piece n spot span (Err NoMemory) k = cc (k)
-  no_offset_cut wanted piece n spot span (Ok None) k = cc (k)
-  no_offset_cut wanted piece n spot span (Ok (Some given)) k = by (short_in spot span.from span.most given) k
-    where
-      by : (end : Option ℕ) → CutsBytes end wanted piece spot span given (Ok (Ends (Offset n))) → ⊥
-      by (Some end) k = cc (k)
-      by None k = k
-
-  no_offset_run : (wanted : FetchRequest) (piece : Piece) (n : ℕ) (span : Span) (view : EntriesSeen) (place : Option (ℕ × Spot)) (old new : S)
-      → rows.LogRow objects calls wanted piece span view place (Ok (Ends (Offset n))) old new → ⊥
-  no_offset_run wanted piece n span view None old new row = cc (row.0)
-  no_offset_run wanted piece n span view (Some place) old new row = no_offset_cut wanted piece n place.1 span row.answer row.cuts
-
-  -- nor does that of a time index
+  -- no read of a time index answers one
   no_offset_timed : (asked : Asked) (cursor n : ℕ) (piece : Piece) (view : EntriesSeen) (place : Option (ℕ × Spot)) (old new : S) → TimesRow objects calls asked cursor piece view place (Ok (Ends (Offset n))) old new → ⊥
   no_offset_timed asked cursor n piece view None old new row = cc (row.0)
   no_offset_timed asked cursor n piece view (Some place) old new row = by row.answer row.times
@@ -405,46 +362,35 @@ module _ {S M : Type 0} (objects : S → store.Content) (calls : S → Control s
       by (Ok None) k = cc (k)
       by (Ok (Some bytes)) k = lacks bytes (short_of place.1 bytes) k
 
-  index_at : (asked : Asked) (line : List (ℕ × ℕ)) (cursor at : ℕ) (piece : Piece) (from : ℕ) (old new : Tiers S M)
-      → SearchIndexRow objects calls notes notings asked line cursor piece from (Ok (Ends (Offset at))) old new → ⊥
-  index_at asked line cursor at piece from old new (inl k) = cc (k.1)
-  index_at asked line cursor at piece from old new (inr k) = by k.1.0 k.1.1 k.1.2
+  -- nor does one of an offset index
+  index_at : (asked : Asked) (cursor at : ℕ) (piece : Piece) (from : ℕ) (view : EntriesSeen) (cache cache' : Cache) (old new : S)
+      → SearchIndexRow objects calls asked cursor piece from view (Ok (Ends (Offset at))) cache cache' old new → ⊥
+  index_at asked cursor at piece from view cache cache' old new (inl k) = cc (k.1)
+  index_at asked cursor at piece from view cache cache' old new (inr k) = by k.1.0 k.1.2
     where
-      by : (turn : Result (Turn FetchNext) AllocError) → RemoteFetchRow objects calls notes notings (wanted_at asked from) line (fetching.Index piece) turn old new → Indexes cursor piece from turn (Ok (Ends (Offset at))) → ⊥
-      by (Ok (Goes (fetching.Log found span))) row k = cc (k.1)
-      by (Ok (Goes fetching.Refresh)) row k = k
-      by (Ok (Goes (fetching.Index found))) row k = k
-      by (Ok (Ends answer)) row k =
-          let same : answer ≡ Offset at = cc (k) in
-          no_offset_found (wanted_at asked from) piece at old.view (found piece.id.0 old.cache.pairs) old.cache new.cache old.store new.store
-          (subst (λ (o : Answer). rows.IndexRow objects calls (wanted_at asked from) piece old.view (Ok (Ends o)) (found piece.id.0 old.cache.pairs) old.cache new.cache old.store new.store) same row.1)
-      by (Err e) row k = cc (k)
+      by : (read : Result Span RemoteRefusal) → Indexes cursor piece from read (Ok (Ends (Offset at))) → ⊥
+      by (Ok span) k = cc (k)
+      by (Err why) k = never_found why at k
 
   log_at : (c : Scene) (p : Plain) (a b : ℕ) (tier_view : BrokerTierView) (x : Broker) (stops epoch : ℕ) (asked : Asked) (line : List (ℕ × ℕ)) (cursor at : ℕ) (piece : Piece) (from : ℕ) (span : Span)
       (old new : Tiers S M) → IsAtSearch c p a b tier_view x stops epoch asked line cursor (Log piece from span) (objects old.store) (notes old.meta) old.view old.cache
-      → IsSet cursor (Log piece from span) → SearchLogRow objects calls notes notings asked line piece from span (Ok (Ends (Offset at))) old new → offset_at p x asked.ts ≡ Some at
-  log_at c p a b tier_view x stops epoch asked line cursor at piece from span old new h set (inl k) = absurd (cc (k.1))
-  log_at c p a b tier_view x stops epoch asked line cursor at piece from span old new h set (inr k) = by k.1.0 k.1.1 k.1.2
+      → IsSet cursor (Log piece from span) → new ≡ record old { store = new.store } → SearchLogRow objects calls asked piece from span old.view (Ok (Ends (Offset at))) old.store new.store
+      → offset_at p x asked.ts ≡ Some at
+  log_at c p a b tier_view x stops epoch asked line cursor at piece from span old new h set same (inl k) = absurd (cc (k.1))
+  log_at c p a b tier_view x stops epoch asked line cursor at piece from span old new h set same (inr k) = by k.1.0 (same, k.1.1) k.1.2
     where
-      none : (answer : Answer) → RemoteFetchRow objects calls notes notings (wanted_at asked from) line (fetching.Log piece span) (Ok (Ends answer)) old new → answer ≡ Offset at → ⊥
-      none answer row same =
-          no_offset_run (wanted_at asked from) piece at span old.view (spot_in asked.partition piece.id part.Log (entry_of piece.id old.view.entries)) old.store new.store
-          (subst (λ (o : Answer). rows.LogRow objects calls (wanted_at asked from) piece span old.view (spot_in asked.partition piece.id part.Log (entry_of piece.id old.view.entries)) (Ok (Ends o)) old.store new.store) same row.1)
-
-      by : (turn : Result (Turn FetchNext) AllocError) → RemoteFetchRow objects calls notes notings (wanted_at asked from) line (fetching.Log piece span) turn old new → SearchTakes asked from turn (Ok (Ends (Offset at)))
-          → offset_at p x asked.ts ≡ Some at
-      by (Ok (Ends (Run tier size stop bytes))) row k =
+      by : (read : Result RemoteRun RemoteRefusal) → RemoteFetchRow objects calls notes notings (wanted_at asked from) line (fetching.Log piece span) (ends_with piece read) old new
+          → SearchTakes asked from read (Ok (Ends (Offset at))) → offset_at p x asked.ts ≡ Some at
+      by (Ok run) row k =
           let turn = at_turn c p a b tier_view x stops epoch asked line cursor (Log piece from span) (objects old.store) (notes old.meta) old.view old.cache from (fetching.Log piece span) h h.shows set.0 in
-          searched_at c p a b tier_view x stops epoch asked line cursor from at size (Log piece from span) (fetching.Log piece span) stop bytes (objects old.store) (notes old.meta) old.view old.cache tier h refl set.0
-          (runs_are_checked objects calls notes notings (wanted_at asked from) line (fetching.Log piece span) tier size stop bytes old new c p a b tier_view x stops epoch row turn) k
-      by (Ok (Ends other)) row k = absurd (none other row (cc (k)))
-      by (Ok (Goes next)) row k = absurd k
-      by (Err e) row k = absurd (cc (k))
+          searched_at c p a b tier_view x stops epoch asked line cursor from at (length run.bytes) (Log piece from span) (fetching.Log piece span) run.stop run.bytes (objects old.store) (notes old.meta) old.view old.cache (Remote piece.id) h refl set.0
+          (runs_are_checked objects calls notes notings (wanted_at asked from) line (fetching.Log piece span) (Remote piece.id) (length run.bytes) run.stop run.bytes old new c p a b tier_view x stops epoch row turn) k
+      by (Err why) row k = absurd (never_found why at k)
 
   -- an offset that is answered is the log's
   pub searches_are_right : SearchesAreRight objects calls notes notings
   searches_are_right asked line cursor at Seek old new c p a b tier_view x stops epoch row below set h = absurd row.1.0
   searches_are_right asked line cursor at (ReadsTimes piece) old new c p a b tier_view x stops epoch row below set h =
       absurd (no_offset_timed asked cursor at piece old.view (spot_in asked.partition piece.id part.TimeIndex (entry_of piece.id old.view.entries)) old.store new.store row.1)
-  searches_are_right asked line cursor at (Index piece from) old new c p a b tier_view x stops epoch row below set h = absurd (index_at asked line cursor at piece from old new row)
-  searches_are_right asked line cursor at (Log piece from span) old new c p a b tier_view x stops epoch row below set h = log_at c p a b tier_view x stops epoch asked line cursor at piece from span old new h set row
+  searches_are_right asked line cursor at (Index piece from) old new c p a b tier_view x stops epoch row below set h = absurd (index_at asked cursor at piece from old.view old.cache new.cache old.store new.store row.1)
+  searches_are_right asked line cursor at (Log piece from span) old new c p a b tier_view x stops epoch row below set h = log_at c p a b tier_view x stops epoch asked line cursor at piece from span old new h set row.0 row.1

@@ -21,7 +21,7 @@ use Rattle.view_refresh.specs.Refreshing.{Refreshes, Advances}
 use Rattle.plain_log.specs.declared.state.State.{State as Plain}
 use Rattle.plain_log.specs.declared.state.Broker.{Broker}
 use Rattle.plain_log.specs.declared.state.Role.{Role}
-use Rattle.plain_log.specs.declared.answer.Answer.TheVariants.{MetaFault, StoreFault, Damaged, Run}
+use Rattle.plain_log.specs.declared.answer.Answer.TheVariants.{MetaFault, StoreFault, Damaged}
 use Rattle.plain_log.specs.declared.answer.Place.TheVariants.{Key, Meta}
 use Rattle.plain_log.specs.Safe.{RoleSafe}
 use Rattle.remote_view.specs.Fold.{EntriesSeen, view_of}
@@ -31,7 +31,10 @@ use Rattle.tier_fetch.specs.declared.turn.FetchStep.{FetchStep as Fetch}
 use Rattle.tier_fetch.specs.declared.turn.FetchStep.TheVariants as fetch
 use Rattle.plain_log.specs.declared.turn.Turn.{Turn}
 use Rattle.plain_log.specs.declared.turn.Turn.TheVariants.{Goes, Ends}
-use Rattle.tier_fetch.specs.Turns.{Tiers, RemoteFetchRow}
+use Rattle.tier_fetch.specs.declared.refusal.RemoteRefusal.{RemoteRefusal}
+use Rattle.tier_fetch.specs.declared.refusal.RemoteRefusal.TheVariants as refusal
+use Rattle.tier_fetch.specs.declared.reading.RemoteRun.{RemoteRun}
+use Rattle.tier_fetch.specs.Turns.{Tiers, RemoteFetchRow, goes_with, ends_with}
 use Rattle.tier_safe.specs.Scene.{BrokerTierView, TierTask, Free, Seeks as Fetches, Scene}
 use Rattle.tier_safe.specs.Changes.{Moves, Asks, Skips, effect}
 use Rattle.tier_safe.specs.Fetches.{PieceStands}
@@ -47,6 +50,7 @@ use Rattle.time_find.specs.declared.turn.SearchStep.{SearchStep}
 use Rattle.time_find.specs.declared.turn.SearchStep.TheVariants.{Seek, Times, Index, Log}
 use Rattle.time_find.specs.Passing.{top_in, top_of, SeeksPiece, Seeks}
 use Rattle.time_find.specs.Turns.{from_of, shown, TimesBytes, Times as Timed, wanted_at, Indexes, SearchTakes, SeekRow, TimesRow, SearchIndexRow, SearchLogRow}
+use Rattle.time_find.proofs.Outcomes.{store_left, cache_left}
 use Rattle.laws_time_find.specs.Searching.{search_of, search_tier_task, search_after, IsAtSearch}
 use Rattle.laws_time_find.specs.Turns.{SearchTurnsChange}
 
@@ -178,29 +182,25 @@ shows_on c p a b tier_view x stops epoch asked line cursor piece s n view cache 
         skips c p a b tier_view x stops epoch asked line cursor piece s n view cache from h up (omega (arith, low))
     by false is = left c p a b tier_view h.shows.tier_view_is
 
--- what a fetch's turn came to
+-- what was read
 
--- the actor's state has of the search what it keeps of the fetch
-indexes_same : (b stops epoch cursor from : ℕ) (piece : Piece) (turn : Result (Turn Fetch) AllocError) (result : Result (Turn (ℕ × SearchStep)) AllocError) → Indexes cursor piece from turn result
-    → fetch_after b stops epoch from (fetch.Index piece) turn ≡ search_after b stops epoch cursor (Index piece from) result
-indexes_same b stops epoch cursor from piece (Ok (Goes (fetch.Log found span))) result k =
-    ap (λ (q : Piece). Fetches (sought_of b stops epoch from (fetch.Log q span))) k.0 ∙ ap (search_after b stops epoch cursor (Index piece from)) (sym k.1)
-indexes_same b stops epoch cursor from piece (Ok (Goes fetch.Refresh)) result k = absurd k
-indexes_same b stops epoch cursor from piece (Ok (Goes (fetch.Index found))) result k = absurd k
-indexes_same b stops epoch cursor from piece (Ok (Ends answer)) result k = ap (search_after b stops epoch cursor (Index piece from)) (sym k)
-indexes_same b stops epoch cursor from piece (Err e) (Ok turn) k = absurd (cc (k))
-indexes_same b stops epoch cursor from piece (Err e) (Err f) k = refl
+-- the actor's state has of the search what it has of a fetch that reads the same
+indexes_same : (b stops epoch cursor from : ℕ) (piece : Piece) (read : Result Span RemoteRefusal) (result : Result (Turn (ℕ × SearchStep)) AllocError) → Indexes cursor piece from read result
+    → fetch_after b stops epoch from (fetch.Index piece) (goes_with piece read) ≡ search_after b stops epoch cursor (Index piece from) result
+indexes_same b stops epoch cursor from piece (Ok span) result k = ap (search_after b stops epoch cursor (Index piece from)) (sym k)
+indexes_same b stops epoch cursor from piece (Err (refusal.Damaged place at)) result k = ap (search_after b stops epoch cursor (Index piece from)) (sym k)
+indexes_same b stops epoch cursor from piece (Err refusal.StoreFault) result k = ap (search_after b stops epoch cursor (Index piece from)) (sym k)
+indexes_same b stops epoch cursor from piece (Err refusal.NoMemory) result k = ap (search_after b stops epoch cursor (Index piece from)) (sym k)
 
-searched_same : (b stops epoch cursor from : ℕ) (piece : Piece) (span : Span) (asked : Asked) (turn : Result (Turn Fetch) AllocError) (result : Result (Turn (ℕ × SearchStep)) AllocError) → SearchTakes asked from turn result
-    → fetch_after b stops epoch from (fetch.Log piece span) turn ≡ search_after b stops epoch cursor (Log piece from span) result
-searched_same b stops epoch cursor from piece span asked (Ok (Ends (Run tier size stop bytes))) (Ok (Ends answer)) k = refl
-searched_same b stops epoch cursor from piece span asked (Ok (Ends (Run tier size stop bytes))) (Ok (Goes (at, Seek))) k = refl
-searched_same b stops epoch cursor from piece span asked (Ok (Ends (Run tier size stop bytes))) (Ok (Goes (at, next))) k = absurd k
-searched_same b stops epoch cursor from piece span asked (Ok (Ends (Run tier size stop bytes))) (Err e) k = absurd k
-searched_same b stops epoch cursor from piece span asked (Ok (Ends answer)) result k = ap (search_after b stops epoch cursor (Log piece from span)) (sym k)
-searched_same b stops epoch cursor from piece span asked (Ok (Goes next)) result k = absurd k
-searched_same b stops epoch cursor from piece span asked (Err e) (Ok turn) k = absurd (cc (k))
-searched_same b stops epoch cursor from piece span asked (Err e) (Err f) k = refl
+searched_same : (b stops epoch cursor from : ℕ) (piece : Piece) (span : Span) (asked : Asked) (read : Result RemoteRun RemoteRefusal) (result : Result (Turn (ℕ × SearchStep)) AllocError) → SearchTakes asked from read result
+    → fetch_after b stops epoch from (fetch.Log piece span) (ends_with piece read) ≡ search_after b stops epoch cursor (Log piece from span) result
+searched_same b stops epoch cursor from piece span asked (Ok run) (Ok (Ends answer)) k = refl
+searched_same b stops epoch cursor from piece span asked (Ok run) (Ok (Goes (at, Seek))) k = refl
+searched_same b stops epoch cursor from piece span asked (Ok run) (Ok (Goes (at, next))) k = absurd k
+searched_same b stops epoch cursor from piece span asked (Ok run) (Err e) k = absurd k
+searched_same b stops epoch cursor from piece span asked (Err (refusal.Damaged place at)) result k = ap (search_after b stops epoch cursor (Log piece from span)) (sym k)
+searched_same b stops epoch cursor from piece span asked (Err refusal.StoreFault) result k = ap (search_after b stops epoch cursor (Log piece from span)) (sym k)
+searched_same b stops epoch cursor from piece span asked (Err refusal.NoMemory) result k = ap (search_after b stops epoch cursor (Log piece from span)) (sym k)
 
 module _ {S M : Type 0} (objects : S → store.Content) (calls : S → Control store_call.call_code)
     (notes : M → meta.Content) (notings : M → Control meta_call.call_code) where
@@ -306,7 +306,7 @@ module _ {S M : Type 0} (objects : S → store.Content) (calls : S → Control s
       (subst (λ (r : Result (Turn (ℕ × SearchStep)) AllocError). IsChanged c p (after_turn c a b tier_view (search_after b stops epoch cursor next r) c.objects c.notes tier_view.view)) (sym is) (left c p a b tier_view h.shows.tier_view_is))
       (ap (λ (t : Tiers S M). (objects t.store).objects) same) (ap (λ (t : Tiers S M). (notes t.meta).notes) same) (ap (λ (t : Tiers S M). t.view) same) (ap (λ (t : Tiers S M). t.cache) same)
 
-  -- else the turn is that fetch's
+  -- else the turn changes what that fetch's would
   fetches : (c : Scene) (p : Plain) (a b : ℕ) (tier_view : BrokerTierView) (x : Broker) (stops epoch : ℕ) (asked : Asked) (line : List (ℕ × ℕ)) (cursor from : ℕ) (next : SearchStep) (turn : Fetch)
       (found : Result (Turn Fetch) AllocError) (result : Result (Turn (ℕ × SearchStep)) AllocError) (old new : Tiers S M)
       → IsAtSearch c p a b tier_view x stops epoch asked line cursor next (objects old.store) (notes old.meta) old.view old.cache
@@ -322,23 +322,25 @@ module _ {S M : Type 0} (objects : S → store.Content) (calls : S → Control s
   index_turn : (c : Scene) (p : Plain) (a b : ℕ) (tier_view : BrokerTierView) (x : Broker) (stops epoch : ℕ) (asked : Asked) (line : List (ℕ × ℕ)) (cursor from : ℕ) (piece : Piece)
       (result : Result (Turn (ℕ × SearchStep)) AllocError) (old new : Tiers S M)
       → IsAtSearch c p a b tier_view x stops epoch asked line cursor (Index piece from) (objects old.store) (notes old.meta) old.view old.cache → cursor ≤ from
-      → SearchIndexRow objects calls notes notings asked line cursor piece from result old new
+      → new ≡ record old { cache = new.cache; store = new.store }
+      → SearchIndexRow objects calls asked cursor piece from old.view result old.cache new.cache old.store new.store
       → IsChanged c p (after_fetch c a b tier_view (search_after b stops epoch cursor (Index piece from) result) (objects new.store).objects (notes new.meta).notes new.view new.cache)
-  index_turn c p a b tier_view x stops epoch asked line cursor from piece result old new h up (inl row) =
-      turns_back c p a b tier_view x stops epoch asked line cursor (top_of asked piece) (Index piece from) result old new h row.1 row.2
-  index_turn c p a b tier_view x stops epoch asked line cursor from piece result old new h up (inr row) =
-      fetches c p a b tier_view x stops epoch asked line cursor from (Index piece from) (fetch.Index piece) row.1.0 result old new h refl up row.1.1
+  index_turn c p a b tier_view x stops epoch asked line cursor from piece result old new h up same (inl row) =
+      turns_back c p a b tier_view x stops epoch asked line cursor (top_of asked piece) (Index piece from) result old new h row.1 (cache_left old new same row.2 row.3)
+  index_turn c p a b tier_view x stops epoch asked line cursor from piece result old new h up same (inr row) =
+      fetches c p a b tier_view x stops epoch asked line cursor from (Index piece from) (fetch.Index piece) (goes_with piece row.1.0) result old new h refl up (same, row.1.1)
       (indexes_same b stops epoch cursor from piece row.1.0 result row.1.2)
 
   log_turn : (c : Scene) (p : Plain) (a b : ℕ) (tier_view : BrokerTierView) (x : Broker) (stops epoch : ℕ) (asked : Asked) (line : List (ℕ × ℕ)) (cursor from : ℕ) (piece : Piece) (span : Span)
       (result : Result (Turn (ℕ × SearchStep)) AllocError) (old new : Tiers S M)
       → IsAtSearch c p a b tier_view x stops epoch asked line cursor (Log piece from span) (objects old.store) (notes old.meta) old.view old.cache → cursor ≤ from
-      → SearchLogRow objects calls notes notings asked line piece from span result old new
+      → new ≡ record old { store = new.store }
+      → SearchLogRow objects calls asked piece from span old.view result old.store new.store
       → IsChanged c p (after_fetch c a b tier_view (search_after b stops epoch cursor (Log piece from span) result) (objects new.store).objects (notes new.meta).notes new.view new.cache)
-  log_turn c p a b tier_view x stops epoch asked line cursor from piece span result old new h up (inl row) =
-      turns_back c p a b tier_view x stops epoch asked line cursor (top_of asked piece) (Log piece from span) result old new h row.1 row.2
-  log_turn c p a b tier_view x stops epoch asked line cursor from piece span result old new h up (inr row) =
-      fetches c p a b tier_view x stops epoch asked line cursor from (Log piece from span) (fetch.Log piece span) row.1.0 result old new h refl up row.1.1
+  log_turn c p a b tier_view x stops epoch asked line cursor from piece span result old new h up same (inl row) =
+      turns_back c p a b tier_view x stops epoch asked line cursor (top_of asked piece) (Log piece from span) result old new h row.1 (store_left old new same row.2)
+  log_turn c p a b tier_view x stops epoch asked line cursor from piece span result old new h up same (inr row) =
+      fetches c p a b tier_view x stops epoch asked line cursor from (Log piece from span) (fetch.Log piece span) (ends_with piece row.1.0) result old new h refl up (same, row.1.1)
       (searched_same b stops epoch cursor from piece span asked row.1.0 result row.1.2)
 
   -- all of them
@@ -353,6 +355,6 @@ module _ {S M : Type 0} (objects : S → store.Content) (calls : S → Control s
       (ap (λ (t : Tiers S M). (notes t.meta).notes) (sym row.0)) (ap (λ (t : Tiers S M). t.view) (sym row.0)) (ap (λ (t : Tiers S M). t.cache) (sym row.0))
       (times_turn c p a b tier_view x stops epoch asked line cursor piece result (notes old.meta) old.view old.cache old.store new.store _ h row.1)
   search_turns asked line cursor (Index piece from) result old new c p a b tier_view x stops epoch row below set h =
-      index_turn c p a b tier_view x stops epoch asked line cursor from piece result old new h set.0 row
+      index_turn c p a b tier_view x stops epoch asked line cursor from piece result old new h set.0 row.0 row.1
   search_turns asked line cursor (Log piece from span) result old new c p a b tier_view x stops epoch row below set h =
-      log_turn c p a b tier_view x stops epoch asked line cursor from piece span result old new h set.0 row
+      log_turn c p a b tier_view x stops epoch asked line cursor from piece span result old new h set.0 row.0 row.1

@@ -1,3 +1,3 @@
 mod Loading
-pub mod Kept
+mod Kept
 pub mod Past

@@ -15,6 +15,7 @@ use Rattle.std.specs.Prelude.{◌≡◌, ℕ, ◌+◌, ◌<◌, min, List, lengt
 use Rattle.std.specs.Prelude.{option_map, Option, Some, None, Ok, Err, IsErr}
 use Rattle.std.specs.declared.result.Result.{Result}
 use Rattle.std.specs.declared.alloc.AllocError.{AllocError}
+use Rattle.std.specs.Allocator.{alloc_error}
 use Rattle.tier_base.specs.declared.fault.Trouble.{Trouble}
 use Rattle.tier_base.specs.declared.fault.Trouble.TheVariants.{Failed, NoMemory}
 use Rattle.tier_base.specs.declared.names.PartitionId.{PartitionId}
@@ -45,6 +46,9 @@ use Rattle.plain_log.specs.declared.answer.Place.{Place}
 use Rattle.plain_log.specs.declared.answer.Place.TheVariants.{Key, Meta}
 use Rattle.plain_log.specs.declared.answer.Tier.{Tier}
 use Rattle.plain_log.specs.declared.answer.Tier.TheVariants.{Remote}
+use Rattle.tier_fetch.specs.declared.refusal.RemoteRefusal.{RemoteRefusal}
+use Rattle.tier_fetch.specs.declared.refusal.RemoteRefusal.TheVariants as refusal
+use Rattle.tier_fetch.specs.declared.reading.RemoteRun.{RemoteRun}
 use Rattle.tier_fetch.specs.declared.turn.FetchRequest.{FetchRequest}
 use Rattle.tier_fetch.specs.declared.turn.Span.{Span}
 use Rattle.tier_fetch.specs.declared.turn.FetchStep.{FetchStep}
@@ -69,6 +73,22 @@ GoesFor offset (Ends answer) = Unit {0}
 abbrev pub chosen : ℕ → Option Piece → Turn FetchStep
 chosen notes None = Ends (Damaged Meta notes)
 chosen notes (Some piece) = Goes (Index piece)
+
+-- what a task's turn comes to that couldn't read its segment
+abbrev pub refused : {N : Type 0} → RemoteRefusal → Result (Turn N) AllocError
+refused (refusal.Damaged place at) = Ok (Ends (Damaged place at))
+refused refusal.StoreFault = Ok (Ends StoreFault)
+refused refusal.NoMemory = Err alloc_error
+
+-- what a fetch's turn comes to with the bytes that an index has shown
+abbrev pub goes_with : Piece → Result Span RemoteRefusal → Result (Turn FetchStep) AllocError
+goes_with piece (Ok span) = Ok (Goes (Log piece span))
+goes_with piece (Err why) = refused why
+
+-- what it comes to with the run that was read
+abbrev pub ends_with : Piece → Result RemoteRun RemoteRefusal → Result (Turn FetchStep) AllocError
+ends_with piece (Ok run) = Ok (Ends (Run (Remote piece.id) (length run.bytes) run.stop run.bytes))
+ends_with piece (Err why) = refused why
 
 -- the base offset of a segment and where a part of it is, by its entry
 abbrev pub spot_in : PartitionId → SegmentId → Part → Option Entry → Option (ℕ × Spot)

@@ -1,3 +1,4 @@
 pub mod Dating
 pub mod Over
 pub mod LocalRuns
+pub mod Outcomes

@@ -22,6 +22,7 @@ use Rattle.tier_base.specs.declared.plain.Part.TheVariants as part
 use Rattle.tier_base.specs.Device.{Control, Went, Ran}
 use Rattle.log_terms.specs.Log.{joined, end_from}
 use Rattle.sparse_index.specs.Bytes.{bytes_of, IsNoIndex}
+use Rattle.index_cache.specs.Cache.{Cache, found}
 use Rattle.sparse_index.specs.Times.{TimeTable, AreMoments, moment_bytes, below_time}
 use Rattle.object_store.specs.declared.placing.Spot.{Spot}
 use Rattle.object_store.specs.Call as store_call
@@ -41,16 +42,16 @@ use Rattle.broker_log.specs.Read.{ReadsRun, Misreads}
 use Rattle.remote_view.specs.Fold.{EntriesSeen, entry_of}
 use Rattle.remote_find.specs.declared.piece.Piece.{Piece}
 use Rattle.view_refresh.specs.Refreshing.{Refreshed, Unread, Halted}
-use Rattle.plain_log.specs.declared.answer.Answer.TheVariants.{MetaFault, StoreFault, DiskFault, Damaged, Run, Offset}
+use Rattle.plain_log.specs.declared.answer.Answer.TheVariants.{MetaFault, StoreFault, DiskFault, Damaged, Offset}
 use Rattle.plain_log.specs.declared.answer.Place.TheVariants.{Key, Meta, File}
 use Rattle.plain_log.specs.RowsOfReads.{first_at}
 use Rattle.tier_fetch.specs.declared.turn.FetchRequest.{FetchRequest}
 use Rattle.tier_fetch.specs.declared.turn.Span.{Span}
-use Rattle.tier_fetch.specs.declared.turn.FetchStep.{FetchStep}
+use Rattle.tier_fetch.specs.declared.refusal.RemoteRefusal.{RemoteRefusal}
+use Rattle.tier_fetch.specs.declared.reading.RemoteRun.{RemoteRun}
 use Rattle.plain_log.specs.declared.turn.Turn.{Turn}
 use Rattle.plain_log.specs.declared.turn.Turn.TheVariants.{Goes, Ends}
-use Rattle.tier_fetch.specs.declared.turn.FetchStep.TheVariants as fetching
-use Rattle.tier_fetch.specs.Turns.{Tiers, RemoteFetchRow, spot_in}
+use Rattle.tier_fetch.specs.Turns.{Tiers, IndexRow, LogRow, spot_in, refused, goes_with, ends_with}
 use Rattle.time_find.specs.declared.turn.Asked.{Asked}
 use Rattle.time_find.specs.declared.turn.SearchStep.{SearchStep}
 use Rattle.time_find.specs.declared.turn.SearchStep.TheVariants.{Seek, Times as ReadsTimes, Index, Log}
@@ -140,23 +141,16 @@ wanted_at asked offset = record {
   mark = asked.mark;
 }
 
--- what becomes of a search by what a fetch's turn came to, of the segment's offset index
-abbrev pub Indexes : ℕ → Piece → ℕ → Result (Turn FetchStep) AllocError → Result (Turn (ℕ × SearchStep)) AllocError
-    → Type 0
-Indexes cursor piece from (Ok (Goes (fetching.Log found span))) result =
-    (found ≡ piece) × (result ≡ Ok (Goes (cursor, Log piece from span)))
-Indexes cursor piece from (Ok (Goes next)) result = ⊥
-Indexes cursor piece from (Ok (Ends answer)) result = result ≡ Ok (Ends answer)
-Indexes cursor piece from (Err e) result = IsErr result
+-- what becomes of a search by the bytes that the segment's offset index has shown
+abbrev pub Indexes : ℕ → Piece → ℕ → Result Span RemoteRefusal → Result (Turn (ℕ × SearchStep)) AllocError → Type 0
+Indexes cursor piece from (Ok span) result = result ≡ Ok (Goes (cursor, Log piece from span))
+Indexes cursor piece from (Err why) result = result ≡ refused why
 
--- by what it came to of the segment's log
-abbrev pub SearchTakes : Asked → ℕ → Result (Turn FetchStep) AllocError → Result (Turn (ℕ × SearchStep)) AllocError
-    → Type 0
-SearchTakes asked from (Ok (Ends (Run tier size stop bytes))) (Ok turn) = IsSearched asked from bytes turn
-SearchTakes asked from (Ok (Ends (Run tier size stop bytes))) (Err e) = ⊥
-SearchTakes asked from (Ok (Ends answer)) result = result ≡ Ok (Ends answer)
-SearchTakes asked from (Ok (Goes next)) result = ⊥
-SearchTakes asked from (Err e) result = IsErr result
+-- by the run that was read of the segment's log
+abbrev pub SearchTakes : Asked → ℕ → Result RemoteRun RemoteRefusal → Result (Turn (ℕ × SearchStep)) AllocError → Type 0
+SearchTakes asked from (Ok run) (Ok turn) = IsSearched asked from run.bytes turn
+SearchTakes asked from (Ok run) (Err e) = ⊥
+SearchTakes asked from (Err why) result = result ≡ refused why
 
 module _ {M : Type 0} (notes : M → meta.Content) (calls : M → Control meta_call.call_code) where
   -- remote segments that are too early are passed over
@@ -181,26 +175,28 @@ module _ {S : Type 0} (objects : S → store.Content) (calls : S → Control sto
   TimesRow asked cursor piece view None result old new = (result ≡ Ok (Ends (Damaged Meta view.notes))) × (new ≡ old)
   TimesRow asked cursor piece view (Some place) result old new = ReadsTimeIndex asked cursor piece place result old new
 
-module _ {S M : Type 0} (objects : S → store.Content) (calls : S → Control store_call.call_code)
-    (notes : M → meta.Content) (notings : M → Control meta_call.call_code) where
   -- the offset index is had as a fetch from this offset has it; none is where the known high watermark isn't past it
-  abbrev pub SearchIndexRow : Asked → List (ℕ × ℕ) → ℕ → Piece → ℕ → Result (Turn (ℕ × SearchStep)) AllocError
-      → Tiers S M → Tiers S M → Type 0
-  SearchIndexRow asked line cursor piece from result old new =
-      ((asked.mark ≤ from) × (result ≡ Ok (Goes (top_of asked piece, Seek))) × (new ≡ old))
-      ⊎ ((from < asked.mark) × ((turn : Result (Turn FetchStep) AllocError)
-      × RemoteFetchRow objects calls notes notings (wanted_at asked from) line (fetching.Index piece) turn old new
-      × Indexes cursor piece from turn result))
+  abbrev pub SearchIndexRow : Asked → ℕ → Piece → ℕ → EntriesSeen → Result (Turn (ℕ × SearchStep)) AllocError
+      → Cache → Cache → S → S → Type 0
+  SearchIndexRow asked cursor piece from view result cache cache' old new =
+      ((asked.mark ≤ from) × (result ≡ Ok (Goes (top_of asked piece, Seek))) × (cache' ≡ cache) × (new ≡ old))
+      ⊎ ((from < asked.mark) × ((read : Result Span RemoteRefusal)
+      × IndexRow objects calls (wanted_at asked from) piece view (goes_with piece read) (found piece.id.0 cache.pairs)
+      cache cache' old new
+      × Indexes cursor piece from read result))
 
   -- the log is read as that fetch reads it
-  abbrev pub SearchLogRow : Asked → List (ℕ × ℕ) → Piece → ℕ → Span → Result (Turn (ℕ × SearchStep)) AllocError
-      → Tiers S M → Tiers S M → Type 0
-  SearchLogRow asked line piece from span result old new =
+  abbrev pub SearchLogRow : Asked → Piece → ℕ → Span → EntriesSeen → Result (Turn (ℕ × SearchStep)) AllocError
+      → S → S → Type 0
+  SearchLogRow asked piece from span view result old new =
       ((asked.mark ≤ from) × (result ≡ Ok (Goes (top_of asked piece, Seek))) × (new ≡ old))
-      ⊎ ((from < asked.mark) × ((turn : Result (Turn FetchStep) AllocError)
-      × RemoteFetchRow objects calls notes notings (wanted_at asked from) line (fetching.Log piece span) turn old new
-      × SearchTakes asked from turn result))
+      ⊎ ((from < asked.mark) × ((read : Result RemoteRun RemoteRefusal)
+      × LogRow objects calls (wanted_at asked from) piece span view
+      (spot_in asked.partition piece.id part.Log (entry_of piece.id view.entries)) (ends_with piece read) old new
+      × SearchTakes asked from read result))
 
+module _ {S M : Type 0} (objects : S → store.Content) (calls : S → Control store_call.call_code)
+    (notes : M → meta.Content) (notings : M → Control meta_call.call_code) where
   -- a turn of a search among the remote segments, by what was next: what it came to, or that it ran out of memory
   abbrev pub TimeRow : Asked → List (ℕ × ℕ) → ℕ → SearchStep → Result (Turn (ℕ × SearchStep)) AllocError → Tiers S M
       → Tiers S M → Type 0
@@ -213,9 +209,11 @@ module _ {S M : Type 0} (objects : S → store.Content) (calls : S → Control s
       (spot_in asked.partition piece.id part.TimeIndex (entry_of piece.id old.view.entries))
       result old.store new.store
   TimeRow asked line cursor (Index piece from) result old new =
-      SearchIndexRow asked line cursor piece from result old new
+      (new ≡ record old { cache = new.cache; store = new.store })
+      × SearchIndexRow objects calls asked cursor piece from old.view result old.cache new.cache old.store new.store
   TimeRow asked line cursor (Log piece from span) result old new =
-      SearchLogRow asked line piece from span result old new
+      (new ≡ record old { store = new.store })
+      × SearchLogRow objects calls asked piece from span old.view result old.store new.store
 
 module _ {D : Type 0} (content : D → disk.Content) (control : D → Control disk_call.call_code) where
   -- a run was read at an offset, and was searched

@@ -1,6 +1,6 @@
 //! The turns of a timestamp lookup in the remote segments, at most one device call each.
 
-ghost use Rattle.std.specs.Prelude.{◌≡◌, ◌<◌, ◌≤◌, ◌^◌, Ok, IfOk, IfSome};
+ghost use Rattle.std.specs.Prelude.{◌≡◌, ◌<◌, ◌≤◌, ◌^◌, Ok, IfOk};
 ghost use Rattle.tier_base.specs.declared.plain.Part.TheVariants as part;
 ghost use Rattle.remote_view.specs.Fold.{entry_of};
 ghost use Rattle.plain_log.specs.declared.answer.Answer.TheVariants.{Damaged};
@@ -17,14 +17,14 @@ use bytes::Bytes;
 use epoch_line::Line;
 use index_cache::IndexCache;
 use meta_log::MetaLog;
-use object_store::{Spot, Store, get_spot, place};
+use object_store::{Spot, Store, get_spot};
 use plain_log::{Answer, Place, Turn};
 use remote_find::Piece;
 use remote_view::View;
 use sparse_index::{IndexRefusal, TimeIndex};
 use std::alloc::{AllocError, Global};
 use tier_base::{Part, Trouble};
-use tier_fetch::{FetchRequest, FetchStep as Fetch, Span, fetch_turn};
+use tier_fetch::{FetchRequest, Span, find_span, read_run, spot_in};
 use view_refresh::refresh;
 
 /// Takes the next turn of a lookup whose cursor is below the local log, or which is in a remote segment. `line` has the
@@ -51,12 +51,12 @@ pub fn time_turn<S: Store, M: MetaLog>(
     match next {
         SearchStep::Seek => refresh_and_seek(asked, cursor, line, view, meta),
         SearchStep::Times(piece) => times(alloc, asked, cursor, &piece, view, store),
-        SearchStep::Index(piece, from) => index(
-            alloc, asked, cursor, &piece, from, line, view, cache, store, meta,
-        ),
-        SearchStep::Log(piece, from, span) => log(
-            alloc, asked, cursor, &piece, from, span, line, view, cache, store, meta,
-        ),
+        SearchStep::Index(piece, from) => {
+            index(alloc, asked, cursor, &piece, from, view, cache, store)
+        }
+        SearchStep::Log(piece, from, span) => {
+            log(asked, cursor, &piece, from, span, view, store)
+        }
     }
 }
 
@@ -94,29 +94,6 @@ fn damaged(spot: &Spot, at: u64) -> Turn<(u64, SearchStep)>
     Turn::Ends(Answer::Damaged(Place::Key(spot.key), at))
 }
 
-/// The base offset of a piece's segment, and where its time index exists.
-fn spot_of(asked: &Asked, piece: &Piece, view: &View) -> Option<(u64, Spot)>
-    ensures spot { result ≡ spot_in asked.now.partition piece.now.id part.TimeIndex
-        (entry_of piece.now.id view.now.entries) }
-    ensures low { IfSome result (λ found. found.0 ≤ 2 ^ 62) }
-    ensures near { IfSome result (λ found. found.1.at < 2 ^ 34) }
-{
-    let _entries = view.entries();
-    let Some(entry) = view.entry(piece.id) else {
-        return None;
-    };
-    match place(
-        asked.partition,
-        piece.id,
-        entry.packed,
-        entry.custom.as_ref(),
-        Part::TimeIndex,
-    ) {
-        Some(spot) => Some((entry.start, spot)),
-        None => None,
-    }
-}
-
 /// Reads the time index of a piece's segment, which shows from where on its log is to be searched.
 fn times<S: Store>(
     alloc: Global,
@@ -133,7 +110,7 @@ fn times<S: Store>(
         store.old store.new }
     ensures goes { IfOk result (SearchContinues cursor) }
 {
-    let Some((base, spot)) = spot_of(asked, piece, view) else {
+    let Some((base, spot)) = spot_in(asked.partition, piece, view, Part::TimeIndex) else {
         return Ok(lost(view));
     };
     match get_spot(store, &spot) {
@@ -209,89 +186,56 @@ fn wanted_at(asked: &Asked, offset: u64) -> FetchRequest
     }
 }
 
-/// Has the offset index of a piece's segment, as a fetch has it.
-fn index<S: Store, M: MetaLog>(
+/// Has the offset index of a piece's segment show which bytes of its log are to be searched.
+fn index<S: Store>(
     alloc: Global,
     asked: &Asked,
     cursor: u64,
     piece: &Piece,
     from: u64,
-    line: &Line,
-    view: &mut View,
+    view: &View,
     cache: &mut IndexCache,
     store: &mut S,
-    meta: &mut M,
 ) -> Result<Turn<(u64, SearchStep)>, AllocError>
     requires mark { cursor < asked.now.mark }
     requires low { cursor ≤ from }
     requires holds { from < piece.now.to }
-    ensures row { SearchIndexRow S.content S.control M.content M.control asked.now line.now cursor piece.now from result
-        (record { view = view.old; cache = cache.old; store = store.old; meta = meta.old })
-        (record { view = view.new; cache = cache.new; store = store.new; meta = meta.new }) }
+    ensures row { SearchIndexRow S.content S.control asked.now cursor piece.now from view.now result
+        cache.old cache.new store.old store.new }
     ensures goes { IfOk result (SearchContinues cursor) }
 {
     if from >= asked.mark {
         return Ok(shown(asked, cursor, piece, from));
     }
     let wanted = wanted_at(asked, from);
-    let turn = fetch_turn(
-        alloc,
-        &wanted,
-        Fetch::Index(*piece),
-        line,
-        view,
-        cache,
-        store,
-        meta,
-    )?;
-    match turn {
-        Turn::Goes(Fetch::Log(piece, span)) => {
-            Ok(Turn::Goes((cursor, SearchStep::Log(piece, from, span))))
-        }
-        Turn::Ends(answer) => Ok(Turn::Ends(answer)),
-        Turn::Goes(_) => unreachable!(),
+    match find_span(alloc, &wanted, piece, view, cache, store) {
+        Ok(span) => Ok(Turn::Goes((cursor, SearchStep::Log(*piece, from, span)))),
+        Err(why) => why.turn(),
     }
 }
 
-/// Reads what is left of a piece's log, as a fetch reads it, and searches it.
-fn log<S: Store, M: MetaLog>(
-    alloc: Global,
+/// Reads what is left of a piece's log, and searches it.
+fn log<S: Store>(
     asked: &Asked,
     cursor: u64,
     piece: &Piece,
     from: u64,
     span: Span,
-    line: &Line,
-    view: &mut View,
-    cache: &mut IndexCache,
+    view: &View,
     store: &mut S,
-    meta: &mut M,
 ) -> Result<Turn<(u64, SearchStep)>, AllocError>
     requires mark { cursor < asked.now.mark }
     requires low { cursor ≤ from }
     requires holds { from < piece.now.to }
-    ensures row { SearchLogRow S.content S.control M.content M.control asked.now line.now piece.now from span result
-        (record { view = view.old; cache = cache.old; store = store.old; meta = meta.old })
-        (record { view = view.new; cache = cache.new; store = store.new; meta = meta.new }) }
+    ensures row { SearchLogRow S.content S.control asked.now piece.now from span view.now result store.old store.new }
     ensures goes { IfOk result (SearchContinues cursor) }
 {
     if from >= asked.mark {
         return Ok(Turn::Goes((piece.to.min(asked.mark), SearchStep::Seek)));
     }
     let wanted = wanted_at(asked, from);
-    let turn = fetch_turn(
-        alloc,
-        &wanted,
-        Fetch::Log(*piece, span),
-        line,
-        view,
-        cache,
-        store,
-        meta,
-    )?;
-    match turn {
-        Turn::Ends(Answer::Run { bytes, .. }) => Ok(search_run(bytes.as_slice(), asked, from)),
-        Turn::Ends(answer) => Ok(Turn::Ends(answer)),
-        Turn::Goes(_) => unreachable!(),
+    match read_run(&wanted, piece, span, view, store) {
+        Ok(run) => Ok(search_run(run.bytes.as_slice(), asked, from)),
+        Err(why) => why.turn(),
     }
 }

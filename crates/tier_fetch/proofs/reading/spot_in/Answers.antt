@@ -1,6 +1,6 @@
 use Rattle.std.proofs.Common.{sym, arith}
 use Rattle.tier_fetch.proofs.Kept.{entry_kept}
-use Rattle.tier_fetch.proofs.turns.spot_in.Goals as goal
+use Rattle.tier_fetch.proofs.reading.spot_in.Goals as goal
 
 pub returns-in-Some-place-clause-low : goal.returns-in-Some-place-clause-low
 returns-in-Some-place-clause-low c =

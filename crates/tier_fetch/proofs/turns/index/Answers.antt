@@ -1,6 +1,0 @@
-use Rattle.tier_fetch.proofs.Loading.{not_cached}
-use Rattle.tier_fetch.proofs.turns.index.Goals as goal
-
-pub returns-in-None-clause-row : goal.returns-in-None-clause-row
-returns-in-None-clause-row g c =
-    not_cached g.S.Store.content g.S.Store.control c.args.wanted.now c.args.piece.now c.args.view.now c.load.result _ c.args.cache.now _ c.load.new.cache c.args.store.now c.load.new.store c.in-None.ensures.span c.in-None.ensures.cache c.load.ensures.row

@@ -1,8 +1,0 @@
-use Rattle.std.proofs.Common.{sym, arith}
-use Rattle.tier_fetch.proofs.Kept.{entry_kept}
-use Rattle.time_find.proofs.turns.spot_of.Goals as goal
-
-pub returns-in-Some-place-clause-low : goal.returns-in-Some-place-clause-low
-returns-in-Some-place-clause-low c =
-    let kept = entry_kept c.args.piece.now.id c.args.view.now.entries c.in-Some.entry.now c.entries-entries.ensures.kept (sym c.in-Some.ensures) in
-    omega (arith, kept.ordered, kept.bounded)
