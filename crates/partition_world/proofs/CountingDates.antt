@@ -1,5 +1,5 @@
 -- What a turn of a timestamp lookup counts.
-use Rattle.std.proofs.Common.{◌≡◌, inl, inr, sym, ap, subst, refl, ℕ, List, Some, None, Option, Ok, Err, true, false}
+use Rattle.std.proofs.Common.{◌≡◌, inl, inr, sym, ap, subst, refl, ℕ, List, length, Some, None, Option, Ok, Err, true, false}
 use Rattle.std.specs.declared.result.Result.{Result}
 use Rattle.std.specs.declared.alloc.AllocError.{AllocError}
 use Rattle.tier_base.specs.Device.{Ran, fate_of}
@@ -13,21 +13,25 @@ use Rattle.object_store.specs.Place.{short_of}
 use Rattle.meta_log.specs.declared.log.MetaLog.{Ghosts as MetaGhosts}
 use Rattle.remote_view.specs.Fold.{EntriesSeen as View, entry_of}
 use Rattle.remote_find.specs.declared.piece.Piece.{Piece}
-use Rattle.tier_fetch.specs.declared.turn.FetchStep.{FetchStep}
 use Rattle.plain_log.specs.declared.turn.Turn.{Turn}
 use Rattle.plain_log.specs.declared.turn.Turn.TheVariants.{Goes, Ends}
 use Rattle.tier_fetch.specs.declared.turn.FetchStep.TheVariants as fetching
 use Rattle.tier_fetch.specs.declared.turn.Span.{Span}
-use Rattle.tier_fetch.specs.Turns.{Tiers, RemoteFetchRow, spot_in}
+use Rattle.tier_fetch.specs.declared.refusal.RemoteRefusal.{RemoteRefusal}
+use Rattle.tier_fetch.specs.declared.refusal.RemoteRefusal.TheVariants as refusal
+use Rattle.tier_fetch.specs.declared.reading.RemoteRun.{RemoteRun}
+use Rattle.tier_fetch.specs.Turns.{Tiers, RemoteFetchRow, spot_in, goes_with, ends_with}
 use Rattle.time_find.specs.declared.turn.Asked.{Asked}
 use Rattle.time_find.specs.declared.turn.SearchStep.{SearchStep}
 use Rattle.time_find.specs.declared.turn.SearchStep.TheVariants.{Seek, Times as ReadsTimes, Index, Log}
 use Rattle.time_find.specs.Passing.{Seeks}
 use Rattle.time_find.specs.Turns.{IsSearched, TimesBytes, Times, Indexes, SearchTakes, SeekRow, TimesRow, TimeRow, wanted_at}
+use Rattle.time_find.proofs.Outcomes.{store_left, cache_left}
 use Rattle.plain_log.specs.declared.answer.Answer.{Answer}
 use Rattle.plain_log.specs.declared.answer.Answer.TheVariants.{MetaFault, StoreFault, Damaged, Run, Offset}
 use Rattle.plain_log.specs.declared.answer.Place.TheVariants.{Meta}
-use Rattle.partition_world.specs.ActorStates.{date_outcome, fetch_outcome}
+use Rattle.plain_log.specs.declared.answer.Tier.TheVariants.{Remote}
+use Rattle.partition_world.specs.ActorStates.{date_outcome}
 use Rattle.partition_world.specs.declared.actor_state.Outcome.TheVariants.{Answers}
 use Rattle.partition_world.proofs.CountingCalls.{Clear, Counted, clear, still, store_went, meta_went, store_failed, meta_failed}
 use Rattle.partition_world.proofs.CountingSearches.{fetch_counts}
@@ -50,20 +54,6 @@ module _ {S M : Type 0} (store : StoreGhosts S) (meta : MetaGhosts M) where
   date_as : (turn after : Turn (ℕ × SearchStep)) (s s' : S) (m m' : M) → ◌≡◌ {A = Result (Turn (ℕ × SearchStep)) AllocError} (Ok turn) (Ok after) → Counted store meta (date_outcome after) s s' m m'
       → Counted store meta (date_outcome turn) s s' m m'
   date_as turn after s s' m m' is k = let same : turn ≡ after = cc (is) in subst (λ (t : Turn (ℕ × SearchStep)). Counted store meta (date_outcome t) s s' m m') (sym same) k
-
-  -- what a fetch's turn came to
-  indexes_counts : (cursor from : ℕ) (piece : Piece) (found : Turn FetchStep) (turn : Turn (ℕ × SearchStep)) (s s' : S) (m m' : M) → Indexes cursor piece from (Ok found) (Ok turn)
-      → Counted store meta (fetch_outcome found) s s' m m' → Counted store meta (date_outcome turn) s s' m m'
-  indexes_counts cursor from piece (Goes (fetching.Log same span)) turn s s' m m' w k = date_as turn (Goes (cursor, Log piece from span)) s s' m m' w.1 k
-  indexes_counts cursor from piece (Goes next) turn s s' m m' w k = elim w [ ]
-  indexes_counts cursor from piece (Ends answer) turn s s' m m' w k = date_as turn (Ends answer) s s' m m' w k
-
-  searches_counts : (asked : Asked) (from : ℕ) (found : Turn FetchStep) (turn : Turn (ℕ × SearchStep)) (s s' : S) (m m' : M) → SearchTakes asked from (Ok found) (Ok turn)
-      → Counted store meta (fetch_outcome found) s s' m m' → Counted store meta (date_outcome turn) s s' m m'
-  searches_counts asked from (Ends (Run tier size stop bytes)) turn s s' m m' w k =
-      clear store meta (date_outcome turn) s s' m m' (searched_clear asked from bytes turn w) k.1 k.2
-  searches_counts asked from (Ends answer) turn s s' m m' w k = date_as turn (Ends answer) s s' m m' w k
-  searches_counts asked from (Goes next) turn s s' m m' w k = elim w [ ]
 
   seek_counts : (asked : Asked) (line : List (ℕ × ℕ)) (cursor : ℕ) (turn : Turn (ℕ × SearchStep)) (before after : View) (s s' : S) (m m' : M) → s' ≡ s
       → SeekRow meta.content meta.control asked line cursor (Ok turn) before after m m' → Counted store meta (date_outcome turn) s s' m m'
@@ -103,19 +93,35 @@ module _ {S M : Type 0} (store : StoreGhosts S) (meta : MetaGhosts M) where
       still store meta (date_outcome turn) old.store new.store old.meta new.meta (date_clear turn (Goes (at, next)) is (refl, refl, refl))
       (ap (λ (t : Tiers S M). t.store) same) (ap (λ (t : Tiers S M). t.meta) same)
 
-  index_counts : (asked : Asked) (line : List (ℕ × ℕ)) (cursor from : ℕ) (piece : Piece) (found : Result (Turn FetchStep) AllocError) (turn : Turn (ℕ × SearchStep)) (old new : Tiers S M)
-      → RemoteFetchRow store.content store.control meta.content meta.control (wanted_at asked from) line (fetching.Index piece) found old new
-      → Indexes cursor piece from found (Ok turn) → Counts old new turn
-  index_counts asked line cursor from piece (Ok found) turn old new row w =
-      indexes_counts cursor from piece found turn old.store new.store old.meta new.meta w (fetch_counts store meta (wanted_at asked from) line (fetching.Index piece) found old new row)
-  index_counts asked line cursor from piece (Err e) turn old new row w = absurd (let no : false ≡ true = w in cc)
+  -- a fetch that reads the same counts the same
 
-  log_counts : (asked : Asked) (line : List (ℕ × ℕ)) (from : ℕ) (piece : Piece) (span : Span) (found : Result (Turn FetchStep) AllocError) (turn : Turn (ℕ × SearchStep)) (old new : Tiers S M)
-      → RemoteFetchRow store.content store.control meta.content meta.control (wanted_at asked from) line (fetching.Log piece span) found old new
-      → SearchTakes asked from found (Ok turn) → Counts old new turn
-  log_counts asked line from piece span (Ok found) turn old new row w =
-      searches_counts asked from found turn old.store new.store old.meta new.meta w (fetch_counts store meta (wanted_at asked from) line (fetching.Log piece span) found old new row)
-  log_counts asked line from piece span (Err e) turn old new row w = absurd (let no : false ≡ true = w in cc)
+  index_counts : (asked : Asked) (line : List (ℕ × ℕ)) (cursor from : ℕ) (piece : Piece) (read : Result Span RemoteRefusal) (turn : Turn (ℕ × SearchStep)) (old new : Tiers S M)
+      → RemoteFetchRow store.content store.control meta.content meta.control (wanted_at asked from) line (fetching.Index piece) (goes_with piece read) old new
+      → Indexes cursor piece from read (Ok turn) → Counts old new turn
+  index_counts asked line cursor from piece (Ok span) turn old new row w =
+      date_as turn (Goes (cursor, Log piece from span)) old.store new.store old.meta new.meta w
+      (fetch_counts store meta (wanted_at asked from) line (fetching.Index piece) (Goes (fetching.Log piece span)) old new row)
+  index_counts asked line cursor from piece (Err (refusal.Damaged place at)) turn old new row w =
+      date_as turn (Ends (Damaged place at)) old.store new.store old.meta new.meta w
+      (fetch_counts store meta (wanted_at asked from) line (fetching.Index piece) (Ends (Damaged place at)) old new row)
+  index_counts asked line cursor from piece (Err refusal.StoreFault) turn old new row w =
+      date_as turn (Ends StoreFault) old.store new.store old.meta new.meta w
+      (fetch_counts store meta (wanted_at asked from) line (fetching.Index piece) (Ends StoreFault) old new row)
+  index_counts asked line cursor from piece (Err refusal.NoMemory) turn old new row w = absurd (cc (w))
+
+  log_counts : (asked : Asked) (line : List (ℕ × ℕ)) (from : ℕ) (piece : Piece) (span : Span) (read : Result RemoteRun RemoteRefusal) (turn : Turn (ℕ × SearchStep)) (old new : Tiers S M)
+      → RemoteFetchRow store.content store.control meta.content meta.control (wanted_at asked from) line (fetching.Log piece span) (ends_with piece read) old new
+      → SearchTakes asked from read (Ok turn) → Counts old new turn
+  log_counts asked line from piece span (Ok run) turn old new row w =
+      let k = fetch_counts store meta (wanted_at asked from) line (fetching.Log piece span) (Ends (Run (Remote piece.id) (length run.bytes) run.stop run.bytes)) old new row in
+      clear store meta (date_outcome turn) old.store new.store old.meta new.meta (searched_clear asked from run.bytes turn w) k.1 k.2
+  log_counts asked line from piece span (Err (refusal.Damaged place at)) turn old new row w =
+      date_as turn (Ends (Damaged place at)) old.store new.store old.meta new.meta w
+      (fetch_counts store meta (wanted_at asked from) line (fetching.Log piece span) (Ends (Damaged place at)) old new row)
+  log_counts asked line from piece span (Err refusal.StoreFault) turn old new row w =
+      date_as turn (Ends StoreFault) old.store new.store old.meta new.meta w
+      (fetch_counts store meta (wanted_at asked from) line (fetching.Log piece span) (Ends StoreFault) old new row)
+  log_counts asked line from piece span (Err refusal.NoMemory) turn old new row w = absurd (cc (w))
 
   -- among the remote segments
   pub time_counts : (asked : Asked) (line : List (ℕ × ℕ)) (cursor : ℕ) (next : SearchStep) (turn : Turn (ℕ × SearchStep)) (old new : Tiers S M)
@@ -125,7 +131,7 @@ module _ {S M : Type 0} (store : StoreGhosts S) (meta : MetaGhosts M) where
   time_counts asked line cursor (ReadsTimes piece) turn old new w =
       times_counts asked cursor piece old.view (spot_in asked.partition piece.id part.TimeIndex (entry_of piece.id old.view.entries)) turn old.store new.store old.meta new.meta
       (ap (λ (t : Tiers S M). t.meta) w.0) w.1
-  time_counts asked line cursor (Index piece from) turn old new (inl w) = goes_counts old new turn _ Seek w.1 w.2
-  time_counts asked line cursor (Index piece from) turn old new (inr w) = index_counts asked line cursor from piece w.1.0 turn old new w.1.1 w.1.2
-  time_counts asked line cursor (Log piece from span) turn old new (inl w) = goes_counts old new turn _ Seek w.1 w.2
-  time_counts asked line cursor (Log piece from span) turn old new (inr w) = log_counts asked line from piece span w.1.0 turn old new w.1.1 w.1.2
+  time_counts asked line cursor (Index piece from) turn old new (same, inl w) = goes_counts old new turn _ Seek w.1 (cache_left old new same w.2 w.3)
+  time_counts asked line cursor (Index piece from) turn old new (same, inr w) = index_counts asked line cursor from piece w.1.0 turn old new (same, w.1.1) w.1.2
+  time_counts asked line cursor (Log piece from span) turn old new (same, inl w) = goes_counts old new turn _ Seek w.1 (store_left old new same w.2)
+  time_counts asked line cursor (Log piece from span) turn old new (same, inr w) = log_counts asked line from piece span w.1.0 turn old new (same, w.1.1) w.1.2

@@ -3,6 +3,7 @@ use Rattle.std.proofs.Common.{◌≡◌, ◌⊎◌, inl, inr, ap, refl, ℕ, Lis
 use Rattle.std.specs.Prelude.{IsSomeAnd}
 use Rattle.std.specs.declared.result.Result.{Result}
 use Rattle.std.specs.declared.alloc.AllocError.{AllocError}
+use Rattle.std.specs.Allocator.{alloc_error}
 use Rattle.tier_base.specs.Device.{Ran, RanQuietly, Dry, Went, fate_of}
 use Rattle.tier_base.specs.declared.fault.Trouble.{Trouble}
 use Rattle.tier_base.specs.declared.fault.Trouble.TheVariants.{Failed, NoMemory}
@@ -26,9 +27,10 @@ use Rattle.copy_task.specs.Copying.{Copied, keys}
 use Rattle.copy_task.specs.Turns.{Tiers, PutObjectRow, CopyTurnRow}
 use Rattle.copy_task.specs.declared.turn.CopyStep.{CopyStep}
 use Rattle.copy_task.specs.declared.turn.CopyStep.TheVariants.{Start, Put, Finish, Check, Delete}
-use Rattle.tier_fetch.specs.Turns.{Tiers as Fetched, RemoteFetchRow, IndexRow, LoadRow, LogRow, Loads, CutsRunOut, spot_in}
-use Rattle.plain_log.specs.declared.turn.Turn.{Turn}
-use Rattle.plain_log.specs.declared.turn.Turn.TheVariants as fetch
+use Rattle.tier_fetch.specs.declared.refusal.RemoteRefusal.{RemoteRefusal}
+use Rattle.tier_fetch.specs.declared.refusal.RemoteRefusal.TheVariants as refusal
+use Rattle.tier_fetch.specs.declared.reading.RemoteRun.{RemoteRun}
+use Rattle.tier_fetch.specs.Turns.{Tiers as Fetched, RemoteFetchRow, IndexRow, LoadRow, LogRow, Loads, CutsRunOut, spot_in, goes_with, ends_with}
 use Rattle.tier_fetch.specs.declared.turn.FetchStep.{FetchStep as Search}
 use Rattle.tier_fetch.specs.declared.turn.FetchStep.TheVariants as fetching
 use Rattle.tier_fetch.specs.declared.turn.Span.{Span}
@@ -44,7 +46,6 @@ use Rattle.expiry_task.specs.declared.turn.DeletionStep.TheVariants as deletion
 use Rattle.expiry_task.specs.Turns as expiring
 use Rattle.rebuild_task.specs.declared.turn.RebuildRequest.{RebuildRequest as Rebuilt}
 use Rattle.rebuild_task.specs.Turns.{TakesEpochs, EpochsRow, RebuildRow}
-use Rattle.plain_log.specs.declared.answer.Answer.TheVariants.{Run}
 use Rattle.partition_commands.specs.declared.partition_state.Node.{Node}
 use Rattle.partition_commands.specs.declared.partition_state.PartitionState.{PartitionState}
 use Rattle.partition_commands.specs.Disks.{HaveDisks, NoneFails}
@@ -63,18 +64,6 @@ use Rattle.partition_world.specs.TurnsOfRebuild.{wanted_of as rebuilt_to}
 use Rattle.partition_world.specs.Whole.{Whole}
 use Rattle.partition_world.proofs.CountingCalls.{StoreStill, MetaStill, store_still, meta_still}
 use Rattle.partition_world.proofs.Halting.{HaltsSome, StaysSome, stays_some}
-
--- no offset index is read in vain where the fetch's turn came to something
-no_index : (cursor from : ℕ) (piece : Piece) (turn : Turn Search) (e : AllocError) → Indexes cursor piece from (Ok turn) (Err e) → ⊥
-no_index cursor from piece (fetch.Goes (fetching.Log same span)) e w = let is = w.1 in cc (is)
-no_index cursor from piece (fetch.Goes next) e w = elim w [ ]
-no_index cursor from piece (fetch.Ends answer) e w = cc (w)
-
--- nor a log
-no_search : (asked : Asked) (from : ℕ) (turn : Turn Search) (e : AllocError) → SearchTakes asked from (Ok turn) (Err e) → ⊥
-no_search asked from (fetch.Ends (Run tier size stop bytes)) e w = w
-no_search asked from (fetch.Ends answer) e w = cc (w)
-no_search asked from (fetch.Goes next) e w = w
 
 module _ {S M : Type 0} (store : StoreGhosts S) (meta : MetaGhosts M) where
   -- one read of the store
@@ -186,48 +175,38 @@ module _ {S M : Type 0} (store : StoreGhosts S) (meta : MetaGhosts M) where
   fetch_meta wanted line (fetching.Index piece) e old new w = meta_still store meta old.meta new.meta (ap (λ (t : Fetched S M). t.meta) w.0)
   fetch_meta wanted line (fetching.Log piece span) e old new w = meta_still store meta old.meta new.meta (ap (λ (t : Fetched S M). t.meta) w.0)
 
-  index_store : (asked : Asked) (line : List (ℕ × ℕ)) (cursor : ℕ) (piece : Piece) (from : ℕ) (turn : Result (Turn Search) AllocError) (e : AllocError) (old new : Fetched S M)
-      → RemoteFetchRow store.content store.control meta.content meta.control (wanted_at asked from) line (fetching.Index piece) turn old new
-      → Indexes cursor piece from turn (Err e) → StoreStill store meta old.store new.store
-  index_store asked line cursor piece from (Ok turn) e old new row w = absurd (no_index cursor from piece turn e w)
-  index_store asked line cursor piece from (Err k) e old new row w = fetch_store (wanted_at asked from) line (fetching.Index piece) k old new row
+  index_store : (asked : Asked) (line : List (ℕ × ℕ)) (cursor : ℕ) (piece : Piece) (from : ℕ) (read : Result Span RemoteRefusal) (e : AllocError) (old new : Fetched S M)
+      → RemoteFetchRow store.content store.control meta.content meta.control (wanted_at asked from) line (fetching.Index piece) (goes_with piece read) old new
+      → Indexes cursor piece from read (Err e) → StoreStill store meta old.store new.store
+  index_store asked line cursor piece from (Ok span) e old new row w = absurd (cc (w))
+  index_store asked line cursor piece from (Err (refusal.Damaged place at)) e old new row w = absurd (cc (w))
+  index_store asked line cursor piece from (Err refusal.StoreFault) e old new row w = absurd (cc (w))
+  index_store asked line cursor piece from (Err refusal.NoMemory) e old new row w = fetch_store (wanted_at asked from) line (fetching.Index piece) alloc_error old new row
 
-  log_store : (asked : Asked) (line : List (ℕ × ℕ)) (piece : Piece) (from : ℕ) (span : Span) (turn : Result (Turn Search) AllocError) (e : AllocError) (old new : Fetched S M)
-      → RemoteFetchRow store.content store.control meta.content meta.control (wanted_at asked from) line (fetching.Log piece span) turn old new
-      → SearchTakes asked from turn (Err e) → StoreStill store meta old.store new.store
-  log_store asked line piece from span (Ok turn) e old new row w = absurd (no_search asked from turn e w)
-  log_store asked line piece from span (Err k) e old new row w = fetch_store (wanted_at asked from) line (fetching.Log piece span) k old new row
+  log_store : (asked : Asked) (line : List (ℕ × ℕ)) (piece : Piece) (from : ℕ) (span : Span) (read : Result RemoteRun RemoteRefusal) (e : AllocError) (old new : Fetched S M)
+      → RemoteFetchRow store.content store.control meta.content meta.control (wanted_at asked from) line (fetching.Log piece span) (ends_with piece read) old new
+      → SearchTakes asked from read (Err e) → StoreStill store meta old.store new.store
+  log_store asked line piece from span (Ok run) e old new row w = absurd w
+  log_store asked line piece from span (Err (refusal.Damaged place at)) e old new row w = absurd (cc (w))
+  log_store asked line piece from span (Err refusal.StoreFault) e old new row w = absurd (cc (w))
+  log_store asked line piece from span (Err refusal.NoMemory) e old new row w = fetch_store (wanted_at asked from) line (fetching.Log piece span) alloc_error old new row
 
   time_store : (asked : Asked) (line : List (ℕ × ℕ)) (cursor : ℕ) (next : Dating) (e : AllocError) (old new : Fetched S M)
       → TimeRow store.content store.control meta.content meta.control asked line cursor next (Err e) old new → StoreStill store meta old.store new.store
   time_store asked line cursor dating.Seek e old new w = store_still store meta old.store new.store (ap (λ (t : Fetched S M). t.store) w.0)
   time_store asked line cursor (dating.Times piece) e old new w =
       times_dry asked cursor piece old.view (spot_in asked.partition piece.id part.TimeIndex (entry_of piece.id old.view.entries)) e old.store new.store w.1
-  time_store asked line cursor (dating.Index piece from) e old new (inl w) = let is = w.1 in absurd (cc (is))
-  time_store asked line cursor (dating.Index piece from) e old new (inr w) = index_store asked line cursor piece from w.1.0 e old new w.1.1 w.1.2
-  time_store asked line cursor (dating.Log piece from span) e old new (inl w) = let is = w.1 in absurd (cc (is))
-  time_store asked line cursor (dating.Log piece from span) e old new (inr w) = log_store asked line piece from span w.1.0 e old new w.1.1 w.1.2
-
-  index_meta : (asked : Asked) (line : List (ℕ × ℕ)) (cursor : ℕ) (piece : Piece) (from : ℕ) (turn : Result (Turn Search) AllocError) (e : AllocError) (old new : Fetched S M)
-      → RemoteFetchRow store.content store.control meta.content meta.control (wanted_at asked from) line (fetching.Index piece) turn old new
-      → Indexes cursor piece from turn (Err e) → MetaStill store meta old.meta new.meta
-  index_meta asked line cursor piece from (Ok turn) e old new row w = absurd (no_index cursor from piece turn e w)
-  index_meta asked line cursor piece from (Err k) e old new row w = fetch_meta (wanted_at asked from) line (fetching.Index piece) k old new row
-
-  log_meta : (asked : Asked) (line : List (ℕ × ℕ)) (piece : Piece) (from : ℕ) (span : Span) (turn : Result (Turn Search) AllocError) (e : AllocError) (old new : Fetched S M)
-      → RemoteFetchRow store.content store.control meta.content meta.control (wanted_at asked from) line (fetching.Log piece span) turn old new
-      → SearchTakes asked from turn (Err e) → MetaStill store meta old.meta new.meta
-  log_meta asked line piece from span (Ok turn) e old new row w = absurd (no_search asked from turn e w)
-  log_meta asked line piece from span (Err k) e old new row w = fetch_meta (wanted_at asked from) line (fetching.Log piece span) k old new row
+  time_store asked line cursor (dating.Index piece from) e old new (same, inl w) = let is = w.1 in absurd (cc (is))
+  time_store asked line cursor (dating.Index piece from) e old new (same, inr w) = index_store asked line cursor piece from w.1.0 e old new (same, w.1.1) w.1.2
+  time_store asked line cursor (dating.Log piece from span) e old new (same, inl w) = let is = w.1 in absurd (cc (is))
+  time_store asked line cursor (dating.Log piece from span) e old new (same, inr w) = log_store asked line piece from span w.1.0 e old new (same, w.1.1) w.1.2
 
   time_meta : (asked : Asked) (line : List (ℕ × ℕ)) (cursor : ℕ) (next : Dating) (e : AllocError) (old new : Fetched S M)
       → TimeRow store.content store.control meta.content meta.control asked line cursor next (Err e) old new → MetaStill store meta old.meta new.meta
   time_meta asked line cursor dating.Seek e old new w = halted_dry old.view new.view old.meta new.meta w.1
   time_meta asked line cursor (dating.Times piece) e old new w = meta_still store meta old.meta new.meta (ap (λ (t : Fetched S M). t.meta) w.0)
-  time_meta asked line cursor (dating.Index piece from) e old new (inl w) = let is = w.1 in absurd (cc (is))
-  time_meta asked line cursor (dating.Index piece from) e old new (inr w) = index_meta asked line cursor piece from w.1.0 e old new w.1.1 w.1.2
-  time_meta asked line cursor (dating.Log piece from span) e old new (inl w) = let is = w.1 in absurd (cc (is))
-  time_meta asked line cursor (dating.Log piece from span) e old new (inr w) = log_meta asked line piece from span w.1.0 e old new w.1.1 w.1.2
+  time_meta asked line cursor (dating.Index piece from) e old new w = meta_still store meta old.meta new.meta (ap (λ (t : Fetched S M). t.meta) w.0)
+  time_meta asked line cursor (dating.Log piece from span) e old new w = meta_still store meta old.meta new.meta (ap (λ (t : Fetched S M). t.meta) w.0)
 
   expiry_store : (segment : ExpiredSegment) (origin : EventOrigin) (next : Deletion) (e : AllocError) (old new : expiring.Tiers S M)
       → expiring.ExpiryRow store.content store.control meta.content meta.control segment origin next (Err e) old new → StoreStill store meta old.store new.store

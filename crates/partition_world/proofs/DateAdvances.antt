@@ -16,13 +16,14 @@ use Rattle.broker_log.specs.Seen.{LogState}
 use Rattle.remote_view.specs.Fold.{EntriesSeen as View, entry_of}
 use Rattle.remote_find.specs.declared.piece.Piece.{Piece}
 use Rattle.tier_fetch.specs.Turns.{Tiers as Fetched, spot_in}
-use Rattle.tier_fetch.specs.declared.turn.FetchStep.{FetchStep}
+use Rattle.tier_fetch.specs.declared.turn.Span.{Span}
+use Rattle.tier_fetch.specs.declared.refusal.RemoteRefusal.{RemoteRefusal}
+use Rattle.tier_fetch.specs.declared.reading.RemoteRun.{RemoteRun}
 use Rattle.plain_log.specs.declared.turn.Turn.{Turn}
-use Rattle.plain_log.specs.declared.turn.Turn.TheVariants.{Goes, Ends}
-use Rattle.tier_fetch.specs.declared.turn.FetchStep.TheVariants as fetching
-use Rattle.plain_log.specs.declared.answer.Answer.TheVariants.{Run}
+use Rattle.plain_log.specs.declared.turn.Turn.TheVariants.{Goes}
 use Rattle.time_find.specs.Passing.{Seeks, top_of}
 use Rattle.time_find.specs.Turns.{SearchContinues, IsSearched, TimesBytes, Times, Indexes, SearchTakes, TimesRow, TimeRow, LocalSearchRow}
+use Rattle.time_find.proofs.Outcomes.{never_goes}
 use Rattle.time_find.specs.declared.turn.Asked.{Asked}
 use Rattle.time_find.specs.declared.turn.SearchStep.{SearchStep}
 use Rattle.time_find.specs.declared.turn.SearchStep.TheVariants as search
@@ -83,20 +84,15 @@ times_rises asked cursor piece base spot (Ok (Some bytes)) at next w = by (short
     by (Some end) w = absurd (cc (w))
     by None w = shown_rises (nat_lt _ (top_of asked piece)) piece _ cursor (top_of asked piece) at next w.turn_is
 
-indexes_rises : (cursor : ℕ) (piece : Piece) (from : ℕ) (found : Result (Turn FetchStep) AllocError) (at : ℕ) (next : SearchStep)
-    → Indexes cursor piece from found (Ok (Goes (at, next))) → Rises (search.Index piece from) next
-indexes_rises cursor piece from (Ok (Goes (fetching.Log same span))) at next w =
-    rises_to (search.Index piece from) next (search.Log piece from span) at cursor w.1 (omega arith)
-indexes_rises cursor piece from (Ok (Goes other)) at next w = elim w [ ]
-indexes_rises cursor piece from (Ok (Ends answer)) at next w = absurd (cc (w))
-indexes_rises cursor piece from (Err e) at next w = absurd (let no : false ≡ true = w in cc)
+indexes_rises : (cursor : ℕ) (piece : Piece) (from : ℕ) (read : Result Span RemoteRefusal) (at : ℕ) (next : SearchStep)
+    → Indexes cursor piece from read (Ok (Goes (at, next))) → Rises (search.Index piece from) next
+indexes_rises cursor piece from (Ok span) at next w = rises_to (search.Index piece from) next (search.Log piece from span) at cursor w (omega arith)
+indexes_rises cursor piece from (Err why) at next w = absurd (never_goes why at next w)
 
-searches_rises : (before next : SearchStep) (asked : Asked) (from : ℕ) (found : Result (Turn FetchStep) AllocError) (at : ℕ)
-    → SearchTakes asked from found (Ok (Goes (at, next))) → Rises before next
-searches_rises before next asked from (Ok (Ends (Run tier size stop bytes))) at w = searched_rises before next asked from bytes at w
-searches_rises before next asked from (Ok (Ends answer)) at w = absurd (cc (w))
-searches_rises before next asked from (Ok (Goes other)) at w = elim w [ ]
-searches_rises before next asked from (Err e) at w = absurd (let no : false ≡ true = w in cc)
+searches_rises : (before next : SearchStep) (asked : Asked) (from : ℕ) (read : Result RemoteRun RemoteRefusal) (at : ℕ)
+    → SearchTakes asked from read (Ok (Goes (at, next))) → Rises before next
+searches_rises before next asked from (Ok run) at w = searched_rises before next asked from run.bytes at w
+searches_rises before next asked from (Err why) at w = absurd (never_goes why at next w)
 
 module _ {D : Type 0} (disk : DiskGhosts D) where
   -- a turn in the local log
@@ -122,12 +118,12 @@ module _ {S M : Type 0} (store : StoreGhosts S) (meta : MetaGhosts M) where
   time_rises asked line cursor (search.Times piece) next at old new w =
       let place = spot_in asked.partition piece.id part.TimeIndex (entry_of piece.id old.view.entries) in
       times_row_rises asked cursor piece old.view place at next old.store new.store w.1
-  time_rises asked line cursor (search.Index piece from) next at old new (inl w) =
+  time_rises asked line cursor (search.Index piece from) next at old new (same, inl w) =
       rises_to (search.Index piece from) next search.Seek at (top_of asked piece) w.1 tt
-  time_rises asked line cursor (search.Index piece from) next at old new (inr w) = indexes_rises cursor piece from w.1.0 at next w.1.2
-  time_rises asked line cursor (search.Log piece from span) next at old new (inl w) =
+  time_rises asked line cursor (search.Index piece from) next at old new (same, inr w) = indexes_rises cursor piece from w.1.0 at next w.1.2
+  time_rises asked line cursor (search.Log piece from span) next at old new (same, inl w) =
       rises_to (search.Log piece from span) next search.Seek at (top_of asked piece) w.1 tt
-  time_rises asked line cursor (search.Log piece from span) next at old new (inr w) =
+  time_rises asked line cursor (search.Log piece from span) next at old new (same, inr w) =
       searches_rises (search.Log piece from span) next asked from w.1.0 at w.1.2
 
 -- how many turns a search has taken at most that has come to a cursor with this: four for each offset that it has passed

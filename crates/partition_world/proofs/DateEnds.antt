@@ -1,5 +1,5 @@
 -- What a turn of a timestamp lookup returns, and what it leaves of the devices.
-use Rattle.std.proofs.Common.{◌≡◌, inl, inr, ap, sym, subst, ℕ, true, false, List, Option, Some, None, Ok, Err}
+use Rattle.std.proofs.Common.{◌≡◌, inl, inr, ap, sym, subst, ℕ, List, Option, Some, None, Ok, Err}
 use Rattle.std.specs.declared.result.Result.{Result}
 use Rattle.std.specs.declared.alloc.AllocError.{AllocError}
 use mathlib.Core.Path.{fun_ext}
@@ -11,22 +11,21 @@ use Rattle.object_store.specs.declared.placing.Spot.{Spot}
 use Rattle.object_store.specs.Place.{short_of}
 use Rattle.meta_log.specs.declared.log.MetaLog.{Ghosts as MetaGhosts}
 use Rattle.disk_model.specs.declared.disk.Disk.{Ghosts as DiskGhosts}
-use Rattle.sparse_index.specs.Offsets.{OffsetTable}
-use Rattle.index_cache.specs.Cache.{Cache, found}
+use Rattle.index_cache.specs.Cache.{Cache}
 use Rattle.broker_log.specs.Seen.{LogState, closed_in}
 use Rattle.remote_view.specs.Fold.{EntriesSeen as View, entry_of}
 use Rattle.remote_find.specs.declared.piece.Piece.{Piece}
 use Rattle.plain_log.specs.declared.answer.Answer.{Answer}
 use Rattle.plain_log.specs.declared.answer.Place.TheVariants.{Key, Meta, File}
-use Rattle.plain_log.specs.declared.answer.Answer.TheVariants.{MetaFault, StoreFault, DiskFault, Damaged, Run, Offset}
-use Rattle.tier_fetch.specs.declared.turn.FetchStep.{FetchStep}
+use Rattle.plain_log.specs.declared.answer.Answer.TheVariants.{MetaFault, StoreFault, DiskFault, Damaged, Offset}
 use Rattle.plain_log.specs.declared.turn.Turn.{Turn}
-use Rattle.plain_log.specs.declared.turn.Turn.TheVariants.{Goes, Ends}
+use Rattle.plain_log.specs.declared.turn.Turn.TheVariants.{Ends}
 use Rattle.tier_fetch.specs.declared.turn.FetchStep.TheVariants as fetching
 use Rattle.tier_fetch.specs.declared.turn.Span.{Span}
-use Rattle.tier_fetch.specs.declared.turn.FetchRequest.{FetchRequest}
-use Rattle.tier_fetch.specs.Turns.{spot_in, LoadsBytes, Loads, LoadRow, RemoteFetchRow, Tiers}
-use Rattle.tier_fetch.specs.Turns as rows
+use Rattle.tier_fetch.specs.declared.refusal.RemoteRefusal.{RemoteRefusal}
+use Rattle.tier_fetch.specs.declared.refusal.RemoteRefusal.TheVariants as refusal
+use Rattle.tier_fetch.specs.declared.reading.RemoteRun.{RemoteRun}
+use Rattle.tier_fetch.specs.Turns.{spot_in, RemoteFetchRow, Tiers, refused, goes_with, ends_with}
 use Rattle.time_find.specs.declared.turn.Asked.{Asked}
 use Rattle.time_find.specs.declared.turn.SearchStep.{SearchStep}
 use Rattle.time_find.specs.declared.turn.SearchStep.TheVariants.{Seek, Times as ReadsTimes, Index, Log}
@@ -46,9 +45,9 @@ use Rattle.time_find.specs.Turns.{
   ReadLocalRow,
   LocalSearchRow,
 }
+use Rattle.time_find.proofs.Outcomes.{store_left, cache_left}
 use Rattle.partition_world.proofs.CopyEnds.{TellsOn}
-use Rattle.partition_world.proofs.FetchEnds.{StoreStays, Dries, fetch_ends, fetch_tells, fetch_dry}
-use Rattle.partition_world.proofs.FetchEnds as fetches
+use Rattle.partition_world.proofs.FetchEnds.{StoreStays, Dries, fetch_tells, fetch_dry}
 
 -- what one among the remote segments may be answered
 abbrev pub MayEnd : Answer → Type 0
@@ -85,26 +84,12 @@ times_ends asked cursor piece base spot (Ok (Some bytes)) answer w = by (short_o
     by (Some end) w = let e : answer ≡ Damaged (Key spot.key) end = cc (w) in subst MayEnd (sym e) tt
     by None w = subst MayEnd (sym w.0) tt
 
-loads_ends : (wanted : FetchRequest) (piece : Piece) (base : ℕ) (spot : Spot) (given : Result (Option (List ℕ)) Trouble) (answer : Answer)
-    (old new : Cache) → Loads wanted piece base spot given (Ok (Ends answer)) old new → MayEnd answer
-loads_ends wanted piece base spot (Err Failed) answer old new w = let e : answer ≡ StoreFault = cc (w.0) in subst MayEnd (sym e) tt
-loads_ends wanted piece base spot (Err NoMemory) answer old new w = let no = w.0 in absurd (cc (no))
-loads_ends wanted piece base spot (Ok None) answer old new w =
-    let e : answer ≡ Damaged (Key spot.key) 0 = cc (w.0) in subst MayEnd (sym e) tt
-loads_ends wanted piece base spot (Ok (Some bytes)) answer old new w = by (short_of spot bytes) w
-  where
-    by : (end : Option ℕ) → LoadsBytes end wanted piece base spot bytes (Ok (Ends answer)) old new → MayEnd answer
-    by (Some end) w = let e : answer ≡ Damaged (Key spot.key) end = cc (w.0) in subst MayEnd (sym e) tt
-    by None w = subst MayEnd (sym w.0) tt
-
--- by what a fetch's turn came to, of the segment's log
-searches_ends : (asked : Asked) (from : ℕ) (told answer : Answer) → fetches.MayEnd told
-    → SearchTakes asked from (Ok (Ends told)) (Ok (Ends answer)) → MayEnd answer
-searches_ends asked from MetaFault answer may w = let e : answer ≡ MetaFault = cc (w) in subst MayEnd (sym e) tt
-searches_ends asked from StoreFault answer may w = let e : answer ≡ StoreFault = cc (w) in subst MayEnd (sym e) tt
-searches_ends asked from (Damaged place at) answer may w = let e : answer ≡ Damaged place at = cc (w) in subst MayEnd (sym e) tt
-searches_ends asked from (Run tier size stop bytes) answer may w = searched_ends asked from bytes answer w
-searches_ends asked from other answer may w = absurd may
+-- by why a segment wasn't read
+refused_ends : (why : RemoteRefusal) (answer : Answer) → ◌≡◌ {A = Result (Turn (ℕ × SearchStep)) AllocError} (Ok (Ends answer)) (refused why)
+    → MayEnd answer
+refused_ends (refusal.Damaged place at) answer w = let e : answer ≡ Damaged place at = cc (w) in subst MayEnd (sym e) tt
+refused_ends refusal.StoreFault answer w = let e : answer ≡ StoreFault = cc (w) in subst MayEnd (sym e) tt
+refused_ends refusal.NoMemory answer w = absurd (cc (w))
 
 module _ {S M : Type 0} (store : StoreGhosts S) (meta : MetaGhosts M) (asked : Asked) (line : List (ℕ × ℕ)) where
   seek_ends : (cursor : ℕ) (answer : Answer) (before after : View) (old new : M)
@@ -117,51 +102,24 @@ module _ {S M : Type 0} (store : StoreGhosts S) (meta : MetaGhosts M) (asked : A
   timed_ends cursor piece view None answer old new w = let e : answer ≡ Damaged Meta view.notes = cc (w.0) in subst MayEnd (sym e) tt
   timed_ends cursor piece view (Some place) answer old new w = times_ends asked cursor piece place.0 place.1 w.answer answer w.times
 
-  load_ends : (wanted : FetchRequest) (piece : Piece) (view : View) (place : Option (ℕ × Spot)) (answer : Answer) (cache cache' : Cache)
-      (old new : S)
-      → LoadRow store.content store.control wanted piece view place (Ok (Ends answer)) cache cache' old new → MayEnd answer
-  load_ends wanted piece view None answer cache cache' old new w =
-      let e : answer ≡ Damaged Meta view.notes = cc (w.0) in subst MayEnd (sym e) tt
-  load_ends wanted piece view (Some place) answer cache cache' old new w =
-      loads_ends wanted piece place.0 place.1 w.answer answer cache cache' w.loads
+  indexes_ends : (cursor from : ℕ) (piece : Piece) (answer : Answer) (read : Result Span RemoteRefusal)
+      → Indexes cursor piece from read (Ok (Ends answer)) → MayEnd answer
+  indexes_ends cursor from piece answer (Ok span) k = absurd (cc (k))
+  indexes_ends cursor from piece answer (Err why) k = refused_ends why answer k
 
-  cached_ends : (wanted : FetchRequest) (piece : Piece) (view : View) (answer : Answer) (held : Option OffsetTable) (cache cache' : Cache)
-      (old new : S)
-      → rows.IndexRow store.content store.control wanted piece view (Ok (Ends answer)) held cache cache' old new → MayEnd answer
-  cached_ends wanted piece view answer (Some index) cache cache' old new w = let e = w.0 in absurd (cc (e))
-  cached_ends wanted piece view answer None cache cache' old new w =
-      load_ends wanted piece view (spot_in wanted.partition piece.id part.Index (entry_of piece.id view.entries)) answer cache cache' old
-      new w
+  logs_ends : (from : ℕ) (answer : Answer) (read : Result RemoteRun RemoteRefusal) → SearchTakes asked from read (Ok (Ends answer)) → MayEnd answer
+  logs_ends from answer (Ok run) k = searched_ends asked from run.bytes answer k
+  logs_ends from answer (Err why) k = refused_ends why answer k
 
-  indexes_ends : (cursor from : ℕ) (piece : Piece) (answer : Answer) (turn : Result (Turn FetchStep) AllocError) (old new : Tiers S M)
-      → RemoteFetchRow store.content store.control meta.content meta.control (wanted_at asked from) line (fetching.Index piece) turn old new
-      → Indexes cursor piece from turn (Ok (Ends answer)) → MayEnd answer
-  indexes_ends cursor from piece answer (Ok (Goes (fetching.Log p span))) old new row k = let e = k.1 in absurd (cc (e))
-  indexes_ends cursor from piece answer (Ok (Goes next)) old new row k = absurd k
-  indexes_ends cursor from piece answer (Ok (Ends told)) old new row k =
-      let e : answer ≡ told = cc (k) in
-      subst MayEnd (sym e) (cached_ends (wanted_at asked from) piece old.view told (found piece.id.0 old.cache.pairs) old.cache new.cache
-      old.store new.store row.1)
-  indexes_ends cursor from piece answer (Err e) old new row k = absurd (let no : false ≡ true = k in cc)
+  index_ends : (cursor from : ℕ) (piece : Piece) (view : View) (answer : Answer) (cache cache' : Cache) (old new : S)
+      → SearchIndexRow store.content store.control asked cursor piece from view (Ok (Ends answer)) cache cache' old new → MayEnd answer
+  index_ends cursor from piece view answer cache cache' old new (inl (low, is, same)) = absurd (cc (is))
+  index_ends cursor from piece view answer cache cache' old new (inr (high, (read, row, k))) = indexes_ends cursor from piece answer read k
 
-  logs_ends : (from : ℕ) (piece : Piece) (span : Span) (answer : Answer) (turn : Result (Turn FetchStep) AllocError) (old new : Tiers S M)
-      → RemoteFetchRow store.content store.control meta.content meta.control (wanted_at asked from) line (fetching.Log piece span) turn old new
-      → SearchTakes asked from turn (Ok (Ends answer)) → MayEnd answer
-  logs_ends from piece span answer (Ok (Goes next)) old new row k = absurd k
-  logs_ends from piece span answer (Ok (Ends told)) old new row k =
-      searches_ends asked from told answer (fetch_ends store meta (wanted_at asked from) line (fetching.Log piece span) told old new row) k
-  logs_ends from piece span answer (Err e) old new row k = absurd (let no : false ≡ true = k in cc)
-
-  index_ends : (cursor from : ℕ) (piece : Piece) (answer : Answer) (old new : Tiers S M)
-      → SearchIndexRow store.content store.control meta.content meta.control asked line cursor piece from (Ok (Ends answer)) old new
-      → MayEnd answer
-  index_ends cursor from piece answer old new (inl (low, is, same)) = absurd (cc (is))
-  index_ends cursor from piece answer old new (inr (high, (came, row, k))) = indexes_ends cursor from piece answer came old new row k
-
-  log_ends : (from : ℕ) (piece : Piece) (span : Span) (answer : Answer) (old new : Tiers S M)
-      → SearchLogRow store.content store.control meta.content meta.control asked line piece from span (Ok (Ends answer)) old new → MayEnd answer
-  log_ends from piece span answer old new (inl (low, is, same)) = absurd (cc (is))
-  log_ends from piece span answer old new (inr (high, (came, row, k))) = logs_ends from piece span answer came old new row k
+  log_ends : (from : ℕ) (piece : Piece) (span : Span) (view : View) (answer : Answer) (old new : S)
+      → SearchLogRow store.content store.control asked piece from span view (Ok (Ends answer)) old new → MayEnd answer
+  log_ends from piece span view answer old new (inl (low, is, same)) = absurd (cc (is))
+  log_ends from piece span view answer old new (inr (high, (read, row, k))) = logs_ends from answer read k
 
   -- what a turn among the remote segments returns
   pub date_ends : (cursor : ℕ) (next : SearchStep) (answer : Answer) (old new : Tiers S M)
@@ -170,8 +128,9 @@ module _ {S M : Type 0} (store : StoreGhosts S) (meta : MetaGhosts M) (asked : A
   date_ends cursor (ReadsTimes piece) answer old new w =
       timed_ends cursor piece old.view (spot_in asked.partition piece.id part.TimeIndex (entry_of piece.id old.view.entries)) answer
       old.store new.store w.1
-  date_ends cursor (Index piece from) answer old new w = index_ends cursor from piece answer old new w
-  date_ends cursor (Log piece from span) answer old new w = log_ends from piece span answer old new w
+  date_ends cursor (Index piece from) answer old new w =
+      index_ends cursor from piece old.view answer old.cache new.cache old.store new.store w.1
+  date_ends cursor (Log piece from span) answer old new w = log_ends from piece span old.view answer old.store new.store w.1
 
   same_store : (old new : S) → new ≡ old → StoreStays store meta old new
   same_store old new is = record {
@@ -196,31 +155,41 @@ module _ {S M : Type 0} (store : StoreGhosts S) (meta : MetaGhosts M) (asked : A
   same_tells : (old new : Tiers S M) → new ≡ old → TellsOn store meta old.store old.meta new.store new.meta
   same_tells old new is = (ap (λ (t : Tiers S M). (store.content t.store).is_observable) is, ap (λ (t : Tiers S M). (meta.content t.meta).is_observable) is)
 
-  indexes_tell : (cursor from : ℕ) (piece : Piece) (turn : Turn (ℕ × SearchStep)) (came : Result (Turn FetchStep) AllocError) (old new : Tiers S M)
-      → RemoteFetchRow store.content store.control meta.content meta.control (wanted_at asked from) line (fetching.Index piece) came old new
-      → Indexes cursor piece from came (Ok turn) → TellsOn store meta old.store old.meta new.store new.meta
-  indexes_tell cursor from piece turn (Ok came) old new row k =
-      fetch_tells store meta (wanted_at asked from) line (fetching.Index piece) came old new row
-  indexes_tell cursor from piece turn (Err e) old new row k = absurd (let no : false ≡ true = k in cc)
+  indexes_tell : (cursor from : ℕ) (piece : Piece) (turn : Turn (ℕ × SearchStep)) (read : Result Span RemoteRefusal) (old new : Tiers S M)
+      → RemoteFetchRow store.content store.control meta.content meta.control (wanted_at asked from) line (fetching.Index piece) (goes_with piece read) old new
+      → Indexes cursor piece from read (Ok turn) → TellsOn store meta old.store old.meta new.store new.meta
+  indexes_tell cursor from piece turn (Ok span) old new row k =
+      fetch_tells store meta (wanted_at asked from) line (fetching.Index piece) _ old new row
+  indexes_tell cursor from piece turn (Err (refusal.Damaged place at)) old new row k =
+      fetch_tells store meta (wanted_at asked from) line (fetching.Index piece) _ old new row
+  indexes_tell cursor from piece turn (Err refusal.StoreFault) old new row k =
+      fetch_tells store meta (wanted_at asked from) line (fetching.Index piece) _ old new row
+  indexes_tell cursor from piece turn (Err refusal.NoMemory) old new row k = absurd (cc (k))
 
-  logs_tell : (from : ℕ) (piece : Piece) (span : Span) (turn : Turn (ℕ × SearchStep)) (came : Result (Turn FetchStep) AllocError) (old new : Tiers S M)
-      → RemoteFetchRow store.content store.control meta.content meta.control (wanted_at asked from) line (fetching.Log piece span) came old new
-      → SearchTakes asked from came (Ok turn) → TellsOn store meta old.store old.meta new.store new.meta
-  logs_tell from piece span turn (Ok came) old new row k =
-      fetch_tells store meta (wanted_at asked from) line (fetching.Log piece span) came old new row
-  logs_tell from piece span turn (Err e) old new row k = absurd (let no : false ≡ true = k in cc)
+  logs_tell : (from : ℕ) (piece : Piece) (span : Span) (turn : Turn (ℕ × SearchStep)) (read : Result RemoteRun RemoteRefusal) (old new : Tiers S M)
+      → RemoteFetchRow store.content store.control meta.content meta.control (wanted_at asked from) line (fetching.Log piece span) (ends_with piece read) old new
+      → SearchTakes asked from read (Ok turn) → TellsOn store meta old.store old.meta new.store new.meta
+  logs_tell from piece span turn (Ok run) old new row k =
+      fetch_tells store meta (wanted_at asked from) line (fetching.Log piece span) _ old new row
+  logs_tell from piece span turn (Err (refusal.Damaged place at)) old new row k =
+      fetch_tells store meta (wanted_at asked from) line (fetching.Log piece span) _ old new row
+  logs_tell from piece span turn (Err refusal.StoreFault) old new row k =
+      fetch_tells store meta (wanted_at asked from) line (fetching.Log piece span) _ old new row
+  logs_tell from piece span turn (Err refusal.NoMemory) old new row k = absurd (cc (k))
 
   index_tells : (cursor from : ℕ) (piece : Piece) (turn : Turn (ℕ × SearchStep)) (old new : Tiers S M)
-      → SearchIndexRow store.content store.control meta.content meta.control asked line cursor piece from (Ok turn) old new
+      → new ≡ record old { cache = new.cache; store = new.store }
+      → SearchIndexRow store.content store.control asked cursor piece from old.view (Ok turn) old.cache new.cache old.store new.store
       → TellsOn store meta old.store old.meta new.store new.meta
-  index_tells cursor from piece turn old new (inl (low, is, same)) = same_tells old new same
-  index_tells cursor from piece turn old new (inr (high, (came, row, k))) = indexes_tell cursor from piece turn came old new row k
+  index_tells cursor from piece turn old new same (inl (low, is, kept, stays)) = same_tells old new (cache_left old new same kept stays)
+  index_tells cursor from piece turn old new same (inr (high, (read, row, k))) = indexes_tell cursor from piece turn read old new (same, row) k
 
   log_tells : (from : ℕ) (piece : Piece) (span : Span) (turn : Turn (ℕ × SearchStep)) (old new : Tiers S M)
-      → SearchLogRow store.content store.control meta.content meta.control asked line piece from span (Ok turn) old new
+      → new ≡ record old { store = new.store }
+      → SearchLogRow store.content store.control asked piece from span old.view (Ok turn) old.store new.store
       → TellsOn store meta old.store old.meta new.store new.meta
-  log_tells from piece span turn old new (inl (low, is, same)) = same_tells old new same
-  log_tells from piece span turn old new (inr (high, (came, row, k))) = logs_tell from piece span turn came old new row k
+  log_tells from piece span turn old new same (inl (low, is, stays)) = same_tells old new (store_left old new same stays)
+  log_tells from piece span turn old new same (inr (high, (read, row, k))) = logs_tell from piece span turn read old new (same, row) k
 
   -- the devices report as they did
   pub date_tells : (cursor : ℕ) (next : SearchStep) (turn : Turn (ℕ × SearchStep)) (old new : Tiers S M)
@@ -232,37 +201,38 @@ module _ {S M : Type 0} (store : StoreGhosts S) (meta : MetaGhosts M) (asked : A
       let stays = times_stays cursor piece old.view (spot_in asked.partition piece.id part.TimeIndex (entry_of piece.id old.view.entries))
       (Ok turn) old.store new.store w.1 in
       (stays.is_observable, ap (λ (t : Tiers S M). (meta.content t.meta).is_observable) w.0)
-  date_tells cursor (Index piece from) turn old new w = index_tells cursor from piece turn old new w
-  date_tells cursor (Log piece from span) turn old new w = log_tells from piece span turn old new w
+  date_tells cursor (Index piece from) turn old new w = index_tells cursor from piece turn old new w.0 w.1
+  date_tells cursor (Log piece from span) turn old new w = log_tells from piece span turn old new w.0 w.1
 
-  indexes_dry : (cursor from : ℕ) (piece : Piece) (e : AllocError) (came : Result (Turn FetchStep) AllocError) (old new : Tiers S M)
-      → RemoteFetchRow store.content store.control meta.content meta.control (wanted_at asked from) line (fetching.Index piece) came old new
-      → Indexes cursor piece from came (Err e) → Dries store meta old new
-  indexes_dry cursor from piece e (Ok (Goes (fetching.Log p span))) old new row k = let is = k.1 in absurd (cc (is))
-  indexes_dry cursor from piece e (Ok (Goes next)) old new row k = absurd k
-  indexes_dry cursor from piece e (Ok (Ends told)) old new row k = absurd (cc (k))
-  indexes_dry cursor from piece e (Err why) old new row k =
-      fetch_dry store meta (wanted_at asked from) line (fetching.Index piece) why old new row
+  indexes_dry : (cursor from : ℕ) (piece : Piece) (e : AllocError) (read : Result Span RemoteRefusal) (old new : Tiers S M)
+      → RemoteFetchRow store.content store.control meta.content meta.control (wanted_at asked from) line (fetching.Index piece) (goes_with piece read) old new
+      → Indexes cursor piece from read (Err e) → Dries store meta old new
+  indexes_dry cursor from piece e (Ok span) old new row k = absurd (cc (k))
+  indexes_dry cursor from piece e (Err (refusal.Damaged place at)) old new row k = absurd (cc (k))
+  indexes_dry cursor from piece e (Err refusal.StoreFault) old new row k = absurd (cc (k))
+  indexes_dry cursor from piece e (Err refusal.NoMemory) old new row k =
+      fetch_dry store meta (wanted_at asked from) line (fetching.Index piece) _ old new row
 
-  logs_dry : (from : ℕ) (piece : Piece) (span : Span) (e : AllocError) (came : Result (Turn FetchStep) AllocError) (old new : Tiers S M)
-      → RemoteFetchRow store.content store.control meta.content meta.control (wanted_at asked from) line (fetching.Log piece span) came old new
-      → SearchTakes asked from came (Err e) → Dries store meta old new
-  logs_dry from piece span e (Ok (Goes next)) old new row k = absurd k
-  logs_dry from piece span e (Ok (Ends (Run tier size stop bytes))) old new row k = absurd k
-  logs_dry from piece span e (Ok (Ends told)) old new row k = absurd (cc (k))
-  logs_dry from piece span e (Err why) old new row k =
-      fetch_dry store meta (wanted_at asked from) line (fetching.Log piece span) why old new row
+  logs_dry : (from : ℕ) (piece : Piece) (span : Span) (e : AllocError) (read : Result RemoteRun RemoteRefusal) (old new : Tiers S M)
+      → RemoteFetchRow store.content store.control meta.content meta.control (wanted_at asked from) line (fetching.Log piece span) (ends_with piece read) old new
+      → SearchTakes asked from read (Err e) → Dries store meta old new
+  logs_dry from piece span e (Ok run) old new row k = absurd k
+  logs_dry from piece span e (Err (refusal.Damaged place at)) old new row k = absurd (cc (k))
+  logs_dry from piece span e (Err refusal.StoreFault) old new row k = absurd (cc (k))
+  logs_dry from piece span e (Err refusal.NoMemory) old new row k =
+      fetch_dry store meta (wanted_at asked from) line (fetching.Log piece span) _ old new row
 
   index_dry : (cursor from : ℕ) (piece : Piece) (e : AllocError) (old new : Tiers S M)
-      → SearchIndexRow store.content store.control meta.content meta.control asked line cursor piece from (Err e) old new
+      → new ≡ record old { cache = new.cache; store = new.store }
+      → SearchIndexRow store.content store.control asked cursor piece from old.view (Err e) old.cache new.cache old.store new.store
       → Dries store meta old new
-  index_dry cursor from piece e old new (inl (low, is, same)) = absurd (cc (is))
-  index_dry cursor from piece e old new (inr (high, (came, row, k))) = indexes_dry cursor from piece e came old new row k
+  index_dry cursor from piece e old new same (inl (low, is, stays)) = absurd (cc (is))
+  index_dry cursor from piece e old new same (inr (high, (read, row, k))) = indexes_dry cursor from piece e read old new (same, row) k
 
-  log_dry : (from : ℕ) (piece : Piece) (span : Span) (e : AllocError) (old new : Tiers S M)
-      → SearchLogRow store.content store.control meta.content meta.control asked line piece from span (Err e) old new → Dries store meta old new
-  log_dry from piece span e old new (inl (low, is, same)) = absurd (cc (is))
-  log_dry from piece span e old new (inr (high, (came, row, k))) = logs_dry from piece span e came old new row k
+  log_dry : (from : ℕ) (piece : Piece) (span : Span) (e : AllocError) (old new : Tiers S M) → new ≡ record old { store = new.store }
+      → SearchLogRow store.content store.control asked piece from span old.view (Err e) old.store new.store → Dries store meta old new
+  log_dry from piece span e old new same (inl (low, is, stays)) = absurd (cc (is))
+  log_dry from piece span e old new same (inr (high, (read, row, k))) = logs_dry from piece span e read old new (same, row) k
 
   -- what one leaves that ran out of memory
   pub date_dry : (cursor : ℕ) (next : SearchStep) (e : AllocError) (old new : Tiers S M)
@@ -278,8 +248,8 @@ module _ {S M : Type 0} (store : StoreGhosts S) (meta : MetaGhosts M) (asked : A
     cache = ap (λ (t : Tiers S M). t.cache) w.0;
     why = inr (ap (λ (t : Tiers S M). t.view) w.0, ap (λ (t : Tiers S M). t.meta) w.0);
   }
-  date_dry cursor (Index piece from) e old new w = index_dry cursor from piece e old new w
-  date_dry cursor (Log piece from span) e old new w = log_dry from piece span e old new w
+  date_dry cursor (Index piece from) e old new w = index_dry cursor from piece e old new w.0 w.1
+  date_dry cursor (Log piece from span) e old new w = log_dry from piece span e old new w.0 w.1
 
 module _ {D : Type 0} (disk : DiskGhosts D) where
   read_ends : (old : LogState D) (asked : Asked) (at : ℕ) (answer : Answer) (new : LogState D)

@@ -1,5 +1,5 @@
 -- A turn of a timestamp lookup: the devices last, and one has failed where a fault is reported.
-use Rattle.std.proofs.Common.{◌≡◌, inl, inr, sym, ap, subst, refl, ℕ, List, Some, None, Option, Ok, Err, true, false}
+use Rattle.std.proofs.Common.{◌≡◌, inl, inr, sym, ap, subst, refl, ℕ, List, length, Some, None, Option, Ok, Err, true, false}
 use Rattle.std.specs.declared.result.Result.{Result}
 use Rattle.std.specs.declared.alloc.AllocError.{AllocError}
 use Rattle.tier_base.specs.Device.{Ran, fate_of}
@@ -13,21 +13,25 @@ use Rattle.object_store.specs.Place.{short_of}
 use Rattle.meta_log.specs.declared.log.MetaLog.{Ghosts as MetaGhosts}
 use Rattle.remote_view.specs.Fold.{EntriesSeen as View, entry_of}
 use Rattle.remote_find.specs.declared.piece.Piece.{Piece}
-use Rattle.tier_fetch.specs.declared.turn.FetchStep.{FetchStep}
 use Rattle.plain_log.specs.declared.turn.Turn.{Turn}
 use Rattle.plain_log.specs.declared.turn.Turn.TheVariants.{Goes, Ends}
 use Rattle.tier_fetch.specs.declared.turn.FetchStep.TheVariants as fetching
 use Rattle.tier_fetch.specs.declared.turn.Span.{Span}
-use Rattle.tier_fetch.specs.Turns.{Tiers, RemoteFetchRow, spot_in}
+use Rattle.tier_fetch.specs.declared.refusal.RemoteRefusal.{RemoteRefusal}
+use Rattle.tier_fetch.specs.declared.refusal.RemoteRefusal.TheVariants as refusal
+use Rattle.tier_fetch.specs.declared.reading.RemoteRun.{RemoteRun}
+use Rattle.tier_fetch.specs.Turns.{Tiers, RemoteFetchRow, spot_in, goes_with, ends_with}
 use Rattle.time_find.specs.declared.turn.Asked.{Asked}
 use Rattle.time_find.specs.declared.turn.SearchStep.{SearchStep}
 use Rattle.time_find.specs.declared.turn.SearchStep.TheVariants.{Seek, Times as ReadsTimes, Index, Log}
 use Rattle.time_find.specs.Passing.{Seeks}
 use Rattle.time_find.specs.Turns.{IsSearched, TimesBytes, Times, Indexes, SearchTakes, SeekRow, TimesRow, TimeRow, wanted_at}
+use Rattle.time_find.proofs.Outcomes.{store_left, cache_left}
 use Rattle.plain_log.specs.declared.answer.Answer.{Answer}
 use Rattle.plain_log.specs.declared.answer.Answer.TheVariants.{MetaFault, Damaged, Run, Offset}
 use Rattle.plain_log.specs.declared.answer.Place.TheVariants.{Meta}
-use Rattle.partition_world.specs.ActorStates.{date_outcome, fetch_outcome}
+use Rattle.plain_log.specs.declared.answer.Tier.TheVariants.{Remote}
+use Rattle.partition_world.specs.ActorStates.{date_outcome}
 use Rattle.partition_commands.proofs.Told.{Told}
 use Rattle.partition_world.proofs.TurnsTold.{TurnTold, StoreLasts, StoreRose, MetaLasts, MetaRose, store_same, meta_same, store_ran, meta_ran}
 use Rattle.partition_world.proofs.LastingSearches.{fetch_lasts}
@@ -50,20 +54,6 @@ module _ (A B : Type 0) where
   searched_told C E asked offset run (Goes (at, next)) w = tt
   searched_told C E asked offset run (Ends (Offset n)) w = tt
   searched_told C E asked offset run (Ends answer) w = elim w [ ]
-
-  -- what a fetch's turn came to
-  indexes_told : (C E : Type 0) (cursor from : ℕ) (piece : Piece) (found : Turn FetchStep) (turn : Turn (ℕ × SearchStep))
-      → Indexes cursor piece from (Ok found) (Ok turn)
-      → TurnTold A B C E (fetch_outcome found) → TurnTold A B C E (date_outcome turn)
-  indexes_told C E cursor from piece (Goes (fetching.Log same span)) turn w told = as_told C E turn _ w.1 tt
-  indexes_told C E cursor from piece (Goes next) turn w told = elim w [ ]
-  indexes_told C E cursor from piece (Ends answer) turn w told = as_told C E turn (Ends answer) w told
-
-  searches_told : (C E : Type 0) (asked : Asked) (from : ℕ) (found : Turn FetchStep) (turn : Turn (ℕ × SearchStep)) → SearchTakes asked from (Ok found) (Ok turn)
-      → TurnTold A B C E (fetch_outcome found) → TurnTold A B C E (date_outcome turn)
-  searches_told C E asked from (Ends (Run tier size stop bytes)) turn w told = searched_told C E asked from bytes turn w
-  searches_told C E asked from (Ends answer) turn w told = as_told C E turn (Ends answer) w told
-  searches_told C E asked from (Goes next) turn w told = elim w [ ]
 
   seek_lasts : (C : Type 0) {M : Type 0} (meta : MetaGhosts M) (asked : Asked) (line : List (ℕ × ℕ)) (cursor : ℕ) (turn : Turn (ℕ × SearchStep))
       (before after : View) (old new : M)
@@ -115,23 +105,37 @@ module _ (A B : Type 0) where
       as_told (StoreRose store old.store new.store) (MetaRose meta old.meta new.meta) turn (Goes (at, next)) is tt,
     )
 
-    index_lasts : (asked : Asked) (line : List (ℕ × ℕ)) (cursor from : ℕ) (piece : Piece) (found : Result (Turn FetchStep) AllocError)
-        (turn : Turn (ℕ × SearchStep)) (old new : Tiers S M)
-        → RemoteFetchRow store.content store.control meta.content meta.control (wanted_at asked from) line (fetching.Index piece) found old new
-        → Indexes cursor piece from found (Ok turn) → Lasted old new turn
-    index_lasts asked line cursor from piece (Ok found) turn old new row w =
-        let k = fetch_lasts A B store meta (wanted_at asked from) line (fetching.Index piece) found old new row in
-        (k.0, k.1, indexes_told (StoreRose store old.store new.store) (MetaRose meta old.meta new.meta) cursor from piece found turn w k.2)
-    index_lasts asked line cursor from piece (Err e) turn old new row w = absurd (let no : false ≡ true = w in cc)
+    -- a fetch that reads the same lasts as long
 
-    log_lasts : (asked : Asked) (line : List (ℕ × ℕ)) (from : ℕ) (piece : Piece) (span : Span) (found : Result (Turn FetchStep) AllocError)
+    index_lasts : (asked : Asked) (line : List (ℕ × ℕ)) (cursor from : ℕ) (piece : Piece) (read : Result Span RemoteRefusal)
         (turn : Turn (ℕ × SearchStep)) (old new : Tiers S M)
-        → RemoteFetchRow store.content store.control meta.content meta.control (wanted_at asked from) line (fetching.Log piece span) found old new
-        → SearchTakes asked from found (Ok turn) → Lasted old new turn
-    log_lasts asked line from piece span (Ok found) turn old new row w =
-        let k = fetch_lasts A B store meta (wanted_at asked from) line (fetching.Log piece span) found old new row in
-        (k.0, k.1, searches_told (StoreRose store old.store new.store) (MetaRose meta old.meta new.meta) asked from found turn w k.2)
-    log_lasts asked line from piece span (Err e) turn old new row w = absurd (let no : false ≡ true = w in cc)
+        → RemoteFetchRow store.content store.control meta.content meta.control (wanted_at asked from) line (fetching.Index piece) (goes_with piece read) old new
+        → Indexes cursor piece from read (Ok turn) → Lasted old new turn
+    index_lasts asked line cursor from piece (Ok span) turn old new row w =
+        let k = fetch_lasts A B store meta (wanted_at asked from) line (fetching.Index piece) (Goes (fetching.Log piece span)) old new row in
+        (k.0, k.1, as_told (StoreRose store old.store new.store) (MetaRose meta old.meta new.meta) turn (Goes (cursor, Log piece from span)) w tt)
+    index_lasts asked line cursor from piece (Err (refusal.Damaged place at)) turn old new row w =
+        let k = fetch_lasts A B store meta (wanted_at asked from) line (fetching.Index piece) (Ends (Damaged place at)) old new row in
+        (k.0, k.1, as_told (StoreRose store old.store new.store) (MetaRose meta old.meta new.meta) turn (Ends (Damaged place at)) w k.2)
+    index_lasts asked line cursor from piece (Err refusal.StoreFault) turn old new row w =
+        let k = fetch_lasts A B store meta (wanted_at asked from) line (fetching.Index piece) (Ends StoreFault) old new row in
+        (k.0, k.1, as_told (StoreRose store old.store new.store) (MetaRose meta old.meta new.meta) turn (Ends StoreFault) w k.2)
+    index_lasts asked line cursor from piece (Err refusal.NoMemory) turn old new row w = absurd (cc (w))
+
+    log_lasts : (asked : Asked) (line : List (ℕ × ℕ)) (from : ℕ) (piece : Piece) (span : Span) (read : Result RemoteRun RemoteRefusal)
+        (turn : Turn (ℕ × SearchStep)) (old new : Tiers S M)
+        → RemoteFetchRow store.content store.control meta.content meta.control (wanted_at asked from) line (fetching.Log piece span) (ends_with piece read) old new
+        → SearchTakes asked from read (Ok turn) → Lasted old new turn
+    log_lasts asked line from piece span (Ok run) turn old new row w =
+        let k = fetch_lasts A B store meta (wanted_at asked from) line (fetching.Log piece span) (Ends (Run (Remote piece.id) (length run.bytes) run.stop run.bytes)) old new row in
+        (k.0, k.1, searched_told (StoreRose store old.store new.store) (MetaRose meta old.meta new.meta) asked from run.bytes turn w)
+    log_lasts asked line from piece span (Err (refusal.Damaged place at)) turn old new row w =
+        let k = fetch_lasts A B store meta (wanted_at asked from) line (fetching.Log piece span) (Ends (Damaged place at)) old new row in
+        (k.0, k.1, as_told (StoreRose store old.store new.store) (MetaRose meta old.meta new.meta) turn (Ends (Damaged place at)) w k.2)
+    log_lasts asked line from piece span (Err refusal.StoreFault) turn old new row w =
+        let k = fetch_lasts A B store meta (wanted_at asked from) line (fetching.Log piece span) (Ends StoreFault) old new row in
+        (k.0, k.1, as_told (StoreRose store old.store new.store) (MetaRose meta old.meta new.meta) turn (Ends StoreFault) w k.2)
+    log_lasts asked line from piece span (Err refusal.NoMemory) turn old new row w = absurd (cc (w))
 
     -- among the remote segments
     pub time_lasts : (asked : Asked) (line : List (ℕ × ℕ)) (cursor : ℕ) (next : SearchStep) (turn : Turn (ℕ × SearchStep)) (old new : Tiers S M)
@@ -145,9 +149,10 @@ module _ (A B : Type 0) where
         let place = spot_in asked.partition piece.id part.TimeIndex (entry_of piece.id old.view.entries) in
         let k = times_lasts (MetaRose meta old.meta new.meta) store asked cursor piece old.view place turn old.store new.store w.1 in
         (k.0, meta_same meta old.meta new.meta (ap (λ (t : Tiers S M). t.meta) w.0), k.1)
-    time_lasts asked line cursor (Index piece from) turn old new (inl w) = goes_lasted old new turn _ Seek w.1 w.2
-    time_lasts asked line cursor (Index piece from) turn old new (inr w) = index_lasts asked line cursor from piece w.1.0 turn old new
-        w.1.1 w.1.2
-    time_lasts asked line cursor (Log piece from span) turn old new (inl w) = goes_lasted old new turn _ Seek w.1 w.2
-    time_lasts asked line cursor (Log piece from span) turn old new (inr w) = log_lasts asked line from piece span w.1.0 turn old new
-        w.1.1 w.1.2
+    time_lasts asked line cursor (Index piece from) turn old new (same, inl w) =
+        goes_lasted old new turn _ Seek w.1 (cache_left old new same w.2 w.3)
+    time_lasts asked line cursor (Index piece from) turn old new (same, inr w) =
+        index_lasts asked line cursor from piece w.1.0 turn old new (same, w.1.1) w.1.2
+    time_lasts asked line cursor (Log piece from span) turn old new (same, inl w) = goes_lasted old new turn _ Seek w.1 (store_left old new same w.2)
+    time_lasts asked line cursor (Log piece from span) turn old new (same, inr w) =
+        log_lasts asked line from piece span w.1.0 turn old new (same, w.1.1) w.1.2

@@ -1,6 +1,5 @@
 -- How many metadata events a turn of a copy, of a fetch and of an expiry append.
 use Rattle.std.proofs.Common.{◌≡◌, ◌∙◌, inl, inr, refl, ap, ℕ, ◌+◌, ◌≤◌, List, length, slice_get, Some, None, Option, Ok, Err, Bool, true, false, IsTrue, arith}
-use Rattle.std.specs.declared.result.Result.{Result}
 use Rattle.std.specs.declared.alloc.AllocError.{AllocError}
 use Rattle.object_store.specs.declared.store.Store.{Ghosts as StoreGhosts}
 use Rattle.meta_log.specs.declared.log.MetaLog.{Ghosts as MetaGhosts}
@@ -21,15 +20,13 @@ use Rattle.expiry_task.specs.Turns as expiring
 use Rattle.expiry_task.specs.declared.turn.ExpiredSegment.{ExpiredSegment}
 use Rattle.expiry_task.specs.declared.turn.DeletionStep.{DeletionStep as Deletion}
 use Rattle.expiry_task.specs.declared.turn.DeletionStep.TheVariants as deletion
-use Rattle.remote_find.specs.declared.piece.Piece.{Piece}
-use Rattle.tier_fetch.specs.declared.turn.Span.{Span}
 use Rattle.tier_fetch.specs.Turns.{Tiers as Fetched, RemoteFetchRow, RefreshRow}
 use Rattle.plain_log.specs.declared.turn.Turn.{Turn}
 use Rattle.plain_log.specs.declared.turn.Turn.TheVariants.{Goes as GoesOn, Ends}
 use Rattle.tier_fetch.specs.declared.turn.FetchStep.{FetchStep as Search}
 use Rattle.tier_fetch.specs.declared.turn.FetchStep.TheVariants.{Refresh, Index, Log}
 use Rattle.tier_fetch.specs.declared.turn.FetchRequest.{FetchRequest}
-use Rattle.time_find.specs.Turns.{SeekRow, SearchIndexRow, SearchLogRow, TimeRow, wanted_at}
+use Rattle.time_find.specs.Turns.{SeekRow, TimeRow}
 use Rattle.time_find.specs.declared.turn.Asked.{Asked}
 use Rattle.time_find.specs.declared.turn.SearchStep.{SearchStep as Dating}
 use Rattle.time_find.specs.declared.turn.SearchStep.TheVariants as search
@@ -206,35 +203,16 @@ module _ {S M : Type 0} (store : StoreGhosts S) (meta : MetaGhosts M) where
   seeking_count asked line cursor (Ends MetaFault) before after old new w = keeps_count meta old new w.content
   seeking_count asked line cursor turn before after old new w = keeps_count meta old new w.1.content
 
-  fetched_count : (wanted : FetchRequest) (line : List (ℕ × ℕ)) (next : Search) (result : Result (Turn Search) AllocError) (old new : Fetched S M)
-      → RemoteFetchRow store.content store.control meta.content meta.control wanted line next result old new
-      → count meta new.meta ≤ count meta old.meta
-  fetched_count wanted line next (Ok turn) old new w = fetch_count wanted line next turn old new w
-  fetched_count wanted line next (Err e) old new w = fetch_wants wanted line next e old new w
-
-  index_count : (asked : Asked) (line : List (ℕ × ℕ)) (cursor : ℕ) (piece : Piece) (from : ℕ) (result : Result (Turn (ℕ × Dating)) AllocError)
-      (old new : Fetched S M) → SearchIndexRow store.content store.control meta.content meta.control asked line cursor piece from result old new
-      → count meta new.meta ≤ count meta old.meta
-  index_count asked line cursor piece from result old new (inl w) =
-      same_count meta old.meta new.meta (ap (λ (t : Fetched S M). t.meta) w.2)
-  index_count asked line cursor piece from result old new (inr w) =
-      fetched_count (wanted_at asked from) line (Index piece) w.1.0 old new w.1.1
-
-  log_count : (asked : Asked) (line : List (ℕ × ℕ)) (piece : Piece) (from : ℕ) (span : Span) (result : Result (Turn (ℕ × Dating)) AllocError)
-      (old new : Fetched S M) → SearchLogRow store.content store.control meta.content meta.control asked line piece from span result old new
-      → count meta new.meta ≤ count meta old.meta
-  log_count asked line piece from span result old new (inl w) = same_count meta old.meta new.meta (ap (λ (t : Fetched S M). t.meta) w.2)
-  log_count asked line piece from span result old new (inr w) =
-      fetched_count (wanted_at asked from) line (Log piece span) w.1.0 old new w.1.1
-
   pub time_count : (asked : Asked) (line : List (ℕ × ℕ)) (cursor : ℕ) (next : Dating) (turn : Turn (ℕ × Dating)) (old new : Fetched S M)
       → TimeRow store.content store.control meta.content meta.control asked line cursor next (Ok turn) old new
       → count meta new.meta ≤ count meta old.meta
   time_count asked line cursor search.Seek turn old new w = seeking_count asked line cursor turn old.view new.view old.meta new.meta w.1
   time_count asked line cursor (search.Times piece) turn old new w =
       same_count meta old.meta new.meta (ap (λ (t : Fetched S M). t.meta) w.0)
-  time_count asked line cursor (search.Index piece from) turn old new w = index_count asked line cursor piece from (Ok turn) old new w
-  time_count asked line cursor (search.Log piece from span) turn old new w = log_count asked line piece from span (Ok turn) old new w
+  time_count asked line cursor (search.Index piece from) turn old new w =
+      same_count meta old.meta new.meta (ap (λ (t : Fetched S M). t.meta) w.0)
+  time_count asked line cursor (search.Log piece from span) turn old new w =
+      same_count meta old.meta new.meta (ap (λ (t : Fetched S M). t.meta) w.0)
 
   pub time_wants : (asked : Asked) (line : List (ℕ × ℕ)) (cursor : ℕ) (next : Dating) (e : AllocError) (old new : Fetched S M)
       → TimeRow store.content store.control meta.content meta.control asked line cursor next (Err e) old new
@@ -242,8 +220,10 @@ module _ {S M : Type 0} (store : StoreGhosts S) (meta : MetaGhosts M) where
   time_wants asked line cursor search.Seek e old new w = keeps_count meta old.meta new.meta w.1.content
   time_wants asked line cursor (search.Times piece) e old new w =
       same_count meta old.meta new.meta (ap (λ (t : Fetched S M). t.meta) w.0)
-  time_wants asked line cursor (search.Index piece from) e old new w = index_count asked line cursor piece from (Err e) old new w
-  time_wants asked line cursor (search.Log piece from span) e old new w = log_count asked line piece from span (Err e) old new w
+  time_wants asked line cursor (search.Index piece from) e old new w =
+      same_count meta old.meta new.meta (ap (λ (t : Fetched S M). t.meta) w.0)
+  time_wants asked line cursor (search.Log piece from span) e old new w =
+      same_count meta old.meta new.meta (ap (λ (t : Fetched S M). t.meta) w.0)
 
   -- a turn of an expiry
 

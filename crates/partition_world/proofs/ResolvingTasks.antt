@@ -141,11 +141,7 @@ module _ {S M : Type 0} (store : StoreGhosts S) (meta : MetaGhosts M) where
       let a = time_seek asked line cursor r old.view new.view old.meta new.meta w.1 t l' left in (a.0, a.1, (ap (λ (o : fetch.Tiers S M). fetch_with o l') w.0, a.2))
   time_row asked line cursor (dating.Times piece) r old new w t l' left =
       (l', kept old.meta new.meta l' (ap (λ (o : fetch.Tiers S M). o.meta) w.0) left, (ap (λ (o : fetch.Tiers S M). fetch_with o l') w.0, w.1))
-  time_row asked line cursor (dating.Index piece from) r old new (inl (past, is, same)) t l' left =
-      (l', kept old.meta new.meta l' (ap (λ (o : fetch.Tiers S M). o.meta) same) left, inl (past, is, ap (λ (o : fetch.Tiers S M). fetch_with o l') same))
-  time_row asked line cursor (dating.Index piece from) r old new (inr (below, (turn, w, is))) t l' left =
-      let a = fetch_row (time.wanted_at asked from) line (fetching.Index piece) turn old new w t l' left in (a.0, a.1, inr (below, (turn, a.2, is)))
-  time_row asked line cursor (dating.Log piece from span) r old new (inl (past, is, same)) t l' left =
-      (l', kept old.meta new.meta l' (ap (λ (o : fetch.Tiers S M). o.meta) same) left, inl (past, is, ap (λ (o : fetch.Tiers S M). fetch_with o l') same))
-  time_row asked line cursor (dating.Log piece from span) r old new (inr (below, (turn, w, is))) t l' left =
-      let a = fetch_row (time.wanted_at asked from) line (fetching.Log piece span) turn old new w t l' left in (a.0, a.1, inr (below, (turn, a.2, is)))
+  time_row asked line cursor (dating.Index piece from) r old new w t l' left =
+      (l', kept old.meta new.meta l' (ap (λ (o : fetch.Tiers S M). o.meta) w.0) left, (ap (λ (o : fetch.Tiers S M). fetch_with o l') w.0, w.1))
+  time_row asked line cursor (dating.Log piece from span) r old new w t l' left =
+      (l', kept old.meta new.meta l' (ap (λ (o : fetch.Tiers S M). o.meta) w.0) left, (ap (λ (o : fetch.Tiers S M). fetch_with o l') w.0, w.1))
