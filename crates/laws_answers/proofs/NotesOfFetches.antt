@@ -1,8 +1,6 @@
 -- A turn appends metadata events to the metadata log, or leaves it as it is.
-use Rattle.std.proofs.Common.{◌≡◌, inl, inr, sym, ap, subst, ℕ, Bool, true, false, List, [], ◌∷◌, Ok, Err}
+use Rattle.std.proofs.Common.{◌≡◌, inl, inr, sym, ap, subst, ℕ, Bool, true, false, List, [], ◌∷◌, Ok}
 use Rattle.std.specs.Prelude.{IsTrue, ℤ}
-use Rattle.std.specs.declared.result.Result.{Result}
-use Rattle.std.specs.declared.alloc.AllocError.{AllocError}
 use mathlib.Core.List.{IsPrefix}
 use Rattle.tier_base.specs.declared.names.PartitionId.{PartitionId}
 use Rattle.tier_base.specs.Device.{Fate}
@@ -30,14 +28,11 @@ use Rattle.plain_log.specs.declared.turn.Turn.{Turn}
 use Rattle.plain_log.specs.declared.turn.Turn.TheVariants.{Ends}
 use Rattle.tier_fetch.specs.declared.turn.FetchStep.{FetchStep as Search}
 use Rattle.tier_fetch.specs.declared.turn.FetchStep.TheVariants.{Refresh, Index, Log}
-use Rattle.tier_fetch.specs.declared.turn.Span.{Span}
 use Rattle.tier_fetch.specs.declared.turn.FetchRequest.{FetchRequest}
-use Rattle.remote_find.specs.declared.piece.Piece.{Piece}
-use Rattle.tier_fetch.specs.declared.turn.FetchStep.TheVariants as fetching
 use Rattle.time_find.specs.declared.turn.Asked.{Asked}
 use Rattle.time_find.specs.declared.turn.SearchStep.{SearchStep as Dating}
 use Rattle.time_find.specs.declared.turn.SearchStep.TheVariants as dating
-use Rattle.time_find.specs.Turns.{Indexes, SearchTakes as SearchesLog, SeekRow, TimeRow, wanted_at}
+use Rattle.time_find.specs.Turns.{SeekRow, TimeRow}
 use Rattle.plain_log.specs.declared.answer.Answer.TheVariants.{Down, NotLeader, CopyOff, MetaFault, Stopped, OutOfRange, Empty, NoOffset}
 use Rattle.plain_log.specs.declared.command.Command.{Command}
 use Rattle.plain_log.specs.declared.command.Command.TheVariants.{Copy, Trim, Expire, Fetch, Join, Offset}
@@ -125,25 +120,6 @@ module _ {S M : Type 0} (store : StoreGhosts S) (meta : MetaGhosts M) where
   fetch_notes wanted line (Index piece) turn old new row = same_log meta old.meta new.meta (ap (λ (t : FetchTiers S M). t.meta) row.0)
   fetch_notes wanted line (Log piece span) turn old new row = same_log meta old.meta new.meta (ap (λ (t : FetchTiers S M). t.meta) row.0)
 
-  -- where a search continues as a fetch does
-  indexes_notes : (asked : Asked) (line : List (ℕ × ℕ)) (cursor from : ℕ) (piece : Piece) (found : Result (Turn Search) AllocError)
-      (turn : Turn (ℕ × Dating)) (old new : FetchTiers S M)
-      → RemoteFetchRow store.content store.control meta.content meta.control (wanted_at asked from) line (fetching.Index piece) found old new
-      → Indexes cursor piece from found (Ok turn)
-      → Begin meta old.meta new.meta
-  indexes_notes asked line cursor from piece (Ok found) turn old new row k = fetch_notes (wanted_at asked from) line (fetching.Index piece)
-      found old new row
-  indexes_notes asked line cursor from piece (Err e) turn old new row k = absurd (let no : false ≡ true = k in cc)
-
-  searches_notes : (asked : Asked) (line : List (ℕ × ℕ)) (from : ℕ) (piece : Piece) (span : Span) (found : Result (Turn Search) AllocError)
-      (turn : Turn (ℕ × Dating)) (old new : FetchTiers S M)
-      → RemoteFetchRow store.content store.control meta.content meta.control (wanted_at asked from) line (fetching.Log piece span) found old new
-      → SearchesLog asked from found (Ok turn)
-      → Begin meta old.meta new.meta
-  searches_notes asked line from piece span (Ok found) turn old new row k = fetch_notes (wanted_at asked from) line
-      (fetching.Log piece span) found old new row
-  searches_notes asked line from piece span (Err e) turn old new row k = absurd (let no : false ≡ true = k in cc)
-
   time_notes : (asked : Asked) (line : List (ℕ × ℕ)) (cursor : ℕ) (next : Dating) (turn : Turn (ℕ × Dating)) (old new : FetchTiers S M)
       → TimeRow store.content store.control meta.content meta.control asked line cursor next (Ok turn) old new
       → Begin meta old.meta new.meta
@@ -151,14 +127,10 @@ module _ {S M : Type 0} (store : StoreGhosts S) (meta : MetaGhosts M) where
       row.1
   time_notes asked line cursor (dating.Times piece) turn old new row = same_log meta old.meta new.meta
       (ap (λ (t : FetchTiers S M). t.meta) row.0)
-  time_notes asked line cursor (dating.Index piece from) turn old new (inl row) = same_log meta old.meta new.meta
-      (ap (λ (t : FetchTiers S M). t.meta) row.2)
-  time_notes asked line cursor (dating.Index piece from) turn old new (inr row) = indexes_notes asked line cursor from piece row.1.0 turn
-      old new row.1.1 row.1.2
-  time_notes asked line cursor (dating.Log piece from span) turn old new (inl row) = same_log meta old.meta new.meta
-      (ap (λ (t : FetchTiers S M). t.meta) row.2)
-  time_notes asked line cursor (dating.Log piece from span) turn old new (inr row) = searches_notes asked line from piece span row.1.0 turn
-      old new row.1.1 row.1.2
+  time_notes asked line cursor (dating.Index piece from) turn old new row = same_log meta old.meta new.meta
+      (ap (λ (t : FetchTiers S M). t.meta) row.0)
+  time_notes asked line cursor (dating.Log piece from span) turn old new row = same_log meta old.meta new.meta
+      (ap (λ (t : FetchTiers S M). t.meta) row.0)
 
   expiry_notes : (segment : ExpiredSegment) (origin : EventOrigin) (next : Deletion) (turn : Turn Deletion) (old new : expiring.Tiers S M) → IsTrue (meta.content old.meta).is_observable
       → expiring.ExpiryRow store.content store.control meta.content meta.control segment origin next (Ok turn) old new → Begin meta old.meta new.meta

@@ -22,8 +22,7 @@ use Rattle.plain_log.specs.declared.state.Path.{Path}
 use Rattle.plain_log.specs.declared.state.State.{State as Plain}
 use Rattle.plain_log.specs.declared.state.Broker.{Broker}
 use Rattle.plain_log.specs.declared.state.Role.{Role}
-use Rattle.plain_log.specs.declared.answer.Answer.{Answer}
-use Rattle.plain_log.specs.declared.answer.Answer.TheVariants.{Damaged, Run}
+use Rattle.plain_log.specs.declared.answer.Answer.TheVariants.{Damaged}
 use Rattle.plain_log.specs.declared.answer.Place.{Place}
 use Rattle.plain_log.specs.Safe.{RoleSafe}
 use Rattle.plain_log.specs.State.{path_of}
@@ -35,7 +34,9 @@ use Rattle.tier_fetch.specs.declared.turn.FetchStep.{FetchStep}
 use Rattle.plain_log.specs.declared.turn.Turn.{Turn}
 use Rattle.plain_log.specs.declared.turn.Turn.TheVariants.{Goes, Ends}
 use Rattle.tier_fetch.specs.declared.turn.FetchStep.TheVariants as fetching
-use Rattle.tier_fetch.specs.Turns.{Tiers, RemoteFetchRow, spot_in}
+use Rattle.tier_fetch.specs.declared.refusal.RemoteRefusal.{RemoteRefusal}
+use Rattle.tier_fetch.specs.declared.reading.RemoteRun.{RemoteRun}
+use Rattle.tier_fetch.specs.Turns.{Tiers, RemoteFetchRow, spot_in, goes_with, ends_with}
 use Rattle.tier_safe.specs.Scene.{BrokerTierView, Free, Scene}
 use Rattle.tier_safe.proofs.Rules.{seen_kept}
 use Rattle.tier_safe.proofs.Turning.{sees_all}
@@ -46,10 +47,11 @@ use Rattle.time_find.specs.declared.turn.SearchStep.{SearchStep}
 use Rattle.time_find.specs.declared.turn.SearchStep.TheVariants.{Seek, Times, Index, Log}
 use Rattle.time_find.specs.Passing.{SeeksPiece, top_of}
 use Rattle.time_find.specs.Turns.{IsBelowLocal, IsSet, IsSearched, TimesBytes, Times as Timed, Indexes, SearchTakes, SeekRow, TimesRow, SearchIndexRow, SearchLogRow, TimeRow, wanted_at}
+use Rattle.time_find.proofs.Outcomes.{never_goes}
 use Rattle.laws_time_find.specs.Searching.{IsAtSearch}
-use Rattle.laws_time_find.proofs.Damaging.{search_damage}
+use Rattle.laws_time_find.proofs.Damaging.{search_damage, damaged_same}
 use Rattle.laws_time_find.proofs.Turning.{as_turn}
-use Rattle.laws_answers.specs.Found.{PieceEnds, FetchHasFound}
+use Rattle.laws_answers.specs.Found.{PieceEnds}
 use Rattle.laws_answers.specs.FoundByTime.{IsFoundByTime}
 use Rattle.laws_answers.proofs.EndsOfPieces.{piece_ends}
 use Rattle.laws_answers.proofs.ReadingOfFetches.{index_found, not_damaged}
@@ -153,49 +155,39 @@ module _ (c : Scene) (p : Plain) (a b : ℕ) (tier_view : BrokerTierView) (x : B
       seek_found s cache view after old new at (Log piece from span) h row = absurd row.0
 
       -- so does what an offset index shows
-      log_found : (found piece : Piece) (from : ℕ) (span : Span) → found ≡ piece
-          → FetchHasFound p.paths c.notes epoch from 4294967295 (fetching.Log found span)
-          → IsFoundByTime p.paths c.notes epoch (Log piece from span)
-      log_found found piece from span same f = subst (λ (q : Piece). IsFoundByTime p.paths c.notes epoch (Log q from span)) same f
-
-      indexed : (from : ℕ) (piece : Piece) (turn : Result (Turn FetchStep) AllocError) (at : ℕ) (later : SearchStep) (old new : Tiers S M)
+      indexed : (from : ℕ) (piece : Piece) (read : Result Span RemoteRefusal) (at : ℕ) (later : SearchStep) (old new : Tiers S M)
           → IsAtTurn c p a b tier_view x stops epoch (wanted_at asked from) line (fetching.Index piece) (objects old.store) (notes old.meta)
           old.view old.cache
-          → RemoteFetchRow objects calls notes notings (wanted_at asked from) line (fetching.Index piece) turn old new
-          → Indexes cursor piece from turn (Ok (Goes (at, later))) → PieceEnds p.paths epoch piece
+          → RemoteFetchRow objects calls notes notings (wanted_at asked from) line (fetching.Index piece) (goes_with piece read) old new
+          → Indexes cursor piece from read (Ok (Goes (at, later))) → PieceEnds p.paths epoch piece
           → IsFoundByTime p.paths c.notes epoch later
-      indexed from piece (Ok (Goes (fetching.Log found span))) at later old new h row k ends =
+      indexed from piece (Ok span) at later old new h row k ends =
           let f = index_found c p a b tier_view x stops epoch (wanted_at asked from) line objects calls notes notings (notes old.meta) old.view
           old.cache new.cache old.store new.store piece
-          (in_cache piece.id.0 old.cache.pairs) (fetching.Log found span) h refl row.1 ends in
-          subst (IsFoundByTime p.paths c.notes epoch) (sym (on_same at _ later (Log piece from span) k.1)) (log_found found piece from span k.0 f)
-      indexed from piece (Ok (Goes fetching.Refresh)) at later old new h row k ends = absurd k
-      indexed from piece (Ok (Goes (fetching.Index found))) at later old new h row k ends = absurd k
-      indexed from piece (Ok (Ends answer)) at later old new h row k ends = absurd (cc (k))
-      indexed from piece (Err e) at later old new h row k ends = absurd (let no : false ≡ true = k in cc)
+          (in_cache piece.id.0 old.cache.pairs) (fetching.Log piece span) h refl row.1 ends in
+          subst (IsFoundByTime p.paths c.notes epoch) (sym (on_same at _ later (Log piece from span) k)) f
+      indexed from piece (Err why) at later old new h row k ends = absurd (never_goes why at later k)
 
       index_on : (from : ℕ) (piece : Piece) (at : ℕ) (later : SearchStep) (old new : Tiers S M)
           → IsAtTurn c p a b tier_view x stops epoch (wanted_at asked from) line (fetching.Index piece) (objects old.store) (notes old.meta)
           old.view old.cache
-          → SearchIndexRow objects calls notes notings asked line cursor piece from (Ok (Goes (at, later))) old new → PieceEnds p.paths epoch piece
-          → IsFoundByTime p.paths c.notes epoch later
-      index_on from piece at later old new h (inl w) ends = none_found p.paths c.notes epoch later at (top_of asked piece) w.1
-      index_on from piece at later old new h (inr w) ends = indexed from piece w.1.0 at later old new h w.1.1 w.1.2 ends
+          → new ≡ record old { cache = new.cache; store = new.store }
+          → SearchIndexRow objects calls asked cursor piece from old.view (Ok (Goes (at, later))) old.cache new.cache old.store new.store
+          → PieceEnds p.paths epoch piece → IsFoundByTime p.paths c.notes epoch later
+      index_on from piece at later old new h same (inl w) ends = none_found p.paths c.notes epoch later at (top_of asked piece) w.1
+      index_on from piece at later old new h same (inr w) ends = indexed from piece w.1.0 at later old new h (same, w.1.1) w.1.2 ends
 
       -- after the log there is no piece
-      searched_found : (from : ℕ) (turn : Result (Turn FetchStep) AllocError) (at : ℕ) (later : SearchStep)
-          → SearchTakes asked from turn (Ok (Goes (at, later))) → IsFoundByTime p.paths c.notes epoch later
-      searched_found from (Ok (Ends (Run tier size stop bytes))) at later k =
-          subst (IsFoundByTime p.paths c.notes epoch) (sym (searched_on asked from bytes at later k)) tt
-      searched_found from (Ok (Ends answer)) at later k = absurd (cc (k))
-      searched_found from (Ok (Goes next)) at later k = absurd k
-      searched_found from (Err e) at later k = absurd (let no : false ≡ true = k in cc)
+      searched_found : (from : ℕ) (read : Result RemoteRun RemoteRefusal) (at : ℕ) (later : SearchStep)
+          → SearchTakes asked from read (Ok (Goes (at, later))) → IsFoundByTime p.paths c.notes epoch later
+      searched_found from (Ok run) at later k =
+          subst (IsFoundByTime p.paths c.notes epoch) (sym (searched_on asked from run.bytes at later k)) tt
+      searched_found from (Err why) at later k = absurd (never_goes why at later k)
 
-      log_on : (from : ℕ) (piece : Piece) (span : Span) (at : ℕ) (later : SearchStep) (old new : Tiers S M)
-          → SearchLogRow objects calls notes notings asked line piece from span (Ok (Goes (at, later))) old new
-          → IsFoundByTime p.paths c.notes epoch later
-      log_on from piece span at later old new (inl w) = none_found p.paths c.notes epoch later at (top_of asked piece) w.1
-      log_on from piece span at later old new (inr w) = searched_found from w.1.0 at later w.1.2
+      log_on : (from : ℕ) (piece : Piece) (span : Span) (view : EntriesSeen) (at : ℕ) (later : SearchStep) (old new : S)
+          → SearchLogRow objects calls asked piece from span view (Ok (Goes (at, later))) old new → IsFoundByTime p.paths c.notes epoch later
+      log_on from piece span view at later old new (inl w) = none_found p.paths c.notes epoch later at (top_of asked piece) w.1
+      log_on from piece span view at later old new (inr w) = searched_found from w.1.0 at later w.1.2
 
       -- a turn finds what is there
       pub time_found : (next : SearchStep) (at : ℕ) (later : SearchStep) (old new : Tiers S M)
@@ -210,38 +202,36 @@ module _ (c : Scene) (p : Plain) (a b : ℕ) (tier_view : BrokerTierView) (x : B
       time_found (Index piece from) at later old new h set row f =
           index_on from piece at later old new
           (as_turn c p a b tier_view x stops epoch asked line cursor (Index piece from) (objects old.store) (notes old.meta) old.view old.cache
-          from (fetching.Index piece) h refl set.0) row f
-      time_found (Log piece from span) at later old new h set row f = log_on from piece span at later old new row
+          from (fetching.Index piece) h refl set.0) row.0 row.1 f
+      time_found (Log piece from span) at later old new h set row f = log_on from piece span old.view at later old.store new.store row.1
 
       -- and meets no damage
-      searched_whole : (from : ℕ) (piece : Piece) (span : Span) (turn : Result (Turn FetchStep) AllocError) (place : Place) (at : ℕ)
+      searched_whole : (from : ℕ) (piece : Piece) (span : Span) (read : Result RemoteRun RemoteRefusal) (place : Place) (at : ℕ)
           (old new : Tiers S M)
           → IsAtTurn c p a b tier_view x stops epoch (wanted_at asked from) line (fetching.Log piece span) (objects old.store) (notes old.meta)
           old.view old.cache
-          → RemoteFetchRow objects calls notes notings (wanted_at asked from) line (fetching.Log piece span) turn old new
-          → SearchTakes asked from turn (Ok (Ends (Damaged place at)))
+          → RemoteFetchRow objects calls notes notings (wanted_at asked from) line (fetching.Log piece span) (ends_with piece read) old new
+          → SearchTakes asked from read (Ok (Ends (Damaged place at)))
           → IsFoundByTime p.paths c.notes epoch (Log piece from span) → from < asked.mark → EndsAt asked.mark x.log → ⊥
-      searched_whole from piece span (Ok (Ends (Run tier size stop bytes))) place at old new h row k f below ends = k
-      searched_whole from piece span (Ok (Ends answer)) place at old new h row k f below ends =
-          let same : answer ≡ Damaged place at = cc (k) in
+      searched_whole from piece span (Ok run) place at old new h row k f below ends = k
+      searched_whole from piece span (Err why) place at old new h row k f below ends =
           let told : RemoteFetchRow objects calls notes notings (wanted_at asked from) line (fetching.Log piece span)
           (Ok (Ends (Damaged place at))) old new =
-          subst (λ (w : Answer). RemoteFetchRow objects calls notes notings (wanted_at asked from) line (fetching.Log piece span)
-          (Ok (Ends w)) old new) same row in
+          subst (λ (r : Result (Turn FetchStep) AllocError). RemoteFetchRow objects calls notes notings (wanted_at asked from) line
+          (fetching.Log piece span) r old new) (damaged_same why place at k) row in
           not_damaged c p a b tier_view x stops epoch (wanted_at asked from) line objects calls notes notings (fetching.Log piece span) place at
           old new h told f below ends
-      searched_whole from piece span (Ok (Goes next)) place at old new h row k f below ends = k
-      searched_whole from piece span (Err e) place at old new h row k f below ends = (let no : false ≡ true = k in cc)
 
       log_whole : (from : ℕ) (piece : Piece) (span : Span) (place : Place) (at : ℕ) (old new : Tiers S M)
           → IsAtTurn c p a b tier_view x stops epoch (wanted_at asked from) line (fetching.Log piece span) (objects old.store) (notes old.meta)
           old.view old.cache
-          → SearchLogRow objects calls notes notings asked line piece from span (Ok (Ends (Damaged place at))) old new
+          → new ≡ record old { store = new.store }
+          → SearchLogRow objects calls asked piece from span old.view (Ok (Ends (Damaged place at))) old.store new.store
           → IsFoundByTime p.paths c.notes epoch (Log piece from span)
           → EndsAt asked.mark x.log → ⊥
-      log_whole from piece span place at old new h (inl w) f ends = let is = w.1 in cc (is)
-      log_whole from piece span place at old new h (inr w) f ends = searched_whole from piece span w.1.0 place at old new h w.1.1 w.1.2 f w.0
-          ends
+      log_whole from piece span place at old new h same (inl w) f ends = let is = w.1 in cc (is)
+      log_whole from piece span place at old new h same (inr w) f ends = searched_whole from piece span w.1.0 place at old new h
+          (same, w.1.1) w.1.2 f w.0 ends
 
       pub time_undamaged : (next : SearchStep) (place : Place) (at : ℕ) (old new : Tiers S M)
           → At next (objects old.store) (notes old.meta) old.view old.cache → IsBelowLocal asked cursor next → IsSet cursor next
@@ -259,5 +249,5 @@ module _ (c : Scene) (p : Plain) (a b : ℕ) (tier_view : BrokerTierView) (x : B
       time_undamaged (Log piece from span) place at old new h below set row f =
           log_whole from piece span place at old new
           (as_turn c p a b tier_view x stops epoch asked line cursor (Log piece from span) (objects old.store) (notes old.meta) old.view old.cache
-          from (fetching.Log piece span) h refl set.0) row f
+          from (fetching.Log piece span) h refl set.0) row.0 row.1 f
           (marked (Log piece from span) (objects old.store) (notes old.meta) old.view old.cache h)

@@ -1,9 +1,7 @@
 -- What a turn does to metadata events and views: it appends a metadata event that deletes nothing but what ends below
 -- the log start offset, or none, and a view takes more of them.
-use Rattle.std.proofs.Common.{◌≡◌, ◌∙◌, ◌⊎◌, inl, inr, sym, ap, refl, ℕ, Bool, true, false, List, [], ◌∷◌, ◌++◌, Some, Ok, Err, slice_get, slice_set}
+use Rattle.std.proofs.Common.{◌≡◌, ◌∙◌, ◌⊎◌, inl, inr, sym, ap, refl, ℕ, Bool, true, false, List, [], ◌∷◌, ◌++◌, Some, Ok, slice_get, slice_set}
 use Rattle.std.specs.Prelude.{IsTrue, ℤ}
-use Rattle.std.specs.declared.result.Result.{Result}
-use Rattle.std.specs.declared.alloc.AllocError.{AllocError}
 use Rattle.tier_base.specs.declared.names.PartitionId.{PartitionId}
 use Rattle.tier_base.specs.declared.plain.State.TheVariants.{DeleteStarted, DeleteFinished}
 use Rattle.disk_model.specs.declared.disk.Disk.{Ghosts as DiskGhosts}
@@ -33,13 +31,10 @@ use Rattle.tier_fetch.specs.declared.turn.FetchRequest.{FetchRequest}
 use Rattle.rebuild_task.specs.declared.turn.RebuildStep.{RebuildStep as Rebuild}
 use Rattle.rebuild_task.specs.declared.turn.RebuildStep.TheVariants.{Epochs, Restart}
 use Rattle.tier_fetch.specs.Turns.{Tiers as FetchTiers, RefreshRow, RemoteFetchRow}
-use Rattle.tier_fetch.specs.declared.turn.FetchStep.TheVariants as fetching
-use Rattle.tier_fetch.specs.declared.turn.Span.{Span}
-use Rattle.remote_find.specs.declared.piece.Piece.{Piece}
 use Rattle.time_find.specs.declared.turn.Asked.{Asked}
 use Rattle.time_find.specs.declared.turn.SearchStep.{SearchStep as Dating}
 use Rattle.time_find.specs.declared.turn.SearchStep.TheVariants as dating
-use Rattle.time_find.specs.Turns.{Indexes, SearchTakes as SearchesLog, SeekRow, TimeRow, wanted_at}
+use Rattle.time_find.specs.Turns.{SeekRow, TimeRow}
 use Rattle.plain_log.specs.declared.answer.Answer.TheVariants.{Down, NotLeader, CopyOff, MetaFault, DiskFault, Damaged, Stopped, OutOfRange, Empty, NoOffset}
 use Rattle.plain_log.specs.declared.answer.Place.TheVariants.{File}
 use Rattle.plain_log.specs.declared.command.Command.{Command}
@@ -228,36 +223,6 @@ module _ {S M : Type 0} (meta : MetaGhosts M) (start : ℕ) where
   seek_goes asked line cursor turn t broker_tier view t' row = record
       { notes = inl row.1.content.notes; fed = row.1.view.notes; view_is = row.1.view.view }
 
-  still_goes : (t : RemoteTier S M) (broker_tier : BrokerTierState) (view : View) (cache : Cache) (t' : RemoteTier S M)
-      → fetch_tiers view cache t' ≡ fetch_tiers broker_tier.view broker_tier.cache t → ViewGoes t broker_tier view t'
-  still_goes t broker_tier view cache t' is =
-      record {
-        notes = inl (ap (λ (k : FetchTiers S M). (meta.content k.meta).notes) is);
-        fed = [];
-        view_is = ap
-            (λ (k : FetchTiers S M). k.view) is;
-      }
-
-  indexes_goes : (store : StoreGhosts S) (asked : Asked) (line : List (ℕ × ℕ)) (cursor from : ℕ) (piece : Piece)
-      (found : Result (Turn Search) AllocError) (turn : Turn (ℕ × Dating)) (t : RemoteTier S M) (broker_tier : BrokerTierState)
-      (view : View) (cache : Cache) (t' : RemoteTier S M)
-      → RemoteFetchRow store.content store.control meta.content meta.control (wanted_at asked from) line (fetching.Index piece) found
-      (fetch_tiers broker_tier.view broker_tier.cache t) (fetch_tiers view cache t')
-      → Indexes cursor piece from found (Ok turn) → ViewGoes t broker_tier view t'
-  indexes_goes store asked line cursor from piece (Ok found) turn t broker_tier view cache t' row k = fetch_goes store (wanted_at asked from) line
-      (fetching.Index piece) found t broker_tier view cache t' row
-  indexes_goes store asked line cursor from piece (Err e) turn t broker_tier view cache t' row k = absurd (let no : false ≡ true = k in cc)
-
-  searches_goes : (store : StoreGhosts S) (asked : Asked) (line : List (ℕ × ℕ)) (from : ℕ) (piece : Piece) (span : Span)
-      (found : Result (Turn Search) AllocError) (turn : Turn (ℕ × Dating)) (t : RemoteTier S M) (broker_tier : BrokerTierState)
-      (view : View) (cache : Cache) (t' : RemoteTier S M)
-      → RemoteFetchRow store.content store.control meta.content meta.control (wanted_at asked from) line (fetching.Log piece span) found
-      (fetch_tiers broker_tier.view broker_tier.cache t) (fetch_tiers view cache t')
-      → SearchesLog asked from found (Ok turn) → ViewGoes t broker_tier view t'
-  searches_goes store asked line from piece span (Ok found) turn t broker_tier view cache t' row k = fetch_goes store (wanted_at asked from) line
-      (fetching.Log piece span) found t broker_tier view cache t' row
-  searches_goes store asked line from piece span (Err e) turn t broker_tier view cache t' row k = absurd (let no : false ≡ true = k in cc)
-
   time_goes : (store : StoreGhosts S) (asked : Asked) (line : List (ℕ × ℕ)) (cursor : ℕ) (next : Dating) (turn : Turn (ℕ × Dating)) (t : RemoteTier S M)
       (broker_tier : BrokerTierState) (view : View) (cache : Cache) (t' : RemoteTier S M)
       → TimeRow store.content store.control meta.content meta.control asked line cursor next (Ok turn) (fetch_tiers broker_tier.view broker_tier.cache t)
@@ -270,12 +235,20 @@ module _ {S M : Type 0} (meta : MetaGhosts M) (start : ℕ) where
         view_is = ap
             (λ (k : FetchTiers S M). k.view) row.0;
       }
-  time_goes store asked line cursor (dating.Index piece from) turn t broker_tier view cache t' (inl row) = still_goes t broker_tier view cache t' row.2
-  time_goes store asked line cursor (dating.Index piece from) turn t broker_tier view cache t' (inr row) =
-      indexes_goes store asked line cursor from piece row.1.0 turn t broker_tier view cache t' row.1.1 row.1.2
-  time_goes store asked line cursor (dating.Log piece from span) turn t broker_tier view cache t' (inl row) = still_goes t broker_tier view cache t' row.2
-  time_goes store asked line cursor (dating.Log piece from span) turn t broker_tier view cache t' (inr row) =
-      searches_goes store asked line from piece span row.1.0 turn t broker_tier view cache t' row.1.1 row.1.2
+  time_goes store asked line cursor (dating.Index piece from) turn t broker_tier view cache t' row =
+      record {
+        notes = inl (ap (λ (k : FetchTiers S M). (meta.content k.meta).notes) row.0);
+        fed = [];
+        view_is = ap
+            (λ (k : FetchTiers S M). k.view) row.0;
+      }
+  time_goes store asked line cursor (dating.Log piece from span) turn t broker_tier view cache t' row =
+      record {
+        notes = inl (ap (λ (k : FetchTiers S M). (meta.content k.meta).notes) row.0);
+        fed = [];
+        view_is = ap
+            (λ (k : FetchTiers S M). k.view) row.0;
+      }
 
   -- an expiry's later turns leave the views
   deletion_goes : (store : StoreGhosts S) (expired_segment : ExpiredSegment) (origin : EventOrigin) (next : Deletion) (turn : Turn Deletion) (t t' : RemoteTier S M) → IsTrue (meta.content t.meta).is_observable
