@@ -100,10 +100,8 @@ module _ {S M : Type 0} (store : StoreGhosts S) (meta : MetaGhosts M) where
       → (new.store ≡ old.store) ⊎ (new.meta ≡ old.meta)
   time_one asked line cursor Seek result old new w = inl (ap (λ (k : FetchTiers S M). k.store) w.0)
   time_one asked line cursor (ReadsTimes piece) result old new w = inr (ap (λ (k : FetchTiers S M). k.meta) w.0)
-  time_one asked line cursor (Index piece from) result old new (inl none) = inl (ap (λ (k : FetchTiers S M). k.store) none.2)
-  time_one asked line cursor (Index piece from) result old new (inr k) = fetch_one _ line (fetching.Index piece) k.1.0 old new k.1.1
-  time_one asked line cursor (Log piece from span) result old new (inl none) = inl (ap (λ (k : FetchTiers S M). k.store) none.2)
-  time_one asked line cursor (Log piece from span) result old new (inr k) = fetch_one _ line (fetching.Log piece span) k.1.0 old new k.1.1
+  time_one asked line cursor (Index piece from) result old new w = inr (ap (λ (k : FetchTiers S M). k.meta) w.0)
+  time_one asked line cursor (Log piece from span) result old new w = inr (ap (λ (k : FetchTiers S M). k.meta) w.0)
 
   -- the first turns of commands on the remote tier read the metadata log
   leaders_one : {D : Type 0} (h : PartitionState D) (t : RemoteTier S M) (b : ℕ) (x : Node D) (broker_tier : BrokerTierState) (outcome : Outcome) (t' : RemoteTier S M) → LeadersFirstRow meta h t b x broker_tier outcome t' → OneOf t t'
