@@ -1,9 +1,9 @@
 //! The words after the program's name, and which form they have.
 
-ghost use Rattle.std.specs.Prelude.{◌≡◌};
+ghost use Rattle.std.specs.Prelude.{◌≡◌, ◌∷◌, []};
 ghost use Rattle.std.specs.List.{list_all};
 ghost use Rattle.std.specs.Char.{is_ascii_digit};
-ghost use Rattle.tiered_call.specs.Words.{form_of as form_is, folder_of};
+ghost use Rattle.tiered_call.specs.Words.{form_in, form_of as form_is, folder_of};
 ghost use Rattle.tiered_call.specs.Words.{number_of as number_is, is_shortest as shortest};
 
 /// What the words ask for.
@@ -52,19 +52,39 @@ fn number_of(word: &str) -> Option<u32>
     word.parse::<u32>().ok()
 }
 
+/// The form of a single word, if it has one.
+fn form_of_one(word: &str) -> Option<Form>
+    ensures { result ≡ form_in (word.now ∷ []) }
+{
+    if word == "sim" { Some(Form::Sim) } else { None }
+}
+
+/// The form of two words, if they have one.
+fn form_of_two(word: &str, second: &str) -> Option<Form>
+    ensures { result ≡ form_in (word.now ∷ second.now ∷ []) }
+{
+    if word == "sim" && second == "--threads" {
+        Some(Form::Threads)
+    } else if word == "run" {
+        Some(Form::Run)
+    } else if word == "audit" {
+        Some(Form::Audit)
+    } else if word == "sweep" {
+        Some(Form::Sweep)
+    } else if word == "gen" {
+        Some(Form::Gen(number_of(second)?))
+    } else {
+        None
+    }
+}
+
 /// The form that the words have, if any.
 pub fn form_of(words: &[String]) -> Option<Form>
     ensures { result ≡ form_is words.now }
 {
     match words {
-        [word] if word.as_str() == "sim" => Some(Form::Sim),
-        [word, flag] if word.as_str() == "sim" && flag.as_str() == "--threads" => Some(
-            Form::Threads,
-        ),
-        [word, _] if word.as_str() == "run" => Some(Form::Run),
-        [word, _] if word.as_str() == "audit" => Some(Form::Audit),
-        [word, _] if word.as_str() == "sweep" => Some(Form::Sweep),
-        [word, number] if word.as_str() == "gen" => Some(Form::Gen(number_of(number.as_str())?)),
+        [word] => form_of_one(word.as_str()),
+        [word, second] => form_of_two(word.as_str(), second.as_str()),
         _ => None,
     }
 }
